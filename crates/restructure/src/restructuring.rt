@@ -25,8 +25,9 @@ fn operators_of(net: &Net, bits: u16) -> u16 {
     found
 }
 
-/// The graph after moves: the smaller one of two, of which the first has its gates in depth-first order, and the second in
-/// the order of the net. A region takes the greatest gate first, so that the order decides which gates it has.
+/// The graph after moves: the smaller one of two, the first where both have as many gates. The first is made with the gates
+/// in depth-first order, the second with those in the order of the net: a region takes the greatest gate first, so that the
+/// order decides which gates it has.
 fn best_graph(alloc: Global, net: &Net, rounds: u32) -> Result<Xag, AllocError> {
     let walked = improved(alloc, &from_net(alloc, net, false)?, rounds)?;
     let given = improved(alloc, &from_net(alloc, net, true)?, rounds)?;

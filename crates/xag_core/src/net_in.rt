@@ -86,8 +86,8 @@ fn whole_graph(alloc: Global, net: &Net) -> Result<Xag, AllocError>
     builder.finish(alloc, &sinks)
 }
 
-/// The graph of a net without dead gates, each operator as AND or XOR with complements. Its gates have the order of the
-/// net, and keep it, where `keeps_order`.
+/// The graph of a net without dead gates, each operator as AND or XOR with complements. Its gates are to have the order of
+/// the net, and to keep it, where `keeps_order`, else that of a depth-first walk. Nothing is promised of either order.
 pub fn from_net(alloc: Global, net: &Net, keeps_order: bool) -> Result<Xag, AllocError>
     ensures sources { IfOk result (λ xag. xag.sources ≡ net.now.sources) }
     ensures sinks { IfOk result (λ xag. length xag.sinks ≡ length net.now.sinks) }

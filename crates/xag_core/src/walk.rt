@@ -1,5 +1,6 @@
-//! A graph is rebuilt with a change by a depth-first walk from its sinks, or first from its gates in their order, so that
-//! its gates come in the order of that walk and dead ones are left out. A node that waits for itself shows a cycle.
+//! A graph is rebuilt with a change by a depth-first walk from its sinks, and before that from the gates that stay, in their
+//! order, where the graph keeps it. So its gates come in the order of that walk, and dead ones are left out. A node that
+//! waits for itself shows a cycle.
 ghost use Rattle.std.specs.Prelude.{◌≡◌, OnOk, IfOk, IfSome, length};
 ghost use Rattle.xag_core.specs.Xag.{HasEnds};
 
@@ -177,10 +178,13 @@ fn live_nodes(alloc: Global, walk: &Walk, xag: &Xag, edit: &Edit) -> Result<Vec<
     Ok(live)
 }
 
-/// Walks from the gates that stay, in their order. False at a cycle.
+/// Walks from the gates that stay, in their order, where the graph keeps it. False at a cycle.
 fn walk_gates(alloc: Global, walk: &mut Walk, xag: &Xag, edit: &Edit) -> Result<bool, AllocError>
     ensures { OnOk result (walk.new.builder.sources ≡ walk.old.builder.sources) }
 {
+    if !xag.keeps_order {
+        return Ok(true);
+    }
     let live = live_nodes(alloc, walk, xag, edit)?;
     for node in 0..xag.nodes() {
         if bit_at(&live, node) && !walk.visit(xag, edit, node.wrapping_mul(2))? {
@@ -215,7 +219,7 @@ fn walked(alloc: Global, xag: &Xag, edit: &Edit) -> Result<Option<Xag>, AllocErr
     ensures { IfOk result (λ other. IfSome other (HasEnds xag.now)) }
 {
     let mut walk = start(alloc, xag, edit)?;
-    if xag.keeps_order && !walk_gates(alloc, &mut walk, xag, edit)? {
+    if !walk_gates(alloc, &mut walk, xag, edit)? {
         return Ok(None);
     }
     let Some(sinks) = walk_sinks(alloc, &mut walk, xag, edit)? else {
@@ -246,8 +250,9 @@ fn is_live(alloc: Global, xag: &Xag) -> Result<bool, AllocError> {
     Ok(gates.iter().all(|is_read| *is_read))
 }
 
-/// The graph with a change, without gates that nothing reads, in the order of a depth-first walk from
-/// the sinks. None where a redirect makes a cycle.
+/// The graph with a change, without gates that nothing reads: in the order of a depth-first walk from the sinks, or, where
+/// the graph keeps the order of its gates, with those that stay in that order and each new one before the first that
+/// reads it. None where a redirect makes a cycle.
 pub fn rebuild(alloc: Global, xag: &Xag, edit: &Edit) -> Result<Option<Xag>, AllocError>
     ensures { IfOk result (λ other. IfSome other (HasEnds xag.now)) }
 {
