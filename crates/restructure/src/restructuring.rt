@@ -25,12 +25,24 @@ fn operators_of(net: &Net, bits: u16) -> u16 {
     found
 }
 
+/// The graph of a net after moves, which keep the order of its gates where `keeps_order`.
+fn graph_after(
+    alloc: Global,
+    net: &Net,
+    keeps_order: bool,
+    rounds: u32,
+) -> Result<Xag, AllocError> {
+    let xag = from_net(alloc, net, keeps_order)?;
+    let best = improved(alloc, &xag, rounds)?;
+    Ok(best)
+}
+
 /// The graph after moves: the smaller one of two, the first where both have as many gates. The first is made with the gates
 /// in depth-first order, the second with those in the order of the net: a region takes the greatest gate first, so that the
 /// order decides which gates it has.
 fn best_graph(alloc: Global, net: &Net, rounds: u32) -> Result<Xag, AllocError> {
-    let walked = improved(alloc, &from_net(alloc, net, false)?, rounds)?;
-    let given = improved(alloc, &from_net(alloc, net, true)?, rounds)?;
+    let walked = graph_after(alloc, net, false, rounds)?;
+    let given = graph_after(alloc, net, true, rounds)?;
     if given.gates().len() < walked.gates().len() {
         Ok(given)
     } else {
