@@ -16,6 +16,9 @@ use xag_core::{Xag, from_net, into_net};
 /// The most learnt clauses of a comparison.
 const MOST_CLAUSES: u32 = 100_000;
 
+/// The most gates of a net whose moves are made in both orders.
+const MOST_TWICE: usize = 10_000;
+
 /// The operators of a net, as a set, with those of `bits`.
 fn operators_of(net: &Net, bits: u16) -> u16 {
     let mut found = bits;
@@ -39,9 +42,12 @@ fn graph_after(
 
 /// The graph after moves: the smaller one of two, the first where both have as many gates. The first is made with the gates
 /// in depth-first order, the second with those in the order of the net: a region takes the greatest gate first, so that the
-/// order decides which gates it has.
+/// order decides which gates it has. Of a large net the first alone is made.
 fn best_graph(alloc: Global, net: &Net, rounds: u32) -> Result<Xag, AllocError> {
     let walked = graph_after(alloc, net, false, rounds)?;
+    if net.gates().len() > MOST_TWICE {
+        return Ok(walked);
+    }
     let given = graph_after(alloc, net, true, rounds)?;
     if given.gates().len() < walked.gates().len() {
         Ok(given)
