@@ -34,7 +34,7 @@ fn round(alloc: Global, xag: &Xag, seed: u64) -> Result<Xag, AllocError>
     Ok(left)
 }
 
-/// The graph after so many rounds.
+/// The graph after `rounds` rounds of moves that may keep its size.
 #[tactic(auto, using(resub_core::specs::SmallerLaws::replacing))]
 fn after_rounds(alloc: Global, xag: &Xag, rounds: u32) -> Result<Xag, AllocError>
     ensures { IfOk result (IsNoLarger xag.now) }
@@ -46,7 +46,7 @@ fn after_rounds(alloc: Global, xag: &Xag, rounds: u32) -> Result<Xag, AllocError
     Ok(best)
 }
 
-/// The graph after sharing and resubstitution, and then so many rounds, unless these leave as many gates: the order of
+/// The graph after sharing and resubstitution, and then `rounds` rounds, unless these leave as many gates: the order of
 /// gates is kept then.
 #[tactic(auto, using(resub_core::specs::SmallerLaws::replacing))]
 pub(crate) fn improved(alloc: Global, xag: &Xag, rounds: u32) -> Result<Xag, AllocError>

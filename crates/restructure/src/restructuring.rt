@@ -11,10 +11,13 @@ use net_core::Net;
 use op_basis::Basis;
 use sat_solve::Solver;
 use std::alloc::{AllocError, Global};
-use xag_core::{from_net, into_net};
+use xag_core::{Xag, from_net, into_net};
 
 /// The most learnt clauses of a comparison.
 const MOST_CLAUSES: u32 = 100_000;
+
+/// The most gates of a net whose moves are made in both orders.
+const MOST_TWICE: usize = 10_000;
 
 /// The operators of a net, as a set, with those of `bits`.
 fn operators_of(net: &Net, bits: u16) -> u16 {
@@ -25,12 +28,39 @@ fn operators_of(net: &Net, bits: u16) -> u16 {
     found
 }
 
+/// The graph of a net after moves, which keep the order of its gates where `keeps_order`.
+fn graph_after(
+    alloc: Global,
+    net: &Net,
+    keeps_order: bool,
+    rounds: u32,
+) -> Result<Xag, AllocError> {
+    let xag = from_net(alloc, net, keeps_order)?;
+    let best = improved(alloc, &xag, rounds)?;
+    Ok(best)
+}
+
+/// The graph after moves: the smaller one of two, the first where both have as many gates. The first is made with the gates
+/// in depth-first order, the second with those in the order of the net: a region takes the greatest gate first, so that the
+/// order decides which gates it has. Of a large net the first alone is made.
+fn best_graph(alloc: Global, net: &Net, rounds: u32) -> Result<Xag, AllocError> {
+    let walked = graph_after(alloc, net, false, rounds)?;
+    if net.gates().len() > MOST_TWICE {
+        return Ok(walked);
+    }
+    let given = graph_after(alloc, net, true, rounds)?;
+    if given.gates().len() < walked.gates().len() {
+        Ok(given)
+    } else {
+        Ok(walked)
+    }
+}
+
 /// The net after moves over its graph, before it is judged: with as many gates as the graph has and a NOT for each sink
 /// that needs one, if its operators are of the basis or of the net; else with more NOT gates, so that they are where
 /// polarities can bring that about.
 fn candidate(alloc: Global, net: &Net, basis: Basis, rounds: u32) -> Result<Net, AllocError> {
-    let xag = from_net(alloc, net)?;
-    let best = improved(alloc, &xag, rounds)?;
+    let best = best_graph(alloc, net, rounds)?;
     let allowed = operators_of(net, basis.get());
     let direct = into_net(alloc, &best)?;
     if operators_of(&direct, allowed) == allowed {

@@ -93,7 +93,7 @@ pub fn batched(
         MOST_BATCHES
     };
     for _pass in 0..most {
-        if !is_large(&best, terms) {
+        if !terms.is_level && !is_large(&best, terms) {
             break;
         }
         let size = best.gates().len();

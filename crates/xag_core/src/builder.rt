@@ -215,6 +215,7 @@ impl Builder {
             sources,
             gates,
             sinks,
+            keeps_order: false,
         })
     }
 }

@@ -8,7 +8,7 @@
 //! rebuilt has the sources and the number of sinks that it had.
 //!
 //! ```text
-//! let xag = from_net(alloc, &net)?;
+//! let xag = from_net(alloc, &net, false)?; // in depth-first order
 //! let other = rebuild(alloc, &xag, &edit)?; // None where a redirect makes a cycle
 //! let net = into_net(alloc, &xag)?;
 //! ```

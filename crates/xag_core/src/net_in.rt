@@ -86,12 +86,13 @@ fn whole_graph(alloc: Global, net: &Net) -> Result<Xag, AllocError>
     builder.finish(alloc, &sinks)
 }
 
-/// The graph of a net without dead gates, each operator as AND or XOR with complements.
-pub fn from_net(alloc: Global, net: &Net) -> Result<Xag, AllocError>
+/// The graph of a net without dead gates, each operator as AND or XOR with complements. Its gates are to have the order of
+/// the net, and to keep it, where `keeps_order`, else that of a depth-first walk. Nothing is promised of either order.
+pub fn from_net(alloc: Global, net: &Net, keeps_order: bool) -> Result<Xag, AllocError>
     ensures sources { IfOk result (λ xag. xag.sources ≡ net.now.sources) }
     ensures sinks { IfOk result (λ xag. length xag.sinks ≡ length net.now.sinks) }
 {
-    let whole = whole_graph(alloc, net)?;
+    let whole = whole_graph(alloc, net)?.with_order(keeps_order);
     let unchanged = Edit::new(alloc, &whole);
     match rebuild(alloc, &whole, &unchanged)? {
         Some(live) => Ok(live),

@@ -119,8 +119,8 @@ fn whole_net(alloc: Global, xag: &Xag) -> Result<Net, AllocError>
     net.finish(alloc, &signals)
 }
 
-/// The net of a graph: its gates in the order of a depth-first walk from the sinks, without dead ones,
-/// and then the NOT gates that sinks need.
+/// The net of a graph: its gates in the order that `rebuild` gives them, without dead ones, and then the NOT gates that
+/// sinks need.
 pub fn into_net(alloc: Global, xag: &Xag) -> Result<Net, AllocError>
     ensures sources { IfOk result (λ net. net.sources ≡ xag.now.sources) }
     ensures sinks { IfOk result (λ net. length net.sinks ≡ length xag.now.sinks) }

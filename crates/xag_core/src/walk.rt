@@ -1,5 +1,6 @@
-//! A graph is rebuilt with a change by a depth-first walk from its sinks, so that its gates come in the
-//! order of that walk and dead ones are left out. A node that waits for itself shows a cycle.
+//! A graph is rebuilt with a change by a depth-first walk from its sinks, and before that from the gates that stay, in their
+//! order, where the graph keeps it. So its gates come in the order of that walk, and dead ones are left out. A node that
+//! waits for itself shows a cycle.
 ghost use Rattle.std.specs.Prelude.{◌≡◌, OnOk, IfOk, IfSome, length};
 ghost use Rattle.xag_core.specs.Xag.{HasEnds};
 
@@ -134,6 +135,65 @@ impl Walk {
     }
 }
 
+/// Puts what a node is computed from on a stack: what it is redirected to, or the operands of its gate.
+fn put_sources(
+    walk: &Walk,
+    xag: &Xag,
+    edit: &Edit,
+    waiting: &mut Vec<u32>,
+    node: u32,
+) -> Result<(), AllocError> {
+    let target = at(&walk.targets, node);
+    if target != NONE {
+        waiting.push(target >> 1)?;
+        return Ok(());
+    }
+    if node > xag.sources() {
+        let gate = edit.gate_at(xag, node);
+        waiting.push(gate.first >> 1)?;
+        waiting.push(gate.second >> 1)?;
+    }
+    Ok(())
+}
+
+/// Which nodes the sinks are computed from.
+fn live_nodes(alloc: Global, walk: &Walk, xag: &Xag, edit: &Edit) -> Result<Vec<bool>, AllocError> {
+    let mut live = vec![in alloc; false; walk.found.len()]?;
+    let mut waiting = Vec::new(alloc);
+    for sink in xag.sinks() {
+        waiting.push(sink >> 1)?;
+    }
+    let most = (walk.found.len() as u64)
+        .saturating_mul(3)
+        .saturating_add(xag.sinks().len() as u64);
+    for _taken in 0..most {
+        let Some(node) = waiting.pop() else {
+            break;
+        };
+        if !bit_at(&live, node) {
+            put(&mut live, node, true);
+            put_sources(walk, xag, edit, &mut waiting, node)?;
+        }
+    }
+    Ok(live)
+}
+
+/// Walks from the gates that stay, in their order, where the graph keeps it. False at a cycle.
+fn walk_gates(alloc: Global, walk: &mut Walk, xag: &Xag, edit: &Edit) -> Result<bool, AllocError>
+    ensures { OnOk result (walk.new.builder.sources ≡ walk.old.builder.sources) }
+{
+    if !xag.keeps_order {
+        return Ok(true);
+    }
+    let live = live_nodes(alloc, walk, xag, edit)?;
+    for node in 0..xag.nodes() {
+        if bit_at(&live, node) && !walk.visit(xag, edit, node.wrapping_mul(2))? {
+            return Ok(false);
+        }
+    }
+    Ok(true)
+}
+
 /// The new literals of the sinks; None at a cycle.
 fn walk_sinks(
     alloc: Global,
@@ -159,6 +219,9 @@ fn walked(alloc: Global, xag: &Xag, edit: &Edit) -> Result<Option<Xag>, AllocErr
     ensures { IfOk result (λ other. IfSome other (HasEnds xag.now)) }
 {
     let mut walk = start(alloc, xag, edit)?;
+    if !walk_gates(alloc, &mut walk, xag, edit)? {
+        return Ok(None);
+    }
     let Some(sinks) = walk_sinks(alloc, &mut walk, xag, edit)? else {
         return Ok(None);
     };
@@ -169,7 +232,8 @@ fn walked(alloc: Global, xag: &Xag, edit: &Edit) -> Result<Option<Xag>, AllocErr
         stack: _,
         builder,
     } = walk;
-    Ok(Some(builder.finish(alloc, &sinks)?))
+    let built = builder.finish(alloc, &sinks)?;
+    Ok(Some(built.with_order(xag.keeps_order)))
 }
 
 /// Whether each gate is read by a gate or a sink.
@@ -186,8 +250,9 @@ fn is_live(alloc: Global, xag: &Xag) -> Result<bool, AllocError> {
     Ok(gates.iter().all(|is_read| *is_read))
 }
 
-/// The graph with a change, without gates that nothing reads, in the order of a depth-first walk from
-/// the sinks. None where a redirect makes a cycle.
+/// The graph with a change, without gates that nothing reads: in the order of a depth-first walk from the sinks, or, where
+/// the graph keeps the order of its gates, with those that stay in that order and each new one before the first that
+/// reads it. None where a redirect makes a cycle.
 pub fn rebuild(alloc: Global, xag: &Xag, edit: &Edit) -> Result<Option<Xag>, AllocError>
     ensures { IfOk result (λ other. IfSome other (HasEnds xag.now)) }
 {

@@ -14,12 +14,15 @@ pub struct XagGate {
 }
 
 /// A graph: node 0 is the constant 0, the nodes 1 to `sources` are the sources, and the gates follow in
-/// topological order. Sinks are literals. It has fewer than 2^31 nodes.
+/// topological order. Sinks are literals. It has fewer than 2^31 nodes. Where `keeps_order`, gates that stay keep their
+/// order when the graph is rebuilt, else they come in the order of a depth-first walk from the sinks. That order is a
+/// heuristic: no clause speaks of it, and the view doesn't show `keeps_order`.
 #[derive(Drop)]
 pub struct Xag {
     pub(crate) sources: u32,
     pub(crate) gates: Vec<XagGate>,
     pub(crate) sinks: Vec<u32>,
+    pub(crate) keeps_order: bool,
 }
 
 impl Model for Xag {
@@ -69,7 +72,26 @@ impl Xag {
             sources,
             gates,
             sinks,
+            keeps_order: self.keeps_order,
         })
+    }
+
+    /// The same graph, to keep the order of its gates from now on, or not. Nothing is promised of that order.
+    pub fn with_order(self, keeps_order: bool) -> Xag
+        ensures { result ≡ self }
+    {
+        let Xag {
+            sources,
+            gates,
+            sinks,
+            keeps_order: _,
+        } = self;
+        Xag {
+            sources,
+            gates,
+            sinks,
+            keeps_order,
+        }
     }
 
     /// The number of nodes: the constant, the sources and the gates.
