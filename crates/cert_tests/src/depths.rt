@@ -54,7 +54,7 @@ fn is_judged_in_pieces(
     by_bytes(DepthReader::new(alloc), text) == answer
 }
 
-/// A bundle and what stands behind it.
+/// A bundle and what stands after it.
 fn text_of(alloc: Global, bundle: &[u8], behind: &[u8]) -> Result<Vec<u8>, AllocError> {
     let mut text = Vec::new(alloc);
     text.extend_from_slice(bundle)?;
@@ -62,7 +62,7 @@ fn text_of(alloc: Global, bundle: &[u8], behind: &[u8]) -> Result<Vec<u8>, Alloc
     Ok(text)
 }
 
-/// Bundles, what stands behind them, and the answer.
+/// Bundles, what stands after them, and the answer.
 const JUDGED: &[(&[u8], &[u8], Result<DepthVerdict, DepthError>)] = &[
     (
         BUNDLE,
@@ -100,7 +100,7 @@ const JUDGED: &[(&[u8], &[u8], Result<DepthVerdict, DepthError>)] = &[
     ),
 ];
 
-/// Whether a bundle with what stands behind it has this answer, whole and in pieces.
+/// Whether a bundle with what stands after it has this answer, whole and in pieces.
 fn is_judged(
     alloc: Global,
     bundle: &[u8],

@@ -27,7 +27,7 @@ const NOT_BY_AND: &[&[u8]] = &[
     b"end",
 ];
 
-/// The front of that, as far as the log of one step.
+/// The prefix of that, as far as the log of one step.
 const NOT_YET: &[&[u8]] = &[
     b"chains 1",
     b"inputs 1",
@@ -245,7 +245,7 @@ const JUDGED: &[(&[&[u8]], Put, Put, Result<Verdict, BundleError>)] = &[
         NOTHING,
         Err(BundleError::Syntax(4)),
     ),
-    // by `ssv` three clauses of cuts stand behind the plain ones, and take the next three ids
+    // by `ssv` three clauses of cuts stand after the plain ones, and take the next three ids
     (
         NOT_YET,
         (5, b"method ssv\n"),

@@ -42,7 +42,7 @@ fn is_more(step: &PartStep) -> bool {
     }
 }
 
-/// Whether the log goes on behind the second of two lines.
+/// Whether the log goes on after the second of two lines.
 fn second(alloc: Global, reader: PartReader, first: &[u8], line: &[u8]) -> Result<bool, PartError> {
     match reader.feed(alloc, first, true)? {
         PartStep::More(reader) => Ok(is_more(&reader.feed(alloc, line, true)?)),
@@ -50,7 +50,7 @@ fn second(alloc: Global, reader: PartReader, first: &[u8], line: &[u8]) -> Resul
     }
 }
 
-/// How a log ends, how many additions an open one needs, two lines, and whether the log goes on behind them.
+/// How a log ends, how many additions an open one needs, two lines, and whether the log goes on after them.
 const LOGS: &[(Ended, u32, &[u8], &[u8], Result<bool, PartError>)] = &[
     // a refutation, and a log without the empty clause
     (Ended::Refuted, 9, b"4 0 3 1 2 0", b"done", Ok(false)),

@@ -160,7 +160,7 @@ const SEARCHED: &[(&[u8], u16, Method, u32, u32, Verdict, usize)] = &[
     ),
 ];
 
-/// Whether a search ends so, with so many sections.
+/// Whether a search ends with a verdict and a number of sections.
 fn ends_in(
     alloc: Global,
     text: &[u8],

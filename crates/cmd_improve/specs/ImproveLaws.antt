@@ -1,7 +1,6 @@
 -- `improve` is a task, and a run of it keeps what it promises.
-use Rattle.std.specs.Prelude.{◌≡◌, ℕ, ◌≤◌, ◌⊎◌, List, length, Some}
-use Rattle.std.proofs.Common.{arith, sym, ◌∙◌, ap, refl, inl, inr}
-use Rattle.std.proofs.Math.Logic.{⊎_elim}
+use Rattle.std.specs.Prelude.{◌≡◌, ℕ, ◌≤◌, ◌⊎◌, List, length}
+use Rattle.std.proofs.Common.{arith, ap, refl, inl, inr}
 use Rattle.net_core.specs.declared.error.NetError.{NetError}
 use Rattle.net_core.specs.declared.error.NetError.TheVariants as nets
 use Rattle.net_document.specs.Format.{IsNetlist, ListsWell}
@@ -13,17 +12,15 @@ use Rattle.improve_windows.specs.Improving.{IsReported}
 use Rattle.command_line.specs.declared.command.Command.TheVariants.{Improve}
 use Rattle.command_line.specs.declared.command.Format.TheVariants.{Blif, Bench}
 use Rattle.command_line.specs.CommandLine.{AsksFor}
-use Rattle.frame_core.specs.declared.status.Status.{Status}
-use Rattle.frame_core.specs.declared.status.Status.TheVariants.{Done, Undecided, Refused}
 use Rattle.cmd_improve.specs.ImproveReport.{FormatAsked, format_of, most_of_netlist, Improvement, improve_reply, improve_refusal, IsImprovement, HasNetlistFault, improve_task}
 use Rattle.cmd_lines.specs.NetLines.{net_status, named_net}
 use Rattle.frame_core.specs.Told.{memory_refusal}
 use Rattle.frame_core.specs.Task.{IsRefusalStatus, IsAnswerable, IsTask}
 use Rattle.frame_core.specs.Run.{Run}
-use Rattle.frame_core.specs.Promise.{Stands, Replies, Faults, CommandPromise}
+use Rattle.frame_core.specs.Promise.{CommandPromise}
 use Rattle.cmd_improve.specs.ImprovePromise.{ImprovePromise}
 use Rattle.frame_core.specs.TaskLaws.{at_once_task}
-use Rattle.frame_core.specs.KeepingLaws.{of_input}
+use Rattle.frame_core.specs.ReadOffLaws.{done_replies, refused_never, never_undecided}
 use Rattle.cmd_lines.specs.NetLineLaws.{not_refused}
 
 lists_well : (format : FormatAsked) → ListsWell (format_of format)
@@ -77,33 +74,13 @@ answerable format asked input within netlist = record {
   sound = λ error fault. fault_never (format_of format) input error (lists_well format) netlist fault.fault;
 }
 
-done_only : (r : Run) (format : FormatAsked) (asked : ImproveSettings) (input : List ℕ) → CommandPromise (improve_task format asked) r → r.source.bytes ≡ Some input → r.status ≡ Done → Replies (improve_task format asked) r input
-done_only r format asked input promise told is = of_input (improve_task format asked) r (Replies (improve_task format asked) r) input (promise.done_only is) told
-
--- a netlist has the status 0
-not_done : (r : Run) (s : Status) (i : Improvement) → Stands r (improve_reply i) → r.status ≡ s → (Done ≡ s → ⊥) → ⊥
-not_done r s i stands is other = other (sym stands.status_is ∙ is)
-
-never_refused : (r : Run) (format : FormatAsked) (asked : ImproveSettings) → CommandPromise (improve_task format asked) r → r.status ≡ Refused → ⊥
-never_refused r format asked promise is =
-    let of = promise.refused_only is in
-    ⊎_elim
-    (λ (got : Replies (improve_task format asked) r of.bytes). not_done r Refused got.answer got.stands is (λ e. cc))
-    (λ (none : Faults (improve_task format asked) r of.bytes). not_refused none.fault (sym none.told.status_is ∙ is))
-    of.holds
-
-decided : (r : Run) (format : FormatAsked) (asked : ImproveSettings) → CommandPromise (improve_task format asked) r → r.status ≡ Undecided → ⊥
-decided r format asked promise is =
-    let got = promise.undecided_only is in
-    not_done r Undecided got.holds.answer got.holds.stands is (λ e. cc)
-
 -- All that `improve` promises besides.
 pub improve_promised : (r : Run) → ((format : FormatAsked) (asked : ImproveSettings) → AsksFor r.words (Improve format asked) → CommandPromise (improve_task format asked) r) → ImprovePromise r
 improve_promised r keeps = record {
   complete = λ format asked input run within netlist steady. (keeps format asked run.asks).complete input run.told (answerable format asked input within netlist) steady;
   answered = λ format asked input run within netlist held. (keeps format asked run.asks).answered input run.told (answerable format asked input within netlist) held;
-  done_only = λ format asked input run is. done_only r format asked input (keeps format asked run.asks) run.told is;
-  decided = λ format asked asks is. decided r format asked (keeps format asked asks) is;
-  never_refused = λ format asked asks is. never_refused r format asked (keeps format asked asks) is;
+  done_only = λ format asked input run is. done_replies (improve_task format asked) r input (keeps format asked run.asks) run.told is;
+  decided = λ format asked asks is. never_undecided (improve_task format asked) r (λ i. refl) (keeps format asked asks) is;
+  never_refused = λ format asked asks is. refused_never (improve_task format asked) r (λ i e. cc) not_refused (keeps format asked asks) is;
   refused = λ format asked input error run fault held. (keeps format asked run.asks).refused input error run.told fault held;
 }

@@ -1,4 +1,4 @@
-//! What a probe opens behind a variable: the operands of its gate, the two signals of a sink's difference, or where the
+//! What a probe opens with a variable: the operands of its gate, the two signals of a sink's difference, or where the
 //! point was merged its representative alone. Of the open variables the last one is decided first: gates before their
 //! operands, and all that is open of the second net before what it was merged with in the first. So the cones of a
 //! pair are decided down to what they share, and not beyond.
@@ -13,6 +13,7 @@ use std::alloc::{AllocError, Global};
 pub(crate) struct ConeRows {
     first: Vec<u32>,
     second: Vec<u32>,
+    /// The number of each variable itself (the identity): of the open variables the last one is decided first.
     rank: Vec<u32>,
 }
 
@@ -34,8 +35,8 @@ impl ConeRows {
     fn push(&mut self, first: u32, second: u32) -> Result<(), AllocError> {
         self.first.push(first)?;
         self.second.push(second)?;
-        let rank = self.rank.len().min(u32::MAX as usize) as u32;
-        self.rank.push(rank)?;
+        let variable = self.rank.len().min(u32::MAX as usize) as u32;
+        self.rank.push(variable)?;
         Ok(())
     }
 

@@ -10,7 +10,7 @@ use crate::state::Sweeping;
 use sat_solve::{Probed, Solver};
 use std::alloc::AllocError;
 
-/// How many conflicts the question for a short clause may take.
+/// How many conflicts the question for a short clause may take. They aren't counted against the budget.
 const SHORT_LIMIT: u32 = 2;
 
 /// How many candidates a gate is compared with.

@@ -12,7 +12,7 @@ const REFUND: u32 = 4;
 /// How many more pairs across the nets may be given up than are derived, before they are asked with few conflicts.
 const MOST_OVER: u32 = 30;
 
-/// How many more are counted: so many that are derived bring back the round's conflicts.
+/// How many more are counted at the most: from there on a pair has the round's conflicts again once 31 were derived.
 const MOST_COUNTED: u32 = 60;
 
 /// How many conflicts are few.

@@ -1,4 +1,4 @@
-//! Rows of numbers by variable. What lies behind the end of a row reads as nothing and isn't written.
+//! Rows of numbers by variable. What would stand after the end of a row reads as nothing and isn't written.
 
 /// The entry of a variable, and `other` where the row has none.
 pub(crate) fn entry<T: Copy>(row: &[T], variable: u32, other: T) -> T {

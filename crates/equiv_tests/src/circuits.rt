@@ -71,7 +71,7 @@ enum Wanted {
     Undecided,
     Differ(u32, &'static [bool]),
     DifferentInterface,
-    /// One interface, and the miter of so many variables and these clauses.
+    /// One interface, and a miter: the number of its variables, and its clauses.
     Miter(u32, &'static [&'static [i32]]),
 }
 
@@ -188,7 +188,7 @@ const COMPARED: &[(&[u8], &[u8], u32, Wanted)] = &[
         100,
         Wanted::Differ(1, &[true, true]),
     ),
-    // the second output, and behind the outputs a next state
+    // the second output, and after the outputs a next state
     (
         b".inputs a\n.outputs a y\n.names y\n.end\n",
         b".inputs a\n.outputs a y\n.names a y\n1 1\n.end\n",

@@ -59,7 +59,7 @@ fn is_refusal(error: &CompareError, wanted: Wanted) -> bool {
     }
 }
 
-/// Whether of two netlists, on a budget of so many conflicts, is told what is wanted.
+/// Whether of two netlists, on a budget of `conflicts`, is told what is wanted.
 fn is_told(alloc: Global, bytes: &[u8], conflicts: u32, wanted: Wanted) -> bool {
     if bytes.len() > 100_000 || conflicts == 0 || conflicts > 10_000_000 {
         return false;
@@ -161,7 +161,7 @@ const TOLD: &[(&[u8], u32, Wanted)] = &[
         1000,
         Wanted::NoSecond,
     ),
-    // a word behind `.end` is a fault of the first
+    // a word after `.end` is a fault of the first
     (b".inputs\n.end x\n.end\n", 1000, Wanted::First(b"Syntax 2")),
     // the second's lines are numbered from 1
     (
@@ -191,7 +191,7 @@ const TOLD: &[(&[u8], u32, Wanted)] = &[
         1000,
         Wanted::Second(b"Syntax 3"),
     ),
-    // behind the `.end` of the second nothing may follow
+    // after the `.end` of the second nothing may follow
     (
         b".inputs\n.end\n.inputs\n.end\nx\n",
         1000,
@@ -225,7 +225,7 @@ const PARTED: &[(&[u8], Option<usize>)] = &[
 ];
 
 #[test]
-fn texts_part_behind_the_first_end(rt: HostRuntime) {
+fn texts_part_after_the_first_end(rt: HostRuntime) {
     for &(text, wanted) in PARTED {
         assert!(rt; split(text) == wanted, "{text:?}");
     }

@@ -1,7 +1,6 @@
 //! What the lines of a BENCH text list, and which fault of a line is reported.
 
-use crate::listing::lists;
-use crate::refusals::tells;
+use crate::listing::{has_counts, has_fault};
 use bench_text::read_listed;
 use std::alloc::{AllocError, Global};
 
@@ -10,17 +9,7 @@ fn is_listed(alloc: Global, text: &[u8], counts: [usize; 5]) -> bool {
     if text.len() > 100_000 {
         return false;
     }
-    match read_listed(alloc, text) {
-        Ok(listed) => {
-            let well = lists(&listed, counts);
-            drop(listed);
-            well
-        }
-        Err(error) => {
-            drop(error);
-            false
-        }
-    }
+    has_counts(read_listed(alloc, text), counts, None)
 }
 
 /// Whether `text` is refused with the error `word` at `line`.
@@ -28,16 +17,7 @@ fn is_refused(alloc: Global, text: &[u8], word: &str, line: u32) -> bool {
     if text.len() > 100_000 {
         return false;
     }
-    let error = match read_listed(alloc, text) {
-        Ok(listed) => {
-            drop(listed);
-            return false;
-        }
-        Err(error) => error,
-    };
-    let told = tells(&error, word, line);
-    drop(error);
-    told
+    has_fault(read_listed(alloc, text), word, line)
 }
 
 /// Texts with the numbers of inputs, outputs, clocks, latches and tables that they list.

@@ -3,11 +3,11 @@
 
 use crate::refusals::tells;
 use blif_text::{Listed, read_listed};
-use net_core::Body;
+use net_core::{Body, NetError};
 use std::alloc::Global;
 
 /// Whether `counts` inputs, outputs, clocks, latches and tables are listed.
-pub fn lists(listed: &Listed, counts: [usize; 5]) -> bool {
+fn lists(listed: &Listed, counts: [usize; 5]) -> bool {
     let document = &listed.document;
     let ends = document.inputs.len() == counts[0] && document.outputs.len() == counts[1];
     let latches = document.clocks.len() == counts[2] && document.latches.len() == counts[3];
@@ -25,14 +25,19 @@ fn cover_lines(listed: &Listed) -> usize {
     lines
 }
 
-/// Whether `text` lists `counts` of each kind, and `lines` cover lines.
-fn is_listed(alloc: Global, text: &[u8], counts: [usize; 5], lines: usize) -> bool {
-    if text.len() > 100_000 {
-        return false;
-    }
-    match read_listed(alloc, text) {
+/// Whether what was read lists `counts` of each kind, and `lines` cover lines where these are counted.
+pub fn has_counts(
+    read: Result<Listed, NetError>,
+    counts: [usize; 5],
+    lines: Option<usize>,
+) -> bool {
+    match read {
         Ok(listed) => {
-            let well = lists(&listed, counts) && cover_lines(&listed) == lines;
+            let counted = match lines {
+                Some(lines) => cover_lines(&listed) == lines,
+                None => true,
+            };
+            let well = counted && lists(&listed, counts);
             drop(listed);
             well
         }
@@ -43,12 +48,9 @@ fn is_listed(alloc: Global, text: &[u8], counts: [usize; 5], lines: usize) -> bo
     }
 }
 
-/// Whether `text` is refused with the error `word` at `line`.
-fn is_refused(alloc: Global, text: &[u8], word: &str, line: u32) -> bool {
-    if text.len() > 100_000 {
-        return false;
-    }
-    let error = match read_listed(alloc, text) {
+/// Whether what was read is refused with the error `word` at `line`.
+pub fn has_fault(read: Result<Listed, NetError>, word: &str, line: u32) -> bool {
+    let error = match read {
         Ok(listed) => {
             drop(listed);
             return false;
@@ -58,6 +60,22 @@ fn is_refused(alloc: Global, text: &[u8], word: &str, line: u32) -> bool {
     let told = tells(&error, word, line);
     drop(error);
     told
+}
+
+/// Whether `text` lists `counts` of each kind, and `lines` cover lines.
+fn is_listed(alloc: Global, text: &[u8], counts: [usize; 5], lines: usize) -> bool {
+    if text.len() > 100_000 {
+        return false;
+    }
+    has_counts(read_listed(alloc, text), counts, Some(lines))
+}
+
+/// Whether `text` is refused with the error `word` at `line`.
+fn is_refused(alloc: Global, text: &[u8], word: &str, line: u32) -> bool {
+    if text.len() > 100_000 {
+        return false;
+    }
+    has_fault(read_listed(alloc, text), word, line)
 }
 
 /// Texts with the numbers of inputs, outputs, clocks, latches, tables and cover lines that they

@@ -62,8 +62,8 @@ fn swept<S: Solver>(
     })
 }
 
-/// Whether a net is restructured: where rounds of moves are asked for, and else from a few gates on, up to so many as can
-/// be compared.
+/// Whether a net is restructured: where rounds of moves are asked for, and else from `LEAST_MOVED` gates on, up to
+/// `MOST_MOVED`, which can still be compared.
 fn is_moved(net: &Net, effort: u32) -> bool {
     let gates = net.gates().len();
     effort > 0 || (LEAST_MOVED <= gates && gates <= MOST_MOVED)
@@ -78,9 +78,11 @@ fn rounds_of(net: &Net, effort: u32) -> u32 {
     }
 }
 
-/// How often moves follow windows.
-fn turns_of(net: &Net) -> u32 {
-    if net.gates().len() > MANY_GATES {
+/// How often moves follow windows. Where a net has as many gates as before, it is the same net, in which moves without
+/// rounds found nothing: they would find nothing again.
+fn turns_of(net: &Net, before: usize, rounds: u32) -> u32 {
+    let gates = net.gates().len();
+    if gates > MANY_GATES || (rounds == 0 && gates == before) {
         0
     } else {
         MOST_TURNS
@@ -108,10 +110,14 @@ fn moved<S: Solver>(
 
 /// The net after moves over the whole net, or as it is.
 #[tactic(auto, using(crate::specs::ImprovementLaws::improving))]
-fn begun<S: Solver>(alloc: Global, net: Net, settings: &ImproveSettings) -> Result<Net, AllocError>
+fn begun<S: Solver>(
+    alloc: Global,
+    net: Net,
+    settings: &ImproveSettings,
+    rounds: u32,
+) -> Result<Net, AllocError>
     ensures { IfOk result (Leads (members settings.now.basis) net) }
 {
-    let rounds = rounds_of(&net, settings.effort);
     match moved::<S>(alloc, &net, settings, rounds)? {
         Some(smaller) => Ok(smaller),
         None => Ok(net),
@@ -131,9 +137,11 @@ fn improved<S: Solver>(
     requires itself { IsPruned net net }
     ensures { IfOk result (λ left. Sweeps settings.now net left.net left.settled left.undecided.items) }
 {
-    let best = begun::<S>(alloc, net, settings)?;
+    let before = net.gates().len();
+    let rounds = rounds_of(&net, settings.effort);
+    let best = begun::<S>(alloc, net, settings, rounds)?;
     let mut left = swept::<S>(alloc, best, settings)?;
-    let turns = turns_of(&left.net);
+    let turns = turns_of(&left.net, before, rounds);
     for _turn in 0..turns {
         match moved::<S>(alloc, &left.net, settings, 0)? {
             None => break,
