@@ -32,7 +32,7 @@ abbrev pub IsWalked : Heading → Option Chain → Type 0
 IsWalked h None = Unit {0}
 IsWalked h (Some c) = IsFound h (length c.steps) c
 
--- there is a chain, and it has so many steps
+-- there is a chain, and it has `size` steps
 abbrev pub HasSize : ℕ → Option Chain → Type 0
 HasSize size None = ⊥
 HasSize size (Some c) = length c.steps ≡ size

@@ -146,7 +146,7 @@ fn walked_from(
     walked(alloc, heading)
 }
 
-/// Whether there is a chain, and it has so many steps.
+/// Whether there is a chain, and it has `size` steps.
 fn has_size(chain: &Option<Chain>, size: u32) -> bool
     ensures { IsTrue result → HasSize size chain.now }
 {

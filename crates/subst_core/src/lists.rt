@@ -7,6 +7,6 @@ pub struct WindowLists<'a> {
     pub gates: &'a [u32],
     /// The places outside that they read, and whatever further places don't depend on them.
     pub inputs: &'a [u32],
-    /// Those of them that a gate outside or a sink reads.
+    /// Those of the gates that a gate outside or a sink reads.
     pub outputs: &'a [u32],
 }

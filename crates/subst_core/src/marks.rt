@@ -85,8 +85,8 @@ fn are_apart_by(marks: &mut [bool], net: &Net, gates: &[u32], places: &[u32]) ->
     are_unmarked(marks, gates)
 }
 
-/// Whether places don't depend on gates: none is one of these, or in their transitive fanout. Just such places may be
-/// the inputs of a window of these gates.
+/// Whether places don't depend on gates: none is one of these, or in their transitive fanout. No others may be
+/// inputs of a window of these gates. It walks the whole net.
 pub fn are_apart(
     alloc: Global,
     net: &Net,
