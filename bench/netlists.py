@@ -5,11 +5,11 @@ Without windows (`--cap 0`): the gates before and after, the bytes, the user tim
 of memory. The netlists are a ladder of 100,000 gates of which each reads the one before it, the same with its tables
 in reverse order, and a wide random netlist of which about half is read by the outputs.
 
-With windows, at the default cap: random logic of 5,000 gates, and adders, multipliers and multiplexers side by side of so many
-gates (10,000 and 100,000). Beside the report, time and memory stands how the windows of the netlist that is left are
+With windows, at the default cap: random logic of 5,000 gates, and adders, multipliers and multiplexers side by side of
+10,000 and of 100,000 gates. Beside the report, time and memory stands how the windows of the netlist that is left are
 answered in the last round, counted by the independent program `count_windows.py`.
 
-With chains: AND of all inputs as a chain of so many gates (1,000, 2,000, 4,000 and 8,000), of which none can go, so that the
+With chains: AND of all inputs as a chain of 1,000, 2,000, 4,000 and 8,000 gates, of which none can go, so that the
 time is that of searches in vain, and the time for each gate shows how it grows."""
 import random
 import subprocess

@@ -108,11 +108,13 @@ def main_classes(program, every):
 
 def main():
     words = sys.argv[1:]
+    if not words or words[0] in ("--help", "-h"):
+        sys.exit(__doc__)
     if words[0] == "--classes":
         main_classes(words[1], int(words[2]) if len(words) > 2 else 1)
         return
     orders = int(words[words.index("--orders") + 1]) if "--orders" in words else 8
-    steps = [int(it) for it in words[words.index("--steps") + 1:]] if "--steps" in words else list(CLASSES)
+    steps = [int(it) for it in words[words.index("--steps") + 1:] if it.isdigit()] if "--steps" in words else list(CLASSES)
     main_orders(words[0], orders, steps)
 
 

@@ -13,7 +13,7 @@ use enc_theory::Part;
 use log_core::write_log;
 use std::alloc::AllocError;
 
-/// The room that a section's text has at first; most of those of a few steps fit in.
+/// The room that a section's text has at first; those of sizes 0 and 1 fit in.
 const SHORT: usize = 1000;
 
 /// Appends the title of a part: the sizes of the levels of a fence, and nothing for the whole.

@@ -37,8 +37,8 @@ pub enum Command {
         format: Format,
         settings: ImproveSettings,
     },
-    /// Decide whether two netlists are equivalent, within a budget of conflicts: those of pairs and
-    /// sinks that are given up count, and the clauses that the last search learns.
+    /// Decide whether two netlists are equivalent, within a budget of conflicts: for each pair or
+    /// sink that is given up its limit counts, and then the clauses that the last search learns.
     Equiv(u32),
     /// Generate a netlist of `blocks` blocks, 1 to 10,000, and write it or improve it.
     Gen {
