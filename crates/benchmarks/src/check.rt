@@ -70,7 +70,7 @@ fn add(alloc: Global, cnf: &mut Cnf, text: &[u8]) -> Result<(), Fault> {
     Ok(())
 }
 
-/// The formula at the front of a text, and what stands behind it.
+/// The formula at the beginning of a text, and what stands after it.
 pub fn formula(alloc: Global, text: &[u8]) -> Result<(Cnf, &[u8]), Fault> {
     let Some((first, _, rest)) = next_line(text) else {
         return Err(Fault::Formula);
@@ -100,7 +100,7 @@ fn feed_all(alloc: Global, checker: &mut Checker, log: &[u8]) -> Result<(), Faul
     Ok(())
 }
 
-/// Whether the log behind a formula refutes it, where each of its lines holds.
+/// Whether the log after a formula refutes it, where each of its lines holds.
 pub fn check(alloc: Global, text: &[u8]) -> Result<bool, Fault> {
     let (cnf, log) = formula(alloc, text)?;
     let mut checker = Checker::new(alloc, cnf)?;

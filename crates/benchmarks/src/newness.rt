@@ -50,7 +50,7 @@ fn count_log(alloc: Global, checker: &mut Checker, log: &[u8]) -> Result<Counted
     Ok(counted)
 }
 
-/// Counts them in the log behind a formula, where each of its lines holds.
+/// Counts them in the log after a formula, where each of its lines holds.
 pub fn count_new(alloc: Global, text: &[u8]) -> Result<Counted, Fault> {
     let (cnf, log) = formula(alloc, text)?;
     let mut checker = Checker::indexed(alloc, cnf)?;

@@ -7,7 +7,6 @@ ghost use Rattle.sat_theory.specs.Formula.{Formula};
 ghost use Rattle.cdcl_theory.specs.Falling.{AllSettled, IsFalsified};
 ghost use Rattle.cdcl_theory.specs.Trails.{fell as fell_of};
 ghost use Rattle.clause_db.specs.Stored.{live_in, IsStored};
-ghost use Rattle.sat_solve.specs.Budgets.{most_budget};
 ghost use Rattle.cdcl_core.specs.Levels.{IsFirstStart, IsLastStart};
 
 use crate::choosing::Choice;

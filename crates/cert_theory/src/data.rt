@@ -33,7 +33,7 @@ pub enum Ended {
 /// What a bundle comes to.
 #[derive(Clone, Copy, PartialEq, Eq)]
 pub enum Verdict {
-    /// So many steps do, and no fewer.
+    /// A chain of this number of steps does, and none of fewer.
     Minimum(u32),
     /// No chain of at most this number of steps does.
     NoChain(u32),

@@ -4,7 +4,7 @@ use Rattle.std.specs.List.{range_with_len}
 use Rattle.chain_theory.specs.Chain.{Chain}
 use Rattle.chain_theory.specs.Levels.{level}
 
--- the levels of places in a slice, that of place p at index p; behind it they are 0
+-- the levels of places in a slice, that of place p at index p; after it they are 0
 unfoldable pub heights : List ℕ → ℕ → ℕ
 heights levels place = slice_index_or levels place 0
 

@@ -36,7 +36,7 @@ impl Model for WatchList {
 
 #[tactic(auto, using(crate::proofs::Listed::entries))]
 impl WatchList {
-    /// No entry, with room for so many.
+    /// No entry, with room for `room` entries.
     pub(crate) fn none(alloc: Global, room: usize) -> Result<WatchList, AllocError>
         ensures { IfOk result (λ list. list ≡ []) }
     {

@@ -10,7 +10,7 @@ use Rattle.lane_sim.specs.Words.{Words, width_of}
 abbrev pub with_gates : Cone → List (ℕ × Gate) → Cone
 with_gates c above = record { leaves = c.leaves; gates = c.gates ++ above }
 
--- The words begin with those of a cone, whatever comes behind them.
+-- The words begin with those of a cone, whatever comes after them.
 -- Example: the words of a cone with further gates begin with the cone's.
 pub record HasWords (c : Cone) (w : Words) : Type 0 where
   pub rows : w.rows ≡ 2 ^ length c.leaves

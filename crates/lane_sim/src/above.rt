@@ -1,4 +1,4 @@
-//! Gates above a cone whose words there are. The cone's rows stay, and those of the gates come behind them, so that other
+//! Gates above a cone whose words there are. The cone's rows stay, and those of the gates come after them, so that other
 //! gates can be simulated above the same cone again and again: a transitive fanout, say, under each number in the place of
 //! what it reads.
 
@@ -108,7 +108,7 @@ fn simulate_rest(
 }
 
 /// Simulates gates above a cone whose words there are: the cone's rows stay, and the rows of `above` come in the place of
-/// all that stood behind them. The places of the index are those of the cone and then those of `above`.
+/// all that stood after them. The places of the index are those of the cone and then those of `above`.
 pub fn simulate_above(
     words: &mut Words,
     index: &Index,

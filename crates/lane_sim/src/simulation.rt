@@ -20,7 +20,7 @@ use std::alloc::{AllocError, Global};
 /// For how many signals there is room from the beginning; few cones have more.
 const ROOM: usize = 32;
 
-/// The row that stands behind `k` others.
+/// The row after `k` others.
 fn row_behind(k: usize, width: usize) -> Operand
     ensures { k * width < 2 ^ 64 → result ≡ operands.Row (k * width) }
 {

@@ -1,5 +1,5 @@
 -- Merging keeps the values of the sinks.
-use Rattle.std.specs.Prelude.{◌≡◌, ℕ, zero, suc, ◌+◌, ◌-◌, ◌≤◌, ◌<◌, ◌==◌, Bool, List, [], ◌∷◌, length, map, slice_get, slice_set, slice_index_or, Some, refl}
+use Rattle.std.specs.Prelude.{◌≡◌, ℕ, suc, ◌+◌, ◌-◌, ◌≤◌, ◌<◌, ◌==◌, Bool, List, [], ◌∷◌, length, map, slice_get, slice_set, Some, refl}
 use Rattle.std.proofs.Common.{arith, sym, ◌∙◌, ◌≢◌, ap, subst, ⊎_elim, get_or, set}
 use Rattle.std.proofs.lemmas.Bool.{cond-true, cond-false, eq-eqb, ne_eqb, cases_eq}
 use Rattle.std.proofs.lemmas.List.{length-map, length-append, get_or-set_same, get_or-set_other}

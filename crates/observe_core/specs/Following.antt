@@ -43,7 +43,7 @@ pub record IsSought (n : Net) (gates left : List ℕ) (best : ℕ) : Type 0 wher
 abbrev pub HaveSame : List ℕ → List ℕ → Type 0
 HaveSame xs ys = (q : ℕ) → among xs q ≡ among ys q
 
--- So many gates of the tail were taken; `all` has them and the window's gates.
+-- `count` gates of the tail were taken; `all` has them and the window's gates.
 pub record IsTaking (n : Net) (gates : List ℕ) (count : ℕ) (all tail : List ℕ) : Type 0 where
   pub taken : List ℕ
   pub following : AreFollowing n gates taken

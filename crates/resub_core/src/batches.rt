@@ -33,7 +33,7 @@ pub struct Batch {
     pub marks: Marks,
 }
 
-/// Whether a graph has so many gates that its replacements are made in batches.
+/// Whether a graph has more gates than are tried one by one, so that its replacements are made in batches.
 pub fn is_large(xag: &Xag, terms: Terms) -> bool {
     let few = if terms.is_level {
         FEW_LEVEL_GATES

@@ -20,7 +20,7 @@ fn first_gate(xag: &Xag) -> u32 {
     xag.sources().wrapping_add(1)
 }
 
-/// Where the pass goes on after a change at `target`: so many nodes before it as gates are gone, and one.
+/// Where the pass goes on after a change at `target`: each gate that went takes it a node back.
 fn target_after(target: u32, old: &Xag, new: &Xag) -> u32 {
     let gone = old.gates().len().saturating_sub(new.gates().len());
     let back = (gone as u64).min(0x7FFF_FFFF) as u32;

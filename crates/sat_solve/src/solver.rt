@@ -39,7 +39,7 @@ pub struct Cones<'a> {
     pub rank: &'a [u32],
 }
 
-/// A search reckons with so many additions, where the budget isn't less: half of them may go at any time.
+/// The additions that a search keeps room for, where the budget isn't less: half of them may go at any time.
 const RECKONED: u32 = 40_000;
 
 /// An incremental solver of one formula in conjunctive normal form: probes learn clauses of it, `finish` decides it.

@@ -85,7 +85,7 @@ struct Told {
 enum Wanted {
     /// These bits satisfy the formula.
     Bits(&'static [bool]),
-    /// A log refutes it, of so many lines, if that is told.
+    /// A log refutes it, with this number of lines, if that is told.
     Refuted(Option<usize>),
     /// The log is open and has one line, which begins so.
     Learnt(&'static [u8]),
@@ -100,7 +100,7 @@ fn has_bits(solved: &Solved, bits: &[bool]) -> bool {
     }
 }
 
-/// Whether the answer is a log that refutes, of so many lines, if that is told.
+/// Whether the answer is a log that refutes, with `lines` lines if that is told.
 fn is_refuted(
     alloc: Global,
     checker: &mut Checker,
@@ -257,7 +257,7 @@ const NEGATION: &[&[u8]] = &[
     b"1 -4 -5 -6 -7 0 0",
 ];
 
-/// The conflict behind the decisions 1 and 5 leads back to -3, -2 and -1, of which -2 follows from -1.
+/// The conflict after the decisions 1 and 5 leads back to -3, -2 and -1, of which -2 follows from -1.
 const IMPLIED: &[&[u8]] = &[
     b"1 -1 2 0 0",
     b"2 -5 3 0 0",
@@ -283,7 +283,7 @@ const NOT_SHORTENED: &[&[u8]] = &[
     b"5 -3 1 2 0 0",
 ];
 
-/// Formulas of so many variables with their answers within a budget of one.
+/// Formulas, each with its name, its number of variables, its clauses, and its answer within a budget of one.
 const FORMULAS: &[(&str, u32, &[&[u8]], Wanted)] = &[
     (
         "satisfied",
@@ -353,7 +353,7 @@ fn are_told(alloc: Global, wanted: Told) -> Result<bool, AllocError> {
     is_answered(alloc, cnf, wanted.budget, &Wanted::Pigeons(wanted))
 }
 
-/// What is wanted of so many holes within so many learnt clauses.
+/// Pigeonhole formulas: the number of holes, the budget, whether it is enough, and how many clauses are learnt.
 ///
 /// Where it's told how many clauses are learnt, it's as many as an independent program learns that takes the same
 /// steps: they tell of what scores, of signs and of when restarts come, which no contract says.

@@ -72,7 +72,7 @@ fn tells(alloc: Global, trail: &Trail) -> Result<bool, AllocError> {
     Ok(told && fell(trail, FALLS))
 }
 
-/// Whether the trail goes back behind its first literal.
+/// Whether the trail goes back to its first literal.
 fn goes_back(trail: &mut Trail) -> bool {
     if trail.len() != 2 || trail.at(1).get() != -1 {
         return false;

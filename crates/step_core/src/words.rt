@@ -1,6 +1,6 @@
 //! Words of 64 rows: which outputs ask for the values of a word, and which steps give outputs theirs.
 ghost use Rattle.std.specs.Prelude.{◌≡◌, ◌<◌, length};
-ghost use Rattle.step_core.specs.Steps.{misses as misses_of, meets_at as meets_at_of, is_met as is_met_of, is_missing as is_missing_of, all_met as all_met_of};
+ghost use Rattle.step_core.specs.Steps.{misses as misses_of, meets_at as meets_at_of, is_met as is_met_of, all_met as all_met_of};
 
 use crate::trail::Trail;
 use tt_core::Spec;

@@ -50,7 +50,7 @@ pub record HasFirst (n : Net) (from : ℕ) (first : List ℕ) : Type 0 where
   pub size : length first ≡ end_of n
   pub each : (p : ℕ) → p < end_of n → IsLater n (n.sources + 1 + from) p (slice_index_or first p 0)
 
--- and the list has their later readers; so many gates were taken, from the last one on, and so many are left
+-- and the list has their later readers; `taken` gates were taken, from the last one on, and `left` are left
 pub record AreAfter (n : Net) (taken : ℕ) (first : List ℕ) (list : List Nearest) : Type 0 where
   pub left : ℕ
   pub all : left + taken ≡ length n.gates

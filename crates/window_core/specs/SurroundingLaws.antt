@@ -246,7 +246,7 @@ pub surround_start : (n : Net) (places leaves : List ℕ) (gates : List (ℕ × 
 surround_start n places leaves gates rising few within same none =
     subst (λ (xs : List (ℕ × Gate)). IsSurround n places leaves (reverse xs)) (sym none) (subst (λ (ls : List ℕ). IsSurround n places ls []) (sym same) (surround_of n places rising few within))
 
--- a fanin of a place that is behind some places is behind them too
+-- a fanin of a place in the cone of some places is in their cone too
 up_first : (n : Net) (q p r : ℕ) → Reads n p q → LeadsUp n p r → LeadsUp n q r
 up_first n q _ _ first (at_once p r reads) = by_way_of q p r (at_once q p first) reads
 up_first n q _ _ first (by_way_of p m r before reads) = by_way_of q m r (up_first n q p m first before) reads

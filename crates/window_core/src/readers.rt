@@ -6,7 +6,7 @@ ghost use Rattle.net_theory.specs.declared.data.Gate.{Gate as GateValue};
 ghost use Rattle.net_theory.specs.Net.{end_of};
 ghost use Rattle.window_theory.specs.Paths.{IsGate};
 ghost use Rattle.window_core.specs.Gates.{IsGateOf};
-ghost use Rattle.window_core.specs.Readers.{named_by, named_by_gate, named_by_sinks, sum_gates, uses_of, place_of as place_named, AreReaders, AreEarlier, IsEarlier, IsEarlierOf, AreLater, IsLater, IsLaterOf};
+ghost use Rattle.window_core.specs.Readers.{named_by, named_by_gate, named_by_sinks, sum_gates, uses_of, place_of as place_named, AreReaders, AreEarlier, IsEarlierOf, AreLater, IsLater, IsLaterOf};
 ghost use Rattle.window_core.specs.Noting.{IsBefore, AreBefore, AreGrown, IsNoted, HasNoted, HasFirst};
 
 use net_core::{Gate, Net, Sig};

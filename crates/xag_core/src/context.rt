@@ -139,7 +139,7 @@ impl Context {
         Ok(())
     }
 
-    /// The listed cone of a gate goes: what it reads has so many readers less.
+    /// The listed cone of a gate goes: what its gates read has a reader less for each.
     pub fn give_up(&mut self, xag: &Xag, cone: &[u32]) {
         for member in cone.iter().take(LARGEST_CONE) {
             let gate = xag.gate(*member);

@@ -1,4 +1,4 @@
--- One piece behind the other.
+-- One piece after the other.
 use Rattle.std.proofs.Common.{◌≡◌, ℕ, ◌++◌, subst}
 use Rattle.text_core.specs.Lines.{line_bytes}
 use Rattle.chain_core.specs.Spelling.{line}
