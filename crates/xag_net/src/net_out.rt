@@ -2,13 +2,10 @@
 //! complemented, and a NOT gate is made only where sinks read a gate both ways, or a source complemented.
 ghost use Rattle.std.specs.Prelude.{◌≡◌, OnOk, IfOk, length};
 
-use crate::edit::Edit;
 use crate::net_builder::NetBuilder;
-use crate::rows::{at, bit_at, put};
-use crate::walk::rebuild;
-use crate::xag::{Xag, XagGate};
 use net_core::{Net, Op, Sig};
 use std::alloc::{AllocError, Global};
+use xag_core::{Edit, Xag, XagGate, at, bit_at, put, rebuild};
 
 /// Which nodes are made complemented: the gates that sinks read, and only complemented.
 fn turned_nodes(alloc: Global, xag: &Xag) -> Result<Vec<bool>, AllocError> {

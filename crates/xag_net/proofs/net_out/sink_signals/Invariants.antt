@@ -1,5 +1,5 @@
 use Rattle.std.proofs.Common.{◌≡◌, length}
-use Rattle.xag_core.proofs.net_out.sink_signals.Given as goal
+use Rattle.xag_net.proofs.net_out.sink_signals.Given as goal
 
 abbrev pub invariant-loop-sink : goal.invariant-loop-sink
 invariant-loop-sink l = record {

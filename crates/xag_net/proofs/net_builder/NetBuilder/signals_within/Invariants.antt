@@ -2,7 +2,7 @@
 use Rattle.std.proofs.Common.{◌≡◌, ◌+◌, length}
 use Rattle.std.specs.Prelude.{All}
 use Rattle.net_theory.specs.Net.{IsSigBelow}
-use Rattle.xag_core.proofs.net_builder.NetBuilder.signals_within.Given as goal
+use Rattle.xag_net.proofs.net_builder.NetBuilder.signals_within.Given as goal
 
 abbrev pub invariant-loop-signal : goal.invariant-loop-signal
 invariant-loop-signal l = record {

@@ -2,7 +2,7 @@
 //! built is a net whatever is asked for.
 ghost use Rattle.std.specs.Prelude.{◌≡◌, ◌<◌, OnOk, IfOk, length};
 ghost use Rattle.net_theory.specs.Net.{IsSigBelow};
-ghost use Rattle.xag_core.specs.Grown.{IsGrownNet, HasSignals};
+ghost use Rattle.xag_net.specs.Grown.{IsGrownNet, HasSignals};
 
 use net_core::{Gate, Net, Op, Sig};
 use std::alloc::{AllocError, Global};
@@ -16,8 +16,8 @@ pub struct NetBuilder {
 }
 
 impl Model for NetBuilder {
-    ghost use Rattle.xag_core.specs.Grown as grown;
-    ghost use Rattle.xag_core.specs.Grown.{IsGrownNet};
+    ghost use Rattle.xag_net.specs.Grown as grown;
+    ghost use Rattle.xag_net.specs.Grown.{IsGrownNet};
 
     ghost Value = { grown.GrownNet };
 

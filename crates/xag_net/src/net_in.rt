@@ -1,13 +1,9 @@
 //! A net as a graph: an operator of two bits is AND or XOR with complements, or no gate at all.
 ghost use Rattle.std.specs.Prelude.{◌≡◌, OnOk, IfOk, length};
 
-use crate::builder::Builder;
-use crate::edit::Edit;
-use crate::rows::at;
-use crate::walk::rebuild;
-use crate::xag::Xag;
 use net_core::{Net, Op, Sig};
 use std::alloc::{AllocError, Global};
+use xag_core::{Builder, Edit, Xag, at, rebuild};
 
 /// The literal of a signal, by the literals of the places.
 fn literal_of(places: &[u32], sig: Sig) -> u32 {
