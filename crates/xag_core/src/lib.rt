@@ -21,6 +21,7 @@ mod edit;
 mod random;
 mod rows;
 mod walk;
+mod words;
 mod xag;
 
 pub use builder::Builder;
@@ -29,4 +30,5 @@ pub use edit::{Edit, NONE};
 pub use random::Random;
 pub use rows::{at, bit_at, put, raise};
 pub use walk::rebuild;
+pub use words::{complement_mask, put_word, word_at};
 pub use xag::{Xag, XagGate};
