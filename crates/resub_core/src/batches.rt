@@ -5,8 +5,9 @@
 ghost use Rattle.std.specs.Prelude.{IfOk, IfSome};
 ghost use Rattle.resub_core.specs.Smaller.{IsNoLarger};
 
-use crate::finder::{Finder, Terms, is_taken};
+use crate::finder::{Finder, Terms, taken};
 use crate::marks::Marks;
+use resub_search::{Divisors, Recipe, add_to, read_nodes};
 use std::alloc::{AllocError, Global};
 use xag_core::{Context, Edit, Xag, rebuild};
 
@@ -31,6 +32,27 @@ pub struct Batch {
     pub context: Context,
     pub edit: Edit,
     pub marks: Marks,
+}
+
+impl Batch {
+    /// Notes a recipe that stands for the target, whose cone goes: the change of the graph, and who reads what.
+    pub fn note(
+        &mut self,
+        xag: &Xag,
+        divisors: &Divisors,
+        cone: &[u32],
+        target: u32,
+        recipe: Recipe,
+    ) -> Result<(), AllocError> {
+        add_to(&mut self.edit, divisors, target, recipe)?;
+        self.context.give_up(xag, cone);
+        for node in read_nodes(divisors, recipe) {
+            self.context.hold(node);
+            self.marks.note_read(node);
+        }
+        self.context.pin(target);
+        Ok(())
+    }
 }
 
 /// Whether a graph has more gates than are tried one by one, so that its replacements are made in batches.
@@ -63,16 +85,8 @@ fn after_batch(
             finder.note(alloc, xag, &mut batch, target, terms)?;
         }
     }
-    match rebuild(alloc, xag, &batch.edit)? {
-        Some(other) => {
-            if is_taken(xag.gates().len(), other.gates().len(), terms) {
-                Ok(Some(other))
-            } else {
-                Ok(None)
-            }
-        }
-        None => Ok(None),
-    }
+    let found = rebuild(alloc, xag, &batch.edit)?;
+    Ok(taken(xag, found, terms))
 }
 
 /// A graph after batches, as long as it is large and each makes it smaller by enough; or after a few that may keep its

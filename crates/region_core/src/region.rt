@@ -3,9 +3,9 @@
 
 use crate::growing::grow;
 use crate::tail::{first_leaves, shown, tail_of};
-use crate::words::{complement_mask, put_word, row_mask, variable_word, word_at, word_count};
+use crate::variables::{row_mask, variable_word, word_count};
 use std::alloc::{AllocError, Global};
-use xag_core::{Context, Xag, at, bit_at, put};
+use xag_core::{Context, Xag, at, bit_at, complement_mask, put, put_word, word_at};
 
 /// The most nodes of a region.
 const MOST_SLOTS: usize = 320;

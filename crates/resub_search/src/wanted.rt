@@ -1,7 +1,7 @@
 //! What a function has to be: 1 in the rows of `on`, 0 in those of `off`, and anything in the others.
 
-use crate::words::{complement_mask, put_word, word_at};
 use std::alloc::{AllocError, Global};
+use xag_core::{complement_mask, put_word, word_at};
 
 /// The rows that matter, as an incompletely specified function.
 #[derive(Drop)]

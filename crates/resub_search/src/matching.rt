@@ -4,9 +4,8 @@
 use crate::divisors::Divisors;
 use crate::recipe::Step;
 use crate::wanted::{Wanted, differ_as};
-use crate::words::word_at;
 use std::alloc::{AllocError, Global};
-use xag_core::{NONE, XagGate, at, put};
+use xag_core::{NONE, XagGate, at, put, word_at};
 
 /// Where signatures are taken: a row that matters, and four words.
 #[derive(Clone, Copy)]

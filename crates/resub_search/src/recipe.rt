@@ -1,9 +1,8 @@
 //! What a search finds: a literal over divisors and at most two new gates.
 
-use crate::batches::Batch;
 use crate::divisors::Divisors;
 use std::alloc::AllocError;
-use xag_core::{Edit, Xag, XagGate};
+use xag_core::{Edit, XagGate};
 
 /// The code of the first new gate's literal. Below it a code is 2 * divisor, or 2 * divisor + 1 for the complement.
 pub const INNER: u32 = 2048;
@@ -128,21 +127,4 @@ fn node_of(divisors: &Divisors, code: u32) -> u32 {
     } else {
         0
     }
-}
-
-/// Notes who reads what where a recipe stands for the target, whose cone goes.
-pub fn note_readers(
-    batch: &mut Batch,
-    xag: &Xag,
-    divisors: &Divisors,
-    cone: &[u32],
-    target: u32,
-    recipe: Recipe,
-) {
-    batch.context.give_up(xag, cone);
-    for node in read_nodes(divisors, recipe) {
-        batch.context.hold(node);
-        batch.marks.note_read(node);
-    }
-    batch.context.pin(target);
 }
