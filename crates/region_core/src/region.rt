@@ -2,7 +2,7 @@
 //! simulated over the assignments of the leaves, 64 a word.
 
 use crate::growing::grow;
-use crate::tail::{first_leaves, shown, tail_of};
+use crate::tail::{shown, sides_of, tail_of};
 use crate::variables::{row_mask, variable_word, word_count};
 use std::alloc::{AllocError, Global};
 use xag_core::{Context, Xag, at, bit_at, complement_mask, put, put_word, word_at};
@@ -190,13 +190,22 @@ impl Region {
         }
     }
 
-    /// Adds the rows of a node to a list of rows.
+    /// Adds the words of a node to a list.
     fn keep_row(&self, kept: &mut Vec<u64>, node: u32) -> Result<(), AllocError> {
         let start = self.start(node);
         for word in 0..self.words {
             kept.push(word_at(&self.values, start.wrapping_add(word)))?;
         }
         Ok(())
+    }
+
+    /// The words of nodes, one after another.
+    fn rows_of(&self, alloc: Global, nodes: &[u32]) -> Result<Vec<u64>, AllocError> {
+        let mut rows = Vec::new(alloc);
+        for node in nodes {
+            self.keep_row(&mut rows, *node)?;
+        }
+        Ok(rows)
     }
 
     /// Marks the rows in which a node isn't what it was.
@@ -210,29 +219,38 @@ impl Region {
         }
     }
 
+    /// The rows in which some node isn't what it was.
+    fn changes(&self, alloc: Global, nodes: &[u32], kept: &[u64]) -> Result<Vec<u64>, AllocError> {
+        let mut seen = vec![in alloc; 0u64; MOST_WORDS]?;
+        for (index, node) in nodes.iter().enumerate() {
+            self.mark_changes(&mut seen, kept, index, *node);
+        }
+        Ok(seen)
+    }
+
+    /// Only these of the rows that matter matter from now on.
+    fn keep_care(&mut self, seen: &[u64]) {
+        for (word, mark) in self.care.iter_mut().zip(seen.iter()) {
+            *word &= *mark;
+        }
+    }
+
     /// Only the rows matter in which the shown gates of the tail change with the target.
     fn observe(
         &mut self,
         alloc: Global,
         xag: &Xag,
+        context: &Context,
         tail: &[u32],
-        watched: &[u32],
     ) -> Result<(), AllocError> {
+        let watched = shown(alloc, context, tail)?;
         self.simulate_all(xag, tail);
-        let mut kept = Vec::new(alloc);
-        for node in watched {
-            self.keep_row(&mut kept, *node)?;
-        }
+        let kept = self.rows_of(alloc, &watched)?;
         self.turn_target();
         self.simulate_all(xag, tail);
         self.turn_target();
-        let mut seen = vec![in alloc; 0u64; MOST_WORDS]?;
-        for (index, node) in watched.iter().enumerate() {
-            self.mark_changes(&mut seen, &kept, index, *node);
-        }
-        for (word, mark) in self.care.iter_mut().zip(seen.iter()) {
-            *word &= *mark;
-        }
+        let seen = self.changes(alloc, &watched, &kept)?;
+        self.keep_care(&seen);
         Ok(())
     }
 
@@ -273,6 +291,24 @@ impl Region {
         self.simulate(xag, node);
     }
 
+    /// Sets the region up for a target and its tail, with all rows as ones that matter.
+    fn set_around(
+        &mut self,
+        alloc: Global,
+        xag: &Xag,
+        node: u32,
+        tail: &[u32],
+    ) -> Result<(), AllocError> {
+        let mut leaves = sides_of(alloc, xag, tail, node)?;
+        let mut inner = Vec::new(alloc);
+        grow(xag, &mut leaves, &mut inner)?;
+        self.words = word_count(leaves.len());
+        self.enter_all(&leaves, &inner, node, tail)?;
+        self.simulate_inside(xag, &leaves, &inner, node);
+        self.care_for_all(leaves.len());
+        Ok(())
+    }
+
     /// Sets the region up for a target; with its tail where `with_tail`. False where there is no tail then.
     pub fn set_up(
         &mut self,
@@ -283,25 +319,16 @@ impl Region {
         with_tail: bool,
     ) -> Result<bool, AllocError> {
         self.clear();
-        let tail = if with_tail {
-            tail_of(alloc, xag, context, node)?
-        } else {
-            Vec::new(alloc)
-        };
-        if with_tail && tail.is_empty() {
+        if !with_tail {
+            self.set_around(alloc, xag, node, &[])?;
+            return Ok(true);
+        }
+        let tail = tail_of(alloc, xag, context, node)?;
+        if tail.is_empty() {
             return Ok(false);
         }
-        let mut leaves = first_leaves(alloc, xag, &tail, node)?;
-        let mut inner = Vec::new(alloc);
-        grow(xag, &mut leaves, &mut inner)?;
-        self.words = word_count(leaves.len());
-        self.enter_all(&leaves, &inner, node, &tail)?;
-        self.simulate_inside(xag, &leaves, &inner, node);
-        self.care_for_all(leaves.len());
-        if with_tail {
-            let watched = shown(alloc, context, &tail)?;
-            self.observe(alloc, xag, &tail, &watched)?;
-        }
+        self.set_around(alloc, xag, node, &tail)?;
+        self.observe(alloc, xag, context, &tail)?;
         Ok(true)
     }
 

@@ -52,8 +52,8 @@ fn add_side(sides: &mut Vec<u32>, tail: &[u32], node: u32, literal: u32) -> Resu
     add(sides, operand)
 }
 
-/// The operands of the gate, and the sides of its tail.
-fn sides_of(alloc: Global, xag: &Xag, tail: &[u32], node: u32) -> Result<Vec<u32>, AllocError> {
+/// The operands of the gate, and the sides of its tail: the leaves to begin with.
+pub fn sides_of(alloc: Global, xag: &Xag, tail: &[u32], node: u32) -> Result<Vec<u32>, AllocError> {
     let mut sides = Vec::new(alloc);
     let gate = xag.gate(node);
     add(&mut sides, gate.first >> 1)?;
@@ -91,16 +91,6 @@ pub fn tail_of(
         tail.clear();
     }
     Ok(tail)
-}
-
-/// The leaves to begin with.
-pub fn first_leaves(
-    alloc: Global,
-    xag: &Xag,
-    tail: &[u32],
-    node: u32,
-) -> Result<Vec<u32>, AllocError> {
-    sides_of(alloc, xag, tail, node)
 }
 
 /// The gates of the tail whose values go beyond it.

@@ -66,6 +66,17 @@ pub fn first_word(rows: &[u64]) -> usize {
     rows.len()
 }
 
+/// The first word from `start` on in which a literal is 0 in some row of `rows`, the number of words where there is none.
+fn first_zero(start: usize, rows: &[u64], row: &[u64], literal: u32) -> usize {
+    let turn = complement_mask(literal);
+    for word in start..rows.len() {
+        if word_at(rows, word) & !(word_at(row, word) ^ turn) != 0 {
+            return word;
+        }
+    }
+    rows.len()
+}
+
 /// Whether a literal is 1 in all rows of `on`.
 pub fn covers(on: &[u64], row: &[u64], literal: u32) -> bool {
     covers_from(0, on, row, literal)
@@ -73,35 +84,17 @@ pub fn covers(on: &[u64], row: &[u64], literal: u32) -> bool {
 
 /// Whether a literal is 1 in all rows of `on`, which has none before the word `start`.
 pub fn covers_from(start: usize, on: &[u64], row: &[u64], literal: u32) -> bool {
-    let turn = complement_mask(literal);
-    for word in start..on.len() {
-        if word_at(on, word) & !(word_at(row, word) ^ turn) != 0 {
-            return false;
-        }
-    }
-    true
+    first_zero(start, on, row, literal) == on.len()
 }
 
 /// Whether a literal is 0 in some row of `off`, so that AND with it decides that row.
 pub fn decides_some(off: &[u64], row: &[u64], literal: u32) -> bool {
-    let turn = complement_mask(literal);
-    for word in 0..off.len() {
-        if word_at(off, word) & !(word_at(row, word) ^ turn) != 0 {
-            return true;
-        }
-    }
-    false
+    first_zero(0, off, row, literal) < off.len()
 }
 
 /// The first word in which a literal is 1 in some row of `off`, the number of words where there is none.
 pub fn first_kept(off: &[u64], row: &[u64], literal: u32) -> usize {
-    let turn = complement_mask(literal);
-    for word in 0..off.len() {
-        if word_at(off, word) & (word_at(row, word) ^ turn) != 0 {
-            return word;
-        }
-    }
-    off.len()
+    first_zero(0, off, row, literal ^ 1)
 }
 
 /// Whether AND of two literals is 0 in all rows of `off`, where the first one is 0 in those before the word `start`.
