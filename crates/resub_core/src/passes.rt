@@ -110,10 +110,37 @@ fn vary(
     Ok(())
 }
 
+/// The graph after batches while it is large, and then after single targets until none changes, or for some twenty passes.
+#[tactic(auto, using(crate::specs::SmallerLaws::replacing))]
+fn reduced(alloc: Global, xag: &Xag, finder: &mut Finder, terms: Terms) -> Result<Xag, AllocError>
+    ensures { IfOk result (IsNoLarger xag.now) }
+{
+    let begun = batched(alloc, xag, finder, terms)?;
+    if is_large(&begun, terms) {
+        return Ok(begun);
+    }
+    let mut pass = Pass::new(alloc, begun)?;
+    let most = 20 * u64::from(xag.nodes());
+    settle(alloc, &mut pass, finder, terms, most)?;
+    Ok(pass.xag)
+}
+
+/// The graph after as many targets at random as it has gates, or after batches where it is large.
+#[tactic(auto, using(crate::specs::SmallerLaws::replacing))]
+fn varied(alloc: Global, xag: &Xag, finder: &mut Finder, terms: Terms) -> Result<Xag, AllocError>
+    ensures { IfOk result (IsNoLarger xag.now) }
+{
+    if is_large(xag, terms) {
+        return batched(alloc, xag, finder, terms);
+    }
+    let mut pass = Pass::new(alloc, xag.copied(alloc)?)?;
+    vary(alloc, &mut pass, finder, terms, xag.gates().len())?;
+    Ok(pass.xag)
+}
+
 /// The graph after resubstitution with at most `new_gates` new gates for a target, 0, 1 or 2. Each
 /// replacement leaves fewer gates. It goes on until no gate of the graph has one, or for some twenty passes. A
 /// large graph is taken through batches, and goes on so only where that leaves few gates.
-#[tactic(auto, using(crate::specs::SmallerLaws::replacing))]
 pub fn resub(alloc: Global, xag: &Xag, new_gates: u32) -> Result<Xag, AllocError>
     ensures { IfOk result (IsNoLarger xag.now) }
 {
@@ -122,19 +149,11 @@ pub fn resub(alloc: Global, xag: &Xag, new_gates: u32) -> Result<Xag, AllocError
         new_gates,
         is_level: false,
     };
-    let begun = batched(alloc, xag, &mut finder, terms)?;
-    if is_large(&begun, terms) {
-        return Ok(begun);
-    }
-    let mut pass = Pass::new(alloc, begun)?;
-    let most = 20 * u64::from(xag.nodes());
-    settle(alloc, &mut pass, &mut finder, terms, most)?;
-    Ok(pass.xag)
+    reduced(alloc, xag, &mut finder, terms)
 }
 
 /// The graph after resubstitution with at most two new gates at as many gates at random as it has, each
 /// replacement with no more gates.
-#[tactic(auto, using(crate::specs::SmallerLaws::replacing))]
 pub fn resub_level(alloc: Global, xag: &Xag, seed: u64) -> Result<Xag, AllocError>
     ensures { IfOk result (IsNoLarger xag.now) }
 {
@@ -143,10 +162,5 @@ pub fn resub_level(alloc: Global, xag: &Xag, seed: u64) -> Result<Xag, AllocErro
         new_gates: 2,
         is_level: true,
     };
-    if is_large(xag, terms) {
-        return batched(alloc, xag, &mut finder, terms);
-    }
-    let mut pass = Pass::new(alloc, xag.copied(alloc)?)?;
-    vary(alloc, &mut pass, &mut finder, terms, xag.gates().len())?;
-    Ok(pass.xag)
+    varied(alloc, xag, &mut finder, terms)
 }
