@@ -171,14 +171,14 @@ abbrev IsShortKey : List ℕ → Type 0
 IsShortKey text = (list_all is_plain_byte text ≡ true) × (is_nothing text ≡ false) × (list_all is_clean_byte text ≡ true) × (length text ≤ 4)
 
 key_is : (k : Connective) (on single : Bool) → IsShortKey (key_by_text k on single)
-key_is And true true = (refl, (refl, (refl, omega arith)))
-key_is And false true = (refl, (refl, (refl, omega arith)))
-key_is And true false = (refl, (refl, (refl, omega arith)))
-key_is And false false = (refl, (refl, (refl, omega arith)))
-key_is Or true single = (refl, (refl, (refl, omega arith)))
-key_is Or false single = (refl, (refl, (refl, omega arith)))
-key_is Xor true single = (refl, (refl, (refl, omega arith)))
-key_is Xor false single = (refl, (refl, (refl, omega arith)))
+key_is And true true = (refl, refl, refl, omega arith)
+key_is And false true = (refl, refl, refl, omega arith)
+key_is And true false = (refl, refl, refl, omega arith)
+key_is And false false = (refl, refl, refl, omega arith)
+key_is Or true single = (refl, refl, refl, omega arith)
+key_is Or false single = (refl, refl, refl, omega arith)
+key_is Xor true single = (refl, refl, refl, omega arith)
+key_is Xor false single = (refl, refl, refl, omega arith)
 
 -- the items of the operands after the opening bracket
 abbrev operand_items : Name → Option Name → List (List ℕ)
