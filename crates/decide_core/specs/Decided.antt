@@ -10,6 +10,8 @@ use Rattle.cert_theory.specs.declared.data.Verdict.TheVariants as verdicts
 use Rattle.cert_theory.specs.Bundle.{Bundle, IsValid, IsFound, HasOutput}
 use Rattle.size_loop.specs.Thrift.{AreThrifty}
 use Rattle.decide_core.specs.declared.deciding.Decided.{Decided}
+use Rattle.decide_core.specs.declared.deciding.Searched.{Searched}
+use Rattle.decide_core.specs.declared.deciding.Searched.TheVariants as searches
 use Rattle.decide_core.specs.declared.deciding.Sized.{Sized}
 use Rattle.decide_core.specs.declared.deciding.Sized.TheVariants as sizes
 use Rattle.decide_core.specs.declared.deciding.Decided.TheVariants.{Shorter, Least, Open}
@@ -54,6 +56,12 @@ abbrev pub IsClosed : Decided → Type 0
 IsClosed (Shorter c) = Unit {0}
 IsClosed Least = Unit {0}
 IsClosed (Open b) = ⊥
+
+-- what a search with a certificate says
+abbrev pub IsSearched : Heading → Searched → Type 0
+IsSearched h (searches.Found c fewest) = IsShorter h c × Fewer h fewest
+IsSearched h searches.Nothing = HasNone h
+IsSearched h (searches.Open b) = IsLeftOpen h b
 
 -- what is known of sizes alone
 abbrev pub IsSized : Heading → Sized → Type 0

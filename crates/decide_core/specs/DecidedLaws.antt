@@ -3,6 +3,8 @@ use Rattle.std.proofs.Common.{◌≡◌, ℕ, ◌+◌, ◌<◌, ◌≤◌, true,
 use Rattle.std.proofs.lemmas.Grind.{common_steps}
 use Rattle.chain_theory.specs.Chain.{Step, Chain, IsChain}
 use Rattle.chain_theory.specs.Operator.{Basis}
+use Rattle.chain_theory.specs.Specification.{Specification}
+use Rattle.chain_theory.specs.Agreement.{NoneBelow}
 use Rattle.tt_core.specs.Words.{specification}
 use Rattle.op_basis.specs.Basis.{members}
 use Rattle.cert_theory.specs.declared.data.Heading.{Heading}
@@ -62,6 +64,29 @@ whole_none h b same valid closed none =
 pub whole_found : (h : Heading) (b : Bundle) (c : Chain) → b.heading ≡ h → IsValid b → b.chain ≡ Some c → IsShorter h c
 whole_found h b c same valid has = record { size = length b.sections; found = subst (λ (k : Heading). IsFound k (length b.sections) c) same (ending_of b (Some c) has valid).0 }
 
+-- what a verdict rules out fewer steps than
+pub minimum_fewest : (s : Specification) (basis : Basis) (v : Verdict) (r : ℕ) → v ≡ verdicts.Minimum r → Means s basis v → NoneBelow s basis r
+minimum_fewest s basis v r e means =
+    let least : Means s basis (verdicts.Minimum r) = subst (Means s basis) e means in
+    least.none_fewer
+
+pub nothing_fewest : (s : Specification) (basis : Basis) (v : Verdict) (most : ℕ) → v ≡ verdicts.NoChain most → Means s basis v → NoneBelow s basis most
+nothing_fewest s basis v most e means q low has =
+    let none : Means s basis (verdicts.NoChain most) = subst (Means s basis) e means in
+    none q (omega (arith, low)) has
+
+pub bounded_fewest : (s : Specification) (basis : Basis) (v : Verdict) (low r : ℕ) → v ≡ verdicts.Bounded low r → Means s basis v → NoneBelow s basis low
+bounded_fewest s basis v low r e means =
+    let bound : Means s basis (verdicts.Bounded low r) = subst (Means s basis) e means in
+    bound.1
+
+pub open_fewest : (s : Specification) (basis : Basis) (v : Verdict) (low : ℕ) → v ≡ verdicts.Open low → Means s basis v → NoneBelow s basis low
+open_fewest s basis v low e means = subst (Means s basis) e means
+
+pub whole_fewer : (h : Heading) (b : Bundle) (fewest : ℕ) → b.heading ≡ h → IsValid b → ((s : Specification) (basis : Basis) → Means s basis b.verdict → NoneBelow s basis fewest) → Fewer h fewest
+whole_fewer h b fewest same valid rules =
+    subst (λ (k : Heading). Fewer k fewest) same (rules (specification b.heading.spec) (members b.heading.basis) (verdict_true b valid))
+
 pub whole_open : (h : Heading) (b : Bundle) → b.heading ≡ h → 0 < length h.spec.on → IsValid b → AreThrifty b.heading b.sections → IsOpenVerdict b.verdict → IsLeftOpen h b
 whole_open h b same output valid thrifty verdict = record { heading = same; valid = valid; output = subst (λ (k : Heading). 0 < length k.spec.on) (sym same) output; thrifty = thrifty; verdict = verdict }
 
@@ -86,4 +111,4 @@ nothing_asked h c chain inputs steps outs none = record {
   };
 }
 
-pub ruleset deciding = (common_steps, size_found, size_refuted, fewer_none, fewer_below, whole_none, whole_found, whole_open, nothing_asked)
+pub ruleset deciding = (common_steps, size_found, size_refuted, fewer_none, fewer_below, whole_none, whole_found, whole_fewer, minimum_fewest, nothing_fewest, bounded_fewest, open_fewest, whole_open, nothing_asked)

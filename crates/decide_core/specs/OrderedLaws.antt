@@ -34,6 +34,10 @@ fewer_turned h k order size t none =
 pub least_turned : (h k : Heading) (order : List ℕ) → IsTurnedTo h k order → HasNone k → HasNone h
 least_turned h k order t none = fewer_turned h k order (h.max + 1) t (subst (λ (m : ℕ). Fewer k (m + 1)) t.max none)
 
+-- where each bound holds of the other tables too
+pub least_carried : (h k : Heading) (order : List ℕ) → IsTurnedTo h k order → ((size : ℕ) → Fewer h size → Fewer k size) → HasNone h → HasNone k
+least_carried h k order t carries none = carries (k.max + 1) (subst (λ (m : ℕ). Fewer h (m + 1)) (sym t.max) none)
+
 pub turned_to : (h k : Heading) (order : List ℕ) → IsPermuting h.spec.n order → IsTurned (specification h.spec) (specification k.spec) order → k.basis ≡ h.basis → k.max ≡ h.max → IsTurnedTo h k order
 turned_to h k order is turned basis_is max_is = record { numbers = is.numbers; turned = turned; basis = basis_is; max = max_is }
 

@@ -19,9 +19,9 @@ use Rattle.spec_memory.specs.Facts.{spelled, IsFact}
 use Rattle.spec_memory.specs.FactLaws.{known_fact}
 use Rattle.decide_core.specs.declared.deciding.Sized.{Sized}
 use Rattle.decide_core.specs.declared.deciding.Sized.TheVariants as sizes
-use Rattle.decide_core.specs.declared.deciding.Decided.{Decided}
-use Rattle.decide_core.specs.declared.deciding.Decided.TheVariants.{Shorter, Least}
-use Rattle.decide_core.specs.Decided.{Fewer, HasNone, IsShorter, IsDecided, IsSized}
+use Rattle.decide_core.specs.declared.deciding.Searched.{Searched}
+use Rattle.decide_core.specs.declared.deciding.Searched.TheVariants as searches
+use Rattle.decide_core.specs.Decided.{Fewer, HasNone, IsShorter, IsSearched, IsSized}
 use Rattle.decide_core.specs.DecidedLaws.{deciding}
 
 -- ---- chains that are judged
@@ -101,11 +101,14 @@ found_open h s low is e = subst (IsSized h) e is
 pub found_shorter : (h : Heading) (s : Sized) (c : Chain) (low : ℕ) → IsSized h s → s ≡ sizes.Found c low → IsShorter h c
 found_shorter h s c low is e = let found : IsSized h (sizes.Found c low) = subst (IsSized h) e is in found.0
 
-pub whole_least : (h : Heading) (d : Decided) → IsDecided h d → d ≡ Least → HasNone h
-whole_least h d is e = subst (IsDecided h) e is
+pub whole_least : (h : Heading) (s : Searched) → IsSearched h s → s ≡ searches.Nothing → HasNone h
+whole_least h s is e = subst (IsSearched h) e is
 
-pub whole_shorter : (h : Heading) (d : Decided) (c : Chain) → IsDecided h d → d ≡ Shorter c → IsShorter h c
-whole_shorter h d c is e = let found : IsDecided h (Shorter c) = subst (IsDecided h) e is in found
+pub whole_shorter : (h : Heading) (s : Searched) (c : Chain) (fewest : ℕ) → IsSearched h s → s ≡ searches.Found c fewest → IsShorter h c
+whole_shorter h s c fewest is e = let found : IsSearched h (searches.Found c fewest) = subst (IsSearched h) e is in found.0
+
+pub whole_fewest : (h : Heading) (s : Searched) (c : Chain) (fewest : ℕ) → IsSearched h s → s ≡ searches.Found c fewest → Fewer h fewest
+whole_fewest h s c fewest is e = let found : IsSearched h (searches.Found c fewest) = subst (IsSearched h) e is in found.1
 
 pub found_none : (h : Heading) (s : Sized) → IsSized h s → s ≡ sizes.Nothing → HasNone h
 found_none h s is e = subst (IsSized h) e is

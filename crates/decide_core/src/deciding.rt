@@ -1,6 +1,10 @@
 //! What searches say: of a size below which no chain agrees, and of all sizes with a certificate.
 ghost use Rattle.std.specs.Prelude.{◌≡◌, ◌≤◌, true, false, length, IfOk};
-ghost use Rattle.decide_core.specs.Decided.{Fewer, IsDecided, IsSized, IsShorter, IsOpenVerdict};
+ghost use Rattle.chain_theory.specs.Operator.{Basis};
+ghost use Rattle.chain_theory.specs.Specification.{Specification};
+ghost use Rattle.chain_theory.specs.Agreement.{NoneBelow};
+ghost use Rattle.cert_theory.specs.Meaning.{Means};
+ghost use Rattle.decide_core.specs.Decided.{Fewer, IsSearched, IsSized, IsShorter, IsOpenVerdict};
 
 use crate::question::Question;
 use bundle_core::{Bundle, Heading, Verdict};
@@ -17,6 +21,17 @@ pub enum Decided {
     /// None agrees.
     Least,
     /// A search has spent its budget: its certificate.
+    Open(Bundle),
+}
+
+/// What a search with a certificate says.
+#[derive(Drop)]
+pub enum Searched {
+    /// A chain agrees, and none of fewer than `fewest` steps.
+    Found { chain: Chain, fewest: u32 },
+    /// No chain of at most as many steps as the heading says does.
+    Nothing,
+    /// It stays open: its certificate.
     Open(Bundle),
 }
 
@@ -44,10 +59,23 @@ fn is_open(verdict: Verdict) -> bool
     }
 }
 
-/// What a search with a certificate says.
+/// A number of steps that no chain which agrees is below, by a verdict.
 #[tactic(auto, using(crate::specs::DecidedLaws::deciding))]
-pub fn search_whole<S: Solver>(alloc: Global, question: Question) -> Result<Decided, AllocError>
-    ensures { IfOk result (λ decided. IsDecided question.entry.heading.now decided) }
+fn fewest_of(verdict: Verdict) -> u32
+    ensures { (s : Specification) (basis : Basis) → Means s basis verdict → NoneBelow s basis result }
+{
+    match verdict {
+        Verdict::Open { low } => low,
+        Verdict::Minimum(r) => r,
+        Verdict::NoChain(most) => most,
+        Verdict::Bounded { low, r: _ } => low,
+    }
+}
+
+/// Searches all sizes with a certificate.
+#[tactic(auto, using(crate::specs::DecidedLaws::deciding))]
+pub fn search_whole<S: Solver>(alloc: Global, question: Question) -> Result<Searched, AllocError>
+    ensures { IfOk result (λ searched. IsSearched question.entry.heading.now searched) }
 {
     let heading = question.heading;
     let bundle = search::<S>(
@@ -59,8 +87,9 @@ pub fn search_whole<S: Solver>(alloc: Global, question: Question) -> Result<Deci
         heading.conflicts,
     )?;
     if is_open(bundle.verdict) {
-        return Ok(Decided::Open(bundle));
+        return Ok(Searched::Open(bundle));
     }
+    let fewest = fewest_of(bundle.verdict);
     let Bundle {
         heading: _,
         sections: _,
@@ -68,8 +97,8 @@ pub fn search_whole<S: Solver>(alloc: Global, question: Question) -> Result<Deci
         verdict: _,
     } = bundle;
     match chain {
-        Some(chain) => Ok(Decided::Shorter(chain)),
-        None => Ok(Decided::Least),
+        Some(chain) => Ok(Searched::Found { chain, fewest }),
+        None => Ok(Searched::Nothing),
     }
 }
 

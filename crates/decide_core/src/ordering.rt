@@ -2,15 +2,15 @@
 //! in a normal order (the P-class of the tables): so windows that differ in the order of their inputs share what was found.
 //! A chain goes back by the inverse order. The first search has few conflicts; what it leaves open is searched for the tables
 //! as they are asked for, with a certificate and the whole budget.
-ghost use Rattle.std.specs.Prelude.{◌≡◌, ◌≤◌, IfOk};
+ghost use Rattle.std.specs.Prelude.{◌≡◌, ℕ, ◌≤◌, IfOk};
 ghost use Rattle.tt_core.specs.Words.{specification};
 ghost use Rattle.cert_theory.specs.declared.data.Heading.{Heading as HeadingOf};
 ghost use Rattle.cert_theory.specs.Bundle.{IsHeading};
 ghost use Rattle.spec_order.specs.Order.{IsOrder, IsPermuting, IsTurned};
-ghost use Rattle.decide_core.specs.Decided.{Fewer, HasNone, IsDecided, IsClosed, IsShorter};
+ghost use Rattle.decide_core.specs.Decided.{Fewer, IsDecided, IsClosed, IsShorter};
 ghost use Rattle.decide_core.specs.Ordered.{IsTurnedTo};
 
-use crate::deciding::{Decided, Sized, no_steps, search_whole};
+use crate::deciding::{Decided, Searched, Sized, no_steps, search_whole};
 use crate::question::Question;
 use crate::remembering::{decide_sizes, with_chain, without_chain};
 use crate::stepping::decide_few;
@@ -84,22 +84,22 @@ fn search_open<S: Solver>(
 ) -> Result<Decided, AllocError>
     requires basis { memory.old.basis ≡ turned.heading.now.basis }
     requires turned { IsTurnedTo question.heading.now turned.heading.now order.now }
-    requires least { HasNone question.heading.now → HasNone turned.heading.now }
+    requires fewer { (size : ℕ) → Fewer question.heading.now size → Fewer turned.heading.now size }
     ensures decided { IfOk result (λ decided. IsDecided question.entry.heading.now decided) }
     ensures basis { memory.new.basis ≡ memory.old.basis }
 {
     let key = Key::of(alloc, &turned.heading.spec)?;
     match search_whole::<S>(alloc, question)? {
-        Decided::Least => {
+        Searched::Nothing => {
             memory.note(key, without_chain(turned.heading.max + 1, false))?;
             Ok(Decided::Least)
         }
-        Decided::Shorter(chain) => {
-            let found = with_chain(0, reordered(alloc, &chain, order)?);
+        Searched::Found { chain, fewest } => {
+            let found = with_chain(fewest, reordered(alloc, &chain, order)?);
             memory.note(key, found)?;
             Ok(Decided::Shorter(chain))
         }
-        Decided::Open(bundle) => Ok(Decided::Open(bundle)),
+        Searched::Open(bundle) => Ok(Decided::Open(bundle)),
     }
 }
 

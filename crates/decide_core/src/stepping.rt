@@ -1,6 +1,6 @@
 //! Few steps are gone over, with no search and nothing left open. What the walk finds is remembered as what a search finds
 //! is, with the inputs in their normal order; one or two steps are gone over faster than they are remembered.
-ghost use Rattle.std.specs.Prelude.{◌≡◌, ◌≤◌, IfSome, IfNone, IfOk};
+ghost use Rattle.std.specs.Prelude.{◌≡◌, ◌≤◌, length, IfSome, IfNone, IfOk};
 ghost use Rattle.spec_order.specs.Order.{IsPermuting};
 ghost use Rattle.decide_core.specs.Decided.{IsDecided, IsClosed, IsShorter, HasNone};
 
@@ -29,6 +29,13 @@ fn walked(alloc: Global, heading: &Heading) -> Result<Decided, AllocError>
         Some(chain) => Ok(Decided::Shorter(chain)),
         None => Ok(Decided::Least),
     }
+}
+
+/// How many steps a chain has.
+fn size_of(chain: &Chain) -> u32
+    ensures { result ≡ length chain.now.steps }
+{
+    chain.steps().len() as u32
 }
 
 /// A chain that the heading asks for, or None where there is none, by memory, and by going over steps what it doesn't
@@ -60,7 +67,7 @@ fn known_steps(
             Ok(None)
         }
         Some(chain) => {
-            let found = with_chain(0, copied(alloc, &chain)?);
+            let found = with_chain(size_of(&chain), copied(alloc, &chain)?);
             memory.note(key, found)?;
             Ok(Some(chain))
         }

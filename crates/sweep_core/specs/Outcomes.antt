@@ -33,7 +33,8 @@ IsShrunk s n m false = m ≡ n
 pub record IsDone (s : ImproveSettings) (n : Net) (v : Visit) : Type 0 where
   pub done : IsGate n v.root → IsPartnerOrNone n v.root v.partner → IsLeast s n v
 
--- Passed: nothing is left to be found, and the net is as it was. Open: the visit is undecided, by the certificate.
+-- Passed: nothing is left to be found, and the net is as it was. Open: the visit is undecided, by the certificate, and
+-- its window has six gates at least.
 -- Smaller: the net can take the place of the one before, and has fewer gates.
 abbrev pub IsTried : ImproveSettings → Net → Net → Visit → Tried → Type 0
 IsTried s n m v Passed = (m ≡ n) × IsDone s n v

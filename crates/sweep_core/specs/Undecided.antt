@@ -1,5 +1,5 @@
 -- Windows that a search left undecided.
-use Rattle.std.specs.Prelude.{◌≡◌, ℕ, ◌+◌, List, map}
+use Rattle.std.specs.Prelude.{◌≡◌, ℕ, ◌+◌, ◌≤◌, List, map}
 use Rattle.net_theory.specs.Net.{Net}
 use Rattle.tt_core.specs.Words.{specification}
 use Rattle.window_theory.specs.Window.{Window, IsWindow}
@@ -22,10 +22,11 @@ visit_of u = u.visit
 abbrev pub visits : List Undecided → List Visit
 visits named = map visit_of named
 
--- A window of the net that counts, and a valid certificate for what is asked of it, by the settings, that
--- leaves open whether a chain has fewer steps than the window has gates.
+-- A window of the net that counts, of six gates at least, since smaller ones are decided, and a valid certificate for
+-- what is asked of it, by the settings, that leaves open whether a chain has fewer steps than the window has gates.
 pub record IsUndecided (n : Net) (s : ImproveSettings) (u : Undecided) : Type 0 where
   pub listed : IsListed n s.cap u.visit
+  pub large : 6 ≤ u.visit.count
   pub window : Window
   pub is : IsWindow n u.visit.root u.visit.partner u.visit.count window
   pub tables : IsAskedOf s.observe n window (specification u.search.heading.spec)

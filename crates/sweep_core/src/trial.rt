@@ -11,7 +11,7 @@ pub enum Tried {
     /// No gain: there is no window of this root, partner and count, or it has too many inputs or outputs, or it has no
     /// chain of fewer steps than it has gates.
     Passed,
-    /// The conflict limit was reached: the certificate of the search.
+    /// The conflict limit was reached, with a window of six gates at least: the certificate of the search.
     Open(Bundle),
     /// A gain: a shorter chain took the window's place, and the net is smaller.
     Smaller,

@@ -1,5 +1,5 @@
 -- What the trial of a window comes to.
-use Rattle.std.specs.Prelude.{◌≡◌, ℕ, ◌+◌, ◌<◌, Bool, length}
+use Rattle.std.specs.Prelude.{◌≡◌, ℕ, ◌+◌, ◌≤◌, ◌<◌, Bool, length}
 use Rattle.chain_theory.specs.Chain.{Chain, IsChain}
 use Rattle.chain_theory.specs.Agreement.{Agrees}
 use Rattle.chain_theory.specs.Specification.{Specification}
@@ -12,7 +12,7 @@ use Rattle.improve_settings.specs.declared.improve.ImproveSettings.{ImproveSetti
 use Rattle.improve_settings.specs.Improve.{IsInRange}
 use Rattle.cert_theory.specs.declared.data.Heading.{Heading}
 use Rattle.decide_core.specs.declared.deciding.Decided.{Decided}
-use Rattle.decide_core.specs.Decided.{IsDecided}
+use Rattle.decide_core.specs.Decided.{IsDecided, IsClosed}
 use Rattle.sweep_core.specs.declared.visit.Visit.{Visit}
 use Rattle.sweep_core.specs.Asked.{IsAskedOf}
 use Rattle.sweep_core.specs.Undecided.{IsUndecided}
@@ -40,11 +40,12 @@ pub record AsksFor (s : ImproveSettings) (n : Net) (w : Window) (h : Heading) : 
   pub conflicts_is : h.conflicts ≡ s.conflicts
   pub max_is : h.max + 1 ≡ length w.gates
 
--- and that is decided
+-- and that is decided, with nothing left open where at most four steps are asked for
 pub record IsDecidedFor (s : ImproveSettings) (n : Net) (w : Window) (d : Decided) : Type 0 where
   pub heading : Heading
   pub asks : AsksFor s n w heading
   pub decided : IsDecided heading d
+  pub closed : heading.max ≤ 4 → IsClosed d
 
 -- The chain agrees with what is asked of the window.
 pub record MeetsAsked (observe : Bool) (n : Net) (w : Window) (c : Chain) : Type 0 where

@@ -1,7 +1,8 @@
 -- What is known of a visit, by what was found of its window.
 use Rattle.std.specs.Prelude.{◌≡◌, ℕ, ◌+◌, ◌≤◌, ◌<◌, List, length, Option, refl}
-use Rattle.std.proofs.Common.{arith, sym, ◌∙◌, ap, subst}
+use Rattle.std.proofs.Common.{arith, sym, ◌∙◌, ap, subst, inl, inr}
 use Rattle.std.proofs.lemmas.Grind.{common_steps}
+use Rattle.std.proofs.lemmas.Bool.{cases_lt}
 use Rattle.chain_theory.specs.Chain.{Chain}
 use Rattle.chain_theory.specs.Agreement.{IsOver, NoneBelow}
 use Rattle.tt_core.specs.Words.{Words, IsSpec, specification}
@@ -17,7 +18,7 @@ use Rattle.cert_theory.specs.declared.data.Heading.{Heading}
 use Rattle.cert_theory.specs.Bundle.{Bundle, IsHeading}
 use Rattle.decide_core.specs.declared.deciding.Decided.{Decided}
 use Rattle.decide_core.specs.declared.deciding.Decided.TheVariants as decisions
-use Rattle.decide_core.specs.Decided.{HasNone, IsLeftOpen, IsDecided}
+use Rattle.decide_core.specs.Decided.{HasNone, IsLeftOpen, IsDecided, IsClosed}
 use Rattle.sweep_core.specs.declared.visit.Visit.{Visit}
 use Rattle.sweep_core.specs.Asked.{IsAskedOf, HasNoFewerAsked}
 use Rattle.sweep_core.specs.Settled.{IsListed}
@@ -39,12 +40,13 @@ asked_well s spec max range tables basis few =
       asked = record { basis_from = range.basis_from; max_to = few; conflicts_from = range.conflicts_from; conflicts_to = range.conflicts_to };
     }
 
-pub decided_by : (s : ImproveSettings) (n : Net) (w : Window) (spec : Words) (max : ℕ) (d : Decided) → IsAskedOf s.observe n w (specification spec) → max + 1 ≡ length w.gates → IsDecided (record { spec = spec; basis = s.basis; method = s.method; conflicts = s.conflicts; max = max }) d → IsDecidedFor s n w d
-decided_by s n w spec max d tables size is =
+pub decided_by : (s : ImproveSettings) (n : Net) (w : Window) (spec : Words) (max : ℕ) (d : Decided) → IsAskedOf s.observe n w (specification spec) → max + 1 ≡ length w.gates → IsDecided (record { spec = spec; basis = s.basis; method = s.method; conflicts = s.conflicts; max = max }) d → (max ≤ 4 → IsClosed d) → IsDecidedFor s n w d
+decided_by s n w spec max d tables size is closed =
     record {
       heading = heading_by s spec max;
       asks = record { tables = tables; basis_is = refl; method_is = refl; conflicts_is = refl; max_is = size };
       decided = is;
+      closed = closed;
     }
 
 -- ---- windows
@@ -102,10 +104,18 @@ shorter_over s n w c is = subst (λ (b : ℕ). IsOver (members b) c) is.asks.bas
 
 -- ---- what stays open
 
-open_by : (s : ImproveSettings) (n : Net) (v : Visit) (w : Window) (h : Heading) (b : Bundle) → IsNet n → IsListed n s.cap v → IsOf n v w → AsksFor s n w h → IsLeftOpen h b → IsUndecided n s (record { visit = v; search = b })
-open_by s n v w h b net listed is asks left =
+-- what isn't decided asks for five steps at least, and so it has six gates at least
+large_by : (most count : ℕ) → most + 1 ≡ count → (most ≤ 4 → ⊥) → 6 ≤ count
+large_by most count size many = elim (cases_lt 4 most) [
+  | inl more ↦ omega (arith, size, more)
+  | inr few ↦ absurd (many few)
+]
+
+open_by : (s : ImproveSettings) (n : Net) (v : Visit) (w : Window) (h : Heading) (b : Bundle) → IsNet n → IsListed n s.cap v → IsOf n v w → AsksFor s n w h → IsLeftOpen h b → (h.max ≤ 4 → ⊥) → IsUndecided n s (record { visit = v; search = b })
+open_by s n v w h b net listed is asks left many =
     record {
       listed = listed;
+      large = large_by h.max v.count (asks.max_is ∙ window_size n v.root v.partner v.count w net is) many;
       window = w;
       is = is;
       tables = subst (λ (k : Heading). IsAskedOf s.observe n w (specification k.spec)) (sym left.heading) asks.tables;
@@ -121,7 +131,7 @@ open_by s n v w h b net listed is asks left =
     }
 
 left_by : (s : ImproveSettings) (n : Net) (v : Visit) (w : Window) (b : Bundle) → IsNet n → IsListed n s.cap v → IsOf n v w → IsDecidedFor s n w (decisions.Open b) → IsUndecided n s (record { visit = v; search = b })
-left_by s n v w b net listed is decided = open_by s n v w decided.heading b net listed is decided.asks decided.decided
+left_by s n v w b net listed is decided = open_by s n v w decided.heading b net listed is decided.asks decided.decided decided.closed
 
 pub trial_open : (s : ImproveSettings) (n : Net) (v : Visit) (w : Window) (d : Decided) (b : Bundle) → IsNet n → IsListed n s.cap v → IsWindow n v.root v.partner v.count w → IsDecidedFor s n w d → d ≡ decisions.Open b → IsUndecided n s (record { visit = v; search = b })
 trial_open s n v w d b net listed is decided e = left_by s n v w b net listed is (decided_as s n w d (decisions.Open b) e decided)

@@ -2,7 +2,7 @@
 use Rattle.std.proofs.Common.{ℕ, List, sym, subst}
 use Rattle.cert_theory.specs.declared.data.Heading.{Heading}
 use Rattle.spec_order.specs.Order.{IsOrder}
-use Rattle.decide_core.specs.Decided.{Fewer, HasNone, IsSized}
+use Rattle.decide_core.specs.Decided.{Fewer, IsSized}
 use Rattle.decide_core.specs.Ordered.{IsTurnedTo}
 use Rattle.decide_core.specs.RememberedLaws.{found_none, found_shorter}
 use Rattle.decide_core.specs.OrderedLaws.{turned_to, turned_from, fewer_turned, least_turned, chain_ordered}
@@ -28,10 +28,10 @@ search_open-requires-clause-turned g c =
     subst (λ (h : Heading). IsTurnedTo c.args.question.heading.now h c.args.order.now) (sym c.new-asked.ensures)
     (turned_to c.args.question.heading.now c.in_ok-turned.turned c.args.order.now c.requires.order c.in_ok-turned.ensures.turned c.in_ok-turned.ensures.basis c.in_ok-turned.ensures.max)
 
-pub search_open-requires-clause-least : goal.search_open-requires-clause-least
-search_open-requires-clause-least g c = λ none.
-    subst HasNone (sym c.new-asked.ensures)
-    (least_turned c.in_ok-turned.turned c.args.question.heading.now c.in_ok-back.back.items
+pub search_open-requires-clause-fewer : goal.search_open-requires-clause-fewer
+search_open-requires-clause-fewer g c = λ size none.
+    subst (λ (h : Heading). Fewer h size) (sym c.new-asked.ensures)
+    (fewer_turned c.in_ok-turned.turned c.args.question.heading.now c.in_ok-back.back.items size
     (turned_from c.args.question.heading.now c.in_ok-turned.turned c.args.order.now c.in_ok-back.back.items c.requires.order c.in_ok-back.ensures.order c.in_ok-back.ensures.back c.in_ok-turned.ensures.turned c.in_ok-turned.ensures.basis c.in_ok-turned.ensures.max)
     none)
 

@@ -1,8 +1,8 @@
 -- What is known already, and what is noted of a walk.
-use Rattle.std.specs.Prelude.{◌+◌}
-use Rattle.decide_core.specs.DecidedLaws.{fewer_below, fewer_none}
+use Rattle.std.specs.Prelude.{◌+◌, length}
+use Rattle.decide_core.specs.DecidedLaws.{fewer_below}
 use Rattle.decide_core.specs.RememberedLaws.{noted, recalled}
-use Rattle.decide_core.specs.StepLaws.{step_none}
+use Rattle.decide_core.specs.StepLaws.{step_none, step_least}
 use Rattle.decide_core.proofs.stepping.known_steps.Goals as goal
 
 pub returns-then-heading-known-clause-none : goal.returns-then-heading-known-clause-none
@@ -19,4 +19,6 @@ note-requires c =
 pub note-requires-in-Some-2 : goal.note-requires-in-Some-2
 note-requires-in-Some-2 c =
     rw c.with_chain-found.ensures
-    (noted c.args.question.heading.now c.args.memory.now.basis 0 c.in_ok-key.key c.args.question.checked c.requires.basis c.in_ok-key.ensures (fewer_none c.args.question.heading.now))
+    (rw c.size_of.ensures
+    (noted c.args.question.heading.now c.args.memory.now.basis (length c.in-Some-2.chain.steps) c.in_ok-key.key c.args.question.checked c.requires.basis c.in_ok-key.ensures
+    (step_least c.args.question.heading.now c.in_ok-few_steps.field-0 c.in-Some-2.chain c.in_ok-few_steps.ensures c.in-Some-2.is)))
