@@ -64,6 +64,9 @@ moved_leads basis n m is within = record {
 pub left_leads : (basis : Basis) (n : Net) → Leads basis n n
 left_leads basis n = leads_itself basis n
 
+pub then_leads : (basis : Basis) (n d m : Net) → Leads basis n d → Leads basis d m → Leads basis n m
+then_leads basis n d m first second = leads_on basis n d m first second
+
 -- what has no dead gates can stand in its own place
 pub pruned_itself : (n m : Net) → IsPruned n m → IsPruned m m
 pruned_itself n m is = record {
@@ -119,4 +122,4 @@ leaves_swept s n d m settled named net cap same swept =
       untouched = λ e. absurd (omega (arith, e, cap));
     }
 
-pub ruleset improving = (common_steps, leaves_idle, moved_leads, left_leads, pruned_itself, sweeps_on, sweeps_again, leaves_swept)
+pub ruleset improving = (common_steps, leaves_idle, moved_leads, left_leads, then_leads, pruned_itself, sweeps_on, sweeps_again, leaves_swept)

@@ -1,6 +1,5 @@
 pub use Rattle.sweep_core.specs.Settled
 pub mod PartnerLaws
-pub mod ReplacingLaws
 pub mod Trying
 pub mod AskingLaws
 pub mod TryingLaws

@@ -1,8 +1,5 @@
 -- What the trial of a window comes to.
-use Rattle.std.specs.Prelude.{◌≡◌, ℕ, ◌+◌, ◌≤◌, ◌<◌, Bool, length}
-use Rattle.chain_theory.specs.Chain.{Chain, IsChain}
-use Rattle.chain_theory.specs.Agreement.{Agrees}
-use Rattle.chain_theory.specs.Specification.{Specification}
+use Rattle.std.specs.Prelude.{◌≡◌, ℕ, ◌+◌, ◌≤◌, ◌<◌, length}
 use Rattle.tt_core.specs.Words.{specification}
 use Rattle.op_basis.specs.Basis.{members}
 use Rattle.net_theory.specs.Net.{Net}
@@ -15,6 +12,7 @@ use Rattle.decide_core.specs.declared.deciding.Decided.{Decided}
 use Rattle.decide_core.specs.Decided.{IsDecided, IsClosed}
 use Rattle.sweep_core.specs.declared.visit.Visit.{Visit}
 use Rattle.sweep_core.specs.Asked.{IsAskedOf}
+pub use Rattle.walk_core.specs.Asked.{MeetsAsked}
 use Rattle.sweep_core.specs.Undecided.{IsUndecided}
 use Rattle.sweep_core.specs.Outcomes.{Leads, IsDone}
 use Rattle.window_trial.specs.declared.trying.Outcome.{Outcome}
@@ -46,13 +44,6 @@ pub record IsDecidedFor (s : ImproveSettings) (n : Net) (w : Window) (d : Decide
   pub asks : AsksFor s n w heading
   pub decided : IsDecided heading d
   pub closed : heading.max ≤ 4 → IsClosed d
-
--- The chain agrees with what is asked of the window.
-pub record MeetsAsked (observe : Bool) (n : Net) (w : Window) (c : Chain) : Type 0 where
-  pub chain : IsChain c
-  pub specification : Specification
-  pub is : IsAskedOf observe n w specification
-  pub agrees : Agrees c specification
 
 -- a visit to a net, with the net that takes its place, if one does
 abbrev pub IsOutcome : ImproveSettings → Net → Visit → Outcome → Type 0

@@ -1,4 +1,5 @@
-//! A net improved: dead gates go, moves over the whole net make it smaller, and then the sweep tries its windows.
+//! A net improved: dead gates go, moves over the whole net and walks over convex windows make it smaller, and then the sweep
+//! tries the windows that it lists.
 ghost use Rattle.std.specs.Prelude.{◌≤◌, IfOk, IfSome};
 ghost use Rattle.op_basis.specs.Basis.{members};
 ghost use Rattle.net_theory.specs.Answers.{IsPruned};
@@ -13,6 +14,7 @@ use restructure::restructured;
 use sat_solve::Solver;
 use std::alloc::{AllocError, Global};
 use sweep_core::{Swept, Undecided, sweep};
+use walk_core::walked;
 
 /// A net of fewer gates is left to windows, where no rounds of moves are asked for: a window or two show all of it.
 const LEAST_MOVED: usize = 6;
@@ -110,7 +112,7 @@ fn moved<S: Solver>(
 
 /// The net after moves over the whole net, or as it is.
 #[tactic(auto, using(crate::specs::ImprovementLaws::improving))]
-fn begun<S: Solver>(
+fn after_moves<S: Solver>(
     alloc: Global,
     net: Net,
     settings: &ImproveSettings,
@@ -124,8 +126,42 @@ fn begun<S: Solver>(
     }
 }
 
-/// Moves over the whole net, and then windows, by turns: as long as the moves find a smaller net after the windows, and a
-/// few times at most, once where the net is large.
+/// A smaller net by walks over convex windows, if they find one. A net that is left to the sweep isn't walked over.
+#[tactic(auto, using(crate::specs::ImprovementLaws::improving))]
+fn walked_over(
+    alloc: Global,
+    net: &Net,
+    settings: &ImproveSettings,
+    rounds: u32,
+) -> Result<Option<Net>, AllocError>
+    ensures { IfOk result (λ found. IfSome found (Leads (members settings.now.basis) net.now)) }
+{
+    if !is_moved(net, settings.effort) {
+        return Ok(None);
+    }
+    let found = walked(alloc, net, settings, rounds)?;
+    Ok(found)
+}
+
+/// The net after moves over the whole net and walks over its windows.
+#[tactic(auto, using(crate::specs::ImprovementLaws::improving))]
+fn begun<S: Solver>(
+    alloc: Global,
+    net: Net,
+    settings: &ImproveSettings,
+    rounds: u32,
+) -> Result<Net, AllocError>
+    ensures { IfOk result (Leads (members settings.now.basis) net) }
+{
+    let moved = after_moves::<S>(alloc, net, settings, rounds)?;
+    match walked_over(alloc, &moved, settings, rounds)? {
+        Some(smaller) => Ok(smaller),
+        None => Ok(moved),
+    }
+}
+
+/// Moves over the whole net and walks, and then windows and moves by turns: as long as the moves find a smaller net after the
+/// windows, and a few times at most, once where the net is large.
 #[tactic(auto, using(crate::specs::ImprovementLaws::improving))]
 fn improved<S: Solver>(
     alloc: Global,
@@ -151,8 +187,8 @@ fn improved<S: Solver>(
     Ok(left)
 }
 
-/// Drops the dead gates of a net, makes it smaller by moves over the whole net, and then puts shorter chains in the place
-/// of windows, until no window up to the cap has one, or `settings.rounds` rounds have changed something.
+/// Drops the dead gates of a net, makes it smaller by moves over the whole net and by walks, and then puts shorter chains in
+/// the place of windows, until no window up to the cap has one, or `settings.rounds` rounds have changed something.
 #[tactic(auto, using(crate::specs::ImprovementLaws::improving))]
 pub fn improve_net<S: Solver>(
     alloc: Global,

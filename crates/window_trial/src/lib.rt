@@ -7,7 +7,7 @@
 //! `sweep_core`. The net and its index are kept together; the index is made anew when the net changes.
 //!
 //! The one theorem is that of `improve_net`, which drops dead gates, makes the net smaller by moves over all of it
-//! (`restructure`) and then sweeps: what is left answers what the net answers, and once it is settled no window up to the
+//! (`restructure`) and by walks over convex windows (`walk_core`), and then sweeps: what is left answers what the net answers, and once it is settled no window up to the
 //! cap has a shorter chain for what the settings ask of it, but for those that are named.
 //!
 //! ```text
@@ -16,7 +16,6 @@
 //! ```
 #![tactic(auto)]
 
-mod asking;
 mod improving;
 mod merging;
 mod partners;

@@ -9,9 +9,7 @@ ghost use Rattle.window_trial.specs.Trying.{MeetsAsked};
 use chain_core::Chain;
 use improve_settings::ImproveSettings;
 use net_core::Net;
-use observe_core::lists_of;
 use std::alloc::{AllocError, Global};
-use subst_core::replace_keeping;
 use window_core::Window;
 
 /// The net in which a chain of fewer steps that does what the settings ask of the window has taken its place, without
@@ -30,9 +28,6 @@ pub fn replaced(
     ensures leads { IfOk result (λ new. Leads (members settings.basis) net.now new) }
     ensures less { IfOk result (λ new. length new.gates < length net.now.gates) }
 {
-    // brings the type invariant into the proof
-    let _gates = net.gates();
-    let lists = lists_of(window);
-    let new = replace_keeping(alloc, net, &lists, chain)?;
+    let new = walk_core::replaced(alloc, net, window, chain, settings)?;
     Ok(new)
 }

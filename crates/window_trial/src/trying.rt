@@ -8,7 +8,6 @@ ghost use Rattle.sweep_core.specs.Settled.{IsListed};
 ghost use Rattle.window_core.specs.Readers.{AreReaders};
 ghost use Rattle.window_trial.specs.Trying.{IsDecidedFor, IsOutcome};
 
-use crate::asking::asked_spec;
 use crate::merging::merged;
 use crate::partners::{is_partner_or_none, next_partner};
 use crate::replacing::replaced;
@@ -19,6 +18,7 @@ use sat_solve::Solver;
 use std::alloc::{AllocError, Global};
 use std::marker::{Model, PhantomData};
 use sweep_core::{Trial, Tried, Visit};
+use walk_core::asked_spec;
 use window_core::{Readers, Window, readers_of, window_by};
 
 /// A net whose windows are tried by a solver, with its index, the settings, and what was found of windows before.

@@ -13,8 +13,8 @@ use Rattle.subst_core.specs.ListsLaws.{same_size}
 use Rattle.subst_core.specs.Substitution.{HasRoom, IsStepOperator, HasOldOperators}
 use Rattle.sweep_core.specs.Outcomes.{Leads}
 
-pub room_there : (n : Net) (w : Window) (c : Chain) → IsNet n → length c.steps < length w.gates → HasRoom n w c
-room_there n w c net less = omega (arith, net.places, less)
+pub room_there : (n : Net) (w : Window) (c : Chain) → IsNet n → length c.steps ≤ length w.gates → HasRoom n w c
+room_there n w c net few = omega (arith, net.places, few)
 
 -- ---- the new net
 
@@ -22,11 +22,11 @@ step_over : (basis : Basis) (c : Chain) (op : ℕ) → IsOver basis c → IsStep
 step_over basis c op over has = ap basis (sym has.is) ∙ all_at (λ (s : Step). basis s.op ≡ true) c.steps has.index has.step over has.at
 
 -- The window is replaced by its lists, v.
-pub replaced_leads : (basis : Basis) (n m : Net) (c : Chain) (w v : Window) → HaveSameLists w v → ((first : Net) → IsPruned first n → length c.steps ≤ length v.gates → IsPruned first m) → length c.steps < length w.gates → IsOver basis c → HasOldOperators n c m → Leads basis n m
-replaced_leads basis n m c w v same pruned less over old =
+pub replaced_leads : (basis : Basis) (n m : Net) (c : Chain) (w v : Window) → HaveSameLists w v → ((first : Net) → IsPruned first n → length c.steps ≤ length v.gates → IsPruned first m) → length c.steps ≤ length w.gates → IsOver basis c → HasOldOperators n c m → Leads basis n m
+replaced_leads basis n m c w v same pruned few over old =
     let size : length w.gates ≡ length v.gates = same_size w v same in
     record {
-      pruned = λ first is. pruned first is (omega (arith, less, size));
+      pruned = λ first is. pruned first is (omega (arith, few, size));
       operators = record {
         each = λ i g at. ⊎_elim
             (λ has. inr has)
@@ -35,7 +35,12 @@ replaced_leads basis n m c w v same pruned less over old =
       };
     }
 
-pub replaced_less : (n m : Net) (c : Chain) (w v : Window) → HaveSameLists w v → length m.gates + length v.gates ≤ length n.gates + length c.steps → length c.steps < length w.gates → length m.gates < length n.gates
-replaced_less n m c w v same few less =
+pub replaced_no_more : (n m : Net) (c : Chain) (w v : Window) → HaveSameLists w v → length m.gates + length v.gates ≤ length n.gates + length c.steps → length c.steps ≤ length w.gates → length m.gates ≤ length n.gates
+replaced_no_more n m c w v same less few =
     let size : length w.gates ≡ length v.gates = same_size w v same in
-    omega (arith, few, less, size)
+    omega (arith, less, few, size)
+
+pub replaced_fewer : (n m : Net) (c : Chain) (w v : Window) → HaveSameLists w v → length m.gates + length v.gates ≤ length n.gates + length c.steps → length c.steps < length w.gates → length m.gates < length n.gates
+replaced_fewer n m c w v same less few =
+    let size : length w.gates ≡ length v.gates = same_size w v same in
+    omega (arith, less, few, size)

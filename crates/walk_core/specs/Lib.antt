@@ -1,0 +1,8 @@
+pub mod Asked
+pub mod AskingLaws
+pub mod ReplacingLaws
+pub mod Gates
+pub mod GatesLaws
+pub mod ConvexLaws
+pub mod TryingLaws
+pub mod WalkingLaws
