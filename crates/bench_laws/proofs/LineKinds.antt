@@ -166,45 +166,19 @@ latch_read line s l rest is =
 
 -- ---- gates
 
-key_plain : (k : Connective) (on single : Bool) → list_all is_plain_byte (key_by_text k on single) ≡ true
-key_plain And true true = refl
-key_plain And false true = refl
-key_plain And true false = refl
-key_plain And false false = refl
-key_plain Or true single = refl
-key_plain Or false single = refl
-key_plain Xor true single = refl
-key_plain Xor false single = refl
+-- a keyword of plain bytes, of at least one and at most four, with nothing that a comment begins with
+abbrev IsShortKey : List ℕ → Type 0
+IsShortKey text = (list_all is_plain_byte text ≡ true) × (is_nothing text ≡ false) × (list_all is_clean_byte text ≡ true) × (length text ≤ 4)
 
-key_some : (k : Connective) (on single : Bool) → is_nothing (key_by_text k on single) ≡ false
-key_some And true true = refl
-key_some And false true = refl
-key_some And true false = refl
-key_some And false false = refl
-key_some Or true single = refl
-key_some Or false single = refl
-key_some Xor true single = refl
-key_some Xor false single = refl
-
-key_clean : (k : Connective) (on single : Bool) → list_all is_clean_byte (key_by_text k on single) ≡ true
-key_clean And true true = refl
-key_clean And false true = refl
-key_clean And true false = refl
-key_clean And false false = refl
-key_clean Or true single = refl
-key_clean Or false single = refl
-key_clean Xor true single = refl
-key_clean Xor false single = refl
-
-key_short : (k : Connective) (on single : Bool) → length (key_by_text k on single) ≤ 4
-key_short And true true = omega arith
-key_short And false true = omega arith
-key_short And true false = omega arith
-key_short And false false = omega arith
-key_short Or true single = omega arith
-key_short Or false single = omega arith
-key_short Xor true single = omega arith
-key_short Xor false single = omega arith
+key_is : (k : Connective) (on single : Bool) → IsShortKey (key_by_text k on single)
+key_is And true true = (refl, refl, refl, omega arith)
+key_is And false true = (refl, refl, refl, omega arith)
+key_is And true false = (refl, refl, refl, omega arith)
+key_is And false false = (refl, refl, refl, omega arith)
+key_is Or true single = (refl, refl, refl, omega arith)
+key_is Or false single = (refl, refl, refl, omega arith)
+key_is Xor true single = (refl, refl, refl, omega arith)
+key_is Xor false single = (refl, refl, refl, omega arith)
 
 -- the items of the operands after the opening bracket
 abbrev operand_items : Name → Option Name → List (List ℕ)
@@ -269,7 +243,7 @@ gate_read line s l rest is =
     let k = key_text l.key in
     let a = l.first in
     let b = second_text l.second in
-    let key = l.key in
+    let key = key_is l.key.connective l.key.on l.key.is_single in
     line_on line s (with_table s (line_table l)) (((((y ++ codes " = ") ++ k) ++ codes "(") ++ a) ++ b) rest (y ∷ (61 ∷ []) ∷ k ∷ (40 ∷ []) ∷ operand_items a l.second)
     (clean_both (((((y ++ codes " = ") ++ k) ++ codes "(") ++ a) ++ b) (41 ∷ [])
     (clean_both ((((y ++ codes " = ") ++ k) ++ codes "(") ++ a) b
@@ -277,7 +251,7 @@ gate_read line s l rest is =
     (clean_both ((y ++ codes " = ") ++ k) (codes "(")
     (clean_both (y ++ codes " = ") k
     (clean_both y (codes " = ") (plain_clean y is.output) (clean_by (codes " = ") refl))
-    (clean_by k (key_clean key.connective key.on key.is_single)))
+    (clean_by k key.2))
     (clean_by (codes "(") refl))
     (plain_clean a is.first))
     (second_clean l.second is.second))
@@ -292,11 +266,11 @@ gate_read line s l rest is =
       length-append y (codes " = "),
       is.output.name.short,
       is.first.name.short,
-      key_short key.connective key.on key.is_single,
+      key.3,
       second_short l.second is.second,
     ))
     (ap items_of (gate_shape y k a b)
-    ∙ equal_items y k (a ++ (b ++ 41 ∷ [])) (name_text y is.output) (text_by k (key_plain key.connective key.on key.is_single) (key_some key.connective key.on key.is_single))
+    ∙ equal_items y k (a ++ (b ++ 41 ∷ [])) (name_text y is.output) (text_by k key.0 key.1)
     ∙ ap (λ (ws : List (List ℕ)). y ∷ (61 ∷ []) ∷ k ∷ (40 ∷ []) ∷ ws) (operands_read a l.second is.first is.second))
-    (none_long (y ∷ (61 ∷ []) ∷ k ∷ (40 ∷ []) ∷ operand_items a l.second) (is.output.name.short, (omega arith, (omega (arith, key_short key.connective key.on key.is_single), (omega arith, operands_short a l.second is.first is.second)))))
+    (none_long (y ∷ (61 ∷ []) ∷ k ∷ (40 ∷ []) ∷ operand_items a l.second) (is.output.name.short, (omega arith, (omega (arith, key.3), (omega arith, operands_short a l.second is.first is.second)))))
     (gate_stated line s l is)

@@ -173,7 +173,11 @@ fn visit<S: Solver>(
     requires small { vars < 2 ^ 31 }
     ensures { OnOk result (Stays S.IsSolverOf S.vars_of solver.old solver.new) }
 {
-    if !sweeping.is_needed(x) || sweeping.is_merged(x) {
+    if sweeping.is_merged(x) {
+        sweeping.follow(x);
+        return Ok(Heard::Nothing);
+    }
+    if !sweeping.is_needed(x) {
         sweeping.list(x);
         return Ok(Heard::Nothing);
     }

@@ -18,7 +18,8 @@
 //! - `src/points.rt`: both nets as one row of points, by the variables of the miter. `src/cones.rt`: what a probe opens.
 //! - `src/patterns.rt`: simulation; `src/classes.rt`: points that may be equal; `src/forms.rt`: points whose gates are
 //!   alike over what was merged.
-//! - `src/probing.rt`: questions to the solver. `src/gates.rt`, `src/sinks.rt`, `src/sweeping.rt`: the order of them.
+//! - `src/probing.rt`: questions to the solver. `src/joining.rt`: the first round, over gates that are alike;
+//!   `src/gates.rt`, `src/sinks.rt`, `src/sweeping.rt`: the order of the others.
 //!   `src/pairs.rt`: the question whether two points are equal; `src/patience.rt`: how long it is asked.
 #![tactic(auto)]
 
@@ -26,6 +27,7 @@ mod classes;
 mod cones;
 mod forms;
 mod gates;
+mod joining;
 mod pairs;
 mod patience;
 mod patterns;

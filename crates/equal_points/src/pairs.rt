@@ -11,7 +11,7 @@ use std::alloc::AllocError;
 
 /// Compares a gate with an earlier point by up to `limit` conflicts. What is heard besides is
 /// whether to try another one.
-fn ask<S: Solver>(
+pub(crate) fn ask<S: Solver>(
     solver: &mut S,
     vars: u32,
     sweeping: &mut Sweeping,

@@ -36,11 +36,12 @@ fn visit_sink<S: Solver>(
     Ok(Heard::Nothing)
 }
 
-/// Visits all open sinks in order.
+/// Visits all open sinks in order, or where `joined` those whose signals were merged.
 pub(crate) fn visit_sinks<S: Solver>(
     solver: &mut S,
     vars: u32,
     sweeping: &mut Sweeping,
+    joined: bool,
     limit: u32,
 ) -> Result<Heard, AllocError>
     requires vars { S.vars_of solver.old ≡ vars }
@@ -51,7 +52,7 @@ pub(crate) fn visit_sinks<S: Solver>(
     for sink in 0..sweeping.sinks() {
         let difference = next;
         next = next.saturating_add(1);
-        if !sweeping.is_open(sink) {
+        if !sweeping.is_asked(sink, joined) {
             continue;
         }
         if sweeping.is_spent() {

@@ -131,6 +131,19 @@ impl Sweeping {
         self.representative(variable).variable != variable
     }
 
+    /// Takes over the representative of the point that `variable` was merged into.
+    pub(crate) fn follow(&mut self, variable: u32) {
+        let edge = self.representative(variable);
+        let root = self.representative(edge.variable);
+        if root.variable != edge.variable {
+            let other = Edge {
+                variable: root.variable,
+                turned: edge.turned != root.turned,
+            };
+            self.merge(variable, other);
+        }
+    }
+
     /// Lists a point that wasn't merged.
     pub(crate) fn list(&mut self, variable: u32) {
         if !self.is_merged(variable) {
@@ -173,9 +186,7 @@ impl Sweeping {
     /// Merges `x` into `y`, which is its own representative.
     pub(crate) fn merge(&mut self, x: u32, y: Edge) {
         put(&mut self.same, x, y);
-        if y.variable != 0 {
-            self.cones.merge(x, y.variable);
-        }
+        self.cones.merge(x, y.variable);
     }
 
     /// Learns from the assignment that stands in the solver; whether it makes a sink differ.
@@ -215,8 +226,25 @@ impl Sweeping {
     }
 
     /// Whether a sink is open.
-    pub(crate) fn is_open(&self, sink: usize) -> bool {
+    fn is_open(&self, sink: usize) -> bool {
         self.open.get(sink).copied().unwrap_or(false)
+    }
+
+    /// Whether the two signals of a sink have one representative.
+    fn is_joined(&self, sink: usize) -> bool {
+        let (Some(one), Some(other)) = (self.points.ones.get(sink), self.points.others.get(sink))
+        else {
+            return false;
+        };
+        let first = self.representative(one.variable);
+        let second = self.representative(other.variable);
+        let turned = (one.turned != first.turned) != (other.turned != second.turned);
+        first.variable == second.variable && !turned
+    }
+
+    /// Whether a sink is asked: an open one, and where `joined`, only one whose signals have one representative.
+    pub(crate) fn is_asked(&self, sink: usize, joined: bool) -> bool {
+        self.is_open(sink) && (!joined || self.is_joined(sink))
     }
 
     /// Closes a sink.

@@ -1,9 +1,11 @@
-//! A sweep: rounds over the gates and the sinks, each with ten times the conflicts for a question.
+//! A sweep: a round over gates that are alike, and then rounds over the gates and the sinks, each with ten times the
+//! conflicts for a question.
 ghost use Rattle.std.specs.Prelude.{◌≡◌, ℕ, ◌+◌, ◌<◌, ◌^◌, length, OnOk};
 ghost use Rattle.sat_theory.specs.Formula.{Formula};
 ghost use Rattle.equal_points.specs.Stays.{Stays};
 
 use crate::gates::{Heard, shorten_gates, visit_gates};
+use crate::joining::join_alike;
 use crate::sinks::visit_sinks;
 use crate::state::Sweeping;
 use net_core::Net;
@@ -38,7 +40,7 @@ fn round<S: Solver>(
     if heard != Heard::Nothing {
         return Ok(heard);
     }
-    visit_sinks(solver, vars, sweeping, limit)
+    visit_sinks(solver, vars, sweeping, false, limit)
 }
 
 /// Rounds, as long as a sink is open.
@@ -64,8 +66,8 @@ fn rounds<S: Solver>(
     Ok(Heard::Nothing)
 }
 
-/// The short clauses and then the rounds.
-fn go<S: Solver>(solver: &mut S, vars: u32, sweeping: &mut Sweeping) -> Result<Heard, AllocError>
+/// The short clauses of the gates that are left, and then the rounds.
+fn go_on<S: Solver>(solver: &mut S, vars: u32, sweeping: &mut Sweeping) -> Result<Heard, AllocError>
     requires vars { S.vars_of solver.old ≡ vars }
     requires small { vars < 2 ^ 31 }
     ensures { OnOk result (Stays S.IsSolverOf S.vars_of solver.old solver.new) }
@@ -76,6 +78,20 @@ fn go<S: Solver>(solver: &mut S, vars: u32, sweeping: &mut Sweeping) -> Result<H
         return Ok(heard);
     }
     rounds(solver, vars, sweeping)
+}
+
+/// Merges gates that are alike, and goes on where a sink is still open.
+fn go<S: Solver>(solver: &mut S, vars: u32, sweeping: &mut Sweeping) -> Result<Heard, AllocError>
+    requires vars { S.vars_of solver.old ≡ vars }
+    requires small { vars < 2 ^ 31 }
+    ensures { OnOk result (Stays S.IsSolverOf S.vars_of solver.old solver.new) }
+{
+    sweeping.begin_round();
+    let heard = join_alike(solver, vars, sweeping)?;
+    if heard != Heard::Nothing || !sweeping.has_open() {
+        return Ok(heard);
+    }
+    go_on(solver, vars, sweeping)
 }
 
 /// Sweeps over two nets with as many sources and as many sinks: finds signals that are equal or complementary, and has

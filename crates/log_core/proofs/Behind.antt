@@ -26,8 +26,8 @@ literals_written-none = refl
 
 pub ruleset behind = (common_steps, far-none, begins-same, begins-more, begins-on)
 
-pub ruleset numbers = (common_steps, begins-same, begins-more, begins-on, written-one, written-two)
+pub ruleset numbers = (common_steps, written-one, written-two)
 
 pub ruleset items = (common_steps, begins-same, begins-more, begins-on, item-one, item-two, item-three, item-four, item-five)
 
-pub ruleset packed = (common_steps, begins-same, begins-on, ids_written-more, ids_written-none, literals_written-more, literals_written-none)
+pub ruleset packed = (common_steps, ids_written-more, ids_written-none, literals_written-more, literals_written-none)

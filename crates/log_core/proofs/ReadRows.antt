@@ -72,9 +72,6 @@ begins-same old = take-length old
 pub begins-more : (old more : List ℕ) → BeginsAs old (old ++ more)
 begins-more old more = take-append_seam old more
 
-pub begins-is : (old more new : List ℕ) → new ≡ old ++ more → BeginsAs old new
-begins-is old more new is = rw is (take-append_seam old more)
-
 pub begins-on : (old middle new : List ℕ) → BeginsAs old middle → BeginsAs middle new → BeginsAs old new
 begins-on old middle new first second =
     let low : length old ≤ length middle = omega (arith, ap length first, length-take (length old) middle) in

@@ -1,80 +1,90 @@
 //! Numbers as bytes, one byte for each digit to the base 128: appended to a row, and read from its
-//! start. Where memory runs out, a row has what it had as a prefix, so that it can be cut back.
-ghost use Rattle.std.specs.Prelude.{◌≡◌, [], ◌∷◌, ◌++◌, ◌<◌, ◌≤◌, length, OnOk, IfSome, IfNone};
+//! start. Room for the digits is reserved before, once for all numbers of a line, so no byte that is
+//! appended asks for it.
+ghost use Rattle.std.specs.Prelude.{◌≡◌, ◌+◌, [], ◌∷◌, ◌++◌, ◌<◌, ◌≤◌, length, vec_len, IfSome, IfNone};
+ghost use Rattle.std.specs.Vec.{vec_capacity};
 ghost use Rattle.log_core.specs.Numbers as spec;
 ghost use Rattle.log_core.specs.Numbers.{leading, far, written, numbers_from};
-ghost use Rattle.log_core.specs.Rows.{BeginsAs};
 
-use std::alloc::AllocError;
+/// The most digits of a number.
+pub(crate) const MOST_DIGITS: usize = 5;
 
 /// Appends the last digit of a number, marked as not the last one of the whole; nothing for 0.
 #[tactic(auto, using(crate::proofs::Behind::behind), unfolding(crate::specs::Numbers::leading))]
-fn push_leading(bytes: &mut Vec<u8>, number: u64) -> Result<(), AllocError>
-    ensures ok { OnOk result (bytes.new.items ≡ bytes.old.items ++ leading number) }
-    ensures begins { BeginsAs bytes.old.items bytes.new.items }
+fn put_leading(bytes: &mut Vec<u8>, number: u64)
+    requires room { vec_len bytes.old < vec_capacity bytes.old }
+    ensures items { bytes.new.items ≡ bytes.old.items ++ leading number }
+    ensures few { vec_len bytes.new ≤ vec_len bytes.old + 1 }
+    ensures capacity { vec_capacity bytes.new ≡ vec_capacity bytes.old }
 {
     if number == 0 {
-        return Ok(());
+        return;
     }
-    bytes.push((number % 128) as u8 + 128)?;
-    Ok(())
+    bytes.push_reserved((number % 128) as u8 + 128);
 }
 
 /// Appends the last three digits of a number, all marked as not the last one of the whole. Few
 /// numbers have them.
 #[tactic(auto, using(crate::proofs::Behind::behind), unfolding(crate::specs::Numbers::far))]
-fn push_far(bytes: &mut Vec<u8>, number: u64) -> Result<(), AllocError>
-    ensures ok { OnOk result (bytes.new.items ≡ bytes.old.items ++ far number) }
-    ensures begins { BeginsAs bytes.old.items bytes.new.items }
+fn put_far(bytes: &mut Vec<u8>, number: u64)
+    requires room { vec_len bytes.old + 3 ≤ vec_capacity bytes.old }
+    ensures items { bytes.new.items ≡ bytes.old.items ++ far number }
+    ensures few { vec_len bytes.new ≤ vec_len bytes.old + 3 }
+    ensures capacity { vec_capacity bytes.new ≡ vec_capacity bytes.old }
 {
     if number == 0 {
-        return Ok(());
+        return;
     }
-    push_leading(bytes, number / 16_384)?;
-    push_leading(bytes, number / 128)?;
-    push_leading(bytes, number)?;
-    Ok(())
+    put_leading(bytes, number / 16_384);
+    put_leading(bytes, number / 128);
+    put_leading(bytes, number);
 }
 
 /// Appends a number of any size.
 #[tactic(auto, using(crate::proofs::Behind::behind), unfolding(crate::specs::Numbers::written))]
-fn push_long(bytes: &mut Vec<u8>, number: u64) -> Result<(), AllocError>
-    ensures ok { OnOk result (bytes.new.items ≡ bytes.old.items ++ written number) }
-    ensures begins { BeginsAs bytes.old.items bytes.new.items }
+fn put_long(bytes: &mut Vec<u8>, number: u64)
+    requires room { vec_len bytes.old + 5 ≤ vec_capacity bytes.old }
+    ensures items { bytes.new.items ≡ bytes.old.items ++ written number }
+    ensures few { vec_len bytes.new ≤ vec_len bytes.old + 5 }
+    ensures capacity { vec_capacity bytes.new ≡ vec_capacity bytes.old }
 {
-    push_far(bytes, number / 16_384)?;
-    push_leading(bytes, number / 128)?;
-    bytes.push((number % 128) as u8)?;
-    Ok(())
+    put_far(bytes, number / 16_384);
+    put_leading(bytes, number / 128);
+    bytes.push_reserved((number % 128) as u8);
 }
 
 /// Appends a number of two digits, as most are.
 #[tactic(auto, using(crate::proofs::Behind::numbers))]
-fn push_two(bytes: &mut Vec<u8>, number: u64) -> Result<(), AllocError>
+fn put_two(bytes: &mut Vec<u8>, number: u64)
     requires low { 128 ≤ number }
     requires high { number < 16384 }
-    ensures ok { OnOk result (bytes.new.items ≡ bytes.old.items ++ written number) }
-    ensures begins { BeginsAs bytes.old.items bytes.new.items }
+    requires room { vec_len bytes.old + 2 ≤ vec_capacity bytes.old }
+    ensures items { bytes.new.items ≡ bytes.old.items ++ written number }
+    ensures few { vec_len bytes.new ≤ vec_len bytes.old + 2 }
+    ensures capacity { vec_capacity bytes.new ≡ vec_capacity bytes.old }
 {
-    bytes.push((number / 128) as u8 + 128)?;
-    bytes.push((number % 128) as u8)?;
-    Ok(())
+    bytes.push_reserved((number / 128) as u8 + 128);
+    bytes.push_reserved((number % 128) as u8);
 }
 
-/// Appends a number. The first two tests are those of nearly all numbers.
+/// Appends a number, for whose digits there is room. The first two tests are those of nearly all
+/// numbers.
 #[tactic(auto, using(crate::proofs::Behind::numbers))]
-pub(crate) fn push_number(bytes: &mut Vec<u8>, number: u64) -> Result<(), AllocError>
-    ensures ok { OnOk result (bytes.new.items ≡ bytes.old.items ++ written number) }
-    ensures begins { BeginsAs bytes.old.items bytes.new.items }
+pub(crate) fn put_number(bytes: &mut Vec<u8>, number: u64)
+    requires room { vec_len bytes.old + MOST_DIGITS ≤ vec_capacity bytes.old }
+    ensures items { bytes.new.items ≡ bytes.old.items ++ written number }
+    ensures few { vec_len bytes.new ≤ vec_len bytes.old + MOST_DIGITS }
+    ensures capacity { vec_capacity bytes.new ≡ vec_capacity bytes.old }
 {
     if number < 128 {
-        bytes.push(number as u8)?;
-        return Ok(());
+        bytes.push_reserved(number as u8);
+        return;
     }
     if number < 16_384 {
-        return push_two(bytes, number);
+        put_two(bytes, number);
+        return;
     }
-    push_long(bytes, number)
+    put_long(bytes, number);
 }
 
 /// A number with one digit more, read from a byte from 128 on. Before its last digit no number

@@ -1,5 +1,6 @@
 //! Lists appended to a row of bytes, number by number, with no temporary list.
-ghost use Rattle.std.specs.Prelude.{◌≡◌, ◌-◌, ◌≤◌, ◌++◌, OnOk, IfOk, All};
+ghost use Rattle.std.specs.Prelude.{◌≡◌, ◌+◌, ◌-◌, ◌*◌, ◌≤◌, ◌++◌, length, vec_len, OnOk, IfOk, All};
+ghost use Rattle.std.specs.Vec.{vec_capacity};
 ghost use Rattle.sat_theory.specs.Line as theory;
 ghost use Rattle.cnf_core.specs.Bounds.{IsLit};
 ghost use Rattle.cnf_core.specs.Codes.{code_of};
@@ -7,23 +8,37 @@ ghost use Rattle.log_core.specs.Lists.{ids_written, literals_written};
 ghost use Rattle.log_core.specs.Rows.{BeginsAs, IsPacked};
 
 use crate::head::Head;
-use crate::numbers::push_number;
+use crate::numbers::{MOST_DIGITS, put_number};
 use crate::steps::step;
 use cnf_core::Lit;
 use std::alloc::AllocError;
 
-/// Appends ids, each as the step from the one before.
+/// More numbers in a line count as running out of memory: each takes a byte.
+const MOST_NUMBERS: usize = 8_589_934_590;
+
+/// Reserves the bytes of some numbers.
+fn reserve(bytes: &mut Vec<u8>, numbers: usize) -> Result<(), AllocError>
+    ensures same { bytes.new.items ≡ bytes.old.items }
+    ensures room { OnOk result (vec_len bytes.new + MOST_DIGITS * numbers ≤ vec_capacity bytes.new) }
+{
+    if numbers > MOST_NUMBERS {
+        return Err(AllocError);
+    }
+    bytes.reserve(MOST_DIGITS * numbers)?;
+    Ok(())
+}
+
+/// Appends ids, each as the step from the one before. There is room for them.
 #[tactic(auto, using(crate::proofs::Behind::packed))]
-pub(crate) fn push_ids(bytes: &mut Vec<u8>, ids: &[u32]) -> Result<(), AllocError>
-    ensures ok { OnOk result (bytes.new.items ≡ bytes.old.items ++ ids_written 0 ids.now) }
-    ensures begins { BeginsAs bytes.old.items bytes.new.items }
+fn put_ids(bytes: &mut Vec<u8>, ids: &[u32])
+    requires room { vec_len bytes.old + MOST_DIGITS * length ids.now ≤ vec_capacity bytes.old }
+    ensures items { bytes.new.items ≡ bytes.old.items ++ ids_written 0 ids.now }
 {
     let mut last = 0u32;
     for id in ids {
-        push_number(bytes, step(last, *id))?;
+        put_number(bytes, step(last, *id));
         last = *id;
     }
-    Ok(())
 }
 
 /// The number that encodes a literal.
@@ -36,17 +51,18 @@ fn number_of(lit: Lit) -> u64
     lit.code() as u64
 }
 
-/// Appends literals.
+/// Appends literals. There is room for them.
 #[tactic(auto, using(crate::proofs::Behind::packed))]
-pub(crate) fn push_literals(bytes: &mut Vec<u8>, lits: &[Lit]) -> Result<(), AllocError>
-    ensures ok { OnOk result (bytes.new.items ≡ bytes.old.items ++ literals_written lits.now) }
-    ensures whole { OnOk result (All IsLit lits.now) }
-    ensures begins { BeginsAs bytes.old.items bytes.new.items }
+fn put_literals(bytes: &mut Vec<u8>, lits: &[Lit])
+    requires room { vec_len bytes.old + MOST_DIGITS * length lits.now ≤ vec_capacity bytes.old }
+    ensures items { bytes.new.items ≡ bytes.old.items ++ literals_written lits.now }
+    ensures whole { All IsLit lits.now }
+    ensures few { vec_len bytes.new ≤ vec_len bytes.old + MOST_DIGITS * length lits.now }
+    ensures capacity { vec_capacity bytes.new ≡ vec_capacity bytes.old }
 {
     for lit in lits {
-        push_number(bytes, number_of(*lit))?;
+        put_number(bytes, number_of(*lit));
     }
-    Ok(())
 }
 
 /// The length of a part of a row. One above 4,294,967,295 counts as running out of memory.
@@ -72,9 +88,10 @@ pub(crate) fn pack_addition(
     ensures begins { BeginsAs bytes.old.items bytes.new.items }
 {
     let start = bytes.len();
-    push_literals(bytes, lits)?;
+    reserve(bytes, lits.len().saturating_add(hints.len()))?;
+    put_literals(bytes, lits);
     let middle = bytes.len();
-    push_ids(bytes, hints)?;
+    put_ids(bytes, hints);
     let lits = size(start, middle)?;
     let hints = size(middle, bytes.len())?;
     Ok(Head::Add { id, lits, hints })
@@ -87,7 +104,8 @@ pub(crate) fn pack_deletion(bytes: &mut Vec<u8>, id: u32, ids: &[u32]) -> Result
     ensures begins { BeginsAs bytes.old.items bytes.new.items }
 {
     let start = bytes.len();
-    push_ids(bytes, ids)?;
+    reserve(bytes, ids.len())?;
+    put_ids(bytes, ids);
     let ids = size(start, bytes.len())?;
     Ok(Head::Delete { id, ids })
 }

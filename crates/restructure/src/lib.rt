@@ -1,6 +1,6 @@
 //! A net restructured: a smaller one that computes the same, by moves that no window of a few gates shows.
 //!
-//! The net becomes a graph of AND and XOR gates with complemented edges (`xag_core`). Pairs of operands are shared
+//! The net becomes a graph of AND and XOR gates with complemented edges (`xag_core`, `xag_net`). Pairs of operands are shared
 //! (`share_core`) and gates resubstituted (`resub_core`), each as long as that leaves fewer gates; and then rounds of
 //! the same moves follow that may keep the size, as plateaus are crossed in a local search, since one of the many
 //! graphs of a size may have a smaller one beside it. All of this is done twice, with the gates in depth-first order and in

@@ -6,7 +6,8 @@ use crate::parities::Parities;
 use net_core::{Net, Op, Sig};
 use op_basis::Basis;
 use std::alloc::{AllocError, Global};
-use xag_core::{NetBuilder, Xag, XagGate, at, bit_at, operator, put};
+use xag_core::{Xag, XagGate, at, bit_at, put};
+use xag_net::{NetBuilder, operator};
 
 /// The net as it grows. By nodes: whether each is made complemented, its place, and the place of its complement, 0 where
 /// there is none.

@@ -11,7 +11,8 @@ use net_core::Net;
 use op_basis::Basis;
 use sat_solve::Solver;
 use std::alloc::{AllocError, Global};
-use xag_core::{Xag, from_net, into_net};
+use xag_core::Xag;
+use xag_net::{from_net, into_net};
 
 /// The most learnt clauses of a comparison.
 const MOST_CLAUSES: u32 = 100_000;

@@ -3,10 +3,12 @@
 //! there is no cycle; and those that a batch notes don't meet (`marks`). How many gates they save together is counted as
 //! they are noted, but only roughly, so that the graph that comes out is taken only where it isn't larger.
 ghost use Rattle.std.specs.Prelude.{IfOk, IfSome};
+ghost use Rattle.xag_core.specs.Xag.{HasEnds};
 ghost use Rattle.resub_core.specs.Smaller.{IsNoLarger};
 
-use crate::finder::{Finder, Terms, is_taken};
+use crate::finder::{Finder, Terms, taken};
 use crate::marks::Marks;
+use resub_search::{Divisors, Recipe, add_to, read_nodes};
 use std::alloc::{AllocError, Global};
 use xag_core::{Context, Edit, Xag, rebuild};
 
@@ -33,6 +35,39 @@ pub struct Batch {
     pub marks: Marks,
 }
 
+impl Batch {
+    /// A batch that has noted nothing.
+    fn new(alloc: Global, xag: &Xag) -> Result<Batch, AllocError> {
+        let context = Context::new(alloc, xag)?;
+        let marks = Marks::new(alloc, xag.nodes())?;
+        let edit = Edit::new(alloc, xag);
+        Ok(Batch {
+            context,
+            edit,
+            marks,
+        })
+    }
+
+    /// Notes a recipe that stands for the target, whose cone goes: the change of the graph, and who reads what.
+    pub fn note(
+        &mut self,
+        xag: &Xag,
+        divisors: &Divisors,
+        cone: &[u32],
+        target: u32,
+        recipe: Recipe,
+    ) -> Result<(), AllocError> {
+        add_to(&mut self.edit, divisors, target, recipe)?;
+        self.context.give_up(xag, cone);
+        for node in read_nodes(divisors, recipe) {
+            self.context.hold(node);
+            self.marks.note_read(node);
+        }
+        self.context.pin(target);
+        Ok(())
+    }
+}
+
 /// Whether a graph has more gates than are tried one by one, so that its replacements are made in batches.
 pub fn is_large(xag: &Xag, terms: Terms) -> bool {
     let few = if terms.is_level {
@@ -43,8 +78,25 @@ pub fn is_large(xag: &Xag, terms: Terms) -> bool {
     xag.gates().len() > few
 }
 
-/// The graph after a pass over all gates, or over some at random where it may keep its size; None where it isn't
-/// what the terms allow.
+/// Notes replacements in a pass over all gates, or over some at random where the graph may keep its size, and makes them.
+fn with_all(
+    alloc: Global,
+    xag: &Xag,
+    finder: &mut Finder,
+    batch: &mut Batch,
+    terms: Terms,
+) -> Result<Option<Xag>, AllocError>
+    ensures { IfOk result (λ other. IfSome other (HasEnds xag.now)) }
+{
+    for target in 0..xag.nodes() {
+        if !terms.is_level || finder.is_chosen(LEVEL_BATCHES) {
+            finder.note(alloc, xag, batch, target, terms)?;
+        }
+    }
+    rebuild(alloc, xag, &batch.edit)
+}
+
+/// The graph after a batch; None where it isn't what the terms allow.
 fn after_batch(
     alloc: Global,
     xag: &Xag,
@@ -53,26 +105,11 @@ fn after_batch(
 ) -> Result<Option<Xag>, AllocError>
     ensures { IfOk result (λ other. IfSome other (IsNoLarger xag.now)) }
 {
-    let mut batch = Batch {
-        context: Context::new(alloc, xag)?,
-        edit: Edit::new(alloc, xag),
-        marks: Marks::new(alloc, xag.nodes())?,
-    };
-    for target in 0..xag.nodes() {
-        if !terms.is_level || finder.is_chosen(LEVEL_BATCHES) {
-            finder.note(alloc, xag, &mut batch, target, terms)?;
-        }
-    }
-    match rebuild(alloc, xag, &batch.edit)? {
-        Some(other) => {
-            if is_taken(xag.gates().len(), other.gates().len(), terms) {
-                Ok(Some(other))
-            } else {
-                Ok(None)
-            }
-        }
-        None => Ok(None),
-    }
+    let mut batch = Batch::new(alloc, xag)?;
+    let found = with_all(alloc, xag, finder, &mut batch, terms);
+    // dropped here at once: left to the exits, each of its fields would be
+    drop(batch);
+    Ok(taken(xag, found?, terms))
 }
 
 /// A graph after batches, as long as it is large and each makes it smaller by enough; or after a few that may keep its

@@ -5,11 +5,9 @@ ghost use Rattle.xag_core.specs.Xag.{Xag, HasEnds};
 ghost use Rattle.resub_core.specs.Smaller.{IsNoLarger};
 
 use crate::batches::Batch;
-use crate::divisors::Divisors;
-use crate::recipe::{Recipe, add_to, note_readers, read_nodes};
-use crate::region::Region;
-use crate::searching::Search;
-use crate::wanted::Wanted;
+use crate::collecting::collect;
+use region_core::Region;
+use resub_search::{Divisors, Recipe, Search, Wanted, add_to, read_nodes};
 use std::alloc::{AllocError, Global};
 use xag_core::{Context, Edit, Random, Xag, XagGate, bit_at, put, rebuild};
 
@@ -47,10 +45,26 @@ fn exchange(recipes: &mut [Recipe], index: usize, random: &mut Random) {
 }
 
 /// Whether a graph of `new` gates may stand for one of `old` gates.
-pub fn is_taken(old: usize, new: usize, terms: Terms) -> bool
+fn is_taken(old: usize, new: usize, terms: Terms) -> bool
     ensures { result ≡ true → new ≤ old }
 {
     new < old || (terms.is_level && new == old)
+}
+
+/// What was found, where the terms allow it in the place of `xag`.
+pub fn taken(xag: &Xag, found: Option<Xag>, terms: Terms) -> Option<Xag>
+    ensures { IfSome found (HasEnds xag.now) → IfSome result (IsNoLarger xag.now) }
+{
+    match found {
+        Some(other) => {
+            if is_taken(xag.gates().len(), other.gates().len(), terms) {
+                Some(other)
+            } else {
+                None
+            }
+        }
+        None => None,
+    }
 }
 
 /// The smaller of the best graph so far and another.
@@ -200,16 +214,19 @@ impl Finder {
         } else {
             (MOST_WORK / (size + 1)).clamp(1, 12)
         };
-        match self.try_found(alloc, xag, target, trials, terms)? {
-            Some(other) => {
-                if is_taken(size, other.gates().len(), terms) {
-                    Ok(Some(other))
-                } else {
-                    Ok(None)
-                }
-            }
-            None => Ok(None),
-        }
+        let found = self.try_found(alloc, xag, target, trials, terms)?;
+        Ok(taken(xag, found, terms))
+    }
+
+    /// The most new gates of a search, where the target's cone goes but for `kept` gates.
+    fn most_gates(&self, terms: Terms, kept: u32) -> u32 {
+        let saved = (self.cone.len() as u64).min(1000) as u32;
+        let most = if terms.is_level {
+            saved
+        } else {
+            saved.saturating_sub(kept.saturating_add(1))
+        };
+        terms.new_gates.min(most).min(2)
     }
 
     /// Searches with rising numbers of new gates, over divisors without the gates that go with the target, or with them
@@ -227,16 +244,16 @@ impl Finder {
     {
         let apart = if inside { 1 } else { self.cone.len() };
         let left_out = self.cone.get(..apart).unwrap_or(&[]);
-        self.divisors
-            .find(xag, context, &mut self.region, left_out, u32::MAX)?;
-        let saved = (self.cone.len() as u64).min(1000) as u32;
-        let kept = if inside { 1u32 } else { 0 };
-        let most = if terms.is_level {
-            saved
-        } else {
-            saved.saturating_sub(1 + kept)
-        };
-        for gates in kept..=terms.new_gates.min(most).min(2) {
+        collect(
+            &mut self.divisors,
+            xag,
+            context,
+            &mut self.region,
+            left_out,
+            u32::MAX,
+        )?;
+        let kept = u32::from(inside);
+        for gates in kept..=self.most_gates(terms, kept) {
             if let Some(other) = self.search_with(alloc, xag, target, gates, terms)? {
                 return Ok(Some(other));
             }
@@ -311,8 +328,7 @@ impl Finder {
         let Some(recipe) = self.search.found.first() else {
             return Ok(false);
         };
-        add_to(&mut batch.edit, &self.divisors, target, *recipe)?;
-        note_readers(batch, xag, &self.divisors, &self.cone, target, *recipe);
+        batch.note(xag, &self.divisors, &self.cone, target, *recipe)?;
         Ok(true)
     }
 
@@ -333,18 +349,18 @@ impl Finder {
         {
             return Ok(false);
         }
-        self.divisors
-            .find(xag, &batch.context, &mut self.region, &self.cone, target)?;
+        collect(
+            &mut self.divisors,
+            xag,
+            &batch.context,
+            &mut self.region,
+            &self.cone,
+            target,
+        )?;
         if !batch.marks.allow(&self.region, target, with_tail) {
             return Ok(false);
         }
-        let saved = (self.cone.len() as u64).min(1000) as u32;
-        let most = if terms.is_level {
-            saved
-        } else {
-            saved.saturating_sub(1)
-        };
-        for gates in 0..=terms.new_gates.min(most).min(2) {
+        for gates in 0..=self.most_gates(terms, 0) {
             if self.note_with(alloc, xag, batch, target, gates, terms)? {
                 batch.marks.note_region(&self.region, target, with_tail);
                 return Ok(true);

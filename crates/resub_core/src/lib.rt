@@ -14,17 +14,9 @@
 #![tactic(auto)]
 
 mod batches;
-mod divisors;
+mod collecting;
 mod finder;
-mod growing;
 mod marks;
-mod matching;
 mod passes;
-mod recipe;
-mod region;
-mod searching;
-mod tail;
-mod wanted;
-mod words;
 
 pub use passes::{resub, resub_level};

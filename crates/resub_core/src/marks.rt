@@ -4,7 +4,7 @@
 //!
 //! So a target that is changed stands inside no other region, nor does a recipe read it or its tail.
 
-use crate::region::Region;
+use region_core::Region;
 use std::alloc::{AllocError, Global};
 use xag_core::{bit_at, put};
 

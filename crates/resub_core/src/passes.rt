@@ -1,5 +1,5 @@
 //! The passes: over all gates in topological order until none changes, or over gates at random.
-ghost use Rattle.std.specs.Prelude.{IfOk, OnOk};
+ghost use Rattle.std.specs.Prelude.{◌≡◌, IfOk, OnOk};
 ghost use Rattle.resub_core.specs.Smaller.{IsNoLarger};
 
 use crate::batches::{batched, is_large};
@@ -18,6 +18,21 @@ struct Pass {
 /// The first gate.
 fn first_gate(xag: &Xag) -> u32 {
     xag.sources().wrapping_add(1)
+}
+
+impl Pass {
+    /// The pass before its first target.
+    fn new(alloc: Global, xag: Xag) -> Result<Pass, AllocError>
+        ensures { IfOk result (λ pass. pass.xag ≡ xag) }
+    {
+        let context = Context::new(alloc, &xag)?;
+        let target = first_gate(&xag);
+        Ok(Pass {
+            xag,
+            context,
+            target,
+        })
+    }
 }
 
 /// Where the pass goes on after a change at `target`: each gate that went takes it a node back.
@@ -47,29 +62,19 @@ fn try_target(
     Ok(true)
 }
 
-/// The graph after resubstitution with at most `new_gates` new gates for a target, 0, 1 or 2. Each
-/// replacement leaves fewer gates. It goes on until no gate of the graph has one, or for some twenty passes. A
-/// large graph is taken through batches, and goes on so only where that leaves few gates.
+/// Tries all gates in topological order, again and again until none changes, in at most `most` steps.
 #[tactic(auto, using(crate::specs::SmallerLaws::replacing))]
-pub fn resub(alloc: Global, xag: &Xag, new_gates: u32) -> Result<Xag, AllocError>
-    ensures { IfOk result (IsNoLarger xag.now) }
+fn settle(
+    alloc: Global,
+    pass: &mut Pass,
+    finder: &mut Finder,
+    terms: Terms,
+    most: u64,
+) -> Result<(), AllocError>
+    ensures { OnOk result (IsNoLarger pass.old.xag pass.new.xag) }
 {
-    let mut finder = Finder::new(alloc, xag.nodes(), 1)?;
-    let terms = Terms {
-        new_gates,
-        is_level: false,
-    };
-    let begun = batched(alloc, xag, &mut finder, terms)?;
-    if is_large(&begun, terms) {
-        return Ok(begun);
-    }
-    let mut pass = Pass {
-        context: Context::new(alloc, &begun)?,
-        target: first_gate(&begun),
-        xag: begun,
-    };
     let mut is_settled = true;
-    for _attempt in 0..20 * u64::from(xag.nodes()) {
+    for _attempt in 0..most {
         if pass.target >= pass.xag.nodes() {
             if is_settled {
                 break;
@@ -78,18 +83,77 @@ pub fn resub(alloc: Global, xag: &Xag, new_gates: u32) -> Result<Xag, AllocError
             pass.target = first_gate(&pass.xag);
             continue;
         }
-        if try_target(alloc, &mut pass, &mut finder, terms)? {
+        if try_target(alloc, pass, finder, terms)? {
             is_settled = false;
         } else {
             pass.target = pass.target.saturating_add(1);
         }
     }
+    Ok(())
+}
+
+/// Tries as many gates at random as `count`.
+#[tactic(auto, using(crate::specs::SmallerLaws::replacing))]
+fn vary(
+    alloc: Global,
+    pass: &mut Pass,
+    finder: &mut Finder,
+    terms: Terms,
+    count: usize,
+) -> Result<(), AllocError>
+    ensures { OnOk result (IsNoLarger pass.old.xag pass.new.xag) }
+{
+    for _attempt in 0..count {
+        pass.target = finder.gate_of(&pass.xag);
+        try_target(alloc, pass, finder, terms)?;
+    }
+    Ok(())
+}
+
+/// The graph after batches while it is large, and then after single targets until none changes, or for some twenty passes.
+#[tactic(auto, using(crate::specs::SmallerLaws::replacing))]
+fn reduced(alloc: Global, xag: &Xag, finder: &mut Finder, terms: Terms) -> Result<Xag, AllocError>
+    ensures { IfOk result (IsNoLarger xag.now) }
+{
+    let begun = batched(alloc, xag, finder, terms)?;
+    if is_large(&begun, terms) {
+        return Ok(begun);
+    }
+    let mut pass = Pass::new(alloc, begun)?;
+    let most = 20 * u64::from(xag.nodes());
+    settle(alloc, &mut pass, finder, terms, most)?;
     Ok(pass.xag)
+}
+
+/// The graph after as many targets at random as it has gates, or after batches where it is large.
+#[tactic(auto, using(crate::specs::SmallerLaws::replacing))]
+fn varied(alloc: Global, xag: &Xag, finder: &mut Finder, terms: Terms) -> Result<Xag, AllocError>
+    ensures { IfOk result (IsNoLarger xag.now) }
+{
+    if is_large(xag, terms) {
+        return batched(alloc, xag, finder, terms);
+    }
+    let mut pass = Pass::new(alloc, xag.copied(alloc)?)?;
+    vary(alloc, &mut pass, finder, terms, xag.gates().len())?;
+    Ok(pass.xag)
+}
+
+/// The graph after resubstitution with at most `new_gates` new gates for a target, 0, 1 or 2. Each
+/// replacement leaves fewer gates. It goes on until no gate of the graph has one, or for some twenty passes. A
+/// large graph is taken through batches, and goes on so only where that leaves few gates.
+pub fn resub(alloc: Global, xag: &Xag, new_gates: u32) -> Result<Xag, AllocError>
+    ensures { IfOk result (IsNoLarger xag.now) }
+{
+    let mut finder = Finder::new(alloc, xag.nodes(), 1)?;
+    let terms = Terms {
+        new_gates,
+        is_level: false,
+    };
+    reduced(alloc, xag, &mut finder, terms)
 }
 
 /// The graph after resubstitution with at most two new gates at as many gates at random as it has, each
 /// replacement with no more gates.
-#[tactic(auto, using(crate::specs::SmallerLaws::replacing))]
 pub fn resub_level(alloc: Global, xag: &Xag, seed: u64) -> Result<Xag, AllocError>
     ensures { IfOk result (IsNoLarger xag.now) }
 {
@@ -98,17 +162,5 @@ pub fn resub_level(alloc: Global, xag: &Xag, seed: u64) -> Result<Xag, AllocErro
         new_gates: 2,
         is_level: true,
     };
-    if is_large(xag, terms) {
-        return batched(alloc, xag, &mut finder, terms);
-    }
-    let mut pass = Pass {
-        xag: xag.copied(alloc)?,
-        context: Context::new(alloc, xag)?,
-        target: first_gate(xag),
-    };
-    for _attempt in 0..xag.gates().len() {
-        pass.target = finder.gate_of(&pass.xag);
-        try_target(alloc, &mut pass, &mut finder, terms)?;
-    }
-    Ok(pass.xag)
+    varied(alloc, xag, &mut finder, terms)
 }

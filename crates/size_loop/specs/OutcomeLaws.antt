@@ -6,7 +6,7 @@ use Rattle.std.proofs.lemmas.List.Elements.{All-nil, All-push}
 use Rattle.chain_theory.specs.Chain.{Chain}
 use Rattle.tt_core.specs.Words.{specification}
 use Rattle.op_basis.specs.Basis.{members}
-use Rattle.step_core.specs.Short.{IsShort, IsAnswer}
+use Rattle.step_core.specs.Short.{IsAnswer}
 use Rattle.enc_theory.specs.declared.part.Part.{Part}
 use Rattle.cert_theory.specs.declared.data.Heading.{Heading}
 use Rattle.cert_theory.specs.Bundle.{PartLog, IsPartLog, part_of, IsFound, IsEnding, found as found_at}
@@ -31,18 +31,18 @@ logged_more h size parts logs part p are same is thrifty = record {
   thrifty = All-push (IsThriftyLog h size) logs p are.thrifty thrifty;
 }
 
--- a chain of few steps that agrees, where it has as many as the size says
-pub found_short : (h : Heading) (size : ℕ) (c : Chain) → IsShort (specification h.spec) (members h.basis) size c → length c.steps ≡ size → size ≤ h.max → IsFound h size c
-found_short h size c short count room = record { chain = short.small.chain; size_is = count; size_to = room; over = short.over; agrees = short.agrees }
-
 -- whatever going over few steps comes to is kept
 pub walked_few : (h : Heading) (most : ℕ) (found : Option Chain) → IsAnswer (specification h.spec) (members h.basis) most found → most ≤ h.max → IsWalked h found
 walked_few h most None answer room = tt
 walked_few h most (Some c) short room = record { chain = short.small.chain; size_is = refl; size_to = omega (arith, short.few, room); over = short.over; agrees = short.agrees }
 
+-- it is of the size that its steps count to
+pub walked_found : (h : Heading) (size : ℕ) (c : Chain) → IsFound h (length c.steps) c → length c.steps ≡ size → IsFound h size c
+walked_found h size c is count = subst (λ (n : ℕ). IsFound h n c) count is
+
 -- and ends the search where its size comes
 pub walked_ending : (h : Heading) (next : ℕ) (low : Option ℕ) (found : Option Chain) → IsWalked h found → HasSize next found → IsEnding h next low found (found_at next low)
 walked_ending h next low None is has = absurd has
-walked_ending h next low (Some c) is has = (subst (λ (n : ℕ). IsFound h n c) has is, refl)
+walked_ending h next low (Some c) is has = (walked_found h next c is has, refl)
 
-pub ruleset walking = (common_steps, found_short, walked_few, walked_ending)
+pub ruleset walking = (common_steps, walked_few, walked_found, walked_ending)

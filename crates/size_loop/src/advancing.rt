@@ -143,7 +143,7 @@ fn walked_from(
     if next > 0 {
         return Ok(before);
     }
-    walked(alloc, heading)
+    walked(alloc, heading, heading.max)
 }
 
 /// Whether there is a chain, and it has `size` steps.

@@ -33,34 +33,34 @@ pub enum SizeOutcome {
     Logged(Section),
 }
 
-/// A chain of the fewest steps, where these are few and going over them comes to it.
+/// A chain of the fewest steps, where these are at most `most` and few, and going over the sizes comes to it.
 #[tactic(auto, using(crate::specs::OutcomeLaws::walking))]
-pub(crate) fn walked(alloc: Global, heading: &Heading) -> Result<Option<Chain>, AllocError>
-    requires { IsHeading heading.now }
+pub(crate) fn walked(
+    alloc: Global,
+    heading: &Heading,
+    most: u32,
+) -> Result<Option<Chain>, AllocError>
+    requires heading { IsHeading heading.now }
+    requires most { most ≤ heading.now.max }
     ensures { IfOk result (λ found. IsWalked heading.now found) }
 {
     if heading.spec.n() > WALKED_INPUTS {
         return Ok(None);
     }
-    few_steps(
-        alloc,
-        &heading.spec,
-        heading.basis,
-        WALKED_STEPS.min(heading.max),
-    )
+    few_steps(alloc, &heading.spec, heading.basis, WALKED_STEPS.min(most))
 }
 
-/// A chain of `size` steps, where steps are few and going over them comes to one of that size.
+/// A chain of `size` steps, where that is the least number and going over the sizes comes to it.
 #[tactic(auto, using(crate::specs::OutcomeLaws::walking))]
 fn walked_chain(alloc: Global, heading: &Heading, size: u32) -> Result<Option<Chain>, AllocError>
     requires heading { IsHeading heading.now }
     requires size { size ≤ heading.now.max }
     ensures { IfOk result (λ found. IfSome found (IsFound heading.now size)) }
 {
-    if heading.spec.n() > WALKED_INPUTS || size > WALKED_STEPS {
+    if size > WALKED_STEPS {
         return Ok(None);
     }
-    match few_steps(alloc, &heading.spec, heading.basis, size)? {
+    match walked(alloc, heading, size)? {
         Some(chain) if chain.steps().len() == size as usize => Ok(Some(chain)),
         _ => Ok(None),
     }

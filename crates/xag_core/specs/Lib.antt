@@ -1,2 +1,1 @@
 pub mod Xag
-pub mod Grown

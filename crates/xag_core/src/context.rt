@@ -2,7 +2,7 @@
 //! maximal fanout-free cone (MFFC).
 
 use crate::rows::{at, bit_at, put, raise};
-use crate::xag::Xag;
+use crate::xag::{Xag, mark_sinks};
 use std::alloc::{AllocError, Global};
 
 /// The most gates of a cone that `cone_of` lists.
@@ -59,19 +59,24 @@ fn reader_row(alloc: Global, xag: &Xag, starts: &[u32]) -> Result<Vec<u32>, Allo
     Ok(readers)
 }
 
+/// The references of each node: its fanouts, whose number stands at the next node's entry, and the sinks that read it.
+fn reference_counts(alloc: Global, xag: &Xag, fanouts: &[u32]) -> Result<Vec<u32>, AllocError> {
+    let mut references = Vec::from_slice(alloc, fanouts.get(1..).unwrap_or(&[]))?;
+    for sink in xag.sinks() {
+        raise(&mut references, sink >> 1);
+    }
+    Ok(references)
+}
+
 impl Context {
     /// The context of a graph.
     pub fn new(alloc: Global, xag: &Xag) -> Result<Context, AllocError> {
         let mut starts = reader_counts(alloc, xag)?;
-        let mut references = Vec::with_capacity(alloc, starts.len())?;
-        references.extend_from_slice(starts.get(1..).unwrap_or(&[]))?;
+        let references = reference_counts(alloc, xag, &starts)?;
         add_up(&mut starts);
         let readers = reader_row(alloc, xag, &starts)?;
         let mut feeds_sink = vec![in alloc; false; xag.nodes() as usize]?;
-        for sink in xag.sinks() {
-            raise(&mut references, sink >> 1);
-            put(&mut feeds_sink, sink >> 1, true);
-        }
+        mark_sinks(xag, &mut feeds_sink);
         Ok(Context {
             starts,
             readers,
@@ -116,26 +121,35 @@ impl Context {
         Ok(())
     }
 
+    /// Grows a cone by the operands that nothing else reads, and answers how many of its gates gave up theirs.
+    fn grow_cone(&mut self, xag: &Xag, cone: &mut Vec<u32>) -> Result<usize, AllocError> {
+        for index in 0..LARGEST_CONE {
+            let Some(member) = cone.get(index) else {
+                return Ok(index);
+            };
+            let gate = xag.gate(*member);
+            self.release(xag, gate.first, cone)?;
+            self.release(xag, gate.second, cone)?;
+        }
+        Ok(LARGEST_CONE)
+    }
+
+    /// The first gates of a cone read their operands again.
+    fn take_back(&mut self, xag: &Xag, cone: &[u32], count: usize) {
+        for member in cone.iter().take(count) {
+            let gate = xag.gate(*member);
+            raise(&mut self.references, gate.first >> 1);
+            raise(&mut self.references, gate.second >> 1);
+        }
+    }
+
     /// Lists the maximal fanout-free cone of a gate, the gate first: the gates that would be dead
     /// without it. Of a large cone only some 200 gates are listed.
     pub fn cone_of(&mut self, xag: &Xag, node: u32, cone: &mut Vec<u32>) -> Result<(), AllocError> {
         cone.clear();
         cone.push(node)?;
-        let mut passed = 0;
-        for index in 0..LARGEST_CONE {
-            let Some(member) = cone.get(index) else {
-                break;
-            };
-            let gate = xag.gate(*member);
-            self.release(xag, gate.first, cone)?;
-            self.release(xag, gate.second, cone)?;
-            passed = index + 1;
-        }
-        for member in cone.iter().take(passed) {
-            let gate = xag.gate(*member);
-            raise(&mut self.references, gate.first >> 1);
-            raise(&mut self.references, gate.second >> 1);
-        }
+        let count = self.grow_cone(xag, cone)?;
+        self.take_back(xag, cone, count);
         Ok(())
     }
 

@@ -8,30 +8,27 @@
 //! rebuilt has the sources and the number of sinks that it had.
 //!
 //! ```text
-//! let xag = from_net(alloc, &net, false)?; // in depth-first order
+//! let mut builder = Builder::new(alloc, 2, 1)?;
+//! let both = builder.gate(2, 4, false)?; // the literals of the two sources
+//! let xag = builder.finish(alloc, &[both])?;
 //! let other = rebuild(alloc, &xag, &edit)?; // None where a redirect makes a cycle
-//! let net = into_net(alloc, &xag)?;
 //! ```
 #![tactic(auto)]
 
 mod builder;
 mod context;
 mod edit;
-mod net_builder;
-mod net_in;
-mod net_out;
 mod random;
 mod rows;
 mod walk;
+mod words;
 mod xag;
 
 pub use builder::Builder;
 pub use context::Context;
 pub use edit::{Edit, NONE};
-pub use net_builder::NetBuilder;
-pub use net_in::from_net;
-pub use net_out::{into_net, operator};
 pub use random::Random;
 pub use rows::{at, bit_at, put, raise};
 pub use walk::rebuild;
+pub use words::{complement_mask, put_word, word_at};
 pub use xag::{Xag, XagGate};

@@ -7,7 +7,7 @@ ghost use Rattle.xag_core.specs.Xag.{HasEnds};
 use crate::builder::Builder;
 use crate::edit::{Edit, NONE};
 use crate::rows::{at, bit_at, put};
-use crate::xag::{Xag, XagGate};
+use crate::xag::{Xag, XagGate, mark_sinks};
 use std::alloc::{AllocError, Global};
 
 /// The walk: for each old node the literal that it is redirected to, its new literal once that is found
@@ -21,19 +21,29 @@ struct Walk {
     builder: Builder,
 }
 
+/// Marks what nodes are redirected to.
+fn put_redirects(edit: &Edit, targets: &mut [u32]) {
+    for (node, literal) in &edit.redirects {
+        put(targets, *node, *literal);
+    }
+}
+
+/// The constant and the sources keep their literals.
+fn put_given(xag: &Xag, found: &mut [u32]) {
+    for node in 0..=xag.sources() {
+        put(found, node, node * 2);
+    }
+}
+
 /// The walk before its first step.
 fn start(alloc: Global, xag: &Xag, edit: &Edit) -> Result<Walk, AllocError>
     ensures { IfOk result (λ walk. walk.builder.sources ≡ xag.now.sources) }
 {
     let count = xag.nodes() as usize + edit.gates.len();
     let mut targets = vec![in alloc; NONE; count]?;
-    for (node, literal) in &edit.redirects {
-        put(&mut targets, *node, *literal);
-    }
+    put_redirects(edit, &mut targets);
     let mut found = vec![in alloc; NONE; count]?;
-    for node in 0..=xag.sources() {
-        put(&mut found, node, node * 2);
-    }
+    put_given(xag, &mut found);
     let open = vec![in alloc; false; count]?;
     let stack = Vec::new(alloc);
     let builder = Builder::new(alloc, xag.sources(), xag.gates().len())?;
@@ -133,6 +143,22 @@ impl Walk {
         }
         Ok(true)
     }
+
+    /// The graph that the walk made, with these sinks.
+    fn graph(self, alloc: Global, sinks: &[u32], keeps_order: bool) -> Result<Xag, AllocError>
+        ensures sources { IfOk result (λ xag. xag.sources ≡ self.builder.sources) }
+        ensures sinks { IfOk result (λ xag. length xag.sinks ≡ length sinks.now) }
+    {
+        let Walk {
+            targets: _,
+            found: _,
+            open: _,
+            stack: _,
+            builder,
+        } = self;
+        let built = builder.finish(alloc, sinks)?;
+        Ok(built.with_order(keeps_order))
+    }
 }
 
 /// Puts what a node is computed from on a stack: what it is redirected to, or the operands of its gate.
@@ -156,13 +182,19 @@ fn put_sources(
     Ok(())
 }
 
+/// The nodes that sinks read.
+fn sink_nodes(alloc: Global, xag: &Xag) -> Result<Vec<u32>, AllocError> {
+    let mut nodes = Vec::with_capacity(alloc, xag.sinks().len())?;
+    for sink in xag.sinks() {
+        nodes.push(sink >> 1)?;
+    }
+    Ok(nodes)
+}
+
 /// Which nodes the sinks are computed from.
 fn live_nodes(alloc: Global, walk: &Walk, xag: &Xag, edit: &Edit) -> Result<Vec<bool>, AllocError> {
     let mut live = vec![in alloc; false; walk.found.len()]?;
-    let mut waiting = Vec::new(alloc);
-    for sink in xag.sinks() {
-        waiting.push(sink >> 1)?;
-    }
+    let mut waiting = sink_nodes(alloc, xag)?;
     let most = (walk.found.len() as u64)
         .saturating_mul(3)
         .saturating_add(xag.sinks().len() as u64);
@@ -225,15 +257,7 @@ fn walked(alloc: Global, xag: &Xag, edit: &Edit) -> Result<Option<Xag>, AllocErr
     let Some(sinks) = walk_sinks(alloc, &mut walk, xag, edit)? else {
         return Ok(None);
     };
-    let Walk {
-        targets: _,
-        found: _,
-        open: _,
-        stack: _,
-        builder,
-    } = walk;
-    let built = builder.finish(alloc, &sinks)?;
-    Ok(Some(built.with_order(xag.keeps_order)))
+    Ok(Some(walk.graph(alloc, &sinks, xag.keeps_order)?))
 }
 
 /// Whether each gate is read by a gate or a sink.
@@ -243,9 +267,7 @@ fn is_live(alloc: Global, xag: &Xag) -> Result<bool, AllocError> {
         put(&mut read, gate.first >> 1, true);
         put(&mut read, gate.second >> 1, true);
     }
-    for sink in xag.sinks() {
-        put(&mut read, sink >> 1, true);
-    }
+    mark_sinks(xag, &mut read);
     let gates = read.get(xag.sources() as usize + 1..).unwrap_or(&[]);
     Ok(gates.iter().all(|is_read| *is_read))
 }

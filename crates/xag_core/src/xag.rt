@@ -2,6 +2,7 @@
 ghost use Rattle.std.specs.Prelude.{◌≡◌, IfOk};
 ghost use Rattle.xag_core.specs.Xag.{IsXag};
 
+use crate::rows::put;
 use std::alloc::{AllocError, Global};
 use std::marker::Model;
 
@@ -117,5 +118,12 @@ impl Xag {
                 is_xor: false,
             },
         }
+    }
+}
+
+/// Marks the nodes that sinks read.
+pub(crate) fn mark_sinks(xag: &Xag, marks: &mut [bool]) {
+    for sink in xag.sinks() {
+        put(marks, sink >> 1, true);
     }
 }
