@@ -6,6 +6,7 @@ ghost use Rattle.improve_settings.specs.Improve.{IsInRange};
 ghost use Rattle.sweep_core.specs.Outcomes.{Leads};
 ghost use Rattle.window_trial.specs.Improvement.{Sweeps, Leaves};
 
+use crate::tables::many_merged;
 use crate::trying::WindowTrial;
 use improve_settings::ImproveSettings;
 use net_core::{Net, drop_dead};
@@ -137,6 +138,7 @@ fn improved<S: Solver>(
     requires itself { IsPruned net net }
     ensures { IfOk result (λ left. Sweeps settings.now net left.net left.settled left.undecided.items) }
 {
+    let net = many_merged(alloc, net, settings.cap)?;
     let before = net.gates().len();
     let rounds = rounds_of(&net, settings.effort);
     let best = begun::<S>(alloc, net, settings, rounds)?;
