@@ -1,10 +1,12 @@
 //! Tests of the public calls of the crates of windows: windows with their specifications (SDC and
-//! ODC) and bit-parallel simulation of cones, compared with plain programs, and chains that take
-//! the places of windows.
+//! ODC) and bit-parallel simulation of cones, compared with plain programs, chains that take the places
+//! of windows, and gates with equal tables.
 #![tactic(auto)]
 
 #[cfg(test)]
 mod chains;
+#[cfg(test)]
+mod equal;
 #[cfg(test)]
 mod lanes;
 #[cfg(test)]

@@ -7,6 +7,7 @@ ghost use Rattle.improve_settings.specs.Improve.{IsInRange};
 ghost use Rattle.sweep_core.specs.Outcomes.{Leads};
 ghost use Rattle.window_trial.specs.Improvement.{Sweeps, Leaves};
 
+use crate::tables::many_merged;
 use crate::trying::WindowTrial;
 use improve_settings::ImproveSettings;
 use net_core::{Net, drop_dead};
@@ -18,9 +19,6 @@ use walk_core::walked;
 
 /// A net of fewer gates is left to windows, where no rounds of moves are asked for: a window or two show all of it.
 const LEAST_MOVED: usize = 6;
-
-/// And so is one of more, since it can't be compared with what moves leave of it.
-const MOST_MOVED: usize = 100_000;
 
 /// How many rounds of moves that keep the size a small net goes through, also where none are asked for, and up to how many
 /// gates it is small.
@@ -64,11 +62,9 @@ fn swept<S: Solver>(
     })
 }
 
-/// Whether a net is restructured: where rounds of moves are asked for, and else from `LEAST_MOVED` gates on, up to
-/// `MOST_MOVED`, which can still be compared.
+/// Whether a net is restructured: where rounds of moves are asked for, and else from `LEAST_MOVED` gates on.
 fn is_moved(net: &Net, effort: u32) -> bool {
-    let gates = net.gates().len();
-    effort > 0 || (LEAST_MOVED <= gates && gates <= MOST_MOVED)
+    effort > 0 || LEAST_MOVED <= net.gates().len()
 }
 
 /// How many rounds of moves that keep the size a net goes through.
@@ -173,6 +169,7 @@ fn improved<S: Solver>(
     requires itself { IsPruned net net }
     ensures { IfOk result (λ left. Sweeps settings.now net left.net left.settled left.undecided.items) }
 {
+    let net = many_merged(alloc, net, settings.cap)?;
     let before = net.gates().len();
     let rounds = rounds_of(&net, settings.effort);
     let best = begun::<S>(alloc, net, settings, rounds)?;

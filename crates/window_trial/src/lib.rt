@@ -3,8 +3,8 @@
 //!
 //! It stands on `window_core` for the windows and what they have to compute, on `observe_core` for what those who see
 //! them ask, on `decide_core` for the search of a shorter chain, on `subst_core` for the net in which a chain has taken
-//! a window's place, on `merge_core` for gates that are alike, on any `Solver` of `sat_solve`, and it is a `Trial` of
-//! `sweep_core`. The net and its index are kept together; the index is made anew when the net changes.
+//! a window's place, on `merge_core` for gates that are alike, on `table_merge` for gates with equal tables, on any
+//! `Solver` of `sat_solve`, and it is a `Trial` of `sweep_core`. The net and its index are kept together; the index is made anew when the net changes.
 //!
 //! The one theorem is that of `improve_net`, which drops dead gates, makes the net smaller by moves over all of it
 //! (`restructure`) and by walks over convex windows (`walk_core`), and then sweeps: what is left answers what the net answers, and once it is settled no window up to the
@@ -20,6 +20,7 @@ mod improving;
 mod merging;
 mod partners;
 mod replacing;
+mod tables;
 mod trying;
 
 pub use improve_settings::ImproveSettings;

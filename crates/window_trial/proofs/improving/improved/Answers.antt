@@ -1,8 +1,12 @@
+use Rattle.op_basis.specs.Basis.{members}
+use Rattle.sweep_core.specs.SweptLaws.{leads_on}
 use Rattle.window_trial.specs.ImprovementLaws.{sweeps_on, sweeps_again}
 use Rattle.window_trial.proofs.improving.improved.Goals as goal
 
 pub loop-turn-init : goal.loop-turn-init
-loop-turn-init g c = sweeps_on c.args.settings.now c.args.net c.in_ok-best.best c.in_ok-left.left.net c.in_ok-left.left.settled c.in_ok-left.left.undecided.items c.requires.itself c.in_ok-best.ensures c.in_ok-left.ensures
+loop-turn-init g c =
+    sweeps_on c.args.settings.now c.args.net c.in_ok-best.best c.in_ok-left.left.net c.in_ok-left.left.settled c.in_ok-left.left.undecided.items c.requires.itself
+    (leads_on (members c.args.settings.now.basis) c.args.net c.in_ok-net.net c.in_ok-best.best (c.in_ok-net.ensures.leads (members c.args.settings.now.basis)) c.in_ok-best.ensures) c.in_ok-left.ensures
 
 pub loop-turn-preserved : goal.loop-turn-preserved
 loop-turn-preserved g c =

@@ -1,0 +1,36 @@
+//! Gates with equal tables become one, in a net of few sources.
+ghost use Rattle.std.specs.Prelude.{◌≤◌, length, IfOk};
+ghost use Rattle.chain_theory.specs.Operator.{Basis};
+ghost use Rattle.sweep_core.specs.Outcomes.{Leads};
+
+use net_core::{Net, drop_dead};
+use std::alloc::{AllocError, Global};
+use table_merge::merge_equal;
+
+/// A net of no more gates is left to moves and windows.
+const MANY_EQUAL: usize = 1000;
+
+/// The net in which gates with one value under every assignment are one, without dead gates. Where it has more than 12
+/// sources dead gates alone go.
+fn equal_merged(alloc: Global, net: &Net) -> Result<Net, AllocError>
+    ensures leads { (basis : Basis) → IfOk result (Leads basis net.now) }
+    ensures fewer { IfOk result (λ left. length left.gates ≤ length net.now.gates) }
+{
+    let merged = merge_equal(alloc, net)?;
+    let left = drop_dead(alloc, &merged)?;
+    Ok(left)
+}
+
+/// The net after that, where it has many gates and the cap allows it: a cap of 1 leaves two gates that are alike, since
+/// each of them alone needs a step.
+#[tactic(auto, using(crate::specs::ImprovementLaws::improving))]
+pub fn many_merged(alloc: Global, net: Net, cap: u32) -> Result<Net, AllocError>
+    ensures leads { (basis : Basis) → IfOk result (Leads basis net) }
+    ensures fewer { IfOk result (λ left. length left.gates ≤ length net.gates) }
+{
+    if cap < 2 || net.gates().len() <= MANY_EQUAL {
+        return Ok(net);
+    }
+    let left = equal_merged(alloc, &net)?;
+    Ok(left)
+}
