@@ -224,6 +224,22 @@ swept_open s t n m r changed before after u asked same is e more =
 never : (b : Bool) → b ≡ true → b ≡ false → ⊥
 never b on off = both_ways b off on
 
+-- The round had changed the net before: nothing is named.
+pub swept_late : (P : Visit → Type 0) (s t : ImproveSettings) (n m : Net) (r : Round) → t ≡ s → m ≡ n → r.changed ≡ true → IsSwept P (stage s n r) (stage t m r)
+swept_late P s t n m r asked same on =
+    record {
+      asked = asked;
+      leads = subst (λ (x : Net). Leads (members s.basis) n x) (sym same) (leads_itself (members s.basis) n);
+      no_more = subst (λ (x : Net). length x.gates ≤ length n.gates) (sym same) (omega arith);
+      was = λ off. absurd (never r.changed on off);
+      same = λ off. same;
+      kept = λ off. absurd (never r.changed on off);
+      done = λ off. absurd (never r.changed on off);
+      adds = λ off. absurd (never r.changed on off);
+      sound = λ off. absurd (never r.changed on off);
+      fell = λ off. absurd (never r.changed on off);
+    }
+
 pub swept_smaller : (P : Visit → Type 0) (s t : ImproveSettings) (n m : Net) (r q : Round) → t ≡ s → Leads (members s.basis) n m → length m.gates < length n.gates → q.changed ≡ true → IsSwept P (stage s n r) (stage t m q)
 swept_smaller P s t n m r q asked leads less on =
     record {

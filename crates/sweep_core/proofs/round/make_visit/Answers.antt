@@ -1,10 +1,12 @@
 -- The window that was left open joins those that are named.
-use Rattle.std.proofs.Common.{subst, sym, refl}
+use Rattle.std.proofs.Common.{subst, sym, refl, ap, ◌∙◌}
 use Rattle.net_theory.specs.Net.{Net}
 use Rattle.window_theory.specs.Paths.{IsGate}
 use Rattle.sweep_core.specs.declared.trial.Tried.{Tried}
 use Rattle.sweep_core.specs.Outcomes.{IsTried}
-use Rattle.sweep_core.specs.SweptLaws.{swept_gone, swept_passed, swept_open}
+use Rattle.sweep_core.specs.Visits.{IsThis}
+use Rattle.sweep_core.specs.Swept.{Round}
+use Rattle.sweep_core.specs.SweptLaws.{swept_gone, swept_passed, swept_open, swept_late}
 use Rattle.sweep_core.proofs.round.make_visit.Goals as goal
 
 pub returns-in_ok-push-in-Open : goal.returns-in_ok-push-in-Open
@@ -27,3 +29,11 @@ returns-in-Passed g c =
     let m = g.T.Trial.net_of c.attempt.new.self in
     let tried = subst (λ (tried : Tried). IsTried s n m c.args.visit tried) c.in-Passed.is c.in_ok-attempt.ensures.tried in
     swept_passed s (g.T.Trial.settings_of c.attempt.new.self) n m c.args.round.now c.args.visit c.in_ok-attempt.ensures.asked tried
+
+pub returns-then-round : goal.returns-then-round
+returns-then-round g c =
+    let s = g.T.Trial.settings_of c.args.trial.now in
+    let n = g.T.Trial.net_of c.args.trial.now in
+    let m = g.T.Trial.net_of c.attempt.new.self in
+    let tried = subst (λ (tried : Tried). IsTried s n m c.args.visit tried) c.in-Open.is c.in_ok-attempt.ensures.tried in
+    swept_late (IsThis c.args.visit) s (g.T.Trial.settings_of c.attempt.new.self) n m c.args.round.now c.in_ok-attempt.ensures.asked tried.0 (sym (ap (λ (r : Round). r.changed) c.round.view_is) ∙ c.if-round.true)
