@@ -1,7 +1,8 @@
 //! The open variables of a probe: those that it decides, after its targets. A target is open, and
 //! where an open variable has a value, the variables that it is made of are opened too (the lazy
-//! cone of a gate). Of those without a value one of greatest rank is decided first: the last gate of
-//! them, where each ranks above those that it is made of. So a probe leaves all else to propagation.
+//! cone of a gate), unless that value is one of level 0. Of those without a value one of greatest rank
+//! is decided first: the last gate of them, where each ranks above those that it is made of. So a
+//! probe leaves all else to propagation.
 //!
 //! A probe works within bounds: the literals that it looks through on the trail and the hints of what
 //! it learns are counted, since few conflicts that are far from the targets may cost as much as many.
@@ -35,6 +36,8 @@ pub(crate) struct Scope {
     pub(crate) probe: u32,
     /// up to which trail index the open variables have opened those that they are made of
     pub(crate) scanned: usize,
+    /// how many literals of level 0 there were when the current probe began
+    pub(crate) fixed: usize,
     /// the variables that are still to be opened
     pub(crate) left: Vec<u32>,
     /// the number of trail literals that the current probe has looked through
@@ -54,6 +57,7 @@ impl Scope {
             opened: vec![in alloc; 0u32; vars as usize + 1]?,
             probe: 0,
             scanned: 0,
+            fixed: 0,
             left: Vec::new(alloc),
             seen: 0,
             hints: 0,
@@ -75,8 +79,20 @@ impl Scope {
         self.clear();
         self.probe = self.probe.wrapping_add(1);
         self.scanned = trail.len();
+        self.fixed = trail.len();
         for target in targets {
-            self.open(trail, target.variable(), cones)?;
+            self.begin_at(trail, target.variable(), cones)?;
+        }
+        Ok(())
+    }
+
+    /// Opens the variable of a target, and where it has a value those that it is made of: a target is asked about itself,
+    /// also where level 0 has its value.
+    fn begin_at(&mut self, trail: &Trail, variable: u32, cones: &Cones) -> Result<(), AllocError> {
+        self.open(trail, variable, cones)?;
+        if position_of(trail, variable) > 0 {
+            self.open(trail, entry(cones.first, variable), cones)?;
+            self.open(trail, entry(cones.second, variable), cones)?;
         }
         Ok(())
     }
@@ -94,7 +110,8 @@ impl Scope {
         self.seen / HINT_WORK >= (self.most / HINT_WORK).saturating_sub(derived)
     }
 
-    /// Opens a variable, and while one has a value those that it is made of.
+    /// Opens a variable, and while one has a value those that it is made of, but for values of level 0: these need nothing
+    /// to hold them up.
     fn open(&mut self, trail: &Trail, variable: u32, cones: &Cones) -> Result<(), AllocError> {
         self.left.push(variable)?;
         for _turn in 0..u64::MAX {
@@ -104,8 +121,12 @@ impl Scope {
             if !self.mark(next, cones) {
                 continue;
             }
-            if !has_value(trail, next) {
+            let position = position_of(trail, next);
+            if position == 0 {
                 self.hold(next);
+                continue;
+            }
+            if position as usize <= self.fixed {
                 continue;
             }
             self.left.push(entry(cones.first, next))?;
@@ -197,9 +218,13 @@ fn sign(signs: &[bool], variable: u32) -> bool {
     }
 }
 
-/// Whether a variable has a value; false for those that the trail lacks.
-fn has_value(trail: &Trail, variable: u32) -> bool {
-    variable > 0 && variable <= trail.vars() && !trail.is_free(Lit::of(variable, true))
+/// 1 + the trail position of a variable's literal; 0 where it has no value, or the trail lacks it.
+fn position_of(trail: &Trail, variable: u32) -> u32 {
+    if variable == 0 || variable > trail.vars() {
+        return 0;
+    }
+    let positive = trail.fell(Lit::of(variable, true));
+    positive.max(trail.fell(Lit::of(variable, false)))
 }
 
 /// Begins a probe with the variables of its targets.

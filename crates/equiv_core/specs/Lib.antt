@@ -5,3 +5,5 @@ pub mod MiteringLaws
 pub mod SinkLaws
 pub mod Comparing
 pub mod AlikeLaws
+pub mod Every
+pub mod EveryLaws

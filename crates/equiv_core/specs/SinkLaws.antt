@@ -13,7 +13,7 @@ use Rattle.equiv_theory.specs.Miter.{miter, variables}
 use Rattle.equiv_theory.specs.Difference.{sink_bit, AreComparable, DifferAt, DifferFirstAt}
 use Rattle.equiv_theory.specs.MiterLaws.{satisfied_differ}
 
-sig_same : (f g : ℕ → Bool) (s : Sig) (bound : ℕ) → IsSigBelow bound s → ((p : ℕ) → 1 ≤ p → p < bound → f p ≡ g p) → sig_value f s ≡ sig_value g s
+pub sig_same : (f g : ℕ → Bool) (s : Sig) (bound : ℕ) → IsSigBelow bound s → ((p : ℕ) → 1 ≤ p → p < bound → f p ≡ g p) → sig_value f s ≡ sig_value g s
 sig_same f g Zero bound below same = refl
 sig_same f g One bound below same = refl
 sig_same f g (Place p) bound below same = same p below.0 below.1

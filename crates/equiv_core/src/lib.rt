@@ -16,11 +16,13 @@
 //! ```
 //!
 //! - `src/rows.rt`, `src/mitering.rt`: the clauses. `src/interface.rt`: whether two circuits have one interface.
-//! - `src/values.rt`: where two nets differ. `src/comparing.rt`: the three answers; `src/nets.rt`: of nets, without a log.
+//! - `src/values.rt`: where two nets differ. `src/comparing.rt`: the three answers; `src/nets.rt`: of nets, without a log,
+//!   and of nets of few sources `src/every.rt`.
 #![tactic(auto)]
 
 mod answer;
 mod comparing;
+mod every;
 mod interface;
 mod mitering;
 mod nets;

@@ -1,4 +1,4 @@
-//! Whether two nets do the same: the answers to their miter without its log.
+//! Whether two nets do the same: the answers to their miter without its log, or under all assignments.
 ghost use Rattle.std.specs.Prelude.{◌≡◌, ◌≤◌, ◌*◌, ◌^◌, ℕ, Bool, true, false, IfOk};
 ghost use Rattle.sat_solve.specs.Budgets.{most_budget};
 ghost use Rattle.net_theory.specs.Net.{sink_values};
@@ -8,6 +8,7 @@ ghost use Rattle.equiv_core.specs.Limits.{AreSmall};
 
 use crate::answer::Equiv;
 use crate::comparing::compare;
+use crate::every::{agree, are_narrow};
 use crate::mitering::miter_nets;
 use net_core::Net;
 use sat_solve::Solver;
@@ -16,7 +17,7 @@ use std::alloc::{AllocError, Global};
 /// Whether the solver `S` finds two nets of as many sources and as many sinks equivalent: true only where each sink has
 /// the same value in both under every assignment. False where they differ, and where more than `budget` conflicts in
 /// vain, from 1 to 10,000,000, would be needed: so with a budget of at least twice 3 to the number of the miter's
-/// variables only where they differ. Each has at most 100,000 gates, and the first fewer than 300,000,000 sources and
+/// variables only where they differ. Nets of few sources are simulated under all assignments. Each has at most 100,000 gates, and the first fewer than 300,000,000 sources and
 /// sinks.
 pub fn equal_nets<S: Solver>(
     alloc: Global,
@@ -30,6 +31,9 @@ pub fn equal_nets<S: Solver>(
     ensures same { IfOk result (λ same. same ≡ true → (given : ℕ → Bool) → sink_values first.now given ≡ sink_values second.now given) }
     ensures decides { 2 * 3 ^ variables first.now second.now ≤ budget → IfOk result (λ same. same ≡ false → AreDifferent first.now second.now) }
 {
+    if are_narrow(first, second) {
+        return agree(alloc, first, second);
+    }
     let cnf = miter_nets(alloc, first, second)?;
     match compare::<S>(alloc, first, second, &cnf, budget)? {
         Equiv::Equal(_) => Ok(true),

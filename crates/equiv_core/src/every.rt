@@ -1,0 +1,80 @@
+//! Two nets of few sources compared under all assignments, where that takes less time than a solver: each assignment is
+//! simulated in both.
+ghost use Rattle.std.specs.Prelude.{◌≡◌, ◌≤◌, ◌++◌, ◌∷◌, [], ℕ, Bool, true, false, length, IfOk};
+ghost use Rattle.net_theory.specs.Net.{sink_values};
+ghost use Rattle.equiv_theory.specs.Difference.{AreComparable, Differ as AreDifferent};
+ghost use Rattle.equiv_core.specs.Every.{HasNoneUnder};
+
+use crate::values::first_difference;
+use net_core::Net;
+use std::alloc::{AllocError, Global};
+
+/// The most sources of nets that are compared so.
+const MOST_SOURCES: u32 = 12;
+
+/// The most values of gates that are computed: some seconds at the most.
+const MOST_VALUES: usize = 1_000_000_000;
+
+/// Whether two nets have few enough sources and gates to be compared under all assignments.
+pub(crate) fn are_narrow(first: &Net, second: &Net) -> bool {
+    let sources = first.sources();
+    if sources > MOST_SOURCES {
+        return false;
+    }
+    let gates = first.gates().len().saturating_add(second.gates().len());
+    gates.saturating_mul(1 << sources) <= MOST_VALUES
+}
+
+/// The bits with one more.
+fn with_bit(alloc: Global, bits: &[bool], bit: bool) -> Result<Vec<bool>, AllocError>
+    ensures { IfOk result (λ longer. longer.items ≡ bits.now ++ bit ∷ []) }
+{
+    let mut longer = Vec::with_capacity(alloc, bits.len().saturating_add(1))?;
+    longer.extend_from_slice(bits)?;
+    longer.push(bit)?;
+    Ok(longer)
+}
+
+/// Whether no sink of two nets differs where the sources have the bits `bits`.
+#[tactic(auto, using(crate::specs::EveryLaws::none_at_all_bits, crate::specs::EveryLaws::difference_found))]
+fn agree_at(alloc: Global, first: &Net, second: &Net, bits: &[bool]) -> Result<bool, AllocError>
+    requires comparable { AreComparable first.now second.now }
+    requires bits { length bits.now ≡ first.now.sources }
+    ensures none { IfOk result (λ agree. agree ≡ true → HasNoneUnder first.now second.now bits.now) }
+    ensures differ { IfOk result (λ agree. agree ≡ false → AreDifferent first.now second.now) }
+{
+    match first_difference(alloc, first, second, bits)? {
+        Some(_) => Ok(false),
+        None => Ok(true),
+    }
+}
+
+/// Whether no sink of two nets differs under any assignment that gives the first sources the bits `bits`.
+fn agree_under(alloc: Global, first: &Net, second: &Net, bits: &[bool]) -> Result<bool, AllocError>
+    requires comparable { AreComparable first.now second.now }
+    requires bits { length bits.now ≤ first.now.sources }
+    ensures none { IfOk result (λ agree. agree ≡ true → HasNoneUnder first.now second.now bits.now) }
+    ensures differ { IfOk result (λ agree. agree ≡ false → AreDifferent first.now second.now) }
+{
+    if bits.len() == first.sources() as usize {
+        return agree_at(alloc, first, second, bits);
+    }
+    let low = with_bit(alloc, bits, false)?;
+    if !agree_under(alloc, first, second, &low)? {
+        return Ok(false);
+    }
+    let high = with_bit(alloc, bits, true)?;
+    let agree = agree_under(alloc, first, second, &high)?;
+    Ok(agree)
+}
+
+/// Whether no sink of two nets differs under any assignment.
+pub(crate) fn agree(alloc: Global, first: &Net, second: &Net) -> Result<bool, AllocError>
+    requires comparable { AreComparable first.now second.now }
+    ensures same { IfOk result (λ agree. agree ≡ true → (given : ℕ → Bool) → sink_values first.now given ≡ sink_values second.now given) }
+    ensures differ { IfOk result (λ agree. agree ≡ false → AreDifferent first.now second.now) }
+{
+    let nothing = Vec::new(alloc);
+    let agree = agree_under(alloc, first, second, &nothing)?;
+    Ok(agree)
+}
