@@ -12,17 +12,18 @@ use std::alloc::{AllocError, Global};
 /// The most sources of nets that are compared so.
 const MOST_SOURCES: u32 = 12;
 
-/// The most values of gates that are computed: some seconds at the most.
+/// The most values of gates and sinks that are computed: some seconds at the most.
 const MOST_VALUES: usize = 1_000_000_000;
 
-/// Whether two nets have few enough sources and gates to be compared under all assignments.
+/// Whether two nets have few enough sources, gates and sinks to be compared under all assignments.
 pub(crate) fn are_narrow(first: &Net, second: &Net) -> bool {
     let sources = first.sources();
     if sources > MOST_SOURCES {
         return false;
     }
     let gates = first.gates().len().saturating_add(second.gates().len());
-    gates.saturating_mul(1 << sources) <= MOST_VALUES
+    let sinks = first.sinks().len().saturating_add(second.sinks().len());
+    gates.saturating_add(sinks).saturating_mul(1 << sources) <= MOST_VALUES
 }
 
 /// The bits with one more.

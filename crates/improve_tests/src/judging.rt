@@ -1,4 +1,4 @@
-//! Candidates for a net's place, judged by the miter of both.
+//! Candidates for a net's place, compared under all assignments, or by the miter of both.
 
 use blif_core::{Circuit, read_blif};
 use cdcl_core::Cdcl;
@@ -38,6 +38,27 @@ const SHORT: &[u8] =
 
 /// OR.
 const OTHER: &[u8] = b".inputs a b\n.outputs y\n.names a b y\n1- 1\n-1 1\n.end\n";
+
+/// XOR by three gates of 13 inputs, too many to compare under all assignments.
+const MANY: &[u8] =
+    b".inputs a b c d e f g h i j k l m\n.outputs y\n.names a b p\n10 1\n.names a b q\n01 1\n.names p q y\n1- 1\n-1 1\n.end\n";
+
+/// XOR by one gate.
+const MANY_SHORT: &[u8] =
+    b".inputs a b c d e f g h i j k l m\n.outputs y\n.names a b y\n10 1\n01 1\n.end\n";
+
+/// OR.
+const MANY_OTHER: &[u8] =
+    b".inputs a b c d e f g h i j k l m\n.outputs y\n.names a b y\n1- 1\n-1 1\n.end\n";
+
+#[test]
+fn candidates_are_judged_by_miters(rt: HostRuntime) {
+    let alloc = rt.alloc();
+    let smaller = left(alloc, MANY, MANY_SHORT, 64);
+    assert!(rt; smaller == Some(1));
+    let not_equivalent = left(alloc, MANY, MANY_OTHER, 128);
+    assert!(rt; not_equivalent == None);
+}
 
 #[test]
 fn candidates_are_judged(rt: HostRuntime) {

@@ -15,8 +15,8 @@ pub fn improved_texts_are_netlists()
     ensures written { (f : Format) (s : ImproveSettings) (bytes text report : List ℕ) → IsReported f s bytes text report → IsNetlist f text }
 {}
 
-/// With a cap of at most 5 no window is left undecided, whatever the budget: where it is settled, no window up to the cap
-/// has a shorter chain, and the report has two lines.
+/// With a cap of at most 5 no window is left undecided, whatever the budget: where it is settled, no listed window up to the
+/// cap has a shorter chain for what is asked of it, and the report has two lines and nothing more.
 pub fn small_windows_are_decided()
     ensures none_named { (s : ImproveSettings) (n m : Net) (settled : Bool) (undecided : List Undecided) → s.cap ≤ 5 → Leaves s n m settled undecided → undecided ≡ [] }
     ensures settled { (s : ImproveSettings) (n m : Net) (undecided : List Undecided) → s.cap ≤ 5 → Leaves s n m true undecided → IsSettled s m [] }

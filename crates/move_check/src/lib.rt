@@ -1,9 +1,9 @@
 //! A net that some move has made of another one, judged: may it take the other's place?
 //!
-//! A move that makes a net smaller (sharing, resubstitution, a walk over windows) needs no proof of its own: what it
-//! answers is compared with the net that it began with, by the miter of both (`equiv_core`), as a designer compares
-//! what a synthesis tool has written. So the moves can be any heuristic, and what is believed is the solver's
-//! refutation alone (translation validation: Pnueli, Siegel and Singerman, 1998).
+//! A move that makes a net smaller (sharing, resubstitution) needs no proof of its own: what it answers is compared with
+//! the net that it began with (`equiv_core`), under all assignments where it has few sources, else by the miter of both, as
+//! a designer compares what a synthesis tool has written. So the moves can be any heuristic, and what is believed is that
+//! comparison alone (translation validation: Pnueli, Siegel and Singerman, 1998).
 //!
 //! The theorem is that of `judged`: what it answers can stand for the net, without dead gates, with no more gates and
 //! with operators of the basis or of the net.

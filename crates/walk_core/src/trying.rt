@@ -26,7 +26,7 @@ use xag_core::Random;
 pub(crate) enum Wanted {
     /// One of fewer steps than the window has gates.
     Fewer,
-    /// One of at most as many, after so many others.
+    /// One of at most as many, after this number of others.
     Level(u32),
 }
 

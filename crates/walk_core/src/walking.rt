@@ -1,6 +1,7 @@
 //! Walks: windows tried at random places, one after the other.
 ghost use Rattle.std.specs.Prelude.{◌≡◌, ◌≤◌, ◌<◌, length, IfOk, IfSome};
 ghost use Rattle.op_basis.specs.Basis.{members};
+ghost use Rattle.net_theory.specs.Answers.{IsPruned};
 ghost use Rattle.window_core.specs.Readers.{AreReaders};
 ghost use Rattle.sweep_core.specs.Outcomes.{Leads};
 
@@ -11,13 +12,13 @@ use std::alloc::{AllocError, Global};
 use window_core::{Readers, readers_of};
 use xag_core::Random;
 
-/// A net of more gates isn't walked over: a chain in a window's place costs a pass over the net.
+/// A net of more gates isn't walked over: each try costs a pass over the net, by which its set is found to be convex.
 const MOST_WALKED: usize = 10_000;
 
 /// How many windows are tried in a small net.
 const LEAST_TRIES: u32 = 64;
 
-/// How many gates times tries of a level walk there are at most.
+/// How many gates times tries of a walk there are at most, but for the strict walk that comes first.
 const MOST_PASSED: u32 = 10_000_000;
 
 /// How many chains are passed over at most.
@@ -46,9 +47,11 @@ fn most_of(pace: Pace) -> u32 {
 /// How many windows are tried: one for each gate, in a level walk two, and some in a small net.
 fn tries_of(net: &Net, pace: Pace) -> u32 {
     let gates = net.gates().len() as u32;
+    let most = MOST_PASSED / gates.max(1);
     match pace {
-        Pace::Level => (gates.saturating_mul(2).max(LEAST_TRIES)).min(MOST_PASSED / gates.max(1)),
-        _ => gates.max(LEAST_TRIES),
+        Pace::First => gates.max(LEAST_TRIES),
+        Pace::Level => gates.saturating_mul(2).max(LEAST_TRIES).min(most),
+        Pace::After => gates.max(LEAST_TRIES).min(most),
     }
 }
 
@@ -174,8 +177,8 @@ fn is_walked(net: &Net, cap: u32) -> bool {
     cap >= 2 && net.gates().len() <= MOST_WALKED
 }
 
-/// The net after a strict walk, and then `rounds` rounds of a level walk and a strict one, if it has fewer gates. A window
-/// has at most as many gates as `settings.cap` allows.
+/// The net without its dead gates, after a strict walk and then `rounds` rounds of a level walk and a strict one, if it has
+/// fewer gates: it can stand in the net's place.
 #[tactic(auto, using(crate::specs::WalkingLaws::walking))]
 pub fn walked(
     alloc: Global,
@@ -183,6 +186,7 @@ pub fn walked(
     settings: &ImproveSettings,
     rounds: u32,
 ) -> Result<Option<Net>, AllocError>
+    ensures pruned { IfOk result (λ found. IfSome found (IsPruned net.now)) }
     ensures leads { IfOk result (λ found. IfSome found (Leads (members settings.now.basis) net.now)) }
     ensures fewer { IfOk result (λ found. IfSome found (λ new. length new.gates < length net.now.gates)) }
 {

@@ -3,6 +3,10 @@ use Rattle.op_basis.specs.Basis.{members}
 use Rattle.walk_core.specs.WalkingLaws.{dropped_leads, walk_goes_on}
 use Rattle.walk_core.proofs.walking.walked.Goals as goal
 
+-- what the net without its dead gates can stand for, what is left of it can
+pub returns-clause-pruned : goal.returns-clause-pruned
+returns-clause-pruned c = c.in_ok-left.ensures.leads.pruned c.args.net.now c.in_ok-own.ensures.pruned
+
 pub returns-clause-leads : goal.returns-clause-leads
 returns-clause-leads c =
     let basis : Basis = members c.args.settings.now.basis in
