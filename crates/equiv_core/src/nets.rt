@@ -17,8 +17,8 @@ use std::alloc::{AllocError, Global};
 /// Whether the solver `S` finds two nets of as many sources and as many sinks equivalent: true only where each sink has
 /// the same value in both under every assignment. False where they differ, and where more than `budget` conflicts in
 /// vain, from 1 to 10,000,000, would be needed: so with a budget of at least twice 3 to the number of the miter's
-/// variables only where they differ. Nets of few sources are simulated under all assignments. Each has at most 100,000 gates, and the first fewer than 300,000,000 sources and
-/// sinks.
+/// variables only where they differ. Nets of few sources are simulated under all assignments. Each has at most
+/// 100,000 gates, and the first fewer than 300,000,000 sources and sinks.
 pub fn equal_nets<S: Solver>(
     alloc: Global,
     first: &Net,

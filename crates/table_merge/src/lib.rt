@@ -3,7 +3,7 @@
 //!
 //! It stands on `lane_sim` for the words, and on `net_core` for nets. The whole net is simulated as one cone, so that each
 //! place has a row of words, its truth table over the sources. A constant or the first place with a row stands for each
-//! other place with it. One pass over the gates in topological order then maps what a signal stands for to that signal,
+//! other place with it; where rows that differ have one hash, a place may stay that another could stand for. One pass over the gates in topological order then maps what a signal stands for to that signal,
 //! and keeps the other gates, with their operands mapped.
 //!
 //! - `src/whole.rt`: the cone of a whole net. `src/rows.rt`: rows compared and hashed.

@@ -90,7 +90,8 @@ fn merge_in(
 }
 
 /// The net after functional hashing: of gates with one value under every assignment the first is kept, and the fanouts of
-/// the others read it instead, or a source or constant with that value. A net of more than 12 sources stays as it is.
+/// the others read it instead, or a source or constant with that value, but for clashes of hashes, by which two may stay. A
+/// net of more than 12 sources stays as it is.
 ///
 /// It answers what the net answers, with no more gates, each of which has the operator of a gate of the net.
 pub fn merge_equal(alloc: Global, net: &Net) -> Result<Net, AllocError>
