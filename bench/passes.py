@@ -6,8 +6,8 @@ The program tells no pass apart, so `improve` runs by rising options, and a colu
     dead     --cap 0: dead gates, and what reading makes of constants and copies
     moves    --cap 1: sharing, resubstitution and three rounds of both (where there are 6 to 100,000 gates; the rounds up
              to 1,000), with windows of one gate
-    two ..   --cap 2, 3, 4 and 5: structural hashing, listed windows of at most so many gates, and walks over convex sets
-    five     of as many (walks up to 10,000 gates; three rounds of them up to 1,000); these can't be told apart
+    two ..   --cap 2, 3, 4 and 5: structural and functional hashing, and listed windows and walks over convex sets of at most
+    five     2, 3, 4 and 5 gates (walks up to 10,000 gates; three rounds of them up to 1,000); these can't be told apart
     effort5  --effort 5 and 20: as many rounds of moves and of walks
     effort20
 

@@ -163,7 +163,7 @@ exact resynthesis of windows of up to --cap gates. Its report goes to standard e
                      constant as none
   undecided G [P] C  the search of the window of C gates at G (and its partner P) spent its budget; its
                      certificate follows
-  settled            no other window up to the cap has a smaller implementation
+  settled            no other listed window up to the cap has a smaller implementation
   stopped            the rounds came to their end first
 
 Nothing is written before the end: the program can't be asked how far it is. A smaller --cap ends sooner.
