@@ -291,7 +291,7 @@ const COMPARED: &[(&[u8], &[u8], u32, Wanted)] = &[
     (
         b".inputs a b c d e f g h i j k l m\n.outputs x y\n.names a b x\n11 1\n.names a b c d e f g h i j k l m y\n1111111111111 1\n.end\n",
         b".inputs a b c d e f g h i j k l m\n.outputs x y\n.names a b x\n11 1\n.names y\n.end\n",
-        1,
+        2,
         Wanted::Differ(
             2,
             &[
