@@ -16,8 +16,9 @@ use Rattle.clause_db.specs.Stored.{Stored, live_in, IsStored}
 use Rattle.clause_db.specs.StoredLaws.{live_inside}
 use Rattle.clause_db.specs.Deleting.{IsDeleted}
 use Rattle.clause_db.specs.DeletingLaws.{live_deleted, still_live, kept_live}
-use Rattle.cdcl_core.specs.Searching.{IsLog, AreNew}
+use Rattle.cdcl_core.specs.Searching.{IsStateOf, IsLog, AreNew}
 use Rattle.cdcl_core.specs.Forgetting.{with_gone}
+use Rattle.cdcl_core.proofs.Formulas.{by_id_inside}
 use Rattle.cdcl_core.proofs.Counts.{AreFrom, count_dropped, count_none}
 
 front_all : (P : Line → Type 0) (ls : List Line) (l : Line) → All P (ls ++ l ∷ []) → All P ls
@@ -58,20 +59,6 @@ none_now : (o : Option (List ℤ)) → ((c : List ℤ) → o ≡ Some c → ⊥)
 none_now None none = refl
 none_now (Some c) none = absurd (none c refl)
 
-get_inside : (xs : List (List ℤ)) (k : ℕ) (x : List ℤ) → slice_get xs k ≡ Some x → k < length xs
-get_inside [] k x is = absurd (cc)
-get_inside (y ∷ ys) zero x is = omega arith
-get_inside (y ∷ ys) (suc k) x is = (let h : k < length ys = get_inside ys k x is in omega arith)
-
-by_id_inside : (clauses : List (List ℤ)) (id : ℕ) (clause : List ℤ) → by_id clauses id ≡ Some clause → id ≤ length clauses
-by_id_inside clauses zero clause is = omega arith
-by_id_inside clauses (suc k) clause is =
-    let some : (suc k == 0) ≡ false = ne_eqb (suc k) 0 (λ e. omega arith) in
-    let index : suc k - 1 ≡ k = omega arith in
-    let entry : slice_get clauses k ≡ Some clause = rw (some, index) at is in
-    let low : k < length clauses = get_inside clauses k clause entry in
-    omega arith
-
 additions_delete : (lines : List Line) (own : ℕ) (ids : List ℕ) → additions (lines ++ Delete own ids ∷ []) ≡ additions lines
 additions_delete lines own ids = ap length (added_ids-delete lines own ids)
 
@@ -90,14 +77,13 @@ log_nothing f a lines deleted least log some few = record {
   vars = log.vars;
   holds = EachLine-push IsStep (start f) lines line log.holds (record {
     is_line = record { own_id = (some, omega (arith, few)); deleted_ids = All-nil IsId };
-    holds = record { all_live = All-nil (λ id. IsSome ((after (start f) lines).live id)); differ = λ i j d less (low : j < 0). absurd (omega arith) };
+    holds = record { all_live = All-nil (λ id. IsSome ((after (start f) lines).live id)); differ = λ i j d less (low : j < 0). absurd (omega (arith, low)) };
   });
-  state = after-push (start f) lines line ∙ next_nothing (after (start f) lines) (length a.clauses) ∙ log.state;
-  formula = log.formula;
-  count = (let count : length a.clauses ≡ length f.clauses + additions lines = log.count in let same : additions (lines ++ line ∷ []) ≡ additions lines = additions_delete lines (length a.clauses) [] in omega arith);
+  state = subst (λ (st : State). IsStateOf f a st) (sym same_state) log.state;
+  count = (let count : length a.clauses ≡ length f.clauses + additions lines = log.count in let same : additions (lines ++ line ∷ []) ≡ additions lines = additions_delete lines (length a.clauses) [] in omega (arith, count, same));
   spares = All-push (SparesFormula f) lines line log.spares (All-nil (λ k. length f.clauses < k));
   ids = ids_delete (length f.clauses + 1) lines (length a.clauses) 0 [] log.ids;
-  gone = subst (λ (xs : List ℕ). count_by (λ id. is_some (live_in a id)) xs + deleted ≡ length xs) (sym (added_ids-delete lines (length a.clauses) [])) log.gone;
+  gone = subst (λ (st : State). live_additions st (lines ++ line ∷ []) + deleted ≡ additions (lines ++ line ∷ [])) (sym same_state) (subst (λ (xs : List ℕ). count_by (λ id. is_some ((after (start f) lines).live id)) xs + deleted ≡ length xs) (sym (added_ids-delete lines (length a.clauses) [])) log.gone);
   half = ⊎_elim
       (λ (low : 2 * deleted ≤ least). inl low)
       (λ (half : 2 * deleted ≤ additions lines). inr (let same : additions (lines ++ line ∷ []) ≡ additions lines = additions_delete lines (length a.clauses) [] in omega (arith, half, same)))
@@ -107,17 +93,44 @@ log_nothing f a lines deleted least log some few = record {
     line : Line
     line = Delete (length a.clauses) []
 
+    same_state : after (start f) (lines ++ line ∷ []) ≡ after (start f) lines
+    same_state = after-push (start f) lines line ∙ next_nothing (after (start f) lines) (length a.clauses)
+
+-- A state without one id more.
+state_lost : (f : Formula) (a b : Stored) (mid : State) (own : ℕ) (ids : List ℕ) (id : ℕ) → IsStateOf f a (next mid (Delete own ids)) → 0 < id → length f.clauses < id → IsDeleted id a b → IsStateOf f b (next mid (Delete own (ids ++ id ∷ [])))
+state_lost f a b mid own ids id state some learnt gone = record {
+  vars = state.vars;
+  greatest = state.greatest ∙ sym (ap length gone.clauses ∙ length-set a.clauses (id - 1) None);
+  inside = λ k clause live. (let before : (live_in a k ≡ Some clause) × (k ≡ id → ⊥) = still_live id a b k clause gone some live in older k clause before.1 (state.inside k clause before.0));
+  formula = λ k clause here. older k clause (λ e. (let low : k ≤ length f.clauses = by_id_inside f.clauses k clause here in omega (arith, low, e, learnt))) (state.formula k clause here);
+  only = λ k clause live.
+      let out : (is_listed (id ∷ []) k ≡ false) × (without mid.live ids k ≡ Some clause) = kept_out (is_listed (id ∷ []) k) (without mid.live ids k) clause (sym (without_more mid.live ids id k) ∙ live) in
+      let apart : k ≡ id → ⊥ = not_listed id k out.0 in
+      ⊎_elim
+      (λ (here : by_id f.clauses k ≡ Some clause). inl here)
+      (λ (kept : live_in a k ≡ Some clause). inr (kept_live id a b k clause gone some apart kept))
+      (state.only k clause out.1);
+}
+  where
+    not_listed : (id k : ℕ) → is_listed (id ∷ []) k ≡ false → k ≡ id → ⊥
+    not_listed id k out e = (let other : (k == id) ≡ false = (both_false (k == id) (is_listed [] k) out).0 in let same : (k == id) ≡ true = eq-eqb k id e in absurd (cc))
+
+    listed_out : (id k : ℕ) → (k ≡ id → ⊥) → is_listed (id ∷ []) k ≡ false
+    listed_out id k apart = rw (ne_eqb k id apart) refl
+
+    older : (k : ℕ) (clause : List ℤ) → (k ≡ id → ⊥) → without mid.live ids k ≡ Some clause → without mid.live (ids ++ id ∷ []) k ≡ Some clause
+    older k clause apart here = without_more mid.live ids id k ∙ rw (listed_out id k apart) here
+
 -- The last line deletes one id more.
 log_extended : (f : Formula) (a b : Stored) (lines : List Line) (own : ℕ) (ids : List ℕ) (id : ℕ) (clause : List ℤ) (deleted least : ℕ) → IsLog f a (lines ++ Delete own ids ∷ []) deleted least → IsStored a → live_in a id ≡ Some clause → length f.clauses < id → IsDeleted id a b → (2 * (deleted + 1) ≤ least) ⊎ (2 * (deleted + 1) + length f.clauses ≤ length a.clauses) → IsLog f b (lines ++ Delete own (ids ++ id ∷ []) ∷ []) (deleted + 1) least
 log_extended f a b lines own ids id clause deleted least log stored is learnt gone room = record {
   vars = gone.vars ∙ log.vars;
   holds = EachLine-push IsStep (start f) lines line front step;
-  state = after-push (start f) lines line ∙ state_now;
-  formula = λ k c here. kept_live id a b k c gone some (λ e. (let inside : k ≤ length f.clauses = by_id_inside f.clauses k c here in omega (arith, inside, e, learnt))) (log.formula k c here);
+  state = subst (λ (st : State). IsStateOf f b st) (sym (after-push (start f) lines line)) (state_lost f a b mid own ids id before some learnt gone);
   count = (let count : length a.clauses ≡ length f.clauses + additions (lines ++ Delete own ids ∷ []) = log.count in let old : additions (lines ++ Delete own ids ∷ []) ≡ additions lines = additions_delete lines own ids in let now : additions (lines ++ line ∷ []) ≡ additions lines = additions_delete lines own (ids ++ id ∷ []) in omega (arith, count, old, now, long));
   spares = All-push (SparesFormula f) lines line (front_all (SparesFormula f) lines (Delete own ids) log.spares) (All-push (λ k. length f.clauses < k) ids id (last_all (SparesFormula f) lines (Delete own ids) log.spares) learnt);
   ids = ids_delete (length f.clauses + 1) lines own 0 (ids ++ id ∷ []) (ids_front (length f.clauses + 1) lines own ids log.ids);
-  gone = (let before : count_by p (added_ids lines) + deleted ≡ additions lines = subst (λ (xs : List ℕ). count_by p xs + deleted ≡ length xs) (added_ids-delete lines own ids) log.gone in subst (λ (xs : List ℕ). count_by q xs + (deleted + 1) ≡ length xs) (sym (added_ids-delete lines own (ids ++ id ∷ []))) (omega (arith, before, fewer)));
+  gone = gone_now;
   half = ⊎_elim
       (λ (low : 2 * (deleted + 1) ≤ least). inl low)
       (λ (half : 2 * (deleted + 1) + length f.clauses ≤ length a.clauses). inr (let count : length a.clauses ≡ length f.clauses + additions (lines ++ Delete own ids ∷ []) = log.count in let old : additions (lines ++ Delete own ids ∷ []) ≡ additions lines = additions_delete lines own ids in let now : additions (lines ++ line ∷ []) ≡ additions lines = additions_delete lines own (ids ++ id ∷ []) in omega (arith, count, old, now, half)))
@@ -131,10 +144,10 @@ log_extended f a b lines own ids id clause deleted least log stored is learnt go
     mid = after (start f) lines
 
     p : ℕ → Bool
-    p k = is_some (live_in a k)
+    p k = is_some (without mid.live ids k)
 
     q : ℕ → Bool
-    q k = is_some (live_in b k)
+    q k = is_some (without mid.live (ids ++ id ∷ []) k)
 
     inside : (0 < id) × (id ≤ length a.clauses)
     inside = live_inside a id clause is
@@ -145,11 +158,8 @@ log_extended f a b lines own ids id clause deleted least log stored is learnt go
     long : length b.clauses ≡ length a.clauses
     long = ap length gone.clauses ∙ length-set a.clauses (id - 1) None
 
-    before : next mid (Delete own ids) ≡ record { live = live_in a; vars = f.vars; greatest = length a.clauses }
-    before = sym (after-push (start f) lines (Delete own ids)) ∙ log.state
-
-    live_a : without mid.live ids ≡ live_in a
-    live_a = ap (λ (st : State). st.live) before
+    before : IsStateOf f a (next mid (Delete own ids))
+    before = subst (λ (st : State). IsStateOf f a st) (after-push (start f) lines (Delete own ids)) log.state
 
     front : EachLine IsStep (start f) lines
     front = EachLine-front IsStep (start f) lines (Delete own ids) log.holds
@@ -157,14 +167,17 @@ log_extended f a b lines own ids id clause deleted least log stored is learnt go
     last : IsStep mid (Delete own ids)
     last = EachLine-last IsStep (start f) lines (Delete own ids) log.holds
 
+    there : without mid.live ids id ≡ Some clause
+    there = before.inside id clause is
+
     out : (is_listed ids id ≡ false) × (mid.live id ≡ Some clause)
-    out = kept_out (is_listed ids id) (mid.live id) clause (ap (λ (g : ℕ → Option (List ℤ)). g id) live_a ∙ is)
+    out = kept_out (is_listed ids id) (mid.live id) clause there
 
     step : IsStep mid line
     step = record {
       is_line = record {
         own_id = last.is_line.own_id;
-        deleted_ids = All-push IsId ids id last.is_line.deleted_ids (some, (let high : id ≤ length a.clauses = inside.1 in let few : length a.clauses ≤ 4000000000 = stored.few in omega arith));
+        deleted_ids = All-push IsId ids id last.is_line.deleted_ids (some, (let high : id ≤ length a.clauses = inside.1 in let few : length a.clauses ≤ 4000000000 = stored.few in omega (arith, high, few)));
       };
       holds = record {
         all_live = All-push (λ k. IsSome (mid.live k)) ids id last.holds.all_live (some_is (mid.live id) clause out.1);
@@ -172,32 +185,32 @@ log_extended f a b lines own ids id clause deleted least log stored is learnt go
       };
     }
 
-    live_at_b : (k : ℕ) → without mid.live (ids ++ id ∷ []) k ≡ live_in b k
-    live_at_b k = without_more mid.live ids id k ∙ ap (λ (g : ℕ → Option (List ℤ)). without g (id ∷ []) k) live_a ∙ ap (λ (g : ℕ → Option (List ℤ)). g k) (sym (live_deleted id a b gone some))
-
-    live_b : without mid.live (ids ++ id ∷ []) ≡ live_in b
-    live_b = λ i k. live_at_b k i
-
-    vars_mid : mid.vars ≡ f.vars
-    vars_mid = ap (λ (st : State). st.vars) before
-
-    greatest_mid : mid.greatest ≡ length b.clauses
-    greatest_mid = ap (λ (st : State). st.greatest) before ∙ sym long
-
-    state_now : next mid line ≡ record { live = live_in b; vars = f.vars; greatest = length b.clauses }
-    state_now = rw (live_b, vars_mid, greatest_mid) refl
+    other : (y : ℕ) → (y ≡ id → ⊥) → without (without mid.live ids) (id ∷ []) y ≡ without mid.live ids y
+    other y apart = rw (ne_eqb y id apart) refl
 
     others : (y : ℕ) → (y ≡ id → ⊥) → q y ≡ p y
-    others y apart = ap (λ (o : Option (List ℤ)). is_some o) (ap (λ (g : ℕ → Option (List ℤ)). g y) (live_deleted id a b gone some) ∙ (let e : (y == id) ≡ false = ne_eqb y id apart in rw e refl))
+    others y apart = ap (λ (o : Option (List ℤ)). is_some o) (without_more mid.live ids id y ∙ other y apart)
+
+    none_left : without (without mid.live ids) (id ∷ []) id ≡ None
+    none_left = rw (eq-eqb id id refl) refl
+
+    gone_one : q id ≡ false
+    gone_one = ap (λ (o : Option (List ℤ)). is_some o) (without_more mid.live ids id id ∙ none_left)
 
     fewer : count_by q (added_ids lines) + 1 ≡ count_by p (added_ids lines)
     fewer = count_dropped p q (length f.clauses + 1) id (added_ids lines)
         (ids_front (length f.clauses + 1) lines own ids log.ids)
         (omega (arith, learnt))
-        (let high : id ≤ length a.clauses = inside.1 in let count : length a.clauses ≡ length f.clauses + additions (lines ++ Delete own ids ∷ []) = log.count in let old : additions (lines ++ Delete own ids ∷ []) ≡ additions lines = additions_delete lines own ids in omega arith)
-        (ap (λ (o : Option (List ℤ)). is_some o) is)
-        (none_now (live_in b id) (λ c live. (still_live id a b id c gone some live).1 refl))
+        (let high : id ≤ length a.clauses = inside.1 in let count : length a.clauses ≡ length f.clauses + additions (lines ++ Delete own ids ∷ []) = log.count in let old : additions (lines ++ Delete own ids ∷ []) ≡ additions lines = additions_delete lines own ids in omega (arith, high, count, old))
+        (ap (λ (o : Option (List ℤ)). is_some o) there)
+        gone_one
         others
+
+    gone_before : count_by p (added_ids lines) + deleted ≡ additions lines
+    gone_before = subst (λ (xs : List ℕ). count_by p xs + deleted ≡ length xs) (added_ids-delete lines own ids) (subst (λ (st : State). live_additions st (lines ++ Delete own ids ∷ []) + deleted ≡ additions (lines ++ Delete own ids ∷ [])) (after-push (start f) lines (Delete own ids)) log.gone)
+
+    gone_now : live_additions (after (start f) (lines ++ line ∷ [])) (lines ++ line ∷ []) + (deleted + 1) ≡ additions (lines ++ line ∷ [])
+    gone_now = subst (λ (st : State). live_additions st (lines ++ line ∷ []) + (deleted + 1) ≡ additions (lines ++ line ∷ [])) (sym (after-push (start f) lines line)) (subst (λ (xs : List ℕ). count_by q xs + (deleted + 1) ≡ length xs) (sym (added_ids-delete lines own (ids ++ id ∷ []))) (omega (arith, gone_before, fewer)))
 
 -- One clause more is deleted.
 pub log_lost : (f : Formula) (a b : Stored) (lines : List Line) (ids : List ℕ) (id : ℕ) (clause : List ℤ) (deleted least : ℕ) → IsLog f a (with_gone lines (length a.clauses) ids) deleted least → IsStored a → live_in a id ≡ Some clause → length f.clauses < id → IsDeleted id a b → (2 * (deleted + 1) ≤ least) ⊎ (2 * (deleted + 1) + length f.clauses ≤ length a.clauses) → IsLog f b (with_gone lines (length b.clauses) (ids ++ id ∷ [])) (deleted + 1) least
@@ -231,7 +244,7 @@ reaches_gone f lines own (x ∷ xs) has = ⊎_elim (λ (there : Contains f.claus
 
 -- what is live, and what is gone
 live_are : (f : Formula) (s : Stored) (lines : List Line) (deleted least : ℕ) → IsLog f s lines deleted least → live_additions (after (start f) lines) lines + deleted ≡ additions lines
-live_are f s lines deleted least log = subst (λ (st : State). live_additions st lines + deleted ≡ additions lines) (sym log.state) log.gone
+live_are f s lines deleted least log = log.gone
 
 -- A log with at least `least` additions has at least half of them live.
 pub log_kept : (f : Formula) (s : Stored) (lines : List Line) (deleted least : ℕ) → IsLog f s lines deleted least → least ≤ additions lines → IsKept f lines
@@ -258,11 +271,17 @@ log_thinned f s lines deleted least log thin = record {
 -- Where no addition is live, all are deleted.
 pub log_all_gone : (f : Formula) (s : Stored) (lines : List Line) (deleted least : ℕ) → IsLog f s lines deleted least → ((id : ℕ) (clause : List ℤ) → length f.clauses < id → live_in s id ≡ Some clause → ⊥) → length s.clauses ≡ length f.clauses + deleted
 log_all_gone f s lines deleted least log none =
-    let dead : All (λ id. is_some (live_in s id) ≡ false) (added_ids lines) = λ k d low. none_now (live_in s (slice_index_or (added_ids lines) k d)) (λ c live. none (slice_index_or (added_ids lines) k d) c (let at : slice_index_or (added_ids lines) k d ≡ length f.clauses + 1 + k = log.ids k d low in omega (arith, at)) live) in
-    let zero_ : count_by (λ id. is_some (live_in s id)) (added_ids lines) ≡ 0 = count_none (λ id. is_some (live_in s id)) (added_ids lines) dead in
-    let gone : count_by (λ id. is_some (live_in s id)) (added_ids lines) + deleted ≡ additions lines = log.gone in
+    let st : State = after (start f) lines in
+    let dead : All (λ id. is_some (st.live id) ≡ false) (added_ids lines) = λ k d low. none_now (st.live (slice_index_or (added_ids lines) k d)) (λ c live.
+        let at : slice_index_or (added_ids lines) k d ≡ length f.clauses + 1 + k = log.ids k d low in
+        ⊎_elim
+        (λ (here : by_id f.clauses (slice_index_or (added_ids lines) k d) ≡ Some c). (let inside : slice_index_or (added_ids lines) k d ≤ length f.clauses = by_id_inside f.clauses (slice_index_or (added_ids lines) k d) c here in omega (arith, at, inside)))
+        (λ (kept : live_in s (slice_index_or (added_ids lines) k d) ≡ Some c). none (slice_index_or (added_ids lines) k d) c (omega (arith, at)) kept)
+        (log.state.only (slice_index_or (added_ids lines) k d) c live)) in
+    let zero_ : count_by (λ id. is_some (st.live id)) (added_ids lines) ≡ 0 = count_none (λ id. is_some (st.live id)) (added_ids lines) dead in
+    let gone : count_by (λ id. is_some (st.live id)) (added_ids lines) + deleted ≡ additions lines = log.gone in
     let count : length s.clauses ≡ length f.clauses + additions lines = log.count in
-    omega arith
+    omega (arith, zero_, gone, count)
 
 -- a line that deletes some
 pub gone_some : (lines : List Line) (own : ℕ) (ids : List ℕ) → (length ids == 0) ≡ false → with_gone lines own ids ≡ lines ++ Delete own ids ∷ []

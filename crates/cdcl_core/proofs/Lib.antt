@@ -20,3 +20,4 @@ pub mod Losing
 pub mod Writing
 pub mod Closing
 pub mod UnderWay
+pub mod Formulas

@@ -13,7 +13,7 @@ use Rattle.clause_db.specs.StoredLaws.{live_inside}
 use Rattle.clause_db.specs.Deleting.{IsDeleted}
 use Rattle.clause_db.specs.DeletingLaws.{still_live, kept_live, still_watches}
 use Rattle.cdcl_core.specs.declared.search.Search.{Search}
-use Rattle.cdcl_core.specs.Searching.{IsSearching, IsVisited}
+use Rattle.cdcl_core.specs.Searching.{IsSearching, IsVisited, IsIrredundant, IsCovered, AreCovered}
 use Rattle.cdcl_core.specs.Forgetting.{IsPending, IsNoReason, IsImplied, NoneImplied, HasHalf, HasLost, HasForgotten}
 use Rattle.cdcl_core.proofs.Gone.{log_lost}
 
@@ -100,3 +100,17 @@ forgotten_lost a b c id some forgotten lost = record {
   clauses = ap length lost.deleted.clauses ∙ length-set b.clauses.clauses (id - 1) None ∙ forgotten.clauses;
   fewer = λ k clause is. forgotten.fewer k clause (still_live id b.clauses c.clauses k clause lost.deleted some is).0;
 }
+
+-- The clauses of the formula are still covered: a clause that covers one isn't forgotten.
+pub covered_lost : (f : Formula) (s t : Search) (id : ℕ) → 0 < id → (IsIrredundant s id → ⊥) → HasLost id s t → AreCovered f s → AreCovered f t
+covered_lost f s t id some redundant lost covered k clause here =
+    let cover : IsCovered s clause = covered k clause here in
+    let given : t.given ≡ s.given = ap (λ (x : Search). x.given) lost.rest in
+    let shorter : t.shorter ≡ s.shorter = ap (λ (x : Search). x.shorter) lost.rest in
+    record {
+      by = cover.by;
+      cover = cover.cover;
+      is_live = kept_live id s.clauses t.clauses cover.by cover.cover lost.deleted some (λ e. redundant (subst (λ (n : ℕ). IsIrredundant s n) e cover.stays)) cover.is_live;
+      inside = cover.inside;
+      stays = rw (given, shorter) cover.stays;
+    }

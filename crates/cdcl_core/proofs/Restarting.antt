@@ -12,6 +12,7 @@ use Rattle.cdcl_core.specs.Levels.{IsFirstStart}
 use Rattle.cdcl_core.specs.Guarding.{IsGuarded}
 use Rattle.cdcl_core.specs.Searching.{IsSearching, IsVisited, IsLogged, HasJumped, HasRestarted}
 use Rattle.cdcl_core.proofs.Guards.{guarded_back}
+use Rattle.cdcl_core.proofs.Logging.{covered_same}
 
 -- no level begins before the first one
 first_least : (live : ℕ → Option (List ℤ)) (t : Trailed) (starts : List ℕ) (first p : ℕ) → IsLayered live t starts → IsFirstStart starts first → Contains starts p → first ≤ p
@@ -77,6 +78,7 @@ logged_restarted f b c logged restarted = record {
   log = rw (restarted.clauses, restarted.lines, restarted.deleted, restarted.least) logged.log;
   new = rw restarted.lines logged.new;
   given = restarted.given ∙ logged.given;
+  covered = covered_same f b c logged.covered (ap (λ (x : Stored). x.clauses) restarted.clauses) restarted.given restarted.shorter;
 }
 
 -- A backjump followed by a restart is a backjump.

@@ -8,7 +8,7 @@ use Rattle.clause_db.specs.Stored.{Stored, live_at, live_in, IsStored}
 use Rattle.sat_theory.specs.Formula.{Formula}
 use Rattle.sat_theory.specs.Pigeonholes.{different_below}
 use Rattle.cdcl_core.specs.Visiting.{IsRest}
-use Rattle.cdcl_core.proofs.Logging.{log_same}
+use Rattle.cdcl_core.proofs.Logging.{log_same, covered_same}
 use Rattle.conflict_core.specs.Learning.{IsReady}
 use Rattle.cdcl_core.specs.declared.search.Search.{Search}
 use Rattle.cdcl_core.specs.Searching.{IsSearching, IsVisited, IsLogged, HasPropagated, HasSettled, HasJumped, HasDecided}
@@ -76,6 +76,7 @@ logged_propagated f b c logged propagated = record {
   log = rw (propagated.lines, propagated.deleted, propagated.least) (log_same f b.clauses c.clauses b.lines b.deleted b.least propagated.rest.clauses propagated.rest.vars logged.log);
   new = rw propagated.lines logged.new;
   given = propagated.given ∙ logged.given;
+  covered = covered_same f b c logged.covered propagated.rest.clauses propagated.given propagated.shorter;
 }
 
 pub settled_jumped : (a b c : Search) → HasSettled a b → HasJumped b c → HasSettled a c
@@ -153,6 +154,7 @@ logged_decided f b c logged decided = record {
   log = rw (decided.clauses, decided.lines, decided.deleted, decided.least) logged.log;
   new = rw decided.lines logged.new;
   given = decided.given ∙ logged.given;
+  covered = covered_same f b c logged.covered (ap (λ (x : Stored). x.clauses) decided.clauses) decided.given decided.shorter;
 }
 
 -- Each decision makes progress.

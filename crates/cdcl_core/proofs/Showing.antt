@@ -1,18 +1,19 @@
 -- What the endings of a search show of the formula.
-use Rattle.std.proofs.Common.{◌≡◌, ℕ, zero, suc, ◌+◌, ◌-◌, ◌*◌, ◌<◌, ◌≤◌, ◌==◌, ℤ, Bool, false, List, [], ◌∷◌, length, slice_index_or, Contains, All, Any, Some, slice_get, subst, sym, ap, arith, inl, refl}
+use Rattle.std.proofs.Common.{◌≡◌, ℕ, zero, suc, ◌+◌, ◌-◌, ◌*◌, ◌<◌, ◌≤◌, ◌==◌, ℤ, Bool, true, false, List, [], ◌∷◌, length, slice_index_or, Contains, All, Any, Some, slice_get, subst, sym, ap, ◌∙◌, arith, inl, refl}
 use Rattle.std.proofs.Math.Logic.{⊎_elim}
 use Rattle.std.proofs.lemmas.Bool.{cases_lt, ne_eqb}
 use Rattle.std.proofs.lemmas.List.Elements.{All-contains, All-cons, All-nil}
-use Rattle.sat_theory.specs.Formula.{variable, opposite, Formula, IsFormula, IsClause, IsWithin, bits_of, IsTrueClause, Satisfies}
+use Rattle.sat_theory.specs.Formula.{variable, opposite, Formula, IsFormula, IsClause, IsWithin, bits_of, literal_value, IsTrueClause, Satisfies}
 use Rattle.sat_theory.specs.Line.{Line, Add, Delete}
 use Rattle.sat_theory.specs.State.{State, by_id, start}
 use Rattle.sat_theory.specs.Log.{EachLine, IsStep, AddsEmpty, additions, Refutes, IsSpent, IsThinned, SparesFormula, after, added_ids, live_additions}
 use Rattle.sat_theory.specs.FewAdditions.{AddsSome}
 use Rattle.cdcl_theory.specs.Falling.{AllSettled, IsSettled}
 use Rattle.cdcl_theory.specs.Trails.{Trailed, fell}
-use Rattle.clause_db.specs.Stored.{Stored, live_in}
+use Rattle.clause_db.specs.Stored.{Stored, live_in, IsStored}
 use Rattle.trail_core.specs.Values.{Follows, HaveValues}
-use Rattle.cdcl_core.specs.Searching.{IsLog, AreNew}
+use Rattle.cdcl_core.specs.declared.search.Search.{Search}
+use Rattle.cdcl_core.specs.Searching.{IsLog, AreNew, IsCovered, IsLogged}
 use Rattle.std.specs.Prelude.{Result, Ok, Err, IfOk}
 use Rattle.sat_solve.specs.declared.solver.Solved.{Solved}
 use Rattle.sat_solve.specs.declared.solver.Solved.TheVariants.{Sat, Unsat, Open}
@@ -56,13 +57,21 @@ get_there [] k d low = absurd (let h : k < 0 = low in omega arith)
 get_there (x ∷ xs) zero d low = refl
 get_there (x ∷ xs) (suc k) d low = get_there xs k d (let h : suc k < suc (length xs) = low in omega arith)
 
--- With a value for each variable and all clauses settled, the values satisfy the formula.
-pub values_satisfy : (f : Formula) (s : Stored) (t : Trailed) (lines : List Line) (deleted least : ℕ) (bits : List Bool) → IsFormula f → IsLog f s lines deleted least → t.vars ≡ f.vars → HaveValues t (1 + t.vars) → AllSettled (live_in s) (fell t) → Follows t bits → Satisfies (bits_of bits) f
-values_satisfy f s t lines deleted least bits formula log vars values settled follows = λ k d low.
+more_true : (v : ℕ → Bool) (cover clause : List ℤ) → All (Contains clause) cover → IsTrueClause v cover → IsTrueClause v clause
+unfolding IsTrueClause
+more_true v cover clause inside (k, d, low, at, is) =
+    let there : Contains clause (slice_index_or cover k d) = inside k d low in
+    (there.0, slice_index_or cover k d, there.1, there.2, subst (λ (m : ℤ). literal_value v m ≡ true) (sym at) is)
+
+-- With a value for each variable and all clauses settled, the values satisfy the formula, each clause
+-- of which is covered by one of them.
+pub values_satisfy : (f : Formula) (s : Search) (bits : List Bool) → IsFormula f → IsStored s.clauses → s.trail.vars ≡ f.vars → IsLogged f s → HaveValues s.trail (1 + s.trail.vars) → AllSettled (live_in s.clauses) (fell s.trail) → Follows s.trail bits → Satisfies (bits_of bits) f
+values_satisfy f s bits formula stored vars logged values settled follows = λ k d low.
     let clause : List ℤ = slice_index_or f.clauses k d in
-    let live : live_in s (suc k) ≡ Some clause = log.formula (suc k) clause (named k d low) in
-    let within : IsWithin t.vars clause = subst (λ (n : ℕ). IsWithin n clause) (sym vars) (formula.variables k d low) in
-    settled_true t bits clause follows values (formula.clauses k d low) within (settled.each (suc k) clause live)
+    let cover : IsCovered s clause = logged.covered (suc k) clause (named k d low) in
+    let is_clause : IsClause cover.cover = stored.clauses cover.by cover.cover cover.is_live in
+    let within : IsWithin s.trail.vars cover.cover = subst (λ (n : ℕ). IsWithin n cover.cover) (logged.log.vars ∙ sym vars) (stored.variables cover.by cover.cover cover.is_live) in
+    more_true (bits_of bits) cover.cover clause cover.inside (settled_true s.trail bits cover.cover follows values is_clause within (settled.each cover.by cover.cover cover.is_live))
   where
     named : (k : ℕ) (d : List ℤ) → k < length f.clauses → by_id f.clauses (suc k) ≡ Some (slice_index_or f.clauses k d)
     named k d low =

@@ -1,11 +1,12 @@
 -- Which variables are open doesn't matter, and what a probe leaves.
-use Rattle.std.proofs.Common.{◌≡◌, ◌≤◌, length, Option, ap, arith}
+use Rattle.std.proofs.Common.{◌≡◌, ◌≤◌, length, Option, ap, arith, refl}
 use Rattle.sat_theory.specs.Formula.{Formula}
 use Rattle.clause_db.specs.Stored.{Stored}
 use Rattle.cdcl_core.specs.declared.search.Search.{Search}
 use Rattle.cdcl_core.specs.declared.scope.Scope.{Scope}
 use Rattle.cdcl_core.specs.Searching.{IsSearching, IsVisited, IsLogged, HasRestarted, HasSettled}
 use Rattle.cdcl_core.specs.Solving.{IsUnderWay}
+use Rattle.cdcl_core.proofs.Logging.{covered_same}
 
 pub searching_scoped : (s : Search) (x : Option Scope) → IsSearching s → IsSearching (record s { scope = x })
 searching_scoped s x searching = record {
@@ -32,6 +33,7 @@ restarted_scoped s t x restarted = record {
   deleted = restarted.deleted;
   clauses = restarted.clauses;
   starts = restarted.starts;
+  shorter = restarted.shorter;
 }
 
 pub logged_scoped : (f : Formula) (s : Search) (x : Option Scope) → IsLogged f s → IsLogged f (record s { scope = x })
@@ -39,6 +41,7 @@ logged_scoped f s x logged = record {
   log = logged.log;
   new = logged.new;
   given = logged.given;
+  covered = covered_same f s (record s { scope = x }) logged.covered refl refl refl;
 }
 
 pub under_way_scoped : (s : Search) (x : Option Scope) → IsUnderWay s → IsUnderWay (record s { scope = x })

@@ -1,12 +1,13 @@
 -- A search whose log gets a line of deletions.
-use Rattle.std.proofs.Common.{◌≡◌, ℕ, ◌+◌, ◌<◌, ◌∙◌, ℤ, List, [], length, Some, subst, sym, ap, arith}
+use Rattle.std.proofs.Common.{◌≡◌, ℕ, ◌+◌, ◌<◌, ◌∙◌, ℤ, List, [], length, Some, subst, sym, ap, arith, refl}
 use Rattle.sat_theory.specs.Formula.{Formula}
 use Rattle.sat_theory.specs.Line.{Line}
 use Rattle.sat_theory.specs.Log.{IsThinned}
 use Rattle.clause_db.specs.Stored.{Stored, live_in}
 use Rattle.cdcl_core.specs.declared.search.Search.{Search}
-use Rattle.cdcl_core.specs.Searching.{IsSearching, IsVisited, IsLog, AreNew, IsAccounted, IsLogged}
+use Rattle.cdcl_core.specs.Searching.{IsSearching, IsVisited, IsLog, AreNew, AreCovered, IsAccounted, IsLogged}
 use Rattle.cdcl_core.specs.Forgetting.{with_gone, IsPending, IsThick, HasForgotten}
+use Rattle.cdcl_core.proofs.Logging.{covered_same}
 use Rattle.cdcl_core.proofs.Gone.{new_gone, log_thinned, log_all_gone}
 
 -- nothing is deleted yet
@@ -24,14 +25,15 @@ accounted_written f s t ids pending lines same =
       given = ap (λ (x : Search). x.given) same ∙ pending.given;
     }
 
-pub logged_written : (f : Formula) (a s t : Search) (ids : List ℕ) → IsLogged f a → s.lines ≡ a.lines → IsPending f s ids → t.lines ≡ with_gone s.lines (length s.clauses.clauses) ids → t ≡ record s { lines = t.lines } → IsLogged f t
-logged_written f a s t ids logged before pending lines same =
+pub logged_written : (f : Formula) (a s t : Search) (ids : List ℕ) → IsLogged f a → AreCovered f s → s.lines ≡ a.lines → IsPending f s ids → t.lines ≡ with_gone s.lines (length s.clauses.clauses) ids → t ≡ record s { lines = t.lines } → IsLogged f t
+logged_written f a s t ids logged covered before pending lines same =
     let accounted : IsAccounted f t = accounted_written f s t ids pending lines same in
     let old : AreNew f s.lines = subst (λ (ls : List Line). AreNew f ls) (sym before) logged.new in
     record {
       log = accounted.log;
       new = subst (λ (ls : List Line). AreNew f ls) (sym lines) (new_gone f s.lines (length s.clauses.clauses) ids old);
       given = accounted.given;
+      covered = covered_same f s t covered (ap (λ (x : Search). x.clauses.clauses) same) (ap (λ (x : Search). x.given) same) (ap (λ (x : Search). x.shorter) same);
     }
 
 pub searching_written : (s t : Search) → IsSearching s → t ≡ record s { lines = t.lines } → IsSearching t
@@ -62,7 +64,7 @@ pub visited_after : (a b : Search) → b ≡ record a { merits = b.merits } → 
 visited_after a b same visited = subst (λ (x : Search). IsVisited x) (sym same) (record { guarded = visited.guarded; low = visited.low; begun = visited.begun })
 
 pub logged_after : (f : Formula) (a b : Search) → b ≡ record a { merits = b.merits } → IsLogged f a → IsLogged f b
-logged_after f a b same logged = subst (λ (x : Search). IsLogged f x) (sym same) (record { log = logged.log; new = logged.new; given = logged.given })
+logged_after f a b same logged = subst (λ (x : Search). IsLogged f x) (sym same) (record { log = logged.log; new = logged.new; given = logged.given; covered = covered_same f a (record a { merits = b.merits }) logged.covered refl refl refl })
 
 -- A log that isn't thick is thinned.
 pub thinned_written : (f : Formula) (s t : Search) → (IsThick s → ⊥) → t ≡ record s { lines = t.lines } → IsAccounted f t → IsThinned f t.lines

@@ -6,7 +6,7 @@ use Rattle.cdcl_theory.specs.Trails.{Trailed, HasReason, reason_of, fell}
 use Rattle.clause_db.specs.Stored.{live_in}
 use Rattle.clause_db.specs.Deleting.{IsDeleted}
 use Rattle.cdcl_core.specs.declared.search.Search.{Search}
-use Rattle.cdcl_core.specs.Searching.{IsLog}
+use Rattle.cdcl_core.specs.Searching.{IsLog, IsIrredundant}
 
 -- the lines with one more that deletes the ids, if there are any
 abbrev pub with_gone : List theory.Line → ℕ → List ℕ → List theory.Line
@@ -34,9 +34,11 @@ pub record IsNoReason (s : Search) (id : ℕ) : Type 0 where
 abbrev pub HasHalf : Search → Type 0
 HasHalf s = (2 * (s.deleted + 1) ≤ s.least) ⊎ (2 * (s.deleted + 1) + s.given ≤ length s.clauses.clauses)
 
--- The clause of an id is live, was learnt, is no reason, and its deletion keeps half.
+-- The clause of an id is live, was learnt and stands for none of the formula, is no reason, and its
+-- deletion keeps half.
 pub record MayGo (s : Search) (id : ℕ) : Type 0 where
   pub learnt : s.given < id
+  pub redundant : IsIrredundant s id → ⊥
   pub half : HasHalf s
   pub is_live : IsSome (live_in s.clauses id)
   pub reason : IsNoReason s id

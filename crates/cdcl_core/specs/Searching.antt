@@ -1,9 +1,9 @@
 -- What holds throughout a search.
-use Rattle.std.specs.Prelude.{◌≡◌, ◌⊎◌, ℕ, ◌+◌, ◌*◌, ◌<◌, ◌≤◌, ℤ, List, length, slice_index_or, All, count_by, Some, is_some}
+use Rattle.std.specs.Prelude.{◌≡◌, ◌⊎◌, ℕ, ◌+◌, ◌*◌, ◌<◌, ◌≤◌, ℤ, List, length, slice_index_or, All, Contains, Some}
 use Rattle.sat_theory.specs.Formula.{Formula}
 use Rattle.sat_theory.specs.Line as theory
-use Rattle.sat_theory.specs.State.{by_id, start}
-use Rattle.sat_theory.specs.Log.{after, EachLine, IsStep, IsFresh, added_ids, additions, SparesFormula}
+use Rattle.sat_theory.specs.State.{State, by_id, start}
+use Rattle.sat_theory.specs.Log.{after, EachLine, IsStep, IsFresh, added_ids, additions, live_additions, SparesFormula}
 use Rattle.sat_theory.specs.FewAdditions.{AddsSome}
 use Rattle.cdcl_theory.specs.Trails.{IsLayered, fell}
 use Rattle.clause_db.specs.Stored.{Stored, live_in, IsStored}
@@ -21,19 +21,27 @@ pub record IsSearching (s : Search) : Type 0 where
   pub ready : IsReady s.trail.vars s.analysis
   pub choosing : IsChoosing s.trail s.choice
 
--- The lines are a log over the formula whose state is the live clauses: each line holds, all
--- clauses of the formula are live, and deletions name additions alone. Ids are given one after
--- another, so those above the formula's are the additions'. Of the additions `deleted` are deleted,
--- at most half of all, or of `least`, the number that an open log has at least.
+-- A state has exactly the live clauses and those of the formula, and the last id is its greatest.
+pub record IsStateOf (f : Formula) (clauses : Stored) (state : State) : Type 0 where
+  pub vars : state.vars ≡ f.vars
+  pub greatest : state.greatest ≡ length clauses.clauses
+  pub inside : (id : ℕ) (clause : List ℤ) → live_in clauses id ≡ Some clause → state.live id ≡ Some clause
+  pub formula : (id : ℕ) (clause : List ℤ) → by_id f.clauses id ≡ Some clause → state.live id ≡ Some clause
+  pub only : (id : ℕ) (clause : List ℤ) → state.live id ≡ Some clause → (by_id f.clauses id ≡ Some clause) ⊎ (live_in clauses id ≡ Some clause)
+
+-- The lines are a log over the formula whose state is that of the live clauses: each line holds, and
+-- deletions name additions alone, so that a clause of the formula which the search keeps no more is
+-- live in the log. Ids are given one after another, so those above the formula's are the additions'.
+-- Of the additions `deleted` are deleted, at most half of all, or of `least`, the number that an open
+-- log has at least.
 pub record IsLog (f : Formula) (clauses : Stored) (lines : List theory.Line) (deleted least : ℕ) : Type 0 where
   pub vars : clauses.vars ≡ f.vars
   pub holds : EachLine IsStep (start f) lines
-  pub state : after (start f) lines ≡ record { live = live_in clauses; vars = f.vars; greatest = length clauses.clauses }
-  pub formula : (id : ℕ) (clause : List ℤ) → by_id f.clauses id ≡ Some clause → live_in clauses id ≡ Some clause
+  pub state : IsStateOf f clauses (after (start f) lines)
   pub count : length clauses.clauses ≡ length f.clauses + additions lines
   pub spares : All (SparesFormula f) lines
   pub ids : (k d : ℕ) → k < additions lines → slice_index_or (added_ids lines) k d ≡ length f.clauses + 1 + k
-  pub gone : count_by (λ id. is_some (live_in clauses id)) (added_ids lines) + deleted ≡ additions lines
+  pub gone : live_additions (after (start f) lines) lines + deleted ≡ additions lines
   pub half : (2 * deleted ≤ least) ⊎ (2 * deleted ≤ additions lines)
 
 -- each addition is of a new clause with a literal
@@ -41,16 +49,34 @@ pub record AreNew (f : Formula) (lines : List theory.Line) : Type 0 where
   pub fresh : EachLine IsFresh (start f) lines
   pub some : All AddsSome lines
 
+-- the clause of an id is never forgotten: it is one of the formula, or stands for one of them
+-- (is irredundant)
+abbrev pub IsIrredundant : Search → ℕ → Type 0
+IsIrredundant s id = (id ≤ s.given) ⊎ ((s.shorter.low < id) × (id ≤ s.shorter.high))
+
+-- a live clause that is never forgotten subsumes the clause
+pub record IsCovered (s : Search) (clause : List ℤ) : Type 0 where
+  pub by : ℕ
+  pub cover : List ℤ
+  pub is_live : live_in s.clauses by ≡ Some cover
+  pub inside : All (Contains clause) cover
+  pub stays : IsIrredundant s by
+
+-- The search keeps each clause of the formula, or one that subsumes it.
+abbrev pub AreCovered : Formula → Search → Type 0
+AreCovered f s = (id : ℕ) (clause : List ℤ) → by_id f.clauses id ≡ Some clause → IsCovered s clause
+
 -- IsLog of the search's lines and clauses
 pub record IsAccounted (f : Formula) (s : Search) : Type 0 where
   pub log : IsLog f s.clauses s.lines s.deleted s.least
   pub given : s.given ≡ length f.clauses
 
--- and the log hasn't added the empty clause
+-- and the log hasn't added the empty clause, and the clauses say no less than the formula
 pub record IsLogged (f : Formula) (s : Search) : Type 0 where
   pub log : IsLog f s.clauses s.lines s.deleted s.least
   pub new : AreNew f s.lines
   pub given : s.given ≡ length f.clauses
+  pub covered : AreCovered f s
 
 -- The watch invariant holds for the trail literals before `head`.
 pub record IsVisited (s : Search) : Type 0 where
@@ -63,6 +89,7 @@ pub record HasBegun (old new : Search) : Type 0 where
   pub vars : new.trail.vars ≡ old.trail.vars
   pub given : new.given ≡ old.given
   pub least : new.least ≡ old.least
+  pub shorter : new.shorter ≡ old.shorter
   pub lines : new.lines ≡ old.lines
   pub deleted : new.deleted ≡ old.deleted
   pub clauses : new.clauses ≡ old.clauses
@@ -73,6 +100,7 @@ pub record HasPropagated (old new : Search) : Type 0 where
   pub rest : IsRest old.clauses new.clauses old.trail new.trail
   pub given : new.given ≡ old.given
   pub least : new.least ≡ old.least
+  pub shorter : new.shorter ≡ old.shorter
   pub lines : new.lines ≡ old.lines
   pub deleted : new.deleted ≡ old.deleted
   pub starts : new.starts ≡ old.starts
@@ -90,6 +118,7 @@ pub record HasRestarted (old new : Search) : Type 0 where
   pub vars : new.trail.vars ≡ old.trail.vars
   pub given : new.given ≡ old.given
   pub least : new.least ≡ old.least
+  pub shorter : new.shorter ≡ old.shorter
   pub lines : new.lines ≡ old.lines
   pub deleted : new.deleted ≡ old.deleted
   pub clauses : new.clauses ≡ old.clauses
@@ -110,6 +139,7 @@ pub record HasDecided (old new : Search) : Type 0 where
   pub vars : new.trail.vars ≡ old.trail.vars
   pub given : new.given ≡ old.given
   pub least : new.least ≡ old.least
+  pub shorter : new.shorter ≡ old.shorter
   pub lines : new.lines ≡ old.lines
   pub deleted : new.deleted ≡ old.deleted
   pub clauses : new.clauses ≡ old.clauses

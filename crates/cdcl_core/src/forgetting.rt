@@ -32,7 +32,7 @@ fn has_implied(trail: &Trail, lits: &[Lit], id: u32) -> bool
 }
 
 impl Search {
-    ghost use Rattle.cdcl_core.specs.Searching.{IsSearching, IsVisited, IsAccounted, IsLogged};
+    ghost use Rattle.cdcl_core.specs.Searching.{IsSearching, IsVisited, IsAccounted, IsIrredundant, IsLogged};
     ghost use Rattle.cdcl_core.specs.Forgetting.{with_gone, IsPending, IsNoReason, HasHalf, MayGo, IsThick, HasLost, HasForgotten, MoreGone};
 
     /// Whether a live clause is the reason of a true literal (is locked).
@@ -53,12 +53,19 @@ impl Search {
             || u64::from(self.clauses.last()) >= u64::from(self.given) + both
     }
 
+    /// Whether a clause is one of the formula or stands for one.
+    fn is_irredundant(&self, id: u32) -> bool
+        ensures { IsTrue result ↔ IsIrredundant self.now id }
+    {
+        id <= self.given || (self.shorter.low < id && id <= self.shorter.high)
+    }
+
     /// Whether a clause may be deleted.
     fn may_go(&self, id: u32) -> bool
         requires searching { IsSearching self.now }
         ensures { IsTrue result → MayGo self.now id }
     {
-        if id <= self.given || !self.has_half() || !self.clauses.live(id) {
+        if self.is_irredundant(id) || !self.has_half() || !self.clauses.live(id) {
             return false;
         }
         !self.is_reason(id)

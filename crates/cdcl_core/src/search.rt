@@ -39,12 +39,22 @@ pub(crate) struct Search {
     pub(crate) choice: Choice,
     pub(crate) restarts: Restarts,
     pub(crate) merits: Merits,
+    /// the clauses that stand for longer ones of the formula
+    pub(crate) shorter: Shorter,
     /// the number of learnt clauses that are deleted
     pub(crate) deleted: u32,
     /// the least number of additions of the log where it ends open
     pub(crate) least: u32,
     /// the open variables, from the first probe on
     pub(crate) scope: Option<Scope>,
+}
+
+/// Which additions stand for clauses of the formula that they subsume: those with ids above `low` up to `high`. They are
+/// never forgotten.
+#[derive(Clone, Copy, Drop)]
+pub(crate) struct Shorter {
+    pub(crate) low: u32,
+    pub(crate) high: u32,
 }
 
 /// How a search ends.
@@ -92,6 +102,7 @@ impl Search {
             choice,
             restarts: Restarts::new(),
             merits,
+            shorter: Shorter { low: 0, high: 0 },
             deleted: 0,
             least,
             scope: None,

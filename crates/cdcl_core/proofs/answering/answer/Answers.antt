@@ -10,7 +10,7 @@ pub returns-in_ok-assignment-in-Valued-clause-sat : goal.returns-in_ok-assignmen
 returns-in_ok-assignment-in-Valued-clause-sat c = λ f logged formula.
     let s = c.go_on.new.self in
     let valued : IsValued f s = subst (λ (e : Ending). Ends f c.args.budget s e) c.in-Valued.is (c.in_ok-go_on.ensures.ends f logged) in
-    values_satisfy f s.clauses s.trail s.lines s.deleted s.least c.in_ok-assignment-in-Valued.field-0 formula valued.logged.log valued.vars valued.values valued.settled c.in_ok-assignment-in-Valued.ensures
+    values_satisfy f s c.in_ok-assignment-in-Valued.field-0 formula c.in_ok-go_on.ensures.stored valued.vars valued.logged valued.values valued.settled c.in_ok-assignment-in-Valued.ensures
 
 pub returns-in_ok-log_of-in-Refuted-clause-unsat : goal.returns-in_ok-log_of-in-Refuted-clause-unsat
 returns-in_ok-log_of-in-Refuted-clause-unsat c = λ f logged.

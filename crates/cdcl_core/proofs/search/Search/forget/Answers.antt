@@ -5,7 +5,7 @@ use Rattle.clause_db.specs.StoredLaws.{live_inside}
 use Rattle.cdcl_core.specs.declared.search.Search.{Search}
 use Rattle.cdcl_core.specs.Searching.{IsSearching, IsVisited}
 use Rattle.cdcl_core.specs.Forgetting.{with_gone, MayGo, HasLost}
-use Rattle.cdcl_core.proofs.Losing.{searching_lost, visited_lost, forgotten_lost}
+use Rattle.cdcl_core.proofs.Losing.{searching_lost, visited_lost, forgotten_lost, covered_lost}
 use Rattle.cdcl_core.proofs.Writing.{searching_written, visited_written, forgotten_written, logged_written}
 use Rattle.cdcl_core.proofs.search.Search.forget.Goals as goal
 
@@ -23,6 +23,7 @@ loop-id-preserved c =
       forgotten = forgotten_lost c.args.self.now s c.let_go.new.self id inside.0 c.loop-id.invariant.forgotten lost;
       lines = ap (λ (x : Search). x.lines) lost.rest ∙ c.loop-id.invariant.lines;
       pending = λ f logged. c.in_ok-let_go.ensures.pending f (c.loop-id.invariant.pending f logged);
+      covered = λ f covered. covered_lost f s c.let_go.new.self id inside.0 may.redundant lost (c.loop-id.invariant.covered f covered);
     }
 
 pub returns-clause-searching : goal.returns-clause-searching
@@ -35,4 +36,4 @@ pub returns-clause-forgotten : goal.returns-clause-forgotten
 returns-clause-forgotten c = forgotten_written c.args.self.now c.loop-id.self c.write_gone.new.self c.loop-id.invariant.forgotten c.in_ok-write_gone.ensures.same
 
 pub returns-clause-logged : goal.returns-clause-logged
-returns-clause-logged c = λ f logged. logged_written f c.args.self.now c.loop-id.self c.write_gone.new.self c.loop-id.gone.items logged c.loop-id.invariant.lines (c.loop-id.invariant.pending f logged) (c.in_ok-write_gone.ensures.lines ∙ ap (λ (ids : List ℕ). with_gone c.loop-id.self.lines (length c.loop-id.self.clauses.clauses) ids) c.deref.ensures.value) c.in_ok-write_gone.ensures.same
+returns-clause-logged c = λ f logged. logged_written f c.args.self.now c.loop-id.self c.write_gone.new.self c.loop-id.gone.items logged (c.loop-id.invariant.covered f logged.covered) c.loop-id.invariant.lines (c.loop-id.invariant.pending f logged) (c.in_ok-write_gone.ensures.lines ∙ ap (λ (ids : List ℕ). with_gone c.loop-id.self.lines (length c.loop-id.self.clauses.clauses) ids) c.deref.ensures.value) c.in_ok-write_gone.ensures.same

@@ -1,6 +1,6 @@
 use Rattle.std.proofs.Common.{◌≡◌}
 use Rattle.sat_theory.specs.Formula.{Formula}
-use Rattle.cdcl_core.specs.Searching.{IsSearching, IsVisited, IsLogged}
+use Rattle.cdcl_core.specs.Searching.{IsSearching, IsVisited, IsLogged, AreCovered}
 use Rattle.cdcl_core.specs.Forgetting.{IsPending, HasForgotten}
 use Rattle.cdcl_core.proofs.search.Search.forget.Given as goal
 
@@ -11,4 +11,5 @@ invariant-loop-id l = record {
   forgotten : HasForgotten l.initial.self l.self;
   lines : l.self.lines ≡ l.initial.self.lines;
   pending : (f : Formula) → IsLogged f l.initial.self → IsPending f l.self l.gone.items;
+  covered : (f : Formula) → AreCovered f l.initial.self → AreCovered f l.self;
 }

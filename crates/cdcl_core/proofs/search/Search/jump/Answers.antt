@@ -1,4 +1,4 @@
-use Rattle.std.proofs.Common.{◌≡◌, ◌∙◌, ◌++◌, ◌∷◌, [], ◌<◌, ◌≤◌, ◌+◌, ◌-◌, ℕ, ℤ, pos, List, length, take, drop, All, slice_index_or, sym, ap, subst, arith}
+use Rattle.std.proofs.Common.{◌≡◌, ◌∙◌, ◌++◌, ◌∷◌, [], ◌<◌, ◌≤◌, ◌+◌, ◌-◌, ℕ, ℤ, pos, List, length, take, drop, All, slice_index_or, sym, ap, subst, arith, refl}
 use Rattle.std.proofs.lemmas.List.{get_or_read, length_push}
 use Rattle.std.proofs.lemmas.List.Elements.{All-take, All-drop}
 use Rattle.sat_theory.specs.Formula.{IsWithin}
@@ -12,7 +12,7 @@ use Rattle.cdcl_core.proofs.Jumps.{guarded_jumped}
 use Rattle.trail_core.specs.Values.{IsOver, IsFree}
 use Rattle.conflict_core.specs.Learning.{IsReady, asserting}
 use Rattle.cdcl_core.proofs.Layers.{closed_last, reasons_last, dropped_low, jumped_free, jumped_layers, learnt_fallen, learnt_over}
-use Rattle.cdcl_core.proofs.Logging.{log_added, new_added}
+use Rattle.cdcl_core.proofs.Logging.{log_added, new_added, covered_added}
 use Rattle.cdcl_core.specs.Choosing.{IsChoosing}
 use Rattle.cdcl_core.proofs.Choices.{choosing_pushed}
 use Rattle.cdcl_core.proofs.search.Search.jump.Goals as goal
@@ -85,8 +85,9 @@ returns-clause-logged c = λ f logged.
       log = rw (clauses_are, lines_are)
           (log_added f s.clauses _ c.in_ok-id.id l.lits.items l.hints.items s.deleted s.least logged.log c.requires.searching.stored c.in_ok-learnt.ensures.learnt.clause within small c.in_ok-id.ensures.id c.in_ok-learnt.ensures.learnt.hold);
       new = rw lines_are
-          (new_added f s.clauses _ c.in_ok-id.id l.lits.items l.hints.items s.deleted s.least logged.log logged.new (unit_is_new (live_in s.clauses) (fell s.trail) c.args.start l.lits.items (asserting l.lits.items) closed c.in_ok-learnt.ensures.learnt.unit) c.in_ok-learnt.ensures.learnt.some);
+          (new_added f s c.in_ok-id.id l.lits.items l.hints.items logged (unit_is_new (live_in s.clauses) (fell s.trail) c.args.start l.lits.items (asserting l.lits.items) closed c.in_ok-learnt.ensures.learnt.unit) c.in_ok-learnt.ensures.learnt.some);
       given = logged.given;
+      covered = covered_added f s _ l.lits.items logged.covered clauses_are refl refl;
     }
 
 pub returns-clause-visited : goal.returns-clause-visited

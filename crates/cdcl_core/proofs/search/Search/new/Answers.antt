@@ -3,7 +3,7 @@ use Rattle.clause_db.specs.Stored.{Stored, live_in, none_stored}
 use Rattle.clause_db.specs.StoredLaws.{all_added-vars}
 use Rattle.conflict_core.specs.Learning.{IsReady}
 use Rattle.cdcl_core.proofs.Beginning.{count_begun, layered_begun}
-use Rattle.cdcl_core.proofs.Logging.{log_begun, new_begun}
+use Rattle.cdcl_core.proofs.Logging.{log_begun, new_begun, covered_begun}
 use Rattle.cdcl_core.proofs.search.Search.new.Goals as goal
 
 pub returns-clause-logged : goal.returns-clause-logged
@@ -11,6 +11,7 @@ returns-clause-logged c = record {
   log = rw (c.in_ok-clauses.ensures.all, c.new-7.ensures) (log_begun c.args.cnf.now c.args.least);
   new = rw c.new-7.ensures (new_begun c.args.cnf.now);
   given = ap length c.clauses.ensures.value;
+  covered = covered_begun c.args.cnf.now _ c.in_ok-clauses.ensures.all (ap length c.clauses.ensures.value);
 }
 
 pub returns-clause-searching : goal.returns-clause-searching
