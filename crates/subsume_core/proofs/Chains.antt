@@ -1,7 +1,7 @@
 -- Hints, one after another.
-use Rattle.std.proofs.Common.{◌≡◌, ℕ, ◌<◌, ◌⊎◌, ℤ, Bool, true, false, List, [], ◌∷◌, length, Contains, All, Option, Some, None, slice_index_or, subst, sym, arith}
+use Rattle.std.proofs.Common.{◌≡◌, ℕ, ◌<◌, ◌⊎◌, ℤ, Bool, true, false, List, [], ◌∷◌, length, Contains, All, Option, Some, None, slice_index_or, subst, arith}
 use Rattle.sat_theory.specs.Formula.{opposite}
-use Rattle.sat_theory.specs.Holding.{among, with_literal, IsUnitOutside, HintsHold}
+use Rattle.sat_theory.specs.Holding.{with_literal, IsUnitOutside, HintsHold}
 
 -- The last hint's clause is inside the set.
 pub hint_ends : (live : ℕ → Option (List ℤ)) (set : ℤ → Bool) (hint : ℕ) (more : List ℕ) (clause : List ℤ) → length more ≡ 0 → live hint ≡ Some clause → All (λ m. set m ≡ true) clause → HintsHold live set (hint ∷ more)

@@ -1,7 +1,8 @@
 -- No live clause is inside a list.
-use Rattle.std.proofs.Common.{◌≡◌, ℕ, ◌+◌, ◌<◌, ◌≤◌, ℤ, Bool, true, false, List, [], ◌∷◌, length, slice_index_or, Contains, All, Some, refl, sym, ap, ◌∙◌, subst, arith, inl}
-use Rattle.std.proofs.lemmas.List.Elements.{All-contains, All-contains_itself}
+use Rattle.std.proofs.Common.{◌≡◌, ℕ, ◌+◌, ◌<◌, ◌≤◌, ℤ, Bool, true, false, List, [], ◌∷◌, length, slice_index_or, take, Contains, All, Some, refl, ◌∙◌, subst, arith, inl}
+use Rattle.std.proofs.lemmas.List.Elements.{All-contains, All-contains_itself, All-push}
 use Rattle.std.proofs.lemmas.Grind.{common_steps}
+use Rattle.std.proofs.lemmas.List.{take_more}
 use Rattle.sat_theory.specs.Log.{IsNew}
 use Rattle.cdcl_theory.specs.Codes.{marked_in}
 use Rattle.clause_db.specs.Watching.{list_of}
@@ -39,3 +40,7 @@ new_by_literals s flags lits stored units some apart id (l ∷ m ∷ rest) is in
     let first : ℤ = (pair_at s.watches id).first in
     let there : Contains lits first = All-contains (Contains lits) (l ∷ m ∷ rest) first inside pair.first in
     ((All-contains (IsApart s flags lits) lits first apart there).none_watching.none id (record { clause = l ∷ m ∷ rest; is_live = is; long = long; watched = inl refl })).not_inside (l ∷ m ∷ rest) is inside
+
+-- one more literal of a list is apart
+pub apart_more : (s : Stored) (flags : List Bool) (lits list : List ℤ) (i : ℕ) (l : ℤ) → i < length list → slice_index_or list i l ≡ l → IsApart s flags lits l → All (IsApart s flags lits) (take i list) → All (IsApart s flags lits) (take (i + 1) list)
+apart_more s flags lits list i l low at here before = rw (take_more list i l low, at) (All-push (IsApart s flags lits) (take i list) l before here)
