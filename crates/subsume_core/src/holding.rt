@@ -27,11 +27,7 @@ pub fn holds(
 }
 
 /// Whether hints hold from a set, which grows along them.
-fn hold_from(
-    clauses: &ClauseDb,
-    hints: &[u32],
-    set: &mut Vec<Lit>,
-) -> Result<bool, AllocError>
+fn hold_from(clauses: &ClauseDb, hints: &[u32], set: &mut Vec<Lit>) -> Result<bool, AllocError>
     ensures { IfOk result (λ yes. IsTrue yes → HintsHold (live_in clauses.now) (among set.old.items) hints.now) }
 {
     let mut left = hints;
