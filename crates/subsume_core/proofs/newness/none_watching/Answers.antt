@@ -1,0 +1,23 @@
+use Rattle.std.proofs.Common.{◌≡◌, ℕ, ℤ, Bool, true, false, slice_index_or, Contains, List, All, Some, arith}
+use borrow.Author.Count.{below_more}
+use Rattle.clause_db.specs.Watching.{list_of}
+use Rattle.clause_db.specs.Stored.{live_in}
+use Rattle.subsume_core.specs.Inside.{NotInside}
+use Rattle.subsume_core.proofs.Subsuming.{not_inside_of, none_at}
+use Rattle.subsume_core.proofs.newness.none_watching.Goals as goal
+
+pub loop-index-preserved : goal.loop-index-preserved
+loop-index-preserved c =
+    let list : List ℕ = list_of c.args.clauses.now.watches c.args.lit in
+    let index : ℕ = c.loop-index.index in
+    let id : ℕ = slice_index_or list index 0 in
+    let block : List ℤ = c.arranged_at.result.now in
+    let same : (clause : List ℤ) → live_in c.args.clauses.now id ≡ Some clause → (l : ℤ) → Contains block l → Contains clause l = λ clause is l there. (c.arranged_at.ensures.same clause is l).0 there in
+    let out : All (Contains c.args.lits.now) block → ⊥ = λ inside. not_both c.contains_all.result (c.contains_all.ensures.only inside) c.if-contains_all.false in
+    below_more (λ (k : ℕ). NotInside c.args.clauses.now c.args.lits.now (slice_index_or list k 0)) index c.loop-index.invariant (not_inside_of c.args.clauses.now c.args.lits.now block id same out)
+  where
+    not_both : (b : Bool) → b ≡ true → b ≡ false → ⊥
+    not_both b on off = cc
+
+pub returns : goal.returns
+returns c = λ _. none_at c.args.clauses.now c.args.lits.now c.args.lit (λ id watches. (c.watching-count.ensures.exact id).1 watches) (λ k low. c.loop-index.invariant k (omega (arith, low, c.loop-index-test.false, c.watching-count.ensures.long)))
