@@ -273,11 +273,11 @@ pub log_all_gone : (f : Formula) (s : Stored) (lines : List Line) (deleted least
 log_all_gone f s lines deleted least log none =
     let st : State = after (start f) lines in
     let dead : All (λ id. is_some (st.live id) ≡ false) (added_ids lines) = λ k d low. none_now (st.live (slice_index_or (added_ids lines) k d)) (λ c live.
-        let at : slice_index_or (added_ids lines) k d ≡ length f.clauses + 1 + k = log.ids k d low in
-        ⊎_elim
-        (λ (here : by_id f.clauses (slice_index_or (added_ids lines) k d) ≡ Some c). (let inside : slice_index_or (added_ids lines) k d ≤ length f.clauses = by_id_inside f.clauses (slice_index_or (added_ids lines) k d) c here in omega (arith, at, inside)))
-        (λ (kept : live_in s (slice_index_or (added_ids lines) k d) ≡ Some c). none (slice_index_or (added_ids lines) k d) c (omega (arith, at)) kept)
-        (log.state.only (slice_index_or (added_ids lines) k d) c live)) in
+    let at : slice_index_or (added_ids lines) k d ≡ length f.clauses + 1 + k = log.ids k d low in
+    ⊎_elim
+    (λ (here : by_id f.clauses (slice_index_or (added_ids lines) k d) ≡ Some c). (let inside : slice_index_or (added_ids lines) k d ≤ length f.clauses = by_id_inside f.clauses (slice_index_or (added_ids lines) k d) c here in omega (arith, at, inside)))
+    (λ (kept : live_in s (slice_index_or (added_ids lines) k d) ≡ Some c). none (slice_index_or (added_ids lines) k d) c (omega (arith, at)) kept)
+    (log.state.only (slice_index_or (added_ids lines) k d) c live)) in
     let zero_ : count_by (λ id. is_some (st.live id)) (added_ids lines) ≡ 0 = count_none (λ id. is_some (st.live id)) (added_ids lines) dead in
     let gone : count_by (λ id. is_some (st.live id)) (added_ids lines) + deleted ≡ additions lines = log.gone in
     let count : length s.clauses ≡ length f.clauses + additions lines = log.count in

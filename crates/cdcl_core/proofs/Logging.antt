@@ -60,9 +60,9 @@ state_added f s st id lits hints state is long = record {
   only = λ k clause live. ⊎_elim
       (λ (new : (k ≡ id) × (lits ≡ clause)). inr (ap (λ (g : ℕ → Option (List ℤ)). g k) (live_in-add s lits) ∙ subst (λ (n : ℕ). with_clause (live_in s) (length s.clauses + 1) lits n ≡ Some clause) (sym is ∙ sym new.0) (added_new (live_in s) (length s.clauses + 1) lits ∙ ap (λ (c : List ℤ). Some c) new.1)))
       (λ (old : st.live k ≡ Some clause). ⊎_elim
-          (λ (here : by_id f.clauses k ≡ Some clause). inl here)
-          (λ (kept : live_in s k ≡ Some clause). inr (ap (λ (g : ℕ → Option (List ℤ)). g k) (live_in-add s lits) ∙ added_old s lits k clause kept))
-          (state.only k clause old))
+      (λ (here : by_id f.clauses k ≡ Some clause). inl here)
+      (λ (kept : live_in s k ≡ Some clause). inr (ap (λ (g : ℕ → Option (List ℤ)). g k) (live_in-add s lits) ∙ added_old s lits k clause kept))
+      (state.only k clause old))
       (added_cases st.live id lits k clause live);
 }
   where

@@ -8,3 +8,4 @@ pub mod Guarding
 pub mod Visiting
 pub mod Forgetting
 pub mod Solving
+pub mod Strengthening

@@ -145,3 +145,10 @@ pub record HasDecided (old new : Search) : Type 0 where
   pub clauses : new.clauses ≡ old.clauses
   pub starts : length new.starts.items ≡ length old.starts.items + 1
   pub lits : length new.trail.lits ≡ length old.trail.lits + 1
+
+-- A search has gone on: it has at most as many clauses as the budget lets it have.
+pub record HasRun (budget : ℕ) (old new : Search) : Type 0 where
+  pub vars : new.trail.vars ≡ old.trail.vars
+  pub given : new.given ≡ old.given
+  pub least : new.least ≡ old.least
+  pub few : length new.clauses.clauses ≤ new.given + budget + new.trail.vars + 1

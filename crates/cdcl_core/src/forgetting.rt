@@ -54,7 +54,7 @@ impl Search {
     }
 
     /// Whether a clause is one of the formula or stands for one.
-    fn is_irredundant(&self, id: u32) -> bool
+    pub(crate) fn is_irredundant(&self, id: u32) -> bool
         ensures { IsTrue result ↔ IsIrredundant self.now id }
     {
         id <= self.given || (self.shorter.low < id && id <= self.shorter.high)

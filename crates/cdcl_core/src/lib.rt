@@ -40,6 +40,8 @@
 //! | `Merits`: activity, `levels`, `shape` | clause activity, LBD (glue), signature |
 //! | `tidy`, `idle`, `forget` | `reduceDB`, its candidates, deletion |
 //! | `review`, `containing` | eager subsumption of recent learnt clauses |
+//! | `strengthen`, `shorter` | subsumption and strengthening (self-subsuming resolution), once |
+//! | `is_irredundant` | irredundant: of the formula, or standing for a clause of it |
 //! | log, line, hint | LRAT proof, its step, antecedent id |
 //! | kept | at least half of the additions are live at the end |
 //! | thinned, `thin` | at most about three quarters are; the deletions at the end for that |
@@ -58,6 +60,7 @@ mod restarts;
 mod scope;
 mod search;
 mod solver;
+mod strengthening;
 mod units;
 mod visiting;
 

@@ -185,6 +185,18 @@ impl Merits {
         Ok(())
     }
 
+    /// Notes a clause that is never forgotten, and that no later one is compared with.
+    pub(crate) fn note_shorter(&mut self) -> Result<(), AllocError> {
+        let index = self.merits.len();
+        self.merits.push(Merit {
+            activity: 0,
+            used: short(index),
+            levels: 1,
+        })?;
+        self.shapes[index % RING] = 0;
+        Ok(())
+    }
+
     /// The ids of recent clauses that the last one subsumes.
     pub(crate) fn containing(
         &self,

@@ -23,6 +23,15 @@ use log_core::Log;
 use std::alloc::{AllocError, Global};
 use trail_core::Trail;
 
+/// The number of conflicts before the clauses of the formula are strengthened: short searches gain nothing by it.
+const FIRST_CONFLICTS: u32 = 300;
+
+/// The number of clauses up to which a formula is strengthened.
+const MOST_STRENGTHENED: u32 = 400_000;
+
+/// An id that is never given.
+const NEVER: u32 = 4_294_967_295;
+
 /// The state of a search: the clauses of the formula and the learnt ones, the trail, where the
 /// decision levels begin, and the log so far.
 #[derive(Drop)]
@@ -68,7 +77,7 @@ pub(crate) enum Ending {
 }
 
 impl Search {
-    ghost use Rattle.cdcl_core.specs.Searching.{IsSearching, IsVisited, IsLogged, HasBegun, HasPropagated, HasJumped, HasRestarted, HasSettled, HasDecided};
+    ghost use Rattle.cdcl_core.specs.Searching.{IsSearching, IsVisited, IsLogged, HasBegun, HasPropagated, HasJumped, HasRestarted, HasSettled, HasDecided, HasRun};
     ghost use Rattle.cdcl_core.specs.Endings.{Ends, HasRefuted};
 
     /// A search over a formula, before its first step. Where its log ends open, it has at least
@@ -290,6 +299,55 @@ impl Search {
         Ok(())
     }
 
+    /// Whether the search is at level 0, with the last id `pause` or greater.
+    fn is_paused(&self, pause: u32) -> bool
+        ensures bottom { IsTrue result → self.now.starts.items ≡ [] }
+        ensures due { IsTrue result → pause ≤ length self.now.clauses.clauses }
+    {
+        self.starts.is_empty() && self.clauses.last() >= pause
+    }
+
+    /// Decides and learns until the formula is decided, or a decision is due after at least `budget` additions. It
+    /// pauses, and answers None, where it is at level 0 and the last id is `pause` or greater.
+    fn run(&mut self, budget: u32, pause: u32) -> Result<Option<Ending>, AllocError>
+        requires searching { IsSearching self.old }
+        requires visited { IsVisited self.old }
+        requires least { self.old.least ≤ budget }
+        requires room { self.old.given + budget < 2970000000 }
+        requires short { length self.old.clauses.clauses + length self.old.starts.items ≤ self.old.given + budget + self.old.trail.vars + 1 }
+        ensures searching { IfOk result (λ ending. IfNone ending (IsSearching self.new)) }
+        ensures visited { IfOk result (λ ending. IfNone ending (IsVisited self.new)) }
+        ensures bottom { IfOk result (λ ending. IfNone ending (self.new.starts.items ≡ [])) }
+        ensures paused { IfOk result (λ ending. IfNone ending (pause ≤ length self.new.clauses.clauses)) }
+        ensures run { IfOk result (λ ending. IfNone ending (HasRun budget self.old self.new)) }
+        ensures logged { (f : Formula) → IsLogged f self.old → IfOk result (λ ending. IfNone ending (IsLogged f self.new)) }
+        ensures ends { (f : Formula) → IsLogged f self.old → IfOk result (λ ending. IfSome ending (Ends f budget self.new)) }
+        ensures stored { IfOk result (λ _. IsStored self.new.clauses) }
+    {
+        loop {
+            if let Some(conflict) = self.settle()? {
+                self.refute(conflict)?;
+                return Ok(Some(Ending::Refuted));
+            }
+            if self.is_paused(pause) {
+                return Ok(None);
+            }
+            self.tidy()?;
+            if let Some(ending) = self.decide(budget)? {
+                return Ok(Some(ending));
+            }
+        }
+    }
+
+    /// The last id at which the search pauses to strengthen the clauses of the formula. It doesn't where it has learnt
+    /// already, and where the formula is large.
+    fn pause(&self) -> u32 {
+        if self.clauses.last() > self.given || self.given > MOST_STRENGTHENED {
+            return NEVER;
+        }
+        self.given.saturating_add(FIRST_CONFLICTS)
+    }
+
     /// Decides and learns until the formula is decided, or a decision is due after at least `budget` additions.
     pub(crate) fn go_on(&mut self, budget: u32) -> Result<Ending, AllocError>
         requires searching { IsSearching self.old }
@@ -301,15 +359,33 @@ impl Search {
         ensures ends { (f : Formula) → IsLogged f self.old → IfOk result (Ends f budget self.new) }
         ensures stored { IfOk result (λ _. IsStored self.new.clauses) }
     {
-        loop {
-            if let Some(conflict) = self.settle()? {
+        let pause = self.pause();
+        if let Some(ending) = self.run(budget, pause)? {
+            return Ok(ending);
+        }
+        if self.shorter.high == 0 {
+            if let Some(conflict) = self.strengthen(self.given + budget)? {
                 self.refute(conflict)?;
                 return Ok(Ending::Refuted);
             }
-            self.tidy()?;
-            if let Some(ending) = self.decide(budget)? {
-                return Ok(ending);
-            }
+        }
+        self.finish(budget)
+    }
+
+    /// The same without a pause.
+    fn finish(&mut self, budget: u32) -> Result<Ending, AllocError>
+        requires searching { IsSearching self.old }
+        requires visited { IsVisited self.old }
+        requires least { self.old.least ≤ budget }
+        requires room { self.old.given + budget < 2970000000 }
+        requires short { length self.old.clauses.clauses ≤ self.old.given + budget + self.old.trail.vars + 1 }
+        requires starts { self.old.starts.items ≡ [] }
+        ensures ends { (f : Formula) → IsLogged f self.old → IfOk result (Ends f budget self.new) }
+        ensures stored { IfOk result (λ _. IsStored self.new.clauses) }
+    {
+        match self.run(budget, NEVER)? {
+            Some(ending) => Ok(ending),
+            None => unreachable!(),
         }
     }
 }

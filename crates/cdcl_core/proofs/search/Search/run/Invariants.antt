@@ -1,7 +1,7 @@
 use Rattle.std.proofs.Common.{◌≡◌, ◌+◌, ◌*◌, ◌-◌, ◌≤◌, length}
 use Rattle.sat_theory.specs.Formula.{Formula}
 use Rattle.cdcl_core.specs.Searching.{IsSearching, IsVisited, IsLogged}
-use Rattle.cdcl_core.proofs.search.Search.go_on.Given as goal
+use Rattle.cdcl_core.proofs.search.Search.run.Given as goal
 
 abbrev pub invariant-loop-conflict : goal.invariant-loop-conflict
 invariant-loop-conflict l = record {

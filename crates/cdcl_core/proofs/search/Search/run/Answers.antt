@@ -4,7 +4,7 @@ use Rattle.cdcl_core.specs.declared.search.Search.{Search}
 use Rattle.cdcl_core.specs.Searching.{HasDecided, HasSettled}
 use Rattle.cdcl_core.proofs.Counting.{trail_short}
 use Rattle.cdcl_core.proofs.Settling.{measure_falls, logged_decided, starts_short, settled_few, settled_forgotten, all_settled_forgotten}
-use Rattle.cdcl_core.proofs.search.Search.go_on.Goals as goal
+use Rattle.cdcl_core.proofs.search.Search.run.Goals as goal
 
 pub loop-conflict-smaller : goal.loop-conflict-smaller
 loop-conflict-smaller c =

@@ -1,0 +1,211 @@
+//! Clauses of the formula give way to shorter ones that subsume them, by its unit and binary clauses
+//! (subsumption and self-subsuming resolution: Eén and Biere, "Effective preprocessing in SAT through
+//! variable and clause elimination", 2005; as inprocessing: Järvisalo, Heule and Biere, "Inprocessing
+//! rules", 2012). It takes place once, at level 0, when a search has learnt some clauses, so short
+//! searches don't pay for it.
+//!
+//! A shorter clause is an addition of the log like any other: it follows by hints and is new. The
+//! longer one goes from the clauses of the search, and stays in the log, which deletes no clause of
+//! the formula. What the search then says of the formula rests on `AreCovered`: each clause of the
+//! formula is there, or one that subsumes it and is never forgotten. No variable has a value
+//! meanwhile, so no clause is a reason; the unit clauses are assigned anew at the end.
+ghost use Rattle.std.specs.Prelude.{◌≡◌, ℕ, ◌+◌, ◌<◌, ◌≤◌, [], length, IsTrue, IfOk, IfSome, IfNone, OnOk};
+ghost use Rattle.sat_theory.specs.Formula.{Formula, IsClause, IsWithin};
+ghost use Rattle.sat_theory.specs.Holding.{among, HintsHold};
+ghost use Rattle.sat_theory.specs.Log.{IsNew};
+ghost use Rattle.cdcl_theory.specs.Falling.{IsFalsified};
+ghost use Rattle.cdcl_theory.specs.Trails.{fell as fell_of};
+ghost use Rattle.clause_db.specs.Stored.{live_in, added};
+ghost use Rattle.subsume_core.specs.Units.{IsUnitsOf};
+
+use crate::scope::release_open;
+use crate::search::{Search, Shorter};
+use clause_db::ClauseDb;
+use cnf_core::Lit;
+use std::alloc::{AllocError, Global};
+use subsume_core::{Finder, Found, Units, contains_all, holds, is_new, keep_others};
+
+/// What is lent for the work.
+#[derive(Drop)]
+pub(crate) struct Work {
+    pub(crate) finder: Finder,
+    pub(crate) units: Units,
+    pub(crate) kept: Vec<Lit>,
+    pub(crate) known: Vec<Lit>,
+}
+
+/// What is needed to strengthen the clauses 1 to `given`.
+fn work_on(alloc: Global, clauses: &ClauseDb, given: u32) -> Result<Work, AllocError>
+    ensures { IfOk result (λ w. IsUnitsOf clauses.now w.units) }
+{
+    Ok(Work {
+        finder: Finder::new(alloc, clauses, given)?,
+        units: Units::new(alloc, clauses)?,
+        kept: Vec::new(alloc),
+        known: Vec::new(alloc),
+    })
+}
+
+impl Search {
+    ghost use Rattle.cdcl_core.specs.Searching.{IsSearching, IsVisited, IsLogged, HasRestarted};
+    ghost use Rattle.cdcl_core.specs.Strengthening.{IsBare, IsStrengthening, HasStrengthened, CanStand, HasSetAside, HasAdded};
+
+    /// Takes back all values, those of level 0 too.
+    fn rewind(&mut self)
+        requires searching { IsSearching self.old }
+        requires bottom { self.old.starts.items ≡ [] }
+        ensures bare { IsBare self.new }
+        ensures restarted { HasRestarted self.old self.new }
+    {
+        self.choice.release(&self.trail, 0);
+        release_open(&mut self.scope, &self.trail, 0);
+        self.trail.back_to(0);
+        self.head = 0;
+    }
+
+    /// Adds a clause that follows by hints and is new, one that is never forgotten.
+    fn add_shorter(&mut self, lits: &[Lit], hints: &[u32]) -> Result<(), AllocError>
+        requires bare { IsBare self.old }
+        requires clause { IsClause lits.now }
+        requires within { IsWithin self.old.clauses.vars lits.now }
+        requires some { 0 < length lits.now }
+        requires hold { HintsHold (live_in self.old.clauses) (among lits.now) hints.now }
+        requires new { IsNew (live_in self.old.clauses) lits.now }
+        requires few { length self.old.clauses.clauses < 4000000000 }
+        requires high { self.old.shorter.high ≡ length self.old.clauses.clauses }
+        ensures bare { OnOk result (IsBare self.new) }
+        ensures clauses { OnOk result (self.new.clauses ≡ added self.old.clauses lits.now) }
+        ensures added { OnOk result (HasAdded self.old self.new) }
+        ensures logged { (f : Formula) → IsLogged f self.old → OnOk result (IsLogged f self.new) }
+    {
+        let id = self.clauses.add(lits)?;
+        self.lines.add(id, lits, hints)?;
+        self.shorter = Shorter {
+            low: self.shorter.low,
+            high: id,
+        };
+        self.merits.note_shorter()?;
+        Ok(())
+    }
+
+    /// Whether a clause of the formula may go, since another one, which is never forgotten, subsumes it.
+    fn can_stand(&self, by: u32, id: u32) -> bool
+        ensures { IsTrue result → CanStand self.now by id }
+    {
+        if by == id || id > self.given || !self.is_irredundant(by) {
+            return false;
+        }
+        if !self.clauses.live(id) || !self.clauses.live(by) {
+            return false;
+        }
+        contains_all(self.clauses.lits(id), self.clauses.lits(by))
+    }
+
+    /// Takes a clause of the formula from the clauses of the search, but not from the log, where `by` subsumes it.
+    fn set_aside(&mut self, id: u32, by: u32)
+        requires bare { IsBare self.old }
+        ensures bare { IsBare self.new }
+        ensures aside { HasSetAside self.old self.new }
+        ensures logged { (f : Formula) → IsLogged f self.old → IsLogged f self.new }
+    {
+        if !self.can_stand(by, id) {
+            return;
+        }
+        self.clauses.delete(id);
+    }
+
+    /// Puts a shorter clause in the place of one of the formula, where the tests let it, and the last id is below `end`.
+    fn replace(&mut self, work: &mut Work, id: u32, end: u32) -> Result<(), AllocError>
+        requires strengthening { IsStrengthening self.old work.old.units }
+        requires end { end ≤ 4000000000 }
+        ensures strengthening { OnOk result (IsStrengthening self.new work.new.units) }
+        ensures strengthened { OnOk result (HasStrengthened end self.old self.new) }
+        ensures logged { (f : Formula) → IsLogged f self.old → OnOk result (IsLogged f self.new) }
+    {
+        let last = self.clauses.last();
+        if last >= end || !self.clauses.live(id) {
+            return Ok(());
+        }
+        keep_others(self.clauses.lits(id), work.finder.gone(), &mut work.kept)?;
+        if work.kept.is_empty() || !is_new(&self.clauses, &work.units, &work.kept) {
+            return Ok(());
+        }
+        let follows = holds(
+            &self.clauses,
+            &work.kept,
+            work.finder.hints(),
+            &mut work.known,
+        )?;
+        if !follows {
+            return Ok(());
+        }
+        self.add_shorter(&work.kept, work.finder.hints())?;
+        work.units.note(&work.kept);
+        work.finder.note(&work.kept, last + 1)?;
+        self.set_aside(id, last + 1);
+        Ok(())
+    }
+
+    /// Looks at one clause of the formula.
+    fn strengthen_one(&mut self, work: &mut Work, id: u32, end: u32) -> Result<(), AllocError>
+        requires strengthening { IsStrengthening self.old work.old.units }
+        requires end { end ≤ 4000000000 }
+        ensures strengthening { OnOk result (IsStrengthening self.new work.new.units) }
+        ensures strengthened { OnOk result (HasStrengthened end self.old self.new) }
+        ensures logged { (f : Formula) → IsLogged f self.old → OnOk result (IsLogged f self.new) }
+    {
+        match work.finder.find(&self.clauses, id)? {
+            Found::Nothing => Ok(()),
+            Found::Subsumed(by) => {
+                self.set_aside(id, by);
+                Ok(())
+            }
+            Found::Shorter => self.replace(work, id, end),
+        }
+    }
+
+    /// Looks at all clauses of the formula.
+    fn strengthen_all(&mut self, end: u32) -> Result<(), AllocError>
+        requires bare { IsBare self.old }
+        requires full { (id : ℕ) → live_in self.old.clauses id ≡ Some [] → ⊥ }
+        requires high { self.old.shorter.high ≡ length self.old.clauses.clauses }
+        requires end { end ≤ 4000000000 }
+        ensures bare { OnOk result (IsBare self.new) }
+        ensures strengthened { OnOk result (HasStrengthened end self.old self.new) }
+        ensures logged { (f : Formula) → IsLogged f self.old → OnOk result (IsLogged f self.new) }
+    {
+        let alloc = *self.starts.allocator();
+        let mut work = work_on(alloc, &self.clauses, self.given)?;
+        for turn in 0..work.finder.turns() {
+            let id = work.finder.at(turn);
+            self.strengthen_one(&mut work, id, end)?;
+        }
+        self.clauses.compact();
+        Ok(())
+    }
+
+    /// Strengthens the clauses of the formula, by further ones with ids up to `end`, and begins anew at level 0. It
+    /// answers the id of a falsified clause, where there is one.
+    pub(crate) fn strengthen(&mut self, end: u32) -> Result<Option<u32>, AllocError>
+        requires searching { IsSearching self.old }
+        requires visited { IsVisited self.old }
+        requires bottom { self.old.starts.items ≡ [] }
+        requires first { self.old.shorter.high ≡ 0 }
+        requires end { end ≤ 4000000000 }
+        ensures searching { IfOk result (λ _. IsSearching self.new) }
+        ensures bottom { IfOk result (λ _. self.new.starts.items ≡ []) }
+        ensures visited { IfOk result (λ found. IfNone found (IsVisited self.new)) }
+        ensures conflict { IfOk result (λ found. IfSome found (IsFalsified (live_in self.new.clauses) (fell_of self.new.trail))) }
+        ensures strengthened { IfOk result (λ _. HasStrengthened end self.old self.new) }
+        ensures logged { (f : Formula) → IsLogged f self.old → IfOk result (λ _. IsLogged f self.new) }
+    {
+        self.rewind();
+        let last = self.clauses.last();
+        self.shorter = Shorter {
+            low: last,
+            high: last,
+        };
+        self.strengthen_all(end)?;
+        self.begin()
+    }
+}
