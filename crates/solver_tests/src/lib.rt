@@ -15,4 +15,6 @@ mod probing;
 #[cfg(test)]
 mod solving;
 #[cfg(test)]
+mod subsuming;
+#[cfg(test)]
 mod trails;

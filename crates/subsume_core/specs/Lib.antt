@@ -1,3 +1,4 @@
 pub mod Units
 pub mod UnitLaws
 pub mod Inside
+pub mod InsideLaws

@@ -132,6 +132,16 @@ impl Finder {
         found
     }
 
+    /// The literals without which the clause follows that `find` told to be shorter last.
+    pub fn gone(&self) -> &[Lit] {
+        &self.gone
+    }
+
+    /// The hints by which it does.
+    pub fn hints(&self) -> &[u32] {
+        &self.hints
+    }
+
     /// Sets or clears the marks of literals.
     fn mark(&mut self, lits: &[Lit], on: bool) {
         for lit in lits {

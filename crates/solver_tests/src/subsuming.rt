@@ -1,0 +1,244 @@
+//! Clauses that unit and binary clauses subsume or shorten.
+ghost use Rattle.std.specs.Prelude.{◌≡◌, ℕ, ◌≤◌, [], Some, IfSome};
+ghost use Rattle.sat_theory.specs.Formula.{variable as variable_of};
+ghost use Rattle.clause_db.specs.Stored.{live_in};
+ghost use Rattle.subsume_core.specs.Units.{IsUnitsOf};
+
+use clause_db::ClauseDb;
+use cnf_core::Lit;
+use lrat_tests::building::formula;
+use std::alloc::{AllocError, Global};
+use subsume_core::{Finder, Found, Units, contains_all, holds, is_new, keep_others};
+
+/// The clauses that all tests here begin with.
+const CLAUSES: &[&[u8]] = &[
+    b"1 1 2 0 0",
+    b"2 -1 2 3 0 0",
+    b"3 1 2 3 0 0",
+    b"4 -2 0 0",
+];
+
+/// The literals of numbers from -9 to 9; 0 and others are passed over.
+fn literals(alloc: Global, numbers: &[i32]) -> Result<Vec<Lit>, AllocError> {
+    let mut lits = Vec::new(alloc);
+    for number in numbers {
+        if (-9..=9).contains(number) && *number != 0 {
+            lits.push(Lit::new(*number))?;
+        }
+    }
+    Ok(lits)
+}
+
+fn are(lits: &[Lit], numbers: &[i32]) -> bool {
+    if lits.len() != numbers.len() {
+        return false;
+    }
+    for place in 0..lits.len() {
+        if lits[place].get() != numbers[place] {
+            return false;
+        }
+    }
+    true
+}
+
+/// The clauses in the order in which they are looked at, twice, and none.
+const ORDER: &[u32] = &[4, 1, 2, 3, 4, 1, 2, 3, 0];
+
+/// Whether the finder has its turns in this order.
+fn comes_in_order(finder: &Finder) -> bool {
+    for turn in 0..ORDER.len() {
+        if finder.at(turn) != ORDER[turn] {
+            return false;
+        }
+    }
+    finder.turns() == 8
+}
+
+/// By clause, the one that subsumes it or 0, the literals that go, and the hints for that.
+const FOUND: &[(u32, u32, &[i32], &[u32])] = &[
+    (1, 0, &[2], &[4, 1]),
+    (2, 0, &[-1, 2], &[4, 1, 2]),
+    (3, 1, &[], &[]),
+    (4, 0, &[], &[]),
+];
+
+/// The id of a clause that was found to subsume another one, and 0 for other answers.
+fn subsuming(found: Found) -> u32 {
+    match found {
+        Found::Subsumed(other) => other,
+        _ => 0,
+    }
+}
+
+/// Whether that is what is found.
+fn all_found(finder: &mut Finder, clauses: &ClauseDb) -> Result<bool, AllocError> {
+    for &(id, other, gone, hints) in FOUND {
+        let found = subsuming(finder.find(clauses, id)?);
+        if found != other || !are(finder.gone(), gone) || finder.hints() != hints {
+            return Ok(false);
+        }
+    }
+    Ok(true)
+}
+
+/// Whether a unit clause that is added subsumes the second clause.
+fn finds_added(finder: &mut Finder, clauses: &mut ClauseDb) -> Result<bool, AllocError> {
+    if clauses.vars() != 3 || clauses.last() != 4 {
+        return Ok(false);
+    }
+    let id = clauses.add(&[Lit::new(3)])?;
+    finder.note(&[Lit::new(3)], id)?;
+    Ok(subsuming(finder.find(clauses, 2)?) == 5)
+}
+
+/// Whether the finder finds what is there.
+fn finds(alloc: Global, clauses: &mut ClauseDb) -> Result<bool, AllocError> {
+    let mut finder = Finder::new(alloc, clauses, 4)?;
+    let well = comes_in_order(&finder) && all_found(&mut finder, clauses)?;
+    let added = finds_added(&mut finder, clauses);
+    drop(finder);
+    Ok(well && added?)
+}
+
+/// Whether it does from these clauses.
+fn are_found(alloc: Global) -> Result<bool, AllocError> {
+    let mut clauses = ClauseDb::new(alloc, &formula(alloc, 3, CLAUSES)?)?;
+    let well = finds(alloc, &mut clauses);
+    drop(clauses);
+    well
+}
+
+#[test]
+fn clauses_are_subsumed_and_shortened(rt: HostRuntime) {
+    assert!(rt; matches!(are_found(rt.alloc()), Ok(true)));
+}
+
+/// Lists with hints, and whether they follow by them.
+const HINTED: &[(&[i32], &[u32], bool)] = &[
+    (&[3], &[4, 1, 2], true),
+    (&[3], &[1, 4, 2], false),
+    (&[3], &[4, 1], false),
+    (&[3], &[4, 9, 2], false),
+    (&[3], &[], false),
+    (&[2, 3], &[1, 2], true),
+    (&[2, 3], &[1], false),
+];
+
+/// Whether those that do are told.
+fn all_hold(alloc: Global, clauses: &ClauseDb) -> Result<bool, AllocError> {
+    let mut known = Vec::new(alloc);
+    for &(numbers, hints, yes) in HINTED {
+        let lits = literals(alloc, numbers)?;
+        if holds(clauses, &lits, hints, &mut known)? != yes {
+            return Ok(false);
+        }
+    }
+    Ok(true)
+}
+
+/// Whether they are, from these clauses.
+fn are_held(alloc: Global) -> Result<bool, AllocError> {
+    let clauses = ClauseDb::new(alloc, &formula(alloc, 3, CLAUSES)?)?;
+    let well = all_hold(alloc, &clauses);
+    drop(clauses);
+    well
+}
+
+#[test]
+fn hints_hold_in_their_order(rt: HostRuntime) {
+    assert!(rt; matches!(are_held(rt.alloc()), Ok(true)));
+}
+
+/// The literal of a number, if its variable is one of the clauses'.
+fn over(clauses: &ClauseDb, number: i32) -> Option<Lit>
+    ensures { IfSome result (λ l. variable_of l ≤ clauses.now.vars) }
+{
+    if !(-9..=9).contains(&number) || number == 0 {
+        return None;
+    }
+    let lit = Lit::new(number);
+    if lit.variable() > clauses.vars() {
+        return None;
+    }
+    Some(lit)
+}
+
+/// Pairs of literals, and whether no clause subsumes them.
+const PAIRS: &[(i32, i32, bool)] = &[(1, 3, true), (1, 2, false), (2, 1, false), (1, -2, false)];
+
+/// Whether a pair is new.
+fn is_new_pair(clauses: &ClauseDb, units: &Units, one: i32, other: i32) -> bool
+    requires units { IsUnitsOf clauses.now units.now }
+    requires some { (id : ℕ) → live_in clauses.now id ≡ Some [] → ⊥ }
+{
+    let Some(one) = over(clauses, one) else {
+        return false;
+    };
+    let Some(other) = over(clauses, other) else {
+        return false;
+    };
+    is_new(clauses, units, &[one, other])
+}
+
+/// Whether those are told that are.
+fn all_new(clauses: &ClauseDb, units: &Units) -> bool
+    requires units { IsUnitsOf clauses.now units.now }
+    requires some { (id : ℕ) → live_in clauses.now id ≡ Some [] → ⊥ }
+{
+    for &(one, other, yes) in PAIRS {
+        if is_new_pair(clauses, units, one, other) != yes {
+            return false;
+        }
+    }
+    true
+}
+
+/// Whether a unit clause is new, and isn't any more once it is added.
+fn comes(clauses: &mut ClauseDb, units: &mut Units, lit: Lit) -> Result<bool, AllocError>
+    requires units { IsUnitsOf clauses.old units.old }
+    requires some { (id : ℕ) → live_in clauses.old id ≡ Some [] → ⊥ }
+    requires over { variable_of lit ≤ clauses.old.vars }
+{
+    let new = is_new(clauses, units, &[lit]);
+    if clauses.last() > 9 {
+        return Ok(false);
+    }
+    clauses.add(&[lit])?;
+    units.note(&[lit]);
+    Ok(new && !is_new(clauses, units, &[lit]))
+}
+
+/// Whether lists are told to be new, and those that are added not any more.
+fn are_new(alloc: Global) -> Result<bool, AllocError> {
+    let cnf = formula(alloc, 3, CLAUSES)?;
+    if cnf.has_empty() {
+        return Ok(false);
+    }
+    let mut clauses = ClauseDb::new(alloc, &cnf)?;
+    let mut units = Units::new(alloc, &clauses)?;
+    let Some(lit) = over(&clauses, 3) else {
+        return Ok(false);
+    };
+    let well = all_new(&clauses, &units);
+    Ok(well && comes(&mut clauses, &mut units, lit)?)
+}
+
+#[test]
+fn lists_are_new_until_they_are_added(rt: HostRuntime) {
+    assert!(rt; matches!(are_new(rt.alloc()), Ok(true)));
+}
+
+/// Whether a list without some of its literals is another one, and inside it.
+fn is_kept(alloc: Global) -> Result<bool, AllocError> {
+    let lits = literals(alloc, &[-1, 2, 3])?;
+    let gone = literals(alloc, &[3, -1])?;
+    let mut kept = literals(alloc, &[7])?;
+    keep_others(&lits, &gone, &mut kept)?;
+    let inside = contains_all(&lits, &kept) && !contains_all(&kept, &lits);
+    Ok(inside && are(&kept, &[2]))
+}
+
+#[test]
+fn others_are_kept(rt: HostRuntime) {
+    assert!(rt; matches!(is_kept(rt.alloc()), Ok(true)));
+}
