@@ -25,3 +25,20 @@ same_inside (x ∷ xs) (suc k) d e low = same_inside xs k d e (let h : suc k < s
 -- all elements of a list are in it
 pub All-self : (xs : List ℤ) → All (Contains xs) xs
 All-self xs = λ k d low. (k, low, same_inside xs k (slice_index_or xs k d) d low)
+
+get_there : (xs : List (List ℤ)) (k : ℕ) (d : List ℤ) → k < length xs → slice_get xs k ≡ Some (slice_index_or xs k d)
+get_there [] k d low = absurd (let h : k < 0 = low in omega arith)
+get_there (x ∷ xs) zero d low = refl
+get_there (x ∷ xs) (suc k) d low = get_there xs k d (let h : suc k < suc (length xs) = low in omega arith)
+
+-- the clause of an index of the list has the next id
+pub named : (clauses : List (List ℤ)) (k : ℕ) (d : List ℤ) → k < length clauses → by_id clauses (suc k) ≡ Some (slice_index_or clauses k d)
+named clauses k d low =
+    let some : (suc k == 0) ≡ false = ne_eqb (suc k) 0 (λ e. omega arith) in
+    let index : suc k - 1 ≡ k = omega arith in
+    rw (some, index) (get_there clauses k d low)
+
+-- each id up to the number of clauses has a clause
+pub by_id_there : (clauses : List (List ℤ)) (id : ℕ) → 0 < id → id ≤ length clauses → (c : List ℤ) × (by_id clauses id ≡ Some c)
+by_id_there clauses zero some low = absurd (omega (arith, some))
+by_id_there clauses (suc k) some low = (slice_index_or clauses k [], named clauses k [] (omega (arith, low)))

@@ -21,3 +21,4 @@ pub mod Writing
 pub mod Closing
 pub mod UnderWay
 pub mod Formulas
+pub mod Standing

@@ -14,6 +14,7 @@ use Rattle.clause_db.specs.Stored.{Stored, live_in, IsStored}
 use Rattle.trail_core.specs.Values.{Follows, HaveValues}
 use Rattle.cdcl_core.specs.declared.search.Search.{Search}
 use Rattle.cdcl_core.specs.Searching.{IsLog, AreNew, IsCovered, IsLogged}
+use Rattle.cdcl_core.proofs.Formulas.{named}
 use Rattle.std.specs.Prelude.{Result, Ok, Err, IfOk}
 use Rattle.sat_solve.specs.declared.solver.Solved.{Solved}
 use Rattle.sat_solve.specs.declared.solver.Solved.TheVariants.{Sat, Unsat, Open}
@@ -52,11 +53,6 @@ settled_true t bits lits follows values clause within settled =
     (λ (true_now : 0 < fell t (opposite x.1)). (x.0, x.1, x.2, x.3, follows.values x.1 (some, small) true_now))
     (values x.1 some (omega arith))
 
-get_there : (xs : List (List ℤ)) (k : ℕ) (d : List ℤ) → k < length xs → slice_get xs k ≡ Some (slice_index_or xs k d)
-get_there [] k d low = absurd (let h : k < 0 = low in omega arith)
-get_there (x ∷ xs) zero d low = refl
-get_there (x ∷ xs) (suc k) d low = get_there xs k d (let h : suc k < suc (length xs) = low in omega arith)
-
 more_true : (v : ℕ → Bool) (cover clause : List ℤ) → All (Contains clause) cover → IsTrueClause v cover → IsTrueClause v clause
 unfolding IsTrueClause
 more_true v cover clause inside (k, d, low, at, is) =
@@ -68,16 +64,10 @@ more_true v cover clause inside (k, d, low, at, is) =
 pub values_satisfy : (f : Formula) (s : Search) (bits : List Bool) → IsFormula f → IsStored s.clauses → s.trail.vars ≡ f.vars → IsLogged f s → HaveValues s.trail (1 + s.trail.vars) → AllSettled (live_in s.clauses) (fell s.trail) → Follows s.trail bits → Satisfies (bits_of bits) f
 values_satisfy f s bits formula stored vars logged values settled follows = λ k d low.
     let clause : List ℤ = slice_index_or f.clauses k d in
-    let cover : IsCovered s clause = logged.covered (suc k) clause (named k d low) in
+    let cover : IsCovered s clause = logged.covered (suc k) clause (named f.clauses k d low) in
     let is_clause : IsClause cover.cover = stored.clauses cover.by cover.cover cover.is_live in
     let within : IsWithin s.trail.vars cover.cover = subst (λ (n : ℕ). IsWithin n cover.cover) (logged.log.vars ∙ sym vars) (stored.variables cover.by cover.cover cover.is_live) in
     more_true (bits_of bits) cover.cover clause cover.inside (settled_true s.trail bits cover.cover follows values is_clause within (settled.each cover.by cover.cover cover.is_live))
-  where
-    named : (k : ℕ) (d : List ℤ) → k < length f.clauses → by_id f.clauses (suc k) ≡ Some (slice_index_or f.clauses k d)
-    named k d low =
-        let some : (suc k == 0) ≡ false = ne_eqb (suc k) 0 (λ e. omega arith) in
-        let index : suc k - 1 ≡ k = omega arith in
-        rw (some, index) (get_there f.clauses k d low)
 
 not_both : (line : Line) → AddsSome line → AddsEmpty line → ⊥
 not_both (Add id lits hints) some empty = (let e : length lits ≡ 0 = ap length empty in let h : 0 < length lits = some in omega arith)

@@ -36,7 +36,7 @@ pub record IsAlike (old new : Search) : Type 0 where
   pub given : new.given ≡ old.given
   pub least : new.least ≡ old.least
 
--- A clause may be gone, and nothing else changed.
+-- A clause of the search may be gone, and nothing else changed.
 pub record HasSetAside (old new : Search) : Type 0 where
   pub alike : IsAlike old new
   pub db_vars : new.clauses.vars ≡ old.clauses.vars
@@ -47,6 +47,7 @@ pub record HasSetAside (old new : Search) : Type 0 where
 -- One clause was added that is never forgotten.
 pub record HasAdded (old new : Search) : Type 0 where
   pub alike : IsAlike old new
+  pub low : new.shorter.low ≡ old.shorter.low
   pub high : new.shorter.high ≡ length new.clauses.clauses
 
 -- Clauses may have been added, with ids up to `end`.

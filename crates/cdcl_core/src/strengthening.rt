@@ -48,7 +48,7 @@ fn work_on(alloc: Global, clauses: &ClauseDb, given: u32) -> Result<Work, AllocE
 
 impl Search {
     ghost use Rattle.cdcl_core.specs.Searching.{IsSearching, IsVisited, IsLogged, HasRestarted};
-    ghost use Rattle.cdcl_core.specs.Strengthening.{IsBare, IsStrengthening, HasStrengthened, CanStand, HasSetAside, HasAdded};
+    ghost use Rattle.cdcl_core.specs.Strengthening.{IsBare, IsAlike, IsStrengthening, HasStrengthened, CanStand, HasSetAside, HasAdded};
 
     /// Takes back all values, those of level 0 too.
     fn rewind(&mut self)
@@ -130,16 +130,11 @@ impl Search {
         if work.kept.is_empty() || !is_new(&self.clauses, &work.units, &work.kept) {
             return Ok(());
         }
-        let follows = holds(
-            &self.clauses,
-            &work.kept,
-            work.finder.hints(),
-            &mut work.known,
-        )?;
-        if !follows {
+        let hints = work.finder.hints();
+        if !holds(&self.clauses, &work.kept, hints, &mut work.known)? {
             return Ok(());
         }
-        self.add_shorter(&work.kept, work.finder.hints())?;
+        self.add_shorter(&work.kept, hints)?;
         work.units.note(&work.kept);
         work.finder.note(&work.kept, last + 1)?;
         self.set_aside(id, last + 1);
@@ -165,7 +160,22 @@ impl Search {
     }
 
     /// Looks at all clauses of the formula.
-    fn strengthen_all(&mut self, end: u32) -> Result<(), AllocError>
+    fn strengthen_all(&mut self, work: &mut Work, end: u32) -> Result<(), AllocError>
+        requires strengthening { IsStrengthening self.old work.old.units }
+        requires end { end ≤ 4000000000 }
+        ensures strengthening { OnOk result (IsStrengthening self.new work.new.units) }
+        ensures strengthened { OnOk result (HasStrengthened end self.old self.new) }
+        ensures logged { (f : Formula) → IsLogged f self.old → OnOk result (IsLogged f self.new) }
+    {
+        for turn in 0..work.finder.turns() {
+            let id = work.finder.at(turn);
+            self.strengthen_one(work, id, end)?;
+        }
+        Ok(())
+    }
+
+    /// The same, with what is needed for the work.
+    fn strengthen_bare(&mut self, end: u32) -> Result<(), AllocError>
         requires bare { IsBare self.old }
         requires full { (id : ℕ) → live_in self.old.clauses id ≡ Some [] → ⊥ }
         requires high { self.old.shorter.high ≡ length self.old.clauses.clauses }
@@ -176,12 +186,25 @@ impl Search {
     {
         let alloc = *self.starts.allocator();
         let mut work = work_on(alloc, &self.clauses, self.given)?;
-        for turn in 0..work.finder.turns() {
-            let id = work.finder.at(turn);
-            self.strengthen_one(&mut work, id, end)?;
-        }
-        self.clauses.compact();
+        self.strengthen_all(&mut work, end)?;
         Ok(())
+    }
+
+    /// Sets where the ids of shorter clauses begin.
+    fn begin_shorter(&mut self)
+        requires bare { IsBare self.old }
+        requires first { self.old.shorter.high ≡ 0 }
+        ensures bare { IsBare self.new }
+        ensures clauses { self.new.clauses ≡ self.old.clauses }
+        ensures alike { IsAlike self.old self.new }
+        ensures high { self.new.shorter.high ≡ length self.new.clauses.clauses }
+        ensures logged { (f : Formula) → IsLogged f self.old → IsLogged f self.new }
+    {
+        let last = self.clauses.last();
+        self.shorter = Shorter {
+            low: last,
+            high: last,
+        };
     }
 
     /// Strengthens the clauses of the formula, by further ones with ids up to `end`, and begins anew at level 0. It
@@ -200,12 +223,9 @@ impl Search {
         ensures logged { (f : Formula) → IsLogged f self.old → IfOk result (λ _. IsLogged f self.new) }
     {
         self.rewind();
-        let last = self.clauses.last();
-        self.shorter = Shorter {
-            low: last,
-            high: last,
-        };
-        self.strengthen_all(end)?;
+        self.begin_shorter();
+        self.strengthen_bare(end)?;
+        self.clauses.compact();
         self.begin()
     }
 }
