@@ -1,5 +1,6 @@
 -- Clauses of the formula that go where others subsume them, and what is added for them.
 use Rattle.std.proofs.Common.{◌≡◌, ◌≢◌, ◌⊎◌, ℕ, zero, suc, ◌+◌, ◌-◌, ◌<◌, ◌≤◌, ◌==◌, ℤ, Bool, false, List, [], ◌∷◌, ◌++◌, length, slice_index_or, slice_get, max, Contains, All, Option, Some, None, IsSome, subst, sym, ap, ◌∙◌, arith, inl, inr, refl}
+use Rattle.std.specs.Prelude.{Result, Ok, Err, IfOk}
 use Rattle.std.proofs.Math.Logic.{⊎_elim}
 use Rattle.std.proofs.lemmas.Bool.{cases_eq, ne_eqb}
 use Rattle.std.proofs.lemmas.List.{length-set, length_push}
@@ -20,6 +21,10 @@ use Rattle.cdcl_core.specs.Searching.{IsStateOf, IsLog, IsIrredundant, IsCovered
 use Rattle.cdcl_core.specs.Strengthening.{IsBare, IsStrengthening, IsAlike, CanStand, HasSetAside, HasAdded, HasStrengthened}
 use Rattle.cdcl_core.proofs.Formulas.{by_id_there}
 use Rattle.cdcl_core.proofs.Logging.{log_added, new_added, log_same, covered_same}
+
+pub positive : (n : ℕ) → (n == 0) ≡ false → 0 < n
+positive zero is = absurd (cc)
+positive (suc n) is = omega arith
 
 pub same_clause : (o : Option (List ℤ)) (a b : List ℤ) → o ≡ Some a → o ≡ Some b → a ≡ b
 same_clause o a b first second = cc
@@ -171,3 +176,10 @@ strengthened_trans end a b c first second = record {
   alike = alike_trans a b c first.alike second.alike;
   few = omega (arith, first.few, second.few);
 }
+
+pub strengthened_self : (end : ℕ) (s : Search) → HasStrengthened end s s
+strengthened_self end s = record { alike = record { vars = refl; given = refl; least = refl }; few = omega arith }
+
+pub begun_logged : {A E : Type 0} (r : Result A E) (f : Formula) (s t : Search) → IsLogged f s → IfOk r (λ x. HasBegun s t) → IfOk r (λ x. IsLogged f t)
+begun_logged (Ok x) f s t logged begun = logged_begun f s t logged begun
+begun_logged (Err e) f s t logged begun = tt
