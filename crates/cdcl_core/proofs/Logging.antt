@@ -16,6 +16,7 @@ use Rattle.cdcl_theory.specs.ResolvingLaws.{hints_live}
 use Rattle.clause_db.specs.Stored.{Stored, live_at, live_in, IsStored, none_stored, added, all_added}
 use Rattle.clause_db.specs.StoredLaws.{live_in-add, live_in-start, live_inside, live_added, added_old, added_new, added_cases, all_added-vars}
 use Rattle.cdcl_core.specs.declared.search.Search.{Search}
+use Rattle.cdcl_core.specs.declared.choosing.Choice.{Choice}
 use Rattle.cdcl_core.specs.Searching.{IsStateOf, IsLog, AreNew, IsCovered, AreCovered, IsLogged}
 use Rattle.cdcl_core.proofs.Formulas.{by_id_inside, All-self}
 use Rattle.cdcl_core.proofs.Beginning.{count_begun}
@@ -221,4 +222,13 @@ log_same f a b lines deleted least clauses vars log = record {
   ids = log.ids;
   gone = log.gone;
   half = log.half;
+}
+
+-- another order of decisions
+pub logged_chosen : (f : Formula) (s : Search) (x : Choice) → IsLogged f s → IsLogged f (record s { choice = x })
+logged_chosen f s x logged = record {
+  log = logged.log;
+  new = logged.new;
+  given = logged.given;
+  covered = covered_same f s (record s { choice = x }) logged.covered refl refl refl;
 }

@@ -5,6 +5,7 @@ use Rattle.cdcl_core.proofs.Jumps.{guarded_started}
 use Rattle.cdcl_theory.specs.Trails.{Trailed, pushed}
 use Rattle.clause_db.specs.Stored.{live_in}
 use Rattle.cdcl_core.proofs.Layers.{layered_decided}
+use Rattle.cdcl_core.proofs.Logging.{logged_chosen}
 use Rattle.cdcl_core.proofs.search.Search.decide.Goals as goal
 
 pub returns-clause-searching : goal.returns-clause-searching
@@ -31,4 +32,21 @@ returns-clause-visited c =
       guarded = rw is (guarded_started s.clauses old s.starts.items c.push.new.self.items s.head c.in-Some.lit 0 c.requires.searching.layered.whole c.in-Some.ensures.over c.in-Some.ensures.free c.requires.all c.requires.visited.begun starts c.requires.visited.guarded);
       low = omega (arith, long, c.requires.all);
       begun = rw starts (All-push (λ x. x ≤ s.head) s.starts.items (length old.lits) c.requires.visited.begun (omega (arith, c.requires.all)));
+    }
+
+pub returns-in_default-clause-ended : goal.returns-in_default-clause-ended
+returns-in_default-clause-ended c = λ f logged. record {
+  vars = sym c.requires.searching.vars ∙ logged.log.vars;
+  logged = logged_chosen f c.args.self.now c.take_free.new.self logged;
+  values = c.in_default.ensures.none;
+  settled = c.requires.settled;
+}
+
+pub returns-then-has_spent-clause-ended : goal.returns-then-has_spent-clause-ended
+returns-then-has_spent-clause-ended c = λ f logged.
+    let enough : c.args.self.now.given + c.args.budget ≤ length c.args.self.now.clauses.clauses = c.has_spent.ensures.0 c.if-has_spent.true in
+    record {
+      logged = logged_chosen f c.args.self.now c.take_free.new.self logged;
+      enough = omega (arith, enough, logged.given, logged.log.count);
+      least = c.requires.least;
     }

@@ -12,3 +12,6 @@ returns-clause-forgotten c = rw c.compact.ensures.same (forgotten_noted c.args.s
 
 pub returns-clause-logged : goal.returns-clause-logged
 returns-clause-logged c = λ f logged. rw c.compact.ensures.same (c.in_ok-forget.ensures.logged f (logged_after f c.args.self.now c.due_ones.new.self c.due_ones.ensures logged))
+
+pub returns-then-is_empty-clause-logged : goal.returns-then-is_empty-clause-logged
+returns-then-is_empty-clause-logged c = λ f logged. c.in_ok-forget.ensures.logged f (logged_after f c.args.self.now c.due_ones.new.self c.due_ones.ensures logged)
