@@ -1,11 +1,11 @@
-use Rattle.std.proofs.Common.{◌≡◌, ◌∙◌, ◌+◌, ◌<◌, ◌≤◌, length, ap, arith}
+use Rattle.std.proofs.Common.{◌≡◌, ◌∙◌, ◌+◌, ◌<◌, ◌≤◌, length, ap, subst, sym, arith}
 use Rattle.clause_db.specs.Stored.{live_in}
 use Rattle.cdcl_core.specs.declared.search.Search.{Search}
-use Rattle.cdcl_core.specs.Searching.{HasDecided, HasSettled}
+use Rattle.cdcl_core.specs.Searching.{IsLogged, HasDecided, HasSettled}
 use Rattle.cdcl_core.specs.Solving.{IsUnderWay}
 use Rattle.cdcl_core.proofs.Counting.{trail_short}
 use Rattle.cdcl_core.proofs.Settling.{measure_falls, logged_decided, starts_short, settled_few}
-use Rattle.cdcl_core.proofs.UnderWay.{under_way_settled}
+use Rattle.cdcl_core.proofs.UnderWay.{under_way_settled, logged_scoped}
 use Rattle.cdcl_core.proofs.search.Search.probe_to.Goals as goal
 
 pub loop-conflict-smaller : goal.loop-conflict-smaller
@@ -59,3 +59,8 @@ pub refute-requires-clause-few : goal.refute-requires-clause-few
 refute-requires-clause-few c =
     let a : Search = c.loop-conflict.self in
     settled_few a c.settle.new.self c.in_ok-conflict.ensures.settled (omega (arith, c.loop-conflict.invariant.way.few))
+
+pub returns-in-Some-2-clause-logged : goal.returns-in-Some-2-clause-logged
+returns-in-Some-2-clause-logged c = λ f log.
+    let same : c.decide_open.new.self ≡ record c.settle.new.self { scope = c.decide_open.new.self.scope } = rw c.in-Some-2.is at c.in_ok-probed.ensures.same in
+    subst (λ (x : Search). IsLogged f x) (sym same) (logged_scoped f c.settle.new.self c.decide_open.new.self.scope (c.in_ok-conflict.ensures.logged f (c.loop-conflict.invariant.logged f log)))
