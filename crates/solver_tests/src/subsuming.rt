@@ -11,12 +11,7 @@ use std::alloc::{AllocError, Global};
 use subsume_core::{Finder, Found, Units, contains_all, holds, is_new, keep_others};
 
 /// The clauses that all tests here begin with.
-const CLAUSES: &[&[u8]] = &[
-    b"1 1 2 0 0",
-    b"2 -1 2 3 0 0",
-    b"3 1 2 3 0 0",
-    b"4 -2 0 0",
-];
+const CLAUSES: &[&[u8]] = &[b"1 1 2 0 0", b"2 -1 2 3 0 0", b"3 1 2 3 0 0", b"4 -2 0 0"];
 
 /// The literals of numbers from -9 to 9; 0 and others are passed over.
 fn literals(alloc: Global, numbers: &[i32]) -> Result<Vec<Lit>, AllocError> {

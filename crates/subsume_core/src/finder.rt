@@ -2,11 +2,12 @@
 //! is promised here: what is told is tested where it is used, so a wrong guess costs time and never
 //! an answer.
 //!
-//! The literals of the clause under work are marked. A unit or binary clause whose literals are all
-//! marked subsumes it. One whose literals are marked but for one, the opposite of a marked literal,
-//! takes the mark off that literal. The clause then follows by all that were used, the last one
-//! first: each needs only literals that kept their marks, and those whose marks it was later to
-//! lose. So hints are told in that order.
+//! The literals of the clause under work are marked. A unit or binary clause that has only marked
+//! literals subsumes it. One that has only marked literals but for one, the opposite of a marked
+//! literal, takes the mark off that literal. The clause of the literals that keep their marks
+//! follows by all clauses that were used, from the last one back to the first, and then the clause
+//! itself: each needs, besides the literal whose mark it took, only one that was still marked, so
+//! one that is kept or whose own hint comes before.
 ghost use Rattle.std.specs.Prelude.{◌≤◌};
 
 use clause_db::ClauseDb;
