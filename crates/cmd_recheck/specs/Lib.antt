@@ -7,3 +7,5 @@ pub mod RecheckDepthReport
 pub mod RecheckLaws
 pub mod RecheckPromise
 pub mod RecheckReport
+pub mod Rechecks
+pub mod RechecksLaws

@@ -1,6 +1,6 @@
 -- `recheck --depth yes` is a task, and a run of it keeps what it promises.
-use Rattle.std.specs.Prelude.{◌≡◌, ℕ, ◌≤◌, ◌⊎◌, List, length, Some, Err}
-use Rattle.std.proofs.Common.{arith, sym, ◌∙◌, ap, subst, refl, inl, inr}
+use Rattle.std.specs.Prelude.{◌≡◌, ℕ, ◌⊎◌, List, length, Err}
+use Rattle.std.proofs.Common.{◌∙◌, ap, refl, inl, inr}
 use Rattle.std.proofs.Math.Logic.{⊎_elim}
 use Rattle.text_core.specs.Lines.{lines_of}
 use Rattle.cert_theory.specs.declared.data.BundleError.{BundleError}
@@ -17,15 +17,14 @@ use Rattle.frame_core.specs.declared.status.Status.TheVariants as statuses
 use Rattle.frame_core.specs.Told.{memory_refusal}
 use Rattle.frame_core.specs.Task.{IsRefusalStatus, IsTask}
 use Rattle.frame_core.specs.Run.{Run}
-use Rattle.frame_core.specs.Promise.{OutputHeld, Stands, Replies, Faults, CommandPromise}
+use Rattle.frame_core.specs.Promise.{Stands, CommandPromise}
 use Rattle.frame_core.specs.TaskLaws.{at_once_task}
-use Rattle.frame_core.specs.KeepingLaws.{of_input}
-use Rattle.frame_core.specs.ReadOffLaws.{gets, done_replies, limit_beyond, refused_faults, never_undecided}
 use Rattle.depth_file.specs.SpentLaws.{log_is_spent}
 use Rattle.cmd_verdicts.specs.Verdicts.{most_of_bundle, GivesLevels}
 use Rattle.cmd_recheck.specs.RecheckReport.{bundle_status}
 use Rattle.cmd_recheck.specs.RecheckDepthReport.{depth_status, named_depth, depth_reply, depth_refusal, HasDepthFault, depth_task}
 use Rattle.cmd_recheck.specs.RecheckDepthPromise.{TellsLevels, RecheckDepthPromise}
+use Rattle.cmd_recheck.specs.RechecksLaws.{IsRechecking, rechecks}
 use Rattle.depth_file.specs.AnswerLaws.{one_answer}
 use Rattle.cmd_recheck.specs.RecheckLaws.{status_kind, no_limit}
 use Rattle.cmd_recheck.specs.QuestionLaws.{depth_asks, levels_answer}
@@ -79,16 +78,6 @@ depth_is_task =
 
 -- ---- what it promises besides
 
-complete : (r : Run) (input : List ℕ) (b : DepthBundle) → CommandPromise depth_task r → r.source.bytes ≡ Some input → length input ≤ most_of_bundle → IsDepthText input b → OutputHeld r → Replies depth_task r input
-complete r input b promise told within is held =
-    gets depth_task r input (λ verdict. refl) promise told (record { within = λ long. omega arith; sound = λ error fault. fault.none b is }) held
-
-accepted : (r : Run) (input : List ℕ) (b : DepthBundle) → CommandPromise depth_task r → r.source.bytes ≡ Some input → length input ≤ most_of_bundle → IsDepthText input b → OutputHeld r → Stands r (depth_reply b.verdict)
-accepted r input b promise told within is held =
-    let got : Replies depth_task r input = complete r input b promise told within is held in
-    let gives : GivesLevels input got.answer = got.has in
-    subst (λ (v : DepthVerdict). Stands r (depth_reply v)) (sym (gives.only b is)) got.stands
-
 -- What has a verdict spells its question, which the verdict answers.
 tells_levels : (r : Run) (input : List ℕ) (verdict : DepthVerdict) → GivesLevels input verdict → Stands r (depth_reply verdict) → TellsLevels r input
 tells_levels r input verdict gives stands =
@@ -104,11 +93,6 @@ tells_levels r input verdict gives stands =
       spent = λ low d bounded. log_is_spent input b low d is (gives.has.verdict ∙ bounded);
     }
 
-answers : (r : Run) (input : List ℕ) → CommandPromise depth_task r → r.source.bytes ≡ Some input → r.status ≡ statuses.Done → TellsLevels r input
-answers r input promise told is =
-    let got : Replies depth_task r input = done_replies depth_task r input promise told is in
-    tells_levels r input got.answer got.has got.stands
-
 -- no fault has the status of a limit
 no_depth_limit : (e : DepthError) → depth_status e ≡ statuses.Limit → ⊥
 no_depth_limit (depths.Bundle e) is = no_limit e is
@@ -122,15 +106,17 @@ no_depth_limit (depths.OpenTooShort line) is = cc
 no_depth_limit (depths.WrongLevels line) is = cc
 no_depth_limit depths.Memory is = cc
 
+is_rechecking : IsRechecking depth_task IsDepthText (λ (b : DepthBundle). b.verdict) TellsLevels
+is_rechecking = record {
+  reads = refl;
+  done = λ verdict. refl;
+  quiet = λ verdict. refl;
+  no_limit = no_depth_limit;
+  sound = λ input b error is fault. fault.none b is;
+  only = λ input b verdict is gives. gives.only b is;
+  tells = tells_levels;
+}
+
 -- All that `recheck --depth yes` promises besides.
 pub depth_promised : (r : Run) → (AsksFor r.words RecheckDepth → CommandPromise depth_task r) → RecheckDepthPromise r
-depth_promised r keeps = record {
-  complete = λ input b run within is held. complete r input b (keeps run.asks) run.told within is held;
-  accepted = λ input b run within is held. accepted r input b (keeps run.asks) run.told within is held;
-  accepted_only = λ input run is. done_replies depth_task r input (keeps run.asks) run.told is;
-  answers = λ input run is. answers r input (keeps run.asks) run.told is;
-  refused = λ input error run fault held. (keeps run.asks).refused input error run.told fault held;
-  refused_only = λ input run is. of_input depth_task r (Faults depth_task r) input (refused_faults depth_task r (λ verdict. refl) (keeps run.asks) is) run.told;
-  limit_only = λ input run is. limit_beyond depth_task r input no_depth_limit (keeps run.asks) run.told is;
-  decided = λ asks is. never_undecided depth_task r (λ verdict. refl) (keeps asks) is;
-}
+depth_promised = rechecks RecheckDepth depth_task IsDepthText (λ (b : DepthBundle). b.verdict) TellsLevels is_rechecking

@@ -1,6 +1,6 @@
 -- `recheck` is a task, and a run of it keeps what it promises.
-use Rattle.std.specs.Prelude.{◌≡◌, ℕ, ◌≤◌, ◌⊎◌, List, length, Some, Result, Ok, Err}
-use Rattle.std.proofs.Common.{arith, sym, ◌∙◌, ap, subst, refl, inl, inr}
+use Rattle.std.specs.Prelude.{◌≡◌, ℕ, ◌⊎◌, List, Result, Ok, Err}
+use Rattle.std.proofs.Common.{◌∙◌, ap, refl, inl, inr}
 use Rattle.std.proofs.Math.Logic.{⊎_elim}
 use Rattle.text_core.specs.Lines.{lines_of}
 use Rattle.cert_theory.specs.declared.data.Verdict.{Verdict}
@@ -18,11 +18,10 @@ use Rattle.cmd_recheck.specs.RecheckReport.{bundle_status, named_bundle, recheck
 use Rattle.frame_core.specs.Told.{memory_refusal}
 use Rattle.frame_core.specs.Task.{IsRefusalStatus, IsTask}
 use Rattle.frame_core.specs.Run.{Run}
-use Rattle.frame_core.specs.Promise.{OutputHeld, Stands, Replies, Faults, CommandPromise}
+use Rattle.frame_core.specs.Promise.{Stands, CommandPromise}
 use Rattle.cmd_recheck.specs.RecheckPromise.{TellsVerdict, RecheckPromise}
+use Rattle.cmd_recheck.specs.RechecksLaws.{IsRechecking, rechecks}
 use Rattle.frame_core.specs.TaskLaws.{at_once_task}
-use Rattle.frame_core.specs.KeepingLaws.{of_input}
-use Rattle.frame_core.specs.ReadOffLaws.{gets, done_replies, limit_beyond, refused_faults, never_undecided}
 
 -- ---- `recheck` is a command
 
@@ -68,16 +67,6 @@ recheck_is_task =
 
 -- ---- what it promises besides
 
-complete : (r : Run) (input : List ℕ) (b : Bundle) → CommandPromise recheck_task r → r.source.bytes ≡ Some input → length input ≤ most_of_bundle → IsBundle input b → OutputHeld r → Replies recheck_task r input
-complete r input b promise told within is held =
-    gets recheck_task r input (λ verdict. refl) promise told (record { within = λ long. omega arith; sound = λ error fault. fault.none b is }) held
-
-accepted : (r : Run) (input : List ℕ) (b : Bundle) → CommandPromise recheck_task r → r.source.bytes ≡ Some input → length input ≤ most_of_bundle → IsBundle input b → OutputHeld r → Stands r (recheck_reply b.verdict)
-accepted r input b promise told within is held =
-    let got : Replies recheck_task r input = complete r input b promise told within is held in
-    let gives : GivesVerdict input got.answer = got.has in
-    subst (λ (v : Verdict). Stands r (recheck_reply v)) (sym (gives.is_verdict.only b is)) got.stands
-
 -- What has a verdict spells its question, which the verdict answers.
 tells_verdict : (r : Run) (input : List ℕ) (verdict : Verdict) → GivesVerdict input verdict → Stands r (recheck_reply verdict) → TellsVerdict r input
 tells_verdict r input verdict gives stands =
@@ -89,11 +78,6 @@ tells_verdict r input verdict gives stands =
       asks = (b.heading.spec, b.heading.basis, bundle_asks input b gives.is_verdict.has.is_bundle);
       means = λ tables basis asked. verdict_answers input verdict tables basis gives.is_verdict.has asked;
     }
-
-answers : (r : Run) (input : List ℕ) → CommandPromise recheck_task r → r.source.bytes ≡ Some input → r.status ≡ statuses.Done → TellsVerdict r input
-answers r input promise told is =
-    let got : Replies recheck_task r input = done_replies recheck_task r input promise told is in
-    tells_verdict r input got.answer got.has got.stands
 
 -- no fault has the status of a limit
 pub no_limit : (e : BundleError) → bundle_status e ≡ statuses.Limit → ⊥
@@ -108,15 +92,17 @@ no_limit (bundles.NotNew line) is = cc
 no_limit (bundles.WrongVerdict line) is = cc
 no_limit bundles.Memory is = cc
 
+is_rechecking : IsRechecking recheck_task IsBundle (λ (b : Bundle). b.verdict) TellsVerdict
+is_rechecking = record {
+  reads = refl;
+  done = λ verdict. refl;
+  quiet = λ verdict. refl;
+  no_limit = no_limit;
+  sound = λ input b error is fault. fault.none b is;
+  only = λ input b verdict is gives. gives.is_verdict.only b is;
+  tells = tells_verdict;
+}
+
 -- All that `recheck` promises besides.
 pub recheck_promised : (r : Run) → (AsksFor r.words Recheck → CommandPromise recheck_task r) → RecheckPromise r
-recheck_promised r keeps = record {
-  complete = λ input b run within is held. complete r input b (keeps run.asks) run.told within is held;
-  accepted = λ input b run within is held. accepted r input b (keeps run.asks) run.told within is held;
-  accepted_only = λ input run is. done_replies recheck_task r input (keeps run.asks) run.told is;
-  answers = λ input run is. answers r input (keeps run.asks) run.told is;
-  refused = λ input error run fault held. (keeps run.asks).refused input error run.told fault held;
-  refused_only = λ input run is. of_input recheck_task r (Faults recheck_task r) input (refused_faults recheck_task r (λ verdict. refl) (keeps run.asks) is) run.told;
-  limit_only = λ input run is. limit_beyond recheck_task r input no_limit (keeps run.asks) run.told is;
-  decided = λ asks is. never_undecided recheck_task r (λ verdict. refl) (keeps asks) is;
-}
+recheck_promised = rechecks Recheck recheck_task IsBundle (λ (b : Bundle). b.verdict) TellsVerdict is_rechecking

@@ -1,12 +1,11 @@
 //! Certificates of the fewest steps, as a kind for the job of `recheck`.
-ghost use Rattle.std.specs.Prelude.{◌≡◌, ℕ, ◌≤◌, List, Err, IfOk, length, refl};
+ghost use Rattle.std.specs.Prelude.{◌≡◌, Err, IfOk, refl};
 ghost use Rattle.text_core.specs.Lines.{lines_of};
 ghost use Rattle.cert_theory.specs.Gives.{Fails};
 ghost use Rattle.cert_theory.specs.Judging.{bundle_of};
 ghost use Rattle.cert_file.specs.Reader.{seen, IsReader, StandsFor};
-ghost use Rattle.cmd_verdicts.specs.Verdicts.{most_of_bundle};
 ghost use Rattle.cmd_recheck.specs.RecheckReport.{verdict_text, recheck_reply, recheck_refusal, recheck_task};
-ghost use Rattle.frame_core.specs.Views.{reply_value, refusal_value, Judges};
+ghost use Rattle.frame_core.specs.Views.{reply_value, refusal_value};
 
 use crate::bundles::{bundle_status, name_bundle};
 use crate::job::{Kind, Reading};
@@ -67,33 +66,6 @@ fn reply_of(alloc: Global, verdict: Verdict) -> Result<Reply, AllocError>
     })
 }
 
-/// Why a certificate has no verdict.
-#[tactic(auto, using(crate::proofs::Rechecking::stopping))]
-fn stop_of(error: BundleError) -> Stop
-    ensures { (bytes : List ℕ) → length bytes ≤ most_of_bundle →
-        Fails error (bundle_of (lines_of bytes)) → Judges recheck_task bytes (Err result) }
-{
-    match error {
-        BundleError::Memory => Stop::NoMemory,
-        error => Stop::NoAnswer(refusal_of(error)),
-    }
-}
-
-/// The reply of `recheck` to a certificate that was read to its end.
-#[tactic(auto, using(crate::proofs::Rechecking::telling))]
-fn tell(alloc: Global, reader: BundleReader) -> Result<Reply, Stop>
-    requires { IsReader (seen reader) }
-    ensures { (bytes : List ℕ) → StandsFor (seen reader) bytes → length bytes ≤ most_of_bundle → Judges recheck_task bytes result }
-{
-    match reader.finish() {
-        Ok(verdict) => match reply_of(alloc, verdict) {
-            Ok(reply) => Ok(reply),
-            Err(AllocError) => Err(Stop::NoMemory),
-        },
-        Err(error) => Err(stop_of(error)),
-    }
-}
-
 /// The certificates of the fewest steps.
 #[derive(Drop)]
 pub struct Steps;
@@ -131,11 +103,22 @@ impl Kind for Steps {
         }
     }
 
+    #[tactic(auto, using(crate::proofs::Rechecking::telling))]
     fn tell(&self, alloc: Global, reader: BundleReader) -> Result<Reply, Stop> {
-        tell(alloc, reader)
+        match reader.finish() {
+            Ok(verdict) => match reply_of(alloc, verdict) {
+                Ok(reply) => Ok(reply),
+                Err(AllocError) => Err(Stop::NoMemory),
+            },
+            Err(error) => Err(self.stop(error)),
+        }
     }
 
+    #[tactic(auto, using(crate::proofs::Rechecking::stopping))]
     fn stop(&self, error: BundleError) -> Stop {
-        stop_of(error)
+        match error {
+            BundleError::Memory => Stop::NoMemory,
+            error => Stop::NoAnswer(refusal_of(error)),
+        }
     }
 }

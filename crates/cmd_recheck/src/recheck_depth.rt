@@ -1,12 +1,11 @@
 //! Certificates of the fewest levels, as a kind for the job of `recheck`.
-ghost use Rattle.std.specs.Prelude.{◌≡◌, ℕ, ◌≤◌, List, Err, IfOk, length, refl};
+ghost use Rattle.std.specs.Prelude.{◌≡◌, Err, IfOk, refl};
 ghost use Rattle.text_core.specs.Lines.{lines_of};
 ghost use Rattle.depth_theory.specs.declared.data.DepthVerdict.{DepthVerdict};
 ghost use Rattle.depth_theory.specs.DepthGives.{Gives};
 ghost use Rattle.depth_theory.specs.DepthJudging.{Judged};
 ghost use Rattle.depth_file.specs.Reader.{seen, IsReader, StandsFor};
-ghost use Rattle.frame_core.specs.Views.{line_value, reply_value, refusal_value, Judges};
-ghost use Rattle.cmd_verdicts.specs.Verdicts.{most_of_bundle};
+ghost use Rattle.frame_core.specs.Views.{line_value, reply_value, refusal_value};
 ghost use Rattle.cmd_recheck.specs.RecheckDepthReport.{levels_text, depth_status as depth_status_of, named_inside, named_depth, depth_reply, depth_refusal, depth_task};
 
 use crate::bundles::{bundle_status, name_bundle, name_step};
@@ -108,33 +107,6 @@ fn reply_of(alloc: Global, verdict: DepthVerdict) -> Result<Reply, AllocError>
     })
 }
 
-/// Why a certificate has no verdict.
-#[tactic(auto, using(crate::proofs::RecheckingDepth::telling))]
-fn stop_of(error: DepthError) -> Stop
-    ensures { (bytes : List ℕ) → length bytes ≤ most_of_bundle →
-        Judged (Gives (λ (v : DepthVerdict). v) (Err error)) (lines_of bytes) → Judges depth_task bytes (Err result) }
-{
-    match error {
-        DepthError::Memory => Stop::NoMemory,
-        error => Stop::NoAnswer(refusal_of(error)),
-    }
-}
-
-/// The reply of `recheck --depth yes` to a certificate that was read to its end.
-#[tactic(auto, using(crate::proofs::RecheckingDepth::telling))]
-fn tell(alloc: Global, reader: DepthReader) -> Result<Reply, Stop>
-    requires { IsReader (seen reader) }
-    ensures { (bytes : List ℕ) → StandsFor (seen reader) bytes → length bytes ≤ most_of_bundle → Judges depth_task bytes result }
-{
-    match reader.finish() {
-        Ok(verdict) => match reply_of(alloc, verdict) {
-            Ok(reply) => Ok(reply),
-            Err(AllocError) => Err(Stop::NoMemory),
-        },
-        Err(error) => Err(stop_of(error)),
-    }
-}
-
 /// The certificates of the fewest levels.
 #[derive(Drop)]
 pub struct Levels;
@@ -172,11 +144,22 @@ impl Kind for Levels {
         }
     }
 
+    #[tactic(auto, using(crate::proofs::RecheckingDepth::telling))]
     fn tell(&self, alloc: Global, reader: DepthReader) -> Result<Reply, Stop> {
-        tell(alloc, reader)
+        match reader.finish() {
+            Ok(verdict) => match reply_of(alloc, verdict) {
+                Ok(reply) => Ok(reply),
+                Err(AllocError) => Err(Stop::NoMemory),
+            },
+            Err(error) => Err(self.stop(error)),
+        }
     }
 
+    #[tactic(auto, using(crate::proofs::RecheckingDepth::telling))]
     fn stop(&self, error: DepthError) -> Stop {
-        stop_of(error)
+        match error {
+            DepthError::Memory => Stop::NoMemory,
+            error => Stop::NoAnswer(refusal_of(error)),
+        }
     }
 }

@@ -2,6 +2,7 @@ pub mod Following
 pub mod Kept
 pub mod Putting
 pub mod Differing
+pub mod Forcing
 pub mod Observing
 pub mod FollowingLaws
 pub mod KeptLaws

@@ -2,16 +2,17 @@
 //! window (observability): the surround is simulated once, and the tail above it with each number in place of the outputs,
 //! and the watchers' words are compared with those for the number 0.
 
-ghost use Rattle.std.specs.Prelude.{◌≡◌, ℕ, ◌+◌, ◌*◌, ◌≤◌, ◌<◌, ◌^◌, ◌++◌, true, length, slice_index_or, slice_set, bit_or, bit_xor, IfOk, OnOk};
+ghost use Rattle.std.specs.Prelude.{◌≡◌, ℕ, ◌+◌, ◌*◌, ◌≤◌, ◌<◌, ◌^◌, true, length, slice_index_or, slice_set, bit_or, bit_xor, IfOk, OnOk};
 ghost use Rattle.lane_sim.specs.Above.{HasWords};
-ghost use Rattle.lane_sim.specs.Cone.{places};
 ghost use Rattle.lane_sim.specs.Words.{AreWords, width_of};
 ghost use Rattle.window_theory.specs.Places.{among};
-ghost use Rattle.observe_core.specs.Differing.{IsAdded, AreAdded, ArePutWords, AreTold, AreTelling};
+ghost use Rattle.observe_core.specs.Differing.{IsAdded, AreAdded, AreTelling};
+ghost use Rattle.observe_core.specs.Forcing.{StandsAbove, HaveBits, Tell};
 ghost use Rattle.observe_core.specs.Putting.{IsAbove};
 
+use crate::forcing::Forced;
 use crate::putting::put_gates;
-use lane_sim::{Cone, Index, Words, copy_words, index_of, lanes_of, simulate_above};
+use lane_sim::{Cone, Words, copy_words, index_of, lanes_of, simulate_above};
 use std::alloc::{AllocError, Global};
 use window_core::{Net, has};
 
@@ -61,68 +62,49 @@ fn add_watchers(
     }
 }
 
-/// The words of the cone of a tail with the outputs forced to `bits`, in the place of those with other bits: the rows of
-/// the surround stay.
-fn put_words(
-    alloc: Global,
-    net: &Net,
-    outputs: &[u32],
-    bits: u32,
-    surround: &Cone,
-    tail: &[u32],
-    index: &Index,
-    words: &mut Words,
-) -> Result<(), AllocError>
-    requires few { length outputs.now ≤ 8 }
-    requires above { IsAbove net.now outputs.now surround.now tail.now }
-    requires index { index.now ≡ places surround.now ++ tail.now }
-    requires words { HasWords surround.now words.old }
-    ensures put { OnOk result (ArePutWords net.now outputs.now bits surround.now tail.now words.new) }
-    ensures below { OnOk result (HasWords surround.now words.new) }
+/// The words of the tail's cone with the outputs forced to `bits`, in the place of those with other bits: the rows of the
+/// surround stay.
+fn put_words(alloc: Global, forced: Forced, bits: u32, words: &mut Words) -> Result<(), AllocError>
+    requires above { StandsAbove forced }
+    requires words { HasWords forced.surround.now words.old }
+    ensures put { OnOk result (HaveBits forced.entry bits words.new) }
+    ensures below { OnOk result (HasWords forced.entry.surround.now words.new) }
 {
-    let _sources = net.sources(); // brings the type invariant into the proof
-    let _leaves = surround.leaves(); // says that the surround is a cone
-    let gates = put_gates(alloc, net, outputs, bits, tail)?;
-    simulate_above(words, index, surround, &gates)?;
+    let _sources = forced.net.sources(); // brings the type invariant into the proof
+    let _leaves = forced.surround.leaves(); // says that the surround is a cone
+    let gates = put_gates(alloc, forced.net, forced.outputs, bits, forced.tail)?;
+    simulate_above(words, forced.index, forced.surround, &gates)?;
     Ok(())
 }
 
 /// ORs in the assignments that distinguish the output value `bits` from 0.
 fn add_bits(
     alloc: Global,
-    net: &Net,
-    outputs: &[u32],
+    forced: Forced,
     bits: u32,
-    surround: &Cone,
-    tail: &[u32],
-    watchers: &[u32],
-    index: &Index,
     zero: &Words,
     words: &mut Words,
     differ: &mut [u64],
 ) -> Result<(), AllocError>
-    requires few { length outputs.now ≤ 8 }
-    requires above { IsAbove net.now outputs.now surround.now tail.now }
-    requires index { index.now ≡ places surround.now ++ tail.now }
-    requires zero { ArePutWords net.now outputs.now 0 surround.now tail.now zero.now }
-    requires words { HasWords surround.now words.old }
-    requires size { length differ.old ≡ width_of (2 ^ length surround.now.leaves) }
-    requires watchers { (p : ℕ) → among watchers.now p ≡ true → among tail.now p ≡ true }
-    requires told { AreTold net.now outputs.now surround.now watchers.now bits differ.old }
-    ensures told { OnOk result (AreTold net.now outputs.now surround.now watchers.now (bits + 1) differ.new) }
+    requires above { StandsAbove forced }
+    requires zero { HaveBits forced 0 zero.now }
+    requires words { HasWords forced.surround.now words.old }
+    requires size { length differ.old ≡ width_of (2 ^ length forced.surround.now.leaves) }
+    requires told { Tell forced bits differ.old }
+    ensures told { OnOk result (Tell forced.entry (bits + 1) differ.new) }
     ensures size { length differ.new ≡ length differ.old }
-    ensures words { OnOk result (HasWords surround.now words.new) }
+    ensures words { OnOk result (HasWords forced.entry.surround.now words.new) }
 {
-    let _sources = net.sources(); // brings the type invariant into the proof
-    put_words(alloc, net, outputs, bits, surround, tail, index, words)?;
-    let start = surround.leaves().len() + surround.gates().len();
+    let _sources = forced.net.sources(); // brings the type invariant into the proof
+    put_words(alloc, forced, bits, words)?;
+    let start = forced.surround.leaves().len() + forced.surround.gates().len();
     add_watchers(
         differ,
         lanes_of(zero),
         lanes_of(words),
         start,
-        tail,
-        watchers,
+        forced.tail,
+        forced.watchers,
     );
     Ok(())
 }
@@ -130,55 +112,35 @@ fn add_bits(
 /// ORs in the assignments that distinguish some output value from 0.
 fn add_all_bits(
     alloc: Global,
-    net: &Net,
-    outputs: &[u32],
-    surround: &Cone,
-    tail: &[u32],
-    watchers: &[u32],
-    index: &Index,
+    forced: Forced,
     zero: &Words,
     words: &mut Words,
     differ: &mut [u64],
 ) -> Result<(), AllocError>
-    requires few { length outputs.now ≤ 8 }
-    requires above { IsAbove net.now outputs.now surround.now tail.now }
-    requires index { index.now ≡ places surround.now ++ tail.now }
-    requires zero { ArePutWords net.now outputs.now 0 surround.now tail.now zero.now }
-    requires words { HasWords surround.now words.old }
-    requires size { length differ.old ≡ width_of (2 ^ length surround.now.leaves) }
-    requires watchers { (p : ℕ) → among watchers.now p ≡ true → among tail.now p ≡ true }
-    requires told { AreTold net.now outputs.now surround.now watchers.now 1 differ.old }
-    ensures told { OnOk result (AreTold net.now outputs.now surround.now watchers.now (2 ^ length outputs.now) differ.new) }
+    requires above { StandsAbove forced }
+    requires zero { HaveBits forced 0 zero.now }
+    requires words { HasWords forced.surround.now words.old }
+    requires size { length differ.old ≡ width_of (2 ^ length forced.surround.now.leaves) }
+    requires told { Tell forced 1 differ.old }
+    ensures told { OnOk result (Tell forced.entry (2 ^ length forced.entry.outputs.now) differ.new) }
     ensures size { length differ.new ≡ length differ.old }
 {
-    for bits in 1..(1u32 << outputs.len()) {
-        add_bits(
-            alloc, net, outputs, bits, surround, tail, watchers, index, zero, words, differ,
-        )?;
+    for bits in 1..(1u32 << forced.outputs.len()) {
+        add_bits(alloc, forced, bits, zero, words, differ)?;
     }
     Ok(())
 }
 
-/// The words of the cone of a tail with the outputs forced to 0, from those of its surround.
-fn zero_words(
-    alloc: Global,
-    net: &Net,
-    outputs: &[u32],
-    surround: &Cone,
-    words: &Words,
-    tail: &[u32],
-    index: &Index,
-) -> Result<Words, AllocError>
-    requires few { length outputs.now ≤ 8 }
-    requires above { IsAbove net.now outputs.now surround.now tail.now }
-    requires index { index.now ≡ places surround.now ++ tail.now }
-    requires words { AreWords surround.now words.now }
-    ensures put { IfOk result (λ zero. ArePutWords net.now outputs.now 0 surround.now tail.now zero) }
-    ensures below { IfOk result (λ zero. HasWords surround.now zero) }
+/// The words of the tail's cone with the outputs forced to 0, from those of its surround.
+fn zero_words(alloc: Global, forced: Forced, words: &Words) -> Result<Words, AllocError>
+    requires above { StandsAbove forced }
+    requires words { AreWords forced.surround.now words.now }
+    ensures put { IfOk result (HaveBits forced.entry 0) }
+    ensures below { IfOk result (HasWords forced.entry.surround.now) }
 {
     let more = lanes_of(words).len();
     let mut zero = copy_words(alloc, words, more)?;
-    put_words(alloc, net, outputs, 0, surround, tail, index, &mut zero)?;
+    put_words(alloc, forced, 0, &mut zero)?;
     Ok(zero)
 }
 
@@ -203,21 +165,18 @@ pub(crate) fn telling(
     let _sources = net.sources(); // brings the type invariant into the proof
     let _leaves = surround.leaves(); // says that the surround is a cone
     let index = index_of(alloc, surround, tail)?;
-    let zero = zero_words(alloc, net, outputs, surround, words, tail, &index)?;
-    let mut other = copy_words(alloc, &zero, 0)?;
-    let rows = 1usize << surround.leaves().len();
-    let mut differ = vec![in alloc; 0u64; (rows + 63) / 64]?;
-    add_all_bits(
-        alloc,
+    let forced = Forced {
         net,
         outputs,
         surround,
         tail,
         watchers,
-        &index,
-        &zero,
-        &mut other,
-        &mut differ,
-    )?;
+        index: &index,
+    };
+    let zero = zero_words(alloc, forced, words)?;
+    let mut other = copy_words(alloc, &zero, 0)?;
+    let rows = 1usize << surround.leaves().len();
+    let mut differ = vec![in alloc; 0u64; (rows + 63) / 64]?;
+    add_all_bits(alloc, forced, &zero, &mut other, &mut differ)?;
     Ok(differ)
 }

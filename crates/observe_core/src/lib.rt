@@ -16,6 +16,7 @@
 
 mod differing;
 mod following;
+mod forcing;
 mod narrowing;
 mod observing;
 mod putting;

@@ -12,7 +12,6 @@ use Rattle.decide_core.specs.declared.deciding.Decided.{Decided}
 use Rattle.decide_core.specs.Decided.{IsDecided, IsClosed}
 use Rattle.sweep_core.specs.declared.visit.Visit.{Visit}
 use Rattle.sweep_core.specs.Asked.{IsAskedOf}
-pub use Rattle.walk_core.specs.Asked.{MeetsAsked}
 use Rattle.sweep_core.specs.Undecided.{IsUndecided}
 use Rattle.sweep_core.specs.Outcomes.{Leads, IsDone}
 use Rattle.window_trial.specs.declared.trying.Outcome.{Outcome}

@@ -24,7 +24,8 @@ use Rattle.sweep_core.specs.Asked.{IsAskedOf, HasNoFewerAsked}
 use Rattle.sweep_core.specs.Settled.{IsListed}
 use Rattle.sweep_core.specs.Undecided.{IsUndecided}
 use Rattle.sweep_core.specs.Outcomes.{IsDone}
-use Rattle.window_trial.specs.Trying.{AsksFor, IsDecidedFor, MeetsAsked}
+use Rattle.walk_core.specs.Asked.{MeetsAsked}
+use Rattle.window_trial.specs.Trying.{AsksFor, IsDecidedFor}
 use Rattle.window_trial.specs.AskingLaws.{none_asked}
 
 -- ---- headings
@@ -144,6 +145,9 @@ trial_meets s n w d c decided e = shorter_meets s n w c (decided_as s n w d (dec
 pub trial_fewer : (s : ImproveSettings) (n : Net) (w : Window) (d : Decided) (c : Chain) → IsDecidedFor s n w d → d ≡ decisions.Shorter c → length c.steps < length w.gates
 trial_fewer s n w d c decided e = shorter_fewer s n w c (decided_as s n w d (decisions.Shorter c) e decided)
 
+pub trial_few : (s : ImproveSettings) (n : Net) (w : Window) (d : Decided) (c : Chain) → IsDecidedFor s n w d → d ≡ decisions.Shorter c → length c.steps ≤ length w.gates
+trial_few s n w d c decided e = omega (arith, trial_fewer s n w d c decided e)
+
 pub trial_over : (s : ImproveSettings) (n : Net) (w : Window) (d : Decided) (c : Chain) → IsDecidedFor s n w d → d ≡ decisions.Shorter c → IsOver (members s.basis) c
 trial_over s n w d c decided e = shorter_over s n w c (decided_as s n w d (decisions.Shorter c) e decided)
 
@@ -155,4 +159,4 @@ visit_belongs n root partner count w net is = window_belongs n root partner coun
 pub visit_listed : (n : Net) (cap : ℕ) (v : Visit) → IsGate n v.root → IsPartnerOrNone n v.root v.partner → 1 ≤ v.count → v.count ≤ cap → IsListed n cap v
 visit_listed n cap v gate partner some most = record { root = gate; partner = partner; from = some; to = most }
 
-pub ruleset trying = (common_steps, asked_well, decided_by, trial_least, trial_apart, trial_none, trial_open, trial_meets, trial_fewer, trial_over, visit_belongs, visit_listed)
+pub ruleset trying = (common_steps, asked_well, decided_by, trial_least, trial_apart, trial_none, trial_open, trial_meets, trial_few, trial_over, visit_belongs, visit_listed)

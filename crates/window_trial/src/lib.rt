@@ -20,7 +20,6 @@
 mod improving;
 mod merging;
 mod partners;
-mod replacing;
 mod tables;
 mod trying;
 

@@ -10,7 +10,6 @@ ghost use Rattle.window_trial.specs.Trying.{IsDecidedFor, IsOutcome};
 
 use crate::merging::merged;
 use crate::partners::{is_partner_or_none, next_partner};
-use crate::replacing::replaced;
 use decide_core::{Decided, Heading, Memory, decide};
 use improve_settings::ImproveSettings;
 use net_core::Net;
@@ -18,7 +17,7 @@ use sat_solve::Solver;
 use std::alloc::{AllocError, Global};
 use std::marker::{Model, PhantomData};
 use sweep_core::{Trial, Tried, Visit};
-use walk_core::asked_spec;
+use walk_core::{asked_spec, replaced};
 use window_core::{Readers, Window, readers_of, window_by};
 
 /// A net whose windows are tried by a solver, with its index, the settings, and what was found of windows before.

@@ -4,4 +4,4 @@ use Rattle.lane_sim.specs.AboveLaws.{words_begin}
 use Rattle.observe_core.proofs.differing.zero_words.Goals as goal
 
 pub put_words-requires-clause-words : goal.put_words-requires-clause-words
-put_words-requires-clause-words c = subst (HasWords c.args.surround.now) (sym c.in_ok-zero.ensures) (words_begin c.args.surround.now c.args.words.now c.requires.words)
+put_words-requires-clause-words c = subst (HasWords c.args.forced.surround.now) (sym c.in_ok-zero.ensures) (words_begin c.args.forced.surround.now c.args.words.now c.requires.words)

@@ -1,6 +1,6 @@
 use Rattle.frame_core.specs.Views.{reply_value}
 use Rattle.cmd_recheck.proofs.Rechecking.{tells}
-use Rattle.cmd_recheck.proofs.recheck.tell.Goals as goal
+use Rattle.cmd_recheck.proofs.recheck.StepsKind.tell.Goals as goal
 
 pub returns-in-Ok-reply_of : goal.returns-in-Ok-reply_of
 returns-in-Ok-reply_of c bytes stands within =

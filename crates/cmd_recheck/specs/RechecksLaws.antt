@@ -1,0 +1,60 @@
+-- A run of a task keeps what `recheck` promises of certificates of a kind.
+use Rattle.std.specs.Prelude.{◌≡◌, ℕ, ◌<◌, ◌≤◌, List, length, Option, Some}
+use Rattle.std.proofs.Common.{arith, sym, subst}
+use Rattle.command_line.specs.declared.command.Command.{Command}
+use Rattle.command_line.specs.CommandLine.{AsksFor}
+use Rattle.frame_core.specs.declared.status.Status.TheVariants.{Done, Limit}
+use Rattle.frame_core.specs.Task.{Task, HasNoReport, IsBeyond, IsAnswerable}
+use Rattle.frame_core.specs.Run.{Run, HasInput}
+use Rattle.frame_core.specs.Promise.{OutputHeld, Stands, Replies, Faults, CommandPromise}
+use Rattle.frame_core.specs.KeepingLaws.{of_input}
+use Rattle.frame_core.specs.ReadOffLaws.{gets, done_replies, limit_beyond, refused_faults, never_undecided}
+use Rattle.cmd_lines.specs.Runs.{Runs}
+use Rattle.cmd_verdicts.specs.Verdicts.{most_of_bundle}
+use Rattle.cmd_recheck.specs.Rechecks.{Rechecks}
+
+-- What that takes of the task: how much it reads, and that a verdict has the status 0 and no report, a fault never the
+-- status of a limit; that a certificate's text has no fault, and no verdict but its own; and that a verdict that stands is
+-- told so.
+pub record IsRechecking {Certificate : Type 0} (task : Task) (Spells : List ℕ → Certificate → Type 0) (verdict : Certificate → task.Answer) (Tells : Run → List ℕ → Type 0) : Type 0 where
+  pub reads : task.reads ≡ Some most_of_bundle
+  pub done : (answer : task.Answer) → (task.reply answer).status ≡ Done
+  pub quiet : HasNoReport task
+  pub no_limit : (fault : task.Fault) → (task.refusal fault).status ≡ Limit → ⊥
+  pub sound : (input : List ℕ) (b : Certificate) (fault : task.Fault) → Spells input b → task.Meets input fault → ⊥
+  pub only : (input : List ℕ) (b : Certificate) (answer : task.Answer) → Spells input b → task.Has input answer → verdict b ≡ answer
+  pub tells : (r : Run) (input : List ℕ) (answer : task.Answer) → task.Has input answer → Stands r (task.reply answer) → Tells r input
+
+-- beyond what is read
+beyond : (reads : Option ℕ) (input : List ℕ) → reads ≡ Some most_of_bundle → IsBeyond reads input → most_of_bundle < length input
+beyond reads input is long = subst (λ (most : Option ℕ). IsBeyond most input) is long
+
+-- no more than that, without a fault
+answerable : (task : Task) (input : List ℕ) → task.reads ≡ Some most_of_bundle → length input ≤ most_of_bundle → ((fault : task.Fault) → task.Meets input fault → ⊥) → IsAnswerable task input
+answerable task input reads within sound = record {
+  within = λ long. let far : most_of_bundle < length input = beyond task.reads input reads long in omega (arith, far, within);
+  sound = sound;
+}
+
+-- Then a run of the task keeps the promise.
+pub rechecks : {Certificate : Type 0} (command : Command) (task : Task) (Spells : List ℕ → Certificate → Type 0) (verdict : Certificate → task.Answer) (Tells : Run → List ℕ → Type 0) → IsRechecking task Spells verdict Tells
+    → (r : Run) → (AsksFor r.words command → CommandPromise task r) → Rechecks command task Spells verdict Tells r
+rechecks {Certificate} command task Spells verdict Tells is r keeps =
+    let has : (input : List ℕ) → Runs command r input → HasInput task.reads r.source.bytes input
+    = λ input run. subst (λ (most : Option ℕ). HasInput most r.source.bytes input) (sym is.reads) run.told in
+    let complete : (input : List ℕ) (b : Certificate) → Runs command r input → length input ≤ most_of_bundle → Spells input b → OutputHeld r → Replies task r input
+    = λ input b run within spells held. gets task r input is.quiet (keeps run.asks) (has input run) (answerable task input is.reads within (λ fault. is.sound input b fault spells)) held in
+    let replies : (input : List ℕ) → Runs command r input → r.status ≡ Done → Replies task r input
+    = λ input run done. done_replies task r input (keeps run.asks) (has input run) done in
+    record {
+      complete = complete;
+      accepted = λ input b run within spells held.
+          let got : Replies task r input = complete input b run within spells held in
+          subst (λ (answer : task.Answer). Stands r (task.reply answer)) (sym (is.only input b got.answer spells got.has)) got.stands;
+      accepted_only = replies;
+      answers = λ input run done. let got : Replies task r input = replies input run done in is.tells r input got.answer got.has got.stands;
+      refused = λ input fault run meets held. (keeps run.asks).refused input fault (has input run) meets held;
+      refused_only = λ input run refused. of_input task r (Faults task r) input (refused_faults task r is.done (keeps run.asks) refused) (has input run);
+      limit_only = λ input run limit. beyond task.reads input is.reads (limit_beyond task r input is.no_limit (keeps run.asks) (has input run) limit);
+      decided = λ asks undecided. never_undecided task r is.done (keeps asks) undecided;
+    }

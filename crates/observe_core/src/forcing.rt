@@ -1,0 +1,23 @@
+//! What is forced: the outputs of a window, below a tail that stands above a surround.
+
+ghost use Rattle.std.specs.Prelude.{◌≡◌, ℕ, ◌≤◌, ◌++◌, true, length};
+ghost use Rattle.lane_sim.specs.Cone.{places};
+ghost use Rattle.window_theory.specs.Places.{among};
+
+use lane_sim::{Cone, Index};
+use window_core::Net;
+
+/// Outputs that are forced, at most eight, with a surround and the tail above it. The watchers are some of the tail's gates,
+/// and the index finds the places of the surround and the tail.
+#[derive(Clone, Copy)]
+pub(crate) struct Forced<'a> {
+    pub(crate) net: &'a Net,
+    pub(crate) outputs: &'a [u32],
+    pub(crate) surround: &'a Cone,
+    pub(crate) tail: &'a [u32],
+    pub(crate) watchers: &'a [u32],
+    pub(crate) index: &'a Index,
+    ghost few: { length outputs.now ≤ 8 },
+    ghost watched: { (p : ℕ) → among watchers.now p ≡ true → among tail.now p ≡ true },
+    ghost indexed: { index.now ≡ places surround.now ++ tail.now },
+}
