@@ -61,14 +61,14 @@ impl Finder {
             gone: Vec::new(alloc),
             hints: Vec::new(alloc),
         };
-        finder.note_given(clauses)?;
+        finder.note_all(clauses)?;
         Ok(finder)
     }
 
-    /// Takes note of the live ones of the given clauses.
-    fn note_given(&mut self, clauses: &ClauseDb) -> Result<(), AllocError> {
-        for place in 0..self.order.len() {
-            let id = number_at(&self.order, place);
+    /// Takes note of all live clauses, those that were added to the given ones too.
+    fn note_all(&mut self, clauses: &ClauseDb) -> Result<(), AllocError> {
+        for before in 0..clauses.last() {
+            let id = before + 1;
             if clauses.live(id) {
                 self.note(clauses.lits(id), id)?;
             }
