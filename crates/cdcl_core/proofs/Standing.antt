@@ -155,15 +155,6 @@ strengthening_replaced s t r lits old new strengthening some clauses has_added b
   high = ap (λ x. x.high) aside.shorter ∙ has_added.high ∙ sym aside.clauses;
 }
 
--- and where one only went
-pub strengthening_aside : (s t : Search) (flags : List Bool) → IsStrengthening s flags → IsBare t → HasSetAside s t → IsStrengthening t flags
-strengthening_aside s t flags strengthening bare aside = record {
-  bare = bare;
-  full = λ id is. strengthening.full id (aside.fewer id [] is);
-  units = units_fewer s.clauses t.clauses flags aside.db_vars aside.fewer strengthening.units;
-  high = ap (λ x. x.high) aside.shorter ∙ strengthening.high ∙ sym aside.clauses;
-}
-
 pub alike_trans : (a b c : Search) → IsAlike a b → IsAlike b c → IsAlike a c
 alike_trans a b c first second = record {
   vars = second.vars ∙ first.vars;
@@ -174,11 +165,12 @@ alike_trans a b c first second = record {
 pub strengthened_trans : (end : ℕ) (a b c : Search) → HasStrengthened end a b → HasStrengthened end b c → HasStrengthened end a c
 strengthened_trans end a b c first second = record {
   alike = alike_trans a b c first.alike second.alike;
+  more = omega (arith, first.more, second.more);
   few = omega (arith, first.few, second.few);
 }
 
 pub strengthened_self : (end : ℕ) (s : Search) → HasStrengthened end s s
-strengthened_self end s = record { alike = record { vars = refl; given = refl; least = refl }; few = omega arith }
+strengthened_self end s = record { alike = record { vars = refl; given = refl; least = refl }; more = omega arith; few = omega arith }
 
 pub begun_logged : {A E : Type 0} (r : Result A E) (f : Formula) (s t : Search) → IsLogged f s → IfOk r (λ x. HasBegun s t) → IfOk r (λ x. IsLogged f t)
 begun_logged (Ok x) f s t logged begun = logged_begun f s t logged begun

@@ -23,11 +23,11 @@ pub record HasRefuted (f : Formula) (s : Search) : Type 0 where
   pub accounted : IsAccounted f s
   pub reaches : HasEmpty f s.lines
 
--- the log holds, and has at least `budget` additions, where `budget` is at least `least`
+-- the log holds, and has at least `budget` additions, and at least `least`
 pub record HasSpent (f : Formula) (budget : ℕ) (s : Search) : Type 0 where
   pub logged : IsLogged f s
   pub enough : budget ≤ additions s.lines
-  pub least : s.least ≤ budget
+  pub least : s.least ≤ additions s.lines
 
 abbrev pub Ends : Formula → ℕ → Search → Ending → Type 0
 Ends f budget s Valued = IsValued f s

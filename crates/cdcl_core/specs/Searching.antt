@@ -49,8 +49,8 @@ pub record AreNew (f : Formula) (lines : List theory.Line) : Type 0 where
   pub fresh : EachLine IsFresh (start f) lines
   pub some : All AddsSome lines
 
--- the clause of an id is never forgotten: it is one of the formula, or stands for one of them
--- (is irredundant)
+-- The clause of an id is never forgotten (is irredundant): its id is at most the number of the
+-- formula's clauses, or one of those of shorter clauses.
 abbrev pub IsIrredundant : Search → ℕ → Type 0
 IsIrredundant s id = (id ≤ s.given) ⊎ ((s.shorter.low < id) × (id ≤ s.shorter.high))
 
@@ -146,7 +146,8 @@ pub record HasDecided (old new : Search) : Type 0 where
   pub starts : length new.starts.items ≡ length old.starts.items + 1
   pub lits : length new.trail.lits ≡ length old.trail.lits + 1
 
--- A search has gone on: it has at most as many clauses as the budget lets it have.
+-- A search has gone on: it has at most as many clauses as the budget lets it have, and as may follow
+-- on the way down from the levels.
 pub record HasRun (budget : ℕ) (old new : Search) : Type 0 where
   pub vars : new.trail.vars ≡ old.trail.vars
   pub given : new.given ≡ old.given

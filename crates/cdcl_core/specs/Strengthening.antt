@@ -36,7 +36,8 @@ pub record IsAlike (old new : Search) : Type 0 where
   pub given : new.given ≡ old.given
   pub least : new.least ≡ old.least
 
--- A clause of the search may be gone, and nothing else changed.
+-- Clauses of the search may be gone; the ids, which of them are never forgotten, and what lasts are
+-- the same.
 pub record HasSetAside (old new : Search) : Type 0 where
   pub alike : IsAlike old new
   pub db_vars : new.clauses.vars ≡ old.clauses.vars
@@ -44,13 +45,13 @@ pub record HasSetAside (old new : Search) : Type 0 where
   pub clauses : length new.clauses.clauses ≡ length old.clauses.clauses
   pub fewer : (id : ℕ) (clause : List ℤ) → live_in new.clauses id ≡ Some clause → live_in old.clauses id ≡ Some clause
 
--- One clause was added that is never forgotten.
+-- The last clause is one that is never forgotten.
 pub record HasAdded (old new : Search) : Type 0 where
   pub alike : IsAlike old new
-  pub low : new.shorter.low ≡ old.shorter.low
   pub high : new.shorter.high ≡ length new.clauses.clauses
 
 -- Clauses may have been added, with ids up to `end`.
 pub record HasStrengthened (end : ℕ) (old new : Search) : Type 0 where
   pub alike : IsAlike old new
+  pub more : length old.clauses.clauses ≤ length new.clauses.clauses
   pub few : length new.clauses.clauses ≤ max (length old.clauses.clauses) end

@@ -22,7 +22,7 @@
 //! | `fell(lit)`, place | 1 + the trail position where `lit` became false; 0 where it isn't |
 //! | `starts` | `trail_lim`, `control`: where decision levels begin on the trail |
 //! | `head` | `qhead`, `propagated` |
-//! | `given` | the number of original (irredundant) clauses |
+//! | `given` | the number of original clauses |
 //! | `Choice`: `take_free` | decision heap: `pickBranchLit`, `decide` |
 //! | `signs` | saved phases |
 //! | `step`, `bump`, `grow` | `var_inc`, `varBumpActivity`, `varDecayActivity` with rescaling |
@@ -41,7 +41,8 @@
 //! | `tidy`, `idle`, `forget` | `reduceDB`, its candidates, deletion |
 //! | `review`, `containing` | eager subsumption of recent learnt clauses |
 //! | `strengthen`, `shorter` | subsumption and strengthening (self-subsuming resolution), once |
-//! | `is_irredundant` | irredundant: of the formula, or standing for a clause of it |
+//! | `is_irredundant`, `set_aside` | irredundant: of the formula, or standing for a clause of it that went |
+//! | `rewind` | backtrack past level 0 |
 //! | log, line, hint | LRAT proof, its step, antecedent id |
 //! | kept | at least half of the additions are live at the end |
 //! | thinned, `thin` | at most about three quarters are; the deletions at the end for that |

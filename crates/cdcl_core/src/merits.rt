@@ -13,6 +13,7 @@ ghost use Rattle.sat_theory.specs.Formula.{IsWithin};
 use clause_db::ClauseDb;
 use cnf_core::Lit;
 use std::alloc::{AllocError, Global};
+use subsume_core::contains_all;
 use trail_core::Trail;
 
 /// What a part in the first conflict adds to the activity of a clause.
@@ -72,6 +73,8 @@ pub(crate) struct Merits {
     /// ids above this are those of learnt clauses
     given: u32,
     merits: Vec<Merit>,
+    /// the number of conflicts so far: entries but for those of clauses that are never forgotten
+    conflicts: usize,
     /// the signatures of the last clauses, by index modulo `RING`: a bit for each literal, maybe
     /// shared
     shapes: [u64; RING],
@@ -92,6 +95,7 @@ impl Merits {
         Ok(Merits {
             given,
             merits: Vec::new(alloc),
+            conflicts: 0,
             shapes: [0; RING],
             step: FIRST_STEP,
             hints: 0,
@@ -104,7 +108,7 @@ impl Merits {
     /// Bumps the learnt clauses among those that a conflict was derived from.
     pub(crate) fn count_parts(&mut self, ids: &[u32]) {
         let number = self.merits.len();
-        let used = short(number);
+        let used = short(self.conflicts);
         self.hints = self.hints.saturating_add(ids.len() as u64);
         for id in ids {
             if *id <= self.given {
@@ -177,9 +181,10 @@ impl Merits {
         let index = self.merits.len();
         self.merits.push(Merit {
             activity: self.step,
-            used: short(index),
+            used: short(self.conflicts),
             levels,
         })?;
+        self.conflicts = self.conflicts.saturating_add(1);
         self.shapes[index % RING] = shape(lits);
         self.grow();
         Ok(())
@@ -190,7 +195,7 @@ impl Merits {
         let index = self.merits.len();
         self.merits.push(Merit {
             activity: 0,
-            used: short(index),
+            used: 0,
             levels: 1,
         })?;
         self.shapes[index % RING] = 0;
@@ -205,7 +210,7 @@ impl Merits {
         lits: &[Lit],
     ) -> Result<Vec<u32>, AllocError> {
         let mut ids = Vec::new(alloc);
-        if self.merits.len() < FIRST_DUE {
+        if self.conflicts < FIRST_DUE {
             return Ok(ids);
         }
         let bits = shape(lits);
@@ -229,11 +234,11 @@ impl Merits {
 
     /// Whether a deletion is due. If so, the next one is scheduled.
     pub(crate) fn is_due(&mut self) -> bool {
-        if self.merits.len() < self.due {
+        if self.conflicts < self.due {
             return false;
         }
         self.wait = self.wait.saturating_add(LONGER_WAIT);
-        self.due = self.merits.len().saturating_add(self.wait);
+        self.due = self.conflicts.saturating_add(self.wait);
         true
     }
 
@@ -243,7 +248,7 @@ impl Merits {
             return None;
         }
         let merit = self.merits[index];
-        if merit.levels <= FEW_LEVELS || merit.used as usize + RECENT >= self.merits.len() {
+        if merit.levels <= FEW_LEVELS || merit.used as usize + RECENT >= self.conflicts {
             return None;
         }
         let id = self.id(index);
@@ -305,24 +310,4 @@ fn shape(lits: &[Lit]) -> u64 {
         bits |= 1u64 << (lit.code() % 64);
     }
     bits
-}
-
-/// Whether `lit` is one of `lits`.
-fn has(lits: &[Lit], lit: Lit) -> bool {
-    for other in lits {
-        if *other == lit {
-            return true;
-        }
-    }
-    false
-}
-
-/// Whether all literals of `inside` are among `lits`.
-fn contains_all(lits: &[Lit], inside: &[Lit]) -> bool {
-    for lit in inside {
-        if !has(lits, *lit) {
-            return false;
-        }
-    }
-    true
 }

@@ -26,7 +26,7 @@ use trail_core::Trail;
 /// The number of conflicts before the clauses of the formula are strengthened: short searches gain nothing by it.
 const FIRST_CONFLICTS: u32 = 300;
 
-/// The number of clauses up to which a formula is strengthened.
+/// The number of clauses up to which a formula is strengthened, and of shorter ones that are added at most.
 const MOST_STRENGTHENED: u32 = 400_000;
 
 /// An id that is never given.
@@ -313,7 +313,7 @@ impl Search {
         requires searching { IsSearching self.old }
         requires visited { IsVisited self.old }
         requires least { self.old.least ≤ budget }
-        requires room { self.old.given + budget < 2970000000 }
+        requires room { self.old.given + budget < 2980000000 }
         requires short { length self.old.clauses.clauses + length self.old.starts.items ≤ self.old.given + budget + self.old.trail.vars + 1 }
         ensures searching { IfOk result (λ ending. IfNone ending (IsSearching self.new)) }
         ensures visited { IfOk result (λ ending. IfNone ending (IsVisited self.new)) }
@@ -339,10 +339,11 @@ impl Search {
         }
     }
 
-    /// The last id at which the search pauses to strengthen the clauses of the formula. It doesn't where it has learnt
-    /// already, and where the formula is large.
-    fn pause(&self) -> u32 {
-        if self.clauses.last() > self.given || self.given > MOST_STRENGTHENED {
+    /// The last id at which the search pauses to strengthen the clauses of the formula. It doesn't where the budget is
+    /// small, where probes have learnt (their clauses hold the formula together), and where the formula is large.
+    fn pause(&self, budget: u32) -> u32 {
+        let is_probed = self.clauses.last() > self.given;
+        if budget <= FIRST_CONFLICTS || is_probed || self.given > MOST_STRENGTHENED {
             return NEVER;
         }
         self.given.saturating_add(FIRST_CONFLICTS)
@@ -359,31 +360,34 @@ impl Search {
         ensures ends { (f : Formula) → IsLogged f self.old → IfOk result (Ends f budget self.new) }
         ensures stored { IfOk result (λ _. IsStored self.new.clauses) }
     {
-        let pause = self.pause();
+        let pause = self.pause(budget);
         if let Some(ending) = self.run(budget, pause)? {
             return Ok(ending);
         }
+        let before = self.clauses.last();
+        // for the prover: none was strengthened before
         if self.shorter.high == 0 {
-            if let Some(conflict) = self.strengthen(self.given + budget)? {
+            if let Some(conflict) = self.strengthen(before + MOST_STRENGTHENED)? {
                 self.refute(conflict)?;
                 return Ok(Ending::Refuted);
             }
         }
-        self.finish(budget)
+        let shorter = self.clauses.last() - before;
+        self.run_on(budget, shorter)
     }
 
-    /// The same without a pause.
-    fn finish(&mut self, budget: u32) -> Result<Ending, AllocError>
+    /// Goes on without a pause, where `shorter` of the additions don't count against the budget.
+    fn run_on(&mut self, budget: u32, shorter: u32) -> Result<Ending, AllocError>
         requires searching { IsSearching self.old }
         requires visited { IsVisited self.old }
         requires least { self.old.least ≤ budget }
-        requires room { self.old.given + budget < 2970000000 }
-        requires short { length self.old.clauses.clauses ≤ self.old.given + budget + self.old.trail.vars + 1 }
+        requires room { self.old.given + budget + shorter < 2980000000 }
+        requires short { length self.old.clauses.clauses ≤ self.old.given + budget + shorter + self.old.trail.vars + 1 }
         requires starts { self.old.starts.items ≡ [] }
         ensures ends { (f : Formula) → IsLogged f self.old → IfOk result (Ends f budget self.new) }
         ensures stored { IfOk result (λ _. IsStored self.new.clauses) }
     {
-        match self.run(budget, NEVER)? {
+        match self.run(budget + shorter, NEVER)? {
             Some(ending) => Ok(ending),
             None => unreachable!(),
         }

@@ -1,5 +1,5 @@
-//! Clauses of the formula give way to shorter ones that subsume them, by its unit and binary clauses
-//! (subsumption and self-subsuming resolution: Eén and Biere, "Effective preprocessing in SAT through
+//! Clauses of the formula give way to shorter ones that subsume them, by unit and binary clauses,
+//! learnt ones too (subsumption and self-subsuming resolution: Eén and Biere, "Effective preprocessing in SAT through
 //! variable and clause elimination", 2005; as inprocessing: Järvisalo, Heule and Biere, "Inprocessing
 //! rules", 2012). It takes place once, at level 0, when a search has learnt some clauses, so short
 //! searches don't pay for it.
@@ -30,7 +30,7 @@ use subsume_core::{Finder, Found, Units, contains_all, holds, is_new, keep_other
 pub(crate) struct Work {
     pub(crate) finder: Finder,
     pub(crate) units: Units,
-    pub(crate) kept: Vec<Lit>,
+    pub(crate) rest: Vec<Lit>,
     pub(crate) known: Vec<Lit>,
 }
 
@@ -41,7 +41,7 @@ fn work_on(alloc: Global, clauses: &ClauseDb, given: u32) -> Result<Work, AllocE
     Ok(Work {
         finder: Finder::new(alloc, clauses, given)?,
         units: Units::new(alloc, clauses)?,
-        kept: Vec::new(alloc),
+        rest: Vec::new(alloc),
         known: Vec::new(alloc),
     })
 }
@@ -126,17 +126,17 @@ impl Search {
         if last >= end || !self.clauses.live(id) {
             return Ok(());
         }
-        keep_others(self.clauses.lits(id), work.finder.gone(), &mut work.kept)?;
-        if work.kept.is_empty() || !is_new(&self.clauses, &work.units, &work.kept) {
+        keep_others(self.clauses.lits(id), work.finder.gone(), &mut work.rest)?;
+        if work.rest.is_empty() || !is_new(&self.clauses, &work.units, &work.rest) {
             return Ok(());
         }
         let hints = work.finder.hints();
-        if !holds(&self.clauses, &work.kept, hints, &mut work.known)? {
+        if !holds(&self.clauses, &work.rest, hints, &mut work.known)? {
             return Ok(());
         }
-        self.add_shorter(&work.kept, hints)?;
-        work.units.note(&work.kept);
-        work.finder.note(&work.kept, last + 1)?;
+        self.add_shorter(&work.rest, hints)?;
+        work.units.note(&work.rest);
+        work.finder.note(&work.rest, last + 1)?;
         self.set_aside(id, last + 1);
         Ok(())
     }
@@ -174,7 +174,7 @@ impl Search {
         Ok(())
     }
 
-    /// The same, with what is needed for the work.
+    /// Makes what is needed for the work, and looks at all clauses.
     fn strengthen_bare(&mut self, end: u32) -> Result<(), AllocError>
         requires bare { IsBare self.old }
         requires full { (id : ℕ) → live_in self.old.clauses id ≡ Some [] → ⊥ }

@@ -36,7 +36,7 @@ fn are(lits: &[Lit], numbers: &[i32]) -> bool {
     true
 }
 
-/// The clauses in the order in which they are looked at, twice, and none.
+/// The clauses in the order in which they are looked at; beyond the turns the numbers go on.
 const ORDER: &[u32] = &[4, 1, 2, 3, 4, 1, 2, 3, 0];
 
 /// Whether the finder has its turns in this order.
@@ -46,7 +46,7 @@ fn comes_in_order(finder: &Finder) -> bool {
             return false;
         }
     }
-    finder.turns() == 8
+    finder.turns() == 6
 }
 
 /// By clause, the one that subsumes it or 0, the literals that go, and the hints for that.

@@ -17,6 +17,12 @@ use std::alloc::{AllocError, Global};
 /// Clauses of this number of literals or more count as equally long.
 const LONG: usize = 64;
 
+/// Longer clauses aren't looked at: the tests of what is found compare each literal with each.
+const MOST_LITERALS: usize = 500;
+
+/// How many binary clauses are looked through, before nothing is found any more.
+const MOST_WORK: usize = 50_000_000;
+
 /// What was found about a clause.
 #[derive(Clone, Copy)]
 pub enum Found {
@@ -39,6 +45,8 @@ struct Binary {
 pub struct Finder {
     /// the given clauses by rising length
     order: Vec<u32>,
+    /// how many of them have at most two literals
+    short: usize,
     /// by literal, the id of the first unit clause of it; 0 where there is none
     units: Vec<u32>,
     /// by literal, the binary clauses that have it
@@ -47,6 +55,8 @@ pub struct Finder {
     marks: Vec<bool>,
     gone: Vec<Lit>,
     hints: Vec<u32>,
+    /// how many binary clauses may still be looked through
+    work: usize,
 }
 
 impl Finder {
@@ -55,11 +65,13 @@ impl Finder {
         let room = 2 * clauses.vars() as usize + 2;
         let mut finder = Finder {
             order: by_length(alloc, clauses, given)?,
+            short: count_short(clauses, given),
             units: vec![in alloc; 0u32; room]?,
             rows: rows(alloc, room)?,
             marks: vec![in alloc; false; room]?,
             gone: Vec::new(alloc),
             hints: Vec::new(alloc),
+            work: MOST_WORK,
         };
         finder.note_all(clauses)?;
         Ok(finder)
@@ -104,13 +116,14 @@ impl Finder {
         Ok(())
     }
 
-    /// How many turns there are: two for each of the given clauses.
+    /// How many turns there are: one for each of the given clauses, and one more for each of at
+    /// most two literals.
     pub fn turns(&self) -> usize {
-        self.order.len().saturating_mul(2)
+        self.order.len().saturating_add(self.short)
     }
 
-    /// The clause to look at in a turn: all given ones by rising length, and then all again; 0
-    /// beyond.
+    /// The clause to look at in a turn: all given ones by rising length, and then those of at most
+    /// two literals again, since longer ones may have come to be unit clauses; 0 beyond.
     pub fn at(&self, turn: usize) -> u32 {
         let count = self.order.len();
         if turn < count {
@@ -127,6 +140,9 @@ impl Finder {
             return Ok(Found::Nothing);
         }
         let lits = clauses.lits(id);
+        if lits.len() > MOST_LITERALS {
+            return Ok(Found::Nothing);
+        }
         self.mark(lits, true);
         let found = self.look(clauses, id, lits);
         self.mark(lits, false);
@@ -164,17 +180,12 @@ impl Finder {
         }
     }
 
-    /// Looks at the literals of a clause, which are marked, until none goes any more.
+    /// Looks at the literals of a clause, which are marked. Marks only go, so a second look would
+    /// find no more.
     fn look(&mut self, clauses: &ClauseDb, id: u32, lits: &[Lit]) -> Result<Found, AllocError> {
-        for _round in 0..lits.len() {
-            let before = self.gone.len();
-            let other = self.sweep(clauses, id, lits)?;
-            if other != 0 {
-                return Ok(Found::Subsumed(other));
-            }
-            if self.gone.len() == before {
-                return self.tell(id);
-            }
+        let other = self.sweep(clauses, id, lits)?;
+        if other != 0 {
+            return Ok(Found::Subsumed(other));
         }
         self.tell(id)
     }
@@ -193,22 +204,37 @@ impl Finder {
     /// where none was found.
     fn sweep(&mut self, clauses: &ClauseDb, id: u32, lits: &[Lit]) -> Result<u32, AllocError> {
         for lit in lits {
-            if !self.is_marked(*lit) {
-                continue;
+            if self.work == 0 {
+                return Ok(0);
             }
             let inside = self.inside(clauses, id, *lit);
             if inside != 0 {
                 return Ok(inside);
             }
             if self.gone.len().saturating_add(1) < lits.len() {
-                self.shorten(clauses, id, *lit)?;
+                self.drop_literal(clauses, id, *lit)?;
             }
+            self.pay(*lit);
         }
         Ok(0)
     }
 
+    /// Counts the binary clauses that were looked through for a literal.
+    fn pay(&mut self, lit: Lit) {
+        let count = self.count(lit).saturating_add(self.count(lit.opposite()));
+        self.work = self.work.saturating_sub(count);
+    }
+
+    /// The number of binary clauses of a literal.
+    fn count(&self, lit: Lit) -> usize {
+        match self.rows.get(lit.code()) {
+            Some(row) => row.len(),
+            None => 0,
+        }
+    }
+
     /// Takes the mark off a literal, if a clause of its opposite allows it.
-    fn shorten(&mut self, clauses: &ClauseDb, id: u32, lit: Lit) -> Result<(), AllocError> {
+    fn drop_literal(&mut self, clauses: &ClauseDb, id: u32, lit: Lit) -> Result<(), AllocError> {
         let by = self.inside(clauses, id, lit.opposite());
         if by == 0 {
             return Ok(());
@@ -271,6 +297,17 @@ fn by_length(alloc: Global, clauses: &ClauseDb, given: u32) -> Result<Vec<u32>, 
         }
     }
     Ok(order)
+}
+
+/// How many of the clauses 1 to `given` have at most two literals.
+fn count_short(clauses: &ClauseDb, given: u32) -> usize {
+    let mut short: usize = 0;
+    for before in 0..given {
+        if length_of(clauses, before + 1) <= 2 {
+            short = short.saturating_add(1);
+        }
+    }
+    short
 }
 
 /// By length, the number of shorter ones among the clauses 1 to `given`.

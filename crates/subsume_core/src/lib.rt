@@ -1,5 +1,5 @@
-//! Subsumption and self-subsuming resolution of a formula's clauses by its unit and binary clauses
-//! (Eén and Biere, "Effective preprocessing in SAT through variable and clause elimination", 2005).
+//! Subsumption and self-subsuming resolution of a formula's clauses by unit and binary clauses, learnt
+//! ones too (Eén and Biere, "Effective preprocessing in SAT through variable and clause elimination", 2005).
 //! It uses the clauses of `clause_db`, and says what follows by the definitions of `sat_theory`. The
 //! words of the solver: see the table in `cdcl_core`.
 //!
@@ -14,7 +14,7 @@
 //! let mut finder = Finder::new(alloc, &clauses, given)?;
 //! match finder.find(&clauses, id)? {
 //!     Found::Nothing => ..,
-//!     Found::Subsumed(other) => clauses.delete(id),
+//!     Found::Subsumed(other) => clauses.delete(id), // where `other` is never forgotten
 //!     Found::Shorter => keep_others(clauses.lits(id), finder.gone(), &mut kept)?, // and test it
 //! }
 //! ```

@@ -1,6 +1,7 @@
 use Rattle.std.proofs.Common.{◌≡◌, ◌∙◌, ◌++◌, ◌∷◌, [], ◌≤◌, ◌+◌, ℕ, length, sym, ap, arith}
 use Rattle.std.proofs.lemmas.List.{length_push}
 use Rattle.std.proofs.lemmas.List.Elements.{All-push}
+use Rattle.sat_theory.specs.Log.{additions}
 use Rattle.cdcl_core.proofs.Jumps.{guarded_started}
 use Rattle.cdcl_theory.specs.Trails.{Trailed, pushed}
 use Rattle.clause_db.specs.Stored.{live_in}
@@ -45,8 +46,9 @@ returns-in_default-clause-ended c = λ f logged. record {
 pub returns-then-has_spent-clause-ended : goal.returns-then-has_spent-clause-ended
 returns-then-has_spent-clause-ended c = λ f logged.
     let enough : c.args.self.now.given + c.args.budget ≤ length c.args.self.now.clauses.clauses = c.has_spent.ensures.0 c.if-has_spent.true in
+    let count : c.args.budget ≤ additions c.args.self.now.lines = omega (arith, enough, logged.given, logged.log.count) in
     record {
       logged = logged_chosen f c.args.self.now c.take_free.new.self logged;
-      enough = omega (arith, enough, logged.given, logged.log.count);
-      least = c.requires.least;
+      enough = count;
+      least = omega (arith, count, c.requires.least);
     }
