@@ -4,15 +4,19 @@
     make_formula.py pigeons 4 | count_steps.py [MOST]
 
 It reads what `make_formula.py` writes, and gives up behind MOST conflicts, where a number is named. It
-decides, propagates, learns and restarts as `cdcl_core` does, with the same order of all lists, and shares no
-line with it: equal numbers of conflicts and hints say that both take the same steps. Propagations are the
-literals of the trail that were visited, and visits the clauses that were read for them.
+decides, propagates, learns, forgets and restarts as `cdcl_core` does, and strengthens the clauses of the
+formula once as that does with the finder of `subsume_core`, with the same order of all lists, and shares no
+line with them: equal numbers of additions and hints say that both take the same steps. The additions of a log
+are the conflicts, each with a learnt clause, and the shorter clauses that stand for ones of the formula.
+Propagations are the literals of the trail that were visited, and visits the clauses that were read for them.
 
 In tables by literals, -v stands at the index -v, which counts from the end.
 """
 
 import bisect
+import collections
 import itertools
+import math
 import sys
 
 FIRST_STEP, GREATEST_STEP, STEP_PART, REASON_PART = 1 << 40, 1 << 56, 16, 2
@@ -22,6 +26,8 @@ DEPTH = 1000
 FIRST_ACTIVITY, GREATEST_ACTIVITY, SCALE, ACTIVITY_PART = 1 << 20, 1 << 60, 1 << 40, 1000
 FEW_LEVELS, RECENT, FIRST_DUE, FIRST_WAIT, LONGER_WAIT, LAST_ONES = 4, 2000, 2000, 2000, 75, 20
 RECKONED = 40_000
+FIRST_CONFLICTS, MOST_GIVEN = 300, 400_000
+LONG, MOST_LITERALS, MOST_WORK = 64, 500, 50_000_000
 
 
 class Heap:
@@ -281,11 +287,54 @@ class Analysis:
                 self.resolve(-lit)
 
 
+class Finder:
+    """Looks for clauses that unit and binary clauses subsume or shorten, learnt ones too."""
+
+    def __init__(self, clauses, given):
+        self.lits = clauses.lits
+        self.units = {}  # by literal, the id of its first unit clause
+        self.rows = collections.defaultdict(list)  # by literal, the others of its binary clauses, with their ids
+        self.work = MOST_WORK
+        for id, lits in enumerate(self.lits):
+            self.note(lits or [], id)
+        self.order = sorted(range(1, given + 1), key=lambda id: min(len(self.lits[id]), LONG))
+        self.order += [id for id in self.order if len(self.lits[id]) <= 2]
+
+    def note(self, lits, id):
+        if len(lits) == 1:
+            self.units.setdefault(lits[0], id)
+        if len(lits) == 2:
+            self.rows[lits[0]].append((lits[1], id))
+            self.rows[lits[1]].append((lits[0], id))
+
+    def inside(self, id, lit, marked):
+        """Another clause than that of an id, of a literal and at most one more, which is marked: its id, or 0."""
+        unit = self.units.get(lit, 0)
+        if unit != id and self.lits[unit]:
+            return unit
+        fitting = (by for other, by in self.rows[lit] if other in marked and by != id and self.lits[by])
+        return next(fitting, 0)
+
+    def find(self, id):
+        """The id of a clause that subsumes that of an id, or 0, and the literals that this one needs."""
+        lits = self.lits[id]
+        marked = set(lits)
+        for lit in lits if len(lits) <= MOST_LITERALS else []:
+            if self.work <= 0:
+                break
+            if by := self.inside(id, lit, marked):
+                return by, lits
+            if len(marked) > 1 and self.inside(id, -lit, marked):
+                marked.remove(lit)
+            self.work -= len(self.rows[lit]) + len(self.rows[-lit])
+        return 0, [lit for lit in lits if lit in marked]
+
+
 class Merits:
-    """What the learnt clauses were good for. The ids behind `given` are theirs."""
+    """What the additions were good for. The ids behind `given` are theirs."""
 
     def __init__(self, given):
-        self.given = given
+        self.given, self.conflicts = given, 0
         self.activity, self.used, self.levels = [], [], []
         self.step = FIRST_ACTIVITY
         self.due, self.wait = FIRST_DUE, FIRST_WAIT
@@ -294,12 +343,16 @@ class Merits:
         for id in hints:
             if 0 <= (index := id - self.given - 1) < len(self.used):
                 self.activity[index] += self.step
-                self.used[index] = len(self.used)
+                self.used[index] = self.conflicts
+
+    def add(self, activity, levels):
+        self.activity.append(activity)
+        self.used.append(self.conflicts)
+        self.levels.append(levels)
 
     def note(self, levels):
-        self.activity.append(self.step)
-        self.used.append(len(self.used))
-        self.levels.append(levels)
+        self.add(self.step, levels)
+        self.conflicts += 1
         self.step += self.step // ACTIVITY_PART
         if self.step > GREATEST_ACTIVITY:
             self.step //= SCALE
@@ -307,7 +360,7 @@ class Merits:
 
     def containing(self, lits, clauses):
         """Those of the few clauses before the last one that contain it."""
-        last = len(self.used) - 1 if len(self.used) >= FIRST_DUE else 0
+        last = len(self.used) - 1 if self.conflicts >= FIRST_DUE else 0
         ids = [self.given + 1 + index for index in range(max(0, last - LAST_ONES), last)]
         return [id for id in ids if clauses[id] and set(lits) <= set(clauses[id])]
 
@@ -317,7 +370,7 @@ class Merits:
             index
             for index, levels in enumerate(self.levels)
             if levels > FEW_LEVELS
-            and self.used[index] + RECENT < len(self.used)
+            and self.used[index] + RECENT < self.conflicts
             and (lits := clauses[self.given + 1 + index])
             and len(lits) > 2
         ]
@@ -325,10 +378,10 @@ class Merits:
         return [self.given + 1 + index for index in idle if self.activity[index] < bound]
 
     def is_due(self):
-        if len(self.used) < self.due:
+        if self.conflicts < self.due:
             return False
         self.wait += LONGER_WAIT
-        self.due = len(self.used) + self.wait
+        self.due = self.conflicts + self.wait
         return True
 
 
@@ -342,7 +395,8 @@ class Solver:
         self.choice, self.restarts = Choice(variables), Restarts()
         self.analysis = Analysis(self.trail, self.clauses)
         self.merits = Merits(len(clauses))
-        names = ["conflicts", "hints", "deleted", "propagations", "visits", "decisions", "restarts"]
+        self.shorter = set()
+        names = ["conflicts", "shorter", "hints", "deleted", "propagations", "visits", "decisions", "restarts"]
         self.counts = dict.fromkeys(names, 0)
 
     def count(self, what, number=1):
@@ -352,7 +406,7 @@ class Solver:
         """Makes the clauses of one literal true: the id of a falsified one, or 0."""
         fell = self.trail.fell
         for id, lits in enumerate(self.clauses.lits[1:], 1):
-            if len(lits) > 1:
+            if not lits or len(lits) > 1:
                 continue
             if fell[lits[0]]:
                 return id
@@ -439,13 +493,17 @@ class Solver:
         self.merits.note(1 + len({bisect.bisect_left(self.starts, self.trail.fell[lit]) for lit in lits[1:]}))
         self.forget(self.merits.containing(lits, self.clauses.lits))
 
+    def is_irredundant(self, id):
+        """Whether a clause is one of the formula or stands for one."""
+        return id <= self.merits.given or id in self.shorter
+
     def forget(self, ids):
-        """Deletes the clauses that are no reasons, as long as half of all that were learnt stay, or half of those
+        """Deletes the learnt clauses that are no reasons, as long as half of all additions stay, or half of those
         that are reckoned with."""
         for id in ids:
-            learnt = max(len(self.clauses.lits) - 1 - self.merits.given, self.reckoned)
+            additions = max(len(self.clauses.lits) - 1 - self.merits.given, self.reckoned)
             lits, trail = self.clauses.lits[id], self.trail
-            if 2 * (self.counts["deleted"] + 1) <= learnt and not any(
+            if not self.is_irredundant(id) and 2 * (self.counts["deleted"] + 1) <= additions and not any(
                 trail.fell[-lit] and trail.reason[abs(lit)] == id for lit in lits
             ):
                 self.clauses.delete(id)
@@ -458,6 +516,47 @@ class Solver:
             self.go_back(self.starts[0])
             self.starts.clear()
 
+    def is_new(self, lits, units):
+        """Whether no clause has all its literals among these, where those of the unit clauses are given."""
+        arranged, watching = self.clauses.arranged, self.clauses.watching
+        known = [arranged[id] for lit in lits for id, _ in watching[lit]]
+        return units.isdisjoint(lits) and not any(map(set(lits).issuperset, known))
+
+    def strengthen_one(self, finder, id):
+        """Deletes a clause of the formula where another one that stays subsumes it, or puts a shorter one in its
+        place."""
+        lits = self.clauses.lits[id]
+        by, kept = finder.find(id)
+        if len(kept) < len(lits) and self.is_new(kept, finder.units.keys()):
+            by = self.clauses.add(kept)
+            self.shorter.add(by)
+            self.merits.add(0, 1)
+            finder.note(kept, by)
+            self.count("shorter")
+            self.count("hints", 1 + len(lits) - len(kept))
+        if by and self.is_irredundant(by):
+            self.clauses.delete(id)
+
+    def strengthen(self):
+        """Strengthens the clauses of the formula, where no variable has a value, and begins anew."""
+        self.go_back(0)
+        finder = Finder(self.clauses, self.merits.given)
+        for id in finder.order:
+            if self.clauses.lits[id]:
+                self.strengthen_one(finder, id)
+        return self.begin()
+
+    def settle(self):
+        """Propagates and learns until there is no conflict: the id of a clause falsified at the bottom, or 0."""
+        while conflict := self.propagate():
+            if not self.starts:
+                return conflict
+            self.jump(conflict)
+            self.count("conflicts")
+            self.count("hints", len(self.analysis.hints))
+            self.restart()
+        return 0
+
     def refute(self, conflict):
         self.analysis.refute(conflict)
         self.count("conflicts")
@@ -467,18 +566,15 @@ class Solver:
     def solve(self, most=10_000_000):
         """What the search comes to; "Open" where a decision is due behind so many conflicts."""
         self.reckoned = min(most, RECKONED)
+        pause = FIRST_CONFLICTS if most > FIRST_CONFLICTS and self.merits.given <= MOST_GIVEN else math.inf
         if [] in self.clauses.lits:
             return "Refuted"
-        if conflict := self.begin():
-            return self.refute(conflict)
-        while True:
-            while conflict := self.propagate():
-                if not self.starts:
-                    return self.refute(conflict)
-                self.jump(conflict)
-                self.count("conflicts")
-                self.count("hints", len(self.analysis.hints))
-                self.restart()
+        conflict = self.begin() or self.settle()
+        while not conflict:
+            if not self.starts and self.counts["conflicts"] >= pause:
+                pause = math.inf
+                conflict = self.strengthen() or self.settle()
+                continue
             if self.merits.is_due():
                 self.forget(self.merits.idle(self.clauses.lits))
             lit = self.choice.take_free(self.trail)
@@ -489,6 +585,8 @@ class Solver:
             self.count("decisions")
             self.starts.append(len(self.trail.lits))
             self.trail.push(lit, 0)
+            conflict = self.settle()
+        return self.refute(conflict)
 
 
 def read(text):

@@ -1,8 +1,9 @@
 #!/usr/bin/env python3
 """orders.py PROGRAM [--orders N] [--steps R ..]: decides the formulas of sums.py, those of R steps alone where they are named,
 each with its variables in N orders (8), by `PROGRAM solve`, the built program `benchmarks`, and by minisat with and
-without its preprocessing. It prints the sums over the refuted and over the satisfied ones: conflicts (of satisfied ones
-`solve` tells none), and user seconds of one run each. One order tells little: the sums over all of them do.
+without its preprocessing. It prints the sums over the refuted and over the satisfied ones: conflicts, of `solve` the
+additions to its log (of satisfied ones it tells none), and user seconds of one run each. One order tells little: the sums
+over all of them do.
 
 orders.py --classes PROGRAM [EVERY]: each EVERY-th (1) of the 222 classes of functions of four inputs by `PROGRAM synth`, the
 released program, each certificate rechecked; by minisat the `ssv` formulas of all sizes up to the fewest; and by ABC's

@@ -1,12 +1,12 @@
 #!/usr/bin/env python3
 """solver.py PROGRAM [--steps] [--beside SOLVER]: decides formulas by `PROGRAM solve`, the built program
-`benchmarks`, and prints a table: conflicts, which are the additions to the log, hints, propagations, user
-seconds, conflicts a second, and the peak of memory.
+`benchmarks`, and prints a table: additions to the log, which are the conflicts and the shorter clauses that
+stand for ones of the formula, hints, propagations, user seconds, additions a second, and the peak of memory.
 
 The formulas are pigeons in holes, and functions with their fewest steps and with one less, by the method
 `ssv`. A time is the smallest of three runs, or that of one run which takes longer than a second; a run is
 given up after 100 seconds. With --steps, count_steps.py takes the same steps again, which counts the
-propagations and, where a formula is satisfied and no log is left, the conflicts and hints. SOLVER is a
+propagations and, where a formula is satisfied and no log is left, the additions and hints. SOLVER is a
 program that reads DIMACS and tells its conflicts, such as minisat."""
 import ctypes
 import os
@@ -94,7 +94,8 @@ def write_formula(words, path):
 
 
 def numbers_of(text):
-    """The numbers of a line such as `Refuted, 3 conflicts, 8 hints`, by their names."""
+    """The numbers of a line such as `Refuted, 3 conflicts, 8 hints`, by their names. Of `solve` conflicts are all
+    additions."""
     return {name: int(number) for number, name in re.findall(r"(\d+) (\w+)", text)}
 
 
@@ -109,6 +110,7 @@ def counted(text, path, steps):
     if again.split(",")[0] != text.split(",")[0]:
         return told
     numbers = numbers_of(again)
+    numbers["conflicts"] += numbers["shorter"]
     return numbers if told.items() <= numbers.items() else {**told, "propagations": "other steps"}
 
 
@@ -123,8 +125,8 @@ def columns(program, path, steps):
     first = fastest([program, "solve"], path)
     answer = first.text.split(",")[0].strip() or f"more than {LONGEST} s"
     numbers = counted(first.text, path, steps)
-    conflicts = numbers.get("conflicts")
-    rate = f"{conflicts / first.seconds:,.0f}" if conflicts and first.seconds >= 0.01 else "-"
+    additions = numbers.get("conflicts")
+    rate = f"{additions / first.seconds:,.0f}" if additions and first.seconds >= 0.01 else "-"
     peak = f"{first.peak / 1024:.1f} MB" if first.peak else "-"
     numbers = [in_words(numbers.get(name)) for name in ("conflicts", "hints", "propagations")]
     return [*sizes, answer, *numbers, f"{first.seconds:.2f} s", rate, peak]
@@ -144,7 +146,7 @@ def row(cells):
 def main():
     program, *options = sys.argv[1:]
     solver = options[options.index("--beside") + 1] if "--beside" in options else None
-    titles = "Formula,Variables,Clauses,Answer,Conflicts,Hints,Propagations,Time,Conflicts a second,Peak memory".split(",")
+    titles = "Formula,Variables,Clauses,Answer,Additions,Hints,Propagations,Time,Additions a second,Peak memory".split(",")
     titles += [f"{solver}: conflicts", "Time"] if solver else []
     print(row(titles), row(["---"] * len(titles)).replace(" ", ""), sep="\n")
     with tempfile.TemporaryDirectory() as folder:

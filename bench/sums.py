@@ -1,9 +1,9 @@
 #!/usr/bin/env python3
 """sums.py PROGRAM [--beside SOLVER]: decides the `ssv` formulas of 32 functions of four inputs, with their fewest
 steps and with one less, by `PROGRAM solve`, the built program `benchmarks`, and prints the sums over the refuted and
-over the satisfied ones: conflicts (of satisfied ones no log is left that tells them), user seconds, and the greatest
-peak of memory. A time is the smallest of two runs, one behind the other. Single searches tell little: another
-order of the clauses takes many of them twice or half as many conflicts.
+over the satisfied ones: conflicts, of `solve` the additions to its log (of satisfied ones none is left), user seconds,
+and the greatest peak of memory. A time is the smallest of two runs, one behind the other. Single searches tell
+little: another order of the clauses takes many of them twice or half as many conflicts.
 
 SOLVER is a program that reads DIMACS and tells its conflicts, such as minisat."""
 import os

@@ -1,7 +1,7 @@
 #!/usr/bin/env python3
 """synth.py PROGRAM [SECONDS] [--beside]: finds the fewest steps of some functions by PROGRAM, by each method,
-rechecks each certificate, and prints a table: the verdict, the additions in the certificate (one for each
-conflict of the sizes without a chain), its bytes, user seconds to find and to recheck. A search that takes
+rechecks each certificate, and prints a table: the verdict, the additions in the certificate (conflicts and
+shorter clauses of the sizes without a chain), its bytes, user seconds to find and to recheck. A search that takes
 longer than SECONDS (60) is given up.
 
 With --beside it finds the fewest steps of larger functions and of the last small one, and prints the user
