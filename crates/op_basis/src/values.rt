@@ -1,6 +1,7 @@
 //! Operators made by their values.
 ghost use Rattle.std.specs.Prelude.{◌≡◌};
-ghost use Rattle.op_basis.specs.Closed.{swapped as swapped_of, complement as complement_of};
+ghost use Rattle.op_basis.specs.Operator.{apply};
+ghost use Rattle.op_basis.specs.Closed.{operator_of, swapped as swapped_of, complement as complement_of};
 ghost use Rattle.op_basis.specs.Closed.{first_complemented as first_complemented_of};
 ghost use Rattle.op_basis.specs.Closed.{second_complemented as second_complemented_of};
 ghost use Rattle.op_basis.specs.Closed.{left_on_first as left_on_first_of, left_on_second as left_on_second_of};
@@ -60,17 +61,29 @@ pub(crate) fn second_complemented(op: Op) -> Op
     )
 }
 
+/// The operator that is its first operand, and the one that is its second.
+const FIRST: u8 = 0b0011;
+
+const SECOND: u8 = 0b0101;
+
+/// The operator outer(left(a,b), right(a,b)) of (a, b).
+fn composed(outer: Op, left: Op, right: Op) -> Op
+    ensures { result ≡ operator_of (λ a b. apply outer (apply left a b) (apply right a b)) }
+{
+    Op::with_values(
+        outer.apply(left.apply(false, false), right.apply(false, false)),
+        outer.apply(left.apply(false, true), right.apply(false, true)),
+        outer.apply(left.apply(true, false), right.apply(true, false)),
+        outer.apply(left.apply(true, true), right.apply(true, true)),
+    )
+}
+
 /// The operator q(p(a,b), a) of (a, b).
 #[tactic(auto, unfolding(crate::specs::Closed::left_on_first))]
 pub(crate) fn left_on_first(p: Op, q: Op) -> Op
     ensures { result ≡ left_on_first_of p q }
 {
-    Op::with_values(
-        q.apply(p.apply(false, false), false),
-        q.apply(p.apply(false, true), false),
-        q.apply(p.apply(true, false), true),
-        q.apply(p.apply(true, true), true),
-    )
+    composed(q, p, Op::new(FIRST))
 }
 
 /// The operator q(p(a,b), b) of (a, b).
@@ -78,12 +91,7 @@ pub(crate) fn left_on_first(p: Op, q: Op) -> Op
 pub(crate) fn left_on_second(p: Op, q: Op) -> Op
     ensures { result ≡ left_on_second_of p q }
 {
-    Op::with_values(
-        q.apply(p.apply(false, false), false),
-        q.apply(p.apply(false, true), true),
-        q.apply(p.apply(true, false), false),
-        q.apply(p.apply(true, true), true),
-    )
+    composed(q, p, Op::new(SECOND))
 }
 
 /// The operator q(a, p(a,b)) of (a, b).
@@ -91,12 +99,7 @@ pub(crate) fn left_on_second(p: Op, q: Op) -> Op
 pub(crate) fn right_on_first(p: Op, q: Op) -> Op
     ensures { result ≡ right_on_first_of p q }
 {
-    Op::with_values(
-        q.apply(false, p.apply(false, false)),
-        q.apply(false, p.apply(false, true)),
-        q.apply(true, p.apply(true, false)),
-        q.apply(true, p.apply(true, true)),
-    )
+    composed(q, Op::new(FIRST), p)
 }
 
 /// The operator q(b, p(a,b)) of (a, b).
@@ -104,10 +107,5 @@ pub(crate) fn right_on_first(p: Op, q: Op) -> Op
 pub(crate) fn right_on_second(p: Op, q: Op) -> Op
     ensures { result ≡ right_on_second_of p q }
 {
-    Op::with_values(
-        q.apply(false, p.apply(false, false)),
-        q.apply(true, p.apply(false, true)),
-        q.apply(false, p.apply(true, false)),
-        q.apply(true, p.apply(true, true)),
-    )
+    composed(q, Op::new(SECOND), p)
 }
