@@ -1,7 +1,7 @@
 //! The clauses that give each step its operator's value of its pair.
 ghost use Rattle.std.specs.Prelude.{◌≡◌, ◌+◌, ◌^◌, ◌<◌, ◌≤◌, ◌++◌, true, false, All, IsTrue, OnOk};
 ghost use Rattle.clause_core.specs.declared.raw.Raw.TheVariants.{Fixed};
-ghost use Rattle.enc_theory.specs.Families.{value_clause, value_bit, value_row, value_slot, value_step, values};
+ghost use Rattle.enc_theory.specs.Families.{value_clause, value_row, value_slot, value_step, values};
 ghost use Rattle.enc_theory.specs.Numbering.{x_is as x_is_of};
 ghost use Rattle.enc_frame.specs.Room.{IsSmall, HasRoom, IsPlace, IsSlot, HasSlots};
 
@@ -33,38 +33,10 @@ fn is_certain(z: Sizes, j: u32, t: u32, bit: bool) -> bool
     }
 }
 
-/// One clause, for bits a, b, c of the step and of its two operands.
-#[tactic(auto, unfolding(enc_theory::specs::Families::value_clause, enc_theory::specs::Families::value_raw))]
+/// One clause, for bits a, b, c of the step and of its two operands; none is listed where the second
+/// operand is an input with the other bit, which makes it a tautology.
+#[tactic(auto, using(crate::proofs::Skipped::skipping), unfolding(enc_theory::specs::Families::value_clause, enc_theory::specs::Families::value_raw))]
 fn push_value_clause(
-    alloc: Global,
-    list: &mut ClauseList,
-    z: Sizes,
-    at: At,
-    a: bool,
-    b: bool,
-    c: bool,
-) -> Result<(), AllocError>
-    requires room { HasRoom z list.old.vars }
-    requires place { IsPlace z at.step }
-    requires slot { IsSlot list.old.vars at.step at.slot }
-    requires row { at.row < 2 ^ z.n }
-    ensures { OnOk result (list.new ≡ record list.old { clauses = list.old.clauses ++ value_clause z at.step at.slot at.row a b c }) }
-{
-    list.push(
-        alloc,
-        &[
-            Raw::Var(at.slot.var, false),
-            x_is(z, at.step, at.row, !a),
-            x_is(z, at.slot.j, at.row, !b),
-            x_is(z, at.slot.k, at.row, !c),
-            Raw::Var(f_var(z, at.step, b, c), a),
-        ],
-    )
-}
-
-/// The clause, unless the second operand is an input with the other bit, which makes it a tautology.
-#[tactic(auto, using(crate::proofs::Skipped::skipping))]
-fn push_value_quarter(
     alloc: Global,
     list: &mut ClauseList,
     z: Sizes,
@@ -82,7 +54,16 @@ fn push_value_quarter(
     if is_certain(z, at.slot.k, at.row, !c) {
         return Ok(());
     }
-    push_value_clause(alloc, list, z, at, a, b, c)
+    list.push(
+        alloc,
+        &[
+            Raw::Var(at.slot.var, false),
+            x_is(z, at.step, at.row, !a),
+            x_is(z, at.slot.j, at.row, !b),
+            x_is(z, at.slot.k, at.row, !c),
+            Raw::Var(f_var(z, at.step, b, c), a),
+        ],
+    )
 }
 
 /// The two clauses of a bit of the step and one of its first operand. Where that is an input with
@@ -105,31 +86,12 @@ fn push_value_half(
     if is_certain(z, at.slot.j, at.row, !b) {
         return Ok(());
     }
-    push_value_quarter(alloc, list, z, at, a, b, false)?;
-    push_value_quarter(alloc, list, z, at, a, b, true)
-}
-
-/// The four clauses of a bit of the step.
-#[tactic(auto, using(crate::proofs::Skipped::skipping), unfolding(enc_theory::specs::Families::value_bit))]
-fn push_value_bit(
-    alloc: Global,
-    list: &mut ClauseList,
-    z: Sizes,
-    at: At,
-    a: bool,
-) -> Result<(), AllocError>
-    requires room { HasRoom z list.old.vars }
-    requires place { IsPlace z at.step }
-    requires slot { IsSlot list.old.vars at.step at.slot }
-    requires row { at.row < 2 ^ z.n }
-    ensures { OnOk result (list.new ≡ record list.old { clauses = list.old.clauses ++ value_bit z at.step at.slot at.row a }) }
-{
-    push_value_half(alloc, list, z, at, a, false)?;
-    push_value_half(alloc, list, z, at, a, true)
+    push_value_clause(alloc, list, z, at, a, b, false)?;
+    push_value_clause(alloc, list, z, at, a, b, true)
 }
 
 /// The eight clauses of a row.
-#[tactic(auto, unfolding(enc_theory::specs::Families::value_row))]
+#[tactic(auto, using(crate::proofs::Skipped::skipping), unfolding(enc_theory::specs::Families::value_row, enc_theory::specs::Families::value_bit))]
 fn push_value_row(alloc: Global, list: &mut ClauseList, z: Sizes, at: At) -> Result<(), AllocError>
     requires room { HasRoom z list.old.vars }
     requires place { IsPlace z at.step }
@@ -137,8 +99,10 @@ fn push_value_row(alloc: Global, list: &mut ClauseList, z: Sizes, at: At) -> Res
     requires row { at.row < 2 ^ z.n }
     ensures { OnOk result (list.new ≡ record list.old { clauses = list.old.clauses ++ value_row z at.step at.slot at.row }) }
 {
-    push_value_bit(alloc, list, z, at, false)?;
-    push_value_bit(alloc, list, z, at, true)
+    push_value_half(alloc, list, z, at, false, false)?;
+    push_value_half(alloc, list, z, at, false, true)?;
+    push_value_half(alloc, list, z, at, true, false)?;
+    push_value_half(alloc, list, z, at, true, true)
 }
 
 /// The clauses of a pair.
