@@ -1,5 +1,6 @@
 pub mod Numbers
 pub mod Ranges
+pub mod Falls
 pub mod Within
 pub mod Choices
 pub mod Counts

@@ -10,16 +10,15 @@
 //! The clauses on outputs and operators, and the cuts without operands, are those of `enc_frame`
 //! and `enc_cuts`.
 //!
-//! - `chain` writes what a chain is; `rising`, `used`, `trivial`, `falling` and `again` write the cuts.
+//! - `chain` writes what a chain is; `descents`, `used`, `trivial` and `again` write the cuts.
 //! - `decoding` decodes the steps of an assignment, and `vars` has the numbers of the variables.
 #![tactic(auto)]
 
 mod again;
 mod chain;
 mod decoding;
-mod falling;
+mod descents;
 mod literals;
-mod rising;
 mod select;
 mod trivial;
 mod used;

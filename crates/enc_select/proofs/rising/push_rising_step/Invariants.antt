@@ -1,7 +1,0 @@
-use Rattle.std.proofs.Common.{◌++◌, ◌-◌, ◌≡◌}
-use Rattle.std.specs.List.{range_with_len, flat_map}
-use Rattle.enc_theory.specs.Select.{rising_from}
-use Rattle.enc_select.proofs.rising.push_rising_step.Given as goal
-
-abbrev pub invariant-loop-j : goal.invariant-loop-j
-invariant-loop-j l = l.list ≡ record l.initial.list { clauses = l.initial.list.clauses ++ flat_map (rising_from l.z l.i) (range_with_len 1 (l.j - 1)) }

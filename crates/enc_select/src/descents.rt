@@ -1,0 +1,158 @@
+//! Operands that never fall, where the basis has each operator with its operands exchanged: those of a
+//! step rise, and the second ones of steps in a row never decrease (co-lexicographic order).
+ghost use Rattle.std.specs.Prelude.{◌≡◌, ◌+◌, ◌-◌, ◌<◌, ◌≤◌, ◌++◌, OnOk};
+ghost use Rattle.std.specs.List.{flat_map, range_with_len};
+ghost use Rattle.enc_theory.specs.declared.data.Side.TheVariants.{Second};
+ghost use Rattle.enc_theory.specs.Select.{rising, falling_step, falling};
+ghost use Rattle.enc_frame.specs.Room.{IsPlace};
+ghost use Rattle.enc_select.specs.Descents.{descent, descents_from, descents};
+ghost use Rattle.enc_select.specs.Room.{HasChoices};
+
+use crate::literals::choice;
+use clause_core::ClauseList;
+use enc_theory::{Side, Sizes};
+use op_basis::Basis;
+use std::alloc::{AllocError, Global};
+
+/// An operand of a step.
+#[derive(Clone, Copy)]
+struct Operand {
+    side: Side,
+    step: u32,
+}
+
+/// The second operand of a step.
+fn second_of(step: u32) -> Operand
+    ensures side { result.side ≡ Second }
+    ensures step { result.step ≡ step }
+{
+    Operand {
+        side: Side::Second,
+        step,
+    }
+}
+
+/// The clause that the operand isn't `k` or the other one isn't `l`.
+#[tactic(auto, unfolding(crate::specs::Descents::descent))]
+fn push_descent(
+    alloc: Global,
+    list: &mut ClauseList,
+    z: Sizes,
+    own: Operand,
+    other: Operand,
+    k: u32,
+    l: u32,
+) -> Result<(), AllocError>
+    requires room { HasChoices z list.old.vars }
+    requires places { IsPlace z own.step }
+    requires others { IsPlace z other.step }
+    requires operand { (1 ≤ k) × (k < own.step) }
+    requires lower { (1 ≤ l) × (l < other.step) }
+    ensures { OnOk result (list.new ≡ record list.old { clauses = list.old.clauses ++ descent z own.side own.step other.side other.step k l }) }
+{
+    list.push(
+        alloc,
+        &[
+            choice(z, own.side, own.step, k, false),
+            choice(z, other.side, other.step, l, false),
+        ],
+    )
+}
+
+/// The clauses for each lower place of the other operand.
+#[tactic(auto, using(crate::proofs::Ranges::loops), unfolding(crate::specs::Descents::descents_from))]
+fn push_descents_from(
+    alloc: Global,
+    list: &mut ClauseList,
+    z: Sizes,
+    own: Operand,
+    other: Operand,
+    k: u32,
+) -> Result<(), AllocError>
+    requires room { HasChoices z list.old.vars }
+    requires places { IsPlace z own.step }
+    requires others { IsPlace z other.step }
+    requires order { own.step ≤ other.step }
+    requires operand { (1 ≤ k) × (k < own.step) }
+    ensures { OnOk result (list.new ≡ record list.old { clauses = list.old.clauses ++ descents_from z own.side own.step other.side other.step k }) }
+{
+    for l in 1..k {
+        push_descent(alloc, list, z, own, other, k, l)?;
+    }
+    Ok(())
+}
+
+/// The clauses that the other operand is no lower place than this one.
+#[tactic(auto, using(crate::proofs::Ranges::loops), unfolding(crate::specs::Descents::descents))]
+fn push_descents(
+    alloc: Global,
+    list: &mut ClauseList,
+    z: Sizes,
+    own: Operand,
+    other: Operand,
+) -> Result<(), AllocError>
+    requires room { HasChoices z list.old.vars }
+    requires places { IsPlace z own.step }
+    requires others { IsPlace z other.step }
+    requires order { own.step ≤ other.step }
+    ensures { OnOk result (list.new ≡ record list.old { clauses = list.old.clauses ++ descents z own.side own.step other.side other.step }) }
+{
+    for k in 1..own.step {
+        push_descents_from(alloc, list, z, own, other, k)?;
+    }
+    Ok(())
+}
+
+/// Writes that the operands of each step rise, where the basis is closed under their exchange.
+#[tactic(auto, using(crate::proofs::Falls::falls), unfolding(enc_theory::specs::Select::rising))]
+pub(crate) fn push_rising(
+    alloc: Global,
+    list: &mut ClauseList,
+    basis: Basis,
+    z: Sizes,
+) -> Result<(), AllocError>
+    requires { HasChoices z list.old.vars }
+    ensures { OnOk result (list.new ≡ record list.old { clauses = list.old.clauses ++ rising basis z }) }
+{
+    if !basis.swap_closed() {
+        return Ok(());
+    }
+    for step in z.n + 1..z.n + 1 + z.r {
+        let first = Operand {
+            side: Side::First,
+            step,
+        };
+        push_descents(alloc, list, z, first, second_of(step))?;
+    }
+    Ok(())
+}
+
+/// The clauses of the second operands of all steps but the last, each with that of the next step.
+#[tactic(auto, using(crate::proofs::Falls::falls))]
+fn push_falling_steps(alloc: Global, list: &mut ClauseList, z: Sizes) -> Result<(), AllocError>
+    requires room { HasChoices z list.old.vars }
+    requires some { 1 ≤ z.r }
+    ensures { OnOk result (list.new ≡ record list.old { clauses = list.old.clauses ++ flat_map (falling_step z) (range_with_len (z.n + 1) (z.r - 1)) }) }
+{
+    for step in z.n + 1..z.n + z.r {
+        push_descents(alloc, list, z, second_of(step), second_of(step + 1))?;
+    }
+    Ok(())
+}
+
+/// Writes that second operands never decrease, where the basis is closed under exchanged operands.
+#[tactic(auto, using(crate::proofs::Ranges::without_steps), unfolding(enc_theory::specs::Select::falling))]
+pub(crate) fn push_falling(
+    alloc: Global,
+    list: &mut ClauseList,
+    basis: Basis,
+    z: Sizes,
+) -> Result<(), AllocError>
+    requires { HasChoices z list.old.vars }
+    ensures { OnOk result (list.new ≡ record list.old { clauses = list.old.clauses ++ falling basis z }) }
+{
+    if basis.swap_closed() && z.r > 0 {
+        return push_falling_steps(alloc, list, z);
+    }
+    Ok(())
+}
