@@ -10,6 +10,7 @@ use Rattle.enc_theory.specs.Cuts.{may_exchange}
 use Rattle.enc_laws.specs.PairTests.{exchange_symmetric, symmetric_exchange}
 use Rattle.clause_core.specs.RangeLaws.{loops}
 use Rattle.enc_cuts.specs.Vars.{steps_have_vars}
+use Rattle.enc_cuts.specs.Counts.{both-few}
 
 -- a filter, element by element
 pub ruleset keeping = (common_steps, filter_more)
@@ -29,3 +30,6 @@ pub all_inputs : {A : Type 0} (f : ℕ → List A) (p n : ℕ) → p ≤ n → f
 all_inputs {A} f p n low = let e : suc p ≡ p + 1 = omega arith in let l : n - p ≡ n + 1 - (p + 1) = omega arith in rw (e, l) refl
 
 pub ruleset inputs = (loops, all_inputs)
+
+-- the clauses of a formula are few enough
+pub ruleset limits = (common_steps, both-few)

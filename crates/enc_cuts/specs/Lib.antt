@@ -1,3 +1,4 @@
+pub mod Formula
 pub mod Vars
 pub mod Counts
 pub mod ChainLaws

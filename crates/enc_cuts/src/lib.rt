@@ -9,7 +9,8 @@
 //! push_cuts(alloc, &mut list, &live, basis, z, &layout.steps)?;   // and no needless one
 //! ```
 //!
-//! Those without pairs can be called alone, for other encodings.
+//! `formula_with_cuts` makes a formula of both. The cuts without pairs can be called alone, for other
+//! encodings.
 //!
 //! The cuts, and their names in the field:
 //!
@@ -29,6 +30,7 @@ ghost use Rattle.enc_frame.specs.Room.{HasRoom, HasSlots, AreFor};
 
 mod again;
 mod exchange;
+mod formula;
 mod order;
 mod row_zero;
 mod slots;
@@ -37,6 +39,7 @@ mod used;
 
 use crate::again::push_again;
 use crate::exchange::push_exchange;
+pub use crate::formula::formula_with_cuts;
 use crate::order::push_order;
 pub use crate::row_zero::push_row_0;
 pub use crate::slots::push_bearers;
