@@ -3,14 +3,13 @@
 //! every cut.
 use crate::pairs::decode_pairs;
 use chain_core::Chain;
-use clause_core::ClauseList;
 use cnf_core::{Assign, Cnf};
-use enc_cuts::push_cuts;
-use enc_frame::{AllPairs, Encoding, Layout, push_common, sizes};
+use enc_cuts::formula_with_cuts;
+use enc_frame::{AllPairs, Encoding};
 use enc_theory::Part;
 use op_basis::Basis;
 use std::alloc::{AllocError, Global};
-use tt_core::{Spec, live_part};
+use tt_core::Spec;
 
 /// The encoding by pairs with cuts: the clauses that say what a chain is, over the ordered pairs alone
 /// where the basis has each operator with its operands exchanged, and the cuts that leave a least
@@ -37,7 +36,7 @@ impl Encoding for Ssv {
         Ok(vec![in alloc; Part::Whole]?)
     }
 
-    #[tactic(auto, using(crate::proofs::Formulas::ssv), unfolding(enc_theory::specs::Ssv::ssv_formula, enc_theory::specs::Ssv::ssv_live))]
+    #[tactic(auto, using(crate::proofs::Formulas::ssv))]
     fn formula(
         &self,
         alloc: Global,
@@ -46,18 +45,10 @@ impl Encoding for Ssv {
         r: u32,
         _part: &Part,
     ) -> Result<Cnf, AllocError> {
-        let live = live_part(alloc, spec)?;
-        // for the prover: brings in that the live part is within the bounds
-        let _n = live.n();
-        let z = sizes(&live, r);
         let pairs = AllPairs {
             ordered: basis.swap_closed(),
         };
-        let layout = Layout::new(alloc, &pairs, z)?;
-        let mut list = ClauseList::new(alloc, layout.vars)?;
-        push_common(alloc, &mut list, &live, basis, z, &layout.steps)?;
-        push_cuts(alloc, &mut list, &live, basis, z, &layout.steps)?;
-        list.into_cnf(alloc)
+        formula_with_cuts(alloc, spec, basis, r, &pairs)
     }
 
     #[tactic(auto, using(crate::proofs::Chains::within))]
