@@ -1,6 +1,5 @@
--- Formulas within the program's limits, and the chains that they give.
+-- The chains that formulas give are within the program's limits.
 use Rattle.std.proofs.Common.{◌≡◌, ℕ, ◌≤◌, List, refl}
-use Rattle.std.proofs.lemmas.Grind.{common_steps}
 use Rattle.chain_core.specs.Steps.{IsSmallChain}
 use Rattle.sat_theory.specs.Formula.{Assignment, Satisfies}
 use Rattle.tt_core.specs.Words.{Words, IsSpec}
@@ -8,9 +7,6 @@ use Rattle.enc_theory.specs.Fence.{fence_formula, fence_decoded}
 use Rattle.enc_theory.specs.Decode.{decoded}
 use Rattle.enc_laws.specs.Fence.{fence_decodes}
 use Rattle.enc_cuts.specs.ChainLaws.{small_chain}
-use Rattle.enc_cuts.specs.Counts.{both-few}
-
-pub ruleset fence = (common_steps, both-few)
 
 -- what a satisfying assignment of a fence's formula spells
 inputs_kept : (w : Words) (basis r : ℕ) (fence : List ℕ) (v : Assignment) → (fence_decoded w basis r fence v).n ≡ w.n

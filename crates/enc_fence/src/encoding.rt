@@ -1,20 +1,18 @@
 //! The encoding by fences. It is the encoding by pairs with cuts, over the pairs that a fence leaves; its laws
 //! rest on this: some least chain stands level by level, in a listed fence, and a fence's pairs rise by levels.
-ghost use Rattle.std.specs.Prelude.{◌≡◌, ◌≤◌, length, All, IfOk};
+ghost use Rattle.std.specs.Prelude.{◌≡◌, ◌≤◌, IfOk};
 ghost use Rattle.chain_core.specs.Steps.{IsSmallChain};
 ghost use Rattle.sat_theory.specs.Formula.{bits_of};
-ghost use Rattle.enc_theory.specs.Numbering.{sizes_of};
-ghost use Rattle.enc_theory.specs.Pairs.{vars_of, slot_count};
-ghost use Rattle.enc_theory.specs.Fence.{fence_layout, fence_decoded};
-ghost use Rattle.enc_frame.specs.Room.{HasRoom, HasSlots};
+ghost use Rattle.op_basis.specs.Basis.{members};
+ghost use Rattle.op_basis.specs.Closed.{swap_closed};
+ghost use Rattle.enc_theory.specs.Fence.{fence_decoded};
 ghost use Rattle.enc_theory.specs.Parts.{fence_in};
 
 use crate::pairs::FencePairs;
 use chain_core::Chain;
-use clause_core::ClauseList;
 use cnf_core::{Assign, Cnf};
-use enc_cuts::push_cuts;
-use enc_frame::{Encoding, Layout, decode, push_common, sizes};
+use enc_cuts::formula_with_cuts;
+use enc_frame::{Encoding, Layout, decode, sizes};
 use enc_theory::Part;
 use fence_core::fences;
 use op_basis::Basis;
@@ -38,33 +36,21 @@ fn levels_in(part: &Part) -> &[u32]
     }
 }
 
-/// The steps with the pairs that they may have in a part's fence, for tables whose outputs are all live.
-#[tactic(auto, using(crate::proofs::Layouts::same))]
-fn layout_in(
-    alloc: Global,
-    live: &Spec,
-    basis: Basis,
-    r: u32,
-    part: &Part,
-) -> Result<Layout, AllocError>
-    requires { r ≤ 16 }
-    ensures steps { IfOk result (λ l. l.steps.items ≡ fence_layout basis (fence_in part.now) (sizes_of live.now r)) }
-    ensures vars { IfOk result (λ l. l.vars ≡ vars_of (sizes_of live.now r) l.steps.items) }
-    ensures room { IfOk result (λ l. HasRoom (sizes_of live.now r) l.vars) }
-    ensures count { IfOk result (λ l. length l.steps.items ≡ r) }
-    ensures few { IfOk result (λ l. slot_count l.steps.items ≤ 16000) }
-    ensures slots { IfOk result (λ l. All (HasSlots (sizes_of live.now r) l.vars) l.steps.items) }
+/// The pairs that the steps of chains over `n` inputs may have in a part's fence.
+fn pairs_in(n: u32, basis: Basis, part: &Part) -> FencePairs<'_>
+    ensures n { result.n ≡ n }
+    ensures ordered { result.ordered ≡ swap_closed (members basis) }
+    ensures levels { result.levels.now ≡ fence_in part.now }
 {
-    let pairs = FencePairs {
-        n: live.n(),
+    FencePairs {
+        n,
         ordered: basis.swap_closed(),
         levels: levels_in(part),
-    };
-    Layout::new(alloc, &pairs, sizes(live, r))
+    }
 }
 
 /// The chain that an assignment spells in a part's fence.
-#[tactic(auto, unfolding(enc_theory::specs::Fence::fence_decoded))]
+#[tactic(auto, using(crate::proofs::Layouts::same), unfolding(enc_theory::specs::Fence::fence_decoded))]
 fn decode_in(
     alloc: Global,
     spec: &Spec,
@@ -79,7 +65,7 @@ fn decode_in(
 {
     let live = live_part(alloc, spec)?;
     let z = sizes(&live, r);
-    let layout = layout_in(alloc, &live, basis, r, part)?;
+    let layout = Layout::new(alloc, &pairs_in(live.n(), basis, part), z)?;
     decode(alloc, spec, z, &layout.steps, assign)
 }
 
@@ -106,7 +92,7 @@ impl Encoding for FenceEnc {
         Ok(parts)
     }
 
-    #[tactic(auto, using(crate::proofs::Formulas::fence), unfolding(enc_theory::specs::Fence::fence_formula, enc_theory::specs::Fence::fence_live))]
+    #[tactic(auto, using(crate::proofs::Layouts::formulas))]
     fn formula(
         &self,
         alloc: Global,
@@ -115,15 +101,8 @@ impl Encoding for FenceEnc {
         r: u32,
         part: &Part,
     ) -> Result<Cnf, AllocError> {
-        let live = live_part(alloc, spec)?;
-        // brings that the live part is within the limits
-        let _n = live.n();
-        let z = sizes(&live, r);
-        let layout = layout_in(alloc, &live, basis, r, part)?;
-        let mut list = ClauseList::new(alloc, layout.vars)?;
-        push_common(alloc, &mut list, &live, basis, z, &layout.steps)?;
-        push_cuts(alloc, &mut list, &live, basis, z, &layout.steps)?;
-        list.into_cnf(alloc)
+        let pairs = pairs_in(spec.n(), basis, part);
+        formula_with_cuts(alloc, spec, basis, r, &pairs)
     }
 
     fn decode(
