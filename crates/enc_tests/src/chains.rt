@@ -9,7 +9,7 @@ use enc_select::Select;
 use enc_ssv::{Plain, Ssv};
 use op_basis::{Basis, read_basis};
 use settings::Method;
-use std::alloc::Global;
+use std::alloc::{AllocError, Global};
 use tt_core::{Spec, read_tables};
 
 /// The chain that an assignment spells in the first part of size 1, where it satisfies the formula.
@@ -31,13 +31,22 @@ fn decoded_by<E: Encoding>(
     encoding.decode(alloc, spec, basis, 1, part, assign).ok()
 }
 
-/// The same for tables and a basis in texts.
+/// The bits of a text, where 1 is true.
+fn bits_of(alloc: Global, text: &[u8]) -> Result<Vec<bool>, AllocError> {
+    let mut bits = Vec::new(alloc);
+    for &byte in text {
+        bits.push(byte == b'1')?;
+    }
+    Ok(bits)
+}
+
+/// The same for tables, a basis and bits in texts.
 fn decoded(
     alloc: Global,
     method: Method,
     tables: &[u8],
     basis: &[u8],
-    bits: &[bool],
+    bits: &[u8],
 ) -> Option<Chain> {
     if tables.len() > 1000 {
         return None;
@@ -45,7 +54,7 @@ fn decoded(
     let (Ok(read), Ok(basis), Ok(bits)) = (
         read_tables(alloc, tables),
         read_basis(basis),
-        Vec::from_slice(alloc, bits),
+        bits_of(alloc, bits),
     ) else {
         return None;
     };
@@ -58,114 +67,73 @@ fn decoded(
     }
 }
 
-/// Whether there is a chain of this one step, with these outs.
-fn is_chain(chain: Option<Chain>, j: u32, k: u32, op: u8, outs: &[Out]) -> bool {
+/// Tables, a basis, and the chain of one step that solutions of their formulas spell.
+struct Case {
+    tables: &'static [u8],
+    basis: &'static [u8],
+    j: u32,
+    k: u32,
+    op: u8,
+    outs: &'static [Out],
+}
+
+/// Whether the chain is that of the case.
+fn is_chain_of(case: &Case, chain: Option<Chain>) -> bool {
     let Some(chain) = chain else {
         return false;
     };
     let [step] = chain.steps() else {
         return false;
     };
-    step.j == j && step.k == k && step.op.get() == op && *chain.outs() == *outs
+    step.j == case.j && step.k == case.k && step.op.get() == case.op && *chain.outs() == *case.outs
 }
 
-const O: bool = false;
+const XOR: Case = Case {
+    tables: b"inputs 2\n0110\n",
+    basis: b"all",
+    j: 1,
+    k: 2,
+    op: 6,
+    outs: &[Out::Place(3)],
+};
 
-const I: bool = true;
+/// x2 and not x1, by an operator whose operands can't be exchanged.
+const AND_NOT: Case = Case {
+    tables: b"inputs 2\n0100\n",
+    basis: b"0010",
+    j: 2,
+    k: 1,
+    op: 2,
+    outs: &[Out::Place(3)],
+};
 
-const XOR: &[u8] = b"inputs 2\n0110\n";
-
-const AND_NOT: &[u8] = b"inputs 2\n0100\n";
 /// XOR, with trivial outputs before and after it.
-const THREE: &[u8] = b"inputs 2\n0011\n0110\n----\n";
+const THREE: Case = Case {
+    tables: b"inputs 2\n0011\n0110\n----\n",
+    basis: b"all",
+    j: 1,
+    k: 2,
+    op: 6,
+    outs: &[Out::Place(1), Out::Place(3), Out::Zero],
+};
 
-/// Tables and bases, the true variables of a formula of theirs, and the one step and the outs that
-/// it spells.
-const CHAINS: &[(Method, &[u8], &[u8], &[bool], u32, u32, u8, &[Out])] = &[
+/// Cases, and the bits of the variables of a formula of theirs.
+const CHAINS: &[(Method, &Case, &[u8])] = &[
     // both orders of the operands are true, and the first is taken
-    (
-        Method::Plain,
-        XOR,
-        b"all",
-        &[O, I, I, O, I, O, I, I, O, O, O, I, I],
-        1,
-        2,
-        6,
-        &[Out::Place(3)],
-    ),
-    // x2 and not x1, by an operator whose operands can't be exchanged
-    (
-        Method::Plain,
-        AND_NOT,
-        b"0010",
-        &[O, I, O, O, I, O, O, I, O, O, O, O, I],
-        2,
-        1,
-        2,
-        &[Out::Place(3)],
-    ),
-    (
-        Method::Plain,
-        THREE,
-        b"all",
-        &[O, I, I, O, I, O, I, I, O, O, O, I, O],
-        1,
-        2,
-        6,
-        &[Out::Place(1), Out::Place(3), Out::Zero],
-    ),
+    (Method::Plain, &XOR, b"0110101100011"),
+    (Method::Plain, &AND_NOT, b"0100100100001"),
+    (Method::Plain, &THREE, b"0110101100010"),
     // with cuts the operands come in one order
-    (
-        Method::Ssv,
-        XOR,
-        b"all",
-        &[O, I, I, O, I, O, I, I, O, O, O, I],
-        1,
-        2,
-        6,
-        &[Out::Place(3)],
-    ),
-    (
-        Method::Select,
-        AND_NOT,
-        b"0010",
-        &[
-            O, I, O, O, I, O, O, I, O, O, I, I, O, O, I, O, I, O, O, I, I,
-        ],
-        2,
-        1,
-        2,
-        &[Out::Place(3)],
-    ),
-    (
-        Method::Select,
-        THREE,
-        b"all",
-        &[
-            O, I, I, O, I, O, I, I, O, I, O, O, I, O, O, I, I, O, I, O, I,
-        ],
-        1,
-        2,
-        6,
-        &[Out::Place(1), Out::Place(3), Out::Zero],
-    ),
-    (
-        Method::Fence,
-        XOR,
-        b"all",
-        &[O, I, I, O, I, O, I, I, O, O, O, I],
-        1,
-        2,
-        6,
-        &[Out::Place(3)],
-    ),
+    (Method::Ssv, &XOR, b"011010110001"),
+    (Method::Select, &AND_NOT, b"010010010011001010011"),
+    (Method::Select, &THREE, b"011010110100100110101"),
+    (Method::Fence, &XOR, b"011010110001"),
 ];
 
 #[test]
 fn chains_are_decoded(rt: HostRuntime) {
-    for &(method, tables, basis, bits, j, k, op, outs) in CHAINS {
-        let chain = decoded(rt.alloc(), method, tables, basis, bits);
-        let spelled = is_chain(chain, j, k, op, outs);
-        assert!(rt; spelled, "{j} {k} {op}");
+    for &(method, case, bits) in CHAINS {
+        let chain = decoded(rt.alloc(), method, case.tables, case.basis, bits);
+        assert!(rt; is_chain_of(case, chain), "{} {}", case.j, case.op);
     }
 }
