@@ -35,37 +35,6 @@ pub(crate) fn complement(op: Op) -> Op
     )
 }
 
-/// The operator with its first operand complemented.
-#[tactic(auto, unfolding(crate::specs::Closed::first_complemented))]
-pub(crate) fn first_complemented(op: Op) -> Op
-    ensures { result ≡ first_complemented_of op }
-{
-    Op::with_values(
-        op.apply(true, false),
-        op.apply(true, true),
-        op.apply(false, false),
-        op.apply(false, true),
-    )
-}
-
-/// The operator with its second operand complemented.
-#[tactic(auto, unfolding(crate::specs::Closed::second_complemented))]
-pub(crate) fn second_complemented(op: Op) -> Op
-    ensures { result ≡ second_complemented_of op }
-{
-    Op::with_values(
-        op.apply(false, true),
-        op.apply(false, false),
-        op.apply(true, true),
-        op.apply(true, false),
-    )
-}
-
-/// The operator that is its first operand, and the one that is its second.
-const FIRST: u8 = 0b0011;
-
-const SECOND: u8 = 0b0101;
-
 /// The operator outer(left(a,b), right(a,b)) of (a, b).
 fn composed(outer: Op, left: Op, right: Op) -> Op
     ensures { result ≡ operator_of (λ a b. apply outer (apply left a b) (apply right a b)) }
@@ -76,6 +45,31 @@ fn composed(outer: Op, left: Op, right: Op) -> Op
         outer.apply(left.apply(true, false), right.apply(true, false)),
         outer.apply(left.apply(true, true), right.apply(true, true)),
     )
+}
+
+/// The words of the operators a, b, not a and not b of (a, b).
+const FIRST: u8 = 0b0011;
+
+const SECOND: u8 = 0b0101;
+
+const NOT_FIRST: u8 = 0b1100;
+
+const NOT_SECOND: u8 = 0b1010;
+
+/// The operator with its first operand complemented.
+#[tactic(auto, unfolding(crate::specs::Closed::first_complemented))]
+pub(crate) fn first_complemented(op: Op) -> Op
+    ensures { result ≡ first_complemented_of op }
+{
+    composed(op, Op::new(NOT_FIRST), Op::new(SECOND))
+}
+
+/// The operator with its second operand complemented.
+#[tactic(auto, unfolding(crate::specs::Closed::second_complemented))]
+pub(crate) fn second_complemented(op: Op) -> Op
+    ensures { result ≡ second_complemented_of op }
+{
+    composed(op, Op::new(FIRST), Op::new(NOT_SECOND))
 }
 
 /// The operator q(p(a,b), a) of (a, b).
