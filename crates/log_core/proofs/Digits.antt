@@ -1,53 +1,48 @@
--- The digits of an id, one by one, and a blank.
-use Rattle.std.proofs.Common.{◌≡◌, ℕ, ◌+◌, ◌/◌, ◌%◌, ◌<◌, ◌≤◌, [], ◌∷◌, ◌++◌, ap, ◌∙◌, arith}
+-- Decimal numbers, their digits two by two.
+use Rattle.std.proofs.Common.{◌≡◌, ℕ, zero, suc, ◌+◌, ◌-◌, ◌*◌, ◌/◌, ◌%◌, ◌^◌, ◌<◌, ◌≤◌, Bool, true, ◌&&◌, T, eqb, [], ◌∷◌, ◌++◌, get_or, ap, ◌∙◌, inl, inr, arith, eq-zero-or-pos, eqb→eq, append_assoc}
 use Rattle.std.specs.Prelude.{decimal}
 use Rattle.std.proofs.lemmas.Fmt.{decimal_digit, decimal_step}
-use Rattle.lrat_text.specs.Spelling.{id_item}
+use Rattle.std.proofs.lemmas.Grind.{common_steps}
+use lib.Ieee.Fits.{and_l, and_r}
+use Rattle.log_core.specs.declared.items.TheConstants.{PAIRS}
 
-one : (n : ℕ) → n < 10 → decimal n ≡ (48 + n % 10) ∷ []
-one n low = decimal_digit n low ∙ ap (λ k. (48 + k) ∷ []) (let same : n ≡ n % 10 = omega arith in same)
+-- whether the table has the two digits of each number below n
+abbrev are_pairs : ℕ → Bool
+are_pairs zero = true
+are_pairs (suc n) = (eqb (get_or PAIRS (n * 2) 0) (48 + n / 10) && eqb (get_or PAIRS (n * 2 + 1) 0) (48 + n % 10)) && are_pairs n
 
-two : (n : ℕ) → 10 ≤ n → n < 100 → decimal n ≡ (48 + n / 10 % 10) ∷ (48 + n % 10) ∷ []
-two n low high = decimal_step n low (omega arith) ∙ ap (λ ds. ds ++ (48 + n % 10) ∷ []) (one (n / 10) (omega arith))
+-- where it has them, it has those of each such number
+below : (n k : ℕ) → T (are_pairs n) → k < n → (get_or PAIRS (k * 2) 0 ≡ 48 + k / 10) × (get_or PAIRS (k * 2 + 1) 0 ≡ 48 + k % 10)
+below zero k all low = absurd (omega arith)
+below (suc n) k all low =
+    elim (eq-zero-or-pos (n - k)) [
+      | inl last ↦
+          let same : k ≡ n = omega arith in
+          let both = and_l _ (are_pairs n) all in
+          rw same (eqb→eq _ _ (and_l _ _ both), eqb→eq _ _ (and_r _ _ both))
+      | inr before ↦ below n k (and_r _ (are_pairs n) all) (omega arith)
+    ]
 
-three : (n : ℕ) → 100 ≤ n → n < 1000 → decimal n ≡ (48 + n / 100 % 10) ∷ (48 + n / 10 % 10) ∷ (48 + n % 10) ∷ []
-three n low high =
-    let hundred : n / 10 / 10 ≡ n / 100 = omega arith in
-    decimal_step n (omega arith) (omega arith)
-    ∙ ap (λ ds. ds ++ (48 + n % 10) ∷ []) (two (n / 10) (omega arith) (omega arith))
-    ∙ ap (λ k. (48 + k % 10) ∷ (48 + n / 10 % 10) ∷ (48 + n % 10) ∷ []) hundred
+-- the first digit of a number below 100
+pub tens-at : (n : ℕ) → n < 100 → get_or PAIRS (n * 2) 0 ≡ 48 + n / 10
+tens-at n low = (below 100 n tt low).0
 
-four : (n : ℕ) → 1000 ≤ n → n < 10000 → decimal n ≡ (48 + n / 1000 % 10) ∷ (48 + n / 100 % 10) ∷ (48 + n / 10 % 10) ∷ (48 + n % 10) ∷ []
-four n low high =
-    let hundred : n / 10 / 10 ≡ n / 100 = omega arith in
-    let thousand : n / 10 / 100 ≡ n / 1000 = omega arith in
-    decimal_step n (omega arith) (omega arith)
-    ∙ ap (λ ds. ds ++ (48 + n % 10) ∷ []) (three (n / 10) (omega arith) (omega arith))
-    ∙ ap (λ k. (48 + k % 10) ∷ (48 + n / 10 / 10 % 10) ∷ (48 + n / 10 % 10) ∷ (48 + n % 10) ∷ []) thousand
-    ∙ ap (λ k. (48 + n / 1000 % 10) ∷ (48 + k % 10) ∷ (48 + n / 10 % 10) ∷ (48 + n % 10) ∷ []) hundred
+-- its last digit
+pub ones-at : (n : ℕ) → n < 100 → get_or PAIRS (n * 2 + 1) 0 ≡ 48 + n % 10
+ones-at n low = (below 100 n tt low).1
 
-five : (n : ℕ) → 10000 ≤ n → n < 100000 → decimal n ≡ (48 + n / 10000 % 10) ∷ (48 + n / 1000 % 10) ∷ (48 + n / 100 % 10) ∷ (48 + n / 10 % 10) ∷ (48 + n % 10) ∷ []
-five n low high =
-    let hundred : n / 10 / 10 ≡ n / 100 = omega arith in
-    let thousand : n / 10 / 100 ≡ n / 1000 = omega arith in
-    let myriad : n / 10 / 1000 ≡ n / 10000 = omega arith in
-    decimal_step n (omega arith) (omega arith)
-    ∙ ap (λ ds. ds ++ (48 + n % 10) ∷ []) (four (n / 10) (omega arith) (omega arith))
-    ∙ ap (λ k. (48 + k % 10) ∷ (48 + n / 10 / 100 % 10) ∷ (48 + n / 10 / 10 % 10) ∷ (48 + n / 10 % 10) ∷ (48 + n % 10) ∷ []) myriad
-    ∙ ap (λ k. (48 + n / 10000 % 10) ∷ (48 + k % 10) ∷ (48 + n / 10 / 10 % 10) ∷ (48 + n / 10 % 10) ∷ (48 + n % 10) ∷ []) thousand
-    ∙ ap (λ k. (48 + n / 10000 % 10) ∷ (48 + n / 1000 % 10) ∷ (48 + k % 10) ∷ (48 + n / 10 % 10) ∷ (48 + n % 10) ∷ []) hundred
+-- a number of two digits
+pub two : (n : ℕ) → 10 ≤ n → n < 100 → decimal n ≡ (48 + n / 10) ∷ (48 + n % 10) ∷ []
+two n low high = decimal_step n low (omega arith) ∙ ap (λ ds. ds ++ (48 + n % 10) ∷ []) (decimal_digit (n / 10) (omega arith))
 
-pub item-one : (n : ℕ) → n < 10 → id_item n ≡ (48 + n % 10) ∷ 32 ∷ []
-item-one n low = ap (λ ds. ds ++ 32 ∷ []) (one n low)
+-- a longer number: all but its last two digits, and these
+pub more : (n : ℕ) → 100 ≤ n → n < 2 ^ 32 → decimal n ≡ decimal (n / 100) ++ (48 + n % 100 / 10) ∷ (48 + n % 100 % 10) ∷ []
+more n low high =
+    let front : n / 10 / 10 ≡ n / 100 = omega arith in
+    let tens : n / 10 % 10 ≡ n % 100 / 10 = omega arith in
+    let ones : n % 10 ≡ n % 100 % 10 = omega arith in
+    rw (decimal_step n (omega arith) (omega arith), decimal_step (n / 10) (omega arith) (omega arith), append_assoc, front, tens, ← ones)
 
-pub item-two : (n : ℕ) → 10 ≤ n → n < 100 → id_item n ≡ (48 + n / 10 % 10) ∷ (48 + n % 10) ∷ 32 ∷ []
-item-two n low high = ap (λ ds. ds ++ 32 ∷ []) (two n low high)
+pub ruleset pairs = (common_steps, tens-at, ones-at)
 
-pub item-three : (n : ℕ) → 100 ≤ n → n < 1000 → id_item n ≡ (48 + n / 100 % 10) ∷ (48 + n / 10 % 10) ∷ (48 + n % 10) ∷ 32 ∷ []
-item-three n low high = ap (λ ds. ds ++ 32 ∷ []) (three n low high)
-
-pub item-four : (n : ℕ) → 1000 ≤ n → n < 10000 → id_item n ≡ (48 + n / 1000 % 10) ∷ (48 + n / 100 % 10) ∷ (48 + n / 10 % 10) ∷ (48 + n % 10) ∷ 32 ∷ []
-item-four n low high = ap (λ ds. ds ++ 32 ∷ []) (four n low high)
-
-pub item-five : (n : ℕ) → 10000 ≤ n → n < 100000 → id_item n ≡ (48 + n / 10000 % 10) ∷ (48 + n / 1000 % 10) ∷ (48 + n / 100 % 10) ∷ (48 + n / 10 % 10) ∷ (48 + n % 10) ∷ 32 ∷ []
-item-five n low high = ap (λ ds. ds ++ 32 ∷ []) (five n low high)
+pub ruleset digits = (common_steps, decimal_digit, two, more)
