@@ -25,7 +25,6 @@ SHORTEST_RUN = 80
 DEPTH = 1000
 FIRST_ACTIVITY, GREATEST_ACTIVITY, SCALE, ACTIVITY_PART = 1 << 20, 1 << 60, 1 << 40, 1000
 FEW_LEVELS, RECENT, FIRST_DUE, FIRST_WAIT, LONGER_WAIT, LAST_ONES = 4, 2000, 2000, 2000, 75, 20
-RECKONED = 40_000
 FIRST_CONFLICTS, MOST_GIVEN = 300, 400_000
 LONG, MOST_LITERALS, MOST_WORK = 64, 500, 50_000_000
 
@@ -498,8 +497,8 @@ class Solver:
         return id <= self.merits.given or id in self.shorter
 
     def forget(self, ids):
-        """Deletes the learnt clauses that are no reasons, as long as half of all additions stay, or half of those
-        that are reckoned with."""
+        """Deletes the learnt clauses that are no reasons, as long as half of all additions stay, or half of the
+        budget."""
         for id in ids:
             additions = max(len(self.clauses.lits) - 1 - self.merits.given, self.reckoned)
             lits, trail = self.clauses.lits[id], self.trail
@@ -565,7 +564,7 @@ class Solver:
 
     def solve(self, most=10_000_000):
         """What the search comes to; "Open" where a decision is due behind so many conflicts."""
-        self.reckoned = min(most, RECKONED)
+        self.reckoned = most
         pause = FIRST_CONFLICTS if most > FIRST_CONFLICTS and self.merits.given <= MOST_GIVEN else math.inf
         if [] in self.clauses.lits:
             return "Refuted"

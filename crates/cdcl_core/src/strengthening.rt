@@ -23,13 +23,14 @@ use crate::search::{Search, Shorter};
 use clause_db::ClauseDb;
 use cnf_core::Lit;
 use std::alloc::{AllocError, Global};
-use subsume_core::{Finder, Found, Units, contains_all, holds, is_new, keep_others};
+use subsume_core::{Finder, Found, Marks, Units, contains_all, holds, is_new, keep_others};
 
 /// What is lent for the work.
 #[derive(Drop)]
 pub(crate) struct Work {
     pub(crate) finder: Finder,
     pub(crate) units: Units,
+    pub(crate) marks: Marks,
     pub(crate) rest: Vec<Lit>,
     pub(crate) known: Vec<Lit>,
 }
@@ -41,6 +42,7 @@ fn work_on(alloc: Global, clauses: &ClauseDb, given: u32) -> Result<Work, AllocE
     Ok(Work {
         finder: Finder::new(alloc, clauses, given)?,
         units: Units::new(alloc, clauses)?,
+        marks: Marks::new(alloc, clauses.vars())?,
         rest: Vec::new(alloc),
         known: Vec::new(alloc),
     })
@@ -127,7 +129,10 @@ impl Search {
             return Ok(());
         }
         keep_others(self.clauses.lits(id), work.finder.gone(), &mut work.rest)?;
-        if work.rest.is_empty() || !is_new(&self.clauses, &work.units, &work.rest) {
+        if work.rest.is_empty() {
+            return Ok(());
+        }
+        if !is_new(&self.clauses, &work.units, &mut work.marks, &work.rest) {
             return Ok(());
         }
         let hints = work.finder.hints();

@@ -39,9 +39,6 @@ pub struct Cones<'a> {
     pub rank: &'a [u32],
 }
 
-/// The additions that a search keeps room for, where the budget isn't less: half of them may go at any time.
-const RECKONED: u32 = 40_000;
-
 /// An incremental solver of one formula in conjunctive normal form: probes learn clauses of it, `finish` decides it.
 pub trait Solver: Drop {
     ghost use Rattle.std.specs.Prelude.{◌≡◌, ℕ, ◌*◌, ◌^◌, ◌<◌, ◌≤◌, length, max, IfOk};
@@ -113,6 +110,6 @@ pub trait Solver: Drop {
         // A budget of twice 3 to the number of variables decides every formula.
         ensures decides { 2 * 3 ^ cnf.now.vars ≤ budget → IfOk result IsDecided }
     {
-        Self::new(alloc, cnf, budget.min(RECKONED))?.finish(alloc, budget)
+        Self::new(alloc, cnf, budget)?.finish(alloc, budget)
     }
 }

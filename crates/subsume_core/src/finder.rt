@@ -10,6 +10,7 @@
 //! one that is kept or whose own hint comes before.
 ghost use Rattle.std.specs.Prelude.{◌≤◌};
 
+use crate::marks::Marks;
 use clause_db::ClauseDb;
 use cnf_core::Lit;
 use std::alloc::{AllocError, Global};
@@ -51,8 +52,8 @@ pub struct Finder {
     units: Vec<u32>,
     /// by literal, the binary clauses that have it
     rows: Vec<Vec<Binary>>,
-    /// by literal, whether the clause under work has it
-    marks: Vec<bool>,
+    /// the literals of the clause under work
+    marks: Marks,
     gone: Vec<Lit>,
     hints: Vec<u32>,
     /// how many binary clauses may still be looked through
@@ -68,7 +69,7 @@ impl Finder {
             short: count_short(clauses, given),
             units: vec![in alloc; 0u32; room]?,
             rows: rows(alloc, room)?,
-            marks: vec![in alloc; false; room]?,
+            marks: Marks::new(alloc, clauses.vars())?,
             gone: Vec::new(alloc),
             hints: Vec::new(alloc),
             work: MOST_WORK,
@@ -143,9 +144,9 @@ impl Finder {
         if lits.len() > MOST_LITERALS {
             return Ok(Found::Nothing);
         }
-        self.mark(lits, true);
+        self.marks.set_all(lits, true);
         let found = self.look(clauses, id, lits);
-        self.mark(lits, false);
+        self.marks.set_all(lits, false);
         found
     }
 
@@ -157,27 +158,6 @@ impl Finder {
     /// The hints by which it does.
     pub fn hints(&self) -> &[u32] {
         &self.hints
-    }
-
-    /// Sets or clears the marks of literals.
-    fn mark(&mut self, lits: &[Lit], on: bool) {
-        for lit in lits {
-            self.set(*lit, on);
-        }
-    }
-
-    fn set(&mut self, lit: Lit, on: bool) {
-        let code = lit.code();
-        if code < self.marks.len() {
-            self.marks[code] = on;
-        }
-    }
-
-    fn is_marked(&self, lit: Lit) -> bool {
-        match self.marks.get(lit.code()) {
-            Some(mark) => *mark,
-            None => false,
-        }
     }
 
     /// Looks at the literals of a clause, which are marked. Marks only go, so a second look would
@@ -239,7 +219,7 @@ impl Finder {
         if by == 0 {
             return Ok(());
         }
-        self.set(lit, false);
+        self.marks.set(lit, false);
         self.gone.push(lit)?;
         self.hints.push(by)?;
         Ok(())
@@ -256,7 +236,7 @@ impl Finder {
             return 0;
         };
         for binary in row {
-            if self.is_marked(binary.other) && binary.id != id && clauses.live(binary.id) {
+            if self.marks.has(binary.other) && binary.id != id && clauses.live(binary.id) {
                 return binary.id;
             }
         }

@@ -22,10 +22,12 @@
 
 mod finder;
 mod holding;
+mod marks;
 mod newness;
 mod units;
 
 pub use finder::{Finder, Found};
 pub use holding::{contains_all, holds, keep_others};
+pub use marks::Marks;
 pub use newness::is_new;
 pub use units::Units;

@@ -1,5 +1,7 @@
 use Rattle.std.proofs.Common.{◌≡◌, ℕ, ℤ, Bool, true, false, slice_index_or, Contains, List, All, Some, arith}
 use borrow.Author.Count.{below_more}
+use Rattle.std.proofs.lemmas.List.Elements.{All-weaker, All-contains}
+use Rattle.cdcl_theory.specs.Codes.{marked_in}
 use Rattle.clause_db.specs.Watching.{list_of}
 use Rattle.clause_db.specs.Stored.{live_in}
 use Rattle.subsume_core.specs.Inside.{NotInside}
@@ -13,7 +15,8 @@ loop-index-preserved c =
     let id : ℕ = slice_index_or list index 0 in
     let block : List ℤ = c.arranged_at.result.now in
     let same : (clause : List ℤ) → live_in c.args.clauses.now id ≡ Some clause → (l : ℤ) → Contains block l → Contains clause l = λ clause is l there. (c.arranged_at.ensures.same clause is l).0 there in
-    let out : All (Contains c.args.lits.now) block → ⊥ = λ inside. not_both c.contains_all.result (c.contains_all.ensures.only inside) c.if-contains_all.false in
+    let P : ℤ → Type 0 = λ (l : ℤ). marked_in c.args.marks.now l ≡ true in
+    let out : All (Contains c.args.lits.now) block → ⊥ = λ inside. not_both c.covers.result (c.covers.ensures.1 (All-weaker (Contains c.args.lits.now) P (λ l there. All-contains P c.args.lits.now l c.requires.marked there) block inside)) c.if-covers.false in
     below_more (λ (k : ℕ). NotInside c.args.clauses.now c.args.lits.now (slice_index_or list k 0)) index c.loop-index.invariant (not_inside_of c.args.clauses.now c.args.lits.now block id same out)
   where
     not_both : (b : Bool) → b ≡ true → b ≡ false → ⊥
