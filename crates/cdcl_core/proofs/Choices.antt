@@ -7,6 +7,7 @@ use Rattle.sat_theory.specs.Formula.{variable, opposite}
 use Rattle.cdcl_theory.specs.CodeLaws.{same_variable, opposite-opposite, variable-opposite}
 use Rattle.cdcl_theory.specs.Falling.{IsFallen, SameFallen}
 use Rattle.cdcl_theory.specs.Trails.{Trailed, fell, IsTrail, IsBack, IsGrown, pushed}
+use Rattle.cdcl_theory.specs.TrailLaws.{back_trans}
 use Rattle.trail_core.specs.Values.{IsOver, IsFree}
 use Rattle.var_heap.specs.Held.{Held, IsHeld}
 use Rattle.cdcl_core.specs.declared.choosing.Choice.{Choice}
@@ -114,4 +115,17 @@ choosing_scores c d vars marks signs t choosing = record {
   room = λ v some low. rw marks (choosing.room v some low);
   signs = signs ∙ choosing.signs;
   held = λ l over free. rw marks (choosing.held l over free);
+}
+
+-- a step back more
+pub back_more : (n : ℕ) (a b c : Trailed) → IsBack n a b → 0 < n → IsBack (length b.lits - 1) b c → IsBack (length c.lits) a c
+back_more n a b c first some second =
+    let low : length b.lits ≡ n = first.short in
+    let short : length c.lits ≡ length b.lits - 1 = second.short in
+    rw short (back_trans n (length b.lits - 1) a b c (omega arith) first second)
+
+-- The last literal is released.
+pub last_released : (t : Trailed) (c : Choice) (l : ℤ) → ((d : ℤ) → l ≡ slice_index_or t.lits (length t.lits - 1) d) → IsHeld c.heap (variable l) → AreReleased t (length t.lits - 1) (length t.lits) c
+last_released t c l is held = record {
+  held = λ p d from low _. (let at : p ≡ length t.lits - 1 = omega (arith, from, low) in subst (λ (m : ℤ). IsHeld c.heap (variable m)) (is d ∙ ap (λ (q : ℕ). slice_index_or t.lits q d) (sym at)) held);
 }

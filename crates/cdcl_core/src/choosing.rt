@@ -9,7 +9,7 @@
 //!
 //! Backtracking puts the variables that lose their values back into the heap, and only decisions
 //! take any out. So where the heap is empty, all variables have values.
-ghost use Rattle.std.specs.Prelude.{◌≡◌, ℕ, ℤ, ◌+◌, ◌<◌, ◌≤◌, All, IfOk, IfSome, IfNone};
+ghost use Rattle.std.specs.Prelude.{◌≡◌, ℕ, ℤ, ◌+◌, ◌-◌, ◌<◌, ◌≤◌, length, All, IfOk, IfSome, IfNone};
 ghost use Rattle.sat_theory.specs.Formula.{variable as variable_of, IsWithin};
 ghost use Rattle.cdcl_theory.specs.Trails.{Trailed, IsTrail, IsExplained, IsBack, pushed, fell as fell_of};
 ghost use Rattle.clause_db.specs.Stored.{live_in};
@@ -88,18 +88,34 @@ impl Choice {
         None
     }
 
-    /// Puts the variables of the trail from index `from` on back into the heap, and saves their
-    /// phases, before the trail is cut back to there.
-    pub(crate) fn release(&mut self, trail: &Trail, from: usize)
-        requires whole { IsTrail trail.now }
-        requires choosing { IsChoosing trail.now self.old }
-        ensures { (back : Trailed) → IsTrail back → IsBack from trail.now back → IsChoosing back self.new }
+    /// Backtracks to the first `len` literals of the trail: each variable that loses its value goes back into the heap,
+    /// and its phase is saved.
+    pub(crate) fn back_to(&mut self, trail: &mut Trail, len: usize)
+        requires whole { IsTrail trail.old }
+        requires choosing { IsChoosing trail.old self.old }
+        requires low { len ≤ length trail.old.lits }
+        ensures back { IsBack len trail.old trail.new }
+        ensures whole { IsTrail trail.new }
+        ensures choosing { IsChoosing trail.new self.new }
     {
-        for index in from..trail.len() {
-            let lit = trail.at(index);
-            self.signs[lit.variable() as usize] = lit.is_positive();
-            self.heap.push(lit.variable());
+        for _taken in len..trail.len() {
+            self.take_back(trail);
         }
+    }
+
+    /// The same for the last literal.
+    fn take_back(&mut self, trail: &mut Trail)
+        requires whole { IsTrail trail.old }
+        requires choosing { IsChoosing trail.old self.old }
+        requires some { 0 < length trail.old.lits }
+        ensures back { IsBack (length trail.old.lits - 1) trail.old trail.new }
+        ensures whole { IsTrail trail.new }
+        ensures choosing { IsChoosing trail.new self.new }
+    {
+        let lit = trail.at(trail.len() - 1);
+        self.signs[lit.variable() as usize] = lit.is_positive();
+        self.heap.push(lit.variable());
+        trail.pop();
     }
 
     /// Adds `score` to the scores of the variables of `lits`.

@@ -26,7 +26,7 @@
 //! | `Choice`: `take_free` | decision heap: `pickBranchLit`, `decide` |
 //! | `signs` | saved phases |
 //! | `step`, `bump`, `grow` | `var_inc`, `varBumpActivity`, `varDecayActivity` with rescaling |
-//! | `release`, then `back_to` | `cancelUntil`, `backtrack` |
+//! | `back_to` | `cancelUntil`, `backtrack` |
 //! | `go_down` | backtrack to level 0, a restart |
 //! | `begin`, `push_units` | assignment of the unit clauses at level 0 |
 //! | `visit`, `first_standing`, `besides` | inner loop of `propagate`, replacement watch, other watch |

@@ -176,9 +176,8 @@ impl Search {
         self.choice.grow();
         let id = self.clauses.add(&learnt.lits)?;
         let end = drop_levels(&mut self.starts, learnt.back as usize);
-        self.choice.release(&self.trail, end);
         release_open(&mut self.scope, &self.trail, end);
-        self.trail.back_to(end);
+        self.choice.back_to(&mut self.trail, end);
         let lit = learnt.lits[0];
         self.lines.add(id, &learnt.lits, &learnt.hints)?;
         self.trail.push(lit, id)?;
@@ -196,9 +195,8 @@ impl Search {
         ensures bottom { self.new.starts.items ≡ [] }
         ensures restarted { HasRestarted self.old self.new }
     {
-        self.choice.release(&self.trail, first);
         release_open(&mut self.scope, &self.trail, first);
-        self.trail.back_to(first);
+        self.choice.back_to(&mut self.trail, first);
         self.starts.clear();
         self.head = first;
     }

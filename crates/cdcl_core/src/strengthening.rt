@@ -59,9 +59,8 @@ impl Search {
         ensures bare { IsBare self.new }
         ensures restarted { HasRestarted self.old self.new }
     {
-        self.choice.release(&self.trail, 0);
         release_open(&mut self.scope, &self.trail, 0);
-        self.trail.back_to(0);
+        self.choice.back_to(&mut self.trail, 0);
         self.head = 0;
     }
 

@@ -77,7 +77,7 @@ fn goes_back(trail: &mut Trail) -> bool {
     if trail.len() != 2 || trail.at(1).get() != -1 {
         return false;
     }
-    trail.back_to(1);
+    trail.pop();
     trail.len() == 1 && fell(trail, &[(1, 0)])
 }
 

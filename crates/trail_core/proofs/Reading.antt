@@ -6,7 +6,7 @@ use Rattle.sat_theory.specs.Formula.{variable, opposite, bits_of, literal_value}
 use Rattle.cdcl_theory.specs.Codes.{code_of}
 use Rattle.cdcl_theory.specs.CodeLaws.{code_of-room}
 use Rattle.cdcl_theory.specs.Trails.{Trailed, fell, IsTrail, IsBack}
-use Rattle.cdcl_theory.specs.TrailLaws.{trail_push, trail_pop, back_pop, back_trans, trail_none}
+use Rattle.cdcl_theory.specs.TrailLaws.{trail_push, trail_pop, back_pop, trail_none}
 use Rattle.trail_core.specs.Values.{IsFree, Follows}
 
 -- the tables as the code writes them are those of `pushed`
@@ -25,12 +25,6 @@ back_popped t now l lits code view trail is at =
     let long : length t.lits ≡ length lits + 1 = ap length is ∙ grind (arith, common_steps) in
     let same : length t.lits - 1 ≡ length lits = omega arith in
     rw (at, ← view, same) (back_pop t lits l trail is)
-
-pub back_more : (n : ℕ) (a b c : Trailed) → IsBack n a b → 0 < n → IsBack (length b.lits - 1) b c → IsBack (length c.lits) a c
-back_more n a b c first some second =
-    let low : length b.lits ≡ n = first.short in
-    let short : length c.lits ≡ length b.lits - 1 = second.short in
-    rw short (back_trans n (length b.lits - 1) a b c (omega arith) first second)
 
 -- bits that are true exactly where the negative literal has fallen follow the trail
 pub follows : (t : Trailed) (bits : List Bool) → IsTrail t → length bits ≡ t.vars → ((k : ℕ) (d : Bool) → k < t.vars → slice_index_or bits k d ≡ nat_lt 0 (fell t (negsuc k))) → Follows t bits
@@ -56,4 +50,4 @@ follows t bits trail long told = record { long = long; values = λ l over fallen
         let none : fell t (negsuc n) ≡ 0 = free.1 in
         bit n low ∙ le-ltb 0 (fell t (negsuc n)) (omega arith)
 
-pub ruleset reading = (common_steps, code_of-room, trail_none, follows, back_more)
+pub ruleset reading = (common_steps, code_of-room, trail_none, follows)

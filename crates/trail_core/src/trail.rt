@@ -107,18 +107,8 @@ impl Trail {
         Ok(())
     }
 
-    /// Backtracks to the first `len` literals.
-    pub fn back_to(&mut self, len: usize)
-        requires { len ≤ length self.old.lits }
-        ensures back { IsBack len self.old self.new }
-        ensures whole { IsTrail self.new }
-    {
-        for _taken in len..self.len() {
-            self.pop();
-        }
-    }
-
-    fn pop(&mut self)
+    /// Takes back the last literal.
+    pub fn pop(&mut self)
         requires { 0 < length self.old.lits }
         ensures back { IsBack (length self.old.lits - 1) self.old self.new }
         ensures whole { IsTrail self.new }

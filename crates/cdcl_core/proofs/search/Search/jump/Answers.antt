@@ -42,7 +42,7 @@ push-requires-clause-free c =
     let l = c.in_ok-learnt.learnt in
     let u : c.index-lit.result.now ≡ asserting l.lits.items = get_or_read l.lits.items 0 c.index-lit.result.now c.in_ok-learnt.ensures.learnt.some c.index-lit.ensures (pos 0) in
     let low = dropped_low s.starts.items c.drop_levels-end.new.starts.items c.args.start l.back c.drop_levels-end.result c.requires.searching.layered.rising c.requires.level.last c.drop_levels-end.ensures in
-    rw u (jumped_free (live_in s.clauses) s.trail c.back_to.new.self c.args.start c.drop_levels-end.result l.back l.lits.items l.hints.items c.requires.searching.layered.whole c.back_to.ensures.whole c.in_ok-learnt.ensures.learnt low c.back_to.ensures.back)
+    rw u (jumped_free (live_in s.clauses) s.trail c.back_to.new.trail c.args.start c.drop_levels-end.result l.back l.lits.items l.hints.items c.requires.searching.layered.whole c.back_to.ensures.whole c.in_ok-learnt.ensures.learnt low c.back_to.ensures.back)
 
 pub returns-clause-searching : goal.returns-clause-searching
 returns-clause-searching c =
@@ -50,11 +50,11 @@ returns-clause-searching c =
     let l = c.in_ok-learnt.learnt in
     let clauses_are : c.add.new.self ≡ added s.clauses l.lits.items = c.in_ok-id.ensures.ok ∙ ap (λ (xs : List ℤ). added s.clauses xs) c.deref-3.ensures.value in
     let u : c.index-lit.result.now ≡ asserting l.lits.items = get_or_read l.lits.items 0 c.index-lit.result.now c.in_ok-learnt.ensures.learnt.some c.index-lit.ensures (pos 0) in
-    let trail_is : c.push.new.self ≡ pushed c.back_to.new.self c.index-lit.result.now c.in_ok-id.id = c.in_ok-push.ensures.ok in
-    let vars : c.back_to.new.self.vars ≡ s.trail.vars = c.back_to.ensures.back.vars in
+    let trail_is : c.push.new.self ≡ pushed c.back_to.new.trail c.index-lit.result.now c.in_ok-id.id = c.in_ok-push.ensures.ok in
+    let vars : c.back_to.new.trail.vars ≡ s.trail.vars = c.back_to.ensures.back.vars in
     let vars_now : c.push.new.self.vars ≡ s.trail.vars = ap (λ (t : Trailed). t.vars) trail_is ∙ vars in
     let within : IsWithin s.clauses.vars l.lits.items = subst (λ (n : ℕ). IsWithin n l.lits.items) (sym c.requires.searching.vars) c.in_ok-learnt.ensures.learnt.variables in
-    let back : Trailed = c.back_to.new.self in
+    let back : Trailed = c.back_to.new.trail in
     let low = dropped_low s.starts.items c.drop_levels-end.new.starts.items c.args.start l.back c.drop_levels-end.result c.requires.searching.layered.rising c.requires.level.last c.drop_levels-end.ensures in
     let free : IsFree back c.index-lit.result.now = rw u (jumped_free (live_in s.clauses) s.trail back c.args.start c.drop_levels-end.result l.back l.lits.items l.hints.items c.requires.searching.layered.whole c.back_to.ensures.whole c.in_ok-learnt.ensures.learnt low c.back_to.ensures.back) in
     let over : IsOver back.vars c.index-lit.result.now = rw (u, c.back_to.ensures.back.vars) (learnt_over (live_in s.clauses) s.trail c.args.start l.back l.lits.items l.hints.items c.in_ok-learnt.ensures.learnt) in
@@ -63,10 +63,10 @@ returns-clause-searching c =
       vars = ap (λ (x : Stored). x.vars) clauses_are ∙ c.requires.searching.vars ∙ sym vars_now;
       layered = subst (λ (x : Stored). IsLayered (live_in x) c.push.new.self c.drop_levels-end.new.starts.items) (sym clauses_are)
           (subst (λ (t : Trailed). IsLayered (live_in (added s.clauses l.lits.items)) t c.drop_levels-end.new.starts.items) (sym trail_is)
-          (jumped_layers s.clauses s.trail c.back_to.new.self s.starts.items c.drop_levels-end.new.starts.items c.args.start c.drop_levels-end.result l.back c.in_ok-id.id l.lits.items l.hints.items c.index-lit.result.now c.requires.searching.layered c.in_ok-learnt.ensures.learnt c.requires.level c.drop_levels-end.ensures c.back_to.ensures.whole c.back_to.ensures.back c.in_ok-id.ensures.id u));
+          (jumped_layers s.clauses s.trail c.back_to.new.trail s.starts.items c.drop_levels-end.new.starts.items c.args.start c.drop_levels-end.result l.back c.in_ok-id.id l.lits.items l.hints.items c.index-lit.result.now c.requires.searching.layered c.in_ok-learnt.ensures.learnt c.requires.level c.drop_levels-end.ensures c.back_to.ensures.whole c.back_to.ensures.back c.in_ok-id.ensures.id u));
       ready = subst (λ (n : ℕ). IsReady n c.learn.new.self) (sym vars_now) c.in_ok-learnt.ensures.ready;
-      choosing = subst (λ (t : Trailed). IsChoosing t c.release.new.self) (sym trail_is)
-          (choosing_pushed back c.index-lit.result.now c.in_ok-id.id c.release.new.self c.back_to.ensures.whole over.1 free (c.release.ensures back c.back_to.ensures.whole c.back_to.ensures.back));
+      choosing = subst (λ (t : Trailed). IsChoosing t c.back_to.new.self) (sym trail_is)
+          (choosing_pushed back c.index-lit.result.now c.in_ok-id.id c.back_to.new.self c.back_to.ensures.whole over.1 free c.back_to.ensures.choosing);
     }
 
 pub returns-clause-logged : goal.returns-clause-logged
@@ -96,7 +96,7 @@ returns-clause-visited c =
     let l = c.in_ok-learnt.learnt in
     let fewer = c.drop_levels-end.new.starts.items in
     let end : ℕ = c.drop_levels-end.result in
-    let back : Trailed = c.back_to.new.self in
+    let back : Trailed = c.back_to.new.trail in
     let u : c.index-lit.result.now ≡ asserting l.lits.items = get_or_read l.lits.items 0 c.index-lit.result.now c.in_ok-learnt.ensures.learnt.some c.index-lit.ensures (pos 0) in
     let clauses_are : c.add.new.self ≡ added s.clauses l.lits.items = c.in_ok-id.ensures.ok ∙ ap (λ (xs : List ℤ). added s.clauses xs) c.deref-3.ensures.value in
     let trail_is : c.push.new.self ≡ pushed back c.index-lit.result.now c.in_ok-id.id = c.in_ok-push.ensures.ok in
@@ -112,8 +112,8 @@ returns-clause-visited c =
       begun = λ k d inside. (let below : slice_index_or fewer k d < l.back = c.drop_levels-end.ensures.low k d inside in let high : l.back ≤ end = c.drop_levels-end.ensures.high in omega (arith, below, high));
     }
 
-pub back_to-requires : goal.back_to-requires
-back_to-requires c =
+pub back_to-requires-clause-low : goal.back_to-requires-clause-low
+back_to-requires-clause-low c =
     let s = c.args.self.now in
     let fewer = c.drop_levels-end.new.starts.items in
     let inside : slice_index_or s.starts.items (length fewer) 0 < length s.trail.lits = c.requires.searching.layered.inside (length fewer) 0 c.drop_levels-end.ensures.fewer in
@@ -126,5 +126,5 @@ bump-requires c = rw c.requires.searching.choosing.vars (c.touched.ensures.withi
 pub bump_reasons-requires-clause-choosing : goal.bump_reasons-requires-clause-choosing
 bump_reasons-requires-clause-choosing c = c.bump.ensures c.args.self.now.trail c.requires.searching.choosing
 
-pub release-requires-clause-choosing : goal.release-requires-clause-choosing
-release-requires-clause-choosing c = c.grow.ensures c.args.self.now.trail (c.bump_reasons.ensures c.args.self.now.trail (c.bump.ensures c.args.self.now.trail c.requires.searching.choosing))
+pub back_to-requires-clause-choosing : goal.back_to-requires-clause-choosing
+back_to-requires-clause-choosing c = c.grow.ensures c.args.self.now.trail (c.bump_reasons.ensures c.args.self.now.trail (c.bump.ensures c.args.self.now.trail c.requires.searching.choosing))
