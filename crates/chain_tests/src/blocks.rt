@@ -88,6 +88,15 @@ fn taken(alloc: Global, text: &[u8]) -> Result<usize, ChainError> {
     Ok(used)
 }
 
+/// The refusals of a count, of the first step and of the output behind it.
+const BAD_COUNT: Result<usize, ChainError> = Err(ChainError::BadCount(4));
+
+const BAD_STEP: Result<usize, ChainError> = Err(ChainError::BadStep(5));
+
+const FORWARD: Result<usize, ChainError> = Err(ChainError::ForwardPlace(5));
+
+const BAD_OUT: Result<usize, ChainError> = Err(ChainError::BadOut(6));
+
 /// Texts for two inputs and one output, with the first line numbered 4: the number of bytes read,
 /// or the refusal.
 const READ: &[(&[u8], Result<usize, ChainError>)] = &[
@@ -97,109 +106,49 @@ const READ: &[(&[u8], Result<usize, ChainError>)] = &[
     (b"chain 0\nout 0\nout 1", Ok(14)),
     // the whole text
     (SIXTEEN_STEPS, Ok(258)),
-    (b"", Err(ChainError::BadCount(4))),
-    (b"chain 1", Err(ChainError::BadCount(4))),
-    (b"chain 17", Err(ChainError::BadCount(4))),
-    (b"chain\nout x1\n", Err(ChainError::BadCount(4))),
-    (b"chain \nout x1\n", Err(ChainError::BadCount(4))),
-    (
-        b"chain 01\nx3 x1 x2 0110\nout x3\n",
-        Err(ChainError::BadCount(4)),
-    ),
-    (
-        b"chain  1\nx3 x1 x2 0110\nout x3\n",
-        Err(ChainError::BadCount(4)),
-    ),
-    (
-        b"Chain 1\nx3 x1 x2 0110\nout x3\n",
-        Err(ChainError::BadCount(4)),
-    ),
-    (
-        b"chain 1\r\nx3 x1 x2 0110\nout x3\n",
-        Err(ChainError::BadCount(4)),
-    ),
-    (b"chain 1000000000\n", Err(ChainError::BadCount(4))),
+    (b"", BAD_COUNT),
+    (b"chain 1", BAD_COUNT),
+    (b"chain 17", BAD_COUNT),
+    (b"chain\nout x1\n", BAD_COUNT),
+    (b"chain \nout x1\n", BAD_COUNT),
+    (b"chain 01\nx3 x1 x2 0110\nout x3\n", BAD_COUNT),
+    (b"chain  1\nx3 x1 x2 0110\nout x3\n", BAD_COUNT),
+    (b"Chain 1\nx3 x1 x2 0110\nout x3\n", BAD_COUNT),
+    (b"chain 1\r\nx3 x1 x2 0110\nout x3\n", BAD_COUNT),
+    (b"chain 1000000000\n", BAD_COUNT),
     (b"chain 999999999\n", Err(ChainError::TooManySteps(4))),
     (SEVENTEEN_STEPS, Err(ChainError::TooManySteps(4))),
-    (b"chain 2\n", Err(ChainError::BadStep(5))),
+    (b"chain 2\n", BAD_STEP),
     (b"chain 2\nx3 x1 x2 0110\n", Err(ChainError::BadStep(6))),
     (
         b"chain 2\nx3 x1 x2 0110\nout x3\n",
         Err(ChainError::BadStep(6)),
     ),
-    (b"chain 1\nx3 x1 x2 0110", Err(ChainError::BadStep(5))),
-    (b"chain 1\nx3 x3 x2 0110", Err(ChainError::BadStep(5))),
-    (
-        b"chain 1\nx4 x1 x2 0110\nout x3\n",
-        Err(ChainError::BadStep(5)),
-    ),
-    (
-        b"chain 1\nx4 x3 x2 0110\nout x3\n",
-        Err(ChainError::BadStep(5)),
-    ),
-    (
-        b"chain 1\nx3 x0 x2 0110\nout x3\n",
-        Err(ChainError::BadStep(5)),
-    ),
-    (
-        b"chain 1\nx3 x3 x0 0110\nout x3\n",
-        Err(ChainError::BadStep(5)),
-    ),
-    (
-        b"chain 1\nx3 x1  x2 0110\nout x3\n",
-        Err(ChainError::BadStep(5)),
-    ),
-    (
-        b"chain 1\nx3 x1 x2 0110 \nout x3\n",
-        Err(ChainError::BadStep(5)),
-    ),
-    (
-        b"chain 1\nx3 x1 x2 011\nout x3\n",
-        Err(ChainError::BadStep(5)),
-    ),
-    (
-        b"chain 1\nx3 x1 x2 0120\nout x3\n",
-        Err(ChainError::BadStep(5)),
-    ),
-    (
-        b"chain 1\nx3 x01 x2 0110\nout x3\n",
-        Err(ChainError::BadStep(5)),
-    ),
-    (
-        b"chain 1\nx3 x1000000000 x2 0110\nout x3\n",
-        Err(ChainError::BadStep(5)),
-    ),
-    (
-        b"chain 1\nx3 x999999999 x2 0110\nout x3\n",
-        Err(ChainError::ForwardPlace(5)),
-    ),
-    (
-        b"chain 1\nx3 x3 x2 0110\nout x3\n",
-        Err(ChainError::ForwardPlace(5)),
-    ),
+    (b"chain 1\nx3 x1 x2 0110", BAD_STEP),
+    (b"chain 1\nx3 x3 x2 0110", BAD_STEP),
+    (b"chain 1\nx4 x1 x2 0110\nout x3\n", BAD_STEP),
+    (b"chain 1\nx4 x3 x2 0110\nout x3\n", BAD_STEP),
+    (b"chain 1\nx3 x0 x2 0110\nout x3\n", BAD_STEP),
+    (b"chain 1\nx3 x3 x0 0110\nout x3\n", BAD_STEP),
+    (b"chain 1\nx3 x1  x2 0110\nout x3\n", BAD_STEP),
+    (b"chain 1\nx3 x1 x2 0110 \nout x3\n", BAD_STEP),
+    (b"chain 1\nx3 x1 x2 011\nout x3\n", BAD_STEP),
+    (b"chain 1\nx3 x1 x2 0120\nout x3\n", BAD_STEP),
+    (b"chain 1\nx3 x01 x2 0110\nout x3\n", BAD_STEP),
+    (b"chain 1\nx3 x1000000000 x2 0110\nout x3\n", BAD_STEP),
+    (b"chain 1\nx3 x999999999 x2 0110\nout x3\n", FORWARD),
+    (b"chain 1\nx3 x3 x2 0110\nout x3\n", FORWARD),
     (
         b"chain 2\nx3 x1 x2 0110\nx4 x1 x5 0110\n",
         Err(ChainError::ForwardPlace(6)),
     ),
     (b"chain 0\n", Err(ChainError::BadOut(5))),
-    (b"chain 1\nx3 x1 x2 0110\n", Err(ChainError::BadOut(6))),
-    (b"chain 1\nx3 x1 x2 0110\nend\n", Err(ChainError::BadOut(6))),
-    (
-        b"chain 1\nx3 x1 x2 0110\nout x4\n",
-        Err(ChainError::BadOut(6)),
-    ),
-    (
-        b"chain 1\nx3 x1 x2 0110\nout x0\n",
-        Err(ChainError::BadOut(6)),
-    ),
-    (
-        b"chain 1\nx3 x1 x2 0110\nout 2\n",
-        Err(ChainError::BadOut(6)),
-    ),
-    (
-        b"chain 1\nx3 x1 x2 0110\nout x3",
-        Err(ChainError::BadOut(6)),
-    ),
+    (b"chain 1\nx3 x1 x2 0110\n", BAD_OUT),
+    (b"chain 1\nx3 x1 x2 0110\nend\n", BAD_OUT),
+    (b"chain 1\nx3 x1 x2 0110\nout x4\n", BAD_OUT),
+    (b"chain 1\nx3 x1 x2 0110\nout x0\n", BAD_OUT),
+    (b"chain 1\nx3 x1 x2 0110\nout 2\n", BAD_OUT),
+    (b"chain 1\nx3 x1 x2 0110\nout x3", BAD_OUT),
 ];
 
 #[test]

@@ -1,5 +1,5 @@
 -- A sweep after the loss of dead gates, and after moves over the whole net, is an improvement.
-use Rattle.std.specs.Prelude.{◌≡◌, ◌+◌, ◌≤◌, Bool, true, false, List, [], length, All, refl}
+use Rattle.std.specs.Prelude.{◌≡◌, ◌+◌, ◌≤◌, Bool, true, false, Option, None, Some, IfSome, unwrap_or, List, [], length, All, refl}
 use Rattle.std.proofs.Common.{arith, sym, subst, inl, inr, ⊎_elim}
 use Rattle.std.proofs.lemmas.Bool.{both_ways}
 use Rattle.std.proofs.lemmas.Grind.{common_steps}
@@ -66,6 +66,11 @@ left_leads basis n = leads_itself basis n
 
 pub then_leads : (basis : Basis) (n d m : Net) → Leads basis n d → Leads basis d m → Leads basis n m
 then_leads basis n d m first second = leads_on basis n d m first second
+
+-- what a net leads to, or else the net itself
+pub found_leads : (basis : Basis) (n m : Net) (found : Option Net) → IfSome found (Leads basis n) → m ≡ unwrap_or found n → Leads basis n m
+found_leads basis n m None leads same = subst (Leads basis n) (sym same) (leads_itself basis n)
+found_leads basis n m (Some d) leads same = subst (Leads basis n) (sym same) leads
 
 -- what has no dead gates can stand in its own place
 pub pruned_itself : (n m : Net) → IsPruned n m → IsPruned m m

@@ -106,22 +106,6 @@ fn moved<S: Solver>(
     }
 }
 
-/// The net after moves over the whole net, or as it is.
-#[tactic(auto, using(crate::specs::ImprovementLaws::improving))]
-fn after_moves<S: Solver>(
-    alloc: Global,
-    net: Net,
-    settings: &ImproveSettings,
-    rounds: u32,
-) -> Result<Net, AllocError>
-    ensures { IfOk result (Leads (members settings.now.basis) net) }
-{
-    match moved::<S>(alloc, &net, settings, rounds)? {
-        Some(smaller) => Ok(smaller),
-        None => Ok(net),
-    }
-}
-
 /// A smaller net by walks over convex windows, if they find one. A net that is left to the sweep isn't walked over.
 #[tactic(auto, using(crate::specs::ImprovementLaws::improving))]
 fn walked_over(
@@ -149,11 +133,10 @@ fn begun<S: Solver>(
 ) -> Result<Net, AllocError>
     ensures { IfOk result (Leads (members settings.now.basis) net) }
 {
-    let moved = after_moves::<S>(alloc, net, settings, rounds)?;
-    match walked_over(alloc, &moved, settings, rounds)? {
-        Some(smaller) => Ok(smaller),
-        None => Ok(moved),
-    }
+    let found = moved::<S>(alloc, &net, settings, rounds)?;
+    let best = found.unwrap_or(net);
+    let smaller = walked_over(alloc, &best, settings, rounds)?;
+    Ok(smaller.unwrap_or(best))
 }
 
 /// Moves over the whole net and walks, and then windows and moves by turns: as long as the moves find a smaller net after the

@@ -1,8 +1,10 @@
 use Rattle.op_basis.specs.Basis.{members}
-use Rattle.window_trial.specs.ImprovementLaws.{then_leads}
+use Rattle.window_trial.specs.ImprovementLaws.{then_leads, found_leads}
 use Rattle.window_trial.proofs.improving.begun.Goals as goal
 
-pub returns-in-Some : goal.returns-in-Some
-returns-in-Some g c =
-    then_leads (members c.args.settings.now.basis) c.args.net c.in_ok-moved.moved c.in-Some.smaller c.in_ok-moved.ensures
-    (rw c.in-Some.is at c.in_ok-smaller.ensures)
+pub returns : goal.returns
+returns g c =
+    let basis = members c.args.settings.now.basis in
+    then_leads basis c.args.net c.unwrap_or-best.result c.unwrap_or.result
+    (found_leads basis c.args.net c.unwrap_or-best.result c.in_ok-found.found c.in_ok-found.ensures c.unwrap_or-best.ensures)
+    (found_leads basis c.unwrap_or-best.result c.unwrap_or.result c.in_ok-smaller.smaller c.in_ok-smaller.ensures c.unwrap_or.ensures)
