@@ -1,8 +1,8 @@
 -- How the heap holds the variables without a value, all through a search.
-use Rattle.std.proofs.Common.{◌≡◌, ◌≢◌, ℕ, ◌+◌, ◌-◌, ◌<◌, ◌≤◌, ℤ, Bool, false, List, Option, length, slice_index_or, slice_set, subst, sym, ap, ◌∙◌, arith, refl}
+use Rattle.std.proofs.Common.{◌≡◌, ◌≢◌, ℕ, ◌+◌, ◌-◌, ◌<◌, ◌≤◌, ℤ, Bool, true, false, List, Option, length, slice_index_or, slice_set, subst, sym, ap, ◌∙◌, arith, refl}
 use Rattle.std.proofs.Math.Logic.{⊎_elim}
-use Rattle.std.proofs.lemmas.Bool.{cases_lt}
-use Rattle.std.proofs.lemmas.List.{length-set, get_or-set_other}
+use Rattle.std.proofs.lemmas.Bool.{cases_lt, cases_eq}
+use Rattle.std.proofs.lemmas.List.{length-set, get_or-set_other, get_or-set_same}
 use Rattle.sat_theory.specs.Formula.{variable, opposite}
 use Rattle.cdcl_theory.specs.CodeLaws.{same_variable, opposite-opposite, variable-opposite}
 use Rattle.cdcl_theory.specs.Falling.{IsFallen, SameFallen}
@@ -129,3 +129,21 @@ pub last_released : (t : Trailed) (c : Choice) (l : ℤ) → ((d : ℤ) → l �
 last_released t c l is held = record {
   held = λ p d from low _. (let at : p ≡ length t.lits - 1 = omega (arith, from, low) in subst (λ (m : ℤ). IsHeld c.heap (variable m)) (is d ∙ ap (λ (q : ℕ). slice_index_or t.lits q d) (sym at)) held);
 }
+
+-- And a variable may be put back into the heap.
+pub choosing_put : (t : Trailed) (c d : Choice) (v : ℕ) → v < length c.heap.marks → IsChoosing t c → d.heap ≡ marked_heap c.heap v true → length d.signs.items ≡ length c.signs.items → IsChoosing t d × IsHeld d.heap v
+choosing_put t c d v low choosing heap signs = (
+  record {
+    vars = ap (λ (h : Held). h.vars) heap ∙ choosing.vars;
+    room = λ w some inside. rw (heap, length-set) (choosing.room w some inside);
+    signs = signs ∙ choosing.signs;
+    held = λ l over free. subst (λ (h : Held). IsHeld h (variable l)) (sym heap) (held_now (variable l) (choosing.held l over free));
+  },
+  subst (λ (h : Held). IsHeld h v) (sym heap) here,
+)
+  where
+    here : IsHeld (marked_heap c.heap v true) v
+    here = get_or-set_same c.heap.marks v true false low
+
+    held_now : (w : ℕ) → IsHeld c.heap w → IsHeld (marked_heap c.heap v true) w
+    held_now w held = ⊎_elim (λ (e : w ≡ v). subst (IsHeld (marked_heap c.heap v true)) (sym e) here) (λ (apart : w ≢ v). held_still c.heap v w true apart held) (cases_eq w v)

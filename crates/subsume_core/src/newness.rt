@@ -3,7 +3,7 @@
 //! unit clause is flagged; and no live clause is empty. So the watch lists of the list's literals
 //! and their flags are all that is read. The list's literals are marked meanwhile: a clause of them
 //! alone has only marked ones.
-ghost use Rattle.std.specs.Prelude.{◌≡◌, ℕ, ◌≤◌, [], true, Some, All, IsTrue};
+ghost use Rattle.std.specs.Prelude.{◌≡◌, ℕ, ℤ, ◌≤◌, List, [], true, Some, All, IsTrue};
 ghost use Rattle.sat_theory.specs.Formula.{variable as variable_of, IsWithin};
 ghost use Rattle.sat_theory.specs.Log.{IsNew};
 ghost use Rattle.cdcl_theory.specs.Codes.{marked_in};
@@ -53,30 +53,29 @@ fn are_apart(clauses: &ClauseDb, units: &Units, marks: &Marks, lits: &[Lit]) -> 
     // for the prover: brings in the invariant of the clauses
     let _last = clauses.last();
     for lit in lits {
-        if !is_apart(clauses, units, marks, lits, *lit) {
+        if !is_apart(clauses, units, marks, *lit) {
             return false;
         }
     }
     true
 }
 
-/// Whether a literal of a list is no unit clause, and no clause that watches it is inside the list.
-fn is_apart(clauses: &ClauseDb, units: &Units, marks: &Marks, lits: &[Lit], lit: Lit) -> bool
-    requires over { variable_of lit ≤ clauses.now.vars }
-    requires marked { All (λ l. marked_in marks.now l ≡ true) lits.now }
-    ensures { IsTrue result → IsApart clauses.now units.now lits.now lit }
+/// Whether a literal is no unit clause, and no clause that watches it has marked literals alone. Such a
+/// clause is inside no list whose literals are all marked.
+fn is_apart(clauses: &ClauseDb, units: &Units, marks: &Marks, lit: Lit) -> bool
+    requires { variable_of lit ≤ clauses.now.vars }
+    ensures { (lits : List ℤ) → All (λ l. marked_in marks.now l ≡ true) lits → IsTrue result → IsApart clauses.now units.now lits lit }
 {
     if units.has(lit) {
         return false;
     }
-    none_watching(clauses, marks, lits, lit)
+    none_watching(clauses, marks, lit)
 }
 
-/// Whether no clause that watches a literal is inside a list.
-fn none_watching(clauses: &ClauseDb, marks: &Marks, lits: &[Lit], lit: Lit) -> bool
-    requires over { variable_of lit ≤ clauses.now.vars }
-    requires marked { All (λ l. marked_in marks.now l ≡ true) lits.now }
-    ensures { IsTrue result → NoneWatching clauses.now lits.now lit }
+/// Whether no clause that watches a literal has marked literals alone.
+fn none_watching(clauses: &ClauseDb, marks: &Marks, lit: Lit) -> bool
+    requires { variable_of lit ≤ clauses.now.vars }
+    ensures { (lits : List ℤ) → All (λ l. marked_in marks.now l ≡ true) lits → IsTrue result → NoneWatching clauses.now lits lit }
 {
     let count = clauses.watching(lit).len();
     for index in 0..count {

@@ -1,0 +1,14 @@
+use Rattle.std.proofs.Common.{◌≡◌, ◌-◌, ◌+◌, ℕ, length, arith}
+use Rattle.cdcl_core.proofs.Choices.{back_more}
+use Rattle.cdcl_core.proofs.choosing.Choice.back_to.Goals as goal
+
+pub loop-taken-preserved : goal.loop-taken-preserved
+loop-taken-preserved c =
+    let short : length c.take_back.new.trail.lits ≡ length c.loop-taken.trail.lits - 1 = c.take_back.ensures.back.short in
+    let before : length c.loop-taken.trail.lits + c.loop-taken._taken ≡ length c.args.trail.now.lits + c.args.len = c.loop-taken.invariant.long in
+    record {
+      long = omega (arith, short, before, c.loop-taken-test.true, c.len-taken-end.ensures.value);
+      back = back_more (length c.loop-taken.trail.lits) c.args.trail.now c.loop-taken.trail c.take_back.new.trail c.loop-taken.invariant.back (omega (arith, before, c.loop-taken-test.true, c.len-taken-end.ensures.value, c.requires.low)) c.take_back.ensures.back;
+      whole = c.take_back.ensures.whole;
+      choosing = c.take_back.ensures.choosing;
+    }
