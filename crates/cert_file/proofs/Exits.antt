@@ -7,15 +7,10 @@ use Rattle.cert_theory.specs.declared.data.Verdict.{Verdict}
 use Rattle.cert_theory.specs.Gives.{Fails, Gives}
 use Rattle.cert_file.specs.Stages.{Answer, Judged}
 use Rattle.cert_file.specs.declared.stage.Stage.{Stage}
-use Rattle.cert_file.specs.declared.told.Told.{Told}
 
 pub judged_err : (r : Result Stage BundleError) (e : BundleError) (number : ℕ) (ls : List Line) (answer : Answer) → IsErrAnd r (λ d. d ≡ e) → Fails e answer → Judged r number ls answer
 judged_err (Ok stage) e number ls answer is fails = absurd is
 judged_err (Err d) e number ls answer is fails = subst (λ (x : BundleError). Fails x answer) (sym is) fails
-
-pub gives_err : (r : Result Told BundleError) (e : BundleError) (answer : Answer) → IsErrAnd r (λ d. d ≡ e) → Fails e answer → Gives (λ (t : Told). t.verdict) r answer
-gives_err (Ok v) e answer is fails = absurd is
-gives_err (Err d) e answer is fails = subst (λ (x : BundleError). Fails x answer) (sym is) fails
 
 pub verdict_err : (r : Result Verdict BundleError) (e : BundleError) (answer : Answer) → IsErrAnd r (λ d. d ≡ e) → Fails e answer → Gives (λ (v : Verdict). v) r answer
 verdict_err (Ok v) e answer is fails = absurd is

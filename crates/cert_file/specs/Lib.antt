@@ -5,7 +5,9 @@ pub use Rattle.cert_theory.specs.PartLines
 pub use Rattle.cert_theory.specs.Judging
 pub use Rattle.cert_theory.specs.Gives
 pub mod Asking
+pub mod EndLaws
 pub mod Logged
+pub mod NumberedLaws
 pub mod Reader
 pub mod Refusals
 pub mod Stages

@@ -1,20 +1,24 @@
 -- What a reader says of the text that it was fed, wherever that was cut into pieces.
-use Rattle.std.specs.Prelude.{ℕ, List, Result}
+use Rattle.std.specs.Prelude.{ℕ, List}
 use Rattle.line_reader.specs.Reader as pieces
 use Rattle.line_reader.specs.Seen as lines
 use Rattle.cert_theory.specs.declared.data.BundleError.{BundleError}
 use Rattle.cert_file.specs.Stages.{IsStage}
 use Rattle.cert_file.specs.Standing.{StandsIn, Refuses}
 use Rattle.cert_file.specs.declared.stage.Stage.{Stage}
-use Rattle.cert_file.specs.declared.reader.BundleReader.{BundleReader}
+use Rattle.line_reader.specs.declared.reader.PieceReader.{PieceReader}
 
 -- what is due next and what is kept of the lines before, the number of the next line, what was fed of it,
 -- and how many bytes were fed in all
 abbrev pub Reader : Type 0
 Reader = pieces.Reader Stage
 
-abbrev pub seen : BundleReader → Reader
-seen r = lines.seen r.pieces
+-- a reader of certificates
+abbrev pub BundlePieces : Type 0
+BundlePieces = PieceReader Stage
+
+abbrev pub seen : BundlePieces → Reader
+seen r = lines.seen r
 
 -- a stage keeps no bytes of the lines before
 abbrev pub IsReader : Reader → Type 0
@@ -28,7 +32,3 @@ StandsFor r text = pieces.StandsFor StandsIn r text
 -- Whatever comes after the text, the whole is refused so.
 abbrev pub IsRefused : BundleError → List ℕ → Type 0
 IsRefused e text = pieces.IsRefused Refuses e text
-
--- A reader that was fed up to the end of this text stands for it, or the text is refused.
-abbrev pub HasRead : Result BundleReader BundleError → List ℕ → Type 0
-HasRead result text = pieces.HasRead seen StandsIn Refuses result text

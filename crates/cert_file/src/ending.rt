@@ -4,10 +4,8 @@ ghost use Rattle.text_core.specs.Lines.{Line};
 ghost use Rattle.chain_theory.specs.Chain as chain;
 ghost use Rattle.chain_core.specs.Block as block;
 ghost use Rattle.chain_core.specs.Steps.{steps_of};
-ghost use Rattle.text_core.specs.Items.{items_of};
 ghost use Rattle.cert_theory.specs.Gives.{Gives};
 ghost use Rattle.cert_theory.specs.Coding.{is_titled};
-ghost use Rattle.cert_theory.specs.declared.data.Verdict.TheVariants as verdicts;
 ghost use Rattle.cert_theory.specs.Judging as judging;
 ghost use Rattle.cert_file.specs.Asking.{heading_in};
 ghost use Rattle.cert_file.specs.Refusals.{IsRefusal};
@@ -16,7 +14,7 @@ ghost use Rattle.line_reader.specs.Cuts.{IsPlace};
 ghost use Rattle.cert_file.specs.Stages.{Answer, Judged, IsStage, IsKnown, AreRead, AreNamed, outs_then, steps_then};
 ghost use Rattle.cert_file.specs.Telling.{IsBlock, IsHeld, HasEnded, Tells};
 
-use crate::lines::{GREATEST, TextLine, begins, is_line, number_behind, value_of};
+use crate::lines::{Numbered, TextLine, begins, is_line, number_behind, numbered_in};
 use crate::stage::Stage;
 use crate::titles::is_title;
 use crate::told::Told;
@@ -27,7 +25,6 @@ use chain_core::{
 };
 use settings::Method;
 use std::alloc::Global;
-use text_core::{next_item, number_up_to};
 
 /// A refusal of a chain block.
 fn refusal(error: ChainError) -> BundleError
@@ -211,31 +208,17 @@ fn is_same(verdict: Verdict, due: Verdict) -> bool
     }
 }
 
-/// The two numbers of a bounded verdict.
-fn bounded_in(text: &[u8]) -> Option<Verdict>
-    ensures { result ≡ judging.bounded_in (λ low r. verdicts.Bounded low r) (items_of text.now) }
-{
-    let (low, Some(rest)) = next_item(text) else {
-        return None;
-    };
-    let (r, None) = next_item(rest) else {
-        return None;
-    };
-    let low = number_up_to(GREATEST, low)?;
-    let r = number_up_to(GREATEST, r)?;
-    Some(Verdict::Bounded { low, r })
-}
-
 /// The verdict of a line, where a chain stands before it.
-#[tactic(auto, unfolding(cert_theory::specs::Judging::found_in))]
 fn found_in(line: &TextLine) -> Option<Verdict>
     ensures { result ≡ judging.found_in (line_of line.now) }
 {
-    if begins(b"minimum ", line) {
-        let r = number_behind(b"minimum ", line)?;
-        return Some(Verdict::Minimum(r));
+    let Some(numbers) = numbered_in(b"minimum ", b"bounded ", line) else {
+        return None;
+    };
+    match numbers {
+        Numbered::One(r) => Some(Verdict::Minimum(r)),
+        Numbered::Two { low, most } => Some(Verdict::Bounded { low, r: most }),
     }
-    bounded_in(value_of(b"bounded ", line)?)
 }
 
 /// The verdict of a line, where none does.

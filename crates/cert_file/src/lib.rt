@@ -5,9 +5,9 @@
 //! The theorem is that of `check_bundle`: bytes get a verdict exactly where they are the text of a
 //! valid bundle that has it, and the verdict is true; else the first fault is reported. A text is judged
 //! a line at a time, and of the logs no more is kept than one part's checker: `PartReader` takes the log of a
-//! part wherever it stands, and `Stage` walks from part to part. `BundleReader` takes the text in pieces, wherever
-//! it is cut; a whole text is one piece. Single lines are read by functions of their own, for texts that have such
-//! lines too.
+//! part wherever it stands, and `Stage` walks from part to part. `BundleReader`, which is `line_reader`'s reader with
+//! that stage, takes the text in pieces, wherever it is cut; a whole text is one piece. Single lines are read by
+//! functions of their own, for texts that have such lines too.
 //!
 //! ```text
 //! let verdict = check_bundle(alloc, &bytes)?; // Verdict::Minimum(1) for XOR
@@ -32,9 +32,10 @@ mod told;
 pub use cert_theory::{BundleError, Ended, Heading, PartError, Verdict};
 pub use checking::check_bundle;
 pub use heading::{basis_in, conflicts_in, max_in, method_in};
-pub use lines::{TextLine, begins, is_line, number_behind, value_of};
+pub use lines::{Numbered, TextLine, begins, is_line, number_behind, numbered_in, value_of};
 pub use logs::ended_in;
 pub use part::{PartReader, PartStep};
-pub use reader::BundleReader;
+pub use reader::{BundleReader, tell};
+pub use stage::Stage;
 pub use titles::is_title;
 pub use told::Told;

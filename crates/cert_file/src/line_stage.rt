@@ -1,18 +1,19 @@
 //! Certificates as texts that are read line by line.
-ghost use Rattle.cert_file.specs.Stages.{IsStage, IsKnown};
+ghost use Rattle.std.specs.Prelude.{Err};
+ghost use Rattle.cert_file.specs.Stages.{IsStage};
 ghost use Rattle.cert_file.specs.Standing.{StandsIn, Refuses, Ends};
+ghost use Rattle.cert_file.specs.EndLaws.{ended};
 
-use crate::onward::{take, told_of};
+use crate::onward::{take, verdict_of};
 use crate::stage::Stage;
-use crate::told::Told;
-use cert_theory::BundleError;
+use cert_theory::{BundleError, Verdict};
 use line_reader::{LineStage, TextLine};
 use std::alloc::Global;
 
 impl LineStage for Stage {
     type Fault = BundleError;
 
-    type End = Told;
+    type End = Verdict;
 
     ghost whole = { λ stage number. IsStage stage number };
 
@@ -22,9 +23,7 @@ impl LineStage for Stage {
 
     ghost refuses = { λ e all. Refuses e all };
 
-    ghost gives = { λ result all. Ends result all };
-
-    ghost good = { λ told. IsKnown told.heading };
+    ghost gives = { λ result text. Ends result text };
 
     fn start(_alloc: Global) -> Stage {
         Stage::Start
@@ -34,13 +33,13 @@ impl LineStage for Stage {
         take(alloc, self, line)
     }
 
-    fn end(self, _alloc: Global, number: u32) -> Result<Told, BundleError> {
-        told_of(self, number)
+    fn end(self, _alloc: Global, number: u32) -> Result<Verdict, BundleError> {
+        verdict_of(self, number)
     }
 
     fn no_memory() -> BundleError {
         BundleError::Memory
     }
 
-    ghost refusal = { λ e all refused. (refused, tt) };
+    ghost refusal = { λ e text refused. ended text (Err e) refused };
 }

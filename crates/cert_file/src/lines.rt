@@ -3,11 +3,13 @@ ghost use Rattle.std.specs.Prelude.{◌≡◌};
 ghost use Rattle.std.specs.Option.{option_copied};
 ghost use Rattle.cert_theory.specs.Judging as judging;
 ghost use Rattle.cert_theory.specs.PartLines as parts;
+ghost use Rattle.text_core.specs.Items.{items_of};
 ghost use Rattle.line_reader.specs.TextLines.{line_of};
+ghost use Rattle.cert_file.specs.declared.lines.Numbered.TheVariants as numbers;
 
 use cert_theory::{BundleError, PartError};
 pub use line_reader::TextLine;
-use text_core::{after, number_up_to};
+use text_core::{after, next_item, number_up_to};
 
 /// The greatest number of nine digits.
 pub(crate) const GREATEST: u32 = 999_999_999;
@@ -56,4 +58,44 @@ pub fn number_behind(word: &[u8], line: &TextLine) -> Option<u32>
     ensures { result ≡ judging.number_behind word.now (line_of line.now) }
 {
     number_up_to(GREATEST, value_of(word, line)?)
+}
+
+/// The numbers of a verdict: one, or two between which it leaves the least open.
+#[derive(Drop)]
+pub enum Numbered {
+    /// One number.
+    One(u32),
+    /// Two numbers.
+    Two {
+        /// The lower one.
+        low: u32,
+        /// The other one.
+        most: u32,
+    },
+}
+
+/// The two numbers that a text spells.
+fn two_in(text: &[u8]) -> Option<Numbered>
+    ensures { result ≡ judging.bounded_in (λ low most. numbers.Two low most) (items_of text.now) }
+{
+    let (low, Some(rest)) = next_item(text) else {
+        return None;
+    };
+    let (most, None) = next_item(rest) else {
+        return None;
+    };
+    let low = number_up_to(GREATEST, low)?;
+    let most = number_up_to(GREATEST, most)?;
+    Some(Numbered::Two { low, most })
+}
+
+/// The number after the first word, or the two after the second.
+pub fn numbered_in(first: &[u8], second: &[u8], line: &TextLine) -> Option<Numbered>
+    ensures { result ≡ judging.numbered_in (λ number. numbers.One number) (λ low most. numbers.Two low most) first.now second.now (line_of line.now) }
+{
+    if begins(first, line) {
+        let number = number_behind(first, line)?;
+        return Some(Numbered::One(number));
+    }
+    two_in(value_of(second, line)?)
 }

@@ -17,7 +17,7 @@ use crate::sections::at_between;
 use crate::stage::Stage;
 use crate::titles::at_due;
 use crate::told::Told;
-use cert_theory::BundleError;
+use cert_theory::{BundleError, Verdict};
 use std::alloc::Global;
 
 /// Takes the next line.
@@ -101,4 +101,16 @@ pub(crate) fn told_of(stage: Stage, number: u32) -> Result<Told, BundleError>
         return Err(BundleError::Syntax(number));
     };
     Ok(told)
+}
+
+/// The verdict that the lines come to, where none is left.
+pub(crate) fn verdict_of(stage: Stage, number: u32) -> Result<Verdict, BundleError>
+    requires { IsStage stage number }
+    ensures { (answer : Answer) → Stands stage number [] answer → Gives (λ v. v) result answer }
+{
+    let told = told_of(stage, number)?;
+    let verdict = told.verdict;
+    // dropped here at once: left to the exit, each of its fields would be
+    drop(told);
+    Ok(verdict)
 }

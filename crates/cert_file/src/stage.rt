@@ -10,7 +10,7 @@ use tt_core::Spec;
 
 /// A size whose section is read, and one of its parts.
 #[derive(Drop)]
-pub(crate) struct Running {
+pub struct Running {
     pub(crate) heading: Heading,
     pub(crate) size: u32,
     /// The first open size, by the logs that were read.
@@ -22,7 +22,7 @@ pub(crate) struct Running {
 
 /// What is due next of a bundle whose lines were good so far, and what is kept of them.
 #[derive(Drop)]
-pub(crate) enum Stage {
+pub enum Stage {
     /// The first line.
     Start,
     /// The number of inputs.

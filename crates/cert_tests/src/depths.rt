@@ -1,8 +1,6 @@
 //! Depth bundles in pieces: wherever they are cut, the answer is that of the whole.
-ghost use Rattle.std.specs.Prelude.{◌+◌, ◌^◌, ◌<◌, length};
-ghost use Rattle.depth_file.specs.Reader.{seen, IsReader};
-
-use depth_file::{DepthError, DepthReader, DepthVerdict, check_depth};
+use crate::pieces::{MOST_BYTES, comes_in_pieces};
+use depth_file::{DepthError, DepthVerdict, Stage, check_depth};
 use std::alloc::{AllocError, Global};
 
 /// A certificate of x1 AND x2, and of that AND x3: two steps, on two levels.
@@ -12,47 +10,6 @@ const BUNDLE: &[u8] =
 /// A certificate by another method.
 const BY_PAIRS: &[u8] =
     b"chains 1\ninputs 1\n01\nbasis all\nmethod ssv\nconflicts 7\nmax 0\nchain 0\nout x1\nminimum 0\nend\n";
-
-/// Feeds two pieces.
-fn in_two(alloc: Global, front: &[u8], behind: &[u8]) -> Result<DepthVerdict, DepthError>
-    requires { length front.now + length behind.now < 2 ^ 31 }
-{
-    let reader = DepthReader::new(alloc).feed(front)?;
-    reader.feed(behind)?.finish()
-}
-
-/// Feeds each byte by itself.
-fn by_bytes(reader: DepthReader, text: &[u8]) -> Result<DepthVerdict, DepthError>
-    requires whole { IsReader (seen reader) }
-    requires room { reader.pieces.fed + length text.now < 2 ^ 31 }
-{
-    let mut reader = reader;
-    let mut left = text;
-    while !left.is_empty() {
-        let (byte, rest) = left.split_at(1);
-        reader = reader.feed(byte)?;
-        left = rest;
-    }
-    reader.finish()
-}
-
-/// Whether a text of at most 10,000 bytes has this answer whole, wherever it is cut in two, and byte by byte.
-fn is_judged_in_pieces(
-    alloc: Global,
-    text: &[u8],
-    answer: Result<DepthVerdict, DepthError>,
-) -> bool {
-    if text.len() > 10_000 || check_depth(alloc, text) != answer {
-        return false;
-    }
-    for at in 0..=text.len() {
-        let (front, behind) = text.split_at(at);
-        if in_two(alloc, front, behind) != answer {
-            return false;
-        }
-    }
-    by_bytes(DepthReader::new(alloc), text) == answer
-}
 
 /// A bundle and what stands after it.
 fn text_of(alloc: Global, bundle: &[u8], behind: &[u8]) -> Result<Vec<u8>, AllocError> {
@@ -108,7 +65,11 @@ fn is_judged(
     answer: Result<DepthVerdict, DepthError>,
 ) -> bool {
     match text_of(alloc, bundle, behind) {
-        Ok(text) => is_judged_in_pieces(alloc, &text, answer),
+        Ok(text) => {
+            text.len() <= MOST_BYTES
+                && check_depth(alloc, &text) == answer
+                && comes_in_pieces::<Stage>(alloc, &text, &answer)
+        }
         Err(_) => false,
     }
 }

@@ -1,8 +1,6 @@
 //! Certificates as texts, judged, whole and in pieces: wherever they are cut, the answer is that of the whole.
-ghost use Rattle.std.specs.Prelude.{◌+◌, ◌^◌, ◌<◌, length};
-ghost use Rattle.cert_file.specs.Reader.{seen, IsReader};
-
-use cert_file::{BundleError, BundleReader, Verdict, check_bundle};
+use crate::pieces::{MOST_BYTES, comes_in_pieces};
+use cert_file::{BundleError, Stage, Verdict, check_bundle};
 use lrat_check::CheckError;
 use std::alloc::{AllocError, Global};
 
@@ -117,43 +115,6 @@ fn text_of(alloc: Global, lines: &[&[u8]], first: Put, second: Put) -> Result<Ve
         push_line(&mut text, index.wrapping_add(1), line, first, second)?;
     }
     Ok(text)
-}
-
-/// Feeds two pieces.
-fn in_two(alloc: Global, front: &[u8], behind: &[u8]) -> Result<Verdict, BundleError>
-    requires { length front.now + length behind.now < 2 ^ 31 }
-{
-    let reader = BundleReader::new(alloc).feed(front)?;
-    reader.feed(behind)?.finish()
-}
-
-/// Feeds each byte by itself.
-fn by_bytes(reader: BundleReader, text: &[u8]) -> Result<Verdict, BundleError>
-    requires whole { IsReader (seen reader) }
-    requires room { reader.pieces.fed + length text.now < 2 ^ 31 }
-{
-    let mut reader = reader;
-    let mut left = text;
-    while !left.is_empty() {
-        let (byte, rest) = left.split_at(1);
-        reader = reader.feed(byte)?;
-        left = rest;
-    }
-    reader.finish()
-}
-
-/// Whether a text of at most 10,000 bytes has this answer whole, wherever it is cut in two, and byte by byte.
-fn is_judged_in_pieces(alloc: Global, text: &[u8], answer: Result<Verdict, BundleError>) -> bool {
-    if text.len() > 10_000 || check_bundle(alloc, text) != answer {
-        return false;
-    }
-    for at in 0..=text.len() {
-        let (front, behind) = text.split_at(at);
-        if in_two(alloc, front, behind) != answer {
-            return false;
-        }
-    }
-    by_bytes(BundleReader::new(alloc), text) == answer
 }
 
 /// Certificates, what stands in the place of two of their lines, and the answer.
@@ -387,7 +348,11 @@ fn is_judged(
     answer: Result<Verdict, BundleError>,
 ) -> bool {
     match text_of(alloc, lines, first, second) {
-        Ok(text) => is_judged_in_pieces(alloc, &text, answer),
+        Ok(text) => {
+            text.len() <= MOST_BYTES
+                && check_bundle(alloc, &text) == answer
+                && comes_in_pieces::<Stage>(alloc, &text, &answer)
+        }
         Err(_) => false,
     }
 }

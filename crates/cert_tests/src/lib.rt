@@ -11,6 +11,8 @@ mod judging;
 #[cfg(test)]
 mod parts;
 #[cfg(test)]
+mod pieces;
+#[cfg(test)]
 mod searching;
 #[cfg(test)]
 mod synthesising;

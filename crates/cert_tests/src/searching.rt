@@ -33,131 +33,44 @@ fn searched(
     }
 }
 
+/// XOR.
+const XOR: &[u8] = b"inputs 2\n0110\n";
+
+/// NOT.
+const NOT: &[u8] = b"inputs 1\n10\n";
+
+/// AND of three inputs.
+const AND: &[u8] = b"inputs 3\n00000001\n";
+
+/// Cells that are all free.
+const FREE: &[u8] = b"inputs 2\n----\n";
+
+/// The full adder.
+const ADDER: &[u8] = b"inputs 3\n01101001\n00010111\n";
+
+/// XOR and its complement: for NOT a constant step is needed.
+const XORS: u16 = 576;
+
+/// Tables, the basis, the method, and the fewest steps, which are the number of sections.
+const FOUND: &[(&[u8], u16, Method, u32)] = &[
+    (XOR, ALL, Method::Plain, 1),
+    (XOR, ALL, Method::Ssv, 1),
+    (XOR, NAND, Method::Plain, 4),
+    (XOR, NAND, Method::Ssv, 4),
+    (NOT, NAND, Method::Ssv, 1),
+    (NOT, XORS, Method::Ssv, 2),
+    (AND, ALL, Method::Ssv, 2),
+    (AND, ALL, Method::Select, 2),
+    (AND, ALL, Method::Fence, 2),
+    (FREE, ALL, Method::Plain, 0),
+];
+
 /// Tables, the basis, the method, the most steps and the budget of clauses, the verdict, and how many sections there
-/// are.
-const SEARCHED: &[(&[u8], u16, Method, u32, u32, Verdict, usize)] = &[
-    // XOR, by all operators and by NAND
-    (
-        b"inputs 2\n0110\n",
-        ALL,
-        Method::Plain,
-        16,
-        100_000,
-        Verdict::Minimum(1),
-        1,
-    ),
-    (
-        b"inputs 2\n0110\n",
-        ALL,
-        Method::Ssv,
-        16,
-        100_000,
-        Verdict::Minimum(1),
-        1,
-    ),
-    (
-        b"inputs 2\n0110\n",
-        NAND,
-        Method::Plain,
-        16,
-        100_000,
-        Verdict::Minimum(4),
-        4,
-    ),
-    (
-        b"inputs 2\n0110\n",
-        NAND,
-        Method::Ssv,
-        16,
-        100_000,
-        Verdict::Minimum(4),
-        4,
-    ),
-    // NOT by NAND, AND of three, cells that are all free
-    (
-        b"inputs 1\n10\n",
-        NAND,
-        Method::Ssv,
-        16,
-        100_000,
-        Verdict::Minimum(1),
-        1,
-    ),
-    (
-        b"inputs 3\n00000001\n",
-        ALL,
-        Method::Ssv,
-        16,
-        100_000,
-        Verdict::Minimum(2),
-        2,
-    ),
-    (
-        b"inputs 2\n----\n",
-        ALL,
-        Method::Plain,
-        16,
-        100_000,
-        Verdict::Minimum(0),
-        0,
-    ),
-    // NOT by XOR and its complement: a constant step is needed
-    (
-        b"inputs 1\n10\n",
-        576,
-        Method::Ssv,
-        16,
-        100_000,
-        Verdict::Minimum(2),
-        2,
-    ),
-    (
-        b"inputs 3\n00000001\n",
-        ALL,
-        Method::Select,
-        16,
-        100_000,
-        Verdict::Minimum(2),
-        2,
-    ),
-    (
-        b"inputs 3\n00000001\n",
-        ALL,
-        Method::Fence,
-        16,
-        100_000,
-        Verdict::Minimum(2),
-        2,
-    ),
-    // the limits end a search
-    (
-        b"inputs 2\n0110\n",
-        NAND,
-        Method::Plain,
-        3,
-        100_000,
-        Verdict::NoChain(3),
-        4,
-    ),
-    (
-        b"inputs 3\n00000001\n",
-        ALL,
-        Method::Ssv,
-        1,
-        100_000,
-        Verdict::NoChain(1),
-        2,
-    ),
-    // the full adder, with next to no work
-    (
-        b"inputs 3\n01101001\n00010111\n",
-        ALL,
-        Method::Plain,
-        2,
-        1,
-        Verdict::Open { low: 2 },
-        3,
-    ),
+/// are. The last row has next to no work.
+const LIMITED: &[(&[u8], u16, Method, u32, u32, Verdict, usize)] = &[
+    (XOR, NAND, Method::Plain, 3, 100_000, Verdict::NoChain(3), 4),
+    (AND, ALL, Method::Ssv, 1, 100_000, Verdict::NoChain(1), 2),
+    (ADDER, ALL, Method::Plain, 2, 1, Verdict::Open { low: 2 }, 3),
 ];
 
 /// Whether a search ends with a verdict and a number of sections.
@@ -177,12 +90,19 @@ fn ends_in(
 
 #[test]
 fn fewest_steps_are_found(rt: HostRuntime) {
-    for &(text, basis, method, max, budget, verdict, sections) in SEARCHED {
+    for &(text, basis, method, steps) in FOUND {
+        let end = (Verdict::Minimum(steps), steps as usize);
+        let well = ends_in(rt.alloc(), text, basis, method, (16, 100_000), end);
+        assert!(rt; well, "{text:?} {basis}");
+    }
+}
+
+#[test]
+fn limits_end_a_search(rt: HostRuntime) {
+    for &(text, basis, method, max, budget, verdict, sections) in LIMITED {
         let end = (verdict, sections);
-        assert!(rt;
-            ends_in(rt.alloc(), text, basis, method, (max, budget), end),
-            "{text:?} {basis}"
-        );
+        let well = ends_in(rt.alloc(), text, basis, method, (max, budget), end);
+        assert!(rt; well, "{text:?} {basis}");
     }
 }
 
@@ -204,7 +124,7 @@ fn ends(alloc: Global, search: Search) -> bool {
 
 /// Whether the search for a chain for XOR goes on after size 0 and ends after size 1.
 fn goes_on(alloc: Global) -> bool {
-    let Ok(tables) = read_tables(alloc, b"inputs 2\n0110\n") else {
+    let Ok(tables) = read_tables(alloc, XOR) else {
         return false;
     };
     let search = Search::new(tables.spec, Basis::new(ALL), Method::Plain, 16, 100_000);

@@ -1,19 +1,30 @@
--- What is kept of a certificate, at its end.
+-- What is kept of a certificate, with more bytes and at its end.
 use Rattle.std.specs.Prelude.{◌≡◌, ℕ, ◌≤◌, List, [], ◌++◌, length, Option, Some}
-use Rattle.std.proofs.Common.{subst, append-nil}
-use Rattle.frame_core.specs.Task.{IsWithin}
+use Rattle.std.proofs.Common.{sym, subst, append-nil, append_assoc}
+use Rattle.text_core.specs.Lines.{Line}
+use Rattle.frame_core.specs.declared.replies.Refusal.{Refusal}
+use Rattle.frame_core.specs.Task.{Task, Refuses, IsWithin}
+use Rattle.frame_core.specs.Views.{refusal_value}
 use Rattle.cmd_verdicts.specs.Verdicts.{most_of_bundle}
 use Rattle.cmd_recheck.specs.declared.job.Reading.{Reading}
 use Rattle.cmd_recheck.specs.declared.job.Reading.TheVariants.{Refused}
 use Rattle.cmd_recheck.specs.Keeping.{Keeps}
 
-refused_still : {R F : Type 0} (stands : R → List ℕ → Type 0) (refuses : F → List ℕ → Type 0) (kept : Reading R F) (fault : F) (bytes : List ℕ) → kept ≡ Refused fault → Keeps stands refuses kept bytes → (rest : List ℕ) → refuses fault (bytes ++ rest)
-refused_still {R} {F} stands refuses kept fault bytes same keeps = subst (λ (k : Reading R F). Keeps stands refuses k bytes) same keeps
+-- bytes are refused so, no more of them than are read
+abbrev pub IsRefusedSo : Task → Refusal → List ℕ → Type 0
+IsRefusedSo task refusal bytes = length bytes ≤ most_of_bundle → Refuses task bytes (refusal_value refusal)
 
--- A fault that was kept is that of the bytes.
-pub fault_stands : {R F : Type 0} (stands : R → List ℕ → Type 0) (refuses : F → List ℕ → Type 0) (kept : Reading R F) (fault : F) (bytes : List ℕ) → kept ≡ Refused fault → Keeps stands refuses kept bytes → refuses fault bytes
-fault_stands {R} {F} stands refuses kept fault bytes same keeps =
-    subst (λ (text : List ℕ). refuses fault text) (append-nil bytes) (refused_still stands refuses kept fault bytes same keeps [])
+-- a fault that was kept is that of all bytes that go on so
+still : {S : Type 0} (task : Task) (stands : S → ℕ → List Line → List Line → Type 0) (kept : Reading S) (refusal : Refusal) (bytes : List ℕ) → kept ≡ Refused refusal → Keeps task stands kept bytes → (rest : List ℕ) → IsRefusedSo task refusal (bytes ++ rest)
+still {S} task stands kept refusal bytes same keeps = subst (λ (k : Reading S). Keeps task stands k bytes) same keeps
+
+-- it is that of the bytes,
+pub refused_at_last : {S : Type 0} (task : Task) (stands : S → ℕ → List Line → List Line → Type 0) (kept : Reading S) (refusal : Refusal) (bytes : List ℕ) → kept ≡ Refused refusal → Keeps task stands kept bytes → IsRefusedSo task refusal bytes
+refused_at_last {S} task stands kept refusal bytes same keeps = subst (IsRefusedSo task refusal) (append-nil bytes) (still task stands kept refusal bytes same keeps [])
+
+-- and is kept with a piece more.
+pub refused_on : {S : Type 0} (task : Task) (stands : S → ℕ → List Line → List Line → Type 0) (kept : Reading S) (refusal : Refusal) (bytes piece : List ℕ) → kept ≡ Refused refusal → Keeps task stands kept bytes → (rest : List ℕ) → IsRefusedSo task refusal ((bytes ++ piece) ++ rest)
+refused_on {S} task stands kept refusal bytes piece same keeps = λ rest. subst (IsRefusedSo task refusal) (sym (append_assoc bytes piece rest)) (still task stands kept refusal bytes same keeps (piece ++ rest))
 
 pub is_within : (reads : Option ℕ) (bytes : List ℕ) → reads ≡ Some most_of_bundle → IsWithin reads bytes → length bytes ≤ most_of_bundle
 is_within reads bytes is within = subst (λ (r : Option ℕ). IsWithin r bytes) is within

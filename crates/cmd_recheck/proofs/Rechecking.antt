@@ -1,7 +1,7 @@
 -- What `recheck` answers to bytes.
-use Rattle.std.specs.Prelude.{◌≡◌, ℕ, ◌≤◌, List, length, Result, Ok, Err}
-use Rattle.std.proofs.Common.{refl}
-use Rattle.std.proofs.lemmas.Grind.{common_steps}
+use Rattle.std.specs.Prelude.{◌≡◌, ℕ, ◌≤◌, List, length, None, Result, Ok, Err, Vec, IfOk}
+use Rattle.std.specs.Global.{Global}
+use Rattle.std.proofs.Common.{refl, ap}
 use Rattle.text_core.specs.Lines.{lines_of}
 use Rattle.cert_theory.specs.declared.data.Verdict.{Verdict}
 use Rattle.cert_theory.specs.declared.data.BundleError.{BundleError}
@@ -10,7 +10,9 @@ use Rattle.cert_theory.specs.Judging.{bundle_of}
 use Rattle.cert_theory.specs.Gives.{Fails}
 use Rattle.cert_laws.specs.BundlesAgain.{text_again}
 use Rattle.cmd_verdicts.specs.Verdicts.{most_of_bundle}
-use Rattle.cmd_recheck.specs.RecheckReport.{recheck_reply, recheck_refusal, recheck_task}
+use Rattle.cert_file.specs.Standing.{Ends}
+use Rattle.frame_core.specs.declared.status.Status.TheVariants.{Done}
+use Rattle.cmd_recheck.specs.RecheckReport.{verdict_text, recheck_reply, recheck_refusal, recheck_task}
 use Rattle.frame_core.specs.Told.{Reply, Refusal}
 use Rattle.frame_core.specs.Task.{Tells, Refuses}
 use Rattle.cmd_verdicts.specs.VerdictLaws.{is_verdict}
@@ -46,6 +48,7 @@ refuses bytes e refusal within read is = record {
 pub stops : (bytes : List ℕ) (e : BundleError) (refusal : Refusal) → length bytes ≤ most_of_bundle → (e ≡ bundles.Memory → ⊥) → Fails e (bundle_of (lines_of bytes)) → refusal ≡ recheck_refusal e → Refuses recheck_task bytes refusal
 stops bytes e refusal within other fails is = refuses bytes e refusal within (told_fault e (bundle_of (lines_of bytes)) fails other) is
 
-pub ruleset stopping = (common_steps, stops)
-
-pub ruleset telling = (common_steps, tells)
+-- the text of a verdict, as a reply
+pub tells_text : {E : Type 0} (bytes : List ℕ) (v : Verdict) (text : Result (Vec ℕ Global) E) → length bytes ≤ most_of_bundle → Ends (Ok v) bytes → IfOk text (λ t. t.items ≡ verdict_text v) → IfOk text (λ t. Tells recheck_task bytes (record { text = t.items; report = None; status = Done }))
+tells_text {E} bytes v (Ok t) within ends is = tells bytes v (record { text = t.items; report = None; status = Done }) within ends.exact (ap (λ (xs : List ℕ). let r : Reply = record { text = xs; report = None; status = Done } in r) is)
+tells_text {E} bytes v (Err e) within ends is = tt

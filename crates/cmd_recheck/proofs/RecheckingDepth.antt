@@ -1,6 +1,7 @@
 -- What `recheck --depth yes` answers to bytes.
-use Rattle.std.specs.Prelude.{◌≡◌, ℕ, ◌≤◌, List, ◌∷◌, length, codes, Ok, Err}
-use Rattle.std.proofs.Common.{sym, ◌∙◌, refl}
+use Rattle.std.specs.Prelude.{◌≡◌, ℕ, ◌≤◌, List, ◌∷◌, length, codes, None, Result, Ok, Err, Vec, IfOk}
+use Rattle.std.specs.Global.{Global}
+use Rattle.std.proofs.Common.{sym, ◌∙◌, refl, ap}
 use Rattle.std.proofs.lemmas.Grind.{common_steps}
 use Rattle.text_core.specs.Lines.{Line, lines_of}
 use Rattle.tt_core.specs.Words.{specification}
@@ -20,7 +21,9 @@ use Rattle.frame_core.specs.Told.{Reply, Field, Word, Refusal}
 use Rattle.frame_core.specs.Task.{Tells, Refuses}
 use Rattle.cmd_verdicts.specs.Verdicts.{most_of_bundle}
 use Rattle.cmd_recheck.specs.RecheckReport.{named_bundle}
-use Rattle.cmd_recheck.specs.RecheckDepthReport.{named_inside, depth_reply, depth_refusal, depth_task}
+use Rattle.depth_file.specs.Standing.{Ends}
+use Rattle.frame_core.specs.declared.status.Status.TheVariants.{Done}
+use Rattle.cmd_recheck.specs.RecheckDepthReport.{levels_text, named_inside, depth_reply, depth_refusal, depth_task}
 
 -- ---- error lines
 
@@ -83,4 +86,7 @@ stops bytes e refusal within other judged is =
     let fault = judged_fault e (lines_of bytes) other judged in
     record { fault = e; meets = record { within = within; none = λ b text. no_bundle bytes e b fault text; fault = fault }; is = is }
 
-pub ruleset telling = (common_steps, tells, stops)
+-- the text of a verdict, as a reply
+pub tells_text : {E : Type 0} (bytes : List ℕ) (v : DepthVerdict) (text : Result (Vec ℕ Global) E) → length bytes ≤ most_of_bundle → Ends (Ok v) bytes → IfOk text (λ t. t.items ≡ levels_text v) → IfOk text (λ t. Tells depth_task bytes (record { text = t.items; report = None; status = Done }))
+tells_text {E} bytes v (Ok t) within ends is = tells bytes v (record { text = t.items; report = None; status = Done }) within ends.verdict (λ b text. ends.accepted b text) (λ b text. ends.means b text) (ap (λ (xs : List ℕ). let r : Reply = record { text = xs; report = None; status = Done } in r) is)
+tells_text {E} bytes v (Err e) within ends is = tt

@@ -1,19 +1,25 @@
 -- What `recheck` keeps of the bytes that it has read, for certificates of either kind.
-use Rattle.std.specs.Prelude.{ℕ, List, ◌++◌}
+use Rattle.std.specs.Prelude.{ℕ, ◌≤◌, List, ◌++◌, length}
+use Rattle.text_core.specs.Lines.{Line}
+use Rattle.line_reader.specs.Reader.{IsReader, StandsFor}
+use Rattle.line_reader.specs.Seen.{seen}
+use Rattle.frame_core.specs.Task.{Task, Refuses}
+use Rattle.frame_core.specs.Views.{refusal_value}
+use Rattle.cmd_verdicts.specs.Verdicts.{most_of_bundle}
 use Rattle.cmd_recheck.specs.declared.job.Reading.{Reading}
 use Rattle.cmd_recheck.specs.declared.job.Reading.TheVariants.{Good, Refused}
 
--- a reader that stands for them, or the fault of a line: whatever comes after it, the whole is refused so
-abbrev pub Keeps : {R F : Type 0} → (R → List ℕ → Type 0) → (F → List ℕ → Type 0) → Reading R F → List ℕ → Type 0
-Keeps stands refuses (Good reader) bytes = stands reader bytes
-Keeps stands refuses (Refused fault) bytes = (rest : List ℕ) → refuses fault (bytes ++ rest)
+-- a reader that stands for them, or why a line is at fault: whatever comes after it, the whole is refused so
+abbrev pub Keeps : {S : Type 0} → Task → (S → ℕ → List Line → List Line → Type 0) → Reading S → List ℕ → Type 0
+Keeps task stands (Good reader) bytes = StandsFor stands (seen reader) bytes
+Keeps task stands (Refused refusal) bytes = (rest : List ℕ) → length (bytes ++ rest) ≤ most_of_bundle → Refuses task (bytes ++ rest) (refusal_value refusal)
 
 -- a reader is one
-abbrev pub IsWhole : {R F : Type 0} → (R → Type 0) → Reading R F → Type 0
-IsWhole whole (Good reader) = whole reader
-IsWhole whole (Refused fault) = Unit {0}
+abbrev pub IsWhole : {S : Type 0} → (S → ℕ → Type 0) → (S → ℕ) → Reading S → Type 0
+IsWhole whole held (Good reader) = IsReader whole held (seen reader)
+IsWhole whole held (Refused refusal) = Unit {0}
 
 -- how many bytes a reader was fed; after a fault they aren't counted
-abbrev pub count_of : {R F : Type 0} → (R → ℕ) → Reading R F → ℕ
-count_of fed (Good reader) = fed reader
-count_of fed (Refused fault) = 0
+abbrev pub count_of : {S : Type 0} → Reading S → ℕ
+count_of (Good reader) = reader.fed
+count_of (Refused refusal) = 0

@@ -13,20 +13,20 @@ use Rattle.depth_theory.specs.DepthJudging.{Answer}
 use Rattle.depth_theory.specs.DepthSpelling.{IsDepthText}
 use Rattle.command_line.specs.declared.command.Command.TheVariants.{RecheckDepth}
 use Rattle.command_line.specs.CommandLine.{AsksFor}
-use Rattle.frame_core.specs.declared.status.Status.TheVariants as statuses
+use Rattle.frame_core.specs.declared.status.Status.TheVariants.{Malformed, Refused}
 use Rattle.frame_core.specs.Told.{memory_refusal}
-use Rattle.frame_core.specs.Task.{IsRefusalStatus, IsTask}
+use Rattle.frame_core.specs.Task.{IsTask}
 use Rattle.frame_core.specs.Run.{Run}
 use Rattle.frame_core.specs.Promise.{Stands, CommandPromise}
 use Rattle.frame_core.specs.TaskLaws.{at_once_task}
 use Rattle.depth_file.specs.SpentLaws.{log_is_spent}
 use Rattle.cmd_verdicts.specs.Verdicts.{most_of_bundle, GivesLevels}
 use Rattle.cmd_recheck.specs.RecheckReport.{bundle_status}
-use Rattle.cmd_recheck.specs.RecheckDepthReport.{depth_status, named_depth, depth_reply, depth_refusal, HasDepthFault, depth_task}
+use Rattle.cmd_recheck.specs.RecheckDepthReport.{named_depth, depth_reply, depth_refusal, HasDepthFault, depth_task}
 use Rattle.cmd_recheck.specs.RecheckDepthPromise.{TellsLevels, RecheckDepthPromise}
-use Rattle.cmd_recheck.specs.RechecksLaws.{IsRechecking, rechecks}
+use Rattle.cmd_recheck.specs.RechecksLaws.{IsFault, fault_status, IsRechecking, rechecks}
 use Rattle.depth_file.specs.AnswerLaws.{one_answer}
-use Rattle.cmd_recheck.specs.RecheckLaws.{status_kind, no_limit}
+use Rattle.cmd_recheck.specs.RecheckLaws.{status_kind}
 use Rattle.cmd_recheck.specs.QuestionLaws.{depth_asks, levels_answer}
 
 one_fault : (answer : Answer) (d e : DepthError) → answer ≡ Err d → answer ≡ Err e → d ≡ e
@@ -34,43 +34,35 @@ one_fault answer d e is other = cc
 
 -- ---- `recheck --depth yes` is a command
 
-IsStatus : DepthError → Type 0
-IsStatus e = IsRefusalStatus (depth_status e) ⊎ (depth_refusal e ≡ memory_refusal)
-
 of_memory : depth_refusal (depths.Bundle bundles.Memory) ≡ memory_refusal
 unfolding named_depth
 of_memory = refl
 
-inside_status : (e : BundleError) → IsStatus (depths.Bundle e)
-unfolding IsStatus
-inside_status e =
+of_inside : (e : BundleError) → IsFault (depth_refusal (depths.Bundle e))
+of_inside e =
     ⊎_elim
-    (λ (is : IsRefusalStatus (bundle_status e)). inl is)
+    (λ (is : (bundle_status e ≡ Malformed) ⊎ (bundle_status e ≡ Refused)). inl is)
     (λ (is : e ≡ bundles.Memory). inr (ap (λ (x : BundleError). depth_refusal (depths.Bundle x)) is ∙ of_memory))
     (status_kind e)
 
-fault_status : (e : DepthError) → IsStatus e
-unfolding IsStatus named_depth
-fault_status (depths.Bundle e) = inside_status e
-fault_status depths.NotLeastForm = inl (inr (inr refl))
-fault_status (depths.Syntax line) = inl (inl refl)
-fault_status (depths.WrongDepth line) = inl (inr (inr refl))
-fault_status (depths.StepRefused line e) = inl (inr (inr refl))
-fault_status (depths.NotNew line) = inl (inr (inr refl))
-fault_status (depths.NotRefuted line) = inl (inr (inr refl))
-fault_status (depths.OpenTooShort line) = inl (inr (inr refl))
-fault_status (depths.WrongLevels line) = inl (inr (inr refl))
-fault_status depths.Memory = inr refl
-
-statuses_of : (e : DepthError) → IsRefusalStatus (depth_status e) ⊎ (depth_refusal e ≡ memory_refusal)
-unfolding IsStatus
-statuses_of e = fault_status e
+faults : (e : DepthError) → IsFault (depth_refusal e)
+unfolding named_depth
+faults (depths.Bundle e) = of_inside e
+faults depths.NotLeastForm = inl (inr refl)
+faults (depths.Syntax line) = inl (inl refl)
+faults (depths.WrongDepth line) = inl (inr refl)
+faults (depths.StepRefused line e) = inl (inr refl)
+faults (depths.NotNew line) = inl (inr refl)
+faults (depths.NotRefuted line) = inl (inr refl)
+faults (depths.OpenTooShort line) = inl (inr refl)
+faults (depths.WrongLevels line) = inl (inr refl)
+faults depths.Memory = inr refl
 
 pub depth_is_task : IsTask depth_task
 depth_is_task =
     at_once_task most_of_bundle DepthVerdict GivesLevels depth_reply DepthError HasDepthFault depth_refusal
     (λ verdict. inl refl)
-    (λ bytes fault meets. statuses_of fault)
+    (λ bytes fault meets. fault_status (depth_refusal fault) (faults fault))
     (λ bytes verdict error gives fault. fault.none gives.has.bundle gives.has.is_text)
     (λ bytes a b x y. ap depth_refusal (one_fault (Err a) a b refl (one_answer (lines_of bytes) (Err a) (Err b) x.fault y.fault)))
     (λ bytes verdict gives. gives.within)
@@ -93,25 +85,12 @@ tells_levels r input verdict gives stands =
       spent = λ low d bounded. log_is_spent input b low d is (gives.has.verdict ∙ bounded);
     }
 
--- no fault has the status of a limit
-no_depth_limit : (e : DepthError) → depth_status e ≡ statuses.Limit → ⊥
-no_depth_limit (depths.Bundle e) is = no_limit e is
-no_depth_limit depths.NotLeastForm is = cc
-no_depth_limit (depths.Syntax line) is = cc
-no_depth_limit (depths.WrongDepth line) is = cc
-no_depth_limit (depths.StepRefused line e) is = cc
-no_depth_limit (depths.NotNew line) is = cc
-no_depth_limit (depths.NotRefuted line) is = cc
-no_depth_limit (depths.OpenTooShort line) is = cc
-no_depth_limit (depths.WrongLevels line) is = cc
-no_depth_limit depths.Memory is = cc
-
 is_rechecking : IsRechecking depth_task IsDepthText (λ (b : DepthBundle). b.verdict) TellsLevels
 is_rechecking = record {
   reads = refl;
   done = λ verdict. refl;
   quiet = λ verdict. refl;
-  no_limit = no_depth_limit;
+  faults = faults;
   sound = λ input b error is fault. fault.none b is;
   only = λ input b verdict is gives. gives.only b is;
   tells = tells_levels;

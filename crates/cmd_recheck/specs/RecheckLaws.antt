@@ -12,40 +12,40 @@ use Rattle.cert_theory.specs.Judging.{bundle_of}
 use Rattle.cert_laws.specs.QuestionLaws.{bundle_asks, verdict_answers}
 use Rattle.command_line.specs.declared.command.Command.TheVariants.{Recheck}
 use Rattle.command_line.specs.CommandLine.{AsksFor}
-use Rattle.frame_core.specs.declared.status.Status.TheVariants as statuses
+use Rattle.frame_core.specs.declared.status.Status.TheVariants.{Malformed, Refused}
 use Rattle.cmd_verdicts.specs.Verdicts.{most_of_bundle, GivesVerdict}
 use Rattle.cmd_recheck.specs.RecheckReport.{bundle_status, named_bundle, recheck_reply, recheck_refusal, HasBundleFault, recheck_task}
 use Rattle.frame_core.specs.Told.{memory_refusal}
-use Rattle.frame_core.specs.Task.{IsRefusalStatus, IsTask}
+use Rattle.frame_core.specs.Task.{IsTask}
 use Rattle.frame_core.specs.Run.{Run}
 use Rattle.frame_core.specs.Promise.{Stands, CommandPromise}
 use Rattle.cmd_recheck.specs.RecheckPromise.{TellsVerdict, RecheckPromise}
-use Rattle.cmd_recheck.specs.RechecksLaws.{IsRechecking, rechecks}
+use Rattle.cmd_recheck.specs.RechecksLaws.{IsFault, fault_status, IsRechecking, rechecks}
 use Rattle.frame_core.specs.TaskLaws.{at_once_task}
 
 -- ---- `recheck` is a command
 
--- what isn't want of memory has the status of a refusal
-pub status_kind : (e : BundleError) → IsRefusalStatus (bundle_status e) ⊎ (e ≡ bundles.Memory)
+-- what isn't want of memory is malformed or refused
+pub status_kind : (e : BundleError) → ((bundle_status e ≡ Malformed) ⊎ (bundle_status e ≡ Refused)) ⊎ (e ≡ bundles.Memory)
 status_kind (bundles.Syntax line) = inl (inl refl)
-status_kind (bundles.SizeOutOfOrder line) = inl (inr (inr refl))
-status_kind (bundles.StepRefused line e) = inl (inr (inr refl))
-status_kind (bundles.NotRefuted line) = inl (inr (inr refl))
-status_kind (bundles.ChainDiffers output row) = inl (inr (inr refl))
-status_kind (bundles.OperatorNotInBasis place) = inl (inr (inr refl))
-status_kind (bundles.OpenTooShort line) = inl (inr (inr refl))
-status_kind (bundles.NotNew line) = inl (inr (inr refl))
-status_kind (bundles.WrongVerdict line) = inl (inr (inr refl))
+status_kind (bundles.SizeOutOfOrder line) = inl (inr refl)
+status_kind (bundles.StepRefused line e) = inl (inr refl)
+status_kind (bundles.NotRefuted line) = inl (inr refl)
+status_kind (bundles.ChainDiffers output row) = inl (inr refl)
+status_kind (bundles.OperatorNotInBasis place) = inl (inr refl)
+status_kind (bundles.OpenTooShort line) = inl (inr refl)
+status_kind (bundles.NotNew line) = inl (inr refl)
+status_kind (bundles.WrongVerdict line) = inl (inr refl)
 status_kind bundles.Memory = inr refl
 
 of_memory : recheck_refusal bundles.Memory ≡ memory_refusal
 unfolding named_bundle
 of_memory = refl
 
-fault_status : (e : BundleError) → IsRefusalStatus (bundle_status e) ⊎ (recheck_refusal e ≡ memory_refusal)
-fault_status e =
+faults : (e : BundleError) → IsFault (recheck_refusal e)
+faults e =
     ⊎_elim
-    (λ (is : IsRefusalStatus (bundle_status e)). inl is)
+    (λ (is : (bundle_status e ≡ Malformed) ⊎ (bundle_status e ≡ Refused)). inl is)
     (λ (is : e ≡ bundles.Memory). inr (ap recheck_refusal is ∙ of_memory))
     (status_kind e)
 
@@ -59,7 +59,7 @@ pub recheck_is_task : IsTask recheck_task
 recheck_is_task =
     at_once_task most_of_bundle Verdict GivesVerdict recheck_reply BundleError HasBundleFault recheck_refusal
     (λ verdict. inl refl)
-    (λ bytes fault meets. fault_status fault)
+    (λ bytes fault meets. fault_status (recheck_refusal fault) (faults fault))
     (λ bytes verdict error gives fault. not_both (bundle_of (lines_of bytes)) verdict error gives.read fault.fault)
     (λ bytes a b x y. ap recheck_refusal (one_error (bundle_of (lines_of bytes)) a b x.fault y.fault))
     (λ bytes verdict gives. gives.within)
@@ -79,25 +79,12 @@ tells_verdict r input verdict gives stands =
       means = λ tables basis asked. verdict_answers input verdict tables basis gives.is_verdict.has asked;
     }
 
--- no fault has the status of a limit
-pub no_limit : (e : BundleError) → bundle_status e ≡ statuses.Limit → ⊥
-no_limit (bundles.Syntax line) is = cc
-no_limit (bundles.SizeOutOfOrder line) is = cc
-no_limit (bundles.StepRefused line e) is = cc
-no_limit (bundles.NotRefuted line) is = cc
-no_limit (bundles.ChainDiffers output row) is = cc
-no_limit (bundles.OperatorNotInBasis place) is = cc
-no_limit (bundles.OpenTooShort line) is = cc
-no_limit (bundles.NotNew line) is = cc
-no_limit (bundles.WrongVerdict line) is = cc
-no_limit bundles.Memory is = cc
-
 is_rechecking : IsRechecking recheck_task IsBundle (λ (b : Bundle). b.verdict) TellsVerdict
 is_rechecking = record {
   reads = refl;
   done = λ verdict. refl;
   quiet = λ verdict. refl;
-  no_limit = no_limit;
+  faults = faults;
   sound = λ input b error is fault. fault.none b is;
   only = λ input b verdict is gives. gives.is_verdict.only b is;
   tells = tells_verdict;

@@ -1,10 +1,11 @@
 -- A run of a task keeps what `recheck` promises of certificates of a kind.
-use Rattle.std.specs.Prelude.{◌≡◌, ℕ, ◌<◌, ◌≤◌, List, length, Option, Some}
-use Rattle.std.proofs.Common.{arith, sym, subst}
+use Rattle.std.specs.Prelude.{◌≡◌, ℕ, ◌⊎◌, ◌<◌, ◌≤◌, List, length, Option, Some}
+use Rattle.std.proofs.Common.{arith, sym, ap, ◌∙◌, subst, inl, inr}
 use Rattle.command_line.specs.declared.command.Command.{Command}
 use Rattle.command_line.specs.CommandLine.{AsksFor}
-use Rattle.frame_core.specs.declared.status.Status.TheVariants.{Done, Limit}
-use Rattle.frame_core.specs.Task.{Task, HasNoReport, IsBeyond, IsAnswerable}
+use Rattle.frame_core.specs.declared.status.Status.TheVariants.{Done, Malformed, Limit, Memory, Refused}
+use Rattle.frame_core.specs.Told.{Refusal, memory_refusal}
+use Rattle.frame_core.specs.Task.{Task, IsRefusalStatus, HasNoReport, IsBeyond, IsAnswerable}
 use Rattle.frame_core.specs.Run.{Run, HasInput}
 use Rattle.frame_core.specs.Promise.{OutputHeld, Stands, Replies, Faults, CommandPromise}
 use Rattle.frame_core.specs.KeepingLaws.{of_input}
@@ -13,14 +14,29 @@ use Rattle.cmd_lines.specs.Runs.{Runs}
 use Rattle.cmd_verdicts.specs.Verdicts.{most_of_bundle}
 use Rattle.cmd_recheck.specs.Rechecks.{Rechecks}
 
--- What that takes of the task: how much it reads, and that a verdict has the status 0 and no report, a fault never the
--- status of a limit; that a certificate's text has no fault, and no verdict but its own; and that a verdict that stands is
--- told so.
+-- Bytes with a fault are malformed, or refused; or memory ran out.
+abbrev pub IsFault : Refusal → Type 0
+IsFault refusal = ((refusal.status ≡ Malformed) ⊎ (refusal.status ≡ Refused)) ⊎ (refusal ≡ memory_refusal)
+
+-- Such a refusal is one of a task,
+pub fault_status : (refusal : Refusal) → IsFault refusal → IsRefusalStatus refusal.status ⊎ (refusal ≡ memory_refusal)
+fault_status refusal (inl (inl malformed)) = inl (inl malformed)
+fault_status refusal (inl (inr refused)) = inl (inr (inr refused))
+fault_status refusal (inr memory) = inr memory
+
+-- and none of a limit.
+never_limit : (refusal : Refusal) → IsFault refusal → refusal.status ≡ Limit → ⊥
+never_limit refusal (inl (inl malformed)) is = let bad : Malformed ≡ Limit = sym malformed ∙ is in cc
+never_limit refusal (inl (inr refused)) is = let bad : Refused ≡ Limit = sym refused ∙ is in cc
+never_limit refusal (inr memory) is = let bad : Memory ≡ Limit = sym (ap (λ (r : Refusal). r.status) memory) ∙ is in cc
+
+-- What that takes of the task: how much it reads, that a verdict has the status 0 and no report, and how faults are
+-- refused; that a certificate's text has no fault, and no verdict but its own; and that a verdict that stands is told so.
 pub record IsRechecking {Certificate : Type 0} (task : Task) (Spells : List ℕ → Certificate → Type 0) (verdict : Certificate → task.Answer) (Tells : Run → List ℕ → Type 0) : Type 0 where
   pub reads : task.reads ≡ Some most_of_bundle
   pub done : (answer : task.Answer) → (task.reply answer).status ≡ Done
   pub quiet : HasNoReport task
-  pub no_limit : (fault : task.Fault) → (task.refusal fault).status ≡ Limit → ⊥
+  pub faults : (fault : task.Fault) → IsFault (task.refusal fault)
   pub sound : (input : List ℕ) (b : Certificate) (fault : task.Fault) → Spells input b → task.Meets input fault → ⊥
   pub only : (input : List ℕ) (b : Certificate) (answer : task.Answer) → Spells input b → task.Has input answer → verdict b ≡ answer
   pub tells : (r : Run) (input : List ℕ) (answer : task.Answer) → task.Has input answer → Stands r (task.reply answer) → Tells r input
@@ -55,6 +71,6 @@ rechecks {Certificate} command task Spells verdict Tells is r keeps =
       answers = λ input run done. let got : Replies task r input = replies input run done in is.tells r input got.answer got.has got.stands;
       refused = λ input fault run meets held. (keeps run.asks).refused input fault (has input run) meets held;
       refused_only = λ input run refused. of_input task r (Faults task r) input (refused_faults task r is.done (keeps run.asks) refused) (has input run);
-      limit_only = λ input run limit. beyond task.reads input is.reads (limit_beyond task r input is.no_limit (keeps run.asks) (has input run) limit);
+      limit_only = λ input run limit. beyond task.reads input is.reads (limit_beyond task r input (λ fault. never_limit (task.refusal fault) (is.faults fault)) (keeps run.asks) (has input run) limit);
       decided = λ asks undecided. never_undecided task r is.done (keeps asks) undecided;
     }

@@ -1,93 +1,108 @@
 //! The job of `recheck`, for certificates of either kind: they are read piece by piece, and told of at their end.
-ghost use Rattle.std.specs.Prelude.{◌≡◌, ℕ, ◌+◌, ◌^◌, ◌<◌, ◌≤◌, List, [], ◌++◌, Some, Err, IfOk, length};
+ghost use Rattle.std.specs.Prelude.{◌≡◌, ℕ, ◌+◌, ◌^◌, ◌<◌, ◌≤◌, List, ◌++◌, Some, None, Ok, Err, IfOk, length};
+ghost use Rattle.line_reader.specs.Reader.{IsReader, StandsFor};
+ghost use Rattle.line_reader.specs.Seen.{seen};
 ghost use Rattle.cmd_verdicts.specs.Verdicts.{most_of_bundle};
 ghost use Rattle.cmd_recheck.specs.Keeping.{Keeps, IsWhole, count_of};
-ghost use Rattle.frame_core.specs.Task.{Task};
+ghost use Rattle.frame_core.specs.declared.status.Status.TheVariants.{Done};
+ghost use Rattle.frame_core.specs.Task.{Task, Tells};
 ghost use Rattle.frame_core.specs.Views.{Judges};
 
-use frame_core::{Ended, Reply, Stop, StreamJob, finish};
+use frame_core::{Ended, Refusal, Reply, Status, Stop, StreamJob, finish};
+use line_reader::{LineStage, PieceReader};
 use port_io::Sink;
 use std::alloc::{AllocError, Global};
 
 /// The most bytes that `recheck` reads.
 const MOST_BYTES: usize = 268_435_456;
 
-/// What is kept of a certificate: its reader is an `R`, and a fault of it an `F`.
+/// What is kept of a certificate whose lines an `S` takes.
 #[derive(Drop)]
-pub enum Reading<R, F> {
+pub enum Reading<S> {
     /// What was read of it.
-    Good(R),
-    /// The fault of a line. What comes after it is read, and dropped.
-    Refused(F),
+    Good(PieceReader<S>),
+    /// Why it has no verdict: a line is at fault. What comes after it is read, and dropped.
+    Refused(Refusal),
 }
 
-/// A kind of certificates: how they are read, and what is told of them.
+/// A kind of certificates: what takes their lines, and what is told of them.
 pub trait Kind {
-    /// A certificate, as far as it was read.
-    type Reader: Drop;
-
-    /// Why a text is no certificate of the kind.
-    type Fault: Drop;
+    /// What takes their lines.
+    type Lines: LineStage;
 
     /// What `recheck` is for the kind.
     ghost task: { Self → Task };
 
-    /// What holds of a reader.
-    ghost whole: { Self.Reader → Type 0 };
-
-    /// How many bytes it was fed.
-    ghost fed: { Self.Reader → ℕ };
-
-    /// It stands for a text that it was fed.
-    ghost stands: { Self.Reader → List ℕ → Type 0 };
-
-    /// A text is refused so.
-    ghost refuses: { Self.Fault → List ℕ → Type 0 };
-
     /// How many bytes are read at most.
     ghost reads: { (kind : Self) → (task kind).reads ≡ Some most_of_bundle };
 
-    /// Nothing was read yet.
-    fn start(&self, alloc: Global) -> Self::Reader
-        ensures whole { whole result }
-        ensures stands { stands result [] }
-        ensures fed { fed result ≡ 0 };
-
-    /// Reads the next piece. A refusal is that of every text that goes on so.
-    fn read_on(
+    /// The text that goes out for what a certificate comes to.
+    fn text_of(
         &self,
-        reader: Self::Reader,
-        piece: &[u8],
-    ) -> Result<Reading<Self::Reader, Self::Fault>, AllocError>
-        requires whole { whole reader }
-        requires room { fed reader + length piece.now < 2 ^ 31 }
-        ensures whole { IfOk result (λ next. IsWhole whole next) }
-        ensures keeps { (bytes : List ℕ) → stands reader bytes →
-            IfOk result (λ next. Keeps stands refuses next (bytes ++ piece.now)) }
-        ensures count { IfOk result (λ next. count_of fed next ≤ fed reader + length piece.now) };
+        alloc: Global,
+        end: <Self::Lines as LineStage>::End,
+    ) -> Result<Vec<u8>, AllocError>
+        ensures { (bytes : List ℕ) → length bytes ≤ most_of_bundle → Self.Lines.gives (Ok end) bytes →
+            IfOk result (λ text. Tells (task self.now) bytes (record { text = text.items; report = None; status = Done })) };
 
-    /// The reply to a certificate that was read to its end.
-    fn tell(&self, alloc: Global, reader: Self::Reader) -> Result<Reply, Stop>
-        requires { whole reader }
-        ensures { (bytes : List ℕ) → stands reader bytes → length bytes ≤ most_of_bundle → Judges (task self.now) bytes result };
-
-    /// Why a text that is refused has no verdict.
-    fn stop(&self, fault: Self::Fault) -> Stop
-        ensures { (bytes : List ℕ) → length bytes ≤ most_of_bundle → refuses fault bytes → Judges (task self.now) bytes (Err result) };
+    /// Why a text with this fault has no verdict.
+    fn stop(&self, fault: <Self::Lines as LineStage>::Fault) -> Stop
+        ensures { (bytes : List ℕ) → length bytes ≤ most_of_bundle → Self.Lines.gives (Err fault) bytes →
+            Judges (task self.now) bytes (Err result) };
 }
 
-/// The reply to what was kept of a certificate.
-fn tell_kept<K: Kind>(
+/// Reads the next piece. A refusal is that of every text that goes on so.
+fn read_on<K: Kind>(
+    kind: &K,
+    reader: PieceReader<K::Lines>,
+    piece: &[u8],
+) -> Result<Reading<K::Lines>, AllocError>
+    requires whole { IsReader K.Lines.whole K.Lines.held (seen reader) }
+    requires room { reader.fed + length piece.now < 2 ^ 31 }
+    ensures whole { IfOk result (λ next. IsWhole K.Lines.whole K.Lines.held next) }
+    ensures keeps { (bytes : List ℕ) → StandsFor K.Lines.stands (seen reader) bytes →
+        IfOk result (λ next. Keeps (K.task kind.now) K.Lines.stands next (bytes ++ piece.now)) }
+    ensures count { IfOk result (λ next. count_of next ≤ reader.fed + length piece.now) }
+{
+    match reader.feed(piece) {
+        Ok(reader) => Ok(Reading::Good(reader)),
+        Err(fault) => match kind.stop(fault) {
+            Stop::NoAnswer(refusal) => Ok(Reading::Refused(refusal)),
+            Stop::NoMemory => Err(AllocError),
+        },
+    }
+}
+
+/// The reply to what a certificate comes to.
+fn reply_to<K: Kind>(
     alloc: Global,
     kind: &K,
-    kept: Reading<K::Reader, K::Fault>,
+    end: <K::Lines as LineStage>::End,
 ) -> Result<Reply, Stop>
-    requires { IsWhole K.whole kept }
-    ensures { (bytes : List ℕ) → Keeps K.stands K.refuses kept bytes → length bytes ≤ most_of_bundle → Judges (K.task kind.now) bytes result }
+    ensures { (bytes : List ℕ) → length bytes ≤ most_of_bundle → K.Lines.gives (Ok end) bytes → Judges (K.task kind.now) bytes result }
+{
+    match kind.text_of(alloc, end) {
+        Ok(text) => Ok(Reply {
+            text,
+            report: None,
+            status: Status::Done,
+        }),
+        Err(AllocError) => Err(Stop::NoMemory),
+    }
+}
+
+/// The reply to what was kept of a certificate that was read to its end.
+fn tell<K: Kind>(alloc: Global, kind: &K, kept: Reading<K::Lines>) -> Result<Reply, Stop>
+    requires { IsWhole K.Lines.whole K.Lines.held kept }
+    ensures { (bytes : List ℕ) → Keeps (K.task kind.now) K.Lines.stands kept bytes → length bytes ≤ most_of_bundle →
+        Judges (K.task kind.now) bytes result }
 {
     match kept {
-        Reading::Good(reader) => kind.tell(alloc, reader),
-        Reading::Refused(fault) => Err(kind.stop(fault)),
+        Reading::Good(reader) => match reader.finish() {
+            Ok(end) => reply_to(alloc, kind, end),
+            Err(fault) => Err(kind.stop(fault)),
+        },
+        Reading::Refused(refusal) => Err(Stop::NoAnswer(refusal)),
     }
 }
 
@@ -100,41 +115,41 @@ impl<K: Kind> StreamJob for Recheck<K> {
 
     ghost ready = { λ _. Unit {0} };
 
-    type Kept = Reading<K::Reader, K::Fault>;
+    type Kept = Reading<K::Lines>;
 
-    ghost holds = { λ _ kept bytes. Keeps K.stands K.refuses kept bytes };
+    ghost holds = { λ job kept bytes. Keeps (K.task job.0) K.Lines.stands kept bytes };
 
-    ghost whole = { λ _ kept. IsWhole K.whole kept };
+    ghost whole = { λ _ kept. IsWhole K.Lines.whole K.Lines.held kept };
 
-    ghost count = { λ _ kept. count_of K.fed kept };
+    ghost count = { λ _ kept. count_of kept };
 
     fn reads(&self) -> Option<usize> {
         Some(MOST_BYTES)
     }
 
-    fn begin(&self, alloc: Global) -> Reading<K::Reader, K::Fault> {
-        Reading::Good(self.0.start(alloc))
+    fn begin(&self, alloc: Global) -> Reading<K::Lines> {
+        Reading::Good(PieceReader::new(alloc))
     }
 
     fn take(
         &self,
         _alloc: Global,
-        kept: Reading<K::Reader, K::Fault>,
+        kept: Reading<K::Lines>,
         piece: &[u8],
-    ) -> Result<Reading<K::Reader, K::Fault>, AllocError> {
+    ) -> Result<Reading<K::Lines>, AllocError> {
         match kept {
-            Reading::Good(reader) => self.0.read_on(reader, piece),
-            Reading::Refused(fault) => Ok(Reading::Refused(fault)),
+            Reading::Good(reader) => read_on(&self.0, reader, piece),
+            Reading::Refused(refusal) => Ok(Reading::Refused(refusal)),
         }
     }
 
     fn answer<O: Sink, N: Sink>(
         &self,
         alloc: Global,
-        kept: Reading<K::Reader, K::Fault>,
+        kept: Reading<K::Lines>,
         out: &mut O,
         note: &mut N,
     ) -> Ended {
-        finish(tell_kept(alloc, &self.0, kept), out, note)
+        finish(tell(alloc, &self.0, kept), out, note)
     }
 }

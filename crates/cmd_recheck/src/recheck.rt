@@ -1,16 +1,12 @@
 //! Certificates of the fewest steps, as a kind for the job of `recheck`.
-ghost use Rattle.std.specs.Prelude.{◌≡◌, Err, IfOk, refl};
-ghost use Rattle.text_core.specs.Lines.{lines_of};
-ghost use Rattle.cert_theory.specs.Gives.{Fails};
-ghost use Rattle.cert_theory.specs.Judging.{bundle_of};
-ghost use Rattle.cert_file.specs.Reader.{seen, IsReader, StandsFor};
-ghost use Rattle.cmd_recheck.specs.RecheckReport.{verdict_text, recheck_reply, recheck_refusal, recheck_task};
-ghost use Rattle.frame_core.specs.Views.{reply_value, refusal_value};
+ghost use Rattle.std.specs.Prelude.{◌≡◌, IfOk, refl};
+ghost use Rattle.cmd_recheck.specs.RecheckReport.{verdict_text, recheck_refusal, recheck_task};
+ghost use Rattle.frame_core.specs.Views.{refusal_value};
 
 use crate::bundles::{bundle_status, name_bundle};
-use crate::job::{Kind, Reading};
-use cert_file::{BundleError, BundleReader, Verdict};
-use frame_core::{Field, Refusal, Reply, Status, Stop};
+use crate::job::Kind;
+use cert_file::{BundleError, Stage, Verdict};
+use frame_core::{Field, Refusal, Stop};
 use std::alloc::{AllocError, Global};
 use text_core::push_number;
 
@@ -27,7 +23,7 @@ fn refusal_of(error: BundleError) -> Refusal
 
 /// The text of a verdict.
 #[tactic(auto, unfolding(crate::specs::RecheckReport::verdict_text, cert_theory::specs::Spelling::verdict_line))]
-fn text_of(alloc: Global, verdict: Verdict) -> Result<Vec<u8>, AllocError>
+fn verdict_bytes(alloc: Global, verdict: Verdict) -> Result<Vec<u8>, AllocError>
     ensures { IfOk result (λ text. text.items ≡ verdict_text verdict) }
 {
     let mut text = Vec::new(alloc);
@@ -55,66 +51,21 @@ fn text_of(alloc: Global, verdict: Verdict) -> Result<Vec<u8>, AllocError>
     Ok(text)
 }
 
-/// A verdict as a reply.
-fn reply_of(alloc: Global, verdict: Verdict) -> Result<Reply, AllocError>
-    ensures { IfOk result (λ reply. reply_value reply ≡ recheck_reply verdict) }
-{
-    Ok(Reply {
-        text: text_of(alloc, verdict)?,
-        report: None,
-        status: Status::Done,
-    })
-}
-
 /// The certificates of the fewest steps.
 #[derive(Drop)]
 pub struct Steps;
 
 impl Kind for Steps {
-    type Reader = BundleReader;
-
-    type Fault = BundleError;
+    type Lines = Stage;
 
     ghost task = { λ _. recheck_task };
 
-    ghost whole = { λ reader. IsReader (seen reader) };
-
-    ghost fed = { λ reader. reader.pieces.fed };
-
-    ghost stands = { λ reader bytes. StandsFor (seen reader) bytes };
-
-    ghost refuses = { λ error bytes. Fails error (bundle_of (lines_of bytes)) };
-
     ghost reads = { λ kind. refl };
 
-    fn start(&self, alloc: Global) -> BundleReader {
-        BundleReader::new(alloc)
+    fn text_of(&self, alloc: Global, verdict: Verdict) -> Result<Vec<u8>, AllocError> {
+        verdict_bytes(alloc, verdict)
     }
 
-    fn read_on(
-        &self,
-        reader: BundleReader,
-        piece: &[u8],
-    ) -> Result<Reading<BundleReader, BundleError>, AllocError> {
-        match reader.feed(piece) {
-            Ok(reader) => Ok(Reading::Good(reader)),
-            Err(BundleError::Memory) => Err(AllocError),
-            Err(error) => Ok(Reading::Refused(error)),
-        }
-    }
-
-    #[tactic(auto, using(crate::proofs::Rechecking::telling))]
-    fn tell(&self, alloc: Global, reader: BundleReader) -> Result<Reply, Stop> {
-        match reader.finish() {
-            Ok(verdict) => match reply_of(alloc, verdict) {
-                Ok(reply) => Ok(reply),
-                Err(AllocError) => Err(Stop::NoMemory),
-            },
-            Err(error) => Err(self.stop(error)),
-        }
-    }
-
-    #[tactic(auto, using(crate::proofs::Rechecking::stopping))]
     fn stop(&self, error: BundleError) -> Stop {
         match error {
             BundleError::Memory => Stop::NoMemory,

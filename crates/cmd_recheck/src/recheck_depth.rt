@@ -1,18 +1,13 @@
 //! Certificates of the fewest levels, as a kind for the job of `recheck`.
-ghost use Rattle.std.specs.Prelude.{◌≡◌, Err, IfOk, refl};
-ghost use Rattle.text_core.specs.Lines.{lines_of};
-ghost use Rattle.depth_theory.specs.declared.data.DepthVerdict.{DepthVerdict};
-ghost use Rattle.depth_theory.specs.DepthGives.{Gives};
-ghost use Rattle.depth_theory.specs.DepthJudging.{Judged};
-ghost use Rattle.depth_file.specs.Reader.{seen, IsReader, StandsFor};
-ghost use Rattle.frame_core.specs.Views.{line_value, reply_value, refusal_value};
-ghost use Rattle.cmd_recheck.specs.RecheckDepthReport.{levels_text, depth_status as depth_status_of, named_inside, named_depth, depth_reply, depth_refusal, depth_task};
+ghost use Rattle.std.specs.Prelude.{◌≡◌, IfOk, refl};
+ghost use Rattle.frame_core.specs.Views.{line_value, refusal_value};
+ghost use Rattle.cmd_recheck.specs.RecheckDepthReport.{levels_text, depth_status as depth_status_of, named_inside, named_depth, depth_refusal, depth_task};
 
 use crate::bundles::{bundle_status, name_bundle, name_step};
-use crate::job::{Kind, Reading};
+use crate::job::Kind;
 use cert_file::BundleError;
-use depth_file::{DepthError, DepthReader, DepthVerdict};
-use frame_core::{ErrorLine, Field, Refusal, Reply, Status, Stop};
+use depth_file::{DepthError, DepthVerdict, Stage};
+use frame_core::{ErrorLine, Field, Refusal, Status, Stop};
 use std::alloc::{AllocError, Global};
 use text_core::push_number;
 
@@ -76,7 +71,7 @@ fn refusal_of(error: DepthError) -> Refusal
 
 /// The text of a verdict.
 #[tactic(auto, unfolding(crate::specs::RecheckDepthReport::levels_text, depth_theory::specs::DepthSpelling::levels_line))]
-fn text_of(alloc: Global, verdict: DepthVerdict) -> Result<Vec<u8>, AllocError>
+fn levels_bytes(alloc: Global, verdict: DepthVerdict) -> Result<Vec<u8>, AllocError>
     ensures { IfOk result (λ text. text.items ≡ levels_text verdict) }
 {
     let mut text = Vec::new(alloc);
@@ -96,66 +91,21 @@ fn text_of(alloc: Global, verdict: DepthVerdict) -> Result<Vec<u8>, AllocError>
     Ok(text)
 }
 
-/// A verdict as a reply.
-fn reply_of(alloc: Global, verdict: DepthVerdict) -> Result<Reply, AllocError>
-    ensures { IfOk result (λ reply. reply_value reply ≡ depth_reply verdict) }
-{
-    Ok(Reply {
-        text: text_of(alloc, verdict)?,
-        report: None,
-        status: Status::Done,
-    })
-}
-
 /// The certificates of the fewest levels.
 #[derive(Drop)]
 pub struct Levels;
 
 impl Kind for Levels {
-    type Reader = DepthReader;
-
-    type Fault = DepthError;
+    type Lines = Stage;
 
     ghost task = { λ _. depth_task };
 
-    ghost whole = { λ reader. IsReader (seen reader) };
-
-    ghost fed = { λ reader. reader.pieces.fed };
-
-    ghost stands = { λ reader bytes. StandsFor (seen reader) bytes };
-
-    ghost refuses = { λ error bytes. Judged (Gives (λ (v : DepthVerdict). v) (Err error)) (lines_of bytes) };
-
     ghost reads = { λ kind. refl };
 
-    fn start(&self, alloc: Global) -> DepthReader {
-        DepthReader::new(alloc)
+    fn text_of(&self, alloc: Global, verdict: DepthVerdict) -> Result<Vec<u8>, AllocError> {
+        levels_bytes(alloc, verdict)
     }
 
-    fn read_on(
-        &self,
-        reader: DepthReader,
-        piece: &[u8],
-    ) -> Result<Reading<DepthReader, DepthError>, AllocError> {
-        match reader.feed(piece) {
-            Ok(reader) => Ok(Reading::Good(reader)),
-            Err(DepthError::Memory) => Err(AllocError),
-            Err(error) => Ok(Reading::Refused(error)),
-        }
-    }
-
-    #[tactic(auto, using(crate::proofs::RecheckingDepth::telling))]
-    fn tell(&self, alloc: Global, reader: DepthReader) -> Result<Reply, Stop> {
-        match reader.finish() {
-            Ok(verdict) => match reply_of(alloc, verdict) {
-                Ok(reply) => Ok(reply),
-                Err(AllocError) => Err(Stop::NoMemory),
-            },
-            Err(error) => Err(self.stop(error)),
-        }
-    }
-
-    #[tactic(auto, using(crate::proofs::RecheckingDepth::telling))]
     fn stop(&self, error: DepthError) -> Stop {
         match error {
             DepthError::Memory => Stop::NoMemory,

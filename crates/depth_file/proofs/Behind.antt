@@ -17,10 +17,9 @@ use Rattle.cert_theory.specs.PartLines.{is_line}
 use Rattle.cert_theory.specs.Spelling.{bundle_lines, end_text, text_of, IsBundle}
 use Rattle.cert_laws.specs.BundlesAgain.{lines_again, text_again}
 use Rattle.cert_file.specs.Reader as bundles
-use Rattle.cert_file.specs.Reader.{seen}
+use Rattle.cert_file.specs.Reader.{BundlePieces, seen}
 use Rattle.cert_file.specs.Telling.{IsTold}
 use Rattle.cert_file.specs.declared.told.Told.{Told}
-use Rattle.cert_file.specs.declared.reader.BundleReader.{BundleReader}
 use Rattle.depth_theory.specs.declared.data.DepthError.TheVariants as errors
 use Rattle.depth_theory.specs.declared.data.DepthVerdict.{DepthVerdict}
 use Rattle.depth_theory.specs.DepthGives.{Fails, Gives}
@@ -74,7 +73,7 @@ answer_fails lines answer bundle_errors.Memory is fails = tt
 text_on : (read : List Line) (l : Line) → text_of (read ++ l ∷ []) ≡ text_of read ++ line_bytes l
 text_on read l = flat_map-append line_bytes read (l ∷ []) ∙ ap (λ (bs : List ℕ). text_of read ++ bs) (append-nil (line_bytes l))
 
-pub front_begins : (reader : BundleReader) (bytes : List ℕ) (answer : Answer) → bundles.StandsFor (seen reader) [] → IsAnswer (lines_of bytes) answer → IsFront reader 1 (lines_of bytes) answer
+pub front_begins : (reader : BundlePieces) (bytes : List ℕ) (answer : Answer) → bundles.StandsFor (seen reader) [] → IsAnswer (lines_of bytes) answer → IsFront reader 1 (lines_of bytes) answer
 front_begins reader bytes answer stands answered = record {
   whole = lines_of bytes;
   read = [];
@@ -86,7 +85,7 @@ front_begins reader bytes answer stands answered = record {
   answered = answered;
 }
 
-pub front_fails : (reader : BundleReader) (number : ℕ) (lines ls : List Line) (l : Line) (answer : Answer) (e : BundleError) → (is : IsFront reader number lines answer) → lines ≡ l ∷ ls → bundles.IsRefused e (text_of is.read ++ line_bytes l) → Fails (as_whole e) answer
+pub front_fails : (reader : BundlePieces) (number : ℕ) (lines ls : List Line) (l : Line) (answer : Answer) (e : BundleError) → (is : IsFront reader number lines answer) → lines ≡ l ∷ ls → bundles.IsRefused e (text_of is.read ++ line_bytes l) → Fails (as_whole e) answer
 front_fails reader number lines ls l answer e is same refused =
     let more = front_head l ls in
     let all : front_of is.whole ≡ is.read ++ l ∷ more.0 = is.front_is ∙ ap (λ (xs : List Line). is.read ++ front_of xs) same ∙ ap (λ (xs : List Line). is.read ++ xs) more.1 in
@@ -94,7 +93,7 @@ front_fails reader number lines ls l answer e is same refused =
     let read : lines_of ((text_of is.read ++ line_bytes l) ++ text_of more.0) ≡ front_of is.whole = ap lines_of (sym spelled) ∙ is.again in
     answer_fails is.whole answer e is.answered (subst (λ (xs : List Line). cert.Fails e (bundle_of xs)) read (refused (text_of more.0)))
 
-pub front_goes : (reader next : BundleReader) (number : ℕ) (lines ls : List Line) (text : List ℕ) (ended : Bool) (answer : Answer) → (is : IsFront reader number lines answer) → lines ≡ record { text = text; ended = ended } ∷ ls → is_line end_text (record { text = text; ended = ended }) ≡ false → bundles.StandsFor (seen next) (text_of is.read ++ line_bytes (record { text = text; ended = ended })) → IsFront next (number + 1) ls answer
+pub front_goes : (reader next : BundlePieces) (number : ℕ) (lines ls : List Line) (text : List ℕ) (ended : Bool) (answer : Answer) → (is : IsFront reader number lines answer) → lines ≡ record { text = text; ended = ended } ∷ ls → is_line end_text (record { text = text; ended = ended }) ≡ false → bundles.StandsFor (seen next) (text_of is.read ++ line_bytes (record { text = text; ended = ended })) → IsFront next (number + 1) ls answer
 front_goes reader next number lines ls text ended answer is same other stands =
     let l : Line = record { text = text; ended = ended } in
     let on = no_end text ended ls other in
@@ -109,7 +108,7 @@ front_goes reader next number lines ls text ended answer is same other stands =
       answered = is.answered;
     }
 
-pub front_ends : (reader next : BundleReader) (number : ℕ) (lines ls : List Line) (l : Line) (answer : Answer) → (is : IsFront reader number lines answer) → lines ≡ l ∷ ls → is_line end_text l ≡ true → bundles.StandsFor (seen next) (text_of is.read ++ line_bytes l) → IsBehind next (number + 1) ls answer
+pub front_ends : (reader next : BundlePieces) (number : ℕ) (lines ls : List Line) (l : Line) (answer : Answer) → (is : IsFront reader number lines answer) → lines ≡ l ∷ ls → is_line end_text l ≡ true → bundles.StandsFor (seen next) (text_of is.read ++ line_bytes l) → IsBehind next (number + 1) ls answer
 front_ends reader next number lines ls l answer is same last stands =
     let on = end_here l ls last in
     let all : front_of is.whole ≡ is.read ++ l ∷ [] = is.front_is ∙ ap (λ (xs : List Line). is.read ++ front_of xs) same ∙ ap (λ (xs : List Line). is.read ++ xs) on.0 in
@@ -126,7 +125,7 @@ front_ends reader next number lines ls l answer is same last stands =
     }
 
 -- no line was `end`, and none is left
-pub front_over : (reader : BundleReader) (number : ℕ) (answer : Answer) → IsFront reader number [] answer → IsBehind reader number [] answer
+pub front_over : (reader : BundlePieces) (number : ℕ) (answer : Answer) → IsFront reader number [] answer → IsBehind reader number [] answer
 front_over reader number answer is =
     let all : front_of is.whole ≡ is.read = is.front_is ∙ ap (λ (xs : List Line). is.read ++ xs) nothing_left.0 ∙ append-nil is.read in
     record {
@@ -140,12 +139,12 @@ front_over reader number answer is =
 
 -- ---- after the bundle
 
-pub behind_fails : (reader : BundleReader) (number : ℕ) (ls : List Line) (answer : Answer) (e : BundleError) → IsBehind reader number ls answer → ((text : List ℕ) → bundles.StandsFor (seen reader) text → cert.Fails e (bundle_of (lines_of text))) → Fails (as_whole e) answer
+pub behind_fails : (reader : BundlePieces) (number : ℕ) (ls : List Line) (answer : Answer) (e : BundleError) → IsBehind reader number ls answer → ((text : List ℕ) → bundles.StandsFor (seen reader) text → cert.Fails e (bundle_of (lines_of text))) → Fails (as_whole e) answer
 behind_fails reader number ls answer e is exact =
     answer_fails is.whole answer e is.answered (subst (λ (xs : List Line). cert.Fails e (bundle_of xs)) is.again (exact (text_of (front_of is.whole)) is.stands))
 
 -- what the reader reports, where it reports something
-pub record WasTold (reader : BundleReader) (t : Told) : Type 0 where
+pub record WasTold (reader : BundlePieces) (t : Told) : Type 0 where
   pub exact : (text : List ℕ) → bundles.StandsFor (seen reader) text → bundle_of (lines_of text) ≡ Ok t.verdict
   pub told : (text : List ℕ) (b : Bundle) → bundles.StandsFor (seen reader) text → IsBundle text b → IsTold b t
 
@@ -158,15 +157,15 @@ answer_behind t number whole ls answer (Behind b valid output same) behind count
     let own = told b (is_bundle b (text_of (front_of whole)) valid output (ap text_of same)) in
     λ i. behind_least (sym own.heading i) (least_of (sym own.heading i).method (sym own.verdict i) (sym own.chain i)) (sym count i) (behind i)
 
-pub behind_told : (reader : BundleReader) (t : Told) (number : ℕ) (ls : List Line) (answer : Answer) → IsBehind reader number ls answer → WasTold reader t → answer ≡ behind_least t.heading (least_in t) number ls
+pub behind_told : (reader : BundlePieces) (t : Told) (number : ℕ) (ls : List Line) (answer : Answer) → IsBehind reader number ls answer → WasTold reader t → answer ≡ behind_least t.heading (least_in t) number ls
 behind_told reader t number ls answer is told =
     let text = text_of (front_of is.whole) in
     answer_behind t number is.whole ls answer is.answered is.behind_is is.number_is (ap bundle_of (sym is.again) ∙ told.exact text is.stands) (λ b own. told.told text b is.stands own)
 
-pub not_least : (reader : BundleReader) (t : Told) (number : ℕ) (ls : List Line) (answer : Answer) → WasTold reader t → least_in t ≡ None → IsBehind reader number ls answer → answer ≡ Err errors.NotLeastForm
+pub not_least : (reader : BundlePieces) (t : Told) (number : ℕ) (ls : List Line) (answer : Answer) → WasTold reader t → least_in t ≡ None → IsBehind reader number ls answer → answer ≡ Err errors.NotLeastForm
 not_least reader t number ls answer told none is = behind_told reader t number ls answer is told ∙ ap (λ (o : Option Chain). behind_least t.heading o number ls) none
 
-pub is_least : (reader : BundleReader) (t : Told) (c : Chain) (number : ℕ) (ls : List Line) (answer : Answer) → WasTold reader t → least_in t ≡ Some c → IsBehind reader number ls answer → answer ≡ behind_chain t.heading (length c.steps) (depth c) number ls
+pub is_least : (reader : BundlePieces) (t : Told) (c : Chain) (number : ℕ) (ls : List Line) (answer : Answer) → WasTold reader t → least_in t ≡ Some c → IsBehind reader number ls answer → answer ≡ behind_chain t.heading (length c.steps) (depth c) number ls
 is_least reader t c number ls answer told some is = behind_told reader t number ls answer is told ∙ ap (λ (o : Option Chain). behind_least t.heading o number ls) some
 
 pub least_none_by : (m : Method) (v : Verdict) (chain : Option Chain) → ((size : ℕ) → v ≡ verdicts.Minimum size → ⊥) → least_of m v chain ≡ None
@@ -198,7 +197,7 @@ least_some m v chain size c by_fences minimum is = ap (λ (x : Method). least_of
 
 -- ---- exits
 
-pub other_stage : (stage : Stage) → ((reader : BundleReader) → stage ≡ stages.Front reader → ⊥) → IsBehindFront stage
+pub other_stage : (stage : Stage) → ((reader : BundlePieces) → stage ≡ stages.Front reader → ⊥) → IsBehindFront stage
 other_stage (stages.Front reader) other = other reader refl
 other_stage (stages.Depth h size levels) other = tt
 other_stage (stages.Due f) other = tt

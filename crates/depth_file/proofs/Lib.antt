@@ -3,4 +3,3 @@ pub mod FenceLists
 pub mod Going
 pub mod Behind
 pub mod Standing
-pub mod Judges

@@ -11,7 +11,6 @@ use Rattle.depth_theory.specs.DepthJudging.{Answer}
 use Rattle.depth_file.specs.Fronts.{IsAnswer}
 use Rattle.depth_file.specs.Stages.{Judged}
 use Rattle.depth_file.specs.Standing.{StandsIn, Refuses}
-use Rattle.depth_file.specs.Reader.{IsRefused}
 use Rattle.depth_file.specs.declared.stage.Stage.{Stage}
 use Rattle.depth_file.proofs.Behind.{judged_by}
 
@@ -20,7 +19,7 @@ pub taken_each : (r : Result Stage DepthError) (number : ℕ) (ls all : List Lin
 taken_each (Ok s) number ls all given = given
 taken_each (Err e) number ls all given = judged_by (Err e) all given
 
-pub gives_refused : (r : Answer) (e : DepthError) (text : List ℕ) → IsErrAnd r (λ d. d ≡ e) → IsRefused e text → judging.Judged (Gives (λ (v : DepthVerdict). v) r) (lines_of text)
+pub gives_refused : (r : Answer) (e : DepthError) (text : List ℕ) → IsErrAnd r (λ d. d ≡ e) → pieces.IsRefused Refuses e text → judging.Judged (Gives (λ (v : DepthVerdict). v) r) (lines_of text)
 gives_refused (Ok v) e text is refused = absurd is
 gives_refused (Err d) e text is refused =
     subst (λ (x : DepthError). judging.Judged (Gives (λ (v : DepthVerdict). v) (Err x)) (lines_of text)) (sym is)

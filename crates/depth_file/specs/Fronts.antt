@@ -6,8 +6,7 @@ use Rattle.cert_theory.specs.declared.data.BundleError.TheVariants as bundle_err
 use Rattle.cert_theory.specs.Bundle.{Bundle, IsValid, HasOutput}
 use Rattle.cert_theory.specs.Judging.{bundle_of}
 use Rattle.cert_theory.specs.Spelling.{bundle_lines, text_of}
-use Rattle.cert_file.specs.Reader.{seen, StandsFor}
-use Rattle.cert_file.specs.declared.reader.BundleReader.{BundleReader}
+use Rattle.cert_file.specs.Reader.{BundlePieces, seen, StandsFor}
 use Rattle.depth_theory.specs.declared.data.DepthError.{DepthError}
 use Rattle.depth_theory.specs.declared.data.DepthError.TheVariants.{Bundle as InBundle, Memory}
 use Rattle.depth_theory.specs.DepthJudging.{Answer, behind_bundle, front_of, behind_of}
@@ -24,7 +23,7 @@ pub data IsAnswer (lines : List Line) : Answer → Type 0 where
   Behind : (b : Bundle) → IsValid b → HasOutput b → front_of lines ≡ bundle_lines b → IsAnswer lines (behind_bundle b (length (front_of lines) + 1) (behind_of lines))
 
 -- Among the lines of a bundle: the reader of bundles stands for those that were read, none of which is `end`.
-pub record IsFront (reader : BundleReader) (number : ℕ) (lines : List Line) (answer : Answer) : Type 0 where
+pub record IsFront (reader : BundlePieces) (number : ℕ) (lines : List Line) (answer : Answer) : Type 0 where
   pub whole : List Line
   pub read : List Line
   pub front_is : front_of whole ≡ read ++ front_of lines
@@ -35,7 +34,7 @@ pub record IsFront (reader : BundleReader) (number : ℕ) (lines : List Line) (a
   pub answered : IsAnswer whole answer
 
 -- After the first line `end`: the reader of bundles stands for all lines up to it.
-pub record IsBehind (reader : BundleReader) (number : ℕ) (lines : List Line) (answer : Answer) : Type 0 where
+pub record IsBehind (reader : BundlePieces) (number : ℕ) (lines : List Line) (answer : Answer) : Type 0 where
   pub whole : List Line
   pub behind_is : behind_of whole ≡ lines
   pub again : lines_of (text_of (front_of whole)) ≡ front_of whole

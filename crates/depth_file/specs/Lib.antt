@@ -1,7 +1,7 @@
 pub mod AnswerLaws
+pub mod EndLaws
 pub mod Fronts
 pub mod JudgedLaws
-pub mod Reader
 pub mod Spent
 pub mod SpentLaws
 pub mod Stages

@@ -42,7 +42,7 @@ IsStage (stages.Done verdict) = Unit {0}
 
 -- how many bytes the reader of bundles was fed, where one is kept
 abbrev pub fed_of : Stage → ℕ
-fed_of (stages.Front reader) = reader.pieces.fed
+fed_of (stages.Front reader) = reader.fed
 fed_of stage = 0
 
 -- it isn't among the lines of a bundle

@@ -1,11 +1,17 @@
--- What a stage says of the lines to come and of all lines of the text: each answer that all of them may have.
-use Rattle.std.specs.Prelude.{ℕ, List, Err}
-use Rattle.text_core.specs.Lines.{Line}
+-- What a stage says of the lines to come and of all lines of the text: each answer that all of them may have; and what a
+-- text comes to.
+use Rattle.std.specs.Prelude.{ℕ, List, length, Ok, Err, IfOk}
+use Rattle.text_core.specs.Lines.{Line, lines_of}
+use Rattle.op_basis.specs.Basis.{members}
+use Rattle.tt_core.specs.Words.{specification}
 use Rattle.depth_theory.specs.declared.data.DepthVerdict.{DepthVerdict}
 use Rattle.depth_theory.specs.declared.data.DepthError.{DepthError}
+use Rattle.depth_theory.specs.DepthBundle.{DepthBundle}
 use Rattle.depth_theory.specs.DepthGives.{Gives}
 use Rattle.depth_theory.specs.DepthJudging as judging
 use Rattle.depth_theory.specs.DepthJudging.{Answer}
+use Rattle.depth_theory.specs.DepthMeaning.{Means}
+use Rattle.depth_theory.specs.DepthSpelling.{IsDepthText, HasDepth}
 use Rattle.depth_file.specs.Fronts.{IsAnswer}
 use Rattle.depth_file.specs.Stages.{Stands}
 use Rattle.depth_file.specs.declared.stage.Stage.{Stage}
@@ -14,10 +20,16 @@ use Rattle.depth_file.specs.declared.stage.Stage.{Stage}
 abbrev pub StandsIn : Stage → ℕ → List Line → List Line → Type 0
 StandsIn stage number lines all = (answer : Answer) → IsAnswer all answer → Stands stage number lines answer
 
--- what lines come to
-abbrev pub Ends : Answer → List Line → Type 0
-Ends answer all = judging.Judged (Gives (λ (v : DepthVerdict). v) answer) all
-
 -- lines are refused so
 abbrev pub Refuses : DepthError → List Line → Type 0
-Refuses e all = Ends (Err e) all
+Refuses e all = judging.Judged (Gives (λ (v : DepthVerdict). v) (Err e)) all
+
+-- What a text comes to.
+pub record Ends (result : Answer) (text : List ℕ) : Type 0 where
+  -- It is refused exactly where the definition has a fault, with the first from the top.
+  pub exact : judging.Judged (Gives (λ (v : DepthVerdict). v) result) (lines_of text)
+  -- What has a verdict is the text of a depth bundle that has it, and each such text has one.
+  pub verdict : IfOk result (λ v. HasDepth text v)
+  pub accepted : (b : DepthBundle) → IsDepthText text b → Gives (λ (v : DepthVerdict). v) result (Ok b.verdict)
+  -- The verdict is true of the tables and the basis that the text states.
+  pub means : IfOk result (λ v. (b : DepthBundle) (is : IsDepthText text b) → Means (specification b.bundle.heading.spec) (members b.bundle.heading.basis) (length is.is_depth.chain.steps) v)

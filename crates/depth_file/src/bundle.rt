@@ -10,7 +10,7 @@ ghost use Rattle.depth_file.specs.Fronts.{as_whole, IsFront, IsBehind};
 ghost use Rattle.depth_file.specs.Stages.{IsStage, IsBehindFront, Judged, fed_of};
 
 use crate::stage::Stage;
-use cert_file::{BundleError, BundleReader, TextLine, Told, Verdict, is_line};
+use cert_file::{BundleError, BundleReader, TextLine, Told, Verdict, is_line, tell};
 use chain_core::depth_of;
 use depth_theory::DepthError;
 use settings::Method;
@@ -39,7 +39,7 @@ pub(crate) fn behind_bundle(alloc: Global, reader: BundleReader) -> Result<Stage
         heading,
         chain,
         verdict,
-    } = match reader.tell() {
+    } = match tell(reader) {
         Ok(told) => told,
         Err(error) => return Err(fault_of(error)),
     };
@@ -69,9 +69,9 @@ pub(crate) fn at_front(
     line: &TextLine,
 ) -> Result<Stage, DepthError>
     requires whole { IsReader (seen reader) }
-    requires room { reader.pieces.fed + length (line_bytes (line_of line.now)) < 2 ^ 31 }
+    requires room { reader.fed + length (line_bytes (line_of line.now)) < 2 ^ 31 }
     ensures keeps { IfOk result IsStage }
-    ensures fed { IfOk result (λ s. fed_of s ≤ reader.pieces.fed + length (line_bytes (line_of line.now))) }
+    ensures fed { IfOk result (λ s. fed_of s ≤ reader.fed + length (line_bytes (line_of line.now))) }
     ensures answer { (lines ls : List Line) (answer : Answer) → HasNoEnd line.now.text.now → IsFront reader line.now.number lines answer →
         lines ≡ line_of line.now ∷ ls → Judged result (line.now.number + 1) ls answer }
 {

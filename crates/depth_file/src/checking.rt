@@ -23,7 +23,7 @@ fn judge(alloc: Global, bytes: &[u8]) -> Result<DepthVerdict, DepthError>
 }
 
 /// Judges a text as a depth bundle: its verdict where it is the text of one, else its first fault.
-#[tactic(auto, using(crate::proofs::Judges::judges))]
+#[tactic(auto, using(crate::specs::EndLaws::judges))]
 pub fn check_depth(alloc: Global, bytes: &[u8]) -> Result<DepthVerdict, DepthError>
     requires { length bytes.now < 2 ^ 31 }
     // What has a verdict is the text of a depth bundle that has it, and each such text has one.

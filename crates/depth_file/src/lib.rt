@@ -25,3 +25,4 @@ mod stage;
 pub use checking::check_depth;
 pub use depth_theory::{DepthError, DepthVerdict};
 pub use reader::DepthReader;
+pub use stage::Stage;

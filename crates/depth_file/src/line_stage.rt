@@ -1,4 +1,6 @@
 //! Depth bundles as texts that are read line by line.
+ghost use Rattle.std.specs.Prelude.{Err};
+ghost use Rattle.depth_file.specs.EndLaws.{ended};
 ghost use Rattle.depth_file.specs.Stages.{IsStage, fed_of};
 ghost use Rattle.depth_file.specs.Standing.{StandsIn, Refuses, Ends};
 
@@ -22,9 +24,7 @@ impl LineStage for Stage {
 
     ghost refuses = { λ e all. Refuses e all };
 
-    ghost gives = { λ answer all. Ends answer all };
-
-    ghost good = { λ verdict. Unit {0} };
+    ghost gives = { λ result text. Ends result text };
 
     fn start(alloc: Global) -> Stage {
         Stage::Front {
@@ -44,5 +44,5 @@ impl LineStage for Stage {
         DepthError::Memory
     }
 
-    ghost refusal = { λ e all refused. refused };
+    ghost refusal = { λ e text refused. ended text (Err e) refused };
 }

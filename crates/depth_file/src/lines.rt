@@ -1,21 +1,14 @@
 //! Single lines after a bundle.
 ghost use Rattle.std.specs.Prelude.{◌≡◌};
-ghost use Rattle.text_core.specs.Items.{items_of};
-ghost use Rattle.cert_theory.specs.Judging as bundles;
 ghost use Rattle.cert_theory.specs.PartLines as parts;
 ghost use Rattle.line_reader.specs.TextLines.{line_of};
-ghost use Rattle.depth_theory.specs.declared.data.DepthVerdict.TheVariants as verdicts;
 ghost use Rattle.depth_theory.specs.DepthGives.{Gives};
 ghost use Rattle.depth_theory.specs.DepthJudging as judging;
 
-use cert_file::{TextLine, begins, is_line, is_title, number_behind, value_of};
+use cert_file::{Numbered, TextLine, is_line, is_title, number_behind, numbered_in};
 use cert_theory::{PartError, title_of};
 use depth_theory::{DepthError, DepthVerdict};
 use std::alloc::Global;
-use text_core::{next_item, number_up_to};
-
-/// The greatest number of nine digits.
-const GREATEST: u32 = 999_999_999;
 
 /// A fault of a part, at a line.
 pub(crate) fn fault_at(number: u32, fault: PartError) -> DepthError
@@ -32,31 +25,17 @@ pub(crate) fn fault_at(number: u32, fault: PartError) -> DepthError
     }
 }
 
-/// The two numbers of a bounded verdict.
-fn bounded_in(text: &[u8]) -> Option<DepthVerdict>
-    ensures { result ≡ bundles.bounded_in (λ low d. verdicts.Bounded low d) (items_of text.now) }
-{
-    let (low, Some(rest)) = next_item(text) else {
-        return None;
-    };
-    let (levels, None) = next_item(rest) else {
-        return None;
-    };
-    let low = number_up_to(GREATEST, low)?;
-    let levels = number_up_to(GREATEST, levels)?;
-    Some(DepthVerdict::Bounded { low, levels })
-}
-
 /// The verdict of a line.
-#[tactic(auto, unfolding(depth_theory::specs::DepthJudging::levels_in))]
 fn levels_in(line: &TextLine) -> Option<DepthVerdict>
     ensures { result ≡ judging.levels_in (line_of line.now) }
 {
-    if begins(b"levels ", line) {
-        let levels = number_behind(b"levels ", line)?;
-        return Some(DepthVerdict::Levels(levels));
+    let Some(numbers) = numbered_in(b"levels ", b"levels-bounded ", line) else {
+        return None;
+    };
+    match numbers {
+        Numbered::One(levels) => Some(DepthVerdict::Levels(levels)),
+        Numbered::Two { low, most } => Some(DepthVerdict::Bounded { low, levels: most }),
     }
-    bounded_in(value_of(b"levels-bounded ", line)?)
 }
 
 /// Whether two verdicts are the same.

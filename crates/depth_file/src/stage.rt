@@ -7,7 +7,7 @@ use enc_theory::Part;
 
 /// The fences that are flatter than the chain, and one of them.
 #[derive(Drop)]
-pub(crate) struct Flat {
+pub struct Flat {
     pub(crate) heading: Heading,
     /// How many steps the chain has, and on how many levels.
     pub(crate) size: u32,
@@ -21,7 +21,7 @@ pub(crate) struct Flat {
 
 /// What is due next of a depth bundle whose lines were good so far.
 #[derive(Drop)]
-pub(crate) enum Stage {
+pub enum Stage {
     /// A line of the bundle, which ends with the first line `end`.
     Front {
         reader: BundleReader,

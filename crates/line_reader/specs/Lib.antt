@@ -1,4 +1,5 @@
 pub mod TextLines
+pub mod Closing
 pub mod Cuts
 pub mod CuttingLaws
 pub mod Reader

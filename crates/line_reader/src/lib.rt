@@ -22,5 +22,5 @@ mod reader;
 mod stage;
 
 pub use line::TextLine;
-pub use reader::PieceReader;
+pub use reader::{Closed, PieceReader};
 pub use stage::LineStage;

@@ -4,6 +4,7 @@ ghost use Rattle.text_core.specs.Lines.{Line, lines_of, last_line, line_bytes};
 ghost use Rattle.line_reader.specs.Cuts.{HasNoEnd, IsPlace, with_end};
 ghost use Rattle.line_reader.specs.Reader.{Judged, IsReader, StandsFor, HasRead};
 ghost use Rattle.line_reader.specs.Seen.{seen};
+ghost use Rattle.line_reader.specs.Closing.{HasClosed};
 
 use crate::line::TextLine;
 use crate::stage::LineStage;
@@ -24,6 +25,15 @@ pub struct PieceReader<S> {
     pub fed: usize,
 }
 
+/// What the lines of a text have come to, none of which is left.
+#[derive(Drop)]
+pub struct Closed<S> {
+    /// What they have come to.
+    pub stage: S,
+    /// Which line of the text the next one would be, from 1 on.
+    pub number: u32,
+}
+
 /// Takes a whole line, which an LF ends.
 fn take_text<S: LineStage>(alloc: Global, stage: S, number: u32, text: &[u8]) -> Result<S, S::Fault>
     requires whole { S.whole stage number }
@@ -42,26 +52,28 @@ fn take_text<S: LineStage>(alloc: Global, stage: S, number: u32, text: &[u8]) ->
     stage.take(alloc, &line)
 }
 
-/// Takes what no LF ends, where something stands there, and the end after it.
-fn close<S: LineStage>(stage: S, number: u32, unfinished: &Vec<u8>) -> Result<S::End, S::Fault>
+/// Takes what no LF ends, where something stands there.
+fn close<S: LineStage>(stage: S, number: u32, unfinished: &Vec<u8>) -> Result<Closed<S>, S::Fault>
     requires whole { S.whole stage number }
     requires number { number + length unfinished.now.items ≤ 2 ^ 31 }
     requires room { S.held stage + length unfinished.now.items < 2 ^ 31 }
-    ensures gives { (all : List Line) → HasNoEnd unfinished.now.items → IsPlace number (last_line unfinished.now.items) all →
-        S.stands stage number (last_line unfinished.now.items) all → S.gives result all }
-    ensures good { IfOk result S.good }
+    ensures whole { IfOk result (λ closed. S.whole closed.stage closed.number) }
+    ensures stands { (all : List Line) → HasNoEnd unfinished.now.items → IsPlace number (last_line unfinished.now.items) all →
+        S.stands stage number (last_line unfinished.now.items) all → HasClosed S.stands S.refuses result all }
 {
-    let alloc = *unfinished.allocator();
     if unfinished.is_empty() {
-        return stage.end(alloc, number);
+        return Ok(Closed { stage, number });
     }
     let line = TextLine {
         text: unfinished,
         ended: false,
         number,
     };
-    match stage.take(alloc, &line) {
-        Ok(stage) => stage.end(alloc, number + 1),
+    match stage.take(*unfinished.allocator(), &line) {
+        Ok(stage) => Ok(Closed {
+            stage,
+            number: number + 1,
+        }),
         Err(fault) => Err(fault),
     }
 }
@@ -172,11 +184,11 @@ impl<S: LineStage> PieceReader<S> {
         })
     }
 
-    /// What the text comes to, which ends here.
-    pub fn finish(self) -> Result<S::End, S::Fault>
+    /// What the lines of the text have come to, which ends here.
+    pub fn closed(self) -> Result<Closed<S>, S::Fault>
         requires { IsReader S.whole S.held (seen self) }
-        ensures gives { (text : List ℕ) → StandsFor S.stands (seen self) text → S.gives result (lines_of text) }
-        ensures good { IfOk result S.good }
+        ensures whole { IfOk result (λ closed. S.whole closed.stage closed.number) }
+        ensures stands { (text : List ℕ) → StandsFor S.stands (seen self) text → HasClosed S.stands S.refuses result (lines_of text) }
     {
         let PieceReader {
             stage,
@@ -185,5 +197,17 @@ impl<S: LineStage> PieceReader<S> {
             ..
         } = self;
         close(stage, number, &unfinished)
+    }
+
+    /// What the text comes to, which ends here.
+    pub fn finish(self) -> Result<S::End, S::Fault>
+        requires { IsReader S.whole S.held (seen self) }
+        ensures { (text : List ℕ) → StandsFor S.stands (seen self) text → S.gives result text }
+    {
+        let alloc = *self.unfinished.allocator();
+        match self.closed() {
+            Ok(closed) => closed.stage.end(alloc, closed.number),
+            Err(fault) => Err(fault),
+        }
     }
 }

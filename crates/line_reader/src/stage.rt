@@ -28,11 +28,8 @@ pub trait LineStage: Drop + Sized {
     /// A text of these lines is refused so.
     ghost refuses: { Self.Fault → List Line → Type 0 };
 
-    /// A text of these lines comes to this.
-    ghost gives: { Result Self.End Self.Fault → List Line → Type 0 };
-
-    /// What holds of an end, whatever the text.
-    ghost good: { Self.End → Type 0 };
+    /// A text comes to this.
+    ghost gives: { Result Self.End Self.Fault → List ℕ → Type 0 };
 
     /// No line was taken yet.
     fn start(alloc: Global) -> Self
@@ -51,16 +48,15 @@ pub trait LineStage: Drop + Sized {
             stands self line.now.number lines all → lines ≡ line_of line.now ∷ ls →
             Judged stands refuses result (line.now.number + 1) ls all };
 
-    /// What the lines come to, where none is left.
+    /// What a text comes to, of whose lines none is left.
     fn end(self, alloc: Global, number: u32) -> Result<Self::End, Self::Fault>
         requires { whole self number }
-        ensures gives { (all : List Line) → IsPlace number [] all → stands self number [] all → gives result all }
-        ensures good { IfOk result good };
+        ensures { (text : List ℕ) → IsPlace number [] (lines_of text) → stands self number [] (lines_of text) → gives result text };
 
     /// The fault that memory ran out, which may come anywhere.
     fn no_memory() -> Self::Fault
         ensures { (all : List Line) → refuses result all };
 
     /// A text that is refused comes to its fault.
-    ghost refusal: { (e : Self.Fault) (all : List Line) → refuses e all → gives (Err e) all };
+    ghost refusal: { (e : Self.Fault) (text : List ℕ) → refuses e (lines_of text) → gives (Err e) text };
 }

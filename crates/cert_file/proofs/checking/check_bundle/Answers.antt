@@ -12,7 +12,7 @@ use Rattle.cert_theory.specs.Spelling.{IsBundle}
 use Rattle.cert_theory.specs.Judging.{bundle_of}
 use Rattle.cert_theory.specs.Gives.{Gives}
 use Rattle.cert_laws.specs.BundleSpellings.{verdict_spelled}
-use Rattle.cert_file.proofs.Verdicts.{spelled, accepted}
+use Rattle.cert_file.specs.EndLaws.{spelled, accepted}
 use Rattle.cert_theory.specs.Question.{HasQuestion}
 use Rattle.cert_laws.specs.BundlesAgain.{text_again}
 use Rattle.cert_laws.specs.QuestionLaws.{bundle_asks, verdict_answers}

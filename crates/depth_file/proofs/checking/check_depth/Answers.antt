@@ -1,5 +1,5 @@
 -- The laws of the definition, at the verdict that was judged.
-use Rattle.depth_file.proofs.Judges.{verdict_told, text_accepted, verdict_holds}
+use Rattle.depth_file.specs.EndLaws.{verdict_told, text_accepted, verdict_holds}
 use Rattle.depth_file.proofs.checking.check_depth.Goals as goal
 
 pub returns-clause-verdict : goal.returns-clause-verdict

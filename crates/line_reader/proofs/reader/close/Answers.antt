@@ -6,19 +6,18 @@ use Rattle.line_reader.specs.Cuts.{HasNoEnd, IsPlace}
 use Rattle.line_reader.specs.CuttingLaws.{last_none, last_by, place_on}
 use Rattle.line_reader.proofs.reader.close.Goals as goal
 
-pub returns-then-is_empty-clause-gives : goal.returns-then-is_empty-clause-gives
-returns-then-is_empty-clause-gives g c = λ all free place stands.
+pub returns-then-is_empty-clause-stands : goal.returns-then-is_empty-clause-stands
+returns-then-is_empty-clause-stands g c = λ all free place stands.
     let none = last_none c.args.unfinished.now.items (search (rules, common_steps)) in
-    c.end.ensures.gives all (subst (λ (ls : List Line). IsPlace c.args.number ls all) none place) (subst (λ (ls : List Line). g.S.LineStage.stands c.args.stage c.args.number ls all) none stands)
+    (subst (λ (ls : List Line). IsPlace c.args.number ls all) none place, subst (λ (ls : List Line). g.S.LineStage.stands c.args.stage c.args.number ls all) none stands)
 
-pub returns-in-Err-clause-gives : goal.returns-in-Err-clause-gives
-returns-in-Err-clause-gives g c = λ all free place stands.
-    g.met.S.LineStage.refusal c.in-Err.fault all
-    (c.in-Err.ensures.stands (last_line c.args.unfinished.now.items) [] all (subst HasNoEnd (sym c.deref.ensures.value) free) place stands (last_by c.args.unfinished.now.items c.deref.result.now c.deref.ensures.value (search (rules, common_steps))))
+pub returns-in-Err-clause-stands : goal.returns-in-Err-clause-stands
+returns-in-Err-clause-stands g c = λ all free place stands.
+    c.in-Err.ensures.stands (last_line c.args.unfinished.now.items) [] all (subst HasNoEnd (sym c.deref.ensures.value) free) place stands (last_by c.args.unfinished.now.items c.deref.result.now c.deref.ensures.value (search (rules, common_steps)))
 
-pub returns-in-Ok-clause-gives : goal.returns-in-Ok-clause-gives
-returns-in-Ok-clause-gives g c = λ all free place stands.
-    let last = last_by c.args.unfinished.now.items c.deref.result.now c.deref.ensures.value (search (rules, common_steps)) in
-    c.end-in-Ok.ensures.gives all
-    (place_on c.args.number [] (record { text = c.deref.result.now; ended = false }) all (subst (λ (ls : List Line). IsPlace c.args.number ls all) last place))
-    (c.in-Ok.ensures.stands (last_line c.args.unfinished.now.items) [] all (subst HasNoEnd (sym c.deref.ensures.value) free) place stands last)
+pub returns-in-Ok-clause-stands : goal.returns-in-Ok-clause-stands
+returns-in-Ok-clause-stands g c = λ all free place stands.
+    let last = last_by c.args.unfinished.now.items c.deref.result.now c.deref.ensures.value (search (rules, common_steps)) in (
+      place_on c.args.number [] (record { text = c.deref.result.now; ended = false }) all (subst (λ (ls : List Line). IsPlace c.args.number ls all) last place),
+      c.in-Ok.ensures.stands (last_line c.args.unfinished.now.items) [] all (subst HasNoEnd (sym c.deref.ensures.value) free) place stands last,
+    )

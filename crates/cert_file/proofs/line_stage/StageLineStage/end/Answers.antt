@@ -1,6 +1,8 @@
--- The answer of all lines, and what was read of them.
+-- The answer of all lines, and what follows of the text.
+use Rattle.text_core.specs.Lines.{lines_of}
 use Rattle.cert_theory.specs.Judging.{bundle_of}
+use Rattle.cert_file.specs.EndLaws.{ended}
 use Rattle.cert_file.proofs.line_stage.StageLineStage.end.Goals as goal
 
-pub returns-clause-gives : goal.returns-clause-gives
-returns-clause-gives c = λ all place stands. (c.told_of.ensures.answer (bundle_of all) stands.0, c.told_of.ensures.tells all place stands.1)
+pub returns : goal.returns
+returns c = λ text place stands. ended text c.verdict_of.result (c.verdict_of.ensures (bundle_of (lines_of text)) stands.0)

@@ -4,4 +4,4 @@ use Rattle.cmd_recheck.proofs.RecheckingDepth.{stops}
 use Rattle.cmd_recheck.proofs.recheck_depth.LevelsKind.stop.Goals as goal
 
 pub returns-in_default : goal.returns-in_default
-returns-in_default c = λ bytes within judged. stops bytes c.args.error (refusal_value c.refusal_of.result) within c.in_default.not-Memory judged c.refusal_of.ensures
+returns-in_default c = λ bytes within ends. stops bytes c.args.error (refusal_value c.refusal_of.result) within c.in_default.not-Memory ends.exact c.refusal_of.ensures

@@ -1,9 +1,10 @@
--- The end of the text.
-use Rattle.text_core.specs.Lines.{lines_of}
-use Rattle.line_reader.specs.Seen.{seen}
-use Rattle.line_reader.proofs.Cutting.{stands_end, place_end}
+-- What the lines have come to, or their fault.
 use Rattle.line_reader.proofs.reader.PieceReader.finish.Goals as goal
 
-pub returns-clause-gives : goal.returns-clause-gives
-returns-clause-gives g c = λ text stands.
-    c.close.ensures.gives (lines_of text) stands.cut.is_unfinished (place_end g.S.LineStage.stands (seen c.args.self) text stands) (stands_end g.S.LineStage.stands (seen c.args.self) text stands)
+pub returns-in-Ok : goal.returns-in-Ok
+returns-in-Ok g c = λ text stands.
+    let closed = c.in-Ok.ensures.stands text stands in
+    c.end.ensures text closed.0 closed.1
+
+pub returns-in-Err : goal.returns-in-Err
+returns-in-Err g c = λ text stands. g.met.S.LineStage.refusal c.in-Err.fault text (c.in-Err.ensures.stands text stands)

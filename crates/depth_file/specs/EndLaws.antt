@@ -1,4 +1,4 @@
--- What the judge of a whole text answers is what the definition says.
+-- What is judged as the definition says, has the verdicts of depth bundles.
 use Rattle.std.proofs.Common.{◌≡◌, List, ℕ, length, Ok, Err, refl, sym, subst}
 use Rattle.std.specs.Prelude.{IfOk}
 use Rattle.std.proofs.lemmas.Grind.{common_steps}
@@ -15,6 +15,7 @@ use Rattle.depth_theory.specs.DepthMeanings.{depth_means}
 use Rattle.depth_theory.specs.DepthSpelling.{IsDepthText, HasDepth}
 use Rattle.depth_theory.specs.DepthSpellings.{judged_spelled}
 use Rattle.depth_theory.specs.DepthAgain.{judged_again}
+use Rattle.depth_file.specs.Standing.{Ends}
 
 turned : (a : Answer) (lines : List Line) → Judged (λ (x : Answer). x ≡ a) lines → IsJudged lines a
 turned a lines judged = record { refused = λ e is. sym (judged.refused e is); behind = λ b valid output same. sym (judged.behind b valid output same) }
@@ -48,5 +49,13 @@ verdict_holds bytes (Ok v) judged = λ b is.
     (verdict_of_text b.verdict v (Ok b.verdict) refl (refused_never bytes b (Ok v) is judged))
     (depth_means b is.is_depth)
 verdict_holds bytes (Err e) judged = tt
+
+pub ended : (bytes : List ℕ) (r : Answer) → Judged (Gives (λ (v : DepthVerdict). v) r) (lines_of bytes) → Ends r bytes
+ended bytes r judged = record {
+  exact = judged;
+  verdict = verdict_told bytes r judged;
+  accepted = λ b is. text_accepted bytes b r is judged;
+  means = verdict_holds bytes r judged;
+}
 
 pub ruleset judges = (common_steps)

@@ -1,0 +1,10 @@
+-- The verdict of what is handed out, or the same fault.
+use Rattle.cert_file.proofs.Exits.{verdict_err}
+use Rattle.cert_file.proofs.onward.verdict_of.Goals as goal
+
+pub returns-in_err-told : goal.returns-in_err-told
+returns-in_err-told c = λ answer stands.
+    verdict_err c.from_residual.result c.in_err-told.field-0.0 answer c.from_residual.ensures.1 (c.in_err-told.ensures.answer answer stands)
+
+pub returns : goal.returns
+returns c = λ answer stands. c.in_ok-told.ensures.answer answer stands

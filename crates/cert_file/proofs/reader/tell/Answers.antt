@@ -1,0 +1,19 @@
+-- What the stage at the end of the text hands out, or the fault of the last line.
+use Rattle.text_core.specs.Lines.{lines_of}
+use Rattle.cert_theory.specs.Judging.{bundle_of}
+use Rattle.cert_file.proofs.Verdicts.{told_given, operators_given}
+use Rattle.cert_file.proofs.reader.tell.Goals as goal
+
+pub returns-in-Ok-clause-exact : goal.returns-in-Ok-clause-exact
+returns-in-Ok-clause-exact c = λ text stands. c.told_of.ensures.answer (bundle_of (lines_of text)) (c.in-Ok.ensures.stands text stands).1.0
+
+pub returns-in-Ok-clause-told : goal.returns-in-Ok-clause-told
+returns-in-Ok-clause-told c = λ text b stands is.
+    let closed = c.in-Ok.ensures.stands text stands in
+    told_given text b c.told_of.result is (c.told_of.ensures.answer (bundle_of (lines_of text)) closed.1.0) (c.told_of.ensures.tells (lines_of text) closed.0 closed.1.1)
+
+pub returns-in-Ok-clause-operators : goal.returns-in-Ok-clause-operators
+returns-in-Ok-clause-operators c = operators_given c.told_of.result c.told_of.ensures.known
+
+pub returns-in-Err-clause-exact : goal.returns-in-Err-clause-exact
+returns-in-Err-clause-exact c = λ text stands. c.in-Err.ensures.stands text stands

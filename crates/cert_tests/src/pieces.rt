@@ -1,0 +1,53 @@
+//! Texts in pieces: wherever they are cut, the answer is that of the whole.
+ghost use Rattle.std.specs.Prelude.{◌+◌, ◌^◌, ◌<◌, ◌≤◌, length};
+ghost use Rattle.line_reader.specs.Reader.{IsReader};
+ghost use Rattle.line_reader.specs.Seen.{seen};
+
+use line_reader::{LineStage, PieceReader};
+use std::alloc::Global;
+
+/// The most bytes of a text that is cut everywhere.
+pub(crate) const MOST_BYTES: usize = 10_000;
+
+/// Feeds two pieces.
+fn in_two<S: LineStage>(alloc: Global, front: &[u8], behind: &[u8]) -> Result<S::End, S::Fault>
+    requires { length front.now + length behind.now < 2 ^ 31 }
+{
+    let reader: PieceReader<S> = PieceReader::new(alloc);
+    reader.feed(front)?.feed(behind)?.finish()
+}
+
+/// Feeds each byte by itself.
+fn by_bytes<S: LineStage>(reader: PieceReader<S>, text: &[u8]) -> Result<S::End, S::Fault>
+    requires whole { IsReader S.whole S.held (seen reader) }
+    requires room { reader.fed + length text.now < 2 ^ 31 }
+{
+    let mut reader = reader;
+    let mut left = text;
+    while !left.is_empty() {
+        let (byte, rest) = left.split_at(1);
+        reader = reader.feed(byte)?;
+        left = rest;
+    }
+    reader.finish()
+}
+
+/// Whether a text has this answer wherever it is cut in two, and byte by byte.
+pub(crate) fn comes_in_pieces<S: LineStage>(
+    alloc: Global,
+    text: &[u8],
+    answer: &Result<S::End, S::Fault>,
+) -> bool
+where
+    S::End: PartialEq,
+    S::Fault: PartialEq,
+    requires { length text.now ≤ 10000 }
+{
+    for at in 0..=text.len() {
+        let (front, behind) = text.split_at(at);
+        if in_two::<S>(alloc, front, behind) != *answer {
+            return false;
+        }
+    }
+    by_bytes::<S>(PieceReader::new(alloc), text) == *answer
+}

@@ -1,0 +1,9 @@
+-- A reader gives what the bytes come to, and a fault that was kept is theirs.
+use Rattle.std.proofs.Common.{List, subst}
+use Rattle.cmd_recheck.specs.declared.job.Reading.{Reading}
+use Rattle.cmd_recheck.specs.Keeping.{Keeps}
+use Rattle.cmd_recheck.proofs.Keeping.{refused_at_last}
+use Rattle.cmd_recheck.proofs.job.tell.Goals as goal
+
+pub returns-in-Refused : goal.returns-in-Refused
+returns-in-Refused g c = λ bytes keeps within. refused_at_last (g.K.Kind.task c.args.kind.now) g.K.Lines.LineStage.stands c.args.kept c.in-Refused.refusal bytes c.in-Refused.is keeps within
