@@ -1,5 +1,5 @@
 -- The log when clauses are deleted.
-use Rattle.std.proofs.Common.{◌⊎◌, ◌≡◌, ◌≢◌, ℕ, zero, suc, ◌+◌, ◌-◌, ◌*◌, ◌<◌, ◌≤◌, ◌==◌, ◌||◌, ℤ, Bool, true, false, if◌then◌else◌, List, [], ◌∷◌, ◌++◌, length, slice_index_or, slice_get, Contains, All, Any, Option, Some, None, IsSome, is_some, count_by, subst, sym, ap, ◌∙◌, arith, inl, inr, refl}
+use Rattle.std.proofs.Common.{◌⊎◌, ◌≡◌, ◌≢◌, ℕ, ◌+◌, ◌-◌, ◌*◌, ◌<◌, ◌≤◌, ◌==◌, ◌||◌, ℤ, Bool, true, false, if◌then◌else◌, List, [], ◌∷◌, ◌++◌, length, slice_index_or, Contains, All, Any, Option, Some, None, IsSome, is_some, count_by, subst, sym, ap, ◌∙◌, arith, inl, inr, refl}
 use Rattle.std.proofs.Math.Logic.{⊎_elim}
 use Rattle.std.proofs.lemmas.Bool.{cases_lt, ne_eqb, eq-eqb}
 use Rattle.std.proofs.lemmas.List.{length-set, length_push, get_or_append_left, get_or_push}
@@ -15,7 +15,7 @@ use Rattle.sat_theory.specs.LogLaws.{after-push, EachLine-push, EachLine-front, 
 use Rattle.clause_db.specs.Stored.{Stored, live_in, IsStored}
 use Rattle.clause_db.specs.StoredLaws.{live_inside}
 use Rattle.clause_db.specs.Deleting.{IsDeleted}
-use Rattle.clause_db.specs.DeletingLaws.{live_deleted, still_live, kept_live}
+use Rattle.clause_db.specs.DeletingLaws.{still_live, kept_live}
 use Rattle.cdcl_core.specs.Searching.{IsStateOf, IsLog, AreNew}
 use Rattle.cdcl_core.specs.Forgetting.{with_gone}
 use Rattle.cdcl_core.proofs.Formulas.{by_id_inside}

@@ -1,11 +1,11 @@
 -- What the endings of a search show of the formula.
-use Rattle.std.proofs.Common.{◌≡◌, ℕ, zero, suc, ◌+◌, ◌-◌, ◌*◌, ◌<◌, ◌≤◌, ◌==◌, ℤ, Bool, true, false, List, [], ◌∷◌, length, slice_index_or, Contains, All, Any, Some, slice_get, subst, sym, ap, ◌∙◌, arith, inl, refl}
+use Rattle.std.proofs.Common.{◌≡◌, ℕ, suc, ◌+◌, ◌-◌, ◌*◌, ◌<◌, ◌≤◌, ℤ, Bool, true, List, [], ◌∷◌, length, slice_index_or, Contains, All, Any, subst, sym, ap, ◌∙◌, arith, inl, refl}
 use Rattle.std.proofs.Math.Logic.{⊎_elim}
-use Rattle.std.proofs.lemmas.Bool.{cases_lt, ne_eqb}
+use Rattle.std.proofs.lemmas.Bool.{cases_lt}
 use Rattle.std.proofs.lemmas.List.Elements.{All-contains, All-cons, All-nil}
 use Rattle.sat_theory.specs.Formula.{variable, opposite, Formula, IsFormula, IsClause, IsWithin, bits_of, literal_value, IsTrueClause, Satisfies}
 use Rattle.sat_theory.specs.Line.{Line, Add, Delete}
-use Rattle.sat_theory.specs.State.{State, by_id, start}
+use Rattle.sat_theory.specs.State.{State, start}
 use Rattle.sat_theory.specs.Log.{EachLine, IsStep, AddsEmpty, additions, Refutes, IsSpent, IsThinned, SparesFormula, after, added_ids, live_additions}
 use Rattle.sat_theory.specs.FewAdditions.{AddsSome}
 use Rattle.cdcl_theory.specs.Falling.{AllSettled, IsSettled}

@@ -1,16 +1,15 @@
 -- Clauses of the formula that go where others subsume them, and what is added for them.
-use Rattle.std.proofs.Common.{◌≡◌, ◌≢◌, ◌⊎◌, ℕ, zero, suc, ◌+◌, ◌-◌, ◌<◌, ◌≤◌, ◌==◌, ℤ, Bool, false, List, [], ◌∷◌, ◌++◌, length, slice_index_or, slice_get, max, Contains, All, Option, Some, None, IsSome, subst, sym, ap, ◌∙◌, arith, inl, inr, refl}
+use Rattle.std.proofs.Common.{◌≡◌, ◌⊎◌, ℕ, zero, suc, ◌+◌, ◌-◌, ◌<◌, ◌≤◌, ◌==◌, ℤ, Bool, false, List, [], length, Contains, All, Option, Some, None, subst, sym, ap, ◌∙◌, arith, inl, inr, refl}
 use Rattle.std.specs.Prelude.{Result, Ok, Err, IfOk}
 use Rattle.std.proofs.Math.Logic.{⊎_elim}
-use Rattle.std.proofs.lemmas.Bool.{cases_eq, ne_eqb}
-use Rattle.std.proofs.lemmas.List.{length-set, length_push}
+use Rattle.std.proofs.lemmas.Bool.{cases_eq}
+use Rattle.std.proofs.lemmas.List.{length-set}
 use Rattle.std.proofs.lemmas.List.Elements.{All-weaker, All-contains}
-use Rattle.sat_theory.specs.Formula.{Formula, IsClause, IsWithin}
-use Rattle.sat_theory.specs.Line.{Line, Add}
+use Rattle.sat_theory.specs.Formula.{Formula}
+use Rattle.sat_theory.specs.Line.{Line}
 use Rattle.sat_theory.specs.State.{State, by_id, start}
-use Rattle.sat_theory.specs.Holding.{among, HintsHold}
-use Rattle.sat_theory.specs.Log.{after, IsNew}
-use Rattle.clause_db.specs.Stored.{Stored, live_at, live_in, IsStored, added}
+use Rattle.sat_theory.specs.Log.{after}
+use Rattle.clause_db.specs.Stored.{Stored, live_in, added}
 use Rattle.clause_db.specs.StoredLaws.{live_in-add, live_inside, added_old, live_added}
 use Rattle.clause_db.specs.Deleting.{IsDeleted}
 use Rattle.clause_db.specs.DeletingLaws.{some_live, still_live, kept_live}
@@ -20,7 +19,7 @@ use Rattle.cdcl_core.specs.declared.search.Search.{Search}
 use Rattle.cdcl_core.specs.Searching.{IsStateOf, IsLog, IsIrredundant, IsCovered, AreCovered, IsLogged, IsVisited, HasBegun}
 use Rattle.cdcl_core.specs.Strengthening.{IsBare, IsStrengthening, IsAlike, CanStand, HasSetAside, HasAdded, HasStrengthened}
 use Rattle.cdcl_core.proofs.Formulas.{by_id_there}
-use Rattle.cdcl_core.proofs.Logging.{log_added, new_added, log_same, covered_same}
+use Rattle.cdcl_core.proofs.Logging.{covered_same}
 
 pub positive : (n : ℕ) → (n == 0) ≡ false → 0 < n
 positive zero is = absurd (cc)

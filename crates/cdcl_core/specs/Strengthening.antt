@@ -1,5 +1,5 @@
 -- What holds while clauses of the formula give way to shorter ones, and what is unchanged by it.
-use Rattle.std.specs.Prelude.{◌≡◌, ◌≢◌, ◌⊎◌, ℕ, ◌≤◌, ℤ, Bool, List, [], length, max, Contains, All, Some, IsSome}
+use Rattle.std.specs.Prelude.{◌≡◌, ◌≢◌, ℕ, ◌≤◌, ℤ, Bool, List, [], length, max, Contains, All, Some, IsSome}
 use Rattle.clause_db.specs.Stored.{live_in}
 use Rattle.subsume_core.specs.Units.{IsUnitsOf}
 use Rattle.cdcl_core.specs.declared.search.Search.{Search}

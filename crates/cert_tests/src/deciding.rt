@@ -17,7 +17,6 @@ use tt_core::read_tables;
 struct Silent;
 
 impl Solver for Silent {
-    ghost use Rattle.std.specs.Prelude.{ℕ};
 
     ghost IsSolverOf = { λ f least s. Unit {0} };
 

@@ -1,4 +1,4 @@
-use Rattle.std.proofs.Common.{◌≡◌, ◌-◌, ◌+◌, ℕ, length, arith}
+use Rattle.std.proofs.Common.{◌≡◌, ◌-◌, ◌+◌, length, arith}
 use Rattle.cdcl_core.proofs.Choices.{back_more}
 use Rattle.cdcl_core.proofs.choosing.Choice.back_to.Goals as goal
 

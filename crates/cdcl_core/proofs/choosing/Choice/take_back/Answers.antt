@@ -1,4 +1,4 @@
-use Rattle.std.proofs.Common.{◌≡◌, ◌<◌, ◌≤◌, ◌-◌, ◌∙◌, ℕ, ℤ, length, slice_index_or, sym, subst, ap, refl, arith, rules}
+use Rattle.std.proofs.Common.{◌≡◌, ◌<◌, ◌≤◌, ◌-◌, ◌∙◌, ℕ, ℤ, length, slice_index_or, sym, subst, ap, arith}
 use Rattle.std.proofs.lemmas.List.{length-set}
 use Rattle.sat_theory.specs.Formula.{variable}
 use Rattle.var_heap.specs.Held.{IsHeld}

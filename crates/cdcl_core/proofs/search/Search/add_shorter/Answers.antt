@@ -1,4 +1,4 @@
-use Rattle.std.proofs.Common.{◌≡◌, ◌+◌, ◌<◌, ℕ, arith, refl}
+use Rattle.std.proofs.Common.{◌<◌, arith, refl}
 use Rattle.cdcl_core.proofs.Logging.{log_added, new_added}
 use Rattle.cdcl_core.proofs.Standing.{covered_more}
 use Rattle.cdcl_core.proofs.search.Search.add_shorter.Goals as goal

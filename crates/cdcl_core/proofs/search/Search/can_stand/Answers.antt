@@ -1,4 +1,4 @@
-use Rattle.std.proofs.Common.{◌≡◌, ◌<◌, ◌≤◌, ℤ, List, Contains, All, Option, Some, IsSome, subst, arith, refl}
+use Rattle.std.proofs.Common.{ℤ, List, Contains, All, subst, arith}
 use Rattle.clause_db.specs.Stored.{live_in}
 use Rattle.cdcl_core.proofs.Standing.{same_clause}
 use Rattle.cdcl_core.proofs.search.Search.can_stand.Goals as goal

@@ -1,7 +1,7 @@
-use Rattle.std.proofs.Common.{◌≡◌, ◌+◌, ◌<◌, ℕ, ℤ, List, length, subst, sym, ap, ◌∙◌, arith}
+use Rattle.std.proofs.Common.{◌≡◌, ◌<◌, ℤ, List, length, subst, sym, ap, ◌∙◌, arith}
 use Rattle.sat_theory.specs.Formula.{IsWithin}
 use Rattle.sat_theory.specs.Log.{IsNew}
-use Rattle.clause_db.specs.Stored.{Stored, live_in, added}
+use Rattle.clause_db.specs.Stored.{live_in, added}
 use Rattle.subsume_core.specs.Units.{IsUnitsOf}
 use Rattle.subsume_core.specs.UnitLaws.{within_contained}
 use Rattle.std.specs.Vec.{vec_len}

@@ -1,5 +1,4 @@
-use Rattle.std.proofs.Common.{◌≡◌, ◌∙◌, ℕ, [], Some, subst, sym, ap}
-use Rattle.sat_theory.specs.Formula.{Formula}
+use Rattle.std.proofs.Common.{◌≡◌, ◌∙◌, [], Some, subst, sym}
 use Rattle.clause_db.specs.Stored.{Stored, live_in}
 use Rattle.cdcl_core.specs.declared.search.Search.{Search}
 use Rattle.cdcl_core.specs.Searching.{IsLogged}

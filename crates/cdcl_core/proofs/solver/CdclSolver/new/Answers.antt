@@ -1,6 +1,4 @@
-use Rattle.std.proofs.Common.{◌≡◌, ◌∙◌, true, false, IsTrue}
-use Rattle.sat_theory.specs.Formula.{Formula}
-use Rattle.cdcl_core.specs.Searching.{IsLogged}
+use Rattle.std.proofs.Common.{◌≡◌, ◌∙◌, true, false}
 use Rattle.cdcl_core.proofs.Standing.{logged_begun}
 use Rattle.cdcl_core.proofs.solver.CdclSolver.new.Goals as goal
 
