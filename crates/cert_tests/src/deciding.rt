@@ -17,7 +17,6 @@ use tt_core::read_tables;
 struct Silent;
 
 impl Solver for Silent {
-
     ghost IsSolverOf = { λ f least s. Unit {0} };
 
     ghost vars_of = { λ s. 0 };
