@@ -1,6 +1,6 @@
 -- What is kept of a certificate, with more bytes and at its end.
 use Rattle.std.specs.Prelude.{◌≡◌, ℕ, ◌≤◌, List, [], ◌++◌, length, Option, Some}
-use Rattle.std.proofs.Common.{sym, subst, append-nil, append_assoc}
+use Rattle.std.proofs.Common.{subst, append-nil}
 use Rattle.text_core.specs.Lines.{Line}
 use Rattle.frame_core.specs.declared.replies.Refusal.{Refusal}
 use Rattle.frame_core.specs.Task.{Task, Refuses, IsWithin}
@@ -18,13 +18,9 @@ IsRefusedSo task refusal bytes = length bytes ≤ most_of_bundle → Refuses tas
 still : {S : Type 0} (task : Task) (stands : S → ℕ → List Line → List Line → Type 0) (kept : Reading S) (refusal : Refusal) (bytes : List ℕ) → kept ≡ Refused refusal → Keeps task stands kept bytes → (rest : List ℕ) → IsRefusedSo task refusal (bytes ++ rest)
 still {S} task stands kept refusal bytes same keeps = subst (λ (k : Reading S). Keeps task stands k bytes) same keeps
 
--- it is that of the bytes,
+-- it is that of the bytes.
 pub refused_at_last : {S : Type 0} (task : Task) (stands : S → ℕ → List Line → List Line → Type 0) (kept : Reading S) (refusal : Refusal) (bytes : List ℕ) → kept ≡ Refused refusal → Keeps task stands kept bytes → IsRefusedSo task refusal bytes
 refused_at_last {S} task stands kept refusal bytes same keeps = subst (IsRefusedSo task refusal) (append-nil bytes) (still task stands kept refusal bytes same keeps [])
-
--- and is kept with a piece more.
-pub refused_on : {S : Type 0} (task : Task) (stands : S → ℕ → List Line → List Line → Type 0) (kept : Reading S) (refusal : Refusal) (bytes piece : List ℕ) → kept ≡ Refused refusal → Keeps task stands kept bytes → (rest : List ℕ) → IsRefusedSo task refusal ((bytes ++ piece) ++ rest)
-refused_on {S} task stands kept refusal bytes piece same keeps = λ rest. subst (IsRefusedSo task refusal) (sym (append_assoc bytes piece rest)) (still task stands kept refusal bytes same keeps (piece ++ rest))
 
 pub is_within : (reads : Option ℕ) (bytes : List ℕ) → reads ≡ Some most_of_bundle → IsWithin reads bytes → length bytes ≤ most_of_bundle
 is_within reads bytes is within = subst (λ (r : Option ℕ). IsWithin r bytes) is within

@@ -1,7 +1,4 @@
 -- A reader gives what the bytes come to, and a fault that was kept is theirs.
-use Rattle.std.proofs.Common.{List, subst}
-use Rattle.cmd_recheck.specs.declared.job.Reading.{Reading}
-use Rattle.cmd_recheck.specs.Keeping.{Keeps}
 use Rattle.cmd_recheck.proofs.Keeping.{refused_at_last}
 use Rattle.cmd_recheck.proofs.job.tell.Goals as goal
 
