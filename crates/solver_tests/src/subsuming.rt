@@ -8,7 +8,7 @@ use clause_db::ClauseDb;
 use cnf_core::Lit;
 use lrat_tests::building::formula;
 use std::alloc::{AllocError, Global};
-use subsume_core::{Finder, Found, Units, contains_all, holds, is_new, keep_others};
+use subsume_core::{Finder, Found, Marks, Units, contains_all, holds, is_new, keep_others};
 
 /// The clauses that all tests here begin with.
 const CLAUSES: &[&[u8]] = &[b"1 1 2 0 0", b"2 -1 2 3 0 0", b"3 1 2 3 0 0", b"4 -2 0 0"];
@@ -162,7 +162,7 @@ fn over(clauses: &ClauseDb, number: i32) -> Option<Lit>
 const PAIRS: &[(i32, i32, bool)] = &[(1, 3, true), (1, 2, false), (2, 1, false), (1, -2, false)];
 
 /// Whether a pair is new.
-fn is_new_pair(clauses: &ClauseDb, units: &Units, one: i32, other: i32) -> bool
+fn is_new_pair(clauses: &ClauseDb, units: &Units, marks: &mut Marks, one: i32, other: i32) -> bool
     requires units { IsUnitsOf clauses.now units.now }
     requires some { (id : ℕ) → live_in clauses.now id ≡ Some [] → ⊥ }
 {
@@ -172,16 +172,16 @@ fn is_new_pair(clauses: &ClauseDb, units: &Units, one: i32, other: i32) -> bool
     let Some(other) = over(clauses, other) else {
         return false;
     };
-    is_new(clauses, units, &[one, other])
+    is_new(clauses, units, marks, &[one, other])
 }
 
 /// Whether those are told that are.
-fn all_new(clauses: &ClauseDb, units: &Units) -> bool
+fn all_new(clauses: &ClauseDb, units: &Units, marks: &mut Marks) -> bool
     requires units { IsUnitsOf clauses.now units.now }
     requires some { (id : ℕ) → live_in clauses.now id ≡ Some [] → ⊥ }
 {
     for &(one, other, yes) in PAIRS {
-        if is_new_pair(clauses, units, one, other) != yes {
+        if is_new_pair(clauses, units, marks, one, other) != yes {
             return false;
         }
     }
@@ -189,18 +189,23 @@ fn all_new(clauses: &ClauseDb, units: &Units) -> bool
 }
 
 /// Whether a unit clause is new, and isn't any more once it is added.
-fn comes(clauses: &mut ClauseDb, units: &mut Units, lit: Lit) -> Result<bool, AllocError>
+fn comes(
+    clauses: &mut ClauseDb,
+    units: &mut Units,
+    marks: &mut Marks,
+    lit: Lit,
+) -> Result<bool, AllocError>
     requires units { IsUnitsOf clauses.old units.old }
     requires some { (id : ℕ) → live_in clauses.old id ≡ Some [] → ⊥ }
     requires over { variable_of lit ≤ clauses.old.vars }
 {
-    let new = is_new(clauses, units, &[lit]);
+    let new = is_new(clauses, units, marks, &[lit]);
     if clauses.last() > 9 {
         return Ok(false);
     }
     clauses.add(&[lit])?;
     units.note(&[lit]);
-    Ok(new && !is_new(clauses, units, &[lit]))
+    Ok(new && !is_new(clauses, units, marks, &[lit]))
 }
 
 /// Whether lists are told to be new, and those that are added not any more.
@@ -211,11 +216,12 @@ fn are_new(alloc: Global) -> Result<bool, AllocError> {
     }
     let mut clauses = ClauseDb::new(alloc, &cnf)?;
     let mut units = Units::new(alloc, &clauses)?;
+    let mut marks = Marks::new(alloc, 3)?;
     let Some(lit) = over(&clauses, 3) else {
         return Ok(false);
     };
-    let well = all_new(&clauses, &units);
-    Ok(well && comes(&mut clauses, &mut units, lit)?)
+    let well = all_new(&clauses, &units, &mut marks);
+    Ok(well && comes(&mut clauses, &mut units, &mut marks, lit)?)
 }
 
 #[test]
