@@ -1,19 +1,20 @@
 -- What a contract sees of the ports.
 use Rattle.std.specs.Prelude.{ℕ}
-use Rattle.port_io.specs.declared.ports.Port.{Port}
+use Rattle.port_io.specs.declared.ports.InputPort.{InputPort}
+use Rattle.port_io.specs.declared.ports.OutputPort.{OutputPort}
 
 -- the reader behind a port
-abbrev pub reader_of : {R : Type 0} → Port R → R
-reader_of p = p.inner
+abbrev pub reader_of : {R : Type 0} → InputPort R → R
+reader_of p = p.reader
 
 -- how many reads of a port have failed
-abbrev pub input_faults : {R : Type 0} → Port R → ℕ
+abbrev pub input_faults : {R : Type 0} → InputPort R → ℕ
 input_faults p = p.faults
 
 -- the writer behind a port
-abbrev pub writer_of : {W : Type 0} → Port W → W
-writer_of p = p.inner
+abbrev pub writer_of : {W : Type 0} → OutputPort W → W
+writer_of p = p.writer
 
 -- how many writes of a port have failed
-abbrev pub output_faults : {W : Type 0} → Port W → ℕ
+abbrev pub output_faults : {W : Type 0} → OutputPort W → ℕ
 output_faults p = p.faults

@@ -23,6 +23,6 @@ mod writing;
 
 pub use memory::{MemorySink, MemorySource, SteadySource};
 pub use outside::{Failed, Sink, Source};
-pub use ports::{InputPort, OutputPort, Port};
+pub use ports::{InputPort, OutputPort};
 pub use reading::{PIECE, ReadError, read_all, read_piece};
 pub use writing::{WriteFault, write_all};

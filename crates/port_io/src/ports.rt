@@ -9,41 +9,31 @@ ghost use Rattle.port_io.specs.Ports.{reader_of, input_faults, writer_of, output
 use crate::outside::{Failed, Sink, Source};
 use std::io::{Read, Write};
 
-/// A reader or a writer, with the count of the calls that have failed.
+/// A reader as a source.
 #[derive(Drop)]
-pub struct Port<T> {
-    inner: T,
+pub struct InputPort<R> {
+    reader: R,
     faults: u64,
 }
 
-/// A reader as a source.
-pub type InputPort<R> = Port<R>;
-
-/// A writer as a sink.
-pub type OutputPort<W> = Port<W>;
-
-impl<T> Port<T> {
-    /// The reader or writer, with no fault yet.
-    pub fn new(inner: T) -> Self
-        ensures reader { reader_of result ≡ inner }
-        ensures writer { writer_of result ≡ inner }
-        ensures no_reads { input_faults result ≡ 0 }
-        ensures no_writes { output_faults result ≡ 0 }
+impl<R: Read> InputPort<R> {
+    /// The reader, with no fault yet.
+    pub fn new(reader: R) -> Self
+        ensures reader { reader_of result ≡ reader }
+        ensures faults { input_faults result ≡ 0 }
     {
-        Port { inner, faults: 0 }
+        InputPort { reader, faults: 0 }
     }
 
-    /// How many reads have failed, or how many writes have failed or have taken nothing of a piece. The
-    /// count saturates at the last value of a u64.
+    /// How many reads have failed. The count saturates at the last value of a u64.
     pub fn faults(&self) -> u64
-        ensures reads { result ≡ input_faults self.now }
-        ensures writes { result ≡ output_faults self.now }
+        ensures { result ≡ input_faults self.now }
     {
         self.faults
     }
 }
 
-impl<R: Read> Source for Port<R> {
+impl<R: Read> Source for InputPort<R> {
     ghost left = { λ _. None };
 
     ghost faults = { input_faults };
@@ -61,7 +51,7 @@ impl<R: Read> Source for Port<R> {
         ensures only_if_rose { OnErr result (Rose (input_faults self.old) (input_faults self.new)) }
         ensures never_falls { input_faults self.old ≤ input_faults self.new }
     {
-        match self.inner.read(buf) {
+        match self.reader.read(buf) {
             Ok(count) => Ok(count),
             Err(_) => {
                 self.faults = self.faults.saturating_add(1);
@@ -71,7 +61,32 @@ impl<R: Read> Source for Port<R> {
     }
 }
 
-impl<W: Write> Sink for Port<W> {
+/// A writer as a sink.
+#[derive(Drop)]
+pub struct OutputPort<W> {
+    writer: W,
+    faults: u64,
+}
+
+impl<W: Write> OutputPort<W> {
+    /// The writer, with no fault yet.
+    pub fn new(writer: W) -> Self
+        ensures writer { writer_of result ≡ writer }
+        ensures faults { output_faults result ≡ 0 }
+    {
+        OutputPort { writer, faults: 0 }
+    }
+
+    /// How many writes have failed, or have taken nothing of a piece. The count saturates at the
+    /// last value of a u64.
+    pub fn faults(&self) -> u64
+        ensures { result ≡ output_faults self.now }
+    {
+        self.faults
+    }
+}
+
+impl<W: Write> Sink for OutputPort<W> {
     ghost written = { λ _. None };
 
     ghost faults = { output_faults };
@@ -90,7 +105,7 @@ impl<W: Write> Sink for Port<W> {
         ensures only_if_rose { OnErr result (Rose (output_faults self.old) (output_faults self.new)) }
         ensures never_falls { output_faults self.old ≤ output_faults self.new }
     {
-        match self.inner.write(piece) {
+        match self.writer.write(piece) {
             Ok(count) if count > 0 || piece.is_empty() => Ok(count),
             _ => {
                 self.faults = self.faults.saturating_add(1);
