@@ -37,14 +37,14 @@ pub fn is_line(word: &[u8], line: &TextLine) -> bool
 }
 
 /// Whether a line begins with a word.
-pub fn begins(word: &[u8], line: &TextLine) -> bool
+pub(crate) fn begins(word: &[u8], line: &TextLine) -> bool
     ensures { result ≡ judging.begins word.now (line_of line.now) }
 {
     after(word, line.text).is_some()
 }
 
 /// What stands after a word, up to the LF.
-pub fn value_of<'a>(word: &[u8], line: &TextLine<'a>) -> Option<&'a [u8]>
+pub(crate) fn value_of<'a>(word: &[u8], line: &TextLine<'a>) -> Option<&'a [u8]>
     ensures { option_copied result ≡ judging.value_of word.now (line_of line.now) }
 {
     if !line.ended {
@@ -67,9 +67,9 @@ pub enum Numbered {
     One(u32),
     /// Two numbers.
     Two {
-        /// The lower one.
+        /// The least may be this one,
         low: u32,
-        /// The other one.
+        /// and is at most this one.
         most: u32,
     },
 }

@@ -20,7 +20,8 @@ pub struct Running {
     pub(crate) at: usize,
 }
 
-/// What is due next of a bundle whose lines were good so far, and what is kept of them.
+/// What is due next of a bundle whose lines were good so far, and what is kept of them. Its variants are for this
+/// crate and the one that reads depth bundles alone.
 #[derive(Drop)]
 pub enum Stage {
     /// The first line.

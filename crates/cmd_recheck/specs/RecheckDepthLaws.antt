@@ -24,7 +24,7 @@ use Rattle.cmd_verdicts.specs.Verdicts.{most_of_bundle, GivesLevels}
 use Rattle.cmd_recheck.specs.RecheckReport.{bundle_status}
 use Rattle.cmd_recheck.specs.RecheckDepthReport.{named_depth, depth_reply, depth_refusal, HasDepthFault, depth_task}
 use Rattle.cmd_recheck.specs.RecheckDepthPromise.{TellsLevels, RecheckDepthPromise}
-use Rattle.cmd_recheck.specs.RechecksLaws.{IsFault, fault_status, IsRechecking, rechecks}
+use Rattle.cmd_recheck.specs.RechecksLaws.{IsFaultRefusal, fault_status, IsRechecking, rechecks}
 use Rattle.depth_file.specs.AnswerLaws.{one_answer}
 use Rattle.cmd_recheck.specs.RecheckLaws.{status_kind}
 use Rattle.cmd_recheck.specs.QuestionLaws.{depth_asks, levels_answer}
@@ -38,14 +38,14 @@ of_memory : depth_refusal (depths.Bundle bundles.Memory) ≡ memory_refusal
 unfolding named_depth
 of_memory = refl
 
-of_inside : (e : BundleError) → IsFault (depth_refusal (depths.Bundle e))
+of_inside : (e : BundleError) → IsFaultRefusal (depth_refusal (depths.Bundle e))
 of_inside e =
     ⊎_elim
     (λ (is : (bundle_status e ≡ Malformed) ⊎ (bundle_status e ≡ Refused)). inl is)
     (λ (is : e ≡ bundles.Memory). inr (ap (λ (x : BundleError). depth_refusal (depths.Bundle x)) is ∙ of_memory))
     (status_kind e)
 
-faults : (e : DepthError) → IsFault (depth_refusal e)
+faults : (e : DepthError) → IsFaultRefusal (depth_refusal e)
 unfolding named_depth
 faults (depths.Bundle e) = of_inside e
 faults depths.NotLeastForm = inl (inr refl)

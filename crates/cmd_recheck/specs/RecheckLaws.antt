@@ -20,7 +20,7 @@ use Rattle.frame_core.specs.Task.{IsTask}
 use Rattle.frame_core.specs.Run.{Run}
 use Rattle.frame_core.specs.Promise.{Stands, CommandPromise}
 use Rattle.cmd_recheck.specs.RecheckPromise.{TellsVerdict, RecheckPromise}
-use Rattle.cmd_recheck.specs.RechecksLaws.{IsFault, fault_status, IsRechecking, rechecks}
+use Rattle.cmd_recheck.specs.RechecksLaws.{IsFaultRefusal, fault_status, IsRechecking, rechecks}
 use Rattle.frame_core.specs.TaskLaws.{at_once_task}
 
 -- ---- `recheck` is a command
@@ -42,7 +42,7 @@ of_memory : recheck_refusal bundles.Memory ≡ memory_refusal
 unfolding named_bundle
 of_memory = refl
 
-faults : (e : BundleError) → IsFault (recheck_refusal e)
+faults : (e : BundleError) → IsFaultRefusal (recheck_refusal e)
 faults e =
     ⊎_elim
     (λ (is : (bundle_status e ≡ Malformed) ⊎ (bundle_status e ≡ Refused)). inl is)

@@ -15,17 +15,17 @@ use Rattle.cmd_verdicts.specs.Verdicts.{most_of_bundle}
 use Rattle.cmd_recheck.specs.Rechecks.{Rechecks}
 
 -- Bytes with a fault are malformed, or refused; or memory ran out.
-abbrev pub IsFault : Refusal → Type 0
-IsFault refusal = ((refusal.status ≡ Malformed) ⊎ (refusal.status ≡ Refused)) ⊎ (refusal ≡ memory_refusal)
+abbrev pub IsFaultRefusal : Refusal → Type 0
+IsFaultRefusal refusal = ((refusal.status ≡ Malformed) ⊎ (refusal.status ≡ Refused)) ⊎ (refusal ≡ memory_refusal)
 
 -- Such a refusal is one of a task,
-pub fault_status : (refusal : Refusal) → IsFault refusal → IsRefusalStatus refusal.status ⊎ (refusal ≡ memory_refusal)
+pub fault_status : (refusal : Refusal) → IsFaultRefusal refusal → IsRefusalStatus refusal.status ⊎ (refusal ≡ memory_refusal)
 fault_status refusal (inl (inl malformed)) = inl (inl malformed)
 fault_status refusal (inl (inr refused)) = inl (inr (inr refused))
 fault_status refusal (inr memory) = inr memory
 
 -- and none of a limit.
-never_limit : (refusal : Refusal) → IsFault refusal → refusal.status ≡ Limit → ⊥
+never_limit : (refusal : Refusal) → IsFaultRefusal refusal → refusal.status ≡ Limit → ⊥
 never_limit refusal (inl (inl malformed)) is = let bad : Malformed ≡ Limit = sym malformed ∙ is in cc
 never_limit refusal (inl (inr refused)) is = let bad : Refused ≡ Limit = sym refused ∙ is in cc
 never_limit refusal (inr memory) is = let bad : Memory ≡ Limit = sym (ap (λ (r : Refusal). r.status) memory) ∙ is in cc
@@ -36,7 +36,7 @@ pub record IsRechecking {Certificate : Type 0} (task : Task) (Spells : List ℕ 
   pub reads : task.reads ≡ Some most_of_bundle
   pub done : (answer : task.Answer) → (task.reply answer).status ≡ Done
   pub quiet : HasNoReport task
-  pub faults : (fault : task.Fault) → IsFault (task.refusal fault)
+  pub faults : (fault : task.Fault) → IsFaultRefusal (task.refusal fault)
   pub sound : (input : List ℕ) (b : Certificate) (fault : task.Fault) → Spells input b → task.Meets input fault → ⊥
   pub only : (input : List ℕ) (b : Certificate) (answer : task.Answer) → Spells input b → task.Has input answer → verdict b ≡ answer
   pub tells : (r : Run) (input : List ℕ) (answer : task.Answer) → task.Has input answer → Stands r (task.reply answer) → Tells r input

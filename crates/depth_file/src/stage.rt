@@ -19,7 +19,7 @@ pub struct Flat {
     pub(crate) low: Option<u32>,
 }
 
-/// What is due next of a depth bundle whose lines were good so far.
+/// What is due next of a depth bundle whose lines were good so far. Its variants are for this crate alone.
 #[derive(Drop)]
 pub enum Stage {
     /// A line of the bundle, which ends with the first line `end`.
