@@ -466,7 +466,7 @@ class Solver:
             yield self.trail.lits[index]
 
     def go_back(self, length):
-        self.choice.release(self.trail.lits[length:])
+        self.choice.release(reversed(self.trail.lits[length:]))
         self.trail.back_to(length)
         self.head = length
 
