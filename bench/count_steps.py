@@ -341,7 +341,7 @@ class Merits:
     def count_parts(self, hints):
         for id in hints:
             if 0 <= (index := id - self.given - 1) < len(self.used):
-                self.activity[index] += self.step
+                self.activity[index] = min(self.activity[index] + self.step, GREATEST_SCORE)
                 self.used[index] = self.conflicts
 
     def add(self, activity, levels):
