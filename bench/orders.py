@@ -2,8 +2,8 @@
 """orders.py PROGRAM [--orders N] [--steps R ..]: decides the formulas of sums.py, those of R steps alone where they are named,
 each with its variables in N orders (8), by `PROGRAM solve`, the built program `benchmarks`, and by minisat with and
 without its preprocessing. It prints the sums over the refuted and over the satisfied ones: conflicts, of `solve` the
-additions to its log (of satisfied ones it tells none), and user seconds of one run each. One order tells little: the sums
-over all of them do.
+additions to its log, and user seconds of one run each. One order tells little: the sums over all of them do. `solve` tells
+no additions of satisfied ones: as root, with perf, a second run counts the calls that make them (a uprobe).
 
 orders.py --classes PROGRAM [EVERY]: each EVERY-th (1) of the 222 classes of functions of four inputs by `PROGRAM synth`, the
 released program, each certificate rechecked; by minisat the `ssv` formulas of all sizes up to the fewest; and by ABC's
@@ -46,7 +46,30 @@ def write_ordered(variables, clauses, seed, path):
         file.writelines(f"{clause} 0\n" for clause in turned)
 
 
+def probe(program):
+    """The event of each addition to a log of a program that isn't stripped; None where the system counts no such thing."""
+    names = subprocess.run(["nm", "-C", program], capture_output=True, text=True).stdout.splitlines()
+    at = [int(it.split()[0], 16) for it in names if it.endswith(" log_core::log::Log::add")]
+    parts = [it.split() for it in subprocess.run(["readelf", "-lW", program], capture_output=True, text=True).stdout.splitlines()]
+    loaded = [[int(word, 16) for word in it[1:5]] for it in parts if it[:1] == ["LOAD"]]
+    offsets = [at[0] - low + offset for offset, low, _, size in loaded if at and low <= at[0] < low + size]
+    try:
+        with open("/sys/kernel/tracing/uprobe_events", "w", encoding="ascii") as file:
+            file.write(f"p:batsokemi/addition {os.path.abspath(program)}:{offsets[0]:#x}\n")
+    except (OSError, IndexError):
+        return None
+    return "batsokemi:addition" if shutil.which("perf") else None
+
+
+def counted(event, command, path):
+    """How often a run comes to the event."""
+    with open(path, encoding="ascii") as file:
+        told = subprocess.run(["perf", "stat", "-x,", "-e", event, *command], stdin=file, capture_output=True, text=True).stderr
+    return sum(int(it.split(",")[0]) for it in told.splitlines() if event in it)
+
+
 def main_orders(program, orders, steps):
+    event = probe(program)
     print(row(["Formulas", "Solver", "Conflicts", "Time"]), row(["---"] * 4).replace(" ", ""), sep="\n")
     with tempfile.TemporaryDirectory() as folder:
         path = os.path.join(folder, "formula")
@@ -61,6 +84,8 @@ def main_orders(program, orders, steps):
                         done = run(command, file)
                         sums[name, "conflicts"] += conflicts_of(done.text)
                         sums[name, "seconds"] += done.seconds
+                    if event and not less:
+                        sums["solve", "conflicts"] += counted(event, [program, "solve"], path)
             for name in ["solve"] + [" ".join(it) for it in SOLVERS]:
                 cells = [in_words(sums[name, "conflicts"] or None), f"{sums[name, 'seconds']:.1f} s"]
                 print(row([f"{len(formulas)} {answer}, {orders} orders", name, *cells]), flush=True)
