@@ -1,3 +1,5 @@
+pub mod Sorted
+pub mod SortedLaws
 pub mod Stored
 pub mod StoredLaws
 pub mod Windows

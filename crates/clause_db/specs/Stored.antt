@@ -1,9 +1,11 @@
--- Clauses by their ids, and what they watch.
+-- Clauses by their ids, and what they watch. The literals of a clause are shown in the order of their
+-- codes, in whatever order they are kept.
 use Rattle.std.specs.Prelude.{◌≡◌, ◌≢◌, ℕ, ◌+◌, ◌-◌, ◌*◌, ◌≤◌, ◌==◌, ◌⊎◌, if◌then◌else◌, ℤ, List, [], ◌∷◌, ◌++◌, length, slice_get, replicate, Contains, AllPairs, Option, Some, None}
 use Rattle.std.specs.Option.{option_flatten}
 use Rattle.sat_theory.specs.Formula.{IsClause, IsWithin}
 use Rattle.clause_db.specs.declared.watches.Pair.{Pair}
 use Rattle.clause_db.specs.Watching.{Watching, list_of, pair_at, watching_more, watching_moved, HasRoom}
+use Rattle.clause_db.specs.Sorted.{sorted}
 
 -- The ids are 1, 2 and so on.
 -- Example: of the entries (1, 2), none, (-2) the id 3 has the clause -2, and 2 and 4 have none.
@@ -68,7 +70,7 @@ none_stored vars = record { vars = vars; clauses = []; watches = record { pairs 
 
 -- One clause more, under the id after all others, watches its first two literals.
 abbrev pub added : Stored → List ℤ → Stored
-added s lits = record { vars = s.vars; clauses = s.clauses ++ Some lits ∷ []; watches = watching_more s.watches lits (length s.clauses + 1) }
+added s lits = record { vars = s.vars; clauses = s.clauses ++ Some (sorted lits) ∷ []; watches = watching_more s.watches lits (length s.clauses + 1) }
 
 -- more clauses, one after another
 unfoldable pub all_added : Stored → List (List ℤ) → Stored

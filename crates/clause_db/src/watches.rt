@@ -124,19 +124,6 @@ impl Watches {
         self.blocks.read(watch.start)
     }
 
-    /// Appends the entry at an index in the watch list of `from` to that of `to`, with `blocker` as
-    /// its blocking literal.
-    fn hand_on(&mut self, from: Lit, index: usize, to: Lit, blocker: Lit) -> Result<(), AllocError>
-        requires rooms { (code_of from < length self.old.lists) × (code_of to < length self.old.lists) }
-        requires inside { index < length (listed_in self.old.lists from) }
-        ensures ok { OnOk result (self.new ≡ record self.old { lists = with_id self.old.lists to (slice_index_or (listed_in self.old.lists from) index 0); rows = with_blocker self.old.rows to blocker }) }
-        ensures err { OnErr result (self.new ≡ self.old) }
-    {
-        let watch = self.lists[from.code()].at(index);
-        self.lists[to.code()].push(Watch { blocker, ..watch })?;
-        Ok(())
-    }
-
     /// Appends an id to a watch list, with a blocking literal.
     fn push(&mut self, lit: Lit, id: u32, blocker: Lit) -> Result<(), AllocError>
         requires room { code_of lit < length self.old.lists }
@@ -230,13 +217,14 @@ impl Watches {
         ensures order { OnOk result (ArePermuted self.old.blocks self.new.blocks) }
         ensures err { OnErr result (self.new ≡ self.old) }
     {
-        let block = self.entry_block(from, index);
+        let start = self.lists[from.code()].at(index).start;
+        let block = self.blocks.read(start);
         let low = place_of_watch(block, from);
-        let other = block[1 - low];
+        let blocker = block[1 - low];
         let high = place_of(block, to, place);
-        self.hand_on(from, index, to, other)?;
-        self.exchange(from, index, low, high);
-        self.take_out(from, index);
+        self.lists[to.code()].push(Watch { blocker, start })?;
+        self.blocks.exchange(start, low, high);
+        self.lists[from.code()].take_out(index);
         Ok(())
     }
 

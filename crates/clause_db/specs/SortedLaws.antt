@@ -1,0 +1,1 @@
+-- What the order of codes says of lists of literals.
