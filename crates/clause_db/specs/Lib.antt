@@ -2,7 +2,6 @@ pub mod Sorted
 pub mod SortedLaws
 pub mod Stored
 pub mod StoredLaws
-pub mod Windows
 pub mod Watching
 pub mod WatchingLaws
 pub mod Moving

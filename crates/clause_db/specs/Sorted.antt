@@ -1,5 +1,5 @@
 -- The literals of a clause in one order, in which two lists of the same literals are equal.
-use Rattle.std.specs.Prelude.{ℕ, if◌then◌else◌, nat_lt, ℤ, List, [], ◌∷◌}
+use Rattle.std.specs.Prelude.{if◌then◌else◌, nat_lt, ℤ, List, [], ◌∷◌}
 use Rattle.cdcl_theory.specs.Codes.{code_of}
 
 -- a literal put before the first one of a greater or equal code
