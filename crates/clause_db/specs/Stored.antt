@@ -12,18 +12,8 @@ use Rattle.clause_db.specs.Sorted.{sorted}
 abbrev pub live_at : List (Option (List ℤ)) → ℕ → Option (List ℤ)
 live_at clauses id = if id == 0 then None else option_flatten (slice_get clauses (id - 1))
 
--- the variables of the formula, and an entry for each id that was given: its clause, where that is live
-pub record Entries : Type 0 where
-  pub vars : ℕ
-  pub clauses : List (Option (List ℤ))
-
--- all live clauses are clauses over the variables, and not all ids of 32 bits are given
-pub record AreEntries (s : Entries) : Type 0 where
-  pub clauses : (id : ℕ) (clause : List ℤ) → live_at s.clauses id ≡ Some clause → IsClause clause
-  pub variables : (id : ℕ) (clause : List ℤ) → live_at s.clauses id ≡ Some clause → IsWithin s.vars clause
-  pub few : length s.clauses ≤ 4000000000
-
--- the same, with what the clauses watch
+-- the variables of the formula, an entry for each id that was given (its clause, where that is live),
+-- and what the clauses watch
 pub record Stored : Type 0 where
   pub vars : ℕ
   pub clauses : List (Option (List ℤ))

@@ -9,7 +9,7 @@ ghost use Rattle.std.specs.List.{swap_remove};
 ghost use Rattle.cdcl_theory.specs.Codes.{code_of};
 ghost use Rattle.clause_db.specs.Watching.{listed_in, pair_of, with_id, with_ids, watching_moved};
 ghost use Rattle.clause_db.specs.Blocking.{row_of, with_row, with_blocker, with_blockers, rows_moved, besides};
-ghost use Rattle.clause_db.specs.Arranging.{block_at, watching_of, arranged_more, exchanged_at, ArePermuted, IsNoneOf};
+ghost use Rattle.clause_db.specs.Arranging.{block_at, watching_of, arranged_more, ArePermuted, IsNoneOf};
 ghost use Rattle.clause_db.specs.Deleting.{arranged_left, arranged_without};
 ghost use Rattle.clause_db.specs.Lists.{blockers_of, named, placed, AreDirect, AreNamed};
 
@@ -269,18 +269,6 @@ impl Watches {
         ensures { self.new ≡ record self.old { lists = slice_set self.old.lists (code_of lit) (swap_remove (listed_in self.old.lists lit) index 0); rows = with_row self.old.rows lit (swap_remove (row_of self.old.rows lit) index (pos 1)) } }
     {
         self.lists[lit.code()].take_out(index);
-    }
-
-    /// Exchanges two literals of the clause at an index in a watch list.
-    fn exchange(&mut self, lit: Lit, index: usize, low: usize, high: usize)
-        requires room { code_of lit < length self.old.lists }
-        requires inside { index < length (listed_in self.old.lists lit) }
-        requires order { low < high }
-        requires places { high < length (block_at self.old.blocks (slice_index_or (listed_in self.old.lists lit) index 0)) }
-        ensures { self.new ≡ exchanged_at self.old (slice_index_or (listed_in self.old.lists lit) index 0) low high }
-    {
-        let watch = self.lists[lit.code()].at(index);
-        self.blocks.exchange(watch.start, low, high);
     }
 }
 
