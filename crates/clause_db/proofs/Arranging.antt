@@ -36,10 +36,6 @@ both_back w a b l m id pushed taken =
     again : {xs : List (List ℕ)} {ys : List (List ℤ)} → xs ≡ w.lists → ys ≡ w.rows → (let x : Arranged = record { blocks = w.blocks; lists = xs; rows = ys } in x) ≡ w
     again e f = rw (e, f) refl
 
--- Two literals of a clause may change places before it leaves a list.
-pub exchanged_first : (a b c : Arranged) (from : ℤ) (id index low high : ℕ) → b ≡ exchanged_at a id low high → c ≡ record b { lists = slice_set b.lists (code_of from) (swap_remove (listed_in b.lists from) index 0); rows = with_row b.rows from (swap_remove (row_of b.rows from) index (pos 1)) } → c ≡ exchanged_at (arranged_left a from index) id low high
-exchanged_first a b c from id index low high exchanged taken = taken ∙ ap (λ (x : Arranged). arranged_left x from index) exchanged
-
 -- the watched pair of an id
 pub pair_block : (a : Arranged) (id : ℕ) → pair_at (watching_of a) id ≡ pair_of (block_at a.blocks id)
 pair_block a id = pair_in_blocks a.blocks (id - 1)

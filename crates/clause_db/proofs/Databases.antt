@@ -1,4 +1,4 @@
--- The store and what its clauses watch, together.
+-- What contracts see of all parts together, and its invariant.
 use Rattle.std.proofs.Common.{map, slice_get, Bool, true, false, zero, suc, append_assoc, ◌==◌, ◌≡◌, ◌≢◌, ℕ, ◌+◌, ◌*◌, ◌<◌, ◌≤◌, ℤ, List, [], ◌∷◌, ◌++◌, length, take, slice_index_or, slice_set, replicate, ◌-◌, ◌⊎◌, inl, inr, Contains, All, pos, Option, Some, None, IsSome, refl, sym, ap, ◌∙◌, subst, arith}
 use Rattle.std.proofs.lemmas.List.Elements.{All-contains}
 use Rattle.std.proofs.lemmas.Bool.{ne_eqb}
@@ -124,13 +124,6 @@ whole_added vars live a now lits live_new a_new id view whole is_clause within f
       subst (λ (s : Stored). AreBlockers s a_new.rows) (sym is) (subst (AreBlockers (added now lits)) (sym rows) (blockers_added now lits a.rows stored is_clause within (subst (λ (s : Stored). AreBlockers s a.rows) view whole.1))),
       long ∙ ap (λ (n : ℕ). n + 1) whole.2 ∙ sym room,
     )
-
--- There was no room for it.
-pub whole_again : (vars : ℕ) (live : List Bool) (a : Arranged) (live_new live_after : List Bool) (a_new : Arranged) → AreWhole vars live a → live_new ≡ live ++ true ∷ [] → live_after ≡ take (length live_new - 1) live_new → a_new ≡ a → AreWhole vars live_after a_new × (shown vars live_after a_new ≡ shown vars live a)
-whole_again vars live a live_new live_after a_new whole live_is after_is a_is =
-    let back : take (length (live ++ true ∷ []) - 1) (live ++ true ∷ []) ≡ live = grind (arith, common_steps) in
-    let marks : live_after ≡ live = after_is ∙ ap (λ (ls : List Bool). take (length ls - 1) ls) live_is ∙ back in
-    rw (marks, a_is) (whole, refl)
 
 pub whole_set : (vars : ℕ) (live : List Bool) (a : Arranged) (now : Stored) (a_new : Arranged) (l m : ℤ) (index : ℕ) → shown vars live a ≡ now → AreWhole vars live a → variable l ≤ now.vars → index < length (list_of now.watches l) → IsOf now (slice_index_or (list_of now.watches l) index 0) m → a_new ≡ record a { rows = with_row a.rows l (slice_set (row_of a.rows l) index m) } → AreWhole vars live a_new
 whole_set vars live a now a_new l m index view whole low inside of new_is =

@@ -1,4 +1,4 @@
--- A clause that is deleted, and what its store and lists are then.
+-- A clause that is deleted, and what the marks, blocks and lists show then.
 use Rattle.std.proofs.Common.{Bool, false, slice_set, Option, None, ◌≡◌, ℕ, ◌-◌, ◌<◌, ◌≤◌, ◌⊎◌, ℤ, List, [], length, slice_index_or, Some, sym, ap, ◌∙◌, subst, arith, refl}
 use Rattle.std.specs.List.{swap_remove}
 use Rattle.std.proofs.Math.Logic.{⊎_elim}

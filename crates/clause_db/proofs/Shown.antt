@@ -102,7 +102,7 @@ shown_added vars live a lits id same id_is =
     let count : length (clauses_of live a.blocks) ≡ length live = clauses_long live a.blocks same in
     let watches : watching_of (arranged_more a lits id) ≡ watching_more (watching_of a) lits (length (clauses_of live a.blocks) + 1) = more_is a lits id ∙ ap (watching_more (watching_of a) lits) (id_is ∙ ap (λ (n : ℕ). n + 1) (sym count)) in
     ap (λ (cs : List (Option (List ℤ))). (let s : Stored = record { vars = vars; clauses = cs; watches = watching_of (arranged_more a lits id) } in s)) (clauses_push live a.blocks lits same)
-        ∙ ap (λ (w : Watching). (let s : Stored = record { vars = vars; clauses = clauses_of live a.blocks ++ Some (sorted lits) ∷ []; watches = w } in s)) watches
+    ∙ ap (λ (w : Watching). (let s : Stored = record { vars = vars; clauses = clauses_of live a.blocks ++ Some (sorted lits) ∷ []; watches = w } in s)) watches
 
 -- and where a clause watches another literal
 pub moved_long : (a new : Arranged) (id : ℕ) (from to : ℤ) (index : ℕ) → watching_of new ≡ watching_moved (watching_of a) id from to index → length a.blocks ≡ length new.blocks
@@ -112,7 +112,7 @@ moved_long a new id from to index is =
 pub shown_moved : (vars : ℕ) (live : List Bool) (a new : Arranged) (id : ℕ) (from to : ℤ) (index : ℕ) → watching_of new ≡ watching_moved (watching_of a) id from to index → ArePermuted a.blocks new.blocks → shown vars live new ≡ rewatched (shown vars live a) id from to index
 shown_moved vars live a new id from to index is order =
     ap (λ (cs : List (Option (List ℤ))). (let s : Stored = record { vars = vars; clauses = cs; watches = watching_of new } in s)) (sym (clauses_permuted live a.blocks new.blocks (moved_long a new id from to index is) order))
-        ∙ ap (λ (w : Watching). (let s : Stored = record { vars = vars; clauses = clauses_of live a.blocks; watches = w } in s)) is
+    ∙ ap (λ (w : Watching). (let s : Stored = record { vars = vars; clauses = clauses_of live a.blocks; watches = w } in s)) is
 
 -- whether the id that is asked for is live, as the code reads it
 pub live_read : (vars : ℕ) (live : List Bool) (a : Arranged) (now : Stored) (id : ℕ) (mark : Bool) → shown vars live a ≡ now → length live ≡ length a.blocks → 0 < id → id - 1 < length live → mark ≡ slice_index_or live (id - 1) mark → IsTrue mark ↔ IsSome (live_in now id)

@@ -1,9 +1,9 @@
 //! Which clauses watch a literal. A clause watches the first two of its literals in an order of
 //! their own, so no pair is kept, and an entry of a watch list has the position where they begin,
-//! which the invariant ties to the table of starts. Moving a watch is a push to one list, an
-//! exchange of two literals, and a removal from another list. The push comes first, since it alone
-//! can run out of memory; the exchange uses the start in the entry, before that is removed. While
-//! the literals of all clauses move, entries have ids in place of starts.
+//! which the invariant ties to the table of starts. Moving a watch reads its entry once: it is
+//! a push to one list, an exchange of two literals, and a removal from another list. The push comes
+//! first, since it alone can run out of memory. While the literals of all clauses move, entries have
+//! ids in place of starts.
 ghost use Rattle.std.specs.Prelude.{◌≡◌, ◌≢◌, ◌⊎◌, ◌↔◌, ℤ, IsTrue, ◌+◌, ◌-◌, ◌*◌, ◌<◌, ◌≤◌, [], length, take, map, All, Contains, pos, slice_index_or, slice_set, replicate, IfOk, OnOk, OnErr};
 ghost use Rattle.std.specs.List.{swap_remove};
 ghost use Rattle.cdcl_theory.specs.Codes.{code_of};

@@ -1,8 +1,9 @@
-use Rattle.std.proofs.Common.{ℕ, slice_index_or, sym, subst}
+use Rattle.std.proofs.Common.{ℕ, slice_index_or, ap, ◌∙◌, sym, subst}
 use Rattle.clause_db.specs.Watching.{list_of}
-use Rattle.clause_db.specs.Stored.{Stored}
-use Rattle.clause_db.specs.Arranging.{shown}
+use Rattle.clause_db.specs.Stored.{Stored, rewatched}
+use Rattle.clause_db.specs.Arranging.{Arranged, watching_of, shown}
 use Rattle.clause_db.specs.Moving.{IsMovable}
+use Rattle.clause_db.proofs.Shown.{shown_moved}
 use Rattle.clause_db.proofs.Databases.{movable_rooms, movable_given, movable_two, movable_block, whole_moved}
 use Rattle.clause_db.proofs.clause_db.ClauseDb.rewatch_at.Goals as goal
 
@@ -27,6 +28,13 @@ invariant_of-self-2 c =
     let id : ℕ = slice_index_or (list_of s.watches c.args.from) c.args.index 0 in
     let movable : IsMovable s id c.args.from c.args.to c.args.index = subst (λ (x : Stored). IsMovable x (slice_index_or (list_of x.watches c.args.from) c.args.index 0) c.args.from c.args.to c.args.index) (sym c.self.view_is) c.requires.movable in
     whole_moved c.self.inside.vars c.self.inside.live.items c.self.inside.watches c.move_to.new.self id c.args.from c.args.to c.args.index c.self.invariant movable c.in_ok-move_to.ensures.ok c.in_ok-move_to.ensures.rows c.in_ok-move_to.ensures.order
+
+pub returns-clause-ok : goal.returns-clause-ok
+returns-clause-ok c =
+    let a : Arranged = c.self.inside.watches in
+    let id : ℕ = slice_index_or (list_of (watching_of a) c.args.from) c.args.index 0 in
+    shown_moved c.self.inside.vars c.self.inside.live.items a c.move_to.new.self id c.args.from c.args.to c.args.index c.in_ok-move_to.ensures.ok c.in_ok-move_to.ensures.order
+    ∙ ap (λ (s : Stored). rewatched s (slice_index_or (list_of s.watches c.args.from) c.args.index 0) c.args.from c.args.to c.args.index) c.self.view_is
 
 pub returns-clause-whole : goal.returns-clause-whole
 returns-clause-whole c = (invariant_of-self-2 c).0

@@ -73,7 +73,7 @@ returns-clause-ok c =
     let start : IsStart c.self.inside.blocks c.at-start.result.start = entry_direct c.self.inside.blocks c.self.inside.lists.items w c.args.from c.code.result c.index.result.now c.args.index c.at-start.result c.self.view_is c.code.ensures.value c.requires.rooms.0 c.index.ensures c.requires.inside c.at-start.ensures c.self.invariant in
     let block : c.read-block.result.now ≡ block_at w.blocks id = read_direct c.self.inside.blocks w.blocks c.at-start.result.start id c.read-block.result.now (ap (λ (x : Arranged). x.blocks) c.self.view_is) its c.read-block.ensures in
     let all = handed_on c.self.inside.blocks c.exchange.new.self c.self.inside.lists.items w c.args.from c.args.to m c.code-2.result c.code-3.result c.at-start.result.start id c.args.index c.place_of_watch-low.result c.place_of-high.result c.index_mut.result.now c.push.new.self c.index_mut-2.result.now c.take_out.new.self
-        c.self.view_is c.code-2.ensures.value c.code-3.ensures.value c.requires.rooms c.requires.apart c.index_mut.ensures.value c.in_ok-push.ensures.ok its c.exchange.ensures.lists c.exchange.ensures.starts c.index_mut-2.ensures.value c.requires.inside c.take_out.ensures start c.self.invariant in
+    c.self.view_is c.code-2.ensures.value c.code-3.ensures.value c.requires.rooms c.requires.apart c.index_mut.ensures.value c.in_ok-push.ensures.ok its c.exchange.ensures.lists c.exchange.ensures.starts c.index_mut-2.ensures.value c.requires.inside c.take_out.ensures start c.self.invariant in
     (
     all_moved w (arranged_pushed w c.args.to id m) (arranged_left (arranged_pushed w c.args.to id m) c.args.from c.args.index) (shown_lists c.exchange.new.self (slice_set (slice_set c.self.inside.lists.items c.code-2.result c.push.new.self) c.code-3.result c.take_out.new.self))
     c.args.from c.args.to m c.read-block.result.now id id c.args.index c.place_of_watch-low.result c.place_of-high.result refl refl all.1 c.requires.apart refl c.requires.id block c.place_of_watch-low.ensures.found c.place_of-high.ensures.inside c.place_of-high.ensures.there c.requires.two c.index-block-low.is c.requires.other
@@ -88,7 +88,7 @@ returns-clause-rows c =
     let start : IsStart c.self.inside.blocks c.at-start.result.start = entry_direct c.self.inside.blocks c.self.inside.lists.items w c.args.from c.code.result c.index.result.now c.args.index c.at-start.result c.self.view_is c.code.ensures.value c.requires.rooms.0 c.index.ensures c.requires.inside c.at-start.ensures c.self.invariant in
     let block : c.read-block.result.now ≡ block_at w.blocks id = read_direct c.self.inside.blocks w.blocks c.at-start.result.start id c.read-block.result.now (ap (λ (x : Arranged). x.blocks) c.self.view_is) its c.read-block.ensures in
     let all = handed_on c.self.inside.blocks c.exchange.new.self c.self.inside.lists.items w c.args.from c.args.to m c.code-2.result c.code-3.result c.at-start.result.start id c.args.index c.place_of_watch-low.result c.place_of-high.result c.index_mut.result.now c.push.new.self c.index_mut-2.result.now c.take_out.new.self
-        c.self.view_is c.code-2.ensures.value c.code-3.ensures.value c.requires.rooms c.requires.apart c.index_mut.ensures.value c.in_ok-push.ensures.ok its c.exchange.ensures.lists c.exchange.ensures.starts c.index_mut-2.ensures.value c.requires.inside c.take_out.ensures start c.self.invariant in
+    c.self.view_is c.code-2.ensures.value c.code-3.ensures.value c.requires.rooms c.requires.apart c.index_mut.ensures.value c.in_ok-push.ensures.ok its c.exchange.ensures.lists c.exchange.ensures.starts c.index_mut-2.ensures.value c.requires.inside c.take_out.ensures start c.self.invariant in
     (
     all_moved w (arranged_pushed w c.args.to id m) (arranged_left (arranged_pushed w c.args.to id m) c.args.from c.args.index) (shown_lists c.exchange.new.self (slice_set (slice_set c.self.inside.lists.items c.code-2.result c.push.new.self) c.code-3.result c.take_out.new.self))
     c.args.from c.args.to m c.read-block.result.now id id c.args.index c.place_of_watch-low.result c.place_of-high.result refl refl all.1 c.requires.apart refl c.requires.id block c.place_of_watch-low.ensures.found c.place_of-high.ensures.inside c.place_of-high.ensures.there c.requires.two c.index-block-low.is c.requires.other
@@ -103,7 +103,7 @@ returns-clause-order c =
     let start : IsStart c.self.inside.blocks c.at-start.result.start = entry_direct c.self.inside.blocks c.self.inside.lists.items w c.args.from c.code.result c.index.result.now c.args.index c.at-start.result c.self.view_is c.code.ensures.value c.requires.rooms.0 c.index.ensures c.requires.inside c.at-start.ensures c.self.invariant in
     let block : c.read-block.result.now ≡ block_at w.blocks id = read_direct c.self.inside.blocks w.blocks c.at-start.result.start id c.read-block.result.now (ap (λ (x : Arranged). x.blocks) c.self.view_is) its c.read-block.ensures in
     let all = handed_on c.self.inside.blocks c.exchange.new.self c.self.inside.lists.items w c.args.from c.args.to m c.code-2.result c.code-3.result c.at-start.result.start id c.args.index c.place_of_watch-low.result c.place_of-high.result c.index_mut.result.now c.push.new.self c.index_mut-2.result.now c.take_out.new.self
-        c.self.view_is c.code-2.ensures.value c.code-3.ensures.value c.requires.rooms c.requires.apart c.index_mut.ensures.value c.in_ok-push.ensures.ok its c.exchange.ensures.lists c.exchange.ensures.starts c.index_mut-2.ensures.value c.requires.inside c.take_out.ensures start c.self.invariant in
+    c.self.view_is c.code-2.ensures.value c.code-3.ensures.value c.requires.rooms c.requires.apart c.index_mut.ensures.value c.in_ok-push.ensures.ok its c.exchange.ensures.lists c.exchange.ensures.starts c.index_mut-2.ensures.value c.requires.inside c.take_out.ensures start c.self.invariant in
     (
     all_moved w (arranged_pushed w c.args.to id m) (arranged_left (arranged_pushed w c.args.to id m) c.args.from c.args.index) (shown_lists c.exchange.new.self (slice_set (slice_set c.self.inside.lists.items c.code-2.result c.push.new.self) c.code-3.result c.take_out.new.self))
     c.args.from c.args.to m c.read-block.result.now id id c.args.index c.place_of_watch-low.result c.place_of-high.result refl refl all.1 c.requires.apart refl c.requires.id block c.place_of_watch-low.ensures.found c.place_of-high.ensures.inside c.place_of-high.ensures.there c.requires.two c.index-block-low.is c.requires.other
