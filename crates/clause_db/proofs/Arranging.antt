@@ -1,28 +1,21 @@
 -- The literals of each clause in an order of their own.
-use Rattle.std.proofs.Common.{◌≡◌, ◌≢◌, ℕ, ◌+◌, ◌-◌, ◌<◌, ◌≤◌, ◌⊎◌, ◌==◌, ℤ, pos, List, [], ◌∷◌, ◌++◌, map, length, take, slice_index_or, slice_set, AllPairs, Option, Some, refl, sym, ap, ◌∙◌, subst, arith, inl, inr}
+use Rattle.std.proofs.Common.{◌≡◌, ◌≢◌, ℕ, ◌-◌, ◌<◌, ◌≤◌, ◌⊎◌, ℤ, pos, List, [], ◌∷◌, map, length, take, slice_index_or, slice_set, refl, sym, ap, ◌∙◌, subst, arith, inl, inr}
 use Rattle.std.specs.List.{swap, swap_remove}
 use Rattle.std.specs.List.Sorted.{IsPermutation}
 use Rattle.std.proofs.Math.Logic.{⊎_elim}
 use Rattle.std.proofs.lemmas.Bool.{cases_eq, cases_lt}
-use Rattle.std.proofs.lemmas.Bool.Decides.{Decides-eqb}
 use Rattle.std.proofs.lemmas.Grind.{common_steps}
-use Rattle.std.proofs.lemmas.List.{length-map, map-append, map-set, get_or-map, get_or-set_same, get_or-set_other, get_or_push, get_or_append_left, get_or_read}
+use Rattle.std.proofs.lemmas.List.{map-append, map-set, get_or-map, get_or-set_same, get_or-set_other, get_or_read}
 use Rattle.std.proofs.lemmas.List.Edits.{swapped_from_swap, Swapped}
-use Rattle.std.proofs.lemmas.List.Sorted.{IsPermutation-refl, IsPermutation-trans, IsPermutation-swap, IsPermutation-map, All-permutation}
-use Rattle.std.proofs.lemmas.Map.Keys.{IsDistinct-IsPermutation}
-use Rattle.std.proofs.lemmas.Map.Made.{AllPairs-from_IsDistinct, IsDistinct-from_AllPairs}
-use Rattle.sat_theory.specs.Formula.{variable, IsClause}
+use Rattle.std.proofs.lemmas.List.Sorted.{IsPermutation-refl, IsPermutation-swap}
 use Rattle.cdcl_theory.specs.Codes.{code_of}
 use Rattle.cdcl_theory.specs.CodeLaws.{int_eq-same, int_eq-other}
 use Rattle.clause_db.specs.declared.watches.Pair.{Pair}
 use Rattle.clause_db.specs.Watching.{Watching, listed_in, pair_at, pair_of, with_id, with_ids, watching_more, watching_moved, replaced}
 use Rattle.clause_db.specs.WatchingLaws.{listed-other, listed_back}
-use Rattle.clause_db.specs.Stored.{Stored, live_at, live_in}
-use Rattle.clause_db.specs.StoredLaws.{live_added, live_inside}
 use Rattle.clause_db.specs.Blocking.{row_of, with_row, with_blocker, rows_moved, besides}
 use Rattle.clause_db.proofs.Beside.{row-other, row_back}
-use Rattle.clause_db.specs.Arranging.{Arranged, block_at, watching_of, arranged_more, exchanged_at, ArePermuted, AreArranged, IsNoneOf}
-use Rattle.clause_db.specs.Deleting.{arranged_left}
+use Rattle.clause_db.specs.Arranging.{Arranged, block_at, watching_of, arranged_more, ArePermuted, IsNoneOf}
 
 -- an id that was put into a list, and removed when the next push failed
 pub both_back : (w a b : Arranged) (l m : ℤ) (id : ℕ) → a ≡ record w { lists = with_id w.lists l id; rows = with_blocker w.rows l m }

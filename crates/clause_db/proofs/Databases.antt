@@ -1,5 +1,5 @@
 -- What contracts see of all parts together, and its invariant.
-use Rattle.std.proofs.Common.{map, slice_get, Bool, true, false, zero, suc, append_assoc, ◌==◌, ◌≡◌, ◌≢◌, ℕ, ◌+◌, ◌*◌, ◌<◌, ◌≤◌, ℤ, List, [], ◌∷◌, ◌++◌, length, take, slice_index_or, slice_set, replicate, ◌-◌, ◌⊎◌, inl, inr, Contains, All, pos, Option, Some, None, IsSome, refl, sym, ap, ◌∙◌, subst, arith}
+use Rattle.std.proofs.Common.{map, slice_get, Bool, true, false, zero, suc, append_assoc, ◌==◌, ◌≡◌, ◌≢◌, ℕ, ◌+◌, ◌*◌, ◌<◌, ◌≤◌, ℤ, List, [], ◌∷◌, ◌++◌, length, slice_index_or, slice_set, replicate, ◌-◌, ◌⊎◌, inl, inr, Contains, All, pos, Option, Some, None, IsSome, refl, sym, ap, ◌∙◌, subst, arith}
 use Rattle.std.proofs.lemmas.List.Elements.{All-contains}
 use Rattle.std.proofs.lemmas.Bool.{ne_eqb}
 use Rattle.std.proofs.lemmas.Grind.{common_steps}
@@ -9,7 +9,7 @@ use Rattle.sat_theory.specs.State.{by_id}
 use Rattle.cdcl_theory.specs.Codes.{code_of}
 use Rattle.cdcl_theory.specs.CodeLaws.{code_of-room, cases_literal, int_eq-same, int_eq-other}
 use Rattle.clause_db.specs.declared.watches.Pair.{Pair}
-use Rattle.clause_db.specs.Watching.{Watching, list_of, pair_of, pair_at, no_pair, watching_more, watching_moved}
+use Rattle.clause_db.specs.Watching.{list_of, pair_of, pair_at, no_pair, watching_moved}
 use Rattle.clause_db.specs.Stored.{Stored, live_in, Watches, IsLong, IsPair, IsStored, none_stored, added, all_added, rewatched}
 use Rattle.clause_db.specs.StoredLaws.{all_added-push, all_added-none, live_in-start, live_added, live_inside}
 use Rattle.std.proofs.lemmas.List.{length_push, length-map, get_or-map}
@@ -17,9 +17,8 @@ use Rattle.std.proofs.lemmas.List.Elements.{Contains-get_or}
 use Rattle.clause_db.specs.Blocking.{row_of, with_row, with_blockers, rows_moved, blocker_at, besides, IsOf, AreBeside, AreBlockers}
 use Rattle.clause_db.specs.declared.lists.Watch.{Watch}
 use Rattle.clause_db.specs.Lists.{blockers_of}
-use Rattle.clause_db.specs.WatchingLaws.{pair_new, pair_old}
 use Rattle.clause_db.proofs.Beside.{blockers_none, blockers_set, blockers_added, blockers_moved}
-use Rattle.clause_db.specs.Arranging.{Arranged, block_at, watching_of, arranged_more, ArePermuted, AreArranged, IsNoneOf, clauses_of, shown}
+use Rattle.clause_db.specs.Arranging.{Arranged, block_at, watching_of, arranged_more, ArePermuted, IsNoneOf, clauses_of, shown}
 use Rattle.clause_db.proofs.Arranging.{pair_block}
 use Rattle.clause_db.proofs.Shown.{clauses_none, are_arranged, moved_long, shown_added, shown_moved}
 use Rattle.clause_db.specs.Sorted.{sorted}

@@ -1,6 +1,6 @@
 -- A clause goes from one watch list to another: its entry is appended to the second one, two of its
 -- literals change places, and the entry leaves the first one.
-use Rattle.std.proofs.Common.{◌≡◌, ℕ, ◌+◌, ◌<◌, ◌≤◌, ℤ, pos, List, [], ◌∷◌, ◌++◌, length, slice_index_or, slice_set, All, refl, sym, ap, ◌∙◌, subst, arith}
+use Rattle.std.proofs.Common.{◌≡◌, ℕ, ◌<◌, ℤ, pos, List, [], ◌∷◌, ◌++◌, length, slice_index_or, slice_set, All, refl, sym, ap, ◌∙◌, subst}
 use Rattle.std.specs.List.{swap_remove}
 use Rattle.std.proofs.lemmas.List.{length-set}
 use Rattle.std.proofs.lemmas.List.Elements.{All-push}
@@ -13,7 +13,7 @@ use Rattle.clause_db.specs.Blocking.{with_blocker}
 use Rattle.clause_db.specs.Arranging.{Arranged, exchanged_at}
 use Rattle.clause_db.specs.Deleting.{arranged_left}
 use Rattle.clause_db.proofs.Listed.{shown_lists, shown_list, ids_push, blockers_push, ids_swap, blockers_swap, ids_inside, changed}
-use Rattle.clause_db.proofs.Direct.{direct_read, direct_set, direct_swap, entry_id, entry_direct, IsExchange, exchanged_shown, direct_exchanged}
+use Rattle.clause_db.proofs.Direct.{direct_read, direct_set, direct_swap, IsExchange, exchanged_shown, direct_exchanged}
 use Rattle.clause_db.proofs.Arranging.{pushed_list}
 
 -- an entry with a start and a blocking literal

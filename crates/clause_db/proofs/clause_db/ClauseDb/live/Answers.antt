@@ -1,4 +1,4 @@
-use Rattle.std.proofs.Common.{◌≡◌, ◌<◌, ◌≤◌, ◌-◌, ℕ, length, ap, ◌∙◌, subst, arith, rules}
+use Rattle.std.proofs.Common.{◌<◌, ◌≤◌, ◌-◌, length, rules}
 use Rattle.clause_db.proofs.Shown.{live_read, live_beyond}
 use Rattle.clause_db.proofs.clause_db.ClauseDb.live.Goals as goal
 

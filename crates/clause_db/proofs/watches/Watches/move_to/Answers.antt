@@ -1,8 +1,7 @@
-use Rattle.std.proofs.Common.{◌≡◌, ◌<◌, ◌≤◌, ◌-◌, ◌∙◌, ℕ, ℤ, List, length, slice_index_or, slice_set, Contains, ap, refl, sym, subst, arith}
+use Rattle.std.proofs.Common.{◌≡◌, ℤ, List, length, slice_index_or, slice_set, Contains, ap, refl, sym, subst, arith}
 use Rattle.clause_db.specs.Watching.{listed_in}
 use Rattle.clause_db.specs.BlockRanges.{IsStart, id_in}
-use Rattle.clause_db.specs.Lists.{AreDirect}
-use Rattle.clause_db.specs.Arranging.{Arranged, block_at, exchanged_at}
+use Rattle.clause_db.specs.Arranging.{Arranged, block_at}
 use Rattle.clause_db.specs.Deleting.{arranged_left}
 use Rattle.clause_db.proofs.Listed.{shown_lists}
 use Rattle.clause_db.proofs.Direct.{entry_inside, entry_direct, entry_id, read_direct}
