@@ -77,7 +77,9 @@ fn put_six(out: &mut Vec<u8>, number: u32)
     }
 }
 
-/// Appends a number of any size. The first test parts those of four digits from those of five, as most hints are.
+/// Appends a number of any size. The first test parts those of four digits from those of five, as most hints are. It
+/// is to be part of `put_id`.
+#[inline(always)]
 #[tactic(auto, using(crate::proofs::Digits::halves))]
 fn put_digits(out: &mut Vec<u8>, number: u32)
     requires room { vec_len out.old + 10 ≤ vec_capacity out.old }
