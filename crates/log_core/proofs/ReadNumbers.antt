@@ -88,3 +88,11 @@ written-two n low top =
     let high : n / 16384 ≡ 0 = omega arith in
     let whole : n / 128 % 128 ≡ n / 128 = omega arith in
     rw (far-none (n / 16384) high, leading-some (n / 128) (λ none. absurd (omega (arith, none))), whole) refl
+
+pub written-three : (n : ℕ) → 16384 ≤ n → n < 2097152 → written n ≡ (n / 16384 + 128) ∷ (n / 128 % 128 + 128) ∷ n % 128 ∷ []
+unfolding written far
+written-three n low top =
+    let third : n / 16384 / 16384 ≡ 0 = omega arith in
+    let fourth : n / 16384 / 128 ≡ 0 = omega arith in
+    let whole : n / 16384 % 128 ≡ n / 16384 = omega arith in
+    rw (leading-none (n / 16384 / 16384) third, leading-none (n / 16384 / 128) fourth, leading-some (n / 16384) (λ none. absurd (omega (arith, none))), leading-some (n / 128) (λ none. absurd (omega (arith, none))), whole) refl
