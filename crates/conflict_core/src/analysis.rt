@@ -4,6 +4,7 @@
 //! gathered. That it follows by the hints is the invariant of the walk (`IsWalk`); that one literal
 //! of the level is left, and where the others fell, is what the search backjumps by (`IsLearnt`).
 ghost use Rattle.std.specs.Prelude.{◌≡◌, ℕ, ◌+◌, ◌<◌, ◌≤◌, ◌∷◌, [], length, reverse, All, IfOk, OnOk};
+ghost use Rattle.std.specs.List.Sorted.{IsPermutation};
 ghost use Rattle.sat_theory.specs.Formula.{IsWithin};
 ghost use Rattle.sat_theory.specs.Holding.{among, HintsHold};
 ghost use Rattle.cdcl_theory.specs.Falling.{IsClosed, IsFalsified};
@@ -107,6 +108,7 @@ impl Analysis {
         let first = self.walk.take_others(trail, top, &mut self.lower)?;
         self.walk.touched.truncate(walked);
         let back = last_fallen(trail, &self.lower);
+        put_early_first(trail, &mut self.lower, back);
         raise(trail, &mut self.lower, back);
         let lits = joined(alloc, first, &self.lower)?;
         let hints = turned(alloc, &self.walk.hints)?;
@@ -196,6 +198,22 @@ fn last_fallen(trail: &Trail, lits: &[Lit]) -> u32
         back = back.max(trail.fell(*lit));
     }
     back
+}
+
+/// Puts the literals that fell in the first half of the places up to `back` before the others. A clause
+/// that gives up a watch takes the first literal that isn't false, and one that fell early and is free
+/// again is so for long.
+fn put_early_first(trail: &Trail, lits: &mut Vec<Lit>, back: u32)
+    requires { IsWithin trail.now.vars lits.old.items }
+    ensures { IsPermutation lits.old.items lits.new.items }
+{
+    let mut early = 0;
+    for index in 0..lits.len() {
+        if trail.fell(lits[index]) < back / 2 {
+            lits.swap(early, index);
+            early += 1;
+        }
+    }
 }
 
 /// Exchanges the first literal that fell at `back`, if there is one, with the first of all.

@@ -1,11 +1,13 @@
 use Rattle.std.proofs.Common.{◌≡◌, ◌∙◌, ◌∷◌, ap, subst, sym, slice_index_or, reverse, All, List, ℤ, ◌≤◌, ◌<◌}
+use Rattle.std.specs.List.Sorted.{IsPermutation}
 use Rattle.std.proofs.lemmas.List.Elements.{All-take}
+use Rattle.std.proofs.lemmas.List.Sorted.{All-permutation}
 use Rattle.sat_theory.specs.Formula.{variable, opposite, IsWithin}
 use Rattle.cdcl_theory.specs.Trails.{fell}
 use Rattle.clause_db.specs.Stored.{live_in}
 use Rattle.conflict_core.specs.Walking.{HasFallenAt}
 use Rattle.conflict_core.proofs.Conflicts.{conflict_in_level, alone_left, alone_less, walk_learnt}
-use Rattle.conflict_core.proofs.Raising.{raised_all, raised_fallen, raised_others, raised_head}
+use Rattle.conflict_core.proofs.Raising.{fallen_permuted, others_permuted, raised_all, raised_fallen, raised_others, raised_head}
 use Rattle.conflict_core.proofs.analysis.Analysis.walk_back.Goals as goal
 
 pub reduce-requires-clause-some : goal.reduce-requires-clause-some
@@ -21,12 +23,14 @@ returns-clause-learnt c =
     let walk = c.shorten.new.self in
     let walked = c.in_ok-shorten.ensures.walk t c.requires.conflict.explained.whole c.in_ok-minimise.ensures.walk in
     let back = c.last_fallen-back.result in
-    let old = c.take_others.new.others.items in
+    let taken = c.take_others.new.others.items in
+    let old = c.put_early_first.new.lits.items in
+    let order : IsPermutation taken old = c.put_early_first.ensures in
     let lower = c.raise.new.lits.items in
     let at : opposite (slice_index_or t.lits c.in_ok-top.top first) ≡ first = c.in_ok-first.ensures.first first in
-    let low : All (λ m. places m ≤ back) old = subst (λ (xs : List ℤ). All (λ m. places m ≤ back) xs) c.deref.ensures.value c.last_fallen-back.ensures.all in
-    let there = subst (λ (xs : List ℤ). 0 < back → HasFallenAt places xs back) c.deref.ensures.value c.last_fallen-back.ensures.there in
-    let raised = raised_others places t.vars back walk.marks first old lower c.raise.ensures c.in_ok-first.ensures.others in
+    let low : All (λ m. places m ≤ back) old = All-permutation (λ m. places m ≤ back) taken old order (subst (λ (xs : List ℤ). All (λ m. places m ≤ back) xs) c.deref.ensures.value c.last_fallen-back.ensures.all) in
+    let there : 0 < back → HasFallenAt places old back = λ some. fallen_permuted places taken old back order (subst (λ (xs : List ℤ). 0 < back → HasFallenAt places xs back) c.deref.ensures.value c.last_fallen-back.ensures.there some) in
+    let raised = raised_others places t.vars back walk.marks first old lower c.raise.ensures (others_permuted t.vars walk.marks first taken old order c.in_ok-first.ensures.others) in
     let alone = alone_less t c.args.start reduced.marks minimised.marks first
     (alone_left (live_in c.args.clauses.now) t c.args.start c.in_ok-top.top first reduced.marks reduced.touched.items reduced.hints.items c.requires.conflict.explained.whole at c.in_ok-top.ensures.walk c.in_ok-top.ensures.last c.in_ok-top.ensures.alone)
     c.in_ok-minimise.ensures.below in
@@ -49,3 +53,9 @@ returns-clause-ready c =
       touched = subst (λ (xs : List ℤ). IsWithin t.vars xs) (sym c.truncate.ensures.items) (All-take (λ l. variable l ≤ t.vars) _ c.take_others.new.self.touched.items left);
       verdicts = c.minimise.ensures.room ∙ c.requires.ready.verdicts;
     }
+
+pub raise-requires : goal.raise-requires
+raise-requires c =
+    let t = c.args.trail.now in
+    let taken = c.take_others.new.others.items in
+    All-permutation (λ m. variable m ≤ t.vars) taken c.put_early_first.new.lits.items c.put_early_first.ensures (λ k d low. (c.in_ok-first.ensures.others.over k d low).1)
