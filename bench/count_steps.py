@@ -273,6 +273,11 @@ class Analysis:
         self.shorten(first)
         lower = [lit for lit in self.touched if lit in self.marked and lit != first]
         back = max((fell[lit] for lit in lower), default=0)
+        early = 0
+        for index, lit in enumerate(lower):
+            if fell[lit] < back // 2:
+                lower[early], lower[index] = lit, lower[early]
+                early += 1
         if lower:
             last = next(index for index, lit in enumerate(lower) if fell[lit] == back)
             lower[0], lower[last] = lower[last], lower[0]
