@@ -11,7 +11,7 @@ use Rattle.cdcl_theory.specs.CodeLaws.{code_of-room, cases_literal, int_eq-same,
 use Rattle.clause_db.specs.declared.watches.Pair.{Pair}
 use Rattle.clause_db.specs.Watching.{list_of, pair_of, pair_at, no_pair, watching_moved}
 use Rattle.clause_db.specs.Stored.{Stored, live_in, Watches, IsLong, IsPair, IsStored, none_stored, added, all_added, rewatched}
-use Rattle.clause_db.specs.StoredLaws.{all_added-push, all_added-none, live_in-start, live_added, live_inside}
+use Rattle.clause_db.specs.StoredLaws.{all_added-push, all_added-none, live_in-start, live_inside}
 use Rattle.std.proofs.lemmas.List.{length_push, length-map, get_or-map}
 use Rattle.std.proofs.lemmas.List.Elements.{Contains-get_or}
 use Rattle.clause_db.specs.Blocking.{row_of, with_row, with_blockers, rows_moved, blocker_at, besides, IsOf, AreBeside, AreBlockers}

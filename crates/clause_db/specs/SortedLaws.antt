@@ -176,15 +176,8 @@ length-sorted xs = length_permutation xs (sorted xs) (sorted_permutes xs)
 pub clause_sorted : (xs : List ℤ) → IsClause xs → IsClause (sorted xs)
 clause_sorted xs clause = clause_permuted xs (sorted xs) (sorted_permutes xs) clause
 
-pub clause_from_sorted : (xs : List ℤ) → IsClause (sorted xs) → IsClause xs
-clause_from_sorted xs clause = clause_permuted (sorted xs) xs (IsPermutation-sym xs (sorted xs) (sorted_permutes xs)) clause
-
 pub within_sorted : (vars : ℕ) (xs : List ℤ) → IsWithin vars xs → IsWithin vars (sorted xs)
 within_sorted vars xs within = All-sorted (λ l. variable l ≤ vars) xs within
-
--- Sorted literals are in order already.
-pub sorted-sorted : (xs : List ℤ) → sorted (sorted xs) ≡ sorted xs
-sorted-sorted xs = sym (sorted_same xs (sorted xs) (sorted_permutes xs))
 
 -- The clauses of a list by their ids, with the literals of each in order.
 get_sorted : (clauses : List (List ℤ)) (k : ℕ) (clause : List ℤ) → slice_get clauses k ≡ Some clause → slice_get (map sorted clauses) k ≡ Some (sorted clause)

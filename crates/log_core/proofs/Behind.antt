@@ -27,6 +27,4 @@ pub ruleset behind = (common_steps, far-none, begins-same, begins-more, begins-o
 
 pub ruleset numbers = (common_steps, written-one, written-two, written-three)
 
-pub ruleset items = (common_steps, begins-same, begins-more, begins-on)
-
 pub ruleset packed = (common_steps, ids_written-more, ids_written-none, literals_written-more, literals_written-none)

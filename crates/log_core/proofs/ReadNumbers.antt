@@ -4,11 +4,6 @@ use Rattle.std.proofs.Math.Logic.{⊎_elim}
 use Rattle.std.proofs.lemmas.Bool.{lt-ltb, le-ltb, ne_eqb, cases_eq}
 use Rattle.log_core.specs.Numbers.{grown, numbers_from, leading, far, written}
 
--- no number that is read grows too large to go on with
-pub grown-le : (n b : ℕ) → grown n b ≤ 17179869184
-unfolding grown
-grown-le n b = omega arith
-
 pub numbers_from-last : (n b : ℕ) (bs : List ℕ) → b < 128 → numbers_from n (b ∷ bs) ≡ (n * 128 + b) ∷ numbers_from 0 bs
 unfolding numbers_from
 numbers_from-last n b bs low = rw (lt-ltb b 128 low) refl
