@@ -41,7 +41,7 @@ impl Search {
         requires live { IsSome (live_in self.now.clauses id) }
         ensures { IsFalse result → IsNoReason self.now id }
     {
-        has_implied(&self.trail, self.clauses.lits(id), id)
+        has_implied(&self.trail, self.clauses.arranged(id), id)
     }
 
     /// Whether another deletion keeps at least half of all additions, or of `least`.
@@ -143,7 +143,7 @@ impl Search {
         if !self.clauses.live(last) {
             return Ok(Vec::new(alloc));
         }
-        let lits = self.clauses.lits(last);
+        let lits = self.clauses.arranged(last);
         self.merits.note(&self.trail, &self.starts, lits)?;
         self.merits.containing(alloc, &self.clauses, lits)
     }

@@ -2,3 +2,4 @@ pub mod Units
 pub mod UnitLaws
 pub mod Inside
 pub mod InsideLaws
+pub mod Rows
