@@ -127,7 +127,11 @@ impl Search {
         if last >= end || !self.clauses.live(id) {
             return Ok(());
         }
-        keep_others(self.clauses.arranged(id), work.finder.gone(), &mut work.rest)?;
+        keep_others(
+            self.clauses.arranged(id),
+            work.finder.gone(),
+            &mut work.rest,
+        )?;
         if work.rest.is_empty() {
             return Ok(());
         }
