@@ -1,4 +1,4 @@
--- The literal that fell last becomes the first of a list.
+-- The literal that fell last becomes the first of a list, and the others change places.
 use Rattle.std.proofs.Common.{◌≡◌, ◌≢◌, ℕ, ◌<◌, ◌≤◌, ◌⊎◌, ℤ, Bool, true, List, length, slice_index_or, slice_set, Contains, All, AllPairs, subst, sym, ap, ◌∙◌, arith, inl, inr, refl}
 use Rattle.std.specs.List.{swap}
 use Rattle.std.specs.List.Sorted.{IsPermutation}
