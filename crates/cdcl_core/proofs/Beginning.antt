@@ -1,4 +1,4 @@
--- The store and the levels before the first step.
+-- The clauses and the levels before the first step.
 use Rattle.std.proofs.Common.{◌≡◌, ℕ, ◌<◌, ℤ, List, [], length, Option, Some, ap, ◌∙◌, arith}
 use Rattle.std.proofs.lemmas.List.{length-map}
 use Rattle.sat_theory.specs.Formula.{Formula}

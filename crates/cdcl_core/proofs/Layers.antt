@@ -253,7 +253,7 @@ learnt_fallen live t start place lits hints learnt k d low =
 pub learnt_over : (live : ℕ → Option (List ℤ)) (t : Trailed) (start place : ℕ) (lits : List ℤ) (hints : List ℕ) → IsLearnt live t start lits place hints → IsOver t.vars (asserting lits)
 learnt_over live t start place lits hints learnt = (learnt.clause.literals 0 (pos 0) learnt.some, learnt.variables 0 (pos 0) learnt.some)
 
--- So the levels last through a backjump, over the clauses of a store.
+-- So the levels last through a backjump, over stored clauses.
 pub jumped_layers : (s : Stored) (t back : Trailed) (starts fewer : List ℕ) (start end place id : ℕ) (lits : List ℤ) (hints : List ℕ) (u : ℤ) → IsLayered (live_in s) t starts → IsLearnt (live_in s) t start lits place hints → IsLastStart starts start → IsDropped place starts fewer end → IsTrail back → IsBack end t back → id ≡ length s.clauses + 1 → u ≡ asserting lits → IsLayered (live_in (added s lits)) (pushed back u id) fewer
 jumped_layers s t back starts fewer start end place id lits hints u layered learnt level dropped trail_back is_back id_is u_is =
     rw u_is (layered_jumped (live_in s) (live_in (added s lits)) t back starts fewer start end place id lits hints

@@ -29,7 +29,8 @@ pub record IsShownAs (entry : Option (List ℤ)) (shown : List ℤ) : Type 0 whe
   pub is : entry ≡ Some given
   pub order : shown ≡ sorted given
 
--- A state has exactly the live clauses and those of the formula, and the last id is its greatest.
+-- A state has exactly the live clauses, up to the order of their literals, and those of the formula,
+-- and the last id is its greatest.
 pub record IsStateOf (f : Formula) (clauses : Stored) (state : State) : Type 0 where
   pub vars : state.vars ≡ f.vars
   pub greatest : state.greatest ≡ length clauses.clauses

@@ -1,5 +1,5 @@
 //! Clauses by their ids, and which literals they watch.
-ghost use Rattle.std.specs.Prelude.{◌≡◌, ℕ, ℤ, ◌≤◌, List, Some, Contains, IsTrue, IfSome};
+ghost use Rattle.std.specs.Prelude.{◌≡◌, ℤ, ◌≤◌, List, Some, Contains, IsTrue, IfSome};
 ghost use Rattle.sat_theory.specs.Formula.{variable as variable_of};
 ghost use Rattle.clause_db.specs.Stored.{live_in, IsLong};
 
@@ -31,7 +31,7 @@ fn database(alloc: Global, clauses: &[&[u8]]) -> Result<ClauseDb, AllocError> {
 }
 
 /// The literals by the ids that they have.
-const HELD: &[(u32, &[i32])] = &[(1, &[1, -2]), (2, &[]), (3, &[3])];
+const HELD: &[(u32, &[i32])] = &[(1, &[-2, 1]), (2, &[]), (3, &[3])];
 
 /// Whether the clauses have their ids, and their literals stand in the order in which they were added.
 fn all_held(clauses: &ClauseDb) -> bool {
@@ -54,7 +54,7 @@ fn have_ids(clauses: &mut ClauseDb) -> Result<bool, AllocError> {
 
 /// Whether clauses have their ids.
 fn are_counted(alloc: Global) -> Result<bool, AllocError> {
-    let mut clauses = database(alloc, &[b"1 1 -2 0 0", b"2 0 0"])?;
+    let mut clauses = database(alloc, &[b"1 -2 1 0 0", b"2 0 0"])?;
     let well = have_ids(&mut clauses);
     drop(clauses);
     well
