@@ -94,7 +94,8 @@ arranged_order blocks new id low high given under inside is = record {
       (cases_eq (k - 1) (id - 1)));
 }
 
--- a clause that is moved, as the code writes it
+-- A clause is moved: its entry is pushed to one list and taken out of the other, and two of its
+-- literals are exchanged. The code exchanges before it takes out, which gives the same.
 pub moved_is : (w a b c : Arranged) (from to m : ℤ) (id index low high : ℕ) → a ≡ record w { lists = with_id w.lists to id; rows = with_blocker w.rows to m } → b ≡ record a { lists = slice_set a.lists (code_of from) (swap_remove (listed_in a.lists from) index 0); rows = with_row a.rows from (swap_remove (row_of a.rows from) index (pos 1)) }
     → c ≡ record b { blocks = slice_set b.blocks (id - 1) (swap (block_at b.blocks id) low high) } → (from ≡ to → ⊥)
     → c ≡ record { blocks = slice_set w.blocks (id - 1) (swap (block_at w.blocks id) low high); lists = slice_set (with_id w.lists to id) (code_of from) (swap_remove (listed_in w.lists from) index 0); rows = rows_moved w.rows from to index m }

@@ -1,4 +1,4 @@
--- A store stays one when a clause is added, and when a clause watches another literal.
+-- The clauses keep their invariant when one is added, and when one watches another literal.
 use Rattle.std.specs.Prelude.{◌≡◌, ◌≢◌, ℕ, ◌+◌, ◌-◌, ◌*◌, ◌<◌, ◌≤◌, ◌⊎◌, ℤ, pos, List, [], ◌∷◌, ◌++◌, length, slice_index_or, slice_set, replicate, Contains, All, AllPairs, Option, Some, refl}
 use Rattle.std.proofs.Common.{sym, ap, ◌∙◌, subst, arith, inl, inr}
 use Rattle.std.proofs.Math.Logic.{⊎_elim}
@@ -173,7 +173,7 @@ stored_added s lits stored is_clause within few = record {
           | inr other ↦ subst (λ (xs : List ℕ). AllPairs (λ a b. a ≢ b) xs) (sym other.1) (stored.once l)
         ]
 
--- what a clause watches in the store with one clause more
+-- what a clause watches where one clause was added
 pub added_watches : (s : Stored) (lits : List ℤ) (id : ℕ) (l : ℤ) → IsStored s → Watches (added s lits) id l → ((id ≡ length s.clauses + 1) × (2 ≤ length lits) × ((l ≡ (pair_of lits).first) ⊎ (l ≡ (pair_of lits).second))) ⊎ Watches s id l
 added_watches s lits id l stored watches = ⊎_elim
     (λ (new : (id ≡ length s.clauses + 1) × (sorted lits ≡ watches.clause)).
@@ -248,7 +248,7 @@ pub record IsMovable (s : Stored) (id : ℕ) (from to : ℤ) (index : ℕ) : Typ
 pub movable_watches : (s : Stored) (id : ℕ) (from to : ℤ) (index : ℕ) → IsStored s → IsMovable s id from to index → Watches s id from
 movable_watches s id from to index stored movable = subst (λ (k : ℕ). Watches s k from) movable.at_index (stored.only from (slice_index_or (list_of s.watches from) index 0) (Contains-get_or (list_of s.watches from) index 0 movable.inside))
 
--- each watch of the new store is one of the old, except the one of `to`
+-- each watch is one of before, except the one of `to`
 pub rewatched_old : (s : Stored) (id : ℕ) (from to : ℤ) (index k : ℕ) (l : ℤ) → IsStored s → IsMovable s id from to index → Watches (rewatched s id from to index) k l → Watches s k l ⊎ ((k ≡ id) × (l ≡ to))
 rewatched_old s id from to index k l stored movable watches =
     let of_from : Watches s id from = movable_watches s id from to index stored movable in
