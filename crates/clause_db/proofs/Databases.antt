@@ -20,7 +20,7 @@ use Rattle.clause_db.specs.Lists.{blockers_of}
 use Rattle.clause_db.proofs.Beside.{blockers_none, blockers_set, blockers_added, blockers_moved}
 use Rattle.clause_db.specs.Arranging.{Arranged, block_at, watching_of, arranged_more, ArePermuted, IsNoneOf, clauses_of, shown}
 use Rattle.clause_db.proofs.Arranging.{pair_block}
-use Rattle.clause_db.proofs.Shown.{clauses_none, are_arranged, moved_long, shown_added, shown_moved}
+use Rattle.clause_db.proofs.Shown.{clauses_none, live_sorted, live_permuted, moved_long, shown_added, shown_moved}
 use Rattle.clause_db.specs.Sorted.{sorted}
 use Rattle.clause_db.specs.SortedLaws.{clause_permuted}
 use Rattle.std.specs.List.Sorted.{IsPermutation}
@@ -70,7 +70,7 @@ pub pair_differ : (s now : Stored) (id : ℕ) (p : Pair) → s ≡ now → IsSto
 pair_differ s now id p view stored p_is long =
     rw p_is (stored.pairs id long.clause (subst (λ (x : Stored). live_in x id ≡ Some long.clause) (sym view) long.is_live) long.long).differ
 
--- the literals of a live clause
+-- there are as many lists of literals as ids
 pub blocks_room : (vars : ℕ) (live : List Bool) (a : Arranged) → IsStored (shown vars live a) → length a.blocks ≡ length (clauses_of live a.blocks)
 blocks_room vars live a stored = sym (length-map a.blocks pair_of) ∙ stored.pairs_room
 
@@ -201,7 +201,7 @@ movable_block vars live a now from to index view stored same movable_now =
     let id : ℕ = slice_index_or (list_of s.watches from) index 0 in
     let movable : IsMovable s id from to index = subst (λ (x : Stored). IsMovable x (slice_index_or (list_of x.watches from) index 0) from to index) (sym view) movable_now in
     let watches : Watches s id from = movable_watches s id from to index stored movable in (
-      Contains-permutation watches.clause (block_at a.blocks id) to ((are_arranged live a.blocks same).same id watches.clause watches.is_live) (movable.there watches.clause watches.is_live),
+      Contains-permutation watches.clause (block_at a.blocks id) to (live_permuted live a.blocks id watches.clause same watches.is_live) (movable.there watches.clause watches.is_live),
       λ which. movable.other (record { clause = watches.clause; is_live = watches.is_live; long = watches.long; watched = subst (λ (p : Pair). (to ≡ p.first) ⊎ (to ≡ p.second)) (sym (pair_block a id)) which }),
     )
 
@@ -212,13 +212,22 @@ movable_two vars live a now from to index view stored same movable_now =
     let id : ℕ = slice_index_or (list_of s.watches from) index 0 in
     let movable : IsMovable s id from to index = subst (λ (x : Stored). IsMovable x (slice_index_or (list_of x.watches from) index 0) from to index) (sym view) movable_now in
     let watches : Watches s id from = movable_watches s id from to index stored movable in
-    let all : length (block_at a.blocks id) ≡ length watches.clause = length_permutation watches.clause (block_at a.blocks id) ((are_arranged live a.blocks same).same id watches.clause watches.is_live) in
+    let all : length (block_at a.blocks id) ≡ length watches.clause = length_permutation watches.clause (block_at a.blocks id) (live_permuted live a.blocks id watches.clause same watches.is_live) in
     let long : 2 ≤ length watches.clause = watches.long in
     omega (arith, all, long)
 
 -- What `arranged` gives is the clause in another order.
 pub block_order : (vars : ℕ) (live : List Bool) (a : Arranged) (now : Stored) (id : ℕ) (block clause : List ℤ) → shown vars live a ≡ now → length live ≡ length a.blocks → block ≡ block_at a.blocks id → live_in now id ≡ Some clause → IsPermutation clause block
-block_order vars live a now id block clause view same block_is is = rw block_is ((are_arranged live a.blocks same).same id clause (subst (λ (x : Stored). live_in x id ≡ Some clause) (sym view) is))
+block_order vars live a now id block clause view same block_is is = rw block_is (live_permuted live a.blocks id clause same (subst (λ (x : Stored). live_in x id ≡ Some clause) (sym view) is))
+
+-- In the order of codes it is the clause.
+pub block_value : (vars : ℕ) (live : List Bool) (a : Arranged) (now : Stored) (id : ℕ) (block : List ℤ)
+    → shown vars live a ≡ now → length live ≡ length a.blocks → block ≡ block_at a.blocks id → IsSome (live_in now id)
+    → live_in now id ≡ Some (sorted block)
+block_value vars live a now id block view same block_is some =
+    let found : (clause : List ℤ) × (live_in now id ≡ Some clause) = some_is (live_in now id) some in
+    let is : sorted (block_at a.blocks id) ≡ found.0 = live_sorted live a.blocks id found.0 same (subst (λ (x : Stored). live_in x id ≡ Some found.0) (sym view) found.1) in
+    found.1 ∙ ap Some (sym is ∙ ap sorted (sym block_is))
 
 pub block_long : (vars : ℕ) (live : List Bool) (a : Arranged) (now : Stored) (id : ℕ) (block clause : List ℤ) → shown vars live a ≡ now → length live ≡ length a.blocks → block ≡ block_at a.blocks id → live_in now id ≡ Some clause → length block ≡ length clause
 block_long vars live a now id block clause view same block_is is = length_permutation clause block (block_order vars live a now id block clause view same block_is is)

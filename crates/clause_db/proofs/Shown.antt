@@ -11,7 +11,7 @@ use Rattle.clause_db.specs.Sorted.{sorted}
 use Rattle.clause_db.specs.SortedLaws.{sorted_permutes, sorted_same}
 use Rattle.clause_db.specs.Stored.{Stored, live_at, live_in, added, rewatched}
 use Rattle.clause_db.specs.StoredLaws.{live_inside}
-use Rattle.clause_db.specs.Arranging.{Arranged, block_at, clauses_of, shown, watching_of, arranged_more, ArePermuted, AreArranged}
+use Rattle.clause_db.specs.Arranging.{Arranged, block_at, clauses_of, shown, watching_of, arranged_more, ArePermuted}
 use Rattle.clause_db.proofs.Arranging.{more_is}
 
 pub clauses_none : (blocks : List (List ℤ)) → clauses_of [] blocks ≡ []
@@ -75,16 +75,17 @@ chosen_is : (b : Bool) (block clause : List ℤ) → (if b then Some (sorted blo
 chosen_is true block clause is = cc
 chosen_is false block clause is = absurd (cc)
 
--- Live clauses have their literals in the blocks.
-pub are_arranged : (live : List Bool) (blocks : List (List ℤ)) → length live ≡ length blocks → AreArranged (clauses_of live blocks) blocks
-are_arranged live blocks same = record { same = each }
-  where
-    each : (id : ℕ) (clause : List ℤ) → live_at (clauses_of live blocks) id ≡ Some clause → IsPermutation clause (block_at blocks id)
-    each zero clause is = absurd (cc)
-    each (suc k) clause is =
-        let block : List ℤ = block_at blocks (suc k) in
-        let sorted_is : sorted block ≡ clause = chosen_is (slice_index_or live (suc k - 1) false) block clause (sym (live_given live blocks (suc k) same (omega arith)) ∙ is) in
-        subst (λ (c : List ℤ). IsPermutation c block) sorted_is (IsPermutation-sym block (sorted block) (sorted_permutes block))
+-- The clause of a live id is its literals in the order of their codes,
+pub live_sorted : (live : List Bool) (blocks : List (List ℤ)) (id : ℕ) (clause : List ℤ) → length live ≡ length blocks → live_at (clauses_of live blocks) id ≡ Some clause → sorted (block_at blocks id) ≡ clause
+live_sorted live blocks zero clause same is = absurd (cc)
+live_sorted live blocks (suc k) clause same is =
+    chosen_is (slice_index_or live (suc k - 1) false) (block_at blocks (suc k)) clause (sym (live_given live blocks (suc k) same (omega arith)) ∙ is)
+
+-- so these are the clause in some order.
+pub live_permuted : (live : List Bool) (blocks : List (List ℤ)) (id : ℕ) (clause : List ℤ) → length live ≡ length blocks → live_at (clauses_of live blocks) id ≡ Some clause → IsPermutation clause (block_at blocks id)
+live_permuted live blocks id clause same is =
+    let block : List ℤ = block_at blocks id in
+    subst (λ (c : List ℤ). IsPermutation c block) (live_sorted live blocks id clause same is) (IsPermutation-sym block (sorted block) (sorted_permutes block))
 
 -- Whether an id is live is its mark.
 chosen_some : (b : Bool) (clause : List ℤ) → IsTrue b ↔ IsSome (if b then Some clause else None)

@@ -107,6 +107,7 @@ impl ClauseDb {
     /// come first.
     pub fn arranged(&self, id: u32) -> &[Lit]
         requires live { IsSome (live_in self.now id) }
+        ensures value { live_in self.now id ≡ Some (sorted result.now) }
         ensures long { (clause : List ℤ) → live_in self.now id ≡ Some clause → length result.now ≡ length clause }
         ensures same { (clause : List ℤ) → live_in self.now id ≡ Some clause → (l : ℤ) → Contains result.now l ↔ Contains clause l }
         ensures front { IsLong self.now id → (2 ≤ length result.now) × (pair_of result.now ≡ pair_at self.now.watches id) }

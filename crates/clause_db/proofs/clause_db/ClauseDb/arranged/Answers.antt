@@ -2,8 +2,11 @@ use Rattle.std.proofs.Common.{subst}
 use Rattle.std.specs.List.Sorted.{IsPermutation}
 use Rattle.std.proofs.lemmas.List.Sorted.{IsPermutation-sym, Contains-permutation}
 use Rattle.clause_db.specs.Stored.{IsStored}
-use Rattle.clause_db.proofs.Databases.{block_order, block_long, block_front, block_clause}
+use Rattle.clause_db.proofs.Databases.{block_value, block_order, block_long, block_front, block_clause}
 use Rattle.clause_db.proofs.clause_db.ClauseDb.arranged.Goals as goal
+
+pub returns-clause-value : goal.returns-clause-value
+returns-clause-value c = block_value c.self.inside.vars c.self.inside.live.items c.self.inside.watches c.args.self.now c.args.id c.block.result.now c.self.view_is c.self.invariant.2 c.block.ensures c.requires.live
 
 pub returns-clause-long : goal.returns-clause-long
 returns-clause-long c = λ clause is. block_long c.self.inside.vars c.self.inside.live.items c.self.inside.watches c.args.self.now c.args.id c.block.result.now clause c.self.view_is c.self.invariant.2 c.block.ensures is
