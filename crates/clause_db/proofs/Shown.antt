@@ -59,7 +59,8 @@ clauses_permuted live blocks new same order = clauses_same live blocks new same 
     each k = (let index : suc k - 1 ≡ k = omega arith in subst (λ (n : ℕ). IsPermutation (slice_index_or blocks n []) (slice_index_or new n [])) index (order.each (suc k)))
 
 -- the entry at an index
-entry_of : (live : List Bool) (blocks : List (List ℤ)) (k : ℕ) → length live ≡ length blocks → option_flatten (slice_get (clauses_of live blocks) k) ≡ (if slice_index_or live k false then Some (sorted (slice_index_or blocks k [])) else None)
+entry_of : (live : List Bool) (blocks : List (List ℤ)) (k : ℕ) → length live ≡ length blocks
+    → option_flatten (slice_get (clauses_of live blocks) k) ≡ (if slice_index_or live k false then Some (sorted (slice_index_or blocks k [])) else None)
 unfolding clauses_of
 entry_of [] [] zero same = refl
 entry_of [] [] (suc k) same = refl
@@ -99,7 +100,8 @@ live_marked live blocks id same some = rw (live_given live blocks id same some) 
 pub shown_added : (vars : ℕ) (live : List Bool) (a : Arranged) (lits : List ℤ) (id : ℕ) → length live ≡ length a.blocks → id ≡ length live + 1 → shown vars (live ++ true ∷ []) (arranged_more a lits id) ≡ added (shown vars live a) lits
 shown_added vars live a lits id same id_is =
     let count : length (clauses_of live a.blocks) ≡ length live = clauses_long live a.blocks same in
-    let watches : watching_of (arranged_more a lits id) ≡ watching_more (watching_of a) lits (length (clauses_of live a.blocks) + 1) = more_is a lits id ∙ ap (watching_more (watching_of a) lits) (id_is ∙ ap (λ (n : ℕ). n + 1) (sym count)) in
+    let watches : watching_of (arranged_more a lits id) ≡ watching_more (watching_of a) lits (length (clauses_of live a.blocks) + 1) =
+    more_is a lits id ∙ ap (watching_more (watching_of a) lits) (id_is ∙ ap (λ (n : ℕ). n + 1) (sym count)) in
     ap (λ (cs : List (Option (List ℤ))). (let s : Stored = record { vars = vars; clauses = cs; watches = watching_of (arranged_more a lits id) } in s)) (clauses_push live a.blocks lits same)
     ∙ ap (λ (w : Watching). (let s : Stored = record { vars = vars; clauses = clauses_of live a.blocks ++ Some (sorted lits) ∷ []; watches = w } in s)) watches
 
@@ -108,13 +110,15 @@ pub moved_long : (a new : Arranged) (id : ℕ) (from to : ℤ) (index : ℕ) →
 moved_long a new id from to index is =
     sym (length-map a.blocks pair_of) ∙ sym (length-set (map pair_of a.blocks) (id - 1) _) ∙ sym (ap (λ (w : Watching). length w.pairs) is) ∙ length-map new.blocks pair_of
 
-pub shown_moved : (vars : ℕ) (live : List Bool) (a new : Arranged) (id : ℕ) (from to : ℤ) (index : ℕ) → watching_of new ≡ watching_moved (watching_of a) id from to index → ArePermuted a.blocks new.blocks → shown vars live new ≡ rewatched (shown vars live a) id from to index
+pub shown_moved : (vars : ℕ) (live : List Bool) (a new : Arranged) (id : ℕ) (from to : ℤ) (index : ℕ) → watching_of new ≡ watching_moved (watching_of a) id from to index
+    → ArePermuted a.blocks new.blocks → shown vars live new ≡ rewatched (shown vars live a) id from to index
 shown_moved vars live a new id from to index is order =
     ap (λ (cs : List (Option (List ℤ))). (let s : Stored = record { vars = vars; clauses = cs; watches = watching_of new } in s)) (sym (clauses_permuted live a.blocks new.blocks (moved_long a new id from to index is) order))
     ∙ ap (λ (w : Watching). (let s : Stored = record { vars = vars; clauses = clauses_of live a.blocks; watches = w } in s)) is
 
 -- whether the id that is asked for is live, as the code reads it
-pub live_read : (vars : ℕ) (live : List Bool) (a : Arranged) (now : Stored) (id : ℕ) (mark : Bool) → shown vars live a ≡ now → length live ≡ length a.blocks → 0 < id → id - 1 < length live → mark ≡ slice_index_or live (id - 1) mark → IsTrue mark ↔ IsSome (live_in now id)
+pub live_read : (vars : ℕ) (live : List Bool) (a : Arranged) (now : Stored) (id : ℕ) (mark : Bool) → shown vars live a ≡ now → length live ≡ length a.blocks → 0 < id
+    → id - 1 < length live → mark ≡ slice_index_or live (id - 1) mark → IsTrue mark ↔ IsSome (live_in now id)
 live_read vars live a now id mark view same some low is =
     let mark_is : mark ≡ slice_index_or live (id - 1) false = get_or_read live (id - 1) mark low is false in
     subst (λ (s : Stored). IsTrue mark ↔ IsSome (live_in s id)) view (subst (λ (b : Bool). IsTrue b ↔ IsSome (live_in (shown vars live a) id)) (sym mark_is) (live_marked live a.blocks id same some))

@@ -78,7 +78,10 @@ long_of lits clause is long = let same : length clause ≡ length lits = ap leng
 pub stored_added : (s : Stored) (lits : List ℤ) → IsStored s → IsClause lits → IsWithin s.vars lits → length s.clauses < 4000000000 → IsStored (added s lits)
 stored_added s lits stored is_clause within few = record {
   clauses = λ id clause is. ⊎_elim (λ (new : (id ≡ next) × (sorted lits ≡ clause)). subst IsClause new.1 (clause_sorted lits is_clause)) (λ (old : live_in s id ≡ Some clause). stored.clauses id clause old) (live_added s lits id clause is);
-  variables = λ id clause is. ⊎_elim (λ (new : (id ≡ next) × (sorted lits ≡ clause)). subst (λ (c : List ℤ). IsWithin s.vars c) new.1 (within_sorted s.vars lits within)) (λ (old : live_in s id ≡ Some clause). stored.variables id clause old) (live_added s lits id clause is);
+  variables = λ id clause is. ⊎_elim
+      (λ (new : (id ≡ next) × (sorted lits ≡ clause)). subst (λ (c : List ℤ). IsWithin s.vars c) new.1 (within_sorted s.vars lits within))
+      (λ (old : live_in s id ≡ Some clause). stored.variables id clause old)
+      (live_added s lits id clause is);
   few = rw length_push (omega arith);
   pairs_room = length_push s.watches.pairs (pair_of lits) ∙ ap (λ (n : ℕ). n + 1) stored.pairs_room ∙ sym (length_push s.clauses (Some (sorted lits)));
   room = lists_room;

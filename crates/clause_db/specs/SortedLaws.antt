@@ -1,6 +1,6 @@
 -- The order of codes keeps the literals of a list, and is the same for all orders of them.
 use Rattle.std.specs.Prelude.{◌≡◌, ◌≢◌, ℕ, zero, suc, ◌+◌, ◌-◌, ◌<◌, ◌≤◌, ◌==◌, false, ℤ, pos, List, [], ◌∷◌, map, length, slice_get, slice_index_or, slice_set, Contains, All, AllPairs, Some, refl}
-use Rattle.std.specs.List.{swap}
+use Rattle.std.specs.List.{swap, IsDistinct}
 use Rattle.std.specs.List.Sorted.{IsPermutation, IsNonDecreasingBy}
 use Rattle.std.proofs.Common.{sym, ap, ◌∙◌, subst, arith}
 use Rattle.std.proofs.Math.Logic.{⊎_elim}
@@ -79,7 +79,8 @@ sorted_rises (x ∷ xs) = inserted_rises x (sorted xs) (sorted_rises xs)
 
 -- two literals in either order
 inserted_both : (a b : ℤ) (xs : List ℤ) → code_of a < code_of b → inserted a (inserted b xs) ≡ inserted b (inserted a xs)
-inserted_both a b [] less = ap (inserted a) (inserted_alone b) ∙ inserted_before a b [] (omega (arith, less)) ∙ ap (λ (ys : List ℤ). a ∷ ys) (sym (inserted_alone b)) ∙ sym (inserted_after b a [] less) ∙ ap (inserted b) (sym (inserted_alone a))
+inserted_both a b [] less =
+    ap (inserted a) (inserted_alone b) ∙ inserted_before a b [] (omega (arith, less)) ∙ ap (λ (ys : List ℤ). a ∷ ys) (sym (inserted_alone b)) ∙ sym (inserted_after b a [] less) ∙ ap (inserted b) (sym (inserted_alone a))
 inserted_both a b (m ∷ ms) less = ⊎_elim
     (λ (first : code_of m < code_of a).
     ap (inserted a) (inserted_after b m ms (omega (arith, first, less))) ∙ inserted_after a m (inserted b ms) first ∙ ap (λ (ys : List ℤ). m ∷ ys) (inserted_both a b ms less)
@@ -116,8 +117,16 @@ inserted_long l xs = let long : length (inserted l xs) ≡ suc (length xs) = len
 -- a literal is put into one list alone
 inserted_same : (l : ℤ) (xs ys : List ℤ) → inserted l xs ≡ inserted l ys → xs ≡ ys
 inserted_same l [] [] e = refl
-inserted_same l [] (y ∷ ys) e = absurd (let n : length (inserted l []) ≡ length (inserted l (y ∷ ys)) = ap length e in let short : length (inserted l []) ≡ 0 + 1 = inserted_long l [] in let long : length (inserted l (y ∷ ys)) ≡ suc (length ys) + 1 = inserted_long l (y ∷ ys) in omega (arith, n, short, long))
-inserted_same l (x ∷ xs) [] e = absurd (let n : length (inserted l (x ∷ xs)) ≡ length (inserted l []) = ap length e in let short : length (inserted l []) ≡ 0 + 1 = inserted_long l [] in let long : length (inserted l (x ∷ xs)) ≡ suc (length xs) + 1 = inserted_long l (x ∷ xs) in omega (arith, n, short, long))
+inserted_same l [] (y ∷ ys) e = absurd (
+    let n : length (inserted l []) ≡ length (inserted l (y ∷ ys)) = ap length e in
+    let short : length (inserted l []) ≡ 0 + 1 = inserted_long l [] in
+    let long : length (inserted l (y ∷ ys)) ≡ suc (length ys) + 1 = inserted_long l (y ∷ ys) in
+    omega (arith, n, short, long))
+inserted_same l (x ∷ xs) [] e = absurd (
+    let n : length (inserted l (x ∷ xs)) ≡ length (inserted l []) = ap length e in
+    let short : length (inserted l []) ≡ 0 + 1 = inserted_long l [] in
+    let long : length (inserted l (x ∷ xs)) ≡ suc (length xs) + 1 = inserted_long l (x ∷ xs) in
+    omega (arith, n, short, long))
 inserted_same l (x ∷ xs) (y ∷ ys) e = ⊎_elim
     (λ (first : code_of x < code_of l). ⊎_elim
     (λ (second : code_of y < code_of l).
@@ -183,11 +192,16 @@ differ_again lits differ i j d order high e =
 pub clause_permuted : (lits new : List ℤ) → IsPermutation lits new → IsClause lits → IsClause new
 clause_permuted lits new order clause = record {
   literals = All-permutation (λ l. 0 < variable l) lits new order clause.literals;
-  differ = differ_again new (AllPairs-from_IsDistinct Decides-eqb (map variable new) (IsDistinct-IsPermutation (λ a b. a == b) flips (map variable lits) (map variable new) (IsPermutation-map variable lits new order) (IsDistinct-from_AllPairs Decides-eqb (map variable lits) (variables_differ lits clause.differ))));
+  differ = differ_again new (AllPairs-from_IsDistinct Decides-eqb (map variable new) distinct);
 }
   where
     flips : (a b : ℕ) → (a == b) ≡ (b == a)
     flips a b = grind (arith, common_steps)
+
+    distinct : IsDistinct (λ a b. a == b) (map variable new)
+    distinct =
+        IsDistinct-IsPermutation (λ a b. a == b) flips (map variable lits) (map variable new) (IsPermutation-map variable lits new order)
+        (IsDistinct-from_AllPairs Decides-eqb (map variable lits) (variables_differ lits clause.differ))
 
 -- What holds of the literals holds of them in the order of codes, and the other way round.
 pub Contains-sorted : (xs : List ℤ) (l : ℤ) → Contains xs l → Contains (sorted xs) l
