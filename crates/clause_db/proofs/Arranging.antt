@@ -94,7 +94,8 @@ arranged_order blocks new id low high given under inside is = record {
       (cases_eq (k - 1) (id - 1)));
 }
 
--- a clause that is moved, as the code writes it
+-- A clause is moved: its entry is pushed to one list and taken out of the other, and two of its
+-- literals are exchanged. The code exchanges before it takes out, which gives the same.
 pub moved_is : (w a b c : Arranged) (from to m : ℤ) (id index low high : ℕ) → a ≡ record w { lists = with_id w.lists to id; rows = with_blocker w.rows to m } → b ≡ record a { lists = slice_set a.lists (code_of from) (swap_remove (listed_in a.lists from) index 0); rows = with_row a.rows from (swap_remove (row_of a.rows from) index (pos 1)) }
     → c ≡ record b { blocks = slice_set b.blocks (id - 1) (swap (block_at b.blocks id) low high) } → (from ≡ to → ⊥)
     → c ≡ record { blocks = slice_set w.blocks (id - 1) (swap (block_at w.blocks id) low high); lists = slice_set (with_id w.lists to id) (code_of from) (swap_remove (listed_in w.lists from) index 0); rows = rows_moved w.rows from to index m }
@@ -129,20 +130,30 @@ besides_is lits from m low found two is = ⊎_elim
 pub pushed_list : (w a : Arranged) (from to m : ℤ) (id : ℕ) → a ≡ record w { lists = with_id w.lists to id; rows = with_blocker w.rows to m } → (from ≡ to → ⊥) → listed_in a.lists from ≡ listed_in w.lists from
 pushed_list w a from to m id pushed apart = ap (λ (x : Arranged). listed_in x.lists from) pushed ∙ listed-other w.lists to from _ apart
 
-pub all_moved : (w a b c : Arranged) (from to m : ℤ) (block : List ℤ) (id place index low high : ℕ) → a ≡ record w { lists = with_id w.lists to id; rows = with_blocker w.rows to m } → b ≡ record a { lists = slice_set a.lists (code_of from) (swap_remove (listed_in a.lists from) index 0); rows = with_row a.rows from (swap_remove (row_of a.rows from) index (pos 1)) }
-    → c ≡ record b { blocks = slice_set b.blocks (id - 1) (swap (block_at b.blocks id) low high) } → (from ≡ to → ⊥) → id ≡ place → (0 < place) × (place ≤ length w.blocks) → block ≡ block_at w.blocks id → IsFound block from low → high < length block → ((d : ℤ) → slice_index_or block high d ≡ to)
-    → 2 ≤ length (block_at w.blocks place) → m ≡ slice_index_or block (1 - low) m → IsNoneOf (pair_of (block_at w.blocks place)) to
-    → (watching_of c ≡ watching_moved (watching_of w) place from to index) × (c.rows ≡ rows_moved w.rows from to index (besides (pair_of (block_at w.blocks place)) from)) × ArePermuted w.blocks c.blocks
-all_moved w a b c from to m block id place index low high pushed taken exchanged apart same given block_is found_in inside_in at_in two m_is other =
-    let block_at_place : block ≡ block_at w.blocks place = block_is ∙ ap (λ (n : ℕ). block_at w.blocks n) same in
-    let found : IsFound (block_at w.blocks place) from low = subst (λ (xs : List ℤ). IsFound xs from low) block_at_place found_in in
-    let inside : high < length (block_at w.blocks place) = subst (λ (xs : List ℤ). high < length xs) block_at_place inside_in in
-    let at : (d : ℤ) → slice_index_or (block_at w.blocks place) high d ≡ to = subst (λ (xs : List ℤ). (d : ℤ) → slice_index_or xs high d ≡ to) block_at_place at_in in
-    let kept : m ≡ slice_index_or (block_at w.blocks place) (1 - low) m = subst (λ (xs : List ℤ). m ≡ slice_index_or xs (1 - low) m) block_at_place m_is in
-    let is : c ≡ record { blocks = slice_set w.blocks (place - 1) (swap (block_at w.blocks place) low high); lists = slice_set (with_id w.lists to place) (code_of from) (swap_remove (listed_in w.lists from) index 0); rows = rows_moved w.rows from to index m } = subst (λ (n : ℕ). c ≡ record { blocks = slice_set w.blocks (n - 1) (swap (block_at w.blocks n) low high); lists = slice_set (with_id w.lists to n) (code_of from) (swap_remove (listed_in w.lists from) index 0); rows = rows_moved w.rows from to index m }) same (moved_is w a b c from to m id index low high pushed taken exchanged apart) in
-    let blocks : c.blocks ≡ slice_set w.blocks (place - 1) (swap (block_at w.blocks place) low high) = ap (λ (x : Arranged). x.blocks) is in
+-- What has changed where a clause watches another literal: its pair and two lists, their blocking
+-- literals, and the order of its literals.
+abbrev pub IsMoved : Arranged → Arranged → ℕ → ℤ → ℤ → ℕ → Type 0
+IsMoved w c id from to index =
+    (watching_of c ≡ watching_moved (watching_of w) id from to index)
+    × (c.rows ≡ rows_moved w.rows from to index (besides (pair_of (block_at w.blocks id)) from))
+    × ArePermuted w.blocks c.blocks
+
+pub all_moved : (w a b c : Arranged) (from to m : ℤ) (block : List ℤ) (id index low high : ℕ)
+    → a ≡ record w { lists = with_id w.lists to id; rows = with_blocker w.rows to m }
+    → b ≡ record a { lists = slice_set a.lists (code_of from) (swap_remove (listed_in a.lists from) index 0); rows = with_row a.rows from (swap_remove (row_of a.rows from) index (pos 1)) }
+    → c ≡ record b { blocks = slice_set b.blocks (id - 1) (swap (block_at b.blocks id) low high) } → (from ≡ to → ⊥)
+    → (0 < id) × (id ≤ length w.blocks) → block ≡ block_at w.blocks id → IsFound block from low → high < length block → ((d : ℤ) → slice_index_or block high d ≡ to)
+    → 2 ≤ length (block_at w.blocks id) → m ≡ slice_index_or block (1 - low) m → IsNoneOf (pair_of (block_at w.blocks id)) to → IsMoved w c id from to index
+all_moved w a b c from to m block id index low high pushed taken exchanged apart given block_is found_in inside_in at_in two m_is other =
+    let found : IsFound (block_at w.blocks id) from low = subst (λ (xs : List ℤ). IsFound xs from low) block_is found_in in
+    let inside : high < length (block_at w.blocks id) = subst (λ (xs : List ℤ). high < length xs) block_is inside_in in
+    let at : (d : ℤ) → slice_index_or (block_at w.blocks id) high d ≡ to = subst (λ (xs : List ℤ). (d : ℤ) → slice_index_or xs high d ≡ to) block_is at_in in
+    let kept : m ≡ slice_index_or (block_at w.blocks id) (1 - low) m = subst (λ (xs : List ℤ). m ≡ slice_index_or xs (1 - low) m) block_is m_is in
+    let is : c ≡ record { blocks = slice_set w.blocks (id - 1) (swap (block_at w.blocks id) low high); lists = slice_set (with_id w.lists to id) (code_of from) (swap_remove (listed_in w.lists from) index 0); rows = rows_moved w.rows from to index m }
+    = moved_is w a b c from to m id index low high pushed taken exchanged apart in
+    let blocks : c.blocks ≡ slice_set w.blocks (id - 1) (swap (block_at w.blocks id) low high) = ap (λ (x : Arranged). x.blocks) is in
     let rows : c.rows ≡ rows_moved w.rows from to index m = ap (λ (x : Arranged). x.rows) is in (
-      moved_watching w c from to place index low high _ is found inside at other,
-      rows ∙ ap (λ (x : ℤ). rows_moved w.rows from to index x) (besides_is (block_at w.blocks place) from m low found two kept),
-      arranged_order w.blocks c.blocks place low high (omega (arith, given.0, given.1)) (low_high (block_at w.blocks place) from to low high found at other) inside blocks,
+      moved_watching w c from to id index low high _ is found inside at other,
+      rows ∙ ap (λ (x : ℤ). rows_moved w.rows from to index x) (besides_is (block_at w.blocks id) from m low found two kept),
+      arranged_order w.blocks c.blocks id low high (omega (arith, given.0, given.1)) (low_high (block_at w.blocks id) from to low high found at other) inside blocks,
     )

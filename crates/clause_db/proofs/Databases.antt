@@ -20,7 +20,7 @@ use Rattle.clause_db.specs.Lists.{blockers_of}
 use Rattle.clause_db.proofs.Beside.{blockers_none, blockers_set, blockers_added, blockers_moved}
 use Rattle.clause_db.specs.Arranging.{Arranged, block_at, watching_of, arranged_more, ArePermuted, IsNoneOf, clauses_of, shown}
 use Rattle.clause_db.proofs.Arranging.{pair_block}
-use Rattle.clause_db.proofs.Shown.{clauses_none, are_arranged, moved_long, shown_added, shown_moved}
+use Rattle.clause_db.proofs.Shown.{clauses_none, live_sorted, live_permuted, moved_long, shown_added, shown_moved}
 use Rattle.clause_db.specs.Sorted.{sorted}
 use Rattle.clause_db.specs.SortedLaws.{clause_permuted}
 use Rattle.std.specs.List.Sorted.{IsPermutation}
@@ -70,7 +70,7 @@ pub pair_differ : (s now : Stored) (id : ℕ) (p : Pair) → s ≡ now → IsSto
 pair_differ s now id p view stored p_is long =
     rw p_is (stored.pairs id long.clause (subst (λ (x : Stored). live_in x id ≡ Some long.clause) (sym view) long.is_live) long.long).differ
 
--- the literals of a live clause
+-- there are as many lists of literals as ids
 pub blocks_room : (vars : ℕ) (live : List Bool) (a : Arranged) → IsStored (shown vars live a) → length a.blocks ≡ length (clauses_of live a.blocks)
 blocks_room vars live a stored = sym (length-map a.blocks pair_of) ∙ stored.pairs_room
 
@@ -86,7 +86,9 @@ movable_rooms s now from to index view stored movable_now =
     let to_low : variable to ≤ s.vars = All-contains (λ m. variable m ≤ s.vars) watches.clause to (stored.variables (slice_index_or (list_of s.watches from) index 0) watches.clause watches.is_live) (movable.there watches.clause watches.is_live) in
     (rw stored.room (code_of-room from s.vars (watched_variable s (slice_index_or (list_of s.watches from) index 0) from stored watches)), rw stored.room (code_of-room to s.vars to_low))
 
-pub movable_given : (vars : ℕ) (live : List Bool) (a : Arranged) (now : Stored) (from to : ℤ) (index : ℕ) → shown vars live a ≡ now → IsStored (shown vars live a) → IsMovable now (slice_index_or (list_of now.watches from) index 0) from to index → (0 < slice_index_or (list_of (watching_of a) from) index 0) × (slice_index_or (list_of (watching_of a) from) index 0 ≤ length a.blocks)
+pub movable_given : (vars : ℕ) (live : List Bool) (a : Arranged) (now : Stored) (from to : ℤ) (index : ℕ) → shown vars live a ≡ now → IsStored (shown vars live a)
+    → IsMovable now (slice_index_or (list_of now.watches from) index 0) from to index
+    → (0 < slice_index_or (list_of (watching_of a) from) index 0) × (slice_index_or (list_of (watching_of a) from) index 0 ≤ length a.blocks)
 movable_given vars live a now from to index view stored movable_now =
     let s : Stored = shown vars live a in
     let movable : IsMovable s (slice_index_or (list_of s.watches from) index 0) from to index = subst (λ (x : Stored). IsMovable x (slice_index_or (list_of x.watches from) index 0) from to index) (sym view) movable_now in
@@ -108,10 +110,12 @@ whole_none vars live a live_is a_is = rw (live_is, a_is) ((stored_of (clauses_no
     blockers_of_none e = rw e (blockers_none vars)
 
 -- A clause is added.
-pub added_is : (vars : ℕ) (live : List Bool) (a : Arranged) (now : Stored) (lits : List ℤ) (live_new : List Bool) (a_new : Arranged) (id : ℕ) → shown vars live a ≡ now → length live ≡ length a.blocks → live_new ≡ live ++ true ∷ [] → a_new ≡ arranged_more a lits id → id ≡ length live + 1 → shown vars live_new a_new ≡ added now lits
+pub added_is : (vars : ℕ) (live : List Bool) (a : Arranged) (now : Stored) (lits : List ℤ) (live_new : List Bool) (a_new : Arranged) (id : ℕ) → shown vars live a ≡ now
+    → length live ≡ length a.blocks → live_new ≡ live ++ true ∷ [] → a_new ≡ arranged_more a lits id → id ≡ length live + 1 → shown vars live_new a_new ≡ added now lits
 added_is vars live a now lits live_new a_new id view same live_is a_is id_is = rw (live_is, a_is) (shown_added vars live a lits id same id_is ∙ ap (λ (s : Stored). added s lits) view)
 
-pub whole_added : (vars : ℕ) (live : List Bool) (a : Arranged) (now : Stored) (lits : List ℤ) (live_new : List Bool) (a_new : Arranged) (id : ℕ) → shown vars live a ≡ now → AreWhole vars live a → IsClause lits → IsWithin now.vars lits → length now.clauses < 4000000000
+pub whole_added : (vars : ℕ) (live : List Bool) (a : Arranged) (now : Stored) (lits : List ℤ) (live_new : List Bool) (a_new : Arranged) (id : ℕ) → shown vars live a ≡ now
+    → AreWhole vars live a → IsClause lits → IsWithin now.vars lits → length now.clauses < 4000000000
     → live_new ≡ live ++ true ∷ [] → a_new ≡ arranged_more a lits id → id ≡ length live + 1 → AreWhole vars live_new a_new
 whole_added vars live a now lits live_new a_new id view whole is_clause within few live_is a_is id_is =
     let is : shown vars live_new a_new ≡ added now lits = added_is vars live a now lits live_new a_new id view whole.2 live_is a_is id_is in
@@ -124,7 +128,9 @@ whole_added vars live a now lits live_new a_new id view whole is_clause within f
       long ∙ ap (λ (n : ℕ). n + 1) whole.2 ∙ sym room,
     )
 
-pub whole_set : (vars : ℕ) (live : List Bool) (a : Arranged) (now : Stored) (a_new : Arranged) (l m : ℤ) (index : ℕ) → shown vars live a ≡ now → AreWhole vars live a → variable l ≤ now.vars → index < length (list_of now.watches l) → IsOf now (slice_index_or (list_of now.watches l) index 0) m → a_new ≡ record a { rows = with_row a.rows l (slice_set (row_of a.rows l) index m) } → AreWhole vars live a_new
+pub whole_set : (vars : ℕ) (live : List Bool) (a : Arranged) (now : Stored) (a_new : Arranged) (l m : ℤ) (index : ℕ) → shown vars live a ≡ now → AreWhole vars live a
+    → variable l ≤ now.vars → index < length (list_of now.watches l) → IsOf now (slice_index_or (list_of now.watches l) index 0) m
+    → a_new ≡ record a { rows = with_row a.rows l (slice_set (row_of a.rows l) index m) } → AreWhole vars live a_new
 whole_set vars live a now a_new l m index view whole low inside of new_is =
     let s : Stored = shown vars live a in
     let room : code_of l < length a.rows = rw whole.1.room (code_of-room l s.vars (subst (λ (x : Stored). variable l ≤ x.vars) (sym view) low)) in
@@ -178,7 +184,9 @@ found_moved s new from to id index movable is = (index, movable, is ∙ ap (λ (
 besides_of : (p : Pair) (l : ℤ) → (besides p l ≡ p.first) ⊎ (besides p l ≡ p.second)
 besides_of p l = ⊎_elim (λ (e : p.first ≡ l). inr (rw (int_eq-same p.first l e) refl)) (λ (apart : p.first ≡ l → ⊥). inl (rw (int_eq-other p.first l apart) refl)) (cases_literal p.first l)
 
-pub whole_moved : (vars : ℕ) (live : List Bool) (a a_new : Arranged) (id : ℕ) (from to : ℤ) (index : ℕ) → AreWhole vars live a → IsMovable (shown vars live a) id from to index → watching_of a_new ≡ watching_moved (watching_of a) id from to index → a_new.rows ≡ rows_moved a.rows from to index (besides (pair_of (block_at a.blocks id)) from) → ArePermuted a.blocks a_new.blocks → AreWhole vars live a_new
+pub whole_moved : (vars : ℕ) (live : List Bool) (a a_new : Arranged) (id : ℕ) (from to : ℤ) (index : ℕ) → AreWhole vars live a
+    → IsMovable (shown vars live a) id from to index → watching_of a_new ≡ watching_moved (watching_of a) id from to index
+    → a_new.rows ≡ rows_moved a.rows from to index (besides (pair_of (block_at a.blocks id)) from) → ArePermuted a.blocks a_new.blocks → AreWhole vars live a_new
 whole_moved vars live a a_new id from to index whole movable w_is rows_is order =
     let s : Stored = shown vars live a in
     let m : ℤ = besides (pair_of (block_at a.blocks id)) from in
@@ -195,40 +203,57 @@ whole_moved vars live a a_new id from to index whole movable w_is rows_is order 
     )
 
 -- the literal to take is one of the clause, and isn't watched
-pub movable_block : (vars : ℕ) (live : List Bool) (a : Arranged) (now : Stored) (from to : ℤ) (index : ℕ) → shown vars live a ≡ now → IsStored (shown vars live a) → length live ≡ length a.blocks → IsMovable now (slice_index_or (list_of now.watches from) index 0) from to index → Contains (block_at a.blocks (slice_index_or (list_of (watching_of a) from) index 0)) to × IsNoneOf (pair_of (block_at a.blocks (slice_index_or (list_of (watching_of a) from) index 0))) to
+pub movable_block : (vars : ℕ) (live : List Bool) (a : Arranged) (now : Stored) (from to : ℤ) (index : ℕ) → shown vars live a ≡ now → IsStored (shown vars live a)
+    → length live ≡ length a.blocks → IsMovable now (slice_index_or (list_of now.watches from) index 0) from to index
+    → Contains (block_at a.blocks (slice_index_or (list_of (watching_of a) from) index 0)) to × IsNoneOf (pair_of (block_at a.blocks (slice_index_or (list_of (watching_of a) from) index 0))) to
 movable_block vars live a now from to index view stored same movable_now =
     let s : Stored = shown vars live a in
     let id : ℕ = slice_index_or (list_of s.watches from) index 0 in
     let movable : IsMovable s id from to index = subst (λ (x : Stored). IsMovable x (slice_index_or (list_of x.watches from) index 0) from to index) (sym view) movable_now in
     let watches : Watches s id from = movable_watches s id from to index stored movable in (
-      Contains-permutation watches.clause (block_at a.blocks id) to ((are_arranged live a.blocks same).same id watches.clause watches.is_live) (movable.there watches.clause watches.is_live),
+      Contains-permutation watches.clause (block_at a.blocks id) to (live_permuted live a.blocks id watches.clause same watches.is_live) (movable.there watches.clause watches.is_live),
       λ which. movable.other (record { clause = watches.clause; is_live = watches.is_live; long = watches.long; watched = subst (λ (p : Pair). (to ≡ p.first) ⊎ (to ≡ p.second)) (sym (pair_block a id)) which }),
     )
 
 -- it has two literals
-pub movable_two : (vars : ℕ) (live : List Bool) (a : Arranged) (now : Stored) (from to : ℤ) (index : ℕ) → shown vars live a ≡ now → IsStored (shown vars live a) → length live ≡ length a.blocks → IsMovable now (slice_index_or (list_of now.watches from) index 0) from to index → 2 ≤ length (block_at a.blocks (slice_index_or (list_of (watching_of a) from) index 0))
+pub movable_two : (vars : ℕ) (live : List Bool) (a : Arranged) (now : Stored) (from to : ℤ) (index : ℕ) → shown vars live a ≡ now → IsStored (shown vars live a)
+    → length live ≡ length a.blocks → IsMovable now (slice_index_or (list_of now.watches from) index 0) from to index
+    → 2 ≤ length (block_at a.blocks (slice_index_or (list_of (watching_of a) from) index 0))
 movable_two vars live a now from to index view stored same movable_now =
     let s : Stored = shown vars live a in
     let id : ℕ = slice_index_or (list_of s.watches from) index 0 in
     let movable : IsMovable s id from to index = subst (λ (x : Stored). IsMovable x (slice_index_or (list_of x.watches from) index 0) from to index) (sym view) movable_now in
     let watches : Watches s id from = movable_watches s id from to index stored movable in
-    let all : length (block_at a.blocks id) ≡ length watches.clause = length_permutation watches.clause (block_at a.blocks id) ((are_arranged live a.blocks same).same id watches.clause watches.is_live) in
+    let all : length (block_at a.blocks id) ≡ length watches.clause = length_permutation watches.clause (block_at a.blocks id) (live_permuted live a.blocks id watches.clause same watches.is_live) in
     let long : 2 ≤ length watches.clause = watches.long in
     omega (arith, all, long)
 
 -- What `arranged` gives is the clause in another order.
-pub block_order : (vars : ℕ) (live : List Bool) (a : Arranged) (now : Stored) (id : ℕ) (block clause : List ℤ) → shown vars live a ≡ now → length live ≡ length a.blocks → block ≡ block_at a.blocks id → live_in now id ≡ Some clause → IsPermutation clause block
-block_order vars live a now id block clause view same block_is is = rw block_is ((are_arranged live a.blocks same).same id clause (subst (λ (x : Stored). live_in x id ≡ Some clause) (sym view) is))
+pub block_order : (vars : ℕ) (live : List Bool) (a : Arranged) (now : Stored) (id : ℕ) (block clause : List ℤ) → shown vars live a ≡ now → length live ≡ length a.blocks
+    → block ≡ block_at a.blocks id → live_in now id ≡ Some clause → IsPermutation clause block
+block_order vars live a now id block clause view same block_is is = rw block_is (live_permuted live a.blocks id clause same (subst (λ (x : Stored). live_in x id ≡ Some clause) (sym view) is))
 
-pub block_long : (vars : ℕ) (live : List Bool) (a : Arranged) (now : Stored) (id : ℕ) (block clause : List ℤ) → shown vars live a ≡ now → length live ≡ length a.blocks → block ≡ block_at a.blocks id → live_in now id ≡ Some clause → length block ≡ length clause
+-- In the order of codes it is the clause.
+pub block_value : (vars : ℕ) (live : List Bool) (a : Arranged) (now : Stored) (id : ℕ) (block : List ℤ)
+    → shown vars live a ≡ now → length live ≡ length a.blocks → block ≡ block_at a.blocks id → IsSome (live_in now id)
+    → live_in now id ≡ Some (sorted block)
+block_value vars live a now id block view same block_is some =
+    let found : (clause : List ℤ) × (live_in now id ≡ Some clause) = some_is (live_in now id) some in
+    let is : sorted (block_at a.blocks id) ≡ found.0 = live_sorted live a.blocks id found.0 same (subst (λ (x : Stored). live_in x id ≡ Some found.0) (sym view) found.1) in
+    found.1 ∙ ap Some (sym is ∙ ap sorted (sym block_is))
+
+pub block_long : (vars : ℕ) (live : List Bool) (a : Arranged) (now : Stored) (id : ℕ) (block clause : List ℤ) → shown vars live a ≡ now → length live ≡ length a.blocks
+    → block ≡ block_at a.blocks id → live_in now id ≡ Some clause → length block ≡ length clause
 block_long vars live a now id block clause view same block_is is = length_permutation clause block (block_order vars live a now id block clause view same block_is is)
 
-pub block_front : (vars : ℕ) (live : List Bool) (a : Arranged) (now : Stored) (id : ℕ) (block : List ℤ) → shown vars live a ≡ now → length live ≡ length a.blocks → block ≡ block_at a.blocks id → IsLong now id → (2 ≤ length block) × (pair_of block ≡ pair_at now.watches id)
+pub block_front : (vars : ℕ) (live : List Bool) (a : Arranged) (now : Stored) (id : ℕ) (block : List ℤ) → shown vars live a ≡ now → length live ≡ length a.blocks
+    → block ≡ block_at a.blocks id → IsLong now id → (2 ≤ length block) × (pair_of block ≡ pair_at now.watches id)
 block_front vars live a now id block view same block_is long =
     let all : length block ≡ length long.clause = length_permutation long.clause block (block_order vars live a now id block long.clause view same block_is long.is_live) in
     (omega (arith, all, long.long), ap pair_of block_is ∙ sym (pair_block a id) ∙ ap (λ (x : Stored). pair_at x.watches id) view)
 
-pub block_clause : (vars : ℕ) (live : List Bool) (a : Arranged) (now : Stored) (id : ℕ) (block : List ℤ) → shown vars live a ≡ now → IsStored now → length live ≡ length a.blocks → block ≡ block_at a.blocks id → IsSome (live_in now id) → IsClause block × IsWithin now.vars block
+pub block_clause : (vars : ℕ) (live : List Bool) (a : Arranged) (now : Stored) (id : ℕ) (block : List ℤ) → shown vars live a ≡ now → IsStored now
+    → length live ≡ length a.blocks → block ≡ block_at a.blocks id → IsSome (live_in now id) → IsClause block × IsWithin now.vars block
 block_clause vars live a now id block view stored same block_is some =
     let found : (clause : List ℤ) × (live_in now id ≡ Some clause) = some_is (live_in now id) some in
     let order : IsPermutation found.0 block = block_order vars live a now id block found.0 view same block_is found.1 in

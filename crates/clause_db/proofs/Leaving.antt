@@ -19,7 +19,8 @@ use Rattle.clause_db.proofs.Beside.{blockers_left, blockers_fewer}
 use Rattle.clause_db.proofs.Databases.{AreWhole}
 
 -- the clause that two literals watch left their lists
-pub is_left : (vars : ℕ) (live : List Bool) (a : Arranged) (id : ℕ) (one other : ℤ) (index place : ℕ) → IsStored (shown vars live a) → Watches (shown vars live a) id one → Watches (shown vars live a) id other → (one ≡ other → ⊥) → ((l : ℤ) → Watches (shown vars live a) id l → (l ≡ one) ⊎ (l ≡ other))
+pub is_left : (vars : ℕ) (live : List Bool) (a : Arranged) (id : ℕ) (one other : ℤ) (index place : ℕ) → IsStored (shown vars live a) → Watches (shown vars live a) id one
+    → Watches (shown vars live a) id other → (one ≡ other → ⊥) → ((l : ℤ) → Watches (shown vars live a) id l → (l ≡ one) ⊎ (l ≡ other))
     → index < length (listed_in a.lists one) → slice_index_or (listed_in a.lists one) index 0 ≡ id → place < length (listed_in a.lists other) → slice_index_or (listed_in a.lists other) place 0 ≡ id
     → IsDeleted id (shown vars live a) (shown vars (slice_set live (id - 1) false) (arranged_without (arranged_left (arranged_left a one index) other place) id))
 is_left vars live a id one other index place stored w_one w_other apart only inside_one at_one inside_other at_other = record {
@@ -65,19 +66,24 @@ marks_left : (live : List Bool) (blocks : List (List ℤ)) (k : ℕ) → length 
 marks_left live blocks k same = length-set live k false ∙ same ∙ sym (length-set blocks k [])
 
 -- The invariant holds of what is left.
-pub whole_left : (vars : ℕ) (live : List Bool) (a : Arranged) (id : ℕ) (clause : List ℤ) (one other : ℤ) (index place : ℕ) → AreWhole vars live a → live_in (shown vars live a) id ≡ Some clause → Watches (shown vars live a) id one → Watches (shown vars live a) id other → (one ≡ other → ⊥)
-    → index < length (listed_in a.lists one) → place < length (listed_in a.lists other) → IsDeleted id (shown vars live a) (shown vars (slice_set live (id - 1) false) (arranged_without (arranged_left (arranged_left a one index) other place) id))
+pub whole_left : (vars : ℕ) (live : List Bool) (a : Arranged) (id : ℕ) (clause : List ℤ) (one other : ℤ) (index place : ℕ) → AreWhole vars live a
+    → live_in (shown vars live a) id ≡ Some clause → Watches (shown vars live a) id one → Watches (shown vars live a) id other → (one ≡ other → ⊥)
+    → index < length (listed_in a.lists one) → place < length (listed_in a.lists other)
+    → IsDeleted id (shown vars live a) (shown vars (slice_set live (id - 1) false) (arranged_without (arranged_left (arranged_left a one index) other place) id))
     → AreWhole vars (slice_set live (id - 1) false) (arranged_without (arranged_left (arranged_left a one index) other place) id)
 whole_left vars live a id clause one other index place whole is w_one w_other apart inside_one inside_other deleted =
     let some : 0 < id = (live_inside (shown vars live a) id clause is).0 in (
       stored_deleted id (shown vars live a) (shown vars (slice_set live (id - 1) false) (arranged_without (arranged_left (arranged_left a one index) other place) id)) clause whole.0 is deleted,
-      blockers_left (shown vars live a) (shown vars (slice_set live (id - 1) false) (arranged_without (arranged_left (arranged_left a one index) other place) id)) a.rows one other index place whole.0.room whole.1 refl refl (of_deleted vars live a (arranged_without (arranged_left (arranged_left a one index) other place) id) id some refl)
-          (rw whole.0.room (code_of-room one vars (watched_variable (shown vars live a) id one whole.0 w_one))) (rw whole.0.room (code_of-room other vars (watched_variable (shown vars live a) id other whole.0 w_other))) (λ e_. apart (sym e_)) inside_one inside_other,
+      blockers_left (shown vars live a) (shown vars (slice_set live (id - 1) false) (arranged_without (arranged_left (arranged_left a one index) other place) id)) a.rows one other index place whole.0.room whole.1 refl refl
+          (of_deleted vars live a (arranged_without (arranged_left (arranged_left a one index) other place) id) id some refl)
+          (rw whole.0.room (code_of-room one vars (watched_variable (shown vars live a) id one whole.0 w_one)))
+          (rw whole.0.room (code_of-room other vars (watched_variable (shown vars live a) id other whole.0 w_other))) (λ e_. apart (sym e_)) inside_one inside_other,
       marks_left live a.blocks (id - 1) whole.2,
     )
 
 -- A clause that watches nothing is in no list.
-pub is_alone : (vars : ℕ) (live : List Bool) (a : Arranged) (id : ℕ) (clause : List ℤ) → live_in (shown vars live a) id ≡ Some clause → length clause < 2 → IsDeleted id (shown vars live a) (shown vars (slice_set live (id - 1) false) (arranged_without a id))
+pub is_alone : (vars : ℕ) (live : List Bool) (a : Arranged) (id : ℕ) (clause : List ℤ) → live_in (shown vars live a) id ≡ Some clause → length clause < 2
+    → IsDeleted id (shown vars live a) (shown vars (slice_set live (id - 1) false) (arranged_without a id))
 is_alone vars live a id clause is short = record {
   vars = refl;
   clauses = clauses_set live a.blocks (id - 1);
@@ -95,7 +101,9 @@ is_alone vars live a id clause is short = record {
         let n : length watches.clause ≡ length clause = ap length same in
         omega (arith, long, short, n)
 
-pub whole_alone : (vars : ℕ) (live : List Bool) (a : Arranged) (id : ℕ) (clause : List ℤ) → AreWhole vars live a → live_in (shown vars live a) id ≡ Some clause → IsDeleted id (shown vars live a) (shown vars (slice_set live (id - 1) false) (arranged_without a id)) → AreWhole vars (slice_set live (id - 1) false) (arranged_without a id)
+pub whole_alone : (vars : ℕ) (live : List Bool) (a : Arranged) (id : ℕ) (clause : List ℤ) → AreWhole vars live a → live_in (shown vars live a) id ≡ Some clause
+    → IsDeleted id (shown vars live a) (shown vars (slice_set live (id - 1) false) (arranged_without a id))
+    → AreWhole vars (slice_set live (id - 1) false) (arranged_without a id)
 whole_alone vars live a id clause whole is deleted =
     let some : 0 < id = (live_inside (shown vars live a) id clause is).0 in (
       stored_deleted id (shown vars live a) (shown vars (slice_set live (id - 1) false) (arranged_without a id)) clause whole.0 is deleted,
@@ -104,15 +112,20 @@ whole_alone vars live a id clause whole is deleted =
     )
 
 -- The same of what the type shows.
-pub gone_alone : (vars : ℕ) (live : List Bool) (a : Arranged) (now : Stored) (id : ℕ) (clause : List ℤ) → shown vars live a ≡ now → AreWhole vars live a → live_in now id ≡ Some clause → length clause < 2 → AreWhole vars (slice_set live (id - 1) false) (arranged_without a id) × IsDeleted id now (shown vars (slice_set live (id - 1) false) (arranged_without a id))
+pub gone_alone : (vars : ℕ) (live : List Bool) (a : Arranged) (now : Stored) (id : ℕ) (clause : List ℤ) → shown vars live a ≡ now → AreWhole vars live a
+    → live_in now id ≡ Some clause → length clause < 2
+    → AreWhole vars (slice_set live (id - 1) false) (arranged_without a id) × IsDeleted id now (shown vars (slice_set live (id - 1) false) (arranged_without a id))
 gone_alone vars live a now id clause view whole is short =
     let here : live_in (shown vars live a) id ≡ Some clause = subst (λ (x : Stored). live_in x id ≡ Some clause) (sym view) is in
     let deleted : IsDeleted id (shown vars live a) (shown vars (slice_set live (id - 1) false) (arranged_without a id)) = is_alone vars live a id clause here short in
     (whole_alone vars live a id clause whole here deleted, subst (λ (x : Stored). IsDeleted id x (shown vars (slice_set live (id - 1) false) (arranged_without a id))) view deleted)
 
-pub gone_left : (vars : ℕ) (live : List Bool) (a : Arranged) (now : Stored) (id : ℕ) (clause : List ℤ) (one other : ℤ) (index place : ℕ) → shown vars live a ≡ now → AreWhole vars live a → live_in now id ≡ Some clause → Watches now id one → Watches now id other → (one ≡ other → ⊥) → ((l : ℤ) → Watches now id l → (l ≡ one) ⊎ (l ≡ other))
+pub gone_left : (vars : ℕ) (live : List Bool) (a : Arranged) (now : Stored) (id : ℕ) (clause : List ℤ) (one other : ℤ) (index place : ℕ) → shown vars live a ≡ now
+    → AreWhole vars live a → live_in now id ≡ Some clause → Watches now id one → Watches now id other → (one ≡ other → ⊥)
+    → ((l : ℤ) → Watches now id l → (l ≡ one) ⊎ (l ≡ other))
     → index < length (list_of now.watches one) → slice_index_or (list_of now.watches one) index 0 ≡ id → place < length (list_of now.watches other) → slice_index_or (list_of now.watches other) place 0 ≡ id
-    → AreWhole vars (slice_set live (id - 1) false) (arranged_without (arranged_left (arranged_left a one index) other place) id) × IsDeleted id now (shown vars (slice_set live (id - 1) false) (arranged_without (arranged_left (arranged_left a one index) other place) id))
+    → AreWhole vars (slice_set live (id - 1) false) (arranged_without (arranged_left (arranged_left a one index) other place) id)
+    × IsDeleted id now (shown vars (slice_set live (id - 1) false) (arranged_without (arranged_left (arranged_left a one index) other place) id))
 gone_left vars live a now id clause one other index place view whole is w_one w_other apart only inside_one at_one inside_other at_other =
     let s : Stored = shown vars live a in
     let here : live_in s id ≡ Some clause = subst (λ (x : Stored). live_in x id ≡ Some clause) (sym view) is in
@@ -123,5 +136,8 @@ gone_left vars live a now id clause one other index place view whole is w_one w_
     let in_other : place < length (list_of s.watches other) = subst (λ (x : Stored). place < length (list_of x.watches other)) (sym view) inside_other in
     let is_one : slice_index_or (list_of s.watches one) index 0 ≡ id = subst (λ (x : Stored). slice_index_or (list_of x.watches one) index 0 ≡ id) (sym view) at_one in
     let is_other : slice_index_or (list_of s.watches other) place 0 ≡ id = subst (λ (x : Stored). slice_index_or (list_of x.watches other) place 0 ≡ id) (sym view) at_other in
-    let deleted : IsDeleted id s (shown vars (slice_set live (id - 1) false) (arranged_without (arranged_left (arranged_left a one index) other place) id)) = is_left vars live a id one other index place whole.0 first second apart all in_one is_one in_other is_other in
-    (whole_left vars live a id clause one other index place whole here first second apart in_one in_other deleted, subst (λ (x : Stored). IsDeleted id x (shown vars (slice_set live (id - 1) false) (arranged_without (arranged_left (arranged_left a one index) other place) id))) view deleted)
+    let deleted : IsDeleted id s (shown vars (slice_set live (id - 1) false) (arranged_without (arranged_left (arranged_left a one index) other place) id)) =
+    is_left vars live a id one other index place whole.0 first second apart all in_one is_one in_other is_other in (
+      whole_left vars live a id clause one other index place whole here first second apart in_one in_other deleted,
+      subst (λ (x : Stored). IsDeleted id x (shown vars (slice_set live (id - 1) false) (arranged_without (arranged_left (arranged_left a one index) other place) id))) view deleted,
+    )

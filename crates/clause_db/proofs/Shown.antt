@@ -11,7 +11,7 @@ use Rattle.clause_db.specs.Sorted.{sorted}
 use Rattle.clause_db.specs.SortedLaws.{sorted_permutes, sorted_same}
 use Rattle.clause_db.specs.Stored.{Stored, live_at, live_in, added, rewatched}
 use Rattle.clause_db.specs.StoredLaws.{live_inside}
-use Rattle.clause_db.specs.Arranging.{Arranged, block_at, clauses_of, shown, watching_of, arranged_more, ArePermuted, AreArranged}
+use Rattle.clause_db.specs.Arranging.{Arranged, block_at, clauses_of, shown, watching_of, arranged_more, ArePermuted}
 use Rattle.clause_db.proofs.Arranging.{more_is}
 
 pub clauses_none : (blocks : List (List ℤ)) → clauses_of [] blocks ≡ []
@@ -59,7 +59,8 @@ clauses_permuted live blocks new same order = clauses_same live blocks new same 
     each k = (let index : suc k - 1 ≡ k = omega arith in subst (λ (n : ℕ). IsPermutation (slice_index_or blocks n []) (slice_index_or new n [])) index (order.each (suc k)))
 
 -- the entry at an index
-entry_of : (live : List Bool) (blocks : List (List ℤ)) (k : ℕ) → length live ≡ length blocks → option_flatten (slice_get (clauses_of live blocks) k) ≡ (if slice_index_or live k false then Some (sorted (slice_index_or blocks k [])) else None)
+entry_of : (live : List Bool) (blocks : List (List ℤ)) (k : ℕ) → length live ≡ length blocks
+    → option_flatten (slice_get (clauses_of live blocks) k) ≡ (if slice_index_or live k false then Some (sorted (slice_index_or blocks k [])) else None)
 unfolding clauses_of
 entry_of [] [] zero same = refl
 entry_of [] [] (suc k) same = refl
@@ -75,16 +76,17 @@ chosen_is : (b : Bool) (block clause : List ℤ) → (if b then Some (sorted blo
 chosen_is true block clause is = cc
 chosen_is false block clause is = absurd (cc)
 
--- Live clauses have their literals in the blocks.
-pub are_arranged : (live : List Bool) (blocks : List (List ℤ)) → length live ≡ length blocks → AreArranged (clauses_of live blocks) blocks
-are_arranged live blocks same = record { same = each }
-  where
-    each : (id : ℕ) (clause : List ℤ) → live_at (clauses_of live blocks) id ≡ Some clause → IsPermutation clause (block_at blocks id)
-    each zero clause is = absurd (cc)
-    each (suc k) clause is =
-        let block : List ℤ = block_at blocks (suc k) in
-        let sorted_is : sorted block ≡ clause = chosen_is (slice_index_or live (suc k - 1) false) block clause (sym (live_given live blocks (suc k) same (omega arith)) ∙ is) in
-        subst (λ (c : List ℤ). IsPermutation c block) sorted_is (IsPermutation-sym block (sorted block) (sorted_permutes block))
+-- The clause of a live id is its literals in the order of their codes,
+pub live_sorted : (live : List Bool) (blocks : List (List ℤ)) (id : ℕ) (clause : List ℤ) → length live ≡ length blocks → live_at (clauses_of live blocks) id ≡ Some clause → sorted (block_at blocks id) ≡ clause
+live_sorted live blocks zero clause same is = absurd (cc)
+live_sorted live blocks (suc k) clause same is =
+    chosen_is (slice_index_or live (suc k - 1) false) (block_at blocks (suc k)) clause (sym (live_given live blocks (suc k) same (omega arith)) ∙ is)
+
+-- so these are the clause in some order.
+pub live_permuted : (live : List Bool) (blocks : List (List ℤ)) (id : ℕ) (clause : List ℤ) → length live ≡ length blocks → live_at (clauses_of live blocks) id ≡ Some clause → IsPermutation clause (block_at blocks id)
+live_permuted live blocks id clause same is =
+    let block : List ℤ = block_at blocks id in
+    subst (λ (c : List ℤ). IsPermutation c block) (live_sorted live blocks id clause same is) (IsPermutation-sym block (sorted block) (sorted_permutes block))
 
 -- Whether an id is live is its mark.
 chosen_some : (b : Bool) (clause : List ℤ) → IsTrue b ↔ IsSome (if b then Some clause else None)
@@ -98,7 +100,8 @@ live_marked live blocks id same some = rw (live_given live blocks id same some) 
 pub shown_added : (vars : ℕ) (live : List Bool) (a : Arranged) (lits : List ℤ) (id : ℕ) → length live ≡ length a.blocks → id ≡ length live + 1 → shown vars (live ++ true ∷ []) (arranged_more a lits id) ≡ added (shown vars live a) lits
 shown_added vars live a lits id same id_is =
     let count : length (clauses_of live a.blocks) ≡ length live = clauses_long live a.blocks same in
-    let watches : watching_of (arranged_more a lits id) ≡ watching_more (watching_of a) lits (length (clauses_of live a.blocks) + 1) = more_is a lits id ∙ ap (watching_more (watching_of a) lits) (id_is ∙ ap (λ (n : ℕ). n + 1) (sym count)) in
+    let watches : watching_of (arranged_more a lits id) ≡ watching_more (watching_of a) lits (length (clauses_of live a.blocks) + 1) =
+    more_is a lits id ∙ ap (watching_more (watching_of a) lits) (id_is ∙ ap (λ (n : ℕ). n + 1) (sym count)) in
     ap (λ (cs : List (Option (List ℤ))). (let s : Stored = record { vars = vars; clauses = cs; watches = watching_of (arranged_more a lits id) } in s)) (clauses_push live a.blocks lits same)
     ∙ ap (λ (w : Watching). (let s : Stored = record { vars = vars; clauses = clauses_of live a.blocks ++ Some (sorted lits) ∷ []; watches = w } in s)) watches
 
@@ -107,13 +110,15 @@ pub moved_long : (a new : Arranged) (id : ℕ) (from to : ℤ) (index : ℕ) →
 moved_long a new id from to index is =
     sym (length-map a.blocks pair_of) ∙ sym (length-set (map pair_of a.blocks) (id - 1) _) ∙ sym (ap (λ (w : Watching). length w.pairs) is) ∙ length-map new.blocks pair_of
 
-pub shown_moved : (vars : ℕ) (live : List Bool) (a new : Arranged) (id : ℕ) (from to : ℤ) (index : ℕ) → watching_of new ≡ watching_moved (watching_of a) id from to index → ArePermuted a.blocks new.blocks → shown vars live new ≡ rewatched (shown vars live a) id from to index
+pub shown_moved : (vars : ℕ) (live : List Bool) (a new : Arranged) (id : ℕ) (from to : ℤ) (index : ℕ) → watching_of new ≡ watching_moved (watching_of a) id from to index
+    → ArePermuted a.blocks new.blocks → shown vars live new ≡ rewatched (shown vars live a) id from to index
 shown_moved vars live a new id from to index is order =
     ap (λ (cs : List (Option (List ℤ))). (let s : Stored = record { vars = vars; clauses = cs; watches = watching_of new } in s)) (sym (clauses_permuted live a.blocks new.blocks (moved_long a new id from to index is) order))
     ∙ ap (λ (w : Watching). (let s : Stored = record { vars = vars; clauses = clauses_of live a.blocks; watches = w } in s)) is
 
 -- whether the id that is asked for is live, as the code reads it
-pub live_read : (vars : ℕ) (live : List Bool) (a : Arranged) (now : Stored) (id : ℕ) (mark : Bool) → shown vars live a ≡ now → length live ≡ length a.blocks → 0 < id → id - 1 < length live → mark ≡ slice_index_or live (id - 1) mark → IsTrue mark ↔ IsSome (live_in now id)
+pub live_read : (vars : ℕ) (live : List Bool) (a : Arranged) (now : Stored) (id : ℕ) (mark : Bool) → shown vars live a ≡ now → length live ≡ length a.blocks → 0 < id
+    → id - 1 < length live → mark ≡ slice_index_or live (id - 1) mark → IsTrue mark ↔ IsSome (live_in now id)
 live_read vars live a now id mark view same some low is =
     let mark_is : mark ≡ slice_index_or live (id - 1) false = get_or_read live (id - 1) mark low is false in
     subst (λ (s : Stored). IsTrue mark ↔ IsSome (live_in s id)) view (subst (λ (b : Bool). IsTrue b ↔ IsSome (live_in (shown vars live a) id)) (sym mark_is) (live_marked live a.blocks id same some))

@@ -1,4 +1,4 @@
--- A store stays one when a clause is added, and when a clause watches another literal.
+-- The clauses keep their invariant when one is added, and when one watches another literal.
 use Rattle.std.specs.Prelude.{◌≡◌, ◌≢◌, ℕ, ◌+◌, ◌-◌, ◌*◌, ◌<◌, ◌≤◌, ◌⊎◌, ℤ, pos, List, [], ◌∷◌, ◌++◌, length, slice_index_or, slice_set, replicate, Contains, All, AllPairs, Option, Some, refl}
 use Rattle.std.proofs.Common.{sym, ap, ◌∙◌, subst, arith, inl, inr}
 use Rattle.std.proofs.Math.Logic.{⊎_elim}
@@ -78,7 +78,10 @@ long_of lits clause is long = let same : length clause ≡ length lits = ap leng
 pub stored_added : (s : Stored) (lits : List ℤ) → IsStored s → IsClause lits → IsWithin s.vars lits → length s.clauses < 4000000000 → IsStored (added s lits)
 stored_added s lits stored is_clause within few = record {
   clauses = λ id clause is. ⊎_elim (λ (new : (id ≡ next) × (sorted lits ≡ clause)). subst IsClause new.1 (clause_sorted lits is_clause)) (λ (old : live_in s id ≡ Some clause). stored.clauses id clause old) (live_added s lits id clause is);
-  variables = λ id clause is. ⊎_elim (λ (new : (id ≡ next) × (sorted lits ≡ clause)). subst (λ (c : List ℤ). IsWithin s.vars c) new.1 (within_sorted s.vars lits within)) (λ (old : live_in s id ≡ Some clause). stored.variables id clause old) (live_added s lits id clause is);
+  variables = λ id clause is. ⊎_elim
+      (λ (new : (id ≡ next) × (sorted lits ≡ clause)). subst (λ (c : List ℤ). IsWithin s.vars c) new.1 (within_sorted s.vars lits within))
+      (λ (old : live_in s id ≡ Some clause). stored.variables id clause old)
+      (live_added s lits id clause is);
   few = rw length_push (omega arith);
   pairs_room = length_push s.watches.pairs (pair_of lits) ∙ ap (λ (n : ℕ). n + 1) stored.pairs_room ∙ sym (length_push s.clauses (Some (sorted lits)));
   room = lists_room;
@@ -173,7 +176,7 @@ stored_added s lits stored is_clause within few = record {
           | inr other ↦ subst (λ (xs : List ℕ). AllPairs (λ a b. a ≢ b) xs) (sym other.1) (stored.once l)
         ]
 
--- what a clause watches in the store with one clause more
+-- what a clause watches where one clause was added
 pub added_watches : (s : Stored) (lits : List ℤ) (id : ℕ) (l : ℤ) → IsStored s → Watches (added s lits) id l → ((id ≡ length s.clauses + 1) × (2 ≤ length lits) × ((l ≡ (pair_of lits).first) ⊎ (l ≡ (pair_of lits).second))) ⊎ Watches s id l
 added_watches s lits id l stored watches = ⊎_elim
     (λ (new : (id ≡ length s.clauses + 1) × (sorted lits ≡ watches.clause)).
@@ -248,7 +251,7 @@ pub record IsMovable (s : Stored) (id : ℕ) (from to : ℤ) (index : ℕ) : Typ
 pub movable_watches : (s : Stored) (id : ℕ) (from to : ℤ) (index : ℕ) → IsStored s → IsMovable s id from to index → Watches s id from
 movable_watches s id from to index stored movable = subst (λ (k : ℕ). Watches s k from) movable.at_index (stored.only from (slice_index_or (list_of s.watches from) index 0) (Contains-get_or (list_of s.watches from) index 0 movable.inside))
 
--- each watch of the new store is one of the old, except the one of `to`
+-- each watch is one of before, except the one of `to`
 pub rewatched_old : (s : Stored) (id : ℕ) (from to : ℤ) (index k : ℕ) (l : ℤ) → IsStored s → IsMovable s id from to index → Watches (rewatched s id from to index) k l → Watches s k l ⊎ ((k ≡ id) × (l ≡ to))
 rewatched_old s id from to index k l stored movable watches =
     let of_from : Watches s id from = movable_watches s id from to index stored movable in

@@ -1,4 +1,5 @@
--- The literals of a clause in one order, in which two lists of the same literals are equal.
+-- The literals of a clause in one order, in which two lists of the same literals, each as often,
+-- are equal.
 use Rattle.std.specs.Prelude.{if◌then◌else◌, nat_lt, ℤ, List, [], ◌∷◌}
 use Rattle.cdcl_theory.specs.Codes.{code_of}
 
@@ -8,7 +9,7 @@ inserted l [] = l ∷ []
 inserted l (m ∷ ms) = if nat_lt (code_of m) (code_of l) then m ∷ inserted l ms else l ∷ m ∷ ms
 
 -- The literals in the order of their codes.
--- Example: of 2, -1, 1 they are 1, -1, 2.
+-- Example: of 3, -2, 1 they are 1, -2, 3.
 unfoldable pub sorted : List ℤ → List ℤ
 sorted [] = []
 sorted (l ∷ ls) = inserted l (sorted ls)

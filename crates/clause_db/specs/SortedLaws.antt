@@ -1,7 +1,7 @@
 -- The order of codes keeps the literals of a list, and is the same for all orders of them.
 use Rattle.std.specs.Prelude.{◌≡◌, ◌≢◌, ℕ, zero, suc, ◌+◌, ◌-◌, ◌<◌, ◌≤◌, ◌==◌, false, ℤ, pos, List, [], ◌∷◌, map, length, slice_get, slice_index_or, slice_set, Contains, All, AllPairs, Some, refl}
-use Rattle.std.specs.List.{swap}
-use Rattle.std.specs.List.Sorted.{IsPermutation}
+use Rattle.std.specs.List.{swap, IsDistinct}
+use Rattle.std.specs.List.Sorted.{IsPermutation, IsNonDecreasingBy}
 use Rattle.std.proofs.Common.{sym, ap, ◌∙◌, subst, arith}
 use Rattle.std.proofs.Math.Logic.{⊎_elim}
 use Rattle.std.proofs.lemmas.Bool.{cases_eq, cases_lt, lt-ltb, le-ltb, ne_eqb}
@@ -9,7 +9,7 @@ use Rattle.std.proofs.lemmas.Bool.Decides.{Decides-eqb}
 use Rattle.std.proofs.lemmas.Grind.{common_steps}
 use Rattle.std.proofs.lemmas.List.{length-map, length-set, get_or-map, get_or-set_same, get_or-set_other}
 use Rattle.std.proofs.lemmas.List.Edits.{swap_is}
-use Rattle.std.proofs.lemmas.List.Sorted.{IsPermutation-refl, IsPermutation-sym, IsPermutation-trans, IsPermutation-cons, IsPermutation-middle, IsPermutation-keeps, IsPermutation-map, All-permutation, Contains-permutation, length_permutation}
+use Rattle.std.proofs.lemmas.List.Sorted.{IsPermutation-refl, IsPermutation-sym, IsPermutation-trans, IsPermutation-cons, IsPermutation-middle, IsPermutation-keeps, IsPermutation-map, All-permutation, Contains-permutation, length_permutation, IsNonDecreasingBy-short}
 use Rattle.std.proofs.lemmas.Map.Keys.{IsDistinct-IsPermutation}
 use Rattle.std.proofs.lemmas.Map.Made.{AllPairs-from_IsDistinct, IsDistinct-from_AllPairs}
 use Rattle.sat_theory.specs.Formula.{variable, IsClause, IsWithin}
@@ -45,9 +45,42 @@ unfolding sorted
 sorted_permutes [] = IsPermutation-refl []
 sorted_permutes (x ∷ xs) = IsPermutation-trans (x ∷ xs) (x ∷ sorted xs) (inserted x (sorted xs)) (IsPermutation-cons x xs (sorted xs) (sorted_permutes xs)) (inserted_permutes x (sorted xs))
 
+-- Their codes rise.
+rises_cons : (l : ℤ) (ms : List ℤ) → All (λ m. code_of l ≤ code_of m) ms → IsNonDecreasingBy code_of ms → IsNonDecreasingBy code_of (l ∷ ms)
+rises_cons l ms least rises zero zero d order high = omega arith
+rises_cons l ms least rises zero (suc j) d order high = least j d (omega (arith, high))
+rises_cons l ms least rises (suc i) zero d order high = absurd (omega (arith, order))
+rises_cons l ms least rises (suc i) (suc j) d order high = rises i j d (omega (arith, order)) (omega (arith, high))
+
+least_first : (l m : ℤ) (ms : List ℤ) → code_of l ≤ code_of m → IsNonDecreasingBy code_of (m ∷ ms) → All (λ x. code_of l ≤ code_of x) (m ∷ ms)
+least_first l m ms most rises j d high = let least : code_of m ≤ code_of (slice_index_or (m ∷ ms) j d) = rises 0 j d (omega arith) high in omega (arith, most, least)
+
+inserted_rises : (l : ℤ) (ms : List ℤ) → IsNonDecreasingBy code_of ms → IsNonDecreasingBy code_of (inserted l ms)
+inserted_rises l [] rises = subst (IsNonDecreasingBy code_of) (sym (inserted_alone l)) (IsNonDecreasingBy-short code_of (l ∷ []) (omega arith))
+inserted_rises l (m ∷ ms) rises = ⊎_elim
+    (λ (less : code_of m < code_of l).
+    let tail : IsNonDecreasingBy code_of ms = λ i j d order high. rises (suc i) (suc j) d (omega (arith, order)) (omega (arith, high)) in
+    let behind : All (λ x. code_of m ≤ code_of x) ms = λ j d high. rises 0 (suc j) d (omega arith) (omega (arith, high)) in
+    let least : All (λ x. code_of m ≤ code_of x) (inserted l ms) =
+    All-permutation (λ x. code_of m ≤ code_of x) (l ∷ ms) (inserted l ms) (inserted_permutes l ms) (least_cons m l ms (omega (arith, less)) behind) in
+    subst (IsNonDecreasingBy code_of) (sym (inserted_after l m ms less)) (rises_cons m (inserted l ms) least (inserted_rises l ms tail)))
+    (λ (most : code_of l ≤ code_of m).
+    subst (IsNonDecreasingBy code_of) (sym (inserted_before l m ms most)) (rises_cons l (m ∷ ms) (least_first l m ms most rises) rises))
+    (cases_lt (code_of m) (code_of l))
+  where
+    least_cons : (x y : ℤ) (ys : List ℤ) → code_of x ≤ code_of y → All (λ z. code_of x ≤ code_of z) ys → All (λ z. code_of x ≤ code_of z) (y ∷ ys)
+    least_cons x y ys first all zero d high = first
+    least_cons x y ys first all (suc j) d high = all j d (omega (arith, high))
+
+pub sorted_rises : (xs : List ℤ) → IsNonDecreasingBy code_of (sorted xs)
+unfolding sorted
+sorted_rises [] = IsNonDecreasingBy-short code_of [] (omega arith)
+sorted_rises (x ∷ xs) = inserted_rises x (sorted xs) (sorted_rises xs)
+
 -- two literals in either order
 inserted_both : (a b : ℤ) (xs : List ℤ) → code_of a < code_of b → inserted a (inserted b xs) ≡ inserted b (inserted a xs)
-inserted_both a b [] less = ap (inserted a) (inserted_alone b) ∙ inserted_before a b [] (omega (arith, less)) ∙ ap (λ (ys : List ℤ). a ∷ ys) (sym (inserted_alone b)) ∙ sym (inserted_after b a [] less) ∙ ap (inserted b) (sym (inserted_alone a))
+inserted_both a b [] less =
+    ap (inserted a) (inserted_alone b) ∙ inserted_before a b [] (omega (arith, less)) ∙ ap (λ (ys : List ℤ). a ∷ ys) (sym (inserted_alone b)) ∙ sym (inserted_after b a [] less) ∙ ap (inserted b) (sym (inserted_alone a))
 inserted_both a b (m ∷ ms) less = ⊎_elim
     (λ (first : code_of m < code_of a).
     ap (inserted a) (inserted_after b m ms (omega (arith, first, less))) ∙ inserted_after a m (inserted b ms) first ∙ ap (λ (ys : List ℤ). m ∷ ys) (inserted_both a b ms less)
@@ -84,8 +117,16 @@ inserted_long l xs = let long : length (inserted l xs) ≡ suc (length xs) = len
 -- a literal is put into one list alone
 inserted_same : (l : ℤ) (xs ys : List ℤ) → inserted l xs ≡ inserted l ys → xs ≡ ys
 inserted_same l [] [] e = refl
-inserted_same l [] (y ∷ ys) e = absurd (let n : length (inserted l []) ≡ length (inserted l (y ∷ ys)) = ap length e in let short : length (inserted l []) ≡ 0 + 1 = inserted_long l [] in let long : length (inserted l (y ∷ ys)) ≡ suc (length ys) + 1 = inserted_long l (y ∷ ys) in omega (arith, n, short, long))
-inserted_same l (x ∷ xs) [] e = absurd (let n : length (inserted l (x ∷ xs)) ≡ length (inserted l []) = ap length e in let short : length (inserted l []) ≡ 0 + 1 = inserted_long l [] in let long : length (inserted l (x ∷ xs)) ≡ suc (length xs) + 1 = inserted_long l (x ∷ xs) in omega (arith, n, short, long))
+inserted_same l [] (y ∷ ys) e = absurd (
+    let n : length (inserted l []) ≡ length (inserted l (y ∷ ys)) = ap length e in
+    let short : length (inserted l []) ≡ 0 + 1 = inserted_long l [] in
+    let long : length (inserted l (y ∷ ys)) ≡ suc (length ys) + 1 = inserted_long l (y ∷ ys) in
+    omega (arith, n, short, long))
+inserted_same l (x ∷ xs) [] e = absurd (
+    let n : length (inserted l (x ∷ xs)) ≡ length (inserted l []) = ap length e in
+    let short : length (inserted l []) ≡ 0 + 1 = inserted_long l [] in
+    let long : length (inserted l (x ∷ xs)) ≡ suc (length xs) + 1 = inserted_long l (x ∷ xs) in
+    omega (arith, n, short, long))
 inserted_same l (x ∷ xs) (y ∷ ys) e = ⊎_elim
     (λ (first : code_of x < code_of l). ⊎_elim
     (λ (second : code_of y < code_of l).
@@ -151,11 +192,16 @@ differ_again lits differ i j d order high e =
 pub clause_permuted : (lits new : List ℤ) → IsPermutation lits new → IsClause lits → IsClause new
 clause_permuted lits new order clause = record {
   literals = All-permutation (λ l. 0 < variable l) lits new order clause.literals;
-  differ = differ_again new (AllPairs-from_IsDistinct Decides-eqb (map variable new) (IsDistinct-IsPermutation (λ a b. a == b) flips (map variable lits) (map variable new) (IsPermutation-map variable lits new order) (IsDistinct-from_AllPairs Decides-eqb (map variable lits) (variables_differ lits clause.differ))));
+  differ = differ_again new (AllPairs-from_IsDistinct Decides-eqb (map variable new) distinct);
 }
   where
     flips : (a b : ℕ) → (a == b) ≡ (b == a)
     flips a b = grind (arith, common_steps)
+
+    distinct : IsDistinct (λ a b. a == b) (map variable new)
+    distinct =
+        IsDistinct-IsPermutation (λ a b. a == b) flips (map variable lits) (map variable new) (IsPermutation-map variable lits new order)
+        (IsDistinct-from_AllPairs Decides-eqb (map variable lits) (variables_differ lits clause.differ))
 
 -- What holds of the literals holds of them in the order of codes, and the other way round.
 pub Contains-sorted : (xs : List ℤ) (l : ℤ) → Contains xs l → Contains (sorted xs) l

@@ -5,7 +5,8 @@
 //! invariant of `Watches` ties the positions to the ids. So `compact` moves literals, and contracts
 //! see no change. Every call states its effect as an equation on what contracts see (`added`,
 //! `rewatched`), so what the solver needs of watches are laws about these.
-ghost use Rattle.std.specs.Prelude.{◌≡◌, ◌≢◌, ℕ, ◌+◌, ◌<◌, ◌≤◌, ◌⊎◌, ◌↔◌, ◌∷◌, [], map, length, slice_index_or, Contains, All, AllPairs, Some, List, ℤ, IsTrue, IsSome, IfOk, OnOk, OnErr};
+ghost use Rattle.std.specs.Prelude.{◌≡◌, ◌≢◌, ℕ, ◌+◌, ◌<◌, ◌≤◌, ◌⊎◌, ◌↔◌, ℤ, Some, IsTrue, IsSome, IfOk, OnOk, OnErr};
+ghost use Rattle.std.specs.Prelude.{List, [], ◌∷◌, map, length, slice_index_or, Contains, All, AllPairs};
 ghost use Rattle.sat_theory.specs.Formula.{variable as variable_of, IsClause, IsWithin};
 ghost use Rattle.sat_theory.specs.State.{by_id, without};
 ghost use Rattle.clause_db.specs.Watching.{list_of, pair_at, pair_of};
@@ -57,7 +58,8 @@ impl ClauseDb {
     pub fn new(alloc: Global, cnf: &Cnf) -> Result<ClauseDb, AllocError>
         ensures all { IfOk result (λ c. c ≡ all_added (none_stored cnf.now.vars) cnf.now.clauses) }
         ensures clauses { IfOk result (λ c. live_in c ≡ by_id (map sorted cnf.now.clauses)) }
-        ensures watches { IfOk result (λ c. (id : ℕ) (clause : List ℤ) → by_id cnf.now.clauses id ≡ Some clause → pair_at c.watches id ≡ pair_of clause) }
+        ensures watches { IfOk result (λ c. (id : ℕ) (clause : List ℤ) → by_id cnf.now.clauses id ≡ Some clause
+            → pair_at c.watches id ≡ pair_of clause) }
         ensures whole { IfOk result (λ c. IsStored c) }
     {
         let room = Room::of(alloc, cnf)?;
@@ -107,6 +109,7 @@ impl ClauseDb {
     /// come first.
     pub fn arranged(&self, id: u32) -> &[Lit]
         requires live { IsSome (live_in self.now id) }
+        ensures value { live_in self.now id ≡ Some (sorted result.now) }
         ensures long { (clause : List ℤ) → live_in self.now id ≡ Some clause → length result.now ≡ length clause }
         ensures same { (clause : List ℤ) → live_in self.now id ≡ Some clause → (l : ℤ) → Contains result.now l ↔ Contains clause l }
         ensures front { IsLong self.now id → (2 ≤ length result.now) × (pair_of result.now ≡ pair_at self.now.watches id) }

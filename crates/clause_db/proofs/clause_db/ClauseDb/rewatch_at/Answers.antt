@@ -27,7 +27,8 @@ invariant_of-self-2 c =
     let s : Stored = shown c.self.inside.vars c.self.inside.live.items c.self.inside.watches in
     let id : ℕ = slice_index_or (list_of s.watches c.args.from) c.args.index 0 in
     let movable : IsMovable s id c.args.from c.args.to c.args.index = subst (λ (x : Stored). IsMovable x (slice_index_or (list_of x.watches c.args.from) c.args.index 0) c.args.from c.args.to c.args.index) (sym c.self.view_is) c.requires.movable in
-    whole_moved c.self.inside.vars c.self.inside.live.items c.self.inside.watches c.move_to.new.self id c.args.from c.args.to c.args.index c.self.invariant movable c.in_ok-move_to.ensures.ok c.in_ok-move_to.ensures.rows c.in_ok-move_to.ensures.order
+    whole_moved c.self.inside.vars c.self.inside.live.items c.self.inside.watches c.move_to.new.self id c.args.from c.args.to c.args.index
+    c.self.invariant movable c.in_ok-move_to.ensures.ok c.in_ok-move_to.ensures.rows c.in_ok-move_to.ensures.order
 
 pub returns-clause-ok : goal.returns-clause-ok
 returns-clause-ok c =
