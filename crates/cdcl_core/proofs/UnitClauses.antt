@@ -9,7 +9,7 @@ use Rattle.cdcl_theory.specs.Trails.{Trailed, fell, IsTrail, IsGrown, pushed}
 use Rattle.cdcl_theory.specs.TrailLaws.{place_at}
 use Rattle.clause_db.specs.Stored.{Stored, live_in}
 use Rattle.clause_db.specs.StoredLaws.{live_inside}
-use Rattle.subsume_core.specs.Rows.{all_in_row}
+use Rattle.clause_db.specs.Members.{all_in_members}
 use Rattle.cdcl_core.specs.Guarding.{HasTrue, IsGuarded}
 
 -- the clauses of fewer than two literals among the first n ids have true literals
@@ -55,8 +55,8 @@ settled_true places (l ∷ m ∷ ls) settled short = absurd (let h : suc (suc (l
 
 settled_of_row : (places : ℤ → ℕ) (row clause : List ℤ) → ((l : ℤ) → Contains row l ↔ Contains clause l) → IsSettled places row → IsSettled places clause
 settled_of_row places row clause same settled = record {
-  not_false = λ all. settled.not_false (all_in_row (λ l. 0 < places l) row clause same all);
-  not_unit = λ u up free all. settled.not_unit u up free (all_in_row (λ l. (l ≡ u) ⊎ (0 < places l)) row clause same all);
+  not_false = λ all. settled.not_false (all_in_members (λ l. 0 < places l) row clause same all);
+  not_unit = λ u up free all. settled.not_unit u up free (all_in_members (λ l. (l ≡ u) ⊎ (0 < places l)) row clause same all);
 }
 
 pub units_settled : (live : ℕ → Option (List ℤ)) (places : ℤ → ℕ) (n : ℕ) (row : List ℤ) → ((clause : List ℤ) → live (n + 1) ≡ Some clause → (l : ℤ) → Contains row l ↔ Contains clause l) → IsSettled places row → AreUnitsTrue live places n → AreUnitsTrue live places (n + 1)

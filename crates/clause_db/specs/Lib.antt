@@ -11,3 +11,4 @@ pub mod BlockRanges
 pub mod Arranging
 pub mod Deleting
 pub mod DeletingLaws
+pub mod Members

@@ -2,4 +2,3 @@ pub mod Units
 pub mod UnitLaws
 pub mod Inside
 pub mod InsideLaws
-pub mod Rows

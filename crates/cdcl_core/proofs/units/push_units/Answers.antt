@@ -3,7 +3,7 @@ use Rattle.std.proofs.lemmas.List.Elements.{All-contains}
 use Rattle.sat_theory.specs.Formula.{variable}
 use Rattle.cdcl_theory.specs.Trails.{Trailed, IsTrail, IsGrown, fell, pushed}
 use Rattle.clause_db.specs.Stored.{live_in}
-use Rattle.subsume_core.specs.Rows.{IsRowOf, row_read}
+use Rattle.clause_db.specs.Members.{AreMembersOf, members_read}
 use Rattle.cdcl_core.proofs.Growing.{grown_trans, grown_pushed}
 use Rattle.cdcl_core.proofs.Judging.{left_implies, row_falsified}
 use Rattle.cdcl_core.proofs.UnitClauses.{units_settled, units_pushed, units_guarded}
@@ -21,7 +21,7 @@ loop-index-preserved c =
     let old : Trailed = c.loop-index.trail in
     let lits : List ℤ = c.arranged-in-loop-index.result.now in
     let same = c.arranged-in-loop-index.ensures.same in
-    let read : IsRowOf (live_in c.args.clauses.now) (c.loop-index.index + 1) lits = row_read (live_in c.args.clauses.now) (c.loop-index.index + 1) lits (c.live.ensures.0 c.if-not-live.false) same in
+    let read : AreMembersOf (live_in c.args.clauses.now) (c.loop-index.index + 1) lits = members_read (live_in c.args.clauses.now) (c.loop-index.index + 1) lits (c.live.ensures.0 c.if-not-live.false) same in
     let is : c.push.new.self ≡ pushed old c.in-Unit.lit (c.loop-index.index + 1) = c.in_ok-push-in-Unit.ensures.ok in
     let small = All-contains (λ m. variable m ≤ c.args.clauses.now.vars) lits c.in-Unit.lit c.arranged-in-loop-index.ensures.over c.in-Unit.ensures.there in
     let over : variable c.in-Unit.lit ≤ old.vars = subst (λ (n : ℕ). variable c.in-Unit.lit ≤ n) (c.requires.vars ∙ sym c.loop-index.invariant.grown.vars) small in
@@ -36,7 +36,7 @@ loop-index-preserved c =
 pub returns-in-Falsified-clause-conflict : goal.returns-in-Falsified-clause-conflict
 returns-in-Falsified-clause-conflict c =
     let lits : List ℤ = c.arranged-in-loop-index.result.now in
-    let read : IsRowOf (live_in c.args.clauses.now) (c.loop-index.index + 1) lits = row_read (live_in c.args.clauses.now) (c.loop-index.index + 1) lits (c.live.ensures.0 c.if-not-live.false) c.arranged-in-loop-index.ensures.same in
+    let read : AreMembersOf (live_in c.args.clauses.now) (c.loop-index.index + 1) lits = members_read (live_in c.args.clauses.now) (c.loop-index.index + 1) lits (c.live.ensures.0 c.if-not-live.false) c.arranged-in-loop-index.ensures.same in
     row_falsified (live_in c.args.clauses.now) (fell c.loop-index.trail) (c.loop-index.index + 1) lits read c.in-Falsified.ensures
 
 pub returns-clause-guarded : goal.returns-clause-guarded

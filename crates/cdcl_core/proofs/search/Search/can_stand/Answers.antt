@@ -1,6 +1,6 @@
 use Rattle.std.proofs.Common.{Contains, All, arith}
 use Rattle.std.proofs.lemmas.List.Elements.{All-weaker}
-use Rattle.subsume_core.specs.Rows.{all_of_row}
+use Rattle.clause_db.specs.Members.{all_of_members}
 use Rattle.cdcl_core.proofs.search.Search.can_stand.Goals as goal
 
 pub returns : goal.returns
@@ -14,6 +14,6 @@ returns c = λ yes.
       id_live = c.live.ensures.0 c.if-not-live.false;
       by_live = c.live-else-not-live.ensures.0 c.if-not-live-2.false;
       inside = λ clause cover here there.
-          all_of_row (Contains clause) c.arranged-2.result.now cover (c.arranged-2.ensures.same cover there)
+          all_of_members (Contains clause) c.arranged-2.result.now cover (c.arranged-2.ensures.same cover there)
           (All-weaker (Contains c.arranged.result.now) (Contains clause) (λ l inner. (c.arranged.ensures.same clause here l).0 inner) c.arranged-2.result.now inside);
     }
