@@ -149,8 +149,7 @@ all_moved w a b c from to m block id index low high pushed taken exchanged apart
     let inside : high < length (block_at w.blocks id) = subst (λ (xs : List ℤ). high < length xs) block_is inside_in in
     let at : (d : ℤ) → slice_index_or (block_at w.blocks id) high d ≡ to = subst (λ (xs : List ℤ). (d : ℤ) → slice_index_or xs high d ≡ to) block_is at_in in
     let kept : m ≡ slice_index_or (block_at w.blocks id) (1 - low) m = subst (λ (xs : List ℤ). m ≡ slice_index_or xs (1 - low) m) block_is m_is in
-    let is : c ≡ record { blocks = slice_set w.blocks (id - 1) (swap (block_at w.blocks id) low high); lists = slice_set (with_id w.lists to id) (code_of from) (swap_remove (listed_in w.lists from) index 0); rows = rows_moved w.rows from to index m }
-    = moved_is w a b c from to m id index low high pushed taken exchanged apart in
+    let is = moved_is w a b c from to m id index low high pushed taken exchanged apart in
     let blocks : c.blocks ≡ slice_set w.blocks (id - 1) (swap (block_at w.blocks id) low high) = ap (λ (x : Arranged). x.blocks) is in
     let rows : c.rows ≡ rows_moved w.rows from to index m = ap (λ (x : Arranged). x.rows) is in (
       moved_watching w c from to id index low high _ is found inside at other,

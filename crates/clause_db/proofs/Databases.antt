@@ -1,5 +1,6 @@
 -- What contracts see of all parts together, and its invariant.
-use Rattle.std.proofs.Common.{map, slice_get, Bool, true, false, zero, suc, append_assoc, ◌==◌, ◌≡◌, ◌≢◌, ℕ, ◌+◌, ◌*◌, ◌<◌, ◌≤◌, ℤ, List, [], ◌∷◌, ◌++◌, length, slice_index_or, slice_set, replicate, ◌-◌, ◌⊎◌, inl, inr, Contains, All, pos, Option, Some, None, IsSome, refl, sym, ap, ◌∙◌, subst, arith}
+use Rattle.std.proofs.Common.{map, slice_get, Bool, true, false, zero, suc, append_assoc, ◌==◌, ◌≡◌, ◌≢◌, ℕ, ◌+◌, ◌*◌, ◌<◌, ◌≤◌, ℤ, List, [], ◌∷◌, ◌++◌}
+use Rattle.std.proofs.Common.{length, slice_index_or, slice_set, replicate, ◌-◌, ◌⊎◌, inl, inr, Contains, All, pos, Option, Some, None, IsSome, refl, sym, ap, ◌∙◌, subst, arith}
 use Rattle.std.proofs.lemmas.List.Elements.{All-contains}
 use Rattle.std.proofs.lemmas.Bool.{ne_eqb}
 use Rattle.std.proofs.lemmas.Grind.{common_steps}

@@ -18,13 +18,13 @@ use Rattle.clause_db.proofs.Arranging.{pushed_list}
 
 -- What is read of an entry: its start is that of the clause whose id is in the list of ids, and the
 -- literals are those of that id.
-abbrev pub IsRead : Blocked → Arranged → ℕ → ℕ → List ℤ → Type 0
-IsRead b w s id block = (id_in b.starts s ≡ id) × IsStart b s × (block ≡ block_at w.blocks id)
+abbrev pub IsEntryOf : Blocked → Arranged → ℕ → ℕ → List ℤ → Type 0
+IsEntryOf b w s id block = (id_in b.starts s ≡ id) × IsStart b s × (block ≡ block_at w.blocks id)
 
 pub entry_read : (b : Blocked) (all : List Listed) (w : Arranged) (l : ℤ) (k : ℕ) (e : Listed) (index : ℕ) (watch : Watch) (block : List ℤ)
     → shown_lists b all ≡ w → k ≡ code_of l → code_of l < length w.lists → e ≡ slice_index_or all k e → index < length (listed_in w.lists l)
     → slice_index_or e index no_watch ≡ watch → block ≡ block_at b.lists (id_in b.starts watch.start) → AreDirect b all
-    → IsRead b w watch.start (slice_index_or (listed_in w.lists l) index 0) block
+    → IsEntryOf b w watch.start (slice_index_or (listed_in w.lists l) index 0) block
 entry_read b all w l k e index watch block view at room is inside here read are =
     let id : ℕ = slice_index_or (listed_in w.lists l) index 0 in
     let its : id_in b.starts watch.start ≡ id = entry_id b all w l k e index watch view at room is inside here in (

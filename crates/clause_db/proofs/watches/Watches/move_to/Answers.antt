@@ -6,12 +6,12 @@ use Rattle.clause_db.specs.Deleting.{arranged_left}
 use Rattle.clause_db.proofs.Listed.{shown_lists}
 use Rattle.clause_db.proofs.Direct.{entry_inside, entry_direct}
 use Rattle.clause_db.proofs.Arranging.{IsMoved, low_high, all_moved}
-use Rattle.clause_db.proofs.Handing.{IsRead, entry_read, arranged_pushed, leaving_inside, handed_on}
+use Rattle.clause_db.proofs.Handing.{IsEntryOf, entry_read, arranged_pushed, leaving_inside, handed_on}
 use Rattle.clause_db.proofs.watches.Watches.move_to.Goals as goal
 use Rattle.clause_db.proofs.watches.Watches.move_to.Goals.{After-read-block, After-take_out}
 
 -- the entry of the clause, and its literals
-read : (c : After-read-block) → IsRead c.self.inside.blocks c.args.self.now c.at-start.result.start (slice_index_or (listed_in c.args.self.now.lists c.args.from) c.args.index 0) c.read-block.result.now
+read : (c : After-read-block) → IsEntryOf c.self.inside.blocks c.args.self.now c.at-start.result.start (slice_index_or (listed_in c.args.self.now.lists c.args.from) c.args.index 0) c.read-block.result.now
 read c =
     entry_read c.self.inside.blocks c.self.inside.lists.items c.args.self.now c.args.from c.code.result c.index.result.now c.args.index c.at-start.result c.read-block.result.now
     c.self.view_is c.code.ensures.value c.requires.rooms.0 c.index.ensures c.requires.inside c.at-start.ensures c.read-block.ensures c.self.invariant
@@ -57,7 +57,7 @@ abbrev id_moved : After-take_out → ℕ
 id_moved c = slice_index_or (listed_in c.args.self.now.lists c.args.from) c.args.index 0
 
 abbrev WasRead : After-take_out → Type 0
-WasRead c = IsRead c.self.inside.blocks c.args.self.now c.at-start.result.start (id_moved c) c.read-block.result.now
+WasRead c = IsEntryOf c.self.inside.blocks c.args.self.now c.at-start.result.start (id_moved c) c.read-block.result.now
 
 abbrev lists_new : After-take_out → List Listed
 lists_new c = slice_set (slice_set c.self.inside.lists.items c.code-2.result c.push.new.self) c.code-3.result c.take_out.new.self
