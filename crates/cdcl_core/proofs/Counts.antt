@@ -144,22 +144,22 @@ in_rest r rs y (suc k) low is = inr (k, (let h : suc k < suc (length rs) = low i
 pub count_covered : (p : ℕ → Bool) (a low high : ℕ) (rs xs : List ℕ) → AreFrom a xs → ((y : ℕ) → a ≤ y → p y ≡ true → ((low < y) × (y ≤ high)) ⊎ Contains rs y) → count_by p xs ≤ high - low + length rs
 count_covered p a low high [] xs are inside =
     let all : (count_by p xs ≤ high - low) × (count_by p xs ≤ high + 1 - a) = count_between p a low high xs are (λ y from yes. ⊎_elim
-        (λ (between : (low < y) × (y ≤ high)). between)
-        (λ (there : Contains {X = ℕ} [] y). absurd (let none : there.0 < 0 = there.1 in omega arith))
-        (inside y from yes)) in
+    (λ (between : (low < y) × (y ≤ high)). between)
+    (λ (there : Contains {X = ℕ} [] y). absurd (let none : there.0 < 0 = there.1 in omega arith))
+    (inside y from yes)) in
     let few : count_by p xs ≤ high - low = all.0 in
     omega arith
 count_covered p a low high (r ∷ rs) xs are inside =
     let fewer : count_by p xs ≤ count_by (but p r) xs + 1 = count_but p a r xs are in
     let ih : count_by (but p r) xs ≤ high - low + length rs = count_covered (but p r) a low high rs xs are (λ y from yes. ⊎_elim
-        (λ (e : y ≡ r). absurd (let none : but p r y ≡ false = rw (eq-eqb y r e) refl in cc))
-        (λ (apart : y ≡ r → ⊥). ⊎_elim
-            (λ (between : (low < y) × (y ≤ high)). inl between)
-            (λ (there : Contains (r ∷ rs) y). ⊎_elim
-                (λ (e : r ≡ y). absurd (apart (sym e)))
-                (λ (later : Contains rs y). inr later)
-                (in_rest r rs y there.0 there.1 there.2))
-            (inside y from (sym (but_other p r y apart) ∙ yes)))
-        (cases_eq y r)) in
+    (λ (e : y ≡ r). absurd (let none : but p r y ≡ false = rw (eq-eqb y r e) refl in cc))
+    (λ (apart : y ≡ r → ⊥). ⊎_elim
+    (λ (between : (low < y) × (y ≤ high)). inl between)
+    (λ (there : Contains (r ∷ rs) y). ⊎_elim
+    (λ (e : r ≡ y). absurd (apart (sym e)))
+    (λ (later : Contains rs y). inr later)
+    (in_rest r rs y there.0 there.1 there.2))
+    (inside y from (sym (but_other p r y apart) ∙ yes)))
+    (cases_eq y r)) in
     let long : length (r ∷ rs) ≡ suc (length rs) = refl in
     omega arith

@@ -1,6 +1,6 @@
 -- Why few enough clauses are live after all those went that may: the others are never forgotten, or
 -- reasons of different literals of the trail.
-use Rattle.std.proofs.Common.{◌≡◌, ◌⊎◌, ℕ, ◌+◌, ◌-◌, ◌*◌, ◌<◌, ◌≤◌, ℤ, pos, Bool, true, List, map, length, slice_index_or, count_by, Contains, Some, None, IsSome, is_some, subst, sym, ap, ◌∙◌, arith, inl, inr, refl}
+use Rattle.std.proofs.Common.{◌≡◌, ◌⊎◌, ℕ, ◌+◌, ◌-◌, ◌<◌, ◌≤◌, ℤ, pos, true, List, map, length, count_by, Contains, Some, None, IsSome, is_some, subst, sym, ap, ◌∙◌, arith, inl, inr, refl}
 use Rattle.std.proofs.Math.Logic.{⊎_elim}
 use Rattle.std.proofs.lemmas.Bool.{cases_eq}
 use Rattle.std.proofs.lemmas.List.{length-map, get_or-map, length-set}
@@ -56,12 +56,12 @@ few_stay f s searching logged stay full =
         ⊎_elim
         (λ (here : by_id f.clauses y ≡ Some there.0). absurd (let low : y ≤ length f.clauses = by_id_inside f.clauses y there.0 here in omega (arith, low, from)))
         (λ (kept : live_in s.clauses y ≡ Some (sorted there.0)). ⊎_elim
-            (λ (never : IsIrredundant s y). ⊎_elim
-                (λ (given : y ≤ s.given). absurd (omega (arith, given, from, logged.given)))
-                (λ (between : (s.shorter.low < y) × (y ≤ s.shorter.high)). inl between)
-                never)
-            (λ (reason : IsReason s y). inr (in_reasons s y reason))
-            (stay y (sorted there.0) (omega (arith, from, logged.given)) kept))
+        (λ (never : IsIrredundant s y). ⊎_elim
+        (λ (given : y ≤ s.given). absurd (omega (arith, given, from, logged.given)))
+        (λ (between : (s.shorter.low < y) × (y ≤ s.shorter.high)). inl between)
+        never)
+        (λ (reason : IsReason s y). inr (in_reasons s y reason))
+        (stay y (sorted there.0) (omega (arith, from, logged.given)) kept))
         (logged.log.state.only y there.0 there.1)
 
 -- While too many are live, the learnt ones with ids up to n stay.
@@ -74,23 +74,6 @@ stays_same s t id trail given shorter stays = ⊎_elim
     (λ (never : IsIrredundant s id). inl (rw (given, shorter) never))
     (λ (reason : IsReason s id). inr (record { place = reason.place; low = rw trail reason.low; is = λ d. rw trail (reason.is d) }))
     stays
-
-pub stay_none : (s : Search) → StayUpTo s.given s
-stay_none s = record { stay = λ full id clause low high live. absurd (omega (arith, low, high)) }
-
-pub stay_spared : (n : ℕ) (s : Search) → (IsOverfull s → ⊥) → StayUpTo n s
-stay_spared n s spare = record { stay = λ full id clause low high live. absurd (spare full) }
-
-pub half_of_full : (s : Search) → IsOverfull s → HasHalf s
-half_of_full s full = inr (omega (arith, full))
-
-pub stay_kept : (n : ℕ) (s : Search) → StayUpTo n s → (HasHalf s → IsSome (live_in s.clauses (n + 1)) → Stays s (n + 1)) → StayUpTo (n + 1) s
-stay_kept n s before stays = record {
-  stay = λ full id clause low high live. ⊎_elim
-      (λ (last : id ≡ n + 1). subst (λ (k : ℕ). Stays s k) (sym last) (stays (half_of_full s full) (subst (λ (k : ℕ). IsSome (live_in s.clauses k)) last (rw live refl))))
-      (λ (apart : id ≡ n + 1 → ⊥). before.stay full id clause low (omega (arith, high, apart)) live)
-      (cases_eq id (n + 1));
-}
 
 pub stay_lost : (n : ℕ) (s t : Search) → StayUpTo n s → HasLost (n + 1) s t → StayUpTo (n + 1) t
 stay_lost n s t before lost = record {
@@ -105,16 +88,18 @@ stay_lost n s t before lost = record {
       let older : (live_in s.clauses id ≡ Some clause) × (id ≡ n + 1 → ⊥) = still_live (n + 1) s.clauses t.clauses id clause lost.deleted some live in
       let apart : id ≡ n + 1 → ⊥ = older.1 in
       stays_same s t id (ap (λ (x : Search). x.trail) lost.rest) given (ap (λ (x : Search). x.shorter) lost.rest)
-          (before.stay (omega (arith, full, given, deleted, vars, high_same, low_same, long)) id clause (omega (arith, low, given)) (omega (arith, high, apart)) older.0);
+      (before.stay (omega (arith, full, given, deleted, vars, high_same, low_same, long)) id clause (omega (arith, low, given)) (omega (arith, high, apart)) older.0);
 }
 
 -- With the line that deletes what went, few enough are live.
 pub bounded_written : (n : ℕ) (s t : Search) → IsSearching t → StayUpTo n s → length s.clauses.clauses ≤ n → t ≡ record s { lines = t.lines } → IsBounded t
-bounded_written n s t searching before all same = record { few = λ f logged full. few_stay f t searching logged (λ id clause low live.
-    let given : t.given ≡ s.given = ap (λ (x : Search). x.given) same in
-    let clauses : t.clauses ≡ s.clauses = ap (λ (x : Search). x.clauses) same in
-    let older : live_in s.clauses id ≡ Some clause = subst (λ (x : Stored). live_in x id ≡ Some clause) clauses live in
-    let inside : (0 < id) × (id ≤ length s.clauses.clauses) = live_inside s.clauses id clause older in
-    let high : id ≤ length s.clauses.clauses = inside.1 in
-    stays_same s t id (ap (λ (x : Search). x.trail) same) given (ap (λ (x : Search). x.shorter) same)
-        (before.stay (subst (λ (x : Search). IsOverfull x) same full) id clause (omega (arith, low, given)) (omega (arith, high, all)) older)) full }
+bounded_written n s t searching before all same = record {
+  few = λ f logged full. few_stay f t searching logged (λ id clause low live.
+      let given : t.given ≡ s.given = ap (λ (x : Search). x.given) same in
+      let clauses : t.clauses ≡ s.clauses = ap (λ (x : Search). x.clauses) same in
+      let older : live_in s.clauses id ≡ Some clause = subst (λ (x : Stored). live_in x id ≡ Some clause) clauses live in
+      let inside : (0 < id) × (id ≤ length s.clauses.clauses) = live_inside s.clauses id clause older in
+      let high : id ≤ length s.clauses.clauses = inside.1 in
+      stays_same s t id (ap (λ (x : Search). x.trail) same) given (ap (λ (x : Search). x.shorter) same)
+      (before.stay (subst (λ (x : Search). IsOverfull x) same full) id clause (omega (arith, low, given)) (omega (arith, high, all)) older)) full;
+}

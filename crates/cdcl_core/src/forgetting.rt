@@ -1,7 +1,8 @@
 //! How a search forgets learnt clauses (reduceDB): they go from the clauses, and the log gets a
 //! deletion. The reason of a true literal stays, so that all that is learnt later can be derived;
 //! and at most half of the learnt clauses, or of `least`, are ever deleted, so a log that ends open
-//! keeps half of its additions (`half` of `IsLog`). Which clauses go is chosen in `merits`. When a
+//! keeps half of its additions (`half` of `IsLog`). Which clauses go is chosen in `merits`. Where too
+//! many are live at a decision even so, learnt clauses go in the order of ids (`IsBounded`). When a
 //! search has ended, no reason is needed any more, and the log is thinned in the order of ids.
 ghost use Rattle.std.specs.Prelude.{◌≡◌, ◌+◌, ◌*◌, ◌<◌, ◌↔◌, length, IsTrue, IsFalse, IsSome, OnOk};
 ghost use Rattle.sat_theory.specs.Formula.{Formula, IsWithin};

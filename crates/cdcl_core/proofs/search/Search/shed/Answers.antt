@@ -1,4 +1,4 @@
-use Rattle.std.proofs.Common.{◌≡◌, ◌∙◌, ℕ, ◌+◌, ◌<◌, ◌≤◌, List, length, ap, subst, sym, arith}
+use Rattle.std.proofs.Common.{◌∙◌, ℕ, ◌+◌, ◌<◌, ◌≤◌, List, length, ap, subst, sym, arith}
 use Rattle.clause_db.specs.DeletingLaws.{some_live}
 use Rattle.clause_db.specs.Stored.{live_in}
 use Rattle.clause_db.specs.StoredLaws.{live_inside}
@@ -6,7 +6,7 @@ use Rattle.cdcl_core.specs.declared.search.Search.{Search}
 use Rattle.cdcl_core.specs.Searching.{IsSearching, IsVisited}
 use Rattle.cdcl_core.specs.Forgetting.{with_gone, MayGo, HasLost}
 use Rattle.cdcl_core.proofs.Losing.{searching_lost, visited_lost, forgotten_lost, covered_lost}
-use Rattle.cdcl_core.proofs.Shedding.{stay_kept, stay_lost, bounded_written}
+use Rattle.cdcl_core.proofs.Shedding.{stay_lost, bounded_written}
 use Rattle.cdcl_core.proofs.Writing.{searching_written, visited_written, forgotten_written, logged_written}
 use Rattle.cdcl_core.proofs.search.Search.shed.Goals as goal
 

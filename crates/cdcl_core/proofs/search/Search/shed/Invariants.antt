@@ -1,4 +1,4 @@
-use Rattle.std.proofs.Common.{◌≡◌, length}
+use Rattle.std.proofs.Common.{◌≡◌}
 use Rattle.sat_theory.specs.Formula.{Formula}
 use Rattle.cdcl_core.specs.Searching.{IsSearching, IsVisited, IsLogged, AreCovered}
 use Rattle.cdcl_core.specs.Forgetting.{IsPending, HasForgotten}
