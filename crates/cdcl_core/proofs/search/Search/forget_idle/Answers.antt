@@ -1,5 +1,5 @@
 use Rattle.cdcl_core.proofs.Writing.{searching_after, visited_after, logged_after, forgotten_noted}
-use Rattle.cdcl_core.proofs.search.Search.tidy.Goals as goal
+use Rattle.cdcl_core.proofs.search.Search.forget_idle.Goals as goal
 
 pub forget-requires-clause-searching : goal.forget-requires-clause-searching
 forget-requires-clause-searching c = searching_after c.args.self.now c.due_ones.new.self c.due_ones.ensures c.requires.searching
