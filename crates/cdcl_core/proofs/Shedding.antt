@@ -1,8 +1,7 @@
 -- Why few enough clauses are live after all those went that may: the others are never forgotten, or
 -- reasons of different literals of the trail.
-use Rattle.std.proofs.Common.{◌≡◌, ◌⊎◌, ℕ, ◌+◌, ◌-◌, ◌<◌, ◌≤◌, ℤ, pos, true, List, map, length, count_by, Contains, Some, None, IsSome, is_some, subst, sym, ap, ◌∙◌, arith, inl, inr, refl}
+use Rattle.std.proofs.Common.{◌≡◌, ◌⊎◌, ℕ, ◌+◌, ◌-◌, ◌<◌, ◌≤◌, ℤ, pos, true, List, map, length, count_by, Contains, Some, None, is_some, subst, ap, ◌∙◌, arith, inl, inr}
 use Rattle.std.proofs.Math.Logic.{⊎_elim}
-use Rattle.std.proofs.lemmas.Bool.{cases_eq}
 use Rattle.std.proofs.lemmas.List.{length-map, get_or-map, length-set}
 use Rattle.sat_theory.specs.Formula.{Formula, opposite}
 use Rattle.sat_theory.specs.State.{State, by_id, start}
@@ -15,7 +14,7 @@ use Rattle.clause_db.specs.StoredLaws.{live_inside}
 use Rattle.clause_db.specs.DeletingLaws.{some_live, still_live}
 use Rattle.cdcl_core.specs.declared.search.Search.{Search}
 use Rattle.cdcl_core.specs.Searching.{IsSearching, IsIrredundant, IsLogged}
-use Rattle.cdcl_core.specs.Forgetting.{SomeImplied, IsReason, HasHalf, IsOverfull, IsBounded, Stays, HasLost}
+use Rattle.cdcl_core.specs.Forgetting.{SomeImplied, IsReason, IsOverfull, IsBounded, Stays, HasLost}
 use Rattle.cdcl_core.proofs.Counts.{count_covered}
 use Rattle.cdcl_core.proofs.Counting.{trail_short}
 use Rattle.cdcl_core.proofs.Formulas.{by_id_inside}
