@@ -18,6 +18,9 @@ use trail_core::Trail;
 /// The number of live additions that a log may have without any deletion.
 const SLACK: u64 = 2000;
 
+/// How many clauses go at least, if so many may, where too many are live: a search goes over all of them seldom.
+const SHED: usize = 1000;
+
 /// Whether a last id is above the bound for the others, `standing` of which never go.
 fn exceeds(last: u32, given: u32, standing: u32, deleted: u32, vars: u32) -> bool
     ensures { IsTrue result ↔ (given + standing + 4 * (deleted + vars + 2000) < last) }
@@ -216,7 +219,7 @@ impl Search {
         let mut gone = Vec::new(*self.starts.allocator());
         for index in self.given..self.clauses.last() {
             let id = index + 1;
-            if !self.is_overfull() {
+            if gone.len() >= SHED && !self.is_overfull() {
                 continue;
             }
             if !self.may_go(id) {
