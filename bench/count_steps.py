@@ -163,19 +163,18 @@ class Trail:
 
 
 class Clauses:
-    """Clauses by their ids, from 1 on. In `arranged` stand their literals once more, in an order in which the
-    first two are watched. A list of `watching` has the ids, each with a literal of its clause, the blocker."""
+    """Clauses by their ids, from 1 on. Their literals stand in an order in which the first two are watched. A
+    list of `watching` has the ids, each with a literal of its clause, the blocker."""
 
     def __init__(self, variables, clauses):
         self.lits = [None]
-        self.arranged = [None]
         self.watching = [[] for _ in range(2 * variables + 1)]
         for lits in clauses:
             self.add(lits)
 
     def delete(self, id):
         """In the lists of both watched literals the last entry takes its place."""
-        for lit in self.arranged[id][:2] if len(self.lits[id]) > 1 else []:
+        for lit in self.lits[id][:2] if len(self.lits[id]) > 1 else []:
             entries = self.watching[lit]
             index = next(index for index, entry in enumerate(entries) if entry[0] == id)
             entries[index] = entries[-1]
@@ -183,8 +182,7 @@ class Clauses:
         self.lits[id] = None
 
     def add(self, lits):
-        self.lits.append(lits)
-        self.arranged.append(list(lits))
+        self.lits.append(list(lits))
         id = len(self.lits) - 1
         if len(lits) > 1:
             self.watching[lits[0]].append((id, lits[1]))
@@ -206,13 +204,13 @@ class Analysis:
 
     def begin(self, conflict):
         self.marked, self.touched, self.hints = set(), [], [conflict]
-        self.mark_fallen(self.clauses.arranged[conflict])
+        self.mark_fallen(self.clauses.lits[conflict])
 
     def resolve(self, lit):
         """Puts the other literals of its reason in the place of a marked literal."""
         reason = self.trail.reason[abs(lit)]
         self.marked.remove(lit)
-        self.mark_fallen(self.clauses.arranged[reason])
+        self.mark_fallen(self.clauses.lits[reason])
         self.hints.append(reason)
 
     def reduce(self, start):
@@ -238,7 +236,7 @@ class Analysis:
             return self.follows[variable]
         reason = self.trail.reason[variable]
         follows = depth > 0 and reason > 0 and all(
-            other == -lit or self.judge(other, depth - 1) or other in self.marked for other in self.clauses.arranged[reason]
+            other == -lit or self.judge(other, depth - 1) or other in self.marked for other in self.clauses.lits[reason]
         )
         self.follows[variable] = follows
         if follows:
@@ -276,6 +274,11 @@ class Analysis:
         if lower:
             last = next(index for index, lit in enumerate(lower) if fell[lit] == back)
             lower[0], lower[last] = lower[last], lower[0]
+        early = 1
+        for index in range(1, len(lower)):
+            if fell[lower[index]] <= back // 2:
+                lower[early], lower[index] = lower[index], lower[early]
+                early += 1
         return [first, *lower], back, self.touched[:walked]
 
     def refute(self, conflict):
@@ -421,7 +424,7 @@ class Solver:
     def visit_watching(self, fallen):
         """Visits the clauses that watch a literal that fell and have no true blocker: the id of a falsified
         one, or 0."""
-        fell, arranged, watching = self.trail.fell, self.clauses.arranged, self.clauses.watching
+        fell, lits_of, watching = self.trail.fell, self.clauses.lits, self.clauses.watching
         entries = watching[fallen]
         index = visits = conflict = 0
         while index < len(entries) and not conflict:
@@ -430,7 +433,7 @@ class Solver:
                 index += 1
                 continue
             visits += 1
-            lits = arranged[id]
+            lits = lits_of[id]
             own = 0 if lits[0] == fallen else 1
             other = lits[1 - own]
             if fell[-other]:
@@ -474,7 +477,7 @@ class Solver:
         """Lets the variables of the reasons of fallen literals score a part of the step."""
         for lit in fallen:
             if reason := self.trail.reason[abs(lit)]:
-                self.choice.bump(self.clauses.arranged[reason], self.choice.step // REASON_PART)
+                self.choice.bump(self.clauses.lits[reason], self.choice.step // REASON_PART)
 
     def jump(self, conflict):
         """Learns a clause, and goes back to where it is unit."""
@@ -517,8 +520,8 @@ class Solver:
 
     def is_new(self, lits, units):
         """Whether no clause has all its literals among these, where those of the unit clauses are given."""
-        arranged, watching = self.clauses.arranged, self.clauses.watching
-        known = [arranged[id] for lit in lits for id, _ in watching[lit]]
+        lits_of, watching = self.clauses.lits, self.clauses.watching
+        known = [lits_of[id] for lit in lits for id, _ in watching[lit]]
         return units.isdisjoint(lits) and not any(map(set(lits).issuperset, known))
 
     def strengthen_one(self, finder, id):

@@ -1,14 +1,15 @@
--- The store and the levels before the first step.
+-- The clauses and the levels before the first step.
 use Rattle.std.proofs.Common.{◌≡◌, ℕ, ◌<◌, ℤ, List, [], length, Option, Some, ap, ◌∙◌, arith}
 use Rattle.std.proofs.lemmas.List.{length-map}
 use Rattle.sat_theory.specs.Formula.{Formula}
 use Rattle.cdcl_theory.specs.Trails.{Trailed, IsTrail, IsLayered}
+use Rattle.clause_db.specs.Sorted.{sorted}
 use Rattle.clause_db.specs.Stored.{none_stored, all_added}
 use Rattle.clause_db.specs.StoredLaws.{all_added-clauses}
 
 -- each clause of the formula has an id
 pub count_begun : (f : Formula) → length (all_added (none_stored f.vars) f.clauses).clauses ≡ length f.clauses
-count_begun f = ap length (all_added-clauses (none_stored f.vars) f.clauses) ∙ length-map f.clauses (λ (c : List ℤ). Some c)
+count_begun f = ap length (all_added-clauses (none_stored f.vars) f.clauses) ∙ length-map f.clauses (λ (c : List ℤ). Some (sorted c))
 
 -- no level on an empty trail
 pub layered_begun : (live : ℕ → Option (List ℤ)) (t : Trailed) (starts : List ℕ) → IsTrail t → t.lits ≡ [] → starts ≡ [] → IsLayered live t starts

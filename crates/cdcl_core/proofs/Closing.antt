@@ -5,9 +5,7 @@ use Rattle.sat_theory.specs.Line.{Line}
 use Rattle.sat_theory.specs.Log.{additions, HasEmpty, Refutes, IsSpent, IsKept}
 use Rattle.cdcl_core.specs.declared.search.Search.{Search}
 use Rattle.cdcl_core.specs.Searching.{IsAccounted, AreNew}
-use Rattle.cdcl_core.specs.declared.search.Ending.{Ending}
-use Rattle.cdcl_core.specs.declared.search.Ending.TheVariants.{Valued, Refuted, Spent}
-use Rattle.cdcl_core.specs.Endings.{HasRefuted, HasSpent, Ends}
+use Rattle.cdcl_core.specs.Endings.{HasRefuted, HasSpent}
 use Rattle.cdcl_core.specs.Forgetting.{with_gone, MoreGone}
 use Rattle.cdcl_core.proofs.Gone.{additions_gone, new_gone, reaches_gone, log_kept}
 use Rattle.cdcl_core.proofs.Showing.{log_spent}
@@ -29,13 +27,3 @@ pub kept_thin : (f : Formula) (budget : ℕ) (s t : Search) → HasSpent f budge
 kept_thin f budget s t spent gone same accounted =
     log_kept f t.clauses t.lines t.deleted t.least accounted.log
     (subst (λ (ls : List Line). t.least ≤ additions ls) (sym gone.is) (let as_many : additions (with_gone s.lines gone.own gone.ids) ≡ additions s.lines = additions_gone s.lines gone.own gone.ids in let low : s.least ≤ additions s.lines = spent.least in omega (arith, as_many, low, same)))
-
--- What has spent more has spent less.
-pub ends_less : (f : Formula) (less more : ℕ) (s : Search) (e : Ending) → less ≤ more → Ends f more s e → Ends f less s e
-ends_less f less more s Valued low ends = ends
-ends_less f less more s Refuted low ends = ends
-ends_less f less more s Spent low ends = record {
-  logged = ends.logged;
-  enough = (let enough : more ≤ additions s.lines = ends.enough in omega (arith, low, enough));
-  least = ends.least;
-}

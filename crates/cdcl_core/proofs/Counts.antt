@@ -1,7 +1,7 @@
 -- How many of some ids pass a test, when the test or the ids change.
-use Rattle.std.proofs.Common.{◌≡◌, ℕ, suc, ◌+◌, ◌<◌, ◌≤◌, Bool, true, false, List, [], ◌∷◌, ◌++◌, length, slice_index_or, All, count_by, cond, arith, refl}
+use Rattle.std.proofs.Common.{◌≡◌, ℕ, zero, suc, ◌+◌, ◌-◌, ◌<◌, ◌≤◌, ◌==◌, ◌⊎◌, Bool, true, false, List, [], ◌∷◌, ◌++◌, length, slice_index_or, Contains, All, count_by, cond, sym, ◌∙◌, arith, refl, inl, inr}
 use Rattle.std.proofs.Math.Logic.{⊎_elim}
-use Rattle.std.proofs.lemmas.Bool.{cases_eq}
+use Rattle.std.proofs.lemmas.Bool.{cases_Bool, cases_eq, ne_eqb, eq-eqb}
 use Rattle.std.proofs.lemmas.List.Elements.{All-head, All-tail}
 use Rattle.sat_theory.specs.FewAdditions.{count_cons}
 
@@ -83,3 +83,83 @@ count_dropped p q a x (y ∷ ys) are low high was is others =
     let ih : count_by q ys + 1 ≡ count_by p ys = count_dropped p q (suc a) x ys tail (omega (arith, apart, head, low)) (omega (arith, high, long)) was is others in
     omega arith)
     (cases_eq y x)
+
+at_most_one : (b : Bool) → cond {A = ℕ} b 1 0 ≤ 1
+at_most_one true = omega arith
+at_most_one false = omega arith
+
+-- p, but not r
+abbrev but : (ℕ → Bool) → ℕ → ℕ → Bool
+but p r y = cond {A = Bool} (y == r) false (p y)
+
+but_other : (p : ℕ → Bool) (r y : ℕ) → (y ≡ r → ⊥) → but p r y ≡ p y
+but_other p r y apart = rw (ne_eqb y r apart) refl
+
+-- at most one fewer passes where one number may no more
+count_but : (p : ℕ → Bool) (a r : ℕ) (xs : List ℕ) → AreFrom a xs → count_by p xs ≤ count_by (but p r) xs + 1
+count_but p a r [] are = (let none : count_by p [] ≡ 0 = refl in omega arith)
+count_but p a r (y ∷ ys) are =
+    let head : y ≡ a = from_head a y ys are in
+    let tail : AreFrom (suc a) ys = from_tail a y ys are in
+    let first : count_by p (y ∷ ys) ≡ cond {A = ℕ} (p y) 1 0 + count_by p ys = count_cons p y ys in
+    let second : count_by (but p r) (y ∷ ys) ≡ cond {A = ℕ} (but p r y) 1 0 + count_by (but p r) ys = count_cons (but p r) y ys in
+    ⊎_elim
+    (λ (e : y ≡ r).
+    let one : cond {A = ℕ} (p y) 1 0 ≤ 1 = at_most_one (p y) in
+    let same : count_by (but p r) ys ≡ count_by p ys = count_same p (but p r) ys (λ k d inside. but_other p r (slice_index_or ys k d) (λ h. (let at : slice_index_or ys k d ≡ suc a + k = tail k d inside in omega (arith, at, h, e, head)))) in
+    omega arith)
+    (λ (apart : y ≡ r → ⊥).
+    let both : but p r y ≡ p y = but_other p r y apart in
+    let one : cond {A = ℕ} (but p r y) 1 0 ≡ cond {A = ℕ} (p y) 1 0 = rw both refl in
+    let ih : count_by p ys ≤ count_by (but p r) ys + 1 = count_but p (suc a) r ys tail in
+    omega arith)
+    (cases_eq y r)
+
+-- those that pass are above low and up to high
+count_between : (p : ℕ → Bool) (a low high : ℕ) (xs : List ℕ) → AreFrom a xs → ((y : ℕ) → a ≤ y → p y ≡ true → (low < y) × (y ≤ high)) → (count_by p xs ≤ high - low) × (count_by p xs ≤ high + 1 - a)
+count_between p a low high [] are inside = (let none : count_by p [] ≡ 0 = refl in (omega arith, omega arith))
+count_between p a low high (y ∷ ys) are inside =
+    let head : y ≡ a = from_head a y ys are in
+    let first : count_by p (y ∷ ys) ≡ cond {A = ℕ} (p y) 1 0 + count_by p ys = count_cons p y ys in
+    let ih : (count_by p ys ≤ high - low) × (count_by p ys ≤ high + 1 - suc a) = count_between p (suc a) low high ys (from_tail a y ys are) (λ z from yes. inside z (omega (arith, from)) yes) in
+    let small : count_by p ys ≤ high - low = ih.0 in
+    let few : count_by p ys ≤ high + 1 - suc a = ih.1 in
+    ⊎_elim
+    (λ (passes : p y ≡ true).
+    let one : cond {A = ℕ} (p y) 1 0 ≡ 1 = rw passes refl in
+    let within : (low < y) × (y ≤ high) = inside y (omega arith) passes in
+    let above : low < y = within.0 in
+    let up : y ≤ high = within.1 in
+    (omega arith, omega arith))
+    (λ (fails : p y ≡ false).
+    let none : cond {A = ℕ} (p y) 1 0 ≡ 0 = rw fails refl in
+    (omega arith, omega arith))
+    (cases_Bool (p y))
+
+in_rest : (r : ℕ) (rs : List ℕ) (y k : ℕ) → k < length (r ∷ rs) → slice_index_or (r ∷ rs) k y ≡ y → (r ≡ y) ⊎ Contains rs y
+in_rest r rs y zero low is = inl is
+in_rest r rs y (suc k) low is = inr (k, (let h : suc k < suc (length rs) = low in omega arith), is)
+
+-- those that pass are above low and up to high, or in a list
+pub count_covered : (p : ℕ → Bool) (a low high : ℕ) (rs xs : List ℕ) → AreFrom a xs → ((y : ℕ) → a ≤ y → p y ≡ true → ((low < y) × (y ≤ high)) ⊎ Contains rs y) → count_by p xs ≤ high - low + length rs
+count_covered p a low high [] xs are inside =
+    let all : (count_by p xs ≤ high - low) × (count_by p xs ≤ high + 1 - a) = count_between p a low high xs are (λ y from yes. ⊎_elim
+    (λ (between : (low < y) × (y ≤ high)). between)
+    (λ (there : Contains {X = ℕ} [] y). absurd (let none : there.0 < 0 = there.1 in omega arith))
+    (inside y from yes)) in
+    let few : count_by p xs ≤ high - low = all.0 in
+    omega arith
+count_covered p a low high (r ∷ rs) xs are inside =
+    let fewer : count_by p xs ≤ count_by (but p r) xs + 1 = count_but p a r xs are in
+    let ih : count_by (but p r) xs ≤ high - low + length rs = count_covered (but p r) a low high rs xs are (λ y from yes. ⊎_elim
+    (λ (e : y ≡ r). absurd (let none : but p r y ≡ false = rw (eq-eqb y r e) refl in cc))
+    (λ (apart : y ≡ r → ⊥). ⊎_elim
+    (λ (between : (low < y) × (y ≤ high)). inl between)
+    (λ (there : Contains (r ∷ rs) y). ⊎_elim
+    (λ (e : r ≡ y). absurd (apart (sym e)))
+    (λ (later : Contains rs y). inr later)
+    (in_rest r rs y there.0 there.1 there.2))
+    (inside y from (sym (but_other p r y apart) ∙ yes)))
+    (cases_eq y r)) in
+    let long : length (r ∷ rs) ≡ suc (length rs) = refl in
+    omega arith

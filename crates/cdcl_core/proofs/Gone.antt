@@ -12,11 +12,12 @@ use Rattle.sat_theory.specs.State.{State, by_id, start, next, without, is_listed
 use Rattle.sat_theory.specs.Log.{after, EachLine, IsStep, IsFresh, AddsEmpty, added_ids, additions, live_additions, HasEmpty, SparesFormula, IsThinned, IsKept}
 use Rattle.sat_theory.specs.FewAdditions.{AddsSome}
 use Rattle.sat_theory.specs.LogLaws.{after-push, EachLine-push, EachLine-front, EachLine-last, added_ids-delete}
+use Rattle.clause_db.specs.Sorted.{sorted}
 use Rattle.clause_db.specs.Stored.{Stored, live_in, IsStored}
 use Rattle.clause_db.specs.StoredLaws.{live_inside}
 use Rattle.clause_db.specs.Deleting.{IsDeleted}
 use Rattle.clause_db.specs.DeletingLaws.{still_live, kept_live}
-use Rattle.cdcl_core.specs.Searching.{IsStateOf, IsLog, AreNew}
+use Rattle.cdcl_core.specs.Searching.{IsShownAs, IsStateOf, IsLog, AreNew}
 use Rattle.cdcl_core.specs.Forgetting.{with_gone}
 use Rattle.cdcl_core.proofs.Formulas.{by_id_inside}
 use Rattle.cdcl_core.proofs.Counts.{AreFrom, count_dropped, count_none}
@@ -101,14 +102,17 @@ state_lost : (f : Formula) (a b : Stored) (mid : State) (own : ℕ) (ids : List 
 state_lost f a b mid own ids id state some learnt gone = record {
   vars = state.vars;
   greatest = state.greatest ∙ sym (ap length gone.clauses ∙ length-set a.clauses (id - 1) None);
-  inside = λ k clause live. (let before : (live_in a k ≡ Some clause) × (k ≡ id → ⊥) = still_live id a b k clause gone some live in older k clause before.1 (state.inside k clause before.0));
+  inside = λ k clause live.
+      let before : (live_in a k ≡ Some clause) × (k ≡ id → ⊥) = still_live id a b k clause gone some live in
+      let shown : IsShownAs (without mid.live ids k) clause = state.inside k clause before.0 in
+      record { given = shown.given; is = older k shown.given before.1 shown.is; order = shown.order };
   formula = λ k clause here. older k clause (λ e. (let low : k ≤ length f.clauses = by_id_inside f.clauses k clause here in omega (arith, low, e, learnt))) (state.formula k clause here);
   only = λ k clause live.
       let out : (is_listed (id ∷ []) k ≡ false) × (without mid.live ids k ≡ Some clause) = kept_out (is_listed (id ∷ []) k) (without mid.live ids k) clause (sym (without_more mid.live ids id k) ∙ live) in
       let apart : k ≡ id → ⊥ = not_listed id k out.0 in
       ⊎_elim
       (λ (here : by_id f.clauses k ≡ Some clause). inl here)
-      (λ (kept : live_in a k ≡ Some clause). inr (kept_live id a b k clause gone some apart kept))
+      (λ (kept : live_in a k ≡ Some (sorted clause)). inr (kept_live id a b k (sorted clause) gone some apart kept))
       (state.only k clause out.1);
 }
   where
@@ -167,11 +171,14 @@ log_extended f a b lines own ids id clause deleted least log stored is learnt go
     last : IsStep mid (Delete own ids)
     last = EachLine-last IsStep (start f) lines (Delete own ids) log.holds
 
-    there : without mid.live ids id ≡ Some clause
-    there = before.inside id clause is
+    shown : IsShownAs (without mid.live ids id) clause
+    shown = before.inside id clause is
 
-    out : (is_listed ids id ≡ false) × (mid.live id ≡ Some clause)
-    out = kept_out (is_listed ids id) (mid.live id) clause there
+    there : without mid.live ids id ≡ Some shown.given
+    there = shown.is
+
+    out : (is_listed ids id ≡ false) × (mid.live id ≡ Some shown.given)
+    out = kept_out (is_listed ids id) (mid.live id) shown.given there
 
     step : IsStep mid line
     step = record {
@@ -180,7 +187,7 @@ log_extended f a b lines own ids id clause deleted least log stored is learnt go
         deleted_ids = All-push IsId ids id last.is_line.deleted_ids (some, (let high : id ≤ length a.clauses = inside.1 in let few : length a.clauses ≤ 4000000000 = stored.few in omega (arith, high, few)));
       };
       holds = record {
-        all_live = All-push (λ k. IsSome (mid.live k)) ids id last.holds.all_live (some_is (mid.live id) clause out.1);
+        all_live = All-push (λ k. IsSome (mid.live k)) ids id last.holds.all_live (some_is (mid.live id) shown.given out.1);
         differ = all_pairs_push (λ x y. x ≢ y) ids id last.holds.differ (λ k d low. none_listed ids id out.0 k d low);
       };
     }
@@ -276,7 +283,7 @@ log_all_gone f s lines deleted least log none =
     let at : slice_index_or (added_ids lines) k d ≡ length f.clauses + 1 + k = log.ids k d low in
     ⊎_elim
     (λ (here : by_id f.clauses (slice_index_or (added_ids lines) k d) ≡ Some c). (let inside : slice_index_or (added_ids lines) k d ≤ length f.clauses = by_id_inside f.clauses (slice_index_or (added_ids lines) k d) c here in omega (arith, at, inside)))
-    (λ (kept : live_in s (slice_index_or (added_ids lines) k d) ≡ Some c). none (slice_index_or (added_ids lines) k d) c (omega (arith, at)) kept)
+    (λ (kept : live_in s (slice_index_or (added_ids lines) k d) ≡ Some (sorted c)). none (slice_index_or (added_ids lines) k d) (sorted c) (omega (arith, at)) kept)
     (log.state.only (slice_index_or (added_ids lines) k d) c live)) in
     let zero_ : count_by (λ id. is_some (st.live id)) (added_ids lines) ≡ 0 = count_none (λ id. is_some (st.live id)) (added_ids lines) dead in
     let gone : count_by (λ id. is_some (st.live id)) (added_ids lines) + deleted ≡ additions lines = log.gone in

@@ -9,6 +9,8 @@ use Rattle.cdcl_theory.specs.Falling.{IsFallen, SameFallen, IsSettled, AllSettle
 use Rattle.cdcl_theory.specs.Trails.{Trailed, fell, IsTrail, IsBack}
 use Rattle.cdcl_theory.specs.TrailLaws.{fallen_at}
 use Rattle.clause_db.specs.Watching.{pair_at, pair_of}
+use Rattle.clause_db.specs.Sorted.{sorted}
+use Rattle.clause_db.specs.SortedLaws.{Contains-sorted, length-sorted}
 use Rattle.clause_db.specs.Stored.{Stored, live_in, Watches, IsPair, IsStored, added}
 use Rattle.clause_db.specs.StoredLaws.{live_added, next_is_free}
 use Rattle.clause_db.specs.Moving.{added_watches}
@@ -170,7 +172,7 @@ guarded_added s places starts head lits stored some on up bottom late guarded = 
       (λ (first : w ≡ slice_index_or lits 0 (pos 1)). absurd (let h : places w ≡ 0 = ap places first ∙ up in let down : 0 < places w = fallen.0 in omega (arith, h, down)))
       (λ (second : w ≡ slice_index_or lits 1 (pos 1)). subst (λ (c : List ℤ). IsBacked places starts c w) (is_lits id clause new.0 is) (record {
         lit = slice_index_or lits 0 (pos 1);
-        there = Contains-get_or lits 0 (pos 1) some;
+        there = Contains-sorted lits (slice_index_or lits 0 (pos 1)) (Contains-get_or lits 0 (pos 1) some);
         on = on;
         together = λ k d inside before. absurd (let h : slice_index_or starts k d < places (slice_index_or lits 1 (pos 1)) = late new.1 k d inside in let e : places w ≡ places (slice_index_or lits 1 (pos 1)) = ap places second in omega (arith, h, e, before));
       }))
@@ -178,16 +180,16 @@ guarded_added s places starts head lits stored some on up bottom late guarded = 
       (λ (old : Watches s id w). guarded.long id w clause old (old_live id w clause old is) fallen)
       (added_watches s lits id w stored watches);
   short = λ id clause is short. ⊎_elim
-      (λ (new : (id ≡ length s.clauses + 1) × (lits ≡ clause)). subst (λ (c : List ℤ). IsTrueForGood places starts c) new.1 (record { lit = slice_index_or lits 0 (pos 1); there = Contains-get_or lits 0 (pos 1) some; on = on; bottom = bottom (rw new.1 short) }))
+      (λ (new : (id ≡ length s.clauses + 1) × (sorted lits ≡ clause)). subst (λ (c : List ℤ). IsTrueForGood places starts c) new.1 (record { lit = slice_index_or lits 0 (pos 1); there = Contains-sorted lits (slice_index_or lits 0 (pos 1)) (Contains-get_or lits 0 (pos 1) some); on = on; bottom = bottom (let long : length lits ≡ length clause = sym (length-sorted lits) ∙ ap length new.1 in omega (arith, long, short)) }))
       (λ (old : live_in s id ≡ Some clause). guarded.short id clause old short)
       (live_added s lits id clause is);
 }
   where
-    is_lits : (id : ℕ) (clause : List ℤ) → id ≡ length s.clauses + 1 → live_in (added s lits) id ≡ Some clause → lits ≡ clause
-    is_lits id clause e is = ⊎_elim (λ (new : (id ≡ length s.clauses + 1) × (lits ≡ clause)). new.1) (λ (old : live_in s id ≡ Some clause). absurd (next_free id clause old e)) (live_added s lits id clause is)
+    is_lits : (id : ℕ) (clause : List ℤ) → id ≡ length s.clauses + 1 → live_in (added s lits) id ≡ Some clause → sorted lits ≡ clause
+    is_lits id clause e is = ⊎_elim (λ (new : (id ≡ length s.clauses + 1) × (sorted lits ≡ clause)). new.1) (λ (old : live_in s id ≡ Some clause). absurd (next_free id clause old e)) (live_added s lits id clause is)
       where
         next_free : (k : ℕ) (c : List ℤ) → live_in s k ≡ Some c → k ≡ length s.clauses + 1 → ⊥
         next_free k c is_c e_c = next_is_free s k c is_c e_c
 
     old_live : (id : ℕ) (w : ℤ) (clause : List ℤ) → Watches s id w → live_in (added s lits) id ≡ Some clause → live_in s id ≡ Some clause
-    old_live id w clause old is = ⊎_elim (λ (new : (id ≡ length s.clauses + 1) × (lits ≡ clause)). absurd (next_is_free s id old.clause old.is_live new.0)) (λ (same : live_in s id ≡ Some clause). same) (live_added s lits id clause is)
+    old_live id w clause old is = ⊎_elim (λ (new : (id ≡ length s.clauses + 1) × (sorted lits ≡ clause)). absurd (next_is_free s id old.clause old.is_live new.0)) (λ (same : live_in s id ≡ Some clause). same) (live_added s lits id clause is)

@@ -5,8 +5,9 @@ use Rattle.std.proofs.lemmas.Bool.{cases_eq}
 use Rattle.std.proofs.lemmas.Grind.{common_steps}
 use Rattle.std.proofs.lemmas.List.Elements.{All-contains}
 use Rattle.sat_theory.specs.Formula.{variable, opposite, IsClause}
-use Rattle.cdcl_theory.specs.Falling.{Implies, IsSettled}
+use Rattle.cdcl_theory.specs.Falling.{IsFallen, Implies, IsSettled, IsFalsified}
 use Rattle.cdcl_theory.specs.Trails.{Trailed, fell, IsTrail}
+use Rattle.clause_db.specs.Members.{AreMembersOf, all_of_members}
 use Rattle.cdcl_core.specs.Verdicts.{IsLeft}
 
 -- the literal at one of the first i indices has no value, and all others there have fallen
@@ -94,10 +95,18 @@ settled_by_two places lits i l m clause within at up seen = record {
 pub ruleset judging = (common_steps, seen_none, seen_down, seen_left, seen_all, seen_one, settled_by_true, settled_by_two)
 
 -- The unit clause is the reason of its literal.
-pub left_implies : (live : ℕ → Option (List ℤ)) (t : Trailed) (id : ℕ) (lits : List ℤ) (l : ℤ) → IsTrail t → live id ≡ Some lits → IsLeft (fell t) lits l → Implies live (fell t) (length t.lits) l id
-left_implies live t id lits l trail is left = record {
-  clause = lits;
-  is_live = is;
-  there = left.there;
-  others = λ k d low. ⊎_elim (λ (e : slice_index_or lits k d ≡ l). inl e) (λ (down : 0 < fell t (slice_index_or lits k d)). inr (down, trail.places.within (slice_index_or lits k d))) (left.others k d low);
+pub left_implies : (live : ℕ → Option (List ℤ)) (t : Trailed) (id : ℕ) (row : List ℤ) (l : ℤ) → IsTrail t → AreMembersOf live id row → IsLeft (fell t) row l → Implies live (fell t) (length t.lits) l id
+left_implies live t id row l trail read left = record {
+  clause = read.clause;
+  is_live = read.is_live;
+  there = (read.same l).0 left.there;
+  others = all_of_members (λ m. (m ≡ l) ⊎ IsFallen (fell t) (length t.lits) m) row read.clause read.same (λ k d low. ⊎_elim (λ (e : slice_index_or row k d ≡ l). inl e) (λ (down : 0 < fell t (slice_index_or row k d)). inr (down, trail.places.within (slice_index_or row k d))) (left.others k d low));
+}
+
+-- A clause all of whose literals have fallen is falsified.
+pub row_falsified : (live : ℕ → Option (List ℤ)) (places : ℤ → ℕ) (id : ℕ) (row : List ℤ) → AreMembersOf live id row → All (λ m. 0 < places m) row → IsFalsified live places id
+row_falsified live places id row read down = record {
+  clause = read.clause;
+  is_live = read.is_live;
+  fallen = all_of_members (λ m. 0 < places m) row read.clause read.same down;
 }

@@ -12,6 +12,8 @@ use Rattle.cdcl_theory.specs.FallingLaws.{implies_kept, implies_more, closed_kep
 use Rattle.cdcl_theory.specs.Trails.{Trailed, fell, reason_of, IsTrail, pushed, HasReason, IsGrown, IsBack, IsLayered}
 use Rattle.cdcl_theory.specs.TrailLaws.{trail_push}
 use Rattle.trail_core.specs.Values.{IsOver, IsFree}
+use Rattle.clause_db.specs.Sorted.{sorted}
+use Rattle.clause_db.specs.SortedLaws.{Contains-sorted, All-sorted}
 use Rattle.clause_db.specs.Stored.{Stored, live_in, added}
 use Rattle.clause_db.specs.StoredLaws.{live_in-add, added_old, added_new}
 use Rattle.conflict_core.specs.Learning.{IsLearnt, asserting, HaveReasons}
@@ -100,15 +102,15 @@ jumped_free live t back start end place lits hints trail trail_back learnt low i
     (back_gone end t back (asserting lits) trail_back is_back (omega arith), back_up end t back (opposite (asserting lits)) trail_back is_back (trail.places.one_side (asserting lits) (omega arith)))
 
 -- and the learnt clause is its reason.
-pub jumped_reason : (live more : ℕ → Option (List ℤ)) (t back : Trailed) (start end place id : ℕ) (lits : List ℤ) (hints : List ℕ) → IsLearnt live t start lits place hints → place ≤ end → IsBack end t back → more id ≡ Some lits → Implies more (fell back) end (asserting lits) id
+pub jumped_reason : (live more : ℕ → Option (List ℤ)) (t back : Trailed) (start end place id : ℕ) (lits : List ℤ) (hints : List ℕ) → IsLearnt live t start lits place hints → place ≤ end → IsBack end t back → more id ≡ Some (sorted lits) → Implies more (fell back) end (asserting lits) id
 jumped_reason live more t back start end place id lits hints learnt low is_back is = record {
-  clause = lits;
+  clause = sorted lits;
   is_live = is;
-  there = Contains-get_or lits 0 (pos 0) learnt.some;
-  others = λ k d less. ⊎_elim
+  there = Contains-sorted lits (asserting lits) (Contains-get_or lits 0 (pos 0) learnt.some);
+  others = All-sorted (λ m. (m ≡ asserting lits) ⊎ IsFallen (fell back) end m) lits (λ k d less. ⊎_elim
       (λ (e : slice_index_or lits k d ≡ asserting lits). inl e)
       (λ (down : IsFallen (fell t) place (slice_index_or lits k d)). inr (is_back.same.there end (slice_index_or lits k d) (omega arith) (down.0, (let h : fell t (slice_index_or lits k d) ≤ place = down.1 in omega arith))))
-      (learnt.others k d less);
+      (learnt.others k d less));
 }
 
 -- the first level that was dropped begins no later than the last
@@ -143,7 +145,7 @@ reasons_last live t starts start layered level p after within =
 
 -- The levels after a backjump: the learnt clause is live, the trail was cut back, and the learnt
 -- literal is on it.
-pub layered_jumped : (live more : ℕ → Option (List ℤ)) (t back : Trailed) (starts fewer : List ℕ) (start end place id : ℕ) (lits : List ℤ) (hints : List ℕ) → more ≡ with_clause live id lits → ((k : ℕ) (clause : List ℤ) → live k ≡ Some clause → more k ≡ Some clause) → more id ≡ Some lits → IsLayered live t starts → IsLearnt live t start lits place hints → ((d : ℕ) → slice_index_or starts (length starts - 1) d ≡ start) → IsDropped place starts fewer end → IsTrail back → IsBack end t back → IsOver t.vars (asserting lits) → IsLayered more (pushed back (asserting lits) id) fewer
+pub layered_jumped : (live more : ℕ → Option (List ℤ)) (t back : Trailed) (starts fewer : List ℕ) (start end place id : ℕ) (lits : List ℤ) (hints : List ℕ) → more ≡ with_clause live id (sorted lits) → ((k : ℕ) (clause : List ℤ) → live k ≡ Some clause → more k ≡ Some clause) → more id ≡ Some (sorted lits) → IsLayered live t starts → IsLearnt live t start lits place hints → ((d : ℕ) → slice_index_or starts (length starts - 1) d ≡ start) → IsDropped place starts fewer end → IsTrail back → IsBack end t back → IsOver t.vars (asserting lits) → IsLayered more (pushed back (asserting lits) id) fewer
 layered_jumped live more t back starts fewer start end place id lits hints is_more kept there layered learnt last dropped trail_back is_back over =
     record {
       whole = trail_push back u id trail_back over.0 small free.0 free.1;
@@ -185,7 +187,7 @@ layered_jumped live more t back starts fewer start end place id lits hints is_mo
         let u_up : IsFallen (fell back) s u → ⊥ = λ down. (let some : 0 < fell back u = down.0 in let none : fell back u ≡ 0 = free.0 in omega (arith, some, none)) in
         let w_up : IsFallen (fell back) s w.0 → ⊥ = λ down. (let was : IsFallen (fell t) s w.0 = is_back.same.back s w.0 (omega (arith, less, under)) down in let early : fell t w.0 ≤ s = was.1 in omega (arith, early, at_w, less)) in
         let apart : u ≡ w.0 → ⊥ = λ e. (let h : fell t u ≡ fell t w.0 = ap (fell t) e in omega (arith, h, at_w, after, under, low)) in
-        let added : IsClosed (with_clause live id lits) (fell back) s = closed_added live (fell back) s id lits u w.0 (Contains-get_or lits 0 (pos 0) learnt.some) w.1 apart u_up w_up in_back in
+        let added : IsClosed (with_clause live id (sorted lits)) (fell back) s = closed_added live (fell back) s id (sorted lits) u w.0 (Contains-sorted lits u (Contains-get_or lits 0 (pos 0) learnt.some)) (Contains-sorted lits w.0 w.1) apart u_up w_up in_back in
         let in_more : IsClosed more (fell back) s = subst (λ (f : ℕ → Option (List ℤ)). IsClosed f (fell back) s) (sym is_more) added in
         closed_kept more (length back.lits) s (fell back) (fell (pushed back u id)) same (omega (arith, less, under, short)) in_more
 
@@ -251,14 +253,14 @@ learnt_fallen live t start place lits hints learnt k d low =
 pub learnt_over : (live : ℕ → Option (List ℤ)) (t : Trailed) (start place : ℕ) (lits : List ℤ) (hints : List ℕ) → IsLearnt live t start lits place hints → IsOver t.vars (asserting lits)
 learnt_over live t start place lits hints learnt = (learnt.clause.literals 0 (pos 0) learnt.some, learnt.variables 0 (pos 0) learnt.some)
 
--- So the levels last through a backjump, over the clauses of a store.
+-- So the levels last through a backjump, over stored clauses.
 pub jumped_layers : (s : Stored) (t back : Trailed) (starts fewer : List ℕ) (start end place id : ℕ) (lits : List ℤ) (hints : List ℕ) (u : ℤ) → IsLayered (live_in s) t starts → IsLearnt (live_in s) t start lits place hints → IsLastStart starts start → IsDropped place starts fewer end → IsTrail back → IsBack end t back → id ≡ length s.clauses + 1 → u ≡ asserting lits → IsLayered (live_in (added s lits)) (pushed back u id) fewer
 jumped_layers s t back starts fewer start end place id lits hints u layered learnt level dropped trail_back is_back id_is u_is =
     rw u_is (layered_jumped (live_in s) (live_in (added s lits)) t back starts fewer start end place id lits hints
-    (live_in-add s lits ∙ ap (λ (n : ℕ). with_clause (live_in s) n lits) (sym id_is))
-    (λ k clause is. ap (λ (g : ℕ → Option (List ℤ)). g k) (live_in-add s lits) ∙ added_old s lits k clause is)
+    (live_in-add s lits ∙ ap (λ (n : ℕ). with_clause (live_in s) n (sorted lits)) (sym id_is))
+    (λ k clause is. ap (λ (g : ℕ → Option (List ℤ)). g k) (live_in-add s lits) ∙ added_old s (sorted lits) k clause is)
     (ap (λ (g : ℕ → Option (List ℤ)). g id) (live_in-add s lits) ∙ there)
     layered learnt level.last dropped trail_back is_back (learnt_over (live_in s) t start place lits hints learnt))
   where
-    there : with_clause (live_in s) (length s.clauses + 1) lits id ≡ Some lits
-    there = rw id_is (added_new (live_in s) (length s.clauses + 1) lits)
+    there : with_clause (live_in s) (length s.clauses + 1) (sorted lits) id ≡ Some (sorted lits)
+    there = rw id_is (added_new (live_in s) (length s.clauses + 1) (sorted lits))

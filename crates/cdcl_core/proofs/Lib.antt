@@ -22,3 +22,4 @@ pub mod Closing
 pub mod UnderWay
 pub mod Formulas
 pub mod Standing
+pub mod Shedding

@@ -1,5 +1,5 @@
 -- How the log grows.
-use Rattle.std.proofs.Common.{◌≡◌, ◌⊎◌, ℕ, ◌+◌, ◌-◌, ◌*◌, ◌^◌, ◌<◌, ◌≤◌, ℤ, Bool, List, [], ◌∷◌, ◌++◌, length, slice_index_or, Contains, All, Option, Some, is_some, count_by, subst, sym, ap, ◌∙◌, arith, inl, inr, refl}
+use Rattle.std.proofs.Common.{◌≡◌, ◌⊎◌, ℕ, ◌+◌, ◌-◌, ◌*◌, ◌^◌, ◌<◌, ◌≤◌, ℤ, Bool, true, List, [], ◌∷◌, ◌++◌, length, slice_index_or, Contains, All, Option, Some, is_some, count_by, subst, sym, ap, ◌∙◌, arith, inl, inr, refl}
 use Rattle.std.proofs.Math.Logic.{⊎_elim}
 use Rattle.std.proofs.lemmas.Bool.{cases_eq, ne_eqb}
 use Rattle.std.proofs.lemmas.List.{length_push, get_or_push, get_or_append_left}
@@ -8,26 +8,39 @@ use Rattle.std.proofs.lemmas.List.Quantifiers.{Any-push}
 use Rattle.sat_theory.specs.Formula.{Formula, variable, opposite, IsClause, IsWithin}
 use Rattle.sat_theory.specs.Line.{Line, Add, IsId}
 use Rattle.sat_theory.specs.State.{State, by_id, start, next, with_clause}
-use Rattle.sat_theory.specs.Holding.{among, with_literal, HintsHold}
+use Rattle.sat_theory.specs.Holding.{among, with_literal, IsUnitOutside, HintsHold}
 use Rattle.sat_theory.specs.Log.{after, EachLine, IsStep, IsFresh, IsNew, AddsEmpty, added_ids, additions, HasEmpty, SparesFormula}
 use Rattle.sat_theory.specs.FewAdditions.{AddsSome}
 use Rattle.sat_theory.specs.LogLaws.{after-push, EachLine-push, added_ids-add}
 use Rattle.cdcl_theory.specs.ResolvingLaws.{hints_live}
+use Rattle.clause_db.specs.Sorted.{sorted}
+use Rattle.clause_db.specs.SortedLaws.{Contains-from_sorted, All-sorted, All-from_sorted, by_id-sorted, by_id-from_sorted}
 use Rattle.clause_db.specs.Stored.{Stored, live_at, live_in, IsStored, none_stored, added, all_added}
 use Rattle.clause_db.specs.StoredLaws.{live_in-add, live_in-start, live_inside, live_added, added_old, added_new, added_cases, all_added-vars}
 use Rattle.cdcl_core.specs.declared.search.Search.{Search}
 use Rattle.cdcl_core.specs.declared.choosing.Choice.{Choice}
-use Rattle.cdcl_core.specs.Searching.{IsStateOf, IsLog, AreNew, IsCovered, AreCovered, IsLogged}
+use Rattle.cdcl_core.specs.Searching.{IsShownAs, IsStateOf, IsLog, AreNew, IsCovered, AreCovered, IsLogged}
 use Rattle.cdcl_core.proofs.Formulas.{by_id_inside, All-self}
 use Rattle.cdcl_core.proofs.Beginning.{count_begun}
 use Rattle.cdcl_core.proofs.Counts.{count_pushed}
 
--- Hints that hold with some clauses hold with more.
-pub hints_more : (live more : ℕ → Option (List ℤ)) (set : ℤ → Bool) (hints : List ℕ) → ((id : ℕ) (clause : List ℤ) → live id ≡ Some clause → more id ≡ Some clause) → HintsHold live set hints → HintsHold more set hints
+unit_given : (set : ℤ → Bool) (given : List ℤ) (l : ℤ) → IsUnitOutside set (sorted given) l → IsUnitOutside set given l
+unit_given set given l unit = record {
+  there = Contains-from_sorted given l unit.there;
+  outside = unit.outside;
+  others = All-from_sorted (λ m. (m ≡ l) ⊎ (set m ≡ true)) given unit.others;
+}
+
+-- Hints that hold with some clauses hold with more, and with other orders of their literals.
+pub hints_more : (live more : ℕ → Option (List ℤ)) (set : ℤ → Bool) (hints : List ℕ) → ((id : ℕ) (clause : List ℤ) → live id ≡ Some clause → IsShownAs (more id) clause) → HintsHold live set hints → HintsHold more set hints
 unfolding HintsHold
 hints_more live more set [] inside hold = hold
-hints_more live more set (hint ∷ []) inside (clause, is, all) = (clause, inside hint clause is, all)
-hints_more live more set (hint ∷ next_one ∷ hints) inside (clause, l, is, unit, hold) = (clause, l, inside hint clause is, unit, hints_more live more (with_literal set (opposite l)) (next_one ∷ hints) inside hold)
+hints_more live more set (hint ∷ []) inside (clause, is, all) =
+    let shown : IsShownAs (more hint) clause = inside hint clause is in
+    (shown.given, shown.is, All-from_sorted (λ m. set m ≡ true) shown.given (subst (λ (c : List ℤ). All (λ m. set m ≡ true) c) shown.order all))
+hints_more live more set (hint ∷ next_one ∷ hints) inside (clause, l, is, unit, hold) =
+    let shown : IsShownAs (more hint) clause = inside hint clause is in
+    (shown.given, l, shown.is, unit_given set shown.given l (subst (λ (c : List ℤ). IsUnitOutside set c l) shown.order unit), hints_more live more (with_literal set (opposite l)) (next_one ∷ hints) inside hold)
 
 -- an addition under the next id, whose hints hold, is a step
 addition_step : (f : Formula) (s : Stored) (st : State) (id : ℕ) (lits : List ℤ) (hints : List ℕ) → IsStateOf f s st → s.vars ≡ f.vars → IsStored s → IsClause lits → IsWithin s.vars lits → s.vars < 1000000000 → id ≡ length s.clauses + 1 → HintsHold (live_in s) (among lits) hints → IsStep st (Add id lits hints)
@@ -52,17 +65,19 @@ addition_step f s st id lits hints state vars stored is_clause within small is h
 state_added : (f : Formula) (s : Stored) (st : State) (id : ℕ) (lits : List ℤ) (hints : List ℕ) → IsStateOf f s st → id ≡ length s.clauses + 1 → length f.clauses ≤ length s.clauses → IsStateOf f (added s lits) (next st (Add id lits hints))
 state_added f s st id lits hints state is long = record {
   vars = state.vars;
-  greatest = is ∙ sym (length_push s.clauses (Some lits));
+  greatest = is ∙ sym (length_push s.clauses (Some (sorted lits)));
   inside = λ k clause live. ⊎_elim
-      (λ (new : (k ≡ length s.clauses + 1) × (lits ≡ clause)). subst (λ (n : ℕ). with_clause st.live id lits n ≡ Some clause) (is ∙ sym new.0) (added_new st.live id lits ∙ ap (λ (c : List ℤ). Some c) new.1))
-      (λ (old : live_in s k ≡ Some clause). older k clause (state.inside k clause old) (λ e. (let low : (0 < k) × (k ≤ length s.clauses) = live_inside s k clause old in let high : k ≤ length s.clauses = low.1 in omega (arith, high, e, is))))
+      (λ (new : (k ≡ length s.clauses + 1) × (sorted lits ≡ clause)). record { given = lits; is = subst (λ (n : ℕ). with_clause st.live id lits n ≡ Some lits) (is ∙ sym new.0) (added_new st.live id lits); order = sym new.1 })
+      (λ (old : live_in s k ≡ Some clause).
+      let shown : IsShownAs (st.live k) clause = state.inside k clause old in
+      record { given = shown.given; is = older k shown.given shown.is (λ e. (let low : (0 < k) × (k ≤ length s.clauses) = live_inside s k clause old in let high : k ≤ length s.clauses = low.1 in omega (arith, high, e, is))); order = shown.order })
       (live_added s lits k clause live);
   formula = λ k clause here. older k clause (state.formula k clause here) (λ e. (let low : k ≤ length f.clauses = by_id_inside f.clauses k clause here in omega (arith, low, e, is, long)));
   only = λ k clause live. ⊎_elim
-      (λ (new : (k ≡ id) × (lits ≡ clause)). inr (ap (λ (g : ℕ → Option (List ℤ)). g k) (live_in-add s lits) ∙ subst (λ (n : ℕ). with_clause (live_in s) (length s.clauses + 1) lits n ≡ Some clause) (sym is ∙ sym new.0) (added_new (live_in s) (length s.clauses + 1) lits ∙ ap (λ (c : List ℤ). Some c) new.1)))
+      (λ (new : (k ≡ id) × (lits ≡ clause)). inr (ap (λ (g : ℕ → Option (List ℤ)). g k) (live_in-add s lits) ∙ subst (λ (n : ℕ). with_clause (live_in s) (length s.clauses + 1) (sorted lits) n ≡ Some (sorted clause)) (sym is ∙ sym new.0) (added_new (live_in s) (length s.clauses + 1) (sorted lits) ∙ ap (λ (c : List ℤ). Some (sorted c)) new.1)))
       (λ (old : st.live k ≡ Some clause). ⊎_elim
       (λ (here : by_id f.clauses k ≡ Some clause). inl here)
-      (λ (kept : live_in s k ≡ Some clause). inr (ap (λ (g : ℕ → Option (List ℤ)). g k) (live_in-add s lits) ∙ added_old s lits k clause kept))
+      (λ (kept : live_in s k ≡ Some (sorted clause)). inr (ap (λ (g : ℕ → Option (List ℤ)). g k) (live_in-add s lits) ∙ added_old s (sorted lits) k (sorted clause) kept))
       (state.only k clause old))
       (added_cases st.live id lits k clause live);
 }
@@ -76,7 +91,7 @@ log_added f s lines id lits hints deleted least log stored is_clause within smal
   vars = log.vars;
   holds = EachLine-push IsStep (start f) lines (Add id lits hints) log.holds (addition_step f s (after (start f) lines) id lits hints log.state log.vars stored is_clause within small is hold);
   state = rw (after-push (start f) lines (Add id lits hints)) (state_added f s (after (start f) lines) id lits hints log.state is (let count : length s.clauses ≡ length f.clauses + additions lines = log.count in omega (arith, count)));
-  count = (let one : additions now ≡ additions lines + 1 = one_more in let before : length s.clauses ≡ length f.clauses + additions lines = log.count in let long : length more.clauses ≡ length s.clauses + 1 = length_push s.clauses (Some lits) in omega arith);
+  count = (let one : additions now ≡ additions lines + 1 = one_more in let before : length s.clauses ≡ length f.clauses + additions lines = log.count in let long : length more.clauses ≡ length s.clauses + 1 = length_push s.clauses (Some (sorted lits)) in omega arith);
   spares = All-push (SparesFormula f) lines (Add id lits hints) log.spares tt;
   ids = ids_now;
   gone = (let one : additions now ≡ additions lines + 1 = one_more in let before : count_by (λ k. is_some (old.live k)) (added_ids lines) + deleted ≡ additions lines = log.gone in let after_it : count_by (λ k. is_some ((after (start f) now).live k)) (added_ids now) ≡ count_by (λ k. is_some (old.live k)) (added_ids lines) + 1 = live_more in omega (arith, one, before, after_it));
@@ -123,7 +138,7 @@ new_in_state f s st lits state covered new id clause is inside =
     (λ (here : by_id f.clauses id ≡ Some clause).
     let cover : IsCovered s clause = covered id clause here in
     new cover.by cover.cover cover.is_live (All-weaker (Contains clause) (Contains lits) (λ m there. All-contains (Contains lits) clause m inside there) cover.cover cover.inside))
-    (λ (kept : live_in s.clauses id ≡ Some clause). new id clause kept inside)
+    (λ (kept : live_in s.clauses id ≡ Some (sorted clause)). new id (sorted clause) kept (All-sorted (Contains lits) clause inside))
     (state.only id clause is)
 
 -- that is new and not empty
@@ -140,7 +155,7 @@ covered_added f s t lits covered clauses given shorter id clause here =
     record {
       by = cover.by;
       cover = cover.cover;
-      is_live = rw clauses (ap (λ (g : ℕ → Option (List ℤ)). g cover.by) (live_in-add s.clauses lits) ∙ added_old s.clauses lits cover.by cover.cover cover.is_live);
+      is_live = rw clauses (ap (λ (g : ℕ → Option (List ℤ)). g cover.by) (live_in-add s.clauses lits) ∙ added_old s.clauses (sorted lits) cover.by cover.cover cover.is_live);
       inside = cover.inside;
       stays = rw (given, shorter) cover.stays;
     }
@@ -177,7 +192,9 @@ log_begun f least = record {
   state = record {
     vars = refl;
     greatest = sym (count_begun f);
-    inside = λ id clause is. sym (ap (λ (g : ℕ → Option (List ℤ)). g id) (live_in-start f.vars f.clauses)) ∙ is;
+    inside = λ id clause is.
+        let found : (given : List ℤ) × (by_id f.clauses id ≡ Some given) × (clause ≡ sorted given) = by_id-from_sorted f.clauses id clause (sym (ap (λ (g : ℕ → Option (List ℤ)). g id) (live_in-start f.vars f.clauses)) ∙ is) in
+        record { given = found.0; is = found.1; order = found.2 };
     formula = λ id clause is. is;
     only = λ id clause is. inl is;
   };
@@ -196,9 +213,9 @@ new_begun f = record { fresh = tt; some = All-nil AddsSome }
 pub covered_begun : (f : Formula) (s : Search) → s.clauses ≡ all_added (none_stored f.vars) f.clauses → s.given ≡ length f.clauses → AreCovered f s
 covered_begun f s clauses given id clause here = record {
   by = id;
-  cover = clause;
-  is_live = rw clauses (ap (λ (g : ℕ → Option (List ℤ)). g id) (live_in-start f.vars f.clauses) ∙ here);
-  inside = All-self clause;
+  cover = sorted clause;
+  is_live = rw clauses (ap (λ (g : ℕ → Option (List ℤ)). g id) (live_in-start f.vars f.clauses) ∙ by_id-sorted f.clauses id clause here);
+  inside = All-sorted (Contains clause) clause (All-self clause);
   stays = inl (let low : id ≤ length f.clauses = by_id_inside f.clauses id clause here in omega (arith, low, given));
 }
 
@@ -214,7 +231,7 @@ log_same f a b lines deleted least clauses vars log = record {
     formula = log.state.formula;
     only = λ id clause is. ⊎_elim
         (λ (here : by_id f.clauses id ≡ Some clause). inl here)
-        (λ (kept : live_in a id ≡ Some clause). inr (ap (λ (xs : List (Option (List ℤ))). live_at xs id) clauses ∙ kept))
+        (λ (kept : live_in a id ≡ Some (sorted clause)). inr (ap (λ (xs : List (Option (List ℤ))). live_at xs id) clauses ∙ kept))
         (log.state.only id clause is);
   };
   count = ap length clauses ∙ log.count;

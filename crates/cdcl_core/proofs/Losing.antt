@@ -1,5 +1,5 @@
 -- A search whose clauses are deleted.
-use Rattle.std.proofs.Common.{◌≡◌, ℕ, ◌+◌, ◌-◌, ◌*◌, ◌<◌, ◌≤◌, ℤ, List, [], ◌∷◌, ◌++◌, length, slice_index_or, Contains, All, Option, Some, None, subst, sym, ap, ◌∙◌, arith, inl, inr, refl}
+use Rattle.std.proofs.Common.{◌≡◌, ℕ, ◌+◌, ◌-◌, ◌*◌, ◌<◌, ◌≤◌, ◌↔◌, ℤ, List, [], ◌∷◌, ◌++◌, length, slice_index_or, Contains, All, Option, Some, None, subst, sym, ap, ◌∙◌, arith, inl, inr, refl}
 use Rattle.std.proofs.Math.Logic.{⊎_elim}
 use Rattle.std.proofs.lemmas.List.{length-set}
 use Rattle.std.proofs.lemmas.List.Elements.{All-weaker}
@@ -17,21 +17,17 @@ use Rattle.cdcl_core.specs.Searching.{IsSearching, IsVisited, IsIrredundant, IsC
 use Rattle.cdcl_core.specs.Forgetting.{IsPending, IsNoReason, IsImplied, NoneImplied, HasHalf, HasLost, HasForgotten}
 use Rattle.cdcl_core.proofs.Gone.{log_lost}
 
--- A clause of which no literal is implied by it is no reason.
-pub no_reason : (s : Search) (id : ℕ) (clause : List ℤ) → IsSearching s → live_in s.clauses id ≡ Some clause → NoneImplied s.trail clause (length clause) id → IsNoReason s id
-no_reason s id clause searching is none = record {
+-- A clause of which no literal is implied by it is no reason; `row` has its literals.
+pub no_reason : (s : Search) (id : ℕ) (row : List ℤ) → IsSearching s → ((clause : List ℤ) → live_in s.clauses id ≡ Some clause → (l : ℤ) → Contains row l ↔ Contains clause l) → NoneImplied s.trail row (length row) id → IsNoReason s id
+no_reason s id row searching same none = record {
   none = λ p d low reason at.
       let l : ℤ = slice_index_or s.trail.lits p d in
       let implied : Implies (live_in s.clauses) (fell s.trail) p (slice_index_or s.trail.lits p d) (reason_of s.trail (slice_index_or s.trail.lits p d)) = reason.implied d in
       let live : live_in s.clauses id ≡ Some implied.clause = subst (λ (n : ℕ). live_in s.clauses n ≡ Some implied.clause) at implied.is_live in
-      let same : implied.clause ≡ clause = the_same implied.clause clause (live_in s.clauses id) live is in
-      let there : Contains clause (slice_index_or s.trail.lits p d) = subst (λ (c : List ℤ). Contains c (slice_index_or s.trail.lits p d)) same implied.there in
+      let there : Contains row (slice_index_or s.trail.lits p d) = (same implied.clause live (slice_index_or s.trail.lits p d)).1 implied.there in
       let on : fell s.trail (opposite (slice_index_or s.trail.lits p d)) ≡ p + 1 = place_at s.trail.lits (fell s.trail) p d (slice_index_or s.trail.lits p d) searching.layered.whole.places low refl in
       none there.0 (slice_index_or s.trail.lits p d) there.1 there.1 (subst (λ (m : ℤ). IsImplied s.trail id m) (sym there.2) (omega (arith, on), at));
 }
-  where
-    the_same : (c e : List ℤ) (o : Option (List ℤ)) → o ≡ Some c → o ≡ Some e → c ≡ e
-    the_same c e o one other = cc
 
 fewer_closed : (live less : ℕ → Option (List ℤ)) (places : ℤ → ℕ) (starts : List ℕ) → ((id : ℕ) (clause : List ℤ) → less id ≡ Some clause → live id ≡ Some clause) → All (λ s. IsClosed live places s) starts → All (λ s. IsClosed less places s) starts
 fewer_closed live less places starts inside all = All-weaker (λ s. IsClosed live places s) (λ s. IsClosed less places s) (λ s closed. closed_less live less places s inside closed) starts all

@@ -1,5 +1,5 @@
 -- What the endings of a search show of the formula.
-use Rattle.std.proofs.Common.{◌≡◌, ℕ, suc, ◌+◌, ◌-◌, ◌*◌, ◌<◌, ◌≤◌, ℤ, Bool, true, List, [], ◌∷◌, length, slice_index_or, Contains, All, Any, subst, sym, ap, ◌∙◌, arith, inl, refl}
+use Rattle.std.proofs.Common.{◌≡◌, ℕ, suc, ◌+◌, ◌*◌, ◌<◌, ◌≤◌, ℤ, Bool, true, List, [], ◌∷◌, length, slice_index_or, Contains, All, Any, subst, sym, ap, ◌∙◌, arith, inl, refl}
 use Rattle.std.proofs.Math.Logic.{⊎_elim}
 use Rattle.std.proofs.lemmas.Bool.{cases_lt}
 use Rattle.std.proofs.lemmas.List.Elements.{All-contains, All-cons, All-nil}

@@ -1,5 +1,5 @@
 -- Clauses of the formula that go where others subsume them, and what is added for them.
-use Rattle.std.proofs.Common.{◌≡◌, ◌⊎◌, ℕ, zero, suc, ◌+◌, ◌-◌, ◌<◌, ◌≤◌, ◌==◌, ℤ, Bool, false, List, [], length, Contains, All, Option, Some, None, subst, sym, ap, ◌∙◌, arith, inl, inr, refl}
+use Rattle.std.proofs.Common.{◌≡◌, ℕ, zero, suc, ◌+◌, ◌-◌, ◌<◌, ◌≤◌, ◌==◌, ℤ, Bool, false, List, [], length, Contains, All, Option, Some, None, subst, sym, ap, ◌∙◌, arith, inl, inr, refl}
 use Rattle.std.specs.Prelude.{Result, Ok, Err, IfOk}
 use Rattle.std.proofs.Math.Logic.{⊎_elim}
 use Rattle.std.proofs.lemmas.Bool.{cases_eq}
@@ -9,6 +9,8 @@ use Rattle.sat_theory.specs.Formula.{Formula}
 use Rattle.sat_theory.specs.Line.{Line}
 use Rattle.sat_theory.specs.State.{State, by_id, start}
 use Rattle.sat_theory.specs.Log.{after}
+use Rattle.clause_db.specs.Sorted.{sorted}
+use Rattle.clause_db.specs.SortedLaws.{length-sorted}
 use Rattle.clause_db.specs.Stored.{Stored, live_in, added}
 use Rattle.clause_db.specs.StoredLaws.{live_in-add, live_inside, added_old, live_added}
 use Rattle.clause_db.specs.Deleting.{IsDeleted}
@@ -37,9 +39,9 @@ state_aside f a b st id state some low gone = record {
   formula = state.formula;
   only = λ k clause live. ⊎_elim
       (λ (here : by_id f.clauses k ≡ Some clause). inl here)
-      (λ (kept : live_in a k ≡ Some clause). ⊎_elim
+      (λ (kept : live_in a k ≡ Some (sorted clause)). ⊎_elim
       (λ (e : k ≡ id). inl (of_formula k clause (omega (arith, e, some)) (omega (arith, e, low)) live))
-      (λ (apart : k ≡ id → ⊥). inr (kept_live id a b k clause gone some apart kept))
+      (λ (apart : k ≡ id → ⊥). inr (kept_live id a b k (sorted clause) gone some apart kept))
       (cases_eq k id))
       (state.only k clause live);
 }
@@ -103,7 +105,7 @@ covered_more f s t lits covered clauses given low high k clause here =
     record {
       by = cover.by;
       cover = cover.cover;
-      is_live = rw clauses (ap (λ (g : ℕ → Option (List ℤ)). g cover.by) (live_in-add s.clauses lits) ∙ added_old s.clauses lits cover.by cover.cover cover.is_live);
+      is_live = rw clauses (ap (λ (g : ℕ → Option (List ℤ)). g cover.by) (live_in-add s.clauses lits) ∙ added_old s.clauses (sorted lits) cover.by cover.cover cover.is_live);
       inside = cover.inside;
       stays = ⊎_elim
           (λ (below : cover.by ≤ s.given). inl (omega (arith, below, given)))
@@ -147,7 +149,7 @@ pub strengthening_replaced : (s t r : Search) (lits : List ℤ) (old new : List 
 strengthening_replaced s t r lits old new strengthening some clauses has_added bare aside units = record {
   bare = bare;
   full = λ id is. ⊎_elim
-      (λ (one : (id ≡ length s.clauses.clauses + 1) × (lits ≡ [])). (let none : length lits ≡ 0 = ap length one.1 in omega (arith, none, some)))
+      (λ (one : (id ≡ length s.clauses.clauses + 1) × (sorted lits ≡ [])). (let none : length lits ≡ 0 = sym (length-sorted lits) ∙ ap length one.1 in omega (arith, none, some)))
       (λ (older : live_in s.clauses id ≡ Some []). strengthening.full id older)
       (live_added s.clauses lits id [] (subst (λ (x : Stored). live_in x id ≡ Some []) clauses (aside.fewer id [] is)));
   units = units_fewer t.clauses r.clauses new aside.db_vars aside.fewer (subst (λ (x : Stored). IsUnitsOf x new) (sym clauses) units);

@@ -44,15 +44,6 @@ logged_scoped f s x logged = record {
   covered = covered_same f s (record s { scope = x }) logged.covered refl refl refl;
 }
 
-pub under_way_scoped : (s : Search) (x : Option Scope) → IsUnderWay s → IsUnderWay (record s { scope = x })
-under_way_scoped s x way = record {
-  searching = searching_scoped s x way.searching;
-  visited = visited_scoped s x way.visited;
-  given = way.given;
-  few = way.few;
-  least = way.least;
-}
-
 -- A search that has gone down is still under way.
 pub under_way_restarted : (a b : Search) → IsUnderWay a → IsSearching b → IsVisited b → HasRestarted a b → IsUnderWay b
 under_way_restarted a b way searching visited restarted =

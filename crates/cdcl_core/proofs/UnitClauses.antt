@@ -1,5 +1,5 @@
 -- Unit clauses, before the first decision.
-use Rattle.std.proofs.Common.{◌≡◌, ℕ, suc, zero, ◌+◌, ◌<◌, ◌≤◌, ◌⊎◌, ℤ, List, [], ◌∷◌, ◌++◌, length, Contains, All, Option, Some, subst, arith, inl, refl}
+use Rattle.std.proofs.Common.{◌≡◌, ℕ, suc, zero, ◌+◌, ◌<◌, ◌≤◌, ◌⊎◌, ◌↔◌, ℤ, List, [], ◌∷◌, ◌++◌, length, Contains, All, Option, Some, subst, arith, inl, refl}
 use Rattle.std.proofs.Math.Logic.{⊎_elim}
 use Rattle.std.proofs.lemmas.Bool.{cases_eq, cases_lt}
 use Rattle.std.proofs.lemmas.List.{length_push, get_or_push}
@@ -9,6 +9,7 @@ use Rattle.cdcl_theory.specs.Trails.{Trailed, fell, IsTrail, IsGrown, pushed}
 use Rattle.cdcl_theory.specs.TrailLaws.{place_at}
 use Rattle.clause_db.specs.Stored.{Stored, live_in}
 use Rattle.clause_db.specs.StoredLaws.{live_inside}
+use Rattle.clause_db.specs.Members.{all_in_members}
 use Rattle.cdcl_core.specs.Guarding.{HasTrue, IsGuarded}
 
 -- the clauses of fewer than two literals among the first n ids have true literals
@@ -52,15 +53,20 @@ settled_true places (l ∷ []) settled short =
     one P m here (suc k) d low = absurd (let h : suc k < 1 = low in omega (arith, h))
 settled_true places (l ∷ m ∷ ls) settled short = absurd (let h : suc (suc (length ls)) < 2 = short in omega (arith, h))
 
-pub units_settled : (live : ℕ → Option (List ℤ)) (places : ℤ → ℕ) (n : ℕ) (lits : List ℤ) → live (n + 1) ≡ Some lits → IsSettled places lits → AreUnitsTrue live places n → AreUnitsTrue live places (n + 1)
-units_settled live places n lits at settled units = units_more live places n units (λ clause is short. let same : lits ≡ clause = cc in settled_true places clause (subst (IsSettled places) same settled) short)
+settled_of_row : (places : ℤ → ℕ) (row clause : List ℤ) → ((l : ℤ) → Contains row l ↔ Contains clause l) → IsSettled places row → IsSettled places clause
+settled_of_row places row clause same settled = record {
+  not_false = λ all. settled.not_false (all_in_members (λ l. 0 < places l) row clause same all);
+  not_unit = λ u up free all. settled.not_unit u up free (all_in_members (λ l. (l ≡ u) ⊎ (0 < places l)) row clause same all);
+}
+
+pub units_settled : (live : ℕ → Option (List ℤ)) (places : ℤ → ℕ) (n : ℕ) (row : List ℤ) → ((clause : List ℤ) → live (n + 1) ≡ Some clause → (l : ℤ) → Contains row l ↔ Contains clause l) → IsSettled places row → AreUnitsTrue live places n → AreUnitsTrue live places (n + 1)
+units_settled live places n row same settled units = units_more live places n units (λ clause is short. settled_true places clause (settled_of_row places row clause (same clause is) settled) short)
 
 -- or has a literal that is made true
-pub units_pushed : (live : ℕ → Option (List ℤ)) (t : Trailed) (n id : ℕ) (lits : List ℤ) (l : ℤ) → live (n + 1) ≡ Some lits → IsTrail (pushed t l id) → IsTrail t → Contains lits l → IsGrown live t (pushed t l id) → AreUnitsTrue live (fell t) n → AreUnitsTrue live (fell (pushed t l id)) (n + 1)
-units_pushed live t n id lits l at after trail there grown units = units_more live (fell (pushed t l id)) n (units_grown live t (pushed t l id) n trail grown units) (λ clause is short.
-    let same : lits ≡ clause = cc in
+pub units_pushed : (live : ℕ → Option (List ℤ)) (t : Trailed) (n id : ℕ) (row : List ℤ) (l : ℤ) → ((clause : List ℤ) → live (n + 1) ≡ Some clause → (m : ℤ) → Contains row m ↔ Contains clause m) → IsTrail (pushed t l id) → IsTrail t → Contains row l → IsGrown live t (pushed t l id) → AreUnitsTrue live (fell t) n → AreUnitsTrue live (fell (pushed t l id)) (n + 1)
+units_pushed live t n id row l same after trail there grown units = units_more live (fell (pushed t l id)) n (units_grown live t (pushed t l id) n trail grown units) (λ clause is short.
     let place : fell (pushed t l id) (opposite l) ≡ length t.lits + 1 = place_at (t.lits ++ l ∷ []) (fell (pushed t l id)) (length t.lits) l l after.places (rw length_push (omega arith)) (get_or_push t.lits l l (length t.lits) refl) in
-    record { lit = l; there = subst (λ (c : List ℤ). Contains c l) same there; on = omega (arith, place) })
+    record { lit = l; there = (same clause is l).0 there; on = omega (arith, place) })
 
 -- With all ids done the watch invariant holds, as nothing is propagated and no level begun.
 pub units_guarded : (s : Stored) (places : ℤ → ℕ) (n : ℕ) → length s.clauses ≤ n → AreUnitsTrue (live_in s) places n → IsGuarded s places [] 0

@@ -1,12 +1,12 @@
 -- What a search forgets (deletion of learnt clauses).
-use Rattle.std.specs.Prelude.{◌≡◌, ◌⊎◌, ℕ, ◌+◌, ◌*◌, ◌<◌, ◌≤◌, ℤ, List, [], ◌∷◌, ◌++◌, length, slice_index_or, Some, IsSome}
+use Rattle.std.specs.Prelude.{◌≡◌, ◌⊎◌, ℕ, ◌+◌, ◌-◌, ◌*◌, ◌<◌, ◌≤◌, ℤ, List, [], ◌∷◌, ◌++◌, length, slice_index_or, Some, IsSome}
 use Rattle.sat_theory.specs.Formula.{Formula, opposite}
 use Rattle.sat_theory.specs.Line as theory
 use Rattle.cdcl_theory.specs.Trails.{Trailed, HasReason, reason_of, fell}
 use Rattle.clause_db.specs.Stored.{live_in}
 use Rattle.clause_db.specs.Deleting.{IsDeleted}
 use Rattle.cdcl_core.specs.declared.search.Search.{Search}
-use Rattle.cdcl_core.specs.Searching.{IsLog, IsIrredundant}
+use Rattle.cdcl_core.specs.Searching.{IsLog, IsLogged, IsIrredundant}
 
 -- the lines with one more that deletes the ids, if there are any
 abbrev pub with_gone : List theory.Line → ℕ → List ℕ → List theory.Line
@@ -25,6 +25,17 @@ IsImplied t id l = (0 < fell t (opposite l)) × (reason_of t l ≡ id)
 -- none of the first n literals is true by the clause of an id
 abbrev pub NoneImplied : Trailed → List ℤ → ℕ → ℕ → Type 0
 NoneImplied t lits n id = (k : ℕ) (d : ℤ) → k < n → k < length lits → IsImplied t id (slice_index_or lits k d) → ⊥
+
+-- some literal is true by the clause of an id
+pub record SomeImplied (t : Trailed) (id : ℕ) : Type 0 where
+  pub literal : ℤ
+  pub implied : IsImplied t id literal
+
+-- a literal of the trail has the clause of an id for its reason
+pub record IsReason (s : Search) (id : ℕ) : Type 0 where
+  pub place : ℕ
+  pub low : place < length s.trail.lits
+  pub is : (d : ℤ) → reason_of s.trail (slice_index_or s.trail.lits place d) ≡ id
 
 -- no literal of the trail has the clause of an id for its reason
 pub record IsNoReason (s : Search) (id : ℕ) : Type 0 where
@@ -46,6 +57,19 @@ pub record MayGo (s : Search) (id : ℕ) : Type 0 where
 -- the log has too many live additions: fewer than a quarter are deleted, with vars + 2000 to spare
 abbrev pub IsThick : Search → Type 0
 IsThick s = s.given + 4 * (s.deleted + s.clauses.vars + 2000) < length s.clauses.clauses
+
+-- too many additions are live for the bound that the end of the log owes (IsThick), where the shorter
+-- clauses, which are never forgotten, don't count
+abbrev pub IsOverfull : Search → Type 0
+IsOverfull s = s.given + (s.shorter.high - s.shorter.low) + 4 * (s.deleted + s.clauses.vars + 2000) < length s.clauses.clauses
+
+-- The live additions are within that bound, where the log is one over a formula.
+pub record IsBounded (s : Search) : Type 0 where
+  pub few : (f : Formula) → IsLogged f s → IsOverfull s → ⊥
+
+-- a clause that can't be deleted while others are too many: it is never forgotten, or is a reason
+abbrev pub Stays : Search → ℕ → Type 0
+Stays s id = IsIrredundant s id ⊎ IsReason s id
 
 -- one clause was deleted, and nothing else changed
 pub record HasLost (id : ℕ) (old new : Search) : Type 0 where

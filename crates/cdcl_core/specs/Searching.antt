@@ -1,11 +1,12 @@
 -- What holds throughout a search.
-use Rattle.std.specs.Prelude.{◌≡◌, ◌⊎◌, ℕ, ◌+◌, ◌*◌, ◌<◌, ◌≤◌, ℤ, List, length, slice_index_or, All, Contains, Some}
+use Rattle.std.specs.Prelude.{◌≡◌, ◌⊎◌, ℕ, ◌+◌, ◌*◌, ◌<◌, ◌≤◌, ℤ, List, length, slice_index_or, All, Contains, Option, Some}
 use Rattle.sat_theory.specs.Formula.{Formula}
 use Rattle.sat_theory.specs.Line as theory
 use Rattle.sat_theory.specs.State.{State, by_id, start}
 use Rattle.sat_theory.specs.Log.{after, EachLine, IsStep, IsFresh, added_ids, additions, live_additions, SparesFormula}
 use Rattle.sat_theory.specs.FewAdditions.{AddsSome}
 use Rattle.cdcl_theory.specs.Trails.{IsLayered, fell}
+use Rattle.clause_db.specs.Sorted.{sorted}
 use Rattle.clause_db.specs.Stored.{Stored, live_in, IsStored}
 use Rattle.conflict_core.specs.Learning.{IsReady}
 use Rattle.cdcl_core.specs.declared.search.Search.{Search}
@@ -21,13 +22,21 @@ pub record IsSearching (s : Search) : Type 0 where
   pub ready : IsReady s.trail.vars s.analysis
   pub choosing : IsChoosing s.trail s.choice
 
--- A state has exactly the live clauses and those of the formula, and the last id is its greatest.
+-- The entry is a clause, which contracts of the clauses see as `shown`: with its literals in the order
+-- of their codes.
+pub record IsShownAs (entry : Option (List ℤ)) (shown : List ℤ) : Type 0 where
+  pub given : List ℤ
+  pub is : entry ≡ Some given
+  pub order : shown ≡ sorted given
+
+-- A state has exactly the live clauses, up to the order of their literals, and those of the formula,
+-- and the last id is its greatest.
 pub record IsStateOf (f : Formula) (clauses : Stored) (state : State) : Type 0 where
   pub vars : state.vars ≡ f.vars
   pub greatest : state.greatest ≡ length clauses.clauses
-  pub inside : (id : ℕ) (clause : List ℤ) → live_in clauses id ≡ Some clause → state.live id ≡ Some clause
+  pub inside : (id : ℕ) (clause : List ℤ) → live_in clauses id ≡ Some clause → IsShownAs (state.live id) clause
   pub formula : (id : ℕ) (clause : List ℤ) → by_id f.clauses id ≡ Some clause → state.live id ≡ Some clause
-  pub only : (id : ℕ) (clause : List ℤ) → state.live id ≡ Some clause → (by_id f.clauses id ≡ Some clause) ⊎ (live_in clauses id ≡ Some clause)
+  pub only : (id : ℕ) (clause : List ℤ) → state.live id ≡ Some clause → (by_id f.clauses id ≡ Some clause) ⊎ (live_in clauses id ≡ Some (sorted clause))
 
 -- The lines are a log over the formula whose state is that of the live clauses: each line holds, and
 -- deletions name additions alone, so that a clause of the formula which the search keeps no more is

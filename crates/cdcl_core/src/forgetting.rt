@@ -1,13 +1,14 @@
 //! How a search forgets learnt clauses (reduceDB): they go from the clauses, and the log gets a
 //! deletion. The reason of a true literal stays, so that all that is learnt later can be derived;
 //! and at most half of the learnt clauses, or of `least`, are ever deleted, so a log that ends open
-//! keeps half of its additions (`half` of `IsLog`). Which clauses go is chosen in `merits`. When a
+//! keeps half of its additions (`half` of `IsLog`). Which clauses go is chosen in `merits`. Where too
+//! many are live at a decision even so, learnt clauses go in the order of ids (`IsBounded`). When a
 //! search has ended, no reason is needed any more, and the log is thinned in the order of ids.
-ghost use Rattle.std.specs.Prelude.{◌≡◌, ◌<◌, ◌↔◌, length, IsTrue, IsFalse, IsSome, OnOk};
+ghost use Rattle.std.specs.Prelude.{◌≡◌, ◌+◌, ◌*◌, ◌<◌, ◌↔◌, length, IsTrue, IsFalse, IsSome, OnOk};
 ghost use Rattle.sat_theory.specs.Formula.{Formula, IsWithin};
 ghost use Rattle.sat_theory.specs.Log.{IsThinned};
 ghost use Rattle.clause_db.specs.Stored.{live_in, IsStored};
-ghost use Rattle.cdcl_core.specs.Forgetting.{NoneImplied};
+ghost use Rattle.cdcl_core.specs.Forgetting.{NoneImplied, SomeImplied};
 
 use crate::search::Search;
 use cnf_core::Lit;
@@ -17,10 +18,22 @@ use trail_core::Trail;
 /// The number of live additions that a log may have without any deletion.
 const SLACK: u64 = 2000;
 
+/// How many clauses go at least, if so many may, where too many are live: a search goes over all of them seldom.
+const SHED: usize = 1000;
+
+/// Whether a last id is above the bound for the others, `standing` of which never go.
+fn exceeds(last: u32, given: u32, standing: u32, deleted: u32, vars: u32) -> bool
+    ensures { IsTrue result ↔ (given + standing + 4 * (deleted + vars + 2000) < last) }
+{
+    let bound = 4 * (u64::from(deleted) + u64::from(vars) + SLACK);
+    u64::from(last) > u64::from(given) + u64::from(standing) + bound
+}
+
 /// Whether one of `lits` is true with the clause of `id` as its reason.
 fn has_implied(trail: &Trail, lits: &[Lit], id: u32) -> bool
     requires { IsWithin trail.now.vars lits.now }
-    ensures { IsFalse result → NoneImplied trail.now lits.now (length lits.now) id }
+    ensures none { IsFalse result → NoneImplied trail.now lits.now (length lits.now) id }
+    ensures some { IsTrue result → SomeImplied trail.now id }
 {
     for index in 0..lits.len() {
         let lit = lits[index];
@@ -33,15 +46,16 @@ fn has_implied(trail: &Trail, lits: &[Lit], id: u32) -> bool
 
 impl Search {
     ghost use Rattle.cdcl_core.specs.Searching.{IsSearching, IsVisited, IsAccounted, IsIrredundant, IsLogged};
-    ghost use Rattle.cdcl_core.specs.Forgetting.{with_gone, IsPending, IsNoReason, HasHalf, MayGo, IsThick, HasLost, HasForgotten, MoreGone};
+    ghost use Rattle.cdcl_core.specs.Forgetting.{with_gone, IsPending, IsReason, IsNoReason, HasHalf, MayGo, IsThick, IsOverfull, IsBounded, Stays, HasLost, HasForgotten, MoreGone};
 
     /// Whether a live clause is the reason of a true literal (is locked).
     fn is_reason(&self, id: u32) -> bool
         requires searching { IsSearching self.now }
         requires live { IsSome (live_in self.now.clauses id) }
-        ensures { IsFalse result → IsNoReason self.now id }
+        ensures none { IsFalse result → IsNoReason self.now id }
+        ensures reason { IsTrue result → IsReason self.now id }
     {
-        has_implied(&self.trail, self.clauses.lits(id), id)
+        has_implied(&self.trail, self.clauses.arranged(id), id)
     }
 
     /// Whether another deletion keeps at least half of all additions, or of `least`.
@@ -63,7 +77,8 @@ impl Search {
     /// Whether a clause may be deleted.
     fn may_go(&self, id: u32) -> bool
         requires searching { IsSearching self.now }
-        ensures { IsTrue result → MayGo self.now id }
+        ensures may { IsTrue result → MayGo self.now id }
+        ensures stays { IsFalse result → HasHalf self.now → IsSome (live_in self.now.clauses id) → Stays self.now id }
     {
         if self.is_irredundant(id) || !self.has_half() || !self.clauses.live(id) {
             return false;
@@ -143,13 +158,13 @@ impl Search {
         if !self.clauses.live(last) {
             return Ok(Vec::new(alloc));
         }
-        let lits = self.clauses.lits(last);
+        let lits = self.clauses.arranged(last);
         self.merits.note(&self.trail, &self.starts, lits)?;
         self.merits.containing(alloc, &self.clauses, lits)
     }
 
     /// Deletes idle clauses when that is due, and frees their room.
-    pub(crate) fn tidy(&mut self) -> Result<(), AllocError>
+    fn forget_idle(&mut self) -> Result<(), AllocError>
         requires searching { IsSearching self.old }
         requires visited { IsVisited self.old }
         ensures searching { OnOk result (IsSearching self.new) }
@@ -175,6 +190,64 @@ impl Search {
             return Ok(Vec::new(alloc));
         }
         self.merits.idle(alloc, &self.clauses)
+    }
+
+    /// Whether more additions are live than the end of the log may have.
+    fn is_overfull(&self) -> bool
+        ensures { IsTrue result ↔ IsOverfull self.now }
+    {
+        let standing = self.shorter.high.saturating_sub(self.shorter.low);
+        exceeds(
+            self.clauses.last(),
+            self.given,
+            standing,
+            self.deleted,
+            self.clauses.vars(),
+        )
+    }
+
+    /// Deletes learnt clauses that are no reasons, the first ones first, until few enough are live.
+    fn shed(&mut self) -> Result<(), AllocError>
+        requires searching { IsSearching self.old }
+        requires visited { IsVisited self.old }
+        ensures searching { OnOk result (IsSearching self.new) }
+        ensures visited { OnOk result (IsVisited self.new) }
+        ensures forgotten { OnOk result (HasForgotten self.old self.new) }
+        ensures logged { (f : Formula) → IsLogged f self.old → OnOk result (IsLogged f self.new) }
+        ensures bounded { OnOk result (IsBounded self.new) }
+    {
+        let mut gone = Vec::new(*self.starts.allocator());
+        for index in self.given..self.clauses.last() {
+            let id = index + 1;
+            if gone.len() >= SHED && !self.is_overfull() {
+                continue;
+            }
+            if !self.may_go(id) {
+                continue;
+            }
+            self.let_go(id, &mut gone)?;
+        }
+        self.write_gone(&gone)?;
+        Ok(())
+    }
+
+    /// Deletes idle clauses when that is due, and further ones where too many are live.
+    pub(crate) fn tidy(&mut self) -> Result<(), AllocError>
+        requires searching { IsSearching self.old }
+        requires visited { IsVisited self.old }
+        ensures searching { OnOk result (IsSearching self.new) }
+        ensures visited { OnOk result (IsVisited self.new) }
+        ensures forgotten { OnOk result (HasForgotten self.old self.new) }
+        ensures logged { (f : Formula) → IsLogged f self.old → OnOk result (IsLogged f self.new) }
+        ensures bounded { OnOk result (IsBounded self.new) }
+    {
+        self.forget_idle()?;
+        if !self.is_overfull() {
+            return Ok(());
+        }
+        self.shed()?;
+        self.clauses.compact();
+        Ok(())
     }
 
     /// Whether the log has too many live additions.

@@ -220,7 +220,7 @@ impl Merits {
                 continue;
             }
             let id = self.id(index);
-            if clauses.live(id) && contains_all(clauses.lits(id), lits) {
+            if clauses.live(id) && contains_all(clauses.arranged(id), lits) {
                 ids.push(id)?;
             }
         }
@@ -252,7 +252,7 @@ impl Merits {
             return None;
         }
         let id = self.id(index);
-        if !clauses.live(id) || clauses.lits(id).len() <= 2 {
+        if !clauses.live(id) || clauses.arranged(id).len() <= 2 {
             return None;
         }
         Some(merit)

@@ -79,6 +79,7 @@ pub(crate) enum Ending {
 impl Search {
     ghost use Rattle.cdcl_core.specs.Searching.{IsSearching, IsVisited, IsLogged, HasBegun, HasPropagated, HasJumped, HasRestarted, HasSettled, HasDecided, HasRun};
     ghost use Rattle.cdcl_core.specs.Endings.{Ends, HasRefuted};
+    ghost use Rattle.cdcl_core.specs.Forgetting.{IsBounded};
 
     /// A search over a formula, before its first step. Where its log ends open, it has at least
     /// `least` additions.
@@ -260,6 +261,7 @@ impl Search {
         requires visited { IsVisited self.old }
         requires all { self.old.head ≡ length self.old.trail.lits }
         requires least { self.old.least ≤ budget }
+        requires bounded { IsBounded self.old }
         ensures searching { IfOk result (λ ending. IfNone ending (IsSearching self.new)) }
         ensures visited { IfOk result (λ ending. IfNone ending (IsVisited self.new)) }
         ensures decided { IfOk result (λ ending. IfNone ending (HasDecided self.old self.new)) }

@@ -99,7 +99,7 @@ impl Search {
         if !self.clauses.live(id) || !self.clauses.live(by) {
             return false;
         }
-        contains_all(self.clauses.lits(id), self.clauses.lits(by))
+        contains_all(self.clauses.arranged(id), self.clauses.arranged(by))
     }
 
     /// Takes a clause of the formula from the clauses of the search, but not from the log, where `by` subsumes it.
@@ -127,7 +127,11 @@ impl Search {
         if last >= end || !self.clauses.live(id) {
             return Ok(());
         }
-        keep_others(self.clauses.lits(id), work.finder.gone(), &mut work.rest)?;
+        keep_others(
+            self.clauses.arranged(id),
+            work.finder.gone(),
+            &mut work.rest,
+        )?;
         if work.rest.is_empty() {
             return Ok(());
         }

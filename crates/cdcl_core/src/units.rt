@@ -23,10 +23,10 @@ pub(crate) fn push_units(trail: &mut Trail, clauses: &ClauseDb) -> Result<Option
 {
     for index in 0..clauses.last() {
         let id = index + 1;
-        if !clauses.live(id) || clauses.lits(id).len() > 1 {
+        if !clauses.live(id) || clauses.arranged(id).len() > 1 {
             continue;
         }
-        match judge(trail, clauses.lits(id)) {
+        match judge(trail, clauses.arranged(id)) {
             Verdict::Settled => continue,
             Verdict::Falsified => return Ok(Some(id)),
             Verdict::Unit(lit) => trail.push(lit, id)?,

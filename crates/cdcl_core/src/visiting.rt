@@ -55,13 +55,11 @@ fn first_standing(trail: &Trail, lits: &[Lit], low: usize) -> Option<Standing>
     ensures up { IfSome result (λ p. fell_of trail.now p.lit ≡ 0) }
     ensures none { IfNone result (AreDown trail.now lits.now low (length lits.now)) }
 {
-    let mut place = low;
-    while place < lits.len() {
+    for place in low..lits.len() {
         let lit = lits[place];
         if trail.fell(lit) == 0 {
             return Some(Standing { place, lit });
         }
-        place += 1;
     }
     None
 }
@@ -107,12 +105,10 @@ fn first_open(trail: &Trail, watches: &[Watch], from: usize) -> Option<usize>
     ensures some { IfSome result (λ k. (from ≤ k) × (k < length watches.now) × AreTrue trail.now watches.now from k) }
     ensures none { IfNone result (AreTrue trail.now watches.now from (length watches.now)) }
 {
-    let mut index = from;
-    while index < watches.len() {
+    for index in from..watches.len() {
         if trail.fell(watches[index].blocker.opposite()) == 0 {
             return Some(index);
         }
-        index += 1;
     }
     None
 }

@@ -1,28 +1,21 @@
 -- The literals of each clause in an order of their own.
-use Rattle.std.proofs.Common.{◌≡◌, ◌≢◌, ℕ, ◌+◌, ◌-◌, ◌<◌, ◌≤◌, ◌⊎◌, ◌==◌, ℤ, pos, List, [], ◌∷◌, ◌++◌, map, length, take, slice_index_or, slice_set, AllPairs, Option, Some, refl, sym, ap, ◌∙◌, subst, arith, inl, inr}
+use Rattle.std.proofs.Common.{◌≡◌, ◌≢◌, ℕ, ◌-◌, ◌<◌, ◌≤◌, ◌⊎◌, ℤ, pos, List, [], ◌∷◌, map, length, take, slice_index_or, slice_set, refl, sym, ap, ◌∙◌, subst, arith, inl, inr}
 use Rattle.std.specs.List.{swap, swap_remove}
 use Rattle.std.specs.List.Sorted.{IsPermutation}
 use Rattle.std.proofs.Math.Logic.{⊎_elim}
 use Rattle.std.proofs.lemmas.Bool.{cases_eq, cases_lt}
-use Rattle.std.proofs.lemmas.Bool.Decides.{Decides-eqb}
 use Rattle.std.proofs.lemmas.Grind.{common_steps}
-use Rattle.std.proofs.lemmas.List.{length-map, map-append, map-set, get_or-map, get_or-set_same, get_or-set_other, get_or_push, get_or_append_left, get_or_read}
+use Rattle.std.proofs.lemmas.List.{map-append, map-set, get_or-map, get_or-set_same, get_or-set_other, get_or_read}
 use Rattle.std.proofs.lemmas.List.Edits.{swapped_from_swap, Swapped}
-use Rattle.std.proofs.lemmas.List.Sorted.{IsPermutation-refl, IsPermutation-trans, IsPermutation-swap, IsPermutation-map, All-permutation}
-use Rattle.std.proofs.lemmas.Map.Keys.{IsDistinct-IsPermutation}
-use Rattle.std.proofs.lemmas.Map.Made.{AllPairs-from_IsDistinct, IsDistinct-from_AllPairs}
-use Rattle.sat_theory.specs.Formula.{variable, IsClause}
+use Rattle.std.proofs.lemmas.List.Sorted.{IsPermutation-refl, IsPermutation-swap}
 use Rattle.cdcl_theory.specs.Codes.{code_of}
 use Rattle.cdcl_theory.specs.CodeLaws.{int_eq-same, int_eq-other}
 use Rattle.clause_db.specs.declared.watches.Pair.{Pair}
 use Rattle.clause_db.specs.Watching.{Watching, listed_in, pair_at, pair_of, with_id, with_ids, watching_more, watching_moved, replaced}
 use Rattle.clause_db.specs.WatchingLaws.{listed-other, listed_back}
-use Rattle.clause_db.specs.Stored.{Stored, live_at, live_in}
-use Rattle.clause_db.specs.StoredLaws.{live_added, live_inside}
 use Rattle.clause_db.specs.Blocking.{row_of, with_row, with_blocker, rows_moved, besides}
 use Rattle.clause_db.proofs.Beside.{row-other, row_back}
-use Rattle.clause_db.specs.Arranging.{Arranged, block_at, watching_of, arranged_more, exchanged_at, ArePermuted, AreArranged, IsNoneOf}
-use Rattle.clause_db.specs.Deleting.{arranged_left}
+use Rattle.clause_db.specs.Arranging.{Arranged, block_at, watching_of, arranged_more, ArePermuted, IsNoneOf}
 
 -- an id that was put into a list, and removed when the next push failed
 pub both_back : (w a b : Arranged) (l m : ℤ) (id : ℕ) → a ≡ record w { lists = with_id w.lists l id; rows = with_blocker w.rows l m }
@@ -35,10 +28,6 @@ both_back w a b l m id pushed taken =
   where
     again : {xs : List (List ℕ)} {ys : List (List ℤ)} → xs ≡ w.lists → ys ≡ w.rows → (let x : Arranged = record { blocks = w.blocks; lists = xs; rows = ys } in x) ≡ w
     again e f = rw (e, f) refl
-
--- Two literals of a clause may change places before it leaves a list.
-pub exchanged_first : (a b c : Arranged) (from : ℤ) (id index low high : ℕ) → b ≡ exchanged_at a id low high → c ≡ record b { lists = slice_set b.lists (code_of from) (swap_remove (listed_in b.lists from) index 0); rows = with_row b.rows from (swap_remove (row_of b.rows from) index (pos 1)) } → c ≡ exchanged_at (arranged_left a from index) id low high
-exchanged_first a b c from id index low high exchanged taken = taken ∙ ap (λ (x : Arranged). arranged_left x from index) exchanged
 
 -- the watched pair of an id
 pub pair_block : (a : Arranged) (id : ℕ) → pair_at (watching_of a) id ≡ pair_of (block_at a.blocks id)
@@ -105,7 +94,8 @@ arranged_order blocks new id low high given under inside is = record {
       (cases_eq (k - 1) (id - 1)));
 }
 
--- a clause that is moved, as the code writes it
+-- A clause is moved: its entry is pushed to one list and taken out of the other, and two of its
+-- literals are exchanged. The code exchanges before it takes out, which gives the same.
 pub moved_is : (w a b c : Arranged) (from to m : ℤ) (id index low high : ℕ) → a ≡ record w { lists = with_id w.lists to id; rows = with_blocker w.rows to m } → b ≡ record a { lists = slice_set a.lists (code_of from) (swap_remove (listed_in a.lists from) index 0); rows = with_row a.rows from (swap_remove (row_of a.rows from) index (pos 1)) }
     → c ≡ record b { blocks = slice_set b.blocks (id - 1) (swap (block_at b.blocks id) low high) } → (from ≡ to → ⊥)
     → c ≡ record { blocks = slice_set w.blocks (id - 1) (swap (block_at w.blocks id) low high); lists = slice_set (with_id w.lists to id) (code_of from) (swap_remove (listed_in w.lists from) index 0); rows = rows_moved w.rows from to index m }
@@ -140,59 +130,29 @@ besides_is lits from m low found two is = ⊎_elim
 pub pushed_list : (w a : Arranged) (from to m : ℤ) (id : ℕ) → a ≡ record w { lists = with_id w.lists to id; rows = with_blocker w.rows to m } → (from ≡ to → ⊥) → listed_in a.lists from ≡ listed_in w.lists from
 pushed_list w a from to m id pushed apart = ap (λ (x : Arranged). listed_in x.lists from) pushed ∙ listed-other w.lists to from _ apart
 
-pub all_moved : (w a b c : Arranged) (from to m : ℤ) (block : List ℤ) (id place index low high : ℕ) → a ≡ record w { lists = with_id w.lists to id; rows = with_blocker w.rows to m } → b ≡ record a { lists = slice_set a.lists (code_of from) (swap_remove (listed_in a.lists from) index 0); rows = with_row a.rows from (swap_remove (row_of a.rows from) index (pos 1)) }
-    → c ≡ record b { blocks = slice_set b.blocks (id - 1) (swap (block_at b.blocks id) low high) } → (from ≡ to → ⊥) → id ≡ place → (0 < place) × (place ≤ length w.blocks) → block ≡ block_at w.blocks id → IsFound block from low → high < length block → ((d : ℤ) → slice_index_or block high d ≡ to)
-    → 2 ≤ length (block_at w.blocks place) → m ≡ slice_index_or block (1 - low) m → IsNoneOf (pair_of (block_at w.blocks place)) to
-    → (watching_of c ≡ watching_moved (watching_of w) place from to index) × (c.rows ≡ rows_moved w.rows from to index (besides (pair_of (block_at w.blocks place)) from)) × ArePermuted w.blocks c.blocks
-all_moved w a b c from to m block id place index low high pushed taken exchanged apart same given block_is found_in inside_in at_in two m_is other =
-    let block_at_place : block ≡ block_at w.blocks place = block_is ∙ ap (λ (n : ℕ). block_at w.blocks n) same in
-    let found : IsFound (block_at w.blocks place) from low = subst (λ (xs : List ℤ). IsFound xs from low) block_at_place found_in in
-    let inside : high < length (block_at w.blocks place) = subst (λ (xs : List ℤ). high < length xs) block_at_place inside_in in
-    let at : (d : ℤ) → slice_index_or (block_at w.blocks place) high d ≡ to = subst (λ (xs : List ℤ). (d : ℤ) → slice_index_or xs high d ≡ to) block_at_place at_in in
-    let kept : m ≡ slice_index_or (block_at w.blocks place) (1 - low) m = subst (λ (xs : List ℤ). m ≡ slice_index_or xs (1 - low) m) block_at_place m_is in
-    let is : c ≡ record { blocks = slice_set w.blocks (place - 1) (swap (block_at w.blocks place) low high); lists = slice_set (with_id w.lists to place) (code_of from) (swap_remove (listed_in w.lists from) index 0); rows = rows_moved w.rows from to index m } = subst (λ (n : ℕ). c ≡ record { blocks = slice_set w.blocks (n - 1) (swap (block_at w.blocks n) low high); lists = slice_set (with_id w.lists to n) (code_of from) (swap_remove (listed_in w.lists from) index 0); rows = rows_moved w.rows from to index m }) same (moved_is w a b c from to m id index low high pushed taken exchanged apart) in
-    let blocks : c.blocks ≡ slice_set w.blocks (place - 1) (swap (block_at w.blocks place) low high) = ap (λ (x : Arranged). x.blocks) is in
+-- What has changed where a clause watches another literal: its pair and two lists, their blocking
+-- literals, and the order of its literals.
+abbrev pub IsMoved : Arranged → Arranged → ℕ → ℤ → ℤ → ℕ → Type 0
+IsMoved w c id from to index =
+    (watching_of c ≡ watching_moved (watching_of w) id from to index)
+    × (c.rows ≡ rows_moved w.rows from to index (besides (pair_of (block_at w.blocks id)) from))
+    × ArePermuted w.blocks c.blocks
+
+pub all_moved : (w a b c : Arranged) (from to m : ℤ) (block : List ℤ) (id index low high : ℕ)
+    → a ≡ record w { lists = with_id w.lists to id; rows = with_blocker w.rows to m }
+    → b ≡ record a { lists = slice_set a.lists (code_of from) (swap_remove (listed_in a.lists from) index 0); rows = with_row a.rows from (swap_remove (row_of a.rows from) index (pos 1)) }
+    → c ≡ record b { blocks = slice_set b.blocks (id - 1) (swap (block_at b.blocks id) low high) } → (from ≡ to → ⊥)
+    → (0 < id) × (id ≤ length w.blocks) → block ≡ block_at w.blocks id → IsFound block from low → high < length block → ((d : ℤ) → slice_index_or block high d ≡ to)
+    → 2 ≤ length (block_at w.blocks id) → m ≡ slice_index_or block (1 - low) m → IsNoneOf (pair_of (block_at w.blocks id)) to → IsMoved w c id from to index
+all_moved w a b c from to m block id index low high pushed taken exchanged apart given block_is found_in inside_in at_in two m_is other =
+    let found : IsFound (block_at w.blocks id) from low = subst (λ (xs : List ℤ). IsFound xs from low) block_is found_in in
+    let inside : high < length (block_at w.blocks id) = subst (λ (xs : List ℤ). high < length xs) block_is inside_in in
+    let at : (d : ℤ) → slice_index_or (block_at w.blocks id) high d ≡ to = subst (λ (xs : List ℤ). (d : ℤ) → slice_index_or xs high d ≡ to) block_is at_in in
+    let kept : m ≡ slice_index_or (block_at w.blocks id) (1 - low) m = subst (λ (xs : List ℤ). m ≡ slice_index_or xs (1 - low) m) block_is m_is in
+    let is = moved_is w a b c from to m id index low high pushed taken exchanged apart in
+    let blocks : c.blocks ≡ slice_set w.blocks (id - 1) (swap (block_at w.blocks id) low high) = ap (λ (x : Arranged). x.blocks) is in
     let rows : c.rows ≡ rows_moved w.rows from to index m = ap (λ (x : Arranged). x.rows) is in (
-      moved_watching w c from to place index low high _ is found inside at other,
-      rows ∙ ap (λ (x : ℤ). rows_moved w.rows from to index x) (besides_is (block_at w.blocks place) from m low found two kept),
-      arranged_order w.blocks c.blocks place low high (omega (arith, given.0, given.1)) (low_high (block_at w.blocks place) from to low high found at other) inside blocks,
+      moved_watching w c from to id index low high _ is found inside at other,
+      rows ∙ ap (λ (x : ℤ). rows_moved w.rows from to index x) (besides_is (block_at w.blocks id) from m low found two kept),
+      arranged_order w.blocks c.blocks id low high (omega (arith, given.0, given.1)) (low_high (block_at w.blocks id) from to low high found at other) inside blocks,
     )
-
--- The same literals in another order are a clause too.
-variables_differ : (lits : List ℤ) → AllPairs (λ l m. variable l ≢ variable m) lits → AllPairs (λ a b. a ≢ b) (map variable lits)
-variables_differ lits differ i j d order within e =
-    let high : j < length lits = rw length-map at within in
-    differ i j (pos 1) order high (sym (get_or-map variable lits i (pos 1) d (omega (arith, order, high))) ∙ e ∙ get_or-map variable lits j (pos 1) d high)
-
-differ_again : (lits : List ℤ) → AllPairs (λ a b. a ≢ b) (map variable lits) → AllPairs (λ l m. variable l ≢ variable m) lits
-differ_again lits differ i j d order high e =
-    differ i j 0 order (rw length-map high) (get_or-map variable lits i d 0 (omega (arith, order, high)) ∙ e ∙ sym (get_or-map variable lits j d 0 high))
-
-pub clause_permuted : (lits new : List ℤ) → IsPermutation lits new → IsClause lits → IsClause new
-clause_permuted lits new order clause = record {
-  literals = All-permutation (λ l. 0 < variable l) lits new order clause.literals;
-  differ = differ_again new (AllPairs-from_IsDistinct Decides-eqb (map variable new) (IsDistinct-IsPermutation (λ a b. a == b) flips (map variable lits) (map variable new) (IsPermutation-map variable lits new order) (IsDistinct-from_AllPairs Decides-eqb (map variable lits) (variables_differ lits clause.differ))));
-}
-  where
-    flips : (a b : ℕ) → (a == b) ≡ (b == a)
-    flips a b = grind (arith, common_steps)
-
--- Live clauses have their literals in the row.
-pub arranged_none : AreArranged [] []
-arranged_none = record { same = λ id clause is. absurd (none id clause is) }
-  where
-    none : (id : ℕ) (clause : List ℤ) → live_at [] id ≡ Some clause → ⊥
-    none id clause is = (let low : (0 < id) × (id ≤ 0) = live_inside (record { vars = 0; clauses = []; watches = record { pairs = []; lists = [] } }) id clause is in omega (arith, low.0, low.1))
-
-pub arranged_added : (s : Stored) (lits : List ℤ) (blocks : List (List ℤ)) → length blocks ≡ length s.clauses → AreArranged s.clauses blocks → AreArranged (s.clauses ++ Some lits ∷ []) (blocks ++ lits ∷ [])
-arranged_added s lits blocks room are = record {
-  same = λ id clause is. ⊎_elim
-      (λ (new : (id ≡ length s.clauses + 1) × (lits ≡ clause)). subst (λ (c : List ℤ). IsPermutation c (block_at (blocks ++ lits ∷ []) id)) new.1 (subst (λ (xs : List ℤ). IsPermutation lits xs) (sym (get_or_push blocks lits [] (id - 1) (omega (arith, room, new.0)))) (IsPermutation-refl lits)))
-      (λ (old : live_in s id ≡ Some clause).
-      let low : (0 < id) × (id ≤ length s.clauses) = live_inside s id clause old in
-      subst (λ (xs : List ℤ). IsPermutation clause xs) (sym (get_or_append_left blocks (lits ∷ []) [] (id - 1) (omega (arith, room, low.0, low.1)))) (are.same id clause old))
-      (live_added s lits id clause is);
-}
-
-pub arranged_moved : (clauses : List (Option (List ℤ))) (blocks new : List (List ℤ)) → AreArranged clauses blocks → ArePermuted blocks new → AreArranged clauses new
-arranged_moved clauses blocks new are order = record { same = λ id clause is. IsPermutation-trans clause (block_at blocks id) (block_at new id) (are.same id clause is) (order.each id) }

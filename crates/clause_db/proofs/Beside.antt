@@ -12,6 +12,8 @@ use Rattle.cdcl_theory.specs.CodeLaws.{code_of-same, cases_literal, code_of-room
 use Rattle.clause_db.specs.Deleting.{lists_left, rows_left}
 use Rattle.clause_db.specs.Watching.{listed_in, list_of, pair_of}
 use Rattle.clause_db.specs.WatchingLaws.{listed-same, listed-other, list_from, list_to, list_else, listed_none, swap_length, swap_at, swap_other}
+use Rattle.clause_db.specs.Sorted.{sorted}
+use Rattle.clause_db.specs.SortedLaws.{Contains-sorted}
 use Rattle.clause_db.specs.Stored.{Stored, live_in, Watches, IsStored, none_stored, added, rewatched}
 use Rattle.clause_db.specs.StoredLaws.{live_added, next_is_free}
 use Rattle.clause_db.specs.Moving.{IsMovable, movable_watches, watched_variable, added_lists, first_in, second_in, two_differ}
@@ -169,13 +171,13 @@ blockers_added s lits rows stored is_clause within are = blockers_from (added s 
     old_of l m k low of clause is =
         let watches : Watches s (slice_index_or (list_of s.watches l) k 0) l = stored.only l (slice_index_or (list_of s.watches l) k 0) (Contains-get_or (list_of s.watches l) k 0 low) in
         ⊎_elim
-        (λ (new : (slice_index_or (list_of s.watches l) k 0 ≡ next) × (lits ≡ clause)). absurd (next_is_free s (slice_index_or (list_of s.watches l) k 0) watches.clause watches.is_live new.0))
+        (λ (new : (slice_index_or (list_of s.watches l) k 0 ≡ next) × (sorted lits ≡ clause)). absurd (next_is_free s (slice_index_or (list_of s.watches l) k 0) watches.clause watches.is_live new.0))
         (λ (old : live_in s (slice_index_or (list_of s.watches l) k 0) ≡ Some clause). of clause old)
         (live_added s lits (slice_index_or (list_of s.watches l) k 0) clause is)
 
     new_of : (m : ℤ) → Contains lits m → IsOf (added s lits) next m
     new_of m in_lits clause is = ⊎_elim
-        (λ (new : (next ≡ next) × (lits ≡ clause)). subst (λ (c : List ℤ). Contains c m) new.1 in_lits)
+        (λ (new : (next ≡ next) × (sorted lits ≡ clause)). subst (λ (c : List ℤ). Contains c m) new.1 (Contains-sorted lits m in_lits))
         (λ (old : live_in s next ≡ Some clause). absurd (next_is_free s next clause old refl))
         (live_added s lits next clause is)
 

@@ -1,6 +1,8 @@
--- The store and what its clauses watch, together.
-use Rattle.std.proofs.Common.{◌≡◌, ◌≢◌, ℕ, ◌+◌, ◌*◌, ◌<◌, ◌≤◌, ℤ, List, [], ◌∷◌, ◌++◌, length, take, slice_index_or, slice_set, replicate, ◌-◌, ◌⊎◌, inl, inr, Contains, All, pos, Option, Some, None, IsSome, refl, sym, ap, ◌∙◌, subst, arith}
+-- What contracts see of all parts together, and its invariant.
+use Rattle.std.proofs.Common.{map, slice_get, Bool, true, false, zero, suc, append_assoc, ◌==◌, ◌≡◌, ◌≢◌, ℕ, ◌+◌, ◌*◌, ◌<◌, ◌≤◌, ℤ, List, [], ◌∷◌, ◌++◌}
+use Rattle.std.proofs.Common.{length, slice_index_or, slice_set, replicate, ◌-◌, ◌⊎◌, inl, inr, Contains, All, pos, Option, Some, None, IsSome, refl, sym, ap, ◌∙◌, subst, arith}
 use Rattle.std.proofs.lemmas.List.Elements.{All-contains}
+use Rattle.std.proofs.lemmas.Bool.{ne_eqb}
 use Rattle.std.proofs.lemmas.Grind.{common_steps}
 use Rattle.std.proofs.Math.Logic.{⊎_elim}
 use Rattle.sat_theory.specs.Formula.{variable, IsClause, IsWithin}
@@ -8,45 +10,46 @@ use Rattle.sat_theory.specs.State.{by_id}
 use Rattle.cdcl_theory.specs.Codes.{code_of}
 use Rattle.cdcl_theory.specs.CodeLaws.{code_of-room, cases_literal, int_eq-same, int_eq-other}
 use Rattle.clause_db.specs.declared.watches.Pair.{Pair}
-use Rattle.clause_db.specs.Watching.{Watching, list_of, pair_of, pair_at, watching_more, watching_moved}
-use Rattle.clause_db.specs.Stored.{Stored, Entries, live_in, Watches, IsLong, IsPair, IsStored, none_stored, added, all_added, rewatched}
-use Rattle.clause_db.specs.StoredLaws.{all_added-push, all_added-none, live_in-start, live_added, live_inside}
+use Rattle.clause_db.specs.Watching.{list_of, pair_of, pair_at, no_pair, watching_moved}
+use Rattle.clause_db.specs.Stored.{Stored, live_in, Watches, IsLong, IsPair, IsStored, none_stored, added, all_added, rewatched}
+use Rattle.clause_db.specs.StoredLaws.{all_added-push, all_added-none, live_in-start, live_inside}
 use Rattle.std.proofs.lemmas.List.{length_push, length-map, get_or-map}
 use Rattle.std.proofs.lemmas.List.Elements.{Contains-get_or}
 use Rattle.clause_db.specs.Blocking.{row_of, with_row, with_blockers, rows_moved, blocker_at, besides, IsOf, AreBeside, AreBlockers}
 use Rattle.clause_db.specs.declared.lists.Watch.{Watch}
 use Rattle.clause_db.specs.Lists.{blockers_of}
-use Rattle.clause_db.specs.WatchingLaws.{pair_new, pair_old}
 use Rattle.clause_db.proofs.Beside.{blockers_none, blockers_set, blockers_added, blockers_moved}
-use Rattle.clause_db.specs.Arranging.{Arranged, block_at, watching_of, arranged_more, ArePermuted, AreArranged, IsNoneOf}
-use Rattle.clause_db.proofs.Arranging.{pair_block, more_is, clause_permuted, arranged_none, arranged_added, arranged_moved}
+use Rattle.clause_db.specs.Arranging.{Arranged, block_at, watching_of, arranged_more, ArePermuted, IsNoneOf, clauses_of, shown}
+use Rattle.clause_db.proofs.Arranging.{pair_block}
+use Rattle.clause_db.proofs.Shown.{clauses_none, live_sorted, live_permuted, moved_long, shown_added, shown_moved}
+use Rattle.clause_db.specs.Sorted.{sorted}
+use Rattle.clause_db.specs.SortedLaws.{clause_permuted}
 use Rattle.std.specs.List.Sorted.{IsPermutation}
 use Rattle.std.proofs.lemmas.List.Sorted.{All-permutation, Contains-permutation, length_permutation}
 use Rattle.clause_db.specs.Moving.{watched_in, IsMovable, movable_watches, watched_variable, stored_none, stored_added, stored_rewatched, rooms}
 
 pub ruleset databases = (common_steps, all_added-push, all_added-none, stored_none, stored_added, stored_rewatched, rooms)
 
--- each clause watches its first two literals
-abbrev WatchFirst : Stored → Type 0
-WatchFirst s = (id : ℕ) (clause : List ℤ) → live_in s id ≡ Some clause → pair_at s.watches id ≡ pair_of clause
-
-first_added : (s : Stored) (lits : List ℤ) → length s.watches.pairs ≡ length s.clauses → WatchFirst s → WatchFirst (added s lits)
-first_added s lits room first id clause is = ⊎_elim
-    (λ (new : (id ≡ length s.clauses + 1) × (lits ≡ clause)). ap (pair_at (added s lits).watches) new.0 ∙ pair_new s.watches lits (length s.clauses + 1) (ap (λ (n : ℕ). n + 1) room) ∙ ap pair_of new.1)
-    (λ (old : live_in s id ≡ Some clause).
-    let low : (0 < id) × (id ≤ length s.clauses) = live_inside s id clause old in
-    pair_old s.watches lits (length s.clauses + 1) id low.0 (omega (arith, low.1, room)) ∙ first id clause old)
-    (live_added s lits id clause is)
-
-first_all : (s : Stored) (cs : List (List ℤ)) → length s.watches.pairs ≡ length s.clauses → WatchFirst s → WatchFirst (all_added s cs)
+-- the pairs after the clauses of a list were added
+pairs_all : (s : Stored) (cs : List (List ℤ)) → (all_added s cs).watches.pairs ≡ s.watches.pairs ++ map pair_of cs
 unfolding all_added
-first_all s [] room first = first
-first_all s (c ∷ cs) room first = first_all (added s c) cs (length_push s.watches.pairs (pair_of c) ∙ ap (λ (n : ℕ). n + 1) room ∙ sym (length_push s.clauses (Some c))) (first_added s c room first)
+pairs_all s [] = grind (arith, common_steps)
+pairs_all s (c ∷ cs) = pairs_all (added s c) cs ∙ append_assoc s.watches.pairs (pair_of c ∷ []) (map pair_of cs)
 
-pub first_new : (vars : ℕ) (cs : List (List ℤ)) (s : Stored) → s ≡ all_added (none_stored vars) cs → WatchFirst s
-first_new vars cs s is = rw is (first_all (none_stored vars) cs refl (λ id clause live. absurd (let low : (0 < id) × (id ≤ 0) = live_inside (none_stored vars) id clause live in omega (arith, low.0, low.1))))
+pair_got : (cs : List (List ℤ)) (k : ℕ) (clause : List ℤ) → slice_get cs k ≡ Some clause → slice_index_or (map pair_of cs) k no_pair ≡ pair_of clause
+pair_got [] k clause is = absurd (cc)
+pair_got (c ∷ cs) zero clause is = let head : Some c ≡ Some clause = is in let same : c ≡ clause = cc in ap pair_of same
+pair_got (c ∷ cs) (suc k) clause is = pair_got cs k clause is
 
-pub live_new : (vars : ℕ) (cs : List (List ℤ)) (s : Stored) → s ≡ all_added (none_stored vars) cs → live_in s ≡ by_id cs
+-- each clause watches its first two literals
+pub first_new : (vars : ℕ) (cs : List (List ℤ)) (s : Stored) → s ≡ all_added (none_stored vars) cs → (id : ℕ) (clause : List ℤ) → by_id cs id ≡ Some clause → pair_at s.watches id ≡ pair_of clause
+first_new vars cs s is zero clause is_at = absurd (cc)
+first_new vars cs s is (suc k) clause is_at =
+    let some : (suc k == 0) ≡ false = ne_eqb (suc k) 0 (λ e. omega arith) in
+    let pairs : s.watches.pairs ≡ map pair_of cs = ap (λ (x : Stored). x.watches.pairs) is ∙ pairs_all (none_stored vars) cs in
+    ap (λ (ps : List Pair). slice_index_or ps (suc k - 1) no_pair) pairs ∙ pair_got cs (suc k - 1) clause (rw some at is_at)
+
+pub live_new : (vars : ℕ) (cs : List (List ℤ)) (s : Stored) → s ≡ all_added (none_stored vars) cs → live_in s ≡ by_id (map sorted cs)
 live_new vars cs s is = ap live_in is ∙ live_in-start vars cs
 
 -- the watched literals are literals of the clause
@@ -59,22 +62,18 @@ pair_in s now id p view stored p_is long clause is =
     let pair : IsPair clause (pair_at s.watches id) = stored.pairs id clause here two in
     rw p_is (pair.first, pair.second)
 
--- the store with what its clauses watch
-abbrev pub joined : Entries → Arranged → Stored
-joined e a = record { vars = e.vars; clauses = e.clauses; watches = watching_of a }
-
--- the invariant of both, with the blocking literals
-abbrev pub AreWhole : Entries → Arranged → Type 0
-AreWhole e a = IsStored (joined e a) × AreBlockers (joined e a) a.rows × AreArranged e.clauses a.blocks
+-- the invariant of what contracts see, with the blocking literals
+abbrev pub AreWhole : ℕ → List Bool → Arranged → Type 0
+AreWhole vars live a = IsStored (shown vars live a) × AreBlockers (shown vars live a) a.rows × (length live ≡ length a.blocks)
 
 -- and differ
 pub pair_differ : (s now : Stored) (id : ℕ) (p : Pair) → s ≡ now → IsStored s → p ≡ pair_at s.watches id → IsLong now id → p.first ≢ p.second
 pair_differ s now id p view stored p_is long =
     rw p_is (stored.pairs id long.clause (subst (λ (x : Stored). live_in x id ≡ Some long.clause) (sym view) long.is_live) long.long).differ
 
--- the literals of a live clause
-pub blocks_room : (e : Entries) (a : Arranged) → IsStored (joined e a) → length a.blocks ≡ length e.clauses
-blocks_room e a stored = sym (length-map a.blocks pair_of) ∙ stored.pairs_room
+-- there are as many lists of literals as ids
+pub blocks_room : (vars : ℕ) (live : List Bool) (a : Arranged) → IsStored (shown vars live a) → length a.blocks ≡ length (clauses_of live a.blocks)
+blocks_room vars live a stored = sym (length-map a.blocks pair_of) ∙ stored.pairs_room
 
 some_is : (o : Option (List ℤ)) → IsSome o → (clause : List ℤ) × (o ≡ Some clause)
 some_is (Some clause) some = (clause, refl)
@@ -88,42 +87,53 @@ movable_rooms s now from to index view stored movable_now =
     let to_low : variable to ≤ s.vars = All-contains (λ m. variable m ≤ s.vars) watches.clause to (stored.variables (slice_index_or (list_of s.watches from) index 0) watches.clause watches.is_live) (movable.there watches.clause watches.is_live) in
     (rw stored.room (code_of-room from s.vars (watched_variable s (slice_index_or (list_of s.watches from) index 0) from stored watches)), rw stored.room (code_of-room to s.vars to_low))
 
-pub movable_given : (e : Entries) (a : Arranged) (now : Stored) (from to : ℤ) (index : ℕ) → joined e a ≡ now → IsStored (joined e a) → IsMovable now (slice_index_or (list_of now.watches from) index 0) from to index → (0 < slice_index_or (list_of (watching_of a) from) index 0) × (slice_index_or (list_of (watching_of a) from) index 0 ≤ length a.blocks)
-movable_given e a now from to index view stored movable_now =
-    let s : Stored = joined e a in
+pub movable_given : (vars : ℕ) (live : List Bool) (a : Arranged) (now : Stored) (from to : ℤ) (index : ℕ) → shown vars live a ≡ now → IsStored (shown vars live a)
+    → IsMovable now (slice_index_or (list_of now.watches from) index 0) from to index
+    → (0 < slice_index_or (list_of (watching_of a) from) index 0) × (slice_index_or (list_of (watching_of a) from) index 0 ≤ length a.blocks)
+movable_given vars live a now from to index view stored movable_now =
+    let s : Stored = shown vars live a in
     let movable : IsMovable s (slice_index_or (list_of s.watches from) index 0) from to index = subst (λ (x : Stored). IsMovable x (slice_index_or (list_of x.watches from) index 0) from to index) (sym view) movable_now in
     let watches : Watches s (slice_index_or (list_of s.watches from) index 0) from = movable_watches s (slice_index_or (list_of s.watches from) index 0) from to index stored movable in
     let low : (0 < slice_index_or (list_of s.watches from) index 0) × (slice_index_or (list_of s.watches from) index 0 ≤ length s.clauses) = live_inside s (slice_index_or (list_of s.watches from) index 0) watches.clause watches.is_live in
-    let room : length a.blocks ≡ length e.clauses = blocks_room e a stored in
+    let room : length a.blocks ≡ length (clauses_of live a.blocks) = blocks_room vars live a stored in
     (low.0, omega (arith, low.1, room))
 
-pub whole_none : (vars : ℕ) (e : Entries) (a : Arranged) → e ≡ record { vars = vars; clauses = [] } → a ≡ record { blocks = []; lists = replicate (2 * vars + 2) []; rows = replicate (2 * vars + 2) [] } → AreWhole e a
-whole_none vars e a e_is a_is = rw (e_is, a_is) (stored_none vars, blockers_none vars, arranged_none)
-
-pub whole_added : (e : Entries) (a : Arranged) (now : Stored) (lits : List ℤ) (e_new : Entries) (a_new : Arranged) (id : ℕ) → joined e a ≡ now → AreWhole e a → IsClause lits → IsWithin now.vars lits → length now.clauses < 4000000000
-    → e_new ≡ record { vars = e.vars; clauses = e.clauses ++ Some lits ∷ [] } → a_new ≡ arranged_more a lits id → id ≡ length e.clauses + 1 → AreWhole e_new a_new
-whole_added e a now lits e_new a_new id view whole is_clause within_now few_now e_is a_is id_is =
-    let s : Stored = joined e a in
-    let within : IsWithin s.vars lits = subst (λ (x : Stored). IsWithin x.vars lits) (sym view) within_now in
-    let few : length s.clauses < 4000000000 = subst (λ (x : Stored). length x.clauses < 4000000000) (sym view) few_now in
-    let watches : watching_of (arranged_more a lits (length e.clauses + 1)) ≡ watching_more (watching_of a) lits (length e.clauses + 1) = more_is a lits (length e.clauses + 1) in
-    let both : IsStored (added s lits) × AreBlockers (added s lits) (with_blockers a.rows lits) = (stored_added s lits whole.0 is_clause within few, blockers_added s lits a.rows whole.0 is_clause within whole.1) in
-    let shown : IsStored (with_watches (watching_of (arranged_more a lits (length e.clauses + 1)))) × AreBlockers (with_watches (watching_of (arranged_more a lits (length e.clauses + 1)))) (with_blockers a.rows lits) = subst (λ (w : Watching). IsStored (with_watches w) × AreBlockers (with_watches w) (with_blockers a.rows lits)) (sym watches) both in
-    rw (e_is, a_is, id_is) (shown.0, shown.1, arranged_added s lits a.blocks (blocks_room e a whole.0) whole.2)
+pub whole_none : (vars : ℕ) (live : List Bool) (a : Arranged) → live ≡ [] → a ≡ record { blocks = []; lists = replicate (2 * vars + 2) []; rows = replicate (2 * vars + 2) [] } → AreWhole vars live a × (shown vars live a ≡ none_stored vars)
+whole_none vars live a live_is a_is = rw (live_is, a_is) ((stored_of (clauses_none []), blockers_of_none (clauses_none []), refl), is_none (clauses_none []))
   where
-    with_watches : Watching → Stored
-    with_watches w = record { vars = e.vars; clauses = e.clauses ++ Some lits ∷ []; watches = w }
+    is_none : {cs : List (Option (List ℤ))} → cs ≡ [] → (let s : Stored = record { vars = vars; clauses = cs; watches = record { pairs = []; lists = replicate (2 * vars + 2) [] } } in s) ≡ none_stored vars
+    is_none e = rw e refl
 
-pub whole_again : (e : Entries) (a : Arranged) (lits : List ℤ) (e_new after : Entries) (a_new : Arranged) → AreWhole e a → e_new ≡ record { vars = e.vars; clauses = e.clauses ++ Some lits ∷ [] } → after.vars ≡ e_new.vars → after.clauses ≡ take (length e_new.clauses - 1) e_new.clauses → a_new ≡ a → AreWhole after a_new
-whole_again e a lits e_new after a_new whole e_is vars_is clauses_is a_is =
-    let vars : after.vars ≡ e.vars = vars_is ∙ ap (λ (x : Entries). x.vars) e_is in
-    let back : take (length (e.clauses ++ Some lits ∷ []) - 1) (e.clauses ++ Some lits ∷ []) ≡ e.clauses = grind (arith, common_steps) in
-    let clauses : after.clauses ≡ e.clauses = clauses_is ∙ ap (λ (x : Entries). take (length x.clauses - 1) x.clauses) e_is ∙ back in
-    rw (vars, clauses, a_is) whole
+    stored_of : {cs : List (Option (List ℤ))} → cs ≡ [] → IsStored (record { vars = vars; clauses = cs; watches = record { pairs = []; lists = replicate (2 * vars + 2) [] } })
+    stored_of e = rw e (stored_none vars)
 
-pub whole_set : (e : Entries) (a : Arranged) (now : Stored) (a_new : Arranged) (l m : ℤ) (index : ℕ) → joined e a ≡ now → AreWhole e a → variable l ≤ now.vars → index < length (list_of now.watches l) → IsOf now (slice_index_or (list_of now.watches l) index 0) m → a_new ≡ record a { rows = with_row a.rows l (slice_set (row_of a.rows l) index m) } → AreWhole e a_new
-whole_set e a now a_new l m index view whole low inside of new_is =
-    let s : Stored = joined e a in
+    blockers_of_none : {cs : List (Option (List ℤ))} → cs ≡ [] → AreBlockers (record { vars = vars; clauses = cs; watches = record { pairs = []; lists = replicate (2 * vars + 2) [] } }) (replicate (2 * vars + 2) [])
+    blockers_of_none e = rw e (blockers_none vars)
+
+-- A clause is added.
+pub added_is : (vars : ℕ) (live : List Bool) (a : Arranged) (now : Stored) (lits : List ℤ) (live_new : List Bool) (a_new : Arranged) (id : ℕ) → shown vars live a ≡ now
+    → length live ≡ length a.blocks → live_new ≡ live ++ true ∷ [] → a_new ≡ arranged_more a lits id → id ≡ length live + 1 → shown vars live_new a_new ≡ added now lits
+added_is vars live a now lits live_new a_new id view same live_is a_is id_is = rw (live_is, a_is) (shown_added vars live a lits id same id_is ∙ ap (λ (s : Stored). added s lits) view)
+
+pub whole_added : (vars : ℕ) (live : List Bool) (a : Arranged) (now : Stored) (lits : List ℤ) (live_new : List Bool) (a_new : Arranged) (id : ℕ) → shown vars live a ≡ now
+    → AreWhole vars live a → IsClause lits → IsWithin now.vars lits → length now.clauses < 4000000000
+    → live_new ≡ live ++ true ∷ [] → a_new ≡ arranged_more a lits id → id ≡ length live + 1 → AreWhole vars live_new a_new
+whole_added vars live a now lits live_new a_new id view whole is_clause within few live_is a_is id_is =
+    let is : shown vars live_new a_new ≡ added now lits = added_is vars live a now lits live_new a_new id view whole.2 live_is a_is id_is in
+    let stored : IsStored now = subst IsStored view whole.0 in
+    let rows : a_new.rows ≡ with_blockers a.rows lits = ap (λ (x : Arranged). x.rows) a_is in
+    let long : length live_new ≡ length live + 1 = ap length live_is ∙ length_push live true in
+    let room : length a_new.blocks ≡ length a.blocks + 1 = ap (λ (x : Arranged). length x.blocks) a_is ∙ length_push a.blocks lits in (
+      subst IsStored (sym is) (stored_added now lits stored is_clause within few),
+      subst (λ (s : Stored). AreBlockers s a_new.rows) (sym is) (subst (AreBlockers (added now lits)) (sym rows) (blockers_added now lits a.rows stored is_clause within (subst (λ (s : Stored). AreBlockers s a.rows) view whole.1))),
+      long ∙ ap (λ (n : ℕ). n + 1) whole.2 ∙ sym room,
+    )
+
+pub whole_set : (vars : ℕ) (live : List Bool) (a : Arranged) (now : Stored) (a_new : Arranged) (l m : ℤ) (index : ℕ) → shown vars live a ≡ now → AreWhole vars live a
+    → variable l ≤ now.vars → index < length (list_of now.watches l) → IsOf now (slice_index_or (list_of now.watches l) index 0) m
+    → a_new ≡ record a { rows = with_row a.rows l (slice_set (row_of a.rows l) index m) } → AreWhole vars live a_new
+whole_set vars live a now a_new l m index view whole low inside of new_is =
+    let s : Stored = shown vars live a in
     let room : code_of l < length a.rows = rw whole.1.room (code_of-room l s.vars (subst (λ (x : Stored). variable l ≤ x.vars) (sym view) low)) in
     rw new_is (whole.0, blockers_set s a.rows l m index whole.1 room (subst (λ (x : Stored). index < length (list_of x.watches l)) (sym view) inside) (subst (λ (x : Stored). IsOf x (slice_index_or (list_of x.watches l) index 0) m) (sym view) of), whole.2)
 
@@ -175,9 +185,11 @@ found_moved s new from to id index movable is = (index, movable, is ∙ ap (λ (
 besides_of : (p : Pair) (l : ℤ) → (besides p l ≡ p.first) ⊎ (besides p l ≡ p.second)
 besides_of p l = ⊎_elim (λ (e : p.first ≡ l). inr (rw (int_eq-same p.first l e) refl)) (λ (apart : p.first ≡ l → ⊥). inl (rw (int_eq-other p.first l apart) refl)) (cases_literal p.first l)
 
-pub whole_moved : (e : Entries) (a a_new : Arranged) (id : ℕ) (from to : ℤ) (index : ℕ) → AreWhole e a → IsMovable (joined e a) id from to index → watching_of a_new ≡ watching_moved (watching_of a) id from to index → a_new.rows ≡ rows_moved a.rows from to index (besides (pair_of (block_at a.blocks id)) from) → ArePermuted a.blocks a_new.blocks → AreWhole e a_new
-whole_moved e a a_new id from to index whole movable w_is rows_is order =
-    let s : Stored = joined e a in
+pub whole_moved : (vars : ℕ) (live : List Bool) (a a_new : Arranged) (id : ℕ) (from to : ℤ) (index : ℕ) → AreWhole vars live a
+    → IsMovable (shown vars live a) id from to index → watching_of a_new ≡ watching_moved (watching_of a) id from to index
+    → a_new.rows ≡ rows_moved a.rows from to index (besides (pair_of (block_at a.blocks id)) from) → ArePermuted a.blocks a_new.blocks → AreWhole vars live a_new
+whole_moved vars live a a_new id from to index whole movable w_is rows_is order =
+    let s : Stored = shown vars live a in
     let m : ℤ = besides (pair_of (block_at a.blocks id)) from in
     let watches : Watches s id from = movable_watches s id from to index whole.0 movable in
     let low : variable from ≤ s.vars = watched_variable s id from whole.0 watches in
@@ -185,45 +197,65 @@ whole_moved e a a_new id from to index whole movable w_is rows_is order =
     let watched : (m ≡ (pair_at s.watches id).first) ⊎ (m ≡ (pair_at s.watches id).second) = subst (λ (p : Pair). (m ≡ p.first) ⊎ (m ≡ p.second)) (sym (pair_block a id)) (besides_of (pair_of (block_at a.blocks id)) from) in
     let of : IsOf s id m = λ clause is. watched_in s id m clause whole.0 (record { clause = watches.clause; is_live = watches.is_live; long = watches.long; watched = watched }) is in
     let both : IsStored (rewatched s id from to index) × AreBlockers (rewatched s id from to index) (rows_moved a.rows from to index m) = (stored_rewatched s id from to index whole.0 movable, blockers_moved s a.rows id from to m index whole.0 movable whole.1 (rw whole.1.room (code_of-room from s.vars low)) (rw whole.1.room (code_of-room to s.vars to_low)) (rw whole.0.room (code_of-room to s.vars to_low)) of) in
-    let shown : IsStored (joined e a_new) × AreBlockers (joined e a_new) (rows_moved a.rows from to index m) = subst (λ (w : Watching). IsStored (with_watches w) × AreBlockers (with_watches w) (rows_moved a.rows from to index m)) (sym w_is) both in
-    (shown.0, subst (AreBlockers (joined e a_new)) (sym rows_is) shown.1, arranged_moved e.clauses a.blocks a_new.blocks whole.2 order)
-  where
-    with_watches : Watching → Stored
-    with_watches w = record { vars = e.vars; clauses = e.clauses; watches = w }
+    let is : shown vars live a_new ≡ rewatched s id from to index = shown_moved vars live a a_new id from to index w_is order in (
+      subst IsStored (sym is) both.0,
+      subst (λ (x : Stored). AreBlockers x a_new.rows) (sym is) (subst (AreBlockers (rewatched s id from to index)) (sym rows_is) both.1),
+      whole.2 ∙ moved_long a a_new id from to index w_is,
+    )
 
 -- the literal to take is one of the clause, and isn't watched
-pub movable_block : (e : Entries) (a : Arranged) (now : Stored) (from to : ℤ) (index : ℕ) → joined e a ≡ now → IsStored (joined e a) → AreArranged e.clauses a.blocks → IsMovable now (slice_index_or (list_of now.watches from) index 0) from to index → Contains (block_at a.blocks (slice_index_or (list_of (watching_of a) from) index 0)) to × IsNoneOf (pair_of (block_at a.blocks (slice_index_or (list_of (watching_of a) from) index 0))) to
-movable_block e a now from to index view stored are movable_now =
-    let s : Stored = joined e a in
+pub movable_block : (vars : ℕ) (live : List Bool) (a : Arranged) (now : Stored) (from to : ℤ) (index : ℕ) → shown vars live a ≡ now → IsStored (shown vars live a)
+    → length live ≡ length a.blocks → IsMovable now (slice_index_or (list_of now.watches from) index 0) from to index
+    → Contains (block_at a.blocks (slice_index_or (list_of (watching_of a) from) index 0)) to × IsNoneOf (pair_of (block_at a.blocks (slice_index_or (list_of (watching_of a) from) index 0))) to
+movable_block vars live a now from to index view stored same movable_now =
+    let s : Stored = shown vars live a in
     let id : ℕ = slice_index_or (list_of s.watches from) index 0 in
     let movable : IsMovable s id from to index = subst (λ (x : Stored). IsMovable x (slice_index_or (list_of x.watches from) index 0) from to index) (sym view) movable_now in
     let watches : Watches s id from = movable_watches s id from to index stored movable in (
-      Contains-permutation watches.clause (block_at a.blocks id) to (are.same id watches.clause watches.is_live) (movable.there watches.clause watches.is_live),
+      Contains-permutation watches.clause (block_at a.blocks id) to (live_permuted live a.blocks id watches.clause same watches.is_live) (movable.there watches.clause watches.is_live),
       λ which. movable.other (record { clause = watches.clause; is_live = watches.is_live; long = watches.long; watched = subst (λ (p : Pair). (to ≡ p.first) ⊎ (to ≡ p.second)) (sym (pair_block a id)) which }),
     )
 
 -- it has two literals
-pub movable_two : (e : Entries) (a : Arranged) (now : Stored) (from to : ℤ) (index : ℕ) → joined e a ≡ now → IsStored (joined e a) → AreArranged e.clauses a.blocks → IsMovable now (slice_index_or (list_of now.watches from) index 0) from to index → 2 ≤ length (block_at a.blocks (slice_index_or (list_of (watching_of a) from) index 0))
-movable_two e a now from to index view stored are movable_now =
-    let s : Stored = joined e a in
+pub movable_two : (vars : ℕ) (live : List Bool) (a : Arranged) (now : Stored) (from to : ℤ) (index : ℕ) → shown vars live a ≡ now → IsStored (shown vars live a)
+    → length live ≡ length a.blocks → IsMovable now (slice_index_or (list_of now.watches from) index 0) from to index
+    → 2 ≤ length (block_at a.blocks (slice_index_or (list_of (watching_of a) from) index 0))
+movable_two vars live a now from to index view stored same movable_now =
+    let s : Stored = shown vars live a in
     let id : ℕ = slice_index_or (list_of s.watches from) index 0 in
     let movable : IsMovable s id from to index = subst (λ (x : Stored). IsMovable x (slice_index_or (list_of x.watches from) index 0) from to index) (sym view) movable_now in
     let watches : Watches s id from = movable_watches s id from to index stored movable in
-    let all : length (block_at a.blocks id) ≡ length watches.clause = length_permutation watches.clause (block_at a.blocks id) (are.same id watches.clause watches.is_live) in
+    let all : length (block_at a.blocks id) ≡ length watches.clause = length_permutation watches.clause (block_at a.blocks id) (live_permuted live a.blocks id watches.clause same watches.is_live) in
     let long : 2 ≤ length watches.clause = watches.long in
     omega (arith, all, long)
 
 -- What `arranged` gives is the clause in another order.
-pub block_order : (e : Entries) (a : Arranged) (now : Stored) (id : ℕ) (block clause : List ℤ) → joined e a ≡ now → AreArranged e.clauses a.blocks → block ≡ block_at a.blocks id → live_in now id ≡ Some clause → IsPermutation clause block
-block_order e a now id block clause view are block_is is = rw block_is (are.same id clause (subst (λ (x : Stored). live_in x id ≡ Some clause) (sym view) is))
+pub block_order : (vars : ℕ) (live : List Bool) (a : Arranged) (now : Stored) (id : ℕ) (block clause : List ℤ) → shown vars live a ≡ now → length live ≡ length a.blocks
+    → block ≡ block_at a.blocks id → live_in now id ≡ Some clause → IsPermutation clause block
+block_order vars live a now id block clause view same block_is is = rw block_is (live_permuted live a.blocks id clause same (subst (λ (x : Stored). live_in x id ≡ Some clause) (sym view) is))
 
-pub block_front : (e : Entries) (a : Arranged) (now : Stored) (id : ℕ) (block : List ℤ) → joined e a ≡ now → AreArranged e.clauses a.blocks → block ≡ block_at a.blocks id → IsLong now id → (2 ≤ length block) × (pair_of block ≡ pair_at now.watches id)
-block_front e a now id block view are block_is long =
-    let all : length block ≡ length long.clause = length_permutation long.clause block (block_order e a now id block long.clause view are block_is long.is_live) in
+-- In the order of codes it is the clause.
+pub block_value : (vars : ℕ) (live : List Bool) (a : Arranged) (now : Stored) (id : ℕ) (block : List ℤ)
+    → shown vars live a ≡ now → length live ≡ length a.blocks → block ≡ block_at a.blocks id → IsSome (live_in now id)
+    → live_in now id ≡ Some (sorted block)
+block_value vars live a now id block view same block_is some =
+    let found : (clause : List ℤ) × (live_in now id ≡ Some clause) = some_is (live_in now id) some in
+    let is : sorted (block_at a.blocks id) ≡ found.0 = live_sorted live a.blocks id found.0 same (subst (λ (x : Stored). live_in x id ≡ Some found.0) (sym view) found.1) in
+    found.1 ∙ ap Some (sym is ∙ ap sorted (sym block_is))
+
+pub block_long : (vars : ℕ) (live : List Bool) (a : Arranged) (now : Stored) (id : ℕ) (block clause : List ℤ) → shown vars live a ≡ now → length live ≡ length a.blocks
+    → block ≡ block_at a.blocks id → live_in now id ≡ Some clause → length block ≡ length clause
+block_long vars live a now id block clause view same block_is is = length_permutation clause block (block_order vars live a now id block clause view same block_is is)
+
+pub block_front : (vars : ℕ) (live : List Bool) (a : Arranged) (now : Stored) (id : ℕ) (block : List ℤ) → shown vars live a ≡ now → length live ≡ length a.blocks
+    → block ≡ block_at a.blocks id → IsLong now id → (2 ≤ length block) × (pair_of block ≡ pair_at now.watches id)
+block_front vars live a now id block view same block_is long =
+    let all : length block ≡ length long.clause = length_permutation long.clause block (block_order vars live a now id block long.clause view same block_is long.is_live) in
     (omega (arith, all, long.long), ap pair_of block_is ∙ sym (pair_block a id) ∙ ap (λ (x : Stored). pair_at x.watches id) view)
 
-pub block_clause : (e : Entries) (a : Arranged) (now : Stored) (id : ℕ) (block : List ℤ) → joined e a ≡ now → IsStored now → AreArranged e.clauses a.blocks → block ≡ block_at a.blocks id → IsSome (live_in now id) → IsClause block × IsWithin now.vars block
-block_clause e a now id block view stored are block_is live =
-    let found : (clause : List ℤ) × (live_in now id ≡ Some clause) = some_is (live_in now id) live in
-    let order : IsPermutation found.0 block = block_order e a now id block found.0 view are block_is found.1 in
+pub block_clause : (vars : ℕ) (live : List Bool) (a : Arranged) (now : Stored) (id : ℕ) (block : List ℤ) → shown vars live a ≡ now → IsStored now
+    → length live ≡ length a.blocks → block ≡ block_at a.blocks id → IsSome (live_in now id) → IsClause block × IsWithin now.vars block
+block_clause vars live a now id block view stored same block_is some =
+    let found : (clause : List ℤ) × (live_in now id ≡ Some clause) = some_is (live_in now id) some in
+    let order : IsPermutation found.0 block = block_order vars live a now id block found.0 view same block_is found.1 in
     (clause_permuted found.0 block order (stored.clauses id found.0 found.1), All-permutation (λ m. variable m ≤ now.vars) found.0 block order (stored.variables id found.0 found.1))

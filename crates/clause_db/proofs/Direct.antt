@@ -101,9 +101,6 @@ kept_lists b new (e ∷ es) n kept are =
 all_kept : (b : Blocked) (all : List Listed) → AreDirect b all → AreKept b (length b.lists) all
 all_kept b all are = All-weaker (All (IsDirect b)) (All (IsKept b (length b.lists))) (λ e. All-weaker (IsDirect b) (IsKept b (length b.lists)) (λ w is. (is, is.given)) e) all are
 
-pub direct_more : (b new : Blocked) (all : List Listed) → KeepsIds b new (length b.lists) → AreDirect b all → AreDirect new all
-direct_more b new all kept are = kept_direct b new all (length b.lists) kept (all_kept b all are)
-
 pub more_lists : (b new : Blocked) (all : List Listed) → KeepsIds b new (length b.lists) → AreDirect b all → lists_of new.starts all ≡ lists_of b.starts all
 more_lists b new all kept are = kept_lists b new all (length b.lists) kept (all_kept b all are)
 
@@ -163,11 +160,7 @@ shown_back old new back lits before all a now more back_is kept same was are vie
     front : take (length (old.lists ++ lits ∷ []) - 1) (old.lists ++ lits ∷ []) ≡ old.lists
     front = grind (arith, common_steps)
 
--- Two literals of a clause change places.
-pub places_direct : (b : Blocked) (arranged : List (List ℤ)) (s id high : ℕ) → b.lists ≡ arranged → id_in b.starts s ≡ id → high < length (block_at arranged id) → high < length (block_at b.lists (id_in b.starts s))
-places_direct b arranged s id high same id_is places = subst (λ (ls : List (List ℤ)). high < length (block_at ls (id_in b.starts s))) (sym same) (subst (λ (n : ℕ). high < length (block_at arranged n)) (sym id_is) places)
-
--- the result of an exchange by a start
+-- Two literals of a clause, by its start, change places.
 abbrev pub IsExchange : Blocked → Blocked → ℕ → ℕ → ℕ → Type 0
 IsExchange b new s low high = new.lists ≡ slice_set b.lists (id_in b.starts s - 1) (swap (block_at b.lists (id_in b.starts s)) low high)
 

@@ -3,12 +3,20 @@ use Rattle.std.proofs.Common.{◌≡◌, ℕ, suc, ◌+◌, ◌-◌, ◌<◌, �
 use Rattle.std.specs.List.{slice_range, swap}
 use Rattle.std.proofs.Math.Logic.{⊎_elim}
 use Rattle.std.proofs.lemmas.Bool.{cases_eq, cases_lt}
-use Rattle.std.proofs.lemmas.List.{length-drop, length-take-le, length-map, length-set, map-append, take-map, get_or-take, get_or-drop, get_or-map, get_or-set_same, get_or-set_other, same_lists}
+use Rattle.std.proofs.lemmas.List.{drop-append-le, drop_at, take-append-le, take_all, length-drop, length-take-le, length-map, length-set, map-append, take-map, get_or-take, get_or-drop, get_or-map, get_or-set_same, get_or-set_other, same_lists}
 use Rattle.std.proofs.lemmas.List.Elements.{All-push, All-take}
 use Rattle.std.proofs.lemmas.List.Edits.{length-swap, swapped_from_swap, Swapped}
 use Rattle.std.proofs.lemmas.List.Quantifiers.{all_pairs_push}
 use Rattle.clause_db.specs.BlockRanges.{Range, list_in, lists_in, AreRanges}
-use Rattle.clause_db.proofs.Rows.{range_front, range_behind}
+
+-- a range within a prefix of a row, and one behind it
+pub range_front : (row more : List ℤ) (a b : ℕ) → a ≤ b → b ≤ length row → slice_range (row ++ more) a b ≡ slice_range row a b
+range_front row more a b low high =
+    let room : b - a ≤ length (drop a row) = rw length-drop (omega arith) in
+    ap (take (b - a)) (drop-append-le a row more (omega arith)) ∙ take-append-le (b - a) (drop a row) more room
+
+pub range_behind : (row more : List ℤ) (a b : ℕ) → a ≡ length row → b ≡ length row + length more → slice_range (row ++ more) a b ≡ more
+range_behind row more a b at long = ap (take (b - a)) (drop_at row more a (sym at)) ∙ take_all (b - a) more (omega arith)
 
 pub range_long : (row : List ℤ) (a b : ℕ) → a ≤ b → b ≤ length row → length (slice_range row a b) ≡ b - a
 range_long row a b order inside = length-take-le (b - a) (drop a row) (rw length-drop (omega arith))

@@ -1,11 +1,12 @@
 -- The literals of each clause in an order of their own, in which the two that it watches come
 -- first.
-use Rattle.std.specs.Prelude.{◌≡◌, ℕ, ◌-◌, ◌⊎◌, ℤ, List, [], ◌∷◌, ◌++◌, map, slice_index_or, slice_set, Option, Some}
+use Rattle.std.specs.Prelude.{◌≡◌, ℕ, ◌-◌, ◌⊎◌, ℤ, List, [], ◌∷◌, ◌++◌, map, slice_index_or, slice_set, Bool, if◌then◌else◌, Option, Some, None}
 use Rattle.std.specs.List.{swap}
 use Rattle.std.specs.List.Sorted.{IsPermutation}
 use Rattle.clause_db.specs.declared.watches.Pair.{Pair}
 use Rattle.clause_db.specs.Watching.{Watching, pair_of, with_ids}
-use Rattle.clause_db.specs.Stored.{live_at}
+use Rattle.clause_db.specs.Stored.{Stored}
+use Rattle.clause_db.specs.Sorted.{sorted}
 use Rattle.clause_db.specs.Blocking.{with_blockers}
 
 -- the literals of each id, and for each literal, by its code, the ids of the clauses that watch it
@@ -40,6 +41,14 @@ IsNoneOf p l = (l ≡ p.first) ⊎ (l ≡ p.second) → ⊥
 pub record ArePermuted (blocks new : List (List ℤ)) : Type 0 where
   pub each : (id : ℕ) → IsPermutation (block_at blocks id) (block_at new id)
 
--- the literals of each live clause, in some order
-pub record AreArranged (clauses : List (Option (List ℤ))) (blocks : List (List ℤ)) : Type 0 where
-  pub same : (id : ℕ) (clause : List ℤ) → live_at clauses id ≡ Some clause → IsPermutation clause (block_at blocks id)
+-- The clauses of the ids that are live: the literals of each in the order of their codes. Both
+-- lists are equally long.
+-- Example: of true, false and the literals 3, -2, 1 and none they are Some of 1, -2, 3, and None.
+unfoldable pub clauses_of : List Bool → List (List ℤ) → List (Option (List ℤ))
+clauses_of [] blocks = []
+clauses_of (live ∷ rest) [] = []
+clauses_of (live ∷ rest) (block ∷ blocks) = (if live then Some (sorted block) else None) ∷ clauses_of rest blocks
+
+-- what contracts see of them
+abbrev pub shown : ℕ → List Bool → Arranged → Stored
+shown vars live a = record { vars = vars; clauses = clauses_of live a.blocks; watches = watching_of a }

@@ -1,4 +1,4 @@
--- A store stays one when a clause is deleted.
+-- The clauses keep their invariant when one of them is deleted.
 use Rattle.std.specs.Prelude.{◌≡◌, ◌≢◌, ℕ, zero, suc, ◌+◌, ◌-◌, ◌*◌, ◌<◌, ◌≤◌, ◌⊎◌, ◌==◌, Bool, true, false, if◌then◌else◌, ℤ, List, [], ◌∷◌, length, slice_get, slice_index_or, slice_set, Contains, AllPairs, Option, Some, None, IsSome, refl}
 use Rattle.std.specs.Option.{option_flatten}
 use Rattle.std.proofs.Common.{sym, ap, ◌∙◌, subst, arith, inl, inr}

@@ -1,6 +1,7 @@
+pub mod Sorted
+pub mod SortedLaws
 pub mod Stored
 pub mod StoredLaws
-pub mod Windows
 pub mod Watching
 pub mod WatchingLaws
 pub mod Moving
@@ -10,3 +11,4 @@ pub mod BlockRanges
 pub mod Arranging
 pub mod Deleting
 pub mod DeletingLaws
+pub mod Members

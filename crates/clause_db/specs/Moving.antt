@@ -1,4 +1,4 @@
--- A store stays one when a clause is added, and when a clause watches another literal.
+-- The clauses keep their invariant when one is added, and when one watches another literal.
 use Rattle.std.specs.Prelude.{◌≡◌, ◌≢◌, ℕ, ◌+◌, ◌-◌, ◌*◌, ◌<◌, ◌≤◌, ◌⊎◌, ℤ, pos, List, [], ◌∷◌, ◌++◌, length, slice_index_or, slice_set, replicate, Contains, All, AllPairs, Option, Some, refl}
 use Rattle.std.proofs.Common.{sym, ap, ◌∙◌, subst, arith, inl, inr}
 use Rattle.std.proofs.Math.Logic.{⊎_elim}
@@ -12,6 +12,8 @@ use Rattle.cdcl_theory.specs.CodeLaws.{cases_literal, code_of-room, int_eq-same,
 use Rattle.clause_db.specs.declared.watches.Pair.{Pair}
 use Rattle.clause_db.specs.Watching.{Watching, list_of, pair_at, pair_of, replaced, HasRoom}
 use Rattle.clause_db.specs.WatchingLaws.{pair_new, pair_old, pair_moved, pair_kept, lists_more, list_from, list_to, list_else, swap_keeps, swap_only, swap_once, listed_none, short_lists, with_ids_room}
+use Rattle.clause_db.specs.Sorted.{sorted}
+use Rattle.clause_db.specs.SortedLaws.{Contains-sorted, clause_sorted, within_sorted, length-sorted}
 use Rattle.clause_db.specs.Stored.{Stored, live_in, Watches, IsPair, IsStored, none_stored, added, rewatched}
 use Rattle.clause_db.specs.StoredLaws.{live_inside, live_added, added_new, added_old, live_in-add}
 
@@ -70,15 +72,21 @@ added_lists s lits l stored is_clause within = ⊎_elim
     room_of : (m : ℤ) → Contains lits m → code_of m < length s.watches.lists
     room_of m there = All-contains (λ x. code_of x < length s.watches.lists) lits m (rooms s.vars s.watches lits stored.room within) there
 
+long_of : (lits clause : List ℤ) → sorted lits ≡ clause → 2 ≤ length clause → 2 ≤ length lits
+long_of lits clause is long = let same : length clause ≡ length lits = ap length (sym is) ∙ length-sorted lits in omega (arith, long, same)
+
 pub stored_added : (s : Stored) (lits : List ℤ) → IsStored s → IsClause lits → IsWithin s.vars lits → length s.clauses < 4000000000 → IsStored (added s lits)
 stored_added s lits stored is_clause within few = record {
-  clauses = λ id clause is. ⊎_elim (λ (new : (id ≡ next) × (lits ≡ clause)). subst IsClause new.1 is_clause) (λ (old : live_in s id ≡ Some clause). stored.clauses id clause old) (live_added s lits id clause is);
-  variables = λ id clause is. ⊎_elim (λ (new : (id ≡ next) × (lits ≡ clause)). subst (λ (c : List ℤ). IsWithin s.vars c) new.1 within) (λ (old : live_in s id ≡ Some clause). stored.variables id clause old) (live_added s lits id clause is);
+  clauses = λ id clause is. ⊎_elim (λ (new : (id ≡ next) × (sorted lits ≡ clause)). subst IsClause new.1 (clause_sorted lits is_clause)) (λ (old : live_in s id ≡ Some clause). stored.clauses id clause old) (live_added s lits id clause is);
+  variables = λ id clause is. ⊎_elim
+      (λ (new : (id ≡ next) × (sorted lits ≡ clause)). subst (λ (c : List ℤ). IsWithin s.vars c) new.1 (within_sorted s.vars lits within))
+      (λ (old : live_in s id ≡ Some clause). stored.variables id clause old)
+      (live_added s lits id clause is);
   few = rw length_push (omega arith);
-  pairs_room = length_push s.watches.pairs (pair_of lits) ∙ ap (λ (n : ℕ). n + 1) stored.pairs_room ∙ sym (length_push s.clauses (Some lits));
+  pairs_room = length_push s.watches.pairs (pair_of lits) ∙ ap (λ (n : ℕ). n + 1) stored.pairs_room ∙ sym (length_push s.clauses (Some (sorted lits)));
   room = lists_room;
   pairs = λ id clause is long. ⊎_elim
-      (λ (new : (id ≡ next) × (lits ≡ clause)). rw (new.0, pair_next) (subst (λ (c : List ℤ). IsPair c (pair_of lits)) new.1 (own_pair (rw new.1 long))))
+      (λ (new : (id ≡ next) × (sorted lits ≡ clause)). rw (new.0, pair_next) (subst (λ (c : List ℤ). IsPair c (pair_of lits)) new.1 (own_pair (long_of lits clause new.1 long))))
       (λ (old : live_in s id ≡ Some clause). rw (pair_before id clause old) (stored.pairs id clause old long))
       (live_added s lits id clause is);
   listed = listed;
@@ -95,8 +103,8 @@ stored_added s lits stored is_clause within few = record {
     pair_before : (id : ℕ) (clause : List ℤ) → live_in s id ≡ Some clause → pair_at (added s lits).watches id ≡ pair_at s.watches id
     pair_before id clause is = (let low : (0 < id) × (id ≤ length s.clauses) = live_inside s id clause is in let room : length s.watches.pairs ≡ length s.clauses = stored.pairs_room in pair_old s.watches lits next id low.0 (omega (arith, low.1, room)))
 
-    own_pair : 2 ≤ length lits → IsPair lits (pair_of lits)
-    own_pair long = record { first = first_in lits long; second = second_in lits long; differ = two_differ lits is_clause long }
+    own_pair : 2 ≤ length lits → IsPair (sorted lits) (pair_of lits)
+    own_pair long = record { first = Contains-sorted lits (pair_of lits).first (first_in lits long); second = Contains-sorted lits (pair_of lits).second (second_in lits long); differ = two_differ lits is_clause long }
 
     lists_room : HasRoom s.vars (added s lits).watches
     lists_room = with_ids_room s.watches lits next ∙ stored.room
@@ -104,16 +112,16 @@ stored_added s lits stored is_clause within few = record {
     before : (id : ℕ) (l : ℤ) → Watches s id l → Watches (added s lits) id l
     before id l watches = record {
       clause = watches.clause;
-      is_live = ap (λ (g : ℕ → Option (List ℤ)). g id) (live_in-add s lits) ∙ added_old s lits id watches.clause watches.is_live;
+      is_live = ap (λ (g : ℕ → Option (List ℤ)). g id) (live_in-add s lits) ∙ added_old s (sorted lits) id watches.clause watches.is_live;
       long = watches.long;
       watched = rw (pair_before id watches.clause watches.is_live) watches.watched;
     }
 
     new_one : (l : ℤ) → 2 ≤ length lits → (l ≡ (pair_of lits).first) ⊎ (l ≡ (pair_of lits).second) → Watches (added s lits) next l
     new_one l long which = record {
-      clause = lits;
-      is_live = ap (λ (g : ℕ → Option (List ℤ)). g next) (live_in-add s lits) ∙ added_new (live_in s) next lits;
-      long = long;
+      clause = sorted lits;
+      is_live = ap (λ (g : ℕ → Option (List ℤ)). g next) (live_in-add s lits) ∙ added_new (live_in s) next (sorted lits);
+      long = rw length-sorted long;
       watched = rw pair_next which;
     }
 
@@ -122,9 +130,9 @@ stored_added s lits stored is_clause within few = record {
 
     watches_cases : (id : ℕ) (l : ℤ) → Watches (added s lits) id l → ((id ≡ next) × (2 ≤ length lits) × ((l ≡ (pair_of lits).first) ⊎ (l ≡ (pair_of lits).second))) ⊎ Watches s id l
     watches_cases id l watches = ⊎_elim
-        (λ (new : (id ≡ next) × (lits ≡ watches.clause)).
+        (λ (new : (id ≡ next) × (sorted lits ≡ watches.clause)).
         let at_next : pair_at (added s lits).watches id ≡ pair_of lits = ap (pair_at (added s lits).watches) new.0 ∙ pair_next in
-        inl (new.0, rw new.1 watches.long, subst (λ (p : Pair). (l ≡ p.first) ⊎ (l ≡ p.second)) at_next watches.watched))
+        inl (new.0, long_of lits watches.clause new.1 watches.long, subst (λ (p : Pair). (l ≡ p.first) ⊎ (l ≡ p.second)) at_next watches.watched))
         (λ (old : live_in s id ≡ Some watches.clause). inr (record { clause = watches.clause; is_live = old; long = watches.long; watched = subst (λ (p : Pair). (l ≡ p.first) ⊎ (l ≡ p.second)) (pair_before id watches.clause old) watches.watched }))
         (live_added s lits id watches.clause watches.is_live)
 
@@ -168,12 +176,12 @@ stored_added s lits stored is_clause within few = record {
           | inr other ↦ subst (λ (xs : List ℕ). AllPairs (λ a b. a ≢ b) xs) (sym other.1) (stored.once l)
         ]
 
--- what a clause watches in the store with one clause more
+-- what a clause watches where one clause was added
 pub added_watches : (s : Stored) (lits : List ℤ) (id : ℕ) (l : ℤ) → IsStored s → Watches (added s lits) id l → ((id ≡ length s.clauses + 1) × (2 ≤ length lits) × ((l ≡ (pair_of lits).first) ⊎ (l ≡ (pair_of lits).second))) ⊎ Watches s id l
 added_watches s lits id l stored watches = ⊎_elim
-    (λ (new : (id ≡ length s.clauses + 1) × (lits ≡ watches.clause)).
+    (λ (new : (id ≡ length s.clauses + 1) × (sorted lits ≡ watches.clause)).
     let at_next : pair_at (added s lits).watches id ≡ pair_of lits = ap (pair_at (added s lits).watches) new.0 ∙ pair_new s.watches lits (length s.clauses + 1) (ap (λ (n : ℕ). n + 1) stored.pairs_room) in
-    inl (new.0, rw new.1 watches.long, subst (λ (p : Pair). (l ≡ p.first) ⊎ (l ≡ p.second)) at_next watches.watched))
+    inl (new.0, long_of lits watches.clause new.1 watches.long, subst (λ (p : Pair). (l ≡ p.first) ⊎ (l ≡ p.second)) at_next watches.watched))
     (λ (old : live_in s id ≡ Some watches.clause).
     let low : (0 < id) × (id ≤ length s.clauses) = live_inside s id watches.clause old in
     let room : length s.watches.pairs ≡ length s.clauses = stored.pairs_room in
@@ -243,7 +251,7 @@ pub record IsMovable (s : Stored) (id : ℕ) (from to : ℤ) (index : ℕ) : Typ
 pub movable_watches : (s : Stored) (id : ℕ) (from to : ℤ) (index : ℕ) → IsStored s → IsMovable s id from to index → Watches s id from
 movable_watches s id from to index stored movable = subst (λ (k : ℕ). Watches s k from) movable.at_index (stored.only from (slice_index_or (list_of s.watches from) index 0) (Contains-get_or (list_of s.watches from) index 0 movable.inside))
 
--- each watch of the new store is one of the old, except the one of `to`
+-- each watch is one of before, except the one of `to`
 pub rewatched_old : (s : Stored) (id : ℕ) (from to : ℤ) (index k : ℕ) (l : ℤ) → IsStored s → IsMovable s id from to index → Watches (rewatched s id from to index) k l → Watches s k l ⊎ ((k ≡ id) × (l ≡ to))
 rewatched_old s id from to index k l stored movable watches =
     let of_from : Watches s id from = movable_watches s id from to index stored movable in

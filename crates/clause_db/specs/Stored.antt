@@ -1,27 +1,19 @@
--- Clauses by their ids, and what they watch.
+-- Clauses by their ids, and what they watch. The literals of a clause are shown in the order of their
+-- codes, in whatever order they are kept.
 use Rattle.std.specs.Prelude.{◌≡◌, ◌≢◌, ℕ, ◌+◌, ◌-◌, ◌*◌, ◌≤◌, ◌==◌, ◌⊎◌, if◌then◌else◌, ℤ, List, [], ◌∷◌, ◌++◌, length, slice_get, replicate, Contains, AllPairs, Option, Some, None}
 use Rattle.std.specs.Option.{option_flatten}
 use Rattle.sat_theory.specs.Formula.{IsClause, IsWithin}
 use Rattle.clause_db.specs.declared.watches.Pair.{Pair}
 use Rattle.clause_db.specs.Watching.{Watching, list_of, pair_at, watching_more, watching_moved, HasRoom}
+use Rattle.clause_db.specs.Sorted.{sorted}
 
 -- The ids are 1, 2 and so on.
 -- Example: of the entries (1, 2), none, (-2) the id 3 has the clause -2, and 2 and 4 have none.
 abbrev pub live_at : List (Option (List ℤ)) → ℕ → Option (List ℤ)
 live_at clauses id = if id == 0 then None else option_flatten (slice_get clauses (id - 1))
 
--- the variables of the formula, and an entry for each id that was given: its clause, where that is live
-pub record Entries : Type 0 where
-  pub vars : ℕ
-  pub clauses : List (Option (List ℤ))
-
--- all live clauses are clauses over the variables, and not all ids of 32 bits are given
-pub record AreEntries (s : Entries) : Type 0 where
-  pub clauses : (id : ℕ) (clause : List ℤ) → live_at s.clauses id ≡ Some clause → IsClause clause
-  pub variables : (id : ℕ) (clause : List ℤ) → live_at s.clauses id ≡ Some clause → IsWithin s.vars clause
-  pub few : length s.clauses ≤ 4000000000
-
--- the same, with what the clauses watch
+-- the variables of the formula, an entry for each id that was given (its clause, where that is live),
+-- and what the clauses watch
 pub record Stored : Type 0 where
   pub vars : ℕ
   pub clauses : List (Option (List ℤ))
@@ -68,7 +60,7 @@ none_stored vars = record { vars = vars; clauses = []; watches = record { pairs 
 
 -- One clause more, under the id after all others, watches its first two literals.
 abbrev pub added : Stored → List ℤ → Stored
-added s lits = record { vars = s.vars; clauses = s.clauses ++ Some lits ∷ []; watches = watching_more s.watches lits (length s.clauses + 1) }
+added s lits = record { vars = s.vars; clauses = s.clauses ++ Some (sorted lits) ∷ []; watches = watching_more s.watches lits (length s.clauses + 1) }
 
 -- more clauses, one after another
 unfoldable pub all_added : Stored → List (List ℤ) → Stored

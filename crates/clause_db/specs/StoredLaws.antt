@@ -1,14 +1,13 @@
 -- One clause more after the others.
 use Rattle.std.specs.Prelude.{◌≡◌, ℕ, zero, suc, ◌+◌, ◌-◌, ◌<◌, ◌≤◌, ◌⊎◌, ◌==◌, Bool, true, false, if◌then◌else◌, ℤ, List, [], ◌∷◌, ◌++◌, map, length, slice_get, Option, Some, None, refl}
 use Rattle.std.specs.Option.{option_flatten}
-use Rattle.std.proofs.Common.{sym, ap, ◌∙◌, subst, arith, inl, inr, append_assoc}
+use Rattle.std.proofs.Common.{sym, ap, ◌∙◌, arith, inl, inr, append_assoc}
 use Rattle.std.proofs.Math.Logic.{⊎_elim}
 use Rattle.std.proofs.lemmas.Bool.{eq-eqb, ne_eqb, eqb-true}
 use Rattle.std.proofs.lemmas.Grind.{common_steps}
-use Rattle.std.proofs.lemmas.List.{length_push}
-use Rattle.sat_theory.specs.Formula.{IsClause, IsWithin}
 use Rattle.sat_theory.specs.State.{by_id, with_clause}
-use Rattle.clause_db.specs.Stored.{Stored, Entries, AreEntries, live_at, live_in, none_stored, added, all_added}
+use Rattle.clause_db.specs.Sorted.{sorted}
+use Rattle.clause_db.specs.Stored.{Stored, live_at, live_in, none_stored, added, all_added}
 
 -- the entry of an id that was given
 pub entry_at : (xs : List (Option (List ℤ))) (y : Option (List ℤ)) (k : ℕ) → (slice_get (xs ++ y ∷ []) k ≡ (if k == length xs then Some y else slice_get xs k))
@@ -30,23 +29,23 @@ added_at clauses lits (suc k) =
     rw (some, index, entry_at clauses (Some lits) k, test) (chosen_inside option_flatten (k == length clauses) (Some (Some lits)) (slice_get clauses k))
 
 -- It is live under the next id, and nothing else changes.
-pub live_in-add : (s : Stored) (lits : List ℤ) → live_in (added s lits) ≡ with_clause (live_in s) (length s.clauses + 1) lits
-live_in-add s lits = λ i id. added_at s.clauses lits id i
+pub live_in-add : (s : Stored) (lits : List ℤ) → live_in (added s lits) ≡ with_clause (live_in s) (length s.clauses + 1) (sorted lits)
+live_in-add s lits = λ i id. added_at s.clauses (sorted lits) id i
 
-flat_map_some : (xs : List (List ℤ)) (k : ℕ) → option_flatten (slice_get (map (λ (c : List ℤ). Some c) xs) k) ≡ slice_get xs k
+flat_map_some : (xs : List (List ℤ)) (k : ℕ) → option_flatten (slice_get (map (λ (c : List ℤ). Some (sorted c)) xs) k) ≡ slice_get (map sorted xs) k
 flat_map_some [] k = refl
 flat_map_some (x ∷ xs) zero = refl
 flat_map_some (x ∷ xs) (suc k) = flat_map_some xs k
 
-started_at : (clauses : List (List ℤ)) (id : ℕ) → live_at (map (λ (c : List ℤ). Some c) clauses) id ≡ by_id clauses id
+started_at : (clauses : List (List ℤ)) (id : ℕ) → live_at (map (λ (c : List ℤ). Some (sorted c)) clauses) id ≡ by_id (map sorted clauses) id
 started_at clauses zero = refl
 started_at clauses (suc k) = let some : (suc k == 0) ≡ false = ne_eqb (suc k) 0 (λ e. omega arith) in rw some (flat_map_some clauses (suc k - 1))
 
 -- the clauses after those of a list were added
-pub all_added-clauses : (s : Stored) (cs : List (List ℤ)) → (all_added s cs).clauses ≡ s.clauses ++ map (λ (c : List ℤ). Some c) cs
+pub all_added-clauses : (s : Stored) (cs : List (List ℤ)) → (all_added s cs).clauses ≡ s.clauses ++ map (λ (c : List ℤ). Some (sorted c)) cs
 unfolding all_added
 all_added-clauses s [] = grind (arith, common_steps)
-all_added-clauses s (c ∷ cs) = all_added-clauses (added s c) cs ∙ append_assoc s.clauses (Some c ∷ []) (map (λ (d : List ℤ). Some d) cs)
+all_added-clauses s (c ∷ cs) = all_added-clauses (added s c) cs ∙ append_assoc s.clauses (Some (sorted c) ∷ []) (map (λ (d : List ℤ). Some (sorted d)) cs)
 
 pub all_added-vars : (s : Stored) (cs : List (List ℤ)) → (all_added s cs).vars ≡ s.vars
 unfolding all_added
@@ -63,7 +62,7 @@ unfolding all_added
 all_added-none s = refl
 
 -- The clauses of a list, all live, are those by their ids.
-pub live_in-start : (vars : ℕ) (clauses : List (List ℤ)) → live_in (all_added (none_stored vars) clauses) ≡ by_id clauses
+pub live_in-start : (vars : ℕ) (clauses : List (List ℤ)) → live_in (all_added (none_stored vars) clauses) ≡ by_id (map sorted clauses)
 live_in-start vars clauses = λ i id. (ap (λ (xs : List (Option (List ℤ))). live_at xs id) (all_added-clauses (none_stored vars) clauses) ∙ started_at clauses id) i
 
 chosen : {A : Type 0} (b : Bool) (x y z : A) → (if b then x else y) ≡ z → ((b ≡ true) × (x ≡ z)) ⊎ (y ≡ z)
@@ -111,20 +110,6 @@ added_old s lits id clause is = rw (ne_eqb id (length s.clauses + 1) (next_is_fr
 pub added_new : (live : ℕ → Option (List ℤ)) (id : ℕ) (lits : List ℤ) → with_clause live id lits id ≡ Some lits
 added_new live id lits = rw (eq-eqb id id refl) refl
 
--- With one clause more over the variables the invariant of the entries holds.
-pub entries_add : (s : Entries) (lits : List ℤ) → AreEntries s → IsClause lits → IsWithin s.vars lits → length s.clauses < 4000000000 → AreEntries (record s { clauses = s.clauses ++ Some lits ∷ [] })
-entries_add s lits are is_clause within few = record {
-  clauses = λ id clause is. ⊎_elim
-      (λ (new : (id ≡ length s.clauses + 1) × (lits ≡ clause)). subst IsClause new.1 is_clause)
-      (λ (old : live_at s.clauses id ≡ Some clause). are.clauses id clause old)
-      (added_cases (live_at s.clauses) (length s.clauses + 1) lits id clause (sym (added_at s.clauses lits id) ∙ is));
-  variables = λ id clause is. ⊎_elim
-      (λ (new : (id ≡ length s.clauses + 1) × (lits ≡ clause)). subst (λ (c : List ℤ). IsWithin s.vars c) new.1 within)
-      (λ (old : live_at s.clauses id ≡ Some clause). are.variables id clause old)
-      (added_cases (live_at s.clauses) (length s.clauses + 1) lits id clause (sym (added_at s.clauses lits id) ∙ is));
-  few = rw length_push (omega arith);
-}
-
--- a live clause of the store with one clause more, by cases
-pub live_added : (s : Stored) (lits : List ℤ) (id : ℕ) (clause : List ℤ) → live_in (added s lits) id ≡ Some clause → ((id ≡ length s.clauses + 1) × (lits ≡ clause)) ⊎ (live_in s id ≡ Some clause)
-live_added s lits id clause is = added_cases (live_in s) (length s.clauses + 1) lits id clause (sym (added_at s.clauses lits id) ∙ is)
+-- a live clause where one clause was added, by cases
+pub live_added : (s : Stored) (lits : List ℤ) (id : ℕ) (clause : List ℤ) → live_in (added s lits) id ≡ Some clause → ((id ≡ length s.clauses + 1) × (sorted lits ≡ clause)) ⊎ (live_in s id ≡ Some clause)
+live_added s lits id clause is = added_cases (live_in s) (length s.clauses + 1) (sorted lits) id clause (sym (added_at s.clauses (sorted lits) id) ∙ is)

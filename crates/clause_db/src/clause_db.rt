@@ -1,22 +1,23 @@
-//! Clauses with their ids and what they watch. Besides what contracts see there are: the literals
-//! of each clause in a second order, the watched ones first; in each watch list, where contracts
-//! see ids, a blocking literal and the position of the clause; and the windows of the row in the
-//! original order. The invariant ties the literals to what contracts see, and that of `Watches` the
-//! positions to the ids. So `compact` moves literals in both rows, and contracts see no change.
-//! Every call states its effect as an equation on what contracts see (`added`, `rewatched`), so
-//! what the solver needs of watches are laws about these.
-ghost use Rattle.std.specs.Prelude.{◌≡◌, ◌≢◌, ℕ, ◌+◌, ◌<◌, ◌≤◌, ◌⊎◌, ◌↔◌, ◌∷◌, [], length, slice_index_or, Contains, All, AllPairs, Some, List, ℤ, IsTrue, IsSome, IfOk, OnOk, OnErr};
+//! Clauses with their ids and what they watch. The literals of each clause stand once, in an order in
+//! which the two that it watches come first; contracts see them in the order of their codes, so a
+//! clause that watches another literal is the same to them. Besides what contracts see there are: in
+//! each watch list, where contracts see ids, a blocking literal and the position of the clause. The
+//! invariant of `Watches` ties the positions to the ids. So `compact` moves literals, and contracts
+//! see no change. Every call states its effect as an equation on what contracts see (`added`,
+//! `rewatched`), so what the solver needs of watches are laws about these.
+ghost use Rattle.std.specs.Prelude.{◌≡◌, ◌≢◌, ℕ, ◌+◌, ◌<◌, ◌≤◌, ◌⊎◌, ◌↔◌, ℤ, Some, IsTrue, IsSome, IfOk, OnOk, OnErr};
+ghost use Rattle.std.specs.Prelude.{List, [], ◌∷◌, map, length, slice_index_or, Contains, All, AllPairs};
 ghost use Rattle.sat_theory.specs.Formula.{variable as variable_of, IsClause, IsWithin};
 ghost use Rattle.sat_theory.specs.State.{by_id, without};
 ghost use Rattle.clause_db.specs.Watching.{list_of, pair_at, pair_of};
 ghost use Rattle.clause_db.specs.Stored.{live_in, Watches as WatchesOf, IsLong, IsStored, none_stored, added, all_added, rewatched};
+ghost use Rattle.clause_db.specs.Sorted.{sorted};
 ghost use Rattle.clause_db.specs.Moving.{IsMovable};
 ghost use Rattle.clause_db.specs.Blocking.{IsOf, AreBeside};
 ghost use Rattle.clause_db.specs.Deleting.{IsDeleted};
 
 use crate::lists::Watch;
 use crate::room::Room;
-use crate::store::Store;
 use crate::watches::Watches;
 use cnf_core::{Cnf, Lit};
 use std::alloc::{AllocError, Global};
@@ -28,22 +29,25 @@ use std::marker::Model;
 /// literal a list of ids.
 #[derive(Drop)]
 pub struct ClauseDb {
-    store: Store,
+    vars: u32,
+    /// by id, from 1 on: whether the clause is live
+    live: Vec<bool>,
     watches: Watches,
 }
 
 impl Model for ClauseDb {
+    ghost use Rattle.std.specs.Prelude.{length, ◌≡◌};
     ghost use Rattle.clause_db.specs.Stored.{Stored, IsStored};
     ghost use Rattle.clause_db.specs.Blocking.{AreBlockers};
-    ghost use Rattle.clause_db.specs.Arranging.{watching_of, AreArranged};
+    ghost use Rattle.clause_db.specs.Arranging.{shown};
 
     ghost Value = { Stored };
 
-    ghost view = { λ c. record { vars = c.store.vars; clauses = c.store.clauses; watches = watching_of c.watches } };
+    ghost view = { λ c. shown c.vars c.live.items c.watches };
 
-    ghost invariant = { λ c. IsStored (record { vars = c.store.vars; clauses = c.store.clauses; watches = watching_of c.watches })
-        × AreBlockers (record { vars = c.store.vars; clauses = c.store.clauses; watches = watching_of c.watches }) c.watches.rows
-        × AreArranged c.store.clauses c.watches.blocks };
+    ghost invariant = { λ c. IsStored (shown c.vars c.live.items c.watches)
+        × AreBlockers (shown c.vars c.live.items c.watches) c.watches.rows
+        × (length c.live.items ≡ length c.watches.blocks) };
 }
 
 #[tactic(auto, using(crate::proofs::Databases::databases))]
@@ -53,8 +57,9 @@ impl ClauseDb {
     /// 2,147,483,647; more count as running out of memory.
     pub fn new(alloc: Global, cnf: &Cnf) -> Result<ClauseDb, AllocError>
         ensures all { IfOk result (λ c. c ≡ all_added (none_stored cnf.now.vars) cnf.now.clauses) }
-        ensures clauses { IfOk result (λ c. live_in c ≡ by_id cnf.now.clauses) }
-        ensures watches { IfOk result (λ c. (id : ℕ) (clause : List ℤ) → live_in c id ≡ Some clause → pair_at c.watches id ≡ pair_of clause) }
+        ensures clauses { IfOk result (λ c. live_in c ≡ by_id (map sorted cnf.now.clauses)) }
+        ensures watches { IfOk result (λ c. (id : ℕ) (clause : List ℤ) → by_id cnf.now.clauses id ≡ Some clause
+            → pair_at c.watches id ≡ pair_of clause) }
         ensures whole { IfOk result (λ c. IsStored c) }
     {
         let room = Room::of(alloc, cnf)?;
@@ -70,7 +75,8 @@ impl ClauseDb {
         ensures { IfOk result (λ c. c ≡ none_stored vars) }
     {
         Ok(ClauseDb {
-            store: Store::none(alloc, vars, room)?,
+            vars,
+            live: Vec::with_capacity(alloc, room.clauses())?,
             watches: Watches::none(alloc, vars, room)?,
         })
     }
@@ -88,30 +94,23 @@ impl ClauseDb {
         ensures err { OnErr result (self.new ≡ self.old) }
         ensures whole { IsStored self.new }
     {
-        let id = self.store.add(lits)?;
+        self.live.push(true)?;
+        let id = self.live.len() as u32;
         match self.watches.add(lits, id) {
             Ok(()) => Ok(id),
             Err(error) => {
-                self.store.take_last();
+                self.live.pop();
                 Err(error)
             }
         }
-    }
-
-    /// The literals of a live clause.
-    pub fn lits(&self, id: u32) -> &[Lit]
-        requires live { IsSome (live_in self.now id) }
-        ensures value { live_in self.now id ≡ Some result.now }
-        ensures clause { IsClause result.now }
-        ensures variables { IsWithin self.now.vars result.now }
-    {
-        self.store.lits(id)
     }
 
     /// The literals of a live clause in an order of their own: the two that it watches, if any,
     /// come first.
     pub fn arranged(&self, id: u32) -> &[Lit]
         requires live { IsSome (live_in self.now id) }
+        ensures value { live_in self.now id ≡ Some (sorted result.now) }
+        ensures long { (clause : List ℤ) → live_in self.now id ≡ Some clause → length result.now ≡ length clause }
         ensures same { (clause : List ℤ) → live_in self.now id ≡ Some clause → (l : ℤ) → Contains result.now l ↔ Contains clause l }
         ensures front { IsLong self.now id → (2 ≤ length result.now) × (pair_of result.now ≡ pair_at self.now.watches id) }
         ensures clause { IsClause result.now }
@@ -139,7 +138,13 @@ impl ClauseDb {
     pub fn live(&self, id: u32) -> bool
         ensures { IsTrue result ↔ IsSome (live_in self.now id) }
     {
-        self.store.live(id)
+        if id == 0 {
+            return false;
+        }
+        match self.live.get(id as usize - 1) {
+            Some(live) => *live,
+            None => false,
+        }
     }
 
     /// How many variables the formula has.
@@ -147,7 +152,7 @@ impl ClauseDb {
         ensures value { result ≡ self.now.vars }
         ensures whole { IsStored self.now }
     {
-        self.store.vars()
+        self.vars
     }
 
     /// The last id that was given; 0 where there is none.
@@ -155,7 +160,7 @@ impl ClauseDb {
         ensures value { result ≡ length self.now.clauses }
         ensures whole { IsStored self.now }
     {
-        self.store.last()
+        self.live.len() as u32
     }
 
     /// The two literals that a clause of two or more watches.
@@ -237,25 +242,23 @@ impl ClauseDb {
         ensures deleted { IsDeleted id self.old self.new }
         ensures whole { IsStored self.new }
     {
-        if self.lits(id).len() < 2 {
+        if self.arranged(id).len() < 2 {
             self.watches.empty(id);
-            self.store.delete(id);
+            self.live[id as usize - 1] = false;
             return;
         }
         let (first, second) = self.watched(id);
         let index = self.find(first, id);
         let place = self.find(second, id);
         self.watches.leave(id, first, index, second, place);
-        self.store.delete(id);
+        self.live[id as usize - 1] = false;
     }
 
-    /// Frees the room of deleted clauses, in both rows of literals, in place. Contracts see no
-    /// change.
+    /// Frees the room of deleted clauses, in place. Contracts see no change.
     pub fn compact(&mut self)
         ensures same { self.new ≡ self.old }
         ensures whole { IsStored self.new }
     {
-        self.store.compact();
         self.watches.compact();
     }
 

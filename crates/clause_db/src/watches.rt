@@ -1,15 +1,15 @@
 //! Which clauses watch a literal. A clause watches the first two of its literals in an order of
 //! their own, so no pair is kept, and an entry of a watch list has the position where they begin,
-//! which the invariant ties to the table of starts. Moving a watch is a push to one list, an
-//! exchange of two literals, and a removal from another list. The push comes first, since it alone
-//! can run out of memory; the exchange uses the start in the entry, before that is removed. While
-//! the literals of all clauses move, entries have ids in place of starts.
+//! which the invariant ties to the table of starts. Moving a watch reads its entry once: it is
+//! a push to one list, an exchange of two literals, and a removal from another list. The push comes
+//! first, since it alone can run out of memory. While the literals of all clauses move, entries have
+//! ids in place of starts.
 ghost use Rattle.std.specs.Prelude.{◌≡◌, ◌≢◌, ◌⊎◌, ◌↔◌, ℤ, IsTrue, ◌+◌, ◌-◌, ◌*◌, ◌<◌, ◌≤◌, [], length, take, map, All, Contains, pos, slice_index_or, slice_set, replicate, IfOk, OnOk, OnErr};
 ghost use Rattle.std.specs.List.{swap_remove};
 ghost use Rattle.cdcl_theory.specs.Codes.{code_of};
 ghost use Rattle.clause_db.specs.Watching.{listed_in, pair_of, with_id, with_ids, watching_moved};
 ghost use Rattle.clause_db.specs.Blocking.{row_of, with_row, with_blocker, with_blockers, rows_moved, besides};
-ghost use Rattle.clause_db.specs.Arranging.{block_at, watching_of, arranged_more, exchanged_at, ArePermuted, IsNoneOf};
+ghost use Rattle.clause_db.specs.Arranging.{block_at, watching_of, arranged_more, ArePermuted, IsNoneOf};
 ghost use Rattle.clause_db.specs.Deleting.{arranged_left, arranged_without};
 ghost use Rattle.clause_db.specs.Lists.{blockers_of, named, placed, AreDirect, AreNamed};
 
@@ -124,19 +124,6 @@ impl Watches {
         self.blocks.read(watch.start)
     }
 
-    /// Appends the entry at an index in the watch list of `from` to that of `to`, with `blocker` as
-    /// its blocking literal.
-    fn hand_on(&mut self, from: Lit, index: usize, to: Lit, blocker: Lit) -> Result<(), AllocError>
-        requires rooms { (code_of from < length self.old.lists) × (code_of to < length self.old.lists) }
-        requires inside { index < length (listed_in self.old.lists from) }
-        ensures ok { OnOk result (self.new ≡ record self.old { lists = with_id self.old.lists to (slice_index_or (listed_in self.old.lists from) index 0); rows = with_blocker self.old.rows to blocker }) }
-        ensures err { OnErr result (self.new ≡ self.old) }
-    {
-        let watch = self.lists[from.code()].at(index);
-        self.lists[to.code()].push(Watch { blocker, ..watch })?;
-        Ok(())
-    }
-
     /// Appends an id to a watch list, with a blocking literal.
     fn push(&mut self, lit: Lit, id: u32, blocker: Lit) -> Result<(), AllocError>
         requires room { code_of lit < length self.old.lists }
@@ -230,13 +217,14 @@ impl Watches {
         ensures order { OnOk result (ArePermuted self.old.blocks self.new.blocks) }
         ensures err { OnErr result (self.new ≡ self.old) }
     {
-        let block = self.entry_block(from, index);
+        let start = self.lists[from.code()].at(index).start;
+        let block = self.blocks.read(start);
         let low = place_of_watch(block, from);
-        let other = block[1 - low];
+        let blocker = block[1 - low];
         let high = place_of(block, to, place);
-        self.hand_on(from, index, to, other)?;
-        self.exchange(from, index, low, high);
-        self.take_out(from, index);
+        self.lists[to.code()].push(Watch { blocker, start })?;
+        self.blocks.exchange(start, low, high);
+        self.lists[from.code()].take_out(index);
         Ok(())
     }
 
@@ -281,18 +269,6 @@ impl Watches {
         ensures { self.new ≡ record self.old { lists = slice_set self.old.lists (code_of lit) (swap_remove (listed_in self.old.lists lit) index 0); rows = with_row self.old.rows lit (swap_remove (row_of self.old.rows lit) index (pos 1)) } }
     {
         self.lists[lit.code()].take_out(index);
-    }
-
-    /// Exchanges two literals of the clause at an index in a watch list.
-    fn exchange(&mut self, lit: Lit, index: usize, low: usize, high: usize)
-        requires room { code_of lit < length self.old.lists }
-        requires inside { index < length (listed_in self.old.lists lit) }
-        requires order { low < high }
-        requires places { high < length (block_at self.old.blocks (slice_index_or (listed_in self.old.lists lit) index 0)) }
-        ensures { self.new ≡ exchanged_at self.old (slice_index_or (listed_in self.old.lists lit) index 0) low high }
-    {
-        let watch = self.lists[lit.code()].at(index);
-        self.blocks.exchange(watch.start, low, high);
     }
 }
 

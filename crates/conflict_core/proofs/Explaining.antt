@@ -1,16 +1,13 @@
 -- Reasons by the ids that literals were pushed with.
-use Rattle.std.proofs.Common.{◌≡◌, ℕ, ◌-◌, ◌<◌, ◌↔◌, ℤ, List, Contains, Option, Some, IsSome, subst, sym, ap, ◌∙◌}
+use Rattle.std.proofs.Common.{◌≡◌, ℕ, ◌-◌, ◌<◌, ◌↔◌, ℤ, List, Contains, Option, Some, sym, ap, ◌∙◌}
 use Rattle.sat_theory.specs.Formula.{opposite}
 use Rattle.cdcl_theory.specs.Falling.{Implies}
 use Rattle.cdcl_theory.specs.Trails.{Trailed, fell, reason_of, IsExplained}
-use Rattle.cdcl_theory.specs.TrailLaws.{live_fallen, others_fallen, implied_fallen}
+use Rattle.cdcl_theory.specs.TrailLaws.{others_fallen, implied_fallen}
 
 -- an id other than 0
 reason_some : (t : Trailed) (l implied : ℤ) (id : ℕ) → implied ≡ opposite l → id ≡ reason_of t implied → (id ≡ 0 → ⊥) → reason_of t (opposite l) ≡ 0 → ⊥
 reason_some t l implied id at is some none = some (is ∙ ap (reason_of t) at ∙ none)
-
-pub reason_live : (live : ℕ → Option (List ℤ)) (t : Trailed) (l implied : ℤ) (id : ℕ) → IsExplained live t → 0 < fell t l → implied ≡ opposite l → id ≡ reason_of t implied → (id ≡ 0 → ⊥) → IsSome (live id)
-reason_live live t l implied id explained down at is some = subst (λ (k : ℕ). IsSome (live k)) (sym (is ∙ ap (reason_of t) at)) (live_fallen live t l explained down (reason_some t l implied id at is some))
 
 -- The other literals of a reason have fallen, in whatever order they are read.
 pub others_down : (live : ℕ → Option (List ℤ)) (t : Trailed) (l implied m : ℤ) (id : ℕ) (lits : List ℤ) → IsExplained live t → 0 < fell t l → implied ≡ opposite l → id ≡ reason_of t implied → (id ≡ 0 → ⊥) → ((clause : List ℤ) → live id ≡ Some clause → (x : ℤ) → Contains lits x ↔ Contains clause x) → Contains lits m → (m ≡ implied → ⊥) → 0 < fell t m

@@ -1,15 +1,37 @@
--- The literal that fell last becomes the first of a list.
+-- The literal that fell last becomes the first of a list, and the others change places.
 use Rattle.std.proofs.Common.{◌≡◌, ◌≢◌, ℕ, ◌<◌, ◌≤◌, ◌⊎◌, ℤ, Bool, true, List, length, slice_index_or, slice_set, Contains, All, AllPairs, subst, sym, ap, ◌∙◌, arith, inl, inr, refl}
 use Rattle.std.specs.List.{swap}
+use Rattle.std.specs.List.Sorted.{IsPermutation}
+use Rattle.std.specs.Ordering.{int_eq}
 use Rattle.std.proofs.Math.Logic.{⊎_elim}
 use Rattle.std.proofs.lemmas.Bool.{cases_eq, cases_lt}
 use Rattle.std.proofs.lemmas.List.{length-set, get_or-set_same, get_or-set_other}
 use Rattle.std.proofs.lemmas.List.Edits.{length-swap, swap_is}
 use Rattle.std.proofs.lemmas.List.Elements.{All-contains}
+use Rattle.std.proofs.lemmas.List.Sorted.{All-permutation, Contains-permutation}
+use Rattle.std.proofs.lemmas.Map.Keys.{IsDistinct-IsPermutation}
+use Rattle.std.proofs.lemmas.Map.Made.{AllPairs-from_IsDistinct, IsDistinct-from_AllPairs}
+use Rattle.std.proofs.lemmas.Bool.Decides.{Decides-int_eq}
+use Rattle.std.proofs.lemmas.Grind.{common_steps}
 use Rattle.cdcl_theory.specs.Codes.{marked_in}
 use Rattle.trail_core.specs.Values.{IsOver}
 use Rattle.conflict_core.specs.Walking.{AreOthers, HasFallenAt}
 use Rattle.conflict_core.specs.Learning.{IsRaised}
+
+-- the marked literals in another order
+pub fallen_permuted : (places : ℤ → ℕ) (old new : List ℤ) (p : ℕ) → IsPermutation old new → HasFallenAt places old p → HasFallenAt places new p
+fallen_permuted places old new p order (w, there, at) = (w, Contains-permutation old new w order there, at)
+
+pub others_permuted : (vars : ℕ) (marks : List Bool) (first : ℤ) (old new : List ℤ) → IsPermutation old new → AreOthers vars marks first old → AreOthers vars marks first new
+others_permuted vars marks first old new order others = record {
+  over = All-permutation (IsOver vars) old new order others.over;
+  inside = All-permutation (λ m. (marked_in marks m ≡ true) × (m ≢ first)) old new order others.inside;
+  all = λ m marked. ⊎_elim (λ (is : m ≡ first). inl is) (λ (there : Contains old m). inr (Contains-permutation old new m order there)) (others.all m marked);
+  differ = AllPairs-from_IsDistinct Decides-int_eq new (IsDistinct-IsPermutation int_eq flips old new order (IsDistinct-from_AllPairs Decides-int_eq old others.differ));
+}
+  where
+    flips : (a b : ℤ) → int_eq a b ≡ int_eq b a
+    flips a b = grind (arith, common_steps, Decides-int_eq a b, Decides-int_eq b a)
 
 -- the old index of an entry of the list with two exchanged
 record Stood (xs : List ℤ) (i k : ℕ) : Type 0 where

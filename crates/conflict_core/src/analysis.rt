@@ -3,7 +3,8 @@
 //! shortening remove other literals by the same kind of resolution; and what is left marked is
 //! gathered. That it follows by the hints is the invariant of the walk (`IsWalk`); that one literal
 //! of the level is left, and where the others fell, is what the search backjumps by (`IsLearnt`).
-ghost use Rattle.std.specs.Prelude.{◌≡◌, ℕ, ◌+◌, ◌<◌, ◌≤◌, ◌∷◌, [], length, reverse, All, IfOk, OnOk};
+ghost use Rattle.std.specs.Prelude.{◌≡◌, ℕ, ℤ, ◌+◌, ◌<◌, ◌≤◌, ◌∷◌, [], length, slice_index_or, reverse, All, IfOk, OnOk};
+ghost use Rattle.std.specs.List.Sorted.{IsPermutation};
 ghost use Rattle.sat_theory.specs.Formula.{IsWithin};
 ghost use Rattle.sat_theory.specs.Holding.{among, HintsHold};
 ghost use Rattle.cdcl_theory.specs.Falling.{IsClosed, IsFalsified};
@@ -108,6 +109,7 @@ impl Analysis {
         self.walk.touched.truncate(walked);
         let back = last_fallen(trail, &self.lower);
         raise(trail, &mut self.lower, back);
+        put_early_first(trail, &mut self.lower, back);
         let lits = joined(alloc, first, &self.lower)?;
         let hints = turned(alloc, &self.walk.hints)?;
         Ok(Learnt { lits, back, hints })
@@ -207,6 +209,23 @@ fn raise(trail: &Trail, lits: &mut Vec<Lit>, back: u32)
         if trail.fell(lits[index]) == back {
             lits.swap(0, index);
             return;
+        }
+    }
+}
+
+/// Puts the literals that fell in the first half of the places up to `back` before the others; the first of
+/// all stays. A clause that gives up a watch takes the first literal that isn't false, and one that fell early
+/// and is free again is so for long.
+fn put_early_first(trail: &Trail, lits: &mut Vec<Lit>, back: u32)
+    requires { IsWithin trail.now.vars lits.old.items }
+    ensures order { IsPermutation lits.old.items lits.new.items }
+    ensures head { (d : ℤ) → slice_index_or lits.new.items 0 d ≡ slice_index_or lits.old.items 0 d }
+{
+    let mut early = 1;
+    for index in 1..lits.len() {
+        if trail.fell(lits[index]) <= back / 2 {
+            lits.swap(early, index);
+            early += 1;
         }
     }
 }

@@ -4,7 +4,7 @@ use Rattle.std.proofs.lemmas.Grind.{common_steps}
 use Rattle.cnf_core.specs.Codes.{code_of}
 use Rattle.log_core.specs.Numbers.{written}
 use Rattle.log_core.specs.Lists.{step, ids_written, literals_written}
-use Rattle.log_core.proofs.ReadNumbers.{far-none, written-one, written-two}
+use Rattle.log_core.proofs.ReadNumbers.{far-none, written-one, written-two, written-three}
 use Rattle.log_core.proofs.ReadRows.{begins-same, begins-more, begins-on}
 
 pub ids_written-more : (last id : ℕ) (ids : List ℕ) → ids_written last (id ∷ ids) ≡ written (step last id) ++ ids_written id ids
@@ -25,8 +25,6 @@ literals_written-none = refl
 
 pub ruleset behind = (common_steps, far-none, begins-same, begins-more, begins-on)
 
-pub ruleset numbers = (common_steps, written-one, written-two)
-
-pub ruleset items = (common_steps, begins-same, begins-more, begins-on)
+pub ruleset numbers = (common_steps, written-one, written-two, written-three)
 
 pub ruleset packed = (common_steps, ids_written-more, ids_written-none, literals_written-more, literals_written-none)

@@ -41,12 +41,6 @@ step-le last id last_low low = ⊎_elim
     (λ (up : last ≤ id). rw (step-up last id up) (omega arith))
     (cases_lt id last)
 
-pub stepped-le : (last n : ℕ) → last ≤ 4294967295 → stepped last n ≤ 4294967295
-stepped-le last n low = ⊎_elim
-    (λ (even : n % 2 < 1). rw (stepped-up last n (omega arith)) (omega arith))
-    (λ (odd : 1 ≤ n % 2). rw (stepped-down last n (omega arith)) (omega arith))
-    (cases_lt (n % 2) 1)
-
 -- ids within 32 bits
 abbrev pub AreIds : List ℕ → Type 0
 AreIds ids = All (λ id. id ≤ 4294967295) ids

@@ -4,11 +4,6 @@ use Rattle.std.proofs.Math.Logic.{⊎_elim}
 use Rattle.std.proofs.lemmas.Bool.{lt-ltb, le-ltb, ne_eqb, cases_eq}
 use Rattle.log_core.specs.Numbers.{grown, numbers_from, leading, far, written}
 
--- no number that is read grows too large to go on with
-pub grown-le : (n b : ℕ) → grown n b ≤ 17179869184
-unfolding grown
-grown-le n b = omega arith
-
 pub numbers_from-last : (n b : ℕ) (bs : List ℕ) → b < 128 → numbers_from n (b ∷ bs) ≡ (n * 128 + b) ∷ numbers_from 0 bs
 unfolding numbers_from
 numbers_from-last n b bs low = rw (lt-ltb b 128 low) refl
@@ -88,3 +83,11 @@ written-two n low top =
     let high : n / 16384 ≡ 0 = omega arith in
     let whole : n / 128 % 128 ≡ n / 128 = omega arith in
     rw (far-none (n / 16384) high, leading-some (n / 128) (λ none. absurd (omega (arith, none))), whole) refl
+
+pub written-three : (n : ℕ) → 16384 ≤ n → n < 2097152 → written n ≡ (n / 16384 + 128) ∷ (n / 128 % 128 + 128) ∷ n % 128 ∷ []
+unfolding written far
+written-three n low top =
+    let third : n / 16384 / 16384 ≡ 0 = omega arith in
+    let fourth : n / 16384 / 128 ≡ 0 = omega arith in
+    let whole : n / 16384 % 128 ≡ n / 16384 = omega arith in
+    rw (leading-none (n / 16384 / 16384) third, leading-none (n / 16384 / 128) fourth, leading-some (n / 16384) (λ none. absurd (omega (arith, none))), leading-some (n / 128) (λ none. absurd (omega (arith, none))), whole) refl

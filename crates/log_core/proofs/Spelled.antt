@@ -36,8 +36,8 @@ addition_pieces old id lits hints = rw (addition_text id lits hints) (simp appen
 pub deletion_pieces : (old : List ℕ) (id : ℕ) (ids : List ℕ) → (((old ++ id_item id) ++ 100 ∷ 32 ∷ []) ++ flat_map id_item ids) ++ 48 ∷ 10 ∷ [] ≡ old ++ line_text (Delete id ids)
 deletion_pieces old id ids = rw (deletion_text id ids) (simp append_assoc)
 
-pub ruleset spelled = (common_steps, begins-same, begins-on, ids_from-more, ids_from-none, literals_from-more, literals_from-none)
+pub ruleset spelled = (common_steps, ids_from-more, ids_from-none, literals_from-more, literals_from-none)
 
-pub ruleset pieces = (common_steps, begins-same, begins-more, begins-on, addition_pieces, deletion_pieces)
+pub ruleset pieces = (common_steps, addition_pieces, deletion_pieces)
 
 pub ruleset lines = (common_steps, begins-same, begins-on, lines-none, lines-first, first-size, cut-first)

@@ -1,12 +1,11 @@
-//! Ids as items of a text, each followed by a blank. Room for all digits but those of very large ids is reserved
-//! at once; they are appended two by two, with no row of characters in between.
-ghost use Rattle.std.specs.Prelude.{◌≡◌, ◌+◌, ◌/◌, ◌%◌, ◌<◌, ◌≤◌, [], ◌∷◌, ◌++◌, decimal, vec_len, OnOk};
+//! Ids as items of a text, each followed by a blank. Room for the digits is reserved before, once for all items of a
+//! line; they are appended two by two, with no row of characters in between.
+ghost use Rattle.std.specs.Prelude.{◌≡◌, ◌+◌, ◌/◌, ◌%◌, ◌<◌, ◌≤◌, [], ◌∷◌, ◌++◌, decimal, vec_len};
 ghost use Rattle.std.specs.Vec.{vec_capacity};
 ghost use Rattle.lrat_text.specs.Spelling.{id_item};
-ghost use Rattle.log_core.specs.Rows.{BeginsAs};
 
-use std::alloc::AllocError;
-use text_core::push_number;
+/// The most characters of an item: a sign, ten digits and a blank.
+pub(crate) const MOST_CHARACTERS: usize = 12;
 
 /// The two digits of each number below 100, one number after another.
 static PAIRS: [u8; 200] = *b"\
@@ -61,7 +60,7 @@ fn put_four(out: &mut Vec<u8>, number: u32)
     }
 }
 
-/// Appends a number of at most six digits.
+/// Appends a number of at most six digits, of which mostly two are asked for.
 #[tactic(auto, using(crate::proofs::Digits::digits))]
 fn put_six(out: &mut Vec<u8>, number: u32)
     requires few { number < 1000000 }
@@ -70,27 +69,41 @@ fn put_six(out: &mut Vec<u8>, number: u32)
     ensures within { vec_len out.new ≤ vec_len out.old + 6 }
     ensures capacity { vec_capacity out.new ≡ vec_capacity out.old }
 {
-    if number >= 10_000 {
+    if number < 100 {
+        put_two(out, number);
+    } else {
         put_four(out, number / 100);
         put_pair(out, number % 100);
-    } else {
-        put_four(out, number);
     }
 }
 
-/// Appends an id, followed by a blank.
-#[tactic(auto, using(crate::proofs::Behind::items))]
-pub(crate) fn push_id(out: &mut Vec<u8>, id: u32) -> Result<(), AllocError>
-    ensures ok { OnOk result (out.new.items ≡ out.old.items ++ id_item id) }
-    ensures begins { BeginsAs out.old.items out.new.items }
+/// Appends a number of any size. The first test parts those of four digits from those of five, as most hints are. It
+/// is to be part of `put_id`.
+#[inline(always)]
+#[tactic(auto, using(crate::proofs::Digits::halves))]
+fn put_digits(out: &mut Vec<u8>, number: u32)
+    requires room { vec_len out.old + 10 ≤ vec_capacity out.old }
+    ensures items { out.new.items ≡ out.old.items ++ decimal number }
+    ensures within { vec_len out.new ≤ vec_len out.old + 10 }
+    ensures capacity { vec_capacity out.new ≡ vec_capacity out.old }
 {
-    if id >= 1_000_000 {
-        push_number(out, id)?;
-        out.push(b' ')?;
-        return Ok(());
+    if number < 10_000 {
+        put_four(out, number);
+    } else {
+        put_six(out, number / 10_000);
+        put_pair(out, number % 10_000 / 100);
+        put_pair(out, number % 10_000 % 100);
     }
-    out.reserve(7)?;
-    put_six(out, id);
+}
+
+/// Appends an id, followed by a blank. It is to be part of its callers' loops, which hold the text by value.
+#[inline(always)]
+pub(crate) fn put_id(out: &mut Vec<u8>, id: u32)
+    requires room { vec_len out.old + 11 ≤ vec_capacity out.old }
+    ensures items { out.new.items ≡ out.old.items ++ id_item id }
+    ensures within { vec_len out.new ≤ vec_len out.old + 11 }
+    ensures capacity { vec_capacity out.new ≡ vec_capacity out.old }
+{
+    put_digits(out, id);
     out.push_reserved(b' ');
-    Ok(())
 }

@@ -12,6 +12,7 @@
 #![tactic(auto)]
 
 mod head;
+mod held;
 mod items;
 mod log;
 mod numbers;

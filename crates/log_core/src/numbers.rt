@@ -67,8 +67,24 @@ fn put_two(bytes: &mut Vec<u8>, number: u64)
     bytes.push_reserved((number % 128) as u8);
 }
 
-/// Appends a number, for whose digits there is room. The first two tests are those of nearly all
-/// numbers.
+/// Appends a number of three digits, as a third of the hints of a long log are.
+#[tactic(auto, using(crate::proofs::Behind::numbers))]
+fn put_three(bytes: &mut Vec<u8>, number: u64)
+    requires low { 16384 ≤ number }
+    requires high { number < 2097152 }
+    requires room { vec_len bytes.old + 3 ≤ vec_capacity bytes.old }
+    ensures items { bytes.new.items ≡ bytes.old.items ++ written number }
+    ensures few { vec_len bytes.new ≤ vec_len bytes.old + 3 }
+    ensures capacity { vec_capacity bytes.new ≡ vec_capacity bytes.old }
+{
+    bytes.push_reserved((number / 16_384) as u8 + 128);
+    bytes.push_reserved((number / 128 % 128) as u8 + 128);
+    bytes.push_reserved((number % 128) as u8);
+}
+
+/// Appends a number, for whose digits there is room. The first three tests are those of nearly all
+/// numbers. It is to be part of its callers' loops, which hold the row by value.
+#[inline(always)]
 #[tactic(auto, using(crate::proofs::Behind::numbers))]
 pub(crate) fn put_number(bytes: &mut Vec<u8>, number: u64)
     requires room { vec_len bytes.old + MOST_DIGITS ≤ vec_capacity bytes.old }
@@ -82,6 +98,10 @@ pub(crate) fn put_number(bytes: &mut Vec<u8>, number: u64)
     }
     if number < 16_384 {
         put_two(bytes, number);
+        return;
+    }
+    if number < 2_097_152 {
+        put_three(bytes, number);
         return;
     }
     put_long(bytes, number);
@@ -99,15 +119,15 @@ fn grown(number: u64, byte: u8) -> u64
     (number * 128 + u64::from(byte - 128)).min(17_179_869_184)
 }
 
-/// The first number that bytes spell, and what follows it; None where none is left. Any bytes spell
-/// numbers; digits without a last one spell none.
+/// The first number that bytes spell after the digits of a number, and what follows it.
 #[tactic(auto, using(crate::proofs::Taken::taken))]
-pub(crate) fn next_number(bytes: &[u8]) -> Option<(u64, &[u8])>
-    ensures none { IfNone result (numbers_from 0 bytes.now ≡ []) }
-    ensures some { IfSome result (λ x. numbers_from 0 bytes.now ≡ x.0 ∷ numbers_from 0 x.1.now) }
+fn number_after(digits: u64, bytes: &[u8]) -> Option<(u64, &[u8])>
+    requires { digits ≤ 17179869184 }
+    ensures none { IfNone result (numbers_from digits bytes.now ≡ []) }
+    ensures some { IfSome result (λ x. numbers_from digits bytes.now ≡ x.0 ∷ numbers_from 0 x.1.now) }
     ensures shorter { IfSome result (λ x. length x.1.now < length bytes.now) }
 {
-    let mut number = 0u64;
+    let mut number = digits;
     let mut left = bytes;
     while let Some((byte, rest)) = left.split_first() {
         if *byte < 128 {
@@ -117,4 +137,31 @@ pub(crate) fn next_number(bytes: &[u8]) -> Option<(u64, &[u8])>
         left = rest;
     }
     None
+}
+
+/// The first number that bytes spell, and what follows it; None where none is left. Any bytes spell
+/// numbers; digits without a last one spell none. Nearly all numbers have at most three digits, which
+/// are asked for one by one; it is to be part of its callers' loops.
+#[inline(always)]
+#[tactic(auto, using(crate::proofs::Taken::taken))]
+pub(crate) fn next_number(bytes: &[u8]) -> Option<(u64, &[u8])>
+    ensures none { IfNone result (numbers_from 0 bytes.now ≡ []) }
+    ensures some { IfSome result (λ x. numbers_from 0 bytes.now ≡ x.0 ∷ numbers_from 0 x.1.now) }
+    ensures shorter { IfSome result (λ x. length x.1.now < length bytes.now) }
+{
+    let (first, behind_first) = bytes.split_first()?;
+    if *first < 128 {
+        return Some((u64::from(*first), behind_first));
+    }
+    let one = grown(0, *first);
+    let (second, behind_second) = behind_first.split_first()?;
+    if *second < 128 {
+        return Some((one * 128 + u64::from(*second), behind_second));
+    }
+    let two = grown(one, *second);
+    let (third, behind_third) = behind_second.split_first()?;
+    if *third < 128 {
+        return Some((two * 128 + u64::from(*third), behind_third));
+    }
+    number_after(grown(two, *third), behind_third)
 }

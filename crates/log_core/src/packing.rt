@@ -8,6 +8,7 @@ ghost use Rattle.log_core.specs.Lists.{ids_written, literals_written};
 ghost use Rattle.log_core.specs.Rows.{BeginsAs, IsPacked};
 
 use crate::head::Head;
+use crate::held::take_row;
 use crate::numbers::{MOST_DIGITS, put_number};
 use crate::steps::step;
 use cnf_core::Lit;
@@ -28,17 +29,27 @@ fn reserve(bytes: &mut Vec<u8>, numbers: usize) -> Result<(), AllocError>
     Ok(())
 }
 
-/// Appends ids, each as the step from the one before. There is room for them.
+/// A row and ids behind it, each as the step from the one before. There is room for them.
 #[tactic(auto, using(crate::proofs::Behind::packed))]
+fn with_ids(mut row: Vec<u8>, ids: &[u32]) -> Vec<u8>
+    requires room { vec_len row + MOST_DIGITS * length ids.now ≤ vec_capacity row }
+    ensures { result.items ≡ row.items ++ ids_written 0 ids.now }
+{
+    let mut last = 0u32;
+    for &id in ids {
+        put_number(&mut row, step(last, id));
+        last = id;
+    }
+    row
+}
+
+/// Appends ids, as `with_ids` does.
 fn put_ids(bytes: &mut Vec<u8>, ids: &[u32])
     requires room { vec_len bytes.old + MOST_DIGITS * length ids.now ≤ vec_capacity bytes.old }
     ensures items { bytes.new.items ≡ bytes.old.items ++ ids_written 0 ids.now }
 {
-    let mut last = 0u32;
-    for id in ids {
-        put_number(bytes, step(last, *id));
-        last = *id;
-    }
+    let row = take_row(bytes);
+    *bytes = with_ids(row, ids);
 }
 
 /// The number that encodes a literal.

@@ -8,7 +8,12 @@ ghost use Rattle.log_core.specs.Lists as spec;
 pub(crate) fn step(last: u32, id: u32) -> u64
     ensures { result ≡ spec.step last id }
 {
-    2 * u64::from(last.abs_diff(id)) - u64::from(id < last)
+    let twice = 2 * (i64::from(id) - i64::from(last));
+    if id >= last {
+        twice as u64
+    } else {
+        (-twice - 1) as u64
+    }
 }
 
 /// The id that a step leads to, clamped to 32 bits.

@@ -1,7 +1,8 @@
 //! Logs as texts: their lines one after another, as the grammar spells them. Each number is spelled
-//! as it is read, with no line built in between. Where memory runs out, a text has what it had as a
-//! prefix, and is cut back once.
-ghost use Rattle.std.specs.Prelude.{◌≡◌, ◌++◌, length, OnOk, OnErr};
+//! as it is read, with no line built in between. Room is reserved once for all items of a line. Where memory
+//! runs out, a text has what it had as a prefix, and is cut back once.
+ghost use Rattle.std.specs.Prelude.{◌≡◌, ◌+◌, ◌*◌, ◌≤◌, [], ◌∷◌, ◌++◌, length, vec_len, OnOk, OnErr};
+ghost use Rattle.std.specs.Vec.{vec_capacity};
 ghost use Rattle.std.specs.List.{flat_map};
 ghost use Rattle.sat_theory.specs.Line as theory;
 ghost use Rattle.lrat_text.specs.Spelling.{id_item, literal_item, line_text};
@@ -10,96 +11,161 @@ ghost use Rattle.log_core.specs.Rows.{BeginsAs, IsCut, size_of, line_in, lines_i
 
 use crate::Log;
 use crate::head::Head;
-use crate::items::push_id;
+use crate::held::take_row;
+use crate::items::{MOST_CHARACTERS, put_id};
 use crate::numbers::next_number;
 use crate::steps::stepped;
 use crate::unpacking::literal_at;
 use cnf_core::Lit;
 use std::alloc::AllocError;
 
-/// Appends a literal, followed by a blank.
-#[tactic(auto, using(crate::proofs::Behind::behind))]
-fn push_lit(out: &mut Vec<u8>, lit: Lit) -> Result<(), AllocError>
-    ensures ok { OnOk result (out.new.items ≡ out.old.items ++ literal_item lit) }
-    ensures begins { BeginsAs out.old.items out.new.items }
+/// More bytes in a line count as running out of memory: each may spell a number, which takes room.
+const MOST_BYTES: usize = 1_000_000_000_000_000_000;
+
+/// Reserves the items of a line whose lists take some bytes, each of which spells a number at most, and the rest
+/// of that line, which takes no more than two items.
+fn reserve(out: &mut Vec<u8>, bytes: usize) -> Result<(), AllocError>
+    ensures same { out.new.items ≡ out.old.items }
+    ensures room { OnOk result (vec_len out.new + MOST_CHARACTERS * (bytes + 2) ≤ vec_capacity out.new) }
 {
-    if !lit.is_positive() {
-        out.push(b'-')?;
+    if bytes > MOST_BYTES {
+        return Err(AllocError);
     }
-    push_id(out, lit.variable())?;
+    out.reserve(MOST_CHARACTERS * (bytes + 2))?;
     Ok(())
 }
 
-/// Appends the ids that bytes spell.
+/// Appends two characters.
+fn put_both(out: &mut Vec<u8>, first: u8, second: u8)
+    requires room { vec_len out.old + 2 ≤ vec_capacity out.old }
+    ensures items { out.new.items ≡ out.old.items ++ first ∷ second ∷ [] }
+    ensures within { vec_len out.new ≤ vec_len out.old + 2 }
+    ensures capacity { vec_capacity out.new ≡ vec_capacity out.old }
+{
+    out.push_reserved(first);
+    out.push_reserved(second);
+}
+
+/// Appends a literal, followed by a blank.
+#[inline(always)]
+fn put_lit(out: &mut Vec<u8>, lit: Lit)
+    requires room { vec_len out.old + MOST_CHARACTERS ≤ vec_capacity out.old }
+    ensures items { out.new.items ≡ out.old.items ++ literal_item lit }
+    ensures within { vec_len out.new ≤ vec_len out.old + MOST_CHARACTERS }
+    ensures capacity { vec_capacity out.new ≡ vec_capacity out.old }
+{
+    if !lit.is_positive() {
+        out.push_reserved(b'-');
+    }
+    put_id(out, lit.variable());
+}
+
+/// A text and the ids that bytes spell behind it. There is room for them.
 #[tactic(auto, using(crate::proofs::Spelled::spelled))]
-fn push_ids(out: &mut Vec<u8>, bytes: &[u8]) -> Result<(), AllocError>
-    ensures ok { OnOk result (out.new.items ≡ out.old.items ++ flat_map id_item (ids_of bytes.now)) }
-    ensures begins { BeginsAs out.old.items out.new.items }
+fn with_ids(mut text: Vec<u8>, bytes: &[u8]) -> Vec<u8>
+    requires room { vec_len text + MOST_CHARACTERS * length bytes.now ≤ vec_capacity text }
+    ensures items { result.items ≡ text.items ++ flat_map id_item (ids_of bytes.now) }
+    ensures within { vec_len result ≤ vec_len text + MOST_CHARACTERS * length bytes.now }
+    ensures capacity { vec_capacity result ≡ vec_capacity text }
 {
     let mut last = 0u32;
     let mut left = bytes;
     while let Some((number, rest)) = next_number(left) {
         last = stepped(last, number);
-        push_id(out, last)?;
+        put_id(&mut text, last);
         left = rest;
     }
-    Ok(())
+    text
 }
 
-/// Appends the literals that bytes spell.
+/// Appends the ids that bytes spell, as `with_ids` does.
+fn put_ids(out: &mut Vec<u8>, bytes: &[u8])
+    requires room { vec_len out.old + MOST_CHARACTERS * length bytes.now ≤ vec_capacity out.old }
+    ensures items { out.new.items ≡ out.old.items ++ flat_map id_item (ids_of bytes.now) }
+    ensures within { vec_len out.new ≤ vec_len out.old + MOST_CHARACTERS * length bytes.now }
+    ensures capacity { vec_capacity out.new ≡ vec_capacity out.old }
+{
+    let text = take_row(out);
+    *out = with_ids(text, bytes);
+}
+
+/// A text and the literals that bytes spell behind it. There is room for them.
 #[tactic(auto, using(crate::proofs::Spelled::spelled))]
-fn push_lits(out: &mut Vec<u8>, bytes: &[u8]) -> Result<(), AllocError>
-    ensures ok { OnOk result (out.new.items ≡ out.old.items ++ flat_map literal_item (literals_of bytes.now)) }
-    ensures begins { BeginsAs out.old.items out.new.items }
+fn with_lits(mut text: Vec<u8>, bytes: &[u8]) -> Vec<u8>
+    requires room { vec_len text + MOST_CHARACTERS * length bytes.now ≤ vec_capacity text }
+    ensures items { result.items ≡ text.items ++ flat_map literal_item (literals_of bytes.now) }
+    ensures within { vec_len result ≤ vec_len text + MOST_CHARACTERS * length bytes.now }
+    ensures capacity { vec_capacity result ≡ vec_capacity text }
 {
     let mut left = bytes;
     while let Some((number, rest)) = next_number(left) {
-        push_lit(out, literal_at(number))?;
+        put_lit(&mut text, literal_at(number));
         left = rest;
     }
-    Ok(())
+    text
+}
+
+/// Appends the literals that bytes spell, as `with_lits` does.
+fn put_lits(out: &mut Vec<u8>, bytes: &[u8])
+    requires room { vec_len out.old + MOST_CHARACTERS * length bytes.now ≤ vec_capacity out.old }
+    ensures items { out.new.items ≡ out.old.items ++ flat_map literal_item (literals_of bytes.now) }
+    ensures within { vec_len out.new ≤ vec_len out.old + MOST_CHARACTERS * length bytes.now }
+    ensures capacity { vec_capacity out.new ≡ vec_capacity out.old }
+{
+    let text = take_row(out);
+    *out = with_lits(text, bytes);
 }
 
 /// Appends the addition of the literals and hints that bytes spell.
 #[tactic(auto, using(crate::proofs::Spelled::pieces))]
-fn push_addition(out: &mut Vec<u8>, id: u32, lits: &[u8], hints: &[u8]) -> Result<(), AllocError>
-    ensures ok { OnOk result (out.new.items ≡ out.old.items ++ line_text (theory.Add id (literals_of lits.now) (ids_of hints.now))) }
-    ensures begins { BeginsAs out.old.items out.new.items }
+fn put_addition(out: &mut Vec<u8>, id: u32, lits: &[u8], hints: &[u8])
+    requires room { vec_len out.old + MOST_CHARACTERS * (length lits.now + length hints.now + 2) ≤ vec_capacity out.old }
+    ensures { out.new.items ≡ out.old.items ++ line_text (theory.Add id (literals_of lits.now) (ids_of hints.now)) }
 {
-    push_id(out, id)?;
-    push_lits(out, lits)?;
-    out.extend_from_slice(b"0 ")?;
-    push_ids(out, hints)?;
-    out.extend_from_slice(b"0\n")?;
-    Ok(())
+    put_id(out, id);
+    put_lits(out, lits);
+    put_both(out, b'0', b' ');
+    put_ids(out, hints);
+    put_both(out, b'0', b'\n');
 }
 
 /// Appends the deletion of the ids that bytes spell.
 #[tactic(auto, using(crate::proofs::Spelled::pieces))]
-fn push_deletion(out: &mut Vec<u8>, id: u32, ids: &[u8]) -> Result<(), AllocError>
-    ensures ok { OnOk result (out.new.items ≡ out.old.items ++ line_text (theory.Delete id (ids_of ids.now))) }
-    ensures begins { BeginsAs out.old.items out.new.items }
+fn put_deletion(out: &mut Vec<u8>, id: u32, ids: &[u8])
+    requires room { vec_len out.old + MOST_CHARACTERS * (length ids.now + 2) ≤ vec_capacity out.old }
+    ensures { out.new.items ≡ out.old.items ++ line_text (theory.Delete id (ids_of ids.now)) }
 {
-    push_id(out, id)?;
-    out.extend_from_slice(b"d ")?;
-    push_ids(out, ids)?;
-    out.extend_from_slice(b"0\n")?;
-    Ok(())
+    put_id(out, id);
+    put_both(out, b'd', b' ');
+    put_ids(out, ids);
+    put_both(out, b'0', b'\n');
 }
 
 /// Appends the line that a head and its bytes spell.
+fn put_line(out: &mut Vec<u8>, head: Head, bytes: &[u8])
+    requires size { length bytes.now ≡ size_of head }
+    requires room { vec_len out.old + MOST_CHARACTERS * (length bytes.now + 2) ≤ vec_capacity out.old }
+    ensures { out.new.items ≡ out.old.items ++ line_text (line_in head bytes.now) }
+{
+    match head {
+        Head::Add { id, lits, .. } => {
+            let (front, back) = bytes.split_at(lits as usize);
+            put_addition(out, id, front, back);
+        }
+        Head::Delete { id, .. } => put_deletion(out, id, bytes),
+    }
+}
+
+/// Reserves room for a line, and appends it.
+#[tactic(auto, using(crate::proofs::Behind::behind))]
 fn push_line(out: &mut Vec<u8>, head: Head, bytes: &[u8]) -> Result<(), AllocError>
     requires { length bytes.now ≡ size_of head }
     ensures ok { OnOk result (out.new.items ≡ out.old.items ++ line_text (line_in head bytes.now)) }
     ensures begins { BeginsAs out.old.items out.new.items }
 {
-    match head {
-        Head::Add { id, lits, .. } => {
-            let (front, back) = bytes.split_at(lits as usize);
-            push_addition(out, id, front, back)
-        }
-        Head::Delete { id, .. } => push_deletion(out, id, bytes),
-    }
+    reserve(out, bytes.len())?;
+    put_line(out, head, bytes);
+    Ok(())
 }
 
 /// Appends the lines of a row one after another. Where memory runs out, the first ones may be

@@ -1,6 +1,7 @@
 //! Clauses by their ids, and which literals they watch.
-ghost use Rattle.std.specs.Prelude.{◌≤◌, IfSome};
+ghost use Rattle.std.specs.Prelude.{◌≡◌, ℤ, ◌≤◌, List, Some, Contains, IsTrue, IfSome};
 ghost use Rattle.sat_theory.specs.Formula.{variable as variable_of};
+ghost use Rattle.clause_db.specs.Stored.{live_in, IsLong};
 
 use clause_db::ClauseDb;
 use cnf_core::Lit;
@@ -19,9 +20,9 @@ fn are(lits: &[Lit], numbers: &[i32]) -> bool {
     true
 }
 
-/// Whether a live clause has these literals.
-fn holds(clauses: &ClauseDb, id: u32, numbers: &[i32]) -> bool {
-    clauses.live(id) && are(clauses.lits(id), numbers)
+/// Whether the literals of a live clause stand in this order, the watched ones in front.
+fn stands(clauses: &ClauseDb, id: u32, numbers: &[i32]) -> bool {
+    clauses.live(id) && are(clauses.arranged(id), numbers)
 }
 
 /// The database of some clauses over three variables.
@@ -30,12 +31,12 @@ fn database(alloc: Global, clauses: &[&[u8]]) -> Result<ClauseDb, AllocError> {
 }
 
 /// The literals by the ids that they have.
-const HELD: &[(u32, &[i32])] = &[(1, &[1, -2]), (2, &[]), (3, &[3])];
+const HELD: &[(u32, &[i32])] = &[(1, &[-2, 1]), (2, &[]), (3, &[3])];
 
-/// Whether the clauses have their ids.
+/// Whether the clauses have their ids, and their literals stand in the order in which they were added.
 fn all_held(clauses: &ClauseDb) -> bool {
     for &(id, numbers) in HELD {
-        if !holds(clauses, id, numbers) || !stands(clauses, id, numbers) {
+        if !stands(clauses, id, numbers) {
             return false;
         }
     }
@@ -53,7 +54,7 @@ fn have_ids(clauses: &mut ClauseDb) -> Result<bool, AllocError> {
 
 /// Whether clauses have their ids.
 fn are_counted(alloc: Global) -> Result<bool, AllocError> {
-    let mut clauses = database(alloc, &[b"1 1 -2 0 0", b"2 0 0"])?;
+    let mut clauses = database(alloc, &[b"1 -2 1 0 0", b"2 0 0"])?;
     let well = have_ids(&mut clauses);
     drop(clauses);
     well
@@ -99,9 +100,26 @@ fn watching(clauses: &ClauseDb, number: i32, ids: &[u32], beside: &[i32]) -> boo
 /// The clauses 1, 2, 3 and 1, 3 and 1, 2.
 const THREE: &[&[u8]] = &[b"1 1 2 3 0 0", b"2 1 3 0 0", b"3 1 2 0 0"];
 
+/// Whether a clause is live and has two literals or more.
+fn is_long(clauses: &ClauseDb, id: u32) -> bool
+    ensures { IsTrue result → IsLong clauses.now id }
+{
+    clauses.live(id) && clauses.arranged(id).len() >= 2
+}
+
+/// The literal at a place of a live clause.
+fn literal_at(clauses: &ClauseDb, id: u32, place: usize) -> Option<Lit>
+    ensures { IfSome result (λ l. (clause : List ℤ) → live_in clauses.now id ≡ Some clause → Contains clause l) }
+{
+    if !clauses.live(id) || clauses.arranged(id).len() <= place {
+        return None;
+    }
+    Some(clauses.arranged(id)[place])
+}
+
 /// Whether a clause watches these two literals.
 fn watches(clauses: &ClauseDb, id: u32, one: i32, other: i32) -> bool {
-    if !clauses.live(id) || clauses.lits(id).len() < 2 {
+    if !is_long(clauses, id) {
         return false;
     }
     let (first, second) = clauses.watched(id);
@@ -111,10 +129,12 @@ fn watches(clauses: &ClauseDb, id: u32, one: i32, other: i32) -> bool {
 /// Lets a clause watch its literal at a place in place of a watched one, if it may. That is the second one, if
 /// the first is another literal.
 fn rewatch(clauses: &mut ClauseDb, id: u32, from: i32, place: usize) -> Result<bool, AllocError> {
-    if !clauses.live(id) || clauses.lits(id).len() < 2 || clauses.lits(id).len() <= place {
+    if !is_long(clauses, id) {
         return Ok(false);
     }
-    let to = clauses.lits(id)[place];
+    let Some(to) = literal_at(clauses, id, place) else {
+        return Ok(false);
+    };
     let (first, second) = clauses.watched(id);
     if first == to || second == to {
         return Ok(false);
@@ -125,11 +145,6 @@ fn rewatch(clauses: &mut ClauseDb, id: u32, from: i32, place: usize) -> Result<b
     }
     clauses.rewatch(id, second, to)?;
     Ok(true)
-}
-
-/// Whether the literals of a live clause stand in this order, the watched ones in front.
-fn stands(clauses: &ClauseDb, id: u32, numbers: &[i32]) -> bool {
-    clauses.live(id) && are(clauses.arranged(id), numbers)
 }
 
 /// Literals with the clauses that watch them and the literals beside them.
@@ -161,8 +176,8 @@ fn all_watching(clauses: &ClauseDb, rows: &[(i32, &[u32], &[i32])]) -> bool {
 fn are_watched(clauses: &mut ClauseDb) -> Result<bool, AllocError> {
     let first = all_watching(clauses, FIRST);
     let goes = rewatch(clauses, 1, 1, 2)?;
-    let again = rewatch(clauses, 1, 1, 2)?;
-    let kept = holds(clauses, 1, &[1, 2, 3]) && stands(clauses, 1, &[3, 2, 1]);
+    let again = rewatch(clauses, 1, 1, 0)?;
+    let kept = stands(clauses, 1, &[3, 2, 1]);
     let gone = first && goes && !again && watches(clauses, 1, 3, 2);
     Ok(gone && kept && all_watching(clauses, THEN))
 }

@@ -353,17 +353,18 @@ fn are_told(alloc: Global, wanted: Told) -> Result<bool, AllocError> {
     is_answered(alloc, cnf, wanted.budget, &Wanted::Pigeons(wanted))
 }
 
-/// Pigeonhole formulas: the number of holes, the budget, whether it is enough, and how many clauses are learnt.
+/// Pigeonhole formulas: the number of holes, the budget, whether it is enough, and the number of additions.
 ///
-/// Where it's told how many clauses are learnt, it's as many as an independent program learns that takes the same
-/// steps: they tell of what scores, of signs and of when restarts come, which no contract says.
+/// Where it's told how many additions there are, it's as many as an independent program makes that takes the same
+/// steps: they tell of scores, of signs, of when restarts come and in which order literals are watched, which no
+/// contract says.
 const PIGEONS: &[(u32, u32, bool, Option<u64>)] = &[
     (3, 1, false, None),
     (3, 1000000, true, None),
     (4, 3, false, None),
     (4, 1000000, true, Some(33)),
     (5, 1000000, true, None),
-    (6, 1000000, true, Some(458)),
+    (6, 1000000, true, Some(395)),
 ];
 
 #[test]

@@ -1,30 +1,28 @@
 -- Where no clause is empty: at the start, and with clauses that are added.
-use Rattle.std.specs.Prelude.{◌≡◌, ℕ, zero, suc, ◌+◌, ◌-◌, ◌==◌, false, ℤ, List, [], ◌∷◌, length, slice_get, Contains, Option, Some}
-use Rattle.std.proofs.Common.{sym, ap, ◌∙◌, arith}
+use Rattle.std.specs.Prelude.{◌≡◌, ℕ, ◌+◌, ℤ, List, [], ◌∷◌, map, length, Contains, Option, Some, refl}
+use Rattle.std.proofs.Common.{sym, ap, ◌∙◌, subst, arith}
 use Rattle.std.proofs.Math.Logic.{⊎_elim}
-use Rattle.std.proofs.lemmas.Bool.{ne_eqb}
 use Rattle.sat_theory.specs.State.{by_id}
+use Rattle.sat_theory.specs.Soundness.{by_id-Contains}
+use Rattle.clause_db.specs.Sorted.{sorted}
+use Rattle.clause_db.specs.SortedLaws.{length-sorted, by_id-from_sorted}
 use Rattle.clause_db.specs.Stored.{Stored, live_in, added}
 use Rattle.clause_db.specs.StoredLaws.{live_added}
 
-got_contained : {X : Type 0} (xs : List X) (k : ℕ) (x : X) → slice_get xs k ≡ Some x → Contains xs x
-got_contained [] k x is = absurd (cc)
-got_contained (y ∷ ys) zero x is = (let same : y ≡ x = cc in (0, omega arith, same))
-got_contained (y ∷ ys) (suc k) x is = let there : Contains ys x = got_contained ys k x is in (suc there.0, omega (arith, there.1), there.2)
+sorted_empty : (lits : List ℤ) → sorted lits ≡ [] → lits ≡ []
+sorted_empty [] is = refl
+sorted_empty (l ∷ ls) is = absurd (let long : length (sorted (l ∷ ls)) ≡ length (l ∷ ls) = length-sorted (l ∷ ls) in let none : length (sorted (l ∷ ls)) ≡ 0 = ap length is in omega (arith, long, none))
 
 -- Where no clause of a formula is empty, none is live at the start.
-pub none_empty : (clauses : List (List ℤ)) (live : ℕ → Option (List ℤ)) → live ≡ by_id clauses → (Contains clauses [] → ⊥) → (id : ℕ) → live id ≡ Some [] → ⊥
-none_empty clauses live start none zero is = (let at : live 0 ≡ by_id clauses 0 = ap (λ (f : ℕ → Option (List ℤ)). f 0) start in absurd (cc))
-none_empty clauses live start none (suc k) is =
-    let some : (suc k == 0) ≡ false = ne_eqb (suc k) 0 (λ e. omega arith) in
-    let at : live (suc k) ≡ by_id clauses (suc k) = ap (λ (f : ℕ → Option (List ℤ)). f (suc k)) start in
-    let got : slice_get clauses (suc k - 1) ≡ Some [] = rw some at (sym at ∙ is) in
-    none (got_contained clauses (suc k - 1) [] got)
+pub none_empty : (clauses : List (List ℤ)) (live : ℕ → Option (List ℤ)) → live ≡ by_id (map sorted clauses) → (Contains clauses [] → ⊥) → (id : ℕ) → live id ≡ Some [] → ⊥
+none_empty clauses live start none id is =
+    let found : (given : List ℤ) × (by_id clauses id ≡ Some given) × ([] ≡ sorted given) = by_id-from_sorted clauses id [] (ap (λ (f : ℕ → Option (List ℤ)). f id) (sym start) ∙ is) in
+    none (subst (λ (c : List ℤ). Contains clauses c) (sorted_empty found.0 (sym found.2)) (by_id-Contains clauses id found.0 found.1))
 
 -- A clause that is added and isn't empty leaves none that is.
 pub none_empty_added : (s : Stored) (lits : List ℤ) → (lits ≡ [] → ⊥) → ((id : ℕ) → live_in s id ≡ Some [] → ⊥) → (id : ℕ) → live_in (added s lits) id ≡ Some [] → ⊥
 none_empty_added s lits some none id is =
     ⊎_elim
-    (λ (new : (id ≡ length s.clauses + 1) × (lits ≡ [])). some new.1)
+    (λ (new : (id ≡ length s.clauses + 1) × (sorted lits ≡ [])). some (sorted_empty lits new.1))
     (λ (old : live_in s id ≡ Some []). none id old)
     (live_added s lits id [] is)

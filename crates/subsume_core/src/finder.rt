@@ -83,7 +83,7 @@ impl Finder {
         for before in 0..clauses.last() {
             let id = before + 1;
             if clauses.live(id) {
-                self.note(clauses.lits(id), id)?;
+                self.note(clauses.arranged(id), id)?;
             }
         }
         Ok(())
@@ -140,7 +140,7 @@ impl Finder {
         if !clauses.live(id) {
             return Ok(Found::Nothing);
         }
-        let lits = clauses.lits(id);
+        let lits = clauses.arranged(id);
         if lits.len() > MOST_LITERALS {
             return Ok(Found::Nothing);
         }
@@ -319,6 +319,6 @@ fn length_of(clauses: &ClauseDb, id: u32) -> usize
     if !clauses.live(id) {
         return 0;
     }
-    let count = clauses.lits(id).len();
+    let count = clauses.arranged(id).len();
     if count < LONG { count } else { LONG }
 }

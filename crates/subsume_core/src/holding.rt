@@ -35,7 +35,7 @@ fn hold_from(clauses: &ClauseDb, hints: &[u32], set: &mut Vec<Lit>) -> Result<bo
         if !clauses.live(*hint) {
             return Ok(false);
         }
-        let lits = clauses.lits(*hint);
+        let lits = clauses.arranged(*hint);
         if more.is_empty() {
             return Ok(all_among(set, lits));
         }

@@ -15,7 +15,7 @@
 //! match finder.find(&clauses, id)? {
 //!     Found::Nothing => ..,
 //!     Found::Subsumed(other) => clauses.delete(id), // where `other` is never forgotten
-//!     Found::Shorter => keep_others(clauses.lits(id), finder.gone(), &mut kept)?, // and test it
+//!     Found::Shorter => keep_others(clauses.arranged(id), finder.gone(), &mut kept)?, // and test it
 //! }
 //! ```
 #![tactic(auto)]

@@ -55,7 +55,7 @@ impl Units {
         if !clauses.live(id) {
             return;
         }
-        self.flag(clauses.lits(id));
+        self.flag(clauses.arranged(id));
     }
 
     /// Sets the flag of a list of one literal.

@@ -13,7 +13,7 @@ pub loop-id-preserved : goal.loop-id-preserved
 loop-id-preserved c =
     let s : Search = c.loop-id.self in
     let id : ℕ = slice_index_or c.args.ids.now c.loop-id.id-index 0 in
-    let may : MayGo s id = c.may_go.ensures c.if-not-may_go.false in
+    let may : MayGo s id = c.may_go.ensures.may c.if-not-may_go.false in
     let lost : HasLost id s c.let_go.new.self = c.in_ok-let_go.ensures.lost in
     let live = some_live (live_in s.clauses id) may.is_live in
     let inside : (0 < id) × (id ≤ length s.clauses.clauses) = live_inside s.clauses id live.0 live.1 in

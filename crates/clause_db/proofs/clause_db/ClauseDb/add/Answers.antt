@@ -1,11 +1,19 @@
-use Rattle.clause_db.proofs.Databases.{whole_added, whole_again}
+use Rattle.std.proofs.Common.{◌≡◌, ◌+◌, length, rules}
+use Rattle.clause_db.proofs.Databases.{added_is, whole_added}
 use Rattle.clause_db.proofs.clause_db.ClauseDb.add.Goals as goal
 
 pub invariant_of-self-in-Ok : goal.invariant_of-self-in-Ok
 invariant_of-self-in-Ok c =
-    whole_added c.self.inside.store c.self.inside.watches c.args.self.now c.args.lits.now c.add.new.self c.add-2.new.self c.in_ok-id.id c.self.view_is c.self.invariant c.requires.clause c.requires.variables c.requires.few
-    c.in_ok-id.ensures.ok c.in-Ok.ensures.ok c.in_ok-id.ensures.id
+    let id : c.len-id.result ≡ length c.self.inside.live.items + 1 = search rules in
+    whole_added c.self.inside.vars c.self.inside.live.items c.self.inside.watches c.args.self.now c.args.lits.now c.push.new.self.items c.add.new.self c.len-id.result
+    c.self.view_is c.self.invariant c.requires.clause c.requires.variables c.requires.few
+    c.in_ok-push.ensures.items c.in-Ok.ensures.ok id
 
-pub invariant_of-self-in-Err : goal.invariant_of-self-in-Err
-invariant_of-self-in-Err c =
-    whole_again c.self.inside.store c.self.inside.watches c.args.lits.now c.add.new.self c.take_last.new.self c.add-2.new.self c.self.invariant c.in_ok-id.ensures.ok c.take_last.ensures.vars c.take_last.ensures.clauses c.in-Err.ensures.err
+pub returns-in-Ok-clause-ok : goal.returns-in-Ok-clause-ok
+returns-in-Ok-clause-ok c =
+    let id : c.len-id.result ≡ length c.self.inside.live.items + 1 = search rules in
+    added_is c.self.inside.vars c.self.inside.live.items c.self.inside.watches c.args.self.now c.args.lits.now c.push.new.self.items c.add.new.self c.len-id.result
+    c.self.view_is c.self.invariant.2 c.in_ok-push.ensures.items c.in-Ok.ensures.ok id
+
+pub returns-in-Ok-clause-whole : goal.returns-in-Ok-clause-whole
+returns-in-Ok-clause-whole c = (invariant_of-self-in-Ok c).0

@@ -1,5 +1,6 @@
 use Rattle.std.proofs.Common.{◌≡◌, ◌∙◌, ℕ, ◌+◌, ◌<◌, List, ℤ, Some, take, ap, sym, length, slice_index_or, arith}
 use Rattle.std.proofs.lemmas.List.{take_all, take_more, length_push}
+use Rattle.clause_db.specs.Sorted.{sorted}
 use Rattle.clause_db.specs.Stored.{Stored, none_stored, added, all_added}
 use Rattle.clause_db.specs.StoredLaws.{all_added-push}
 use Rattle.clause_db.proofs.Databases.{first_new, live_new}
@@ -30,5 +31,5 @@ loop-clause-preserved c =
       clauses = one ∙ sym (all_added-push (none_stored c.args.cnf.now.vars) (take index cs) clause) ∙ ap (all_added (none_stored c.args.cnf.now.vars)) (sym (take_more cs index c.clause-item.result inside));
       vars = ap (λ (s : Stored). s.vars) c.in_ok-add.ensures.ok ∙ c.loop-clause.invariant.vars;
       whole = c.add.ensures.whole;
-      count = ap (λ (s : Stored). length s.clauses) c.in_ok-add.ensures.ok ∙ length_push c.loop-clause.clauses.clauses (Some c.lits.result.now) ∙ ap (λ (n : ℕ). n + 1) c.loop-clause.invariant.count;
+      count = ap (λ (s : Stored). length s.clauses) c.in_ok-add.ensures.ok ∙ length_push c.loop-clause.clauses.clauses (Some (sorted c.lits.result.now)) ∙ ap (λ (n : ℕ). n + 1) c.loop-clause.invariant.count;
     }
