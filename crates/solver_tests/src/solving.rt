@@ -364,7 +364,7 @@ const PIGEONS: &[(u32, u32, bool, Option<u64>)] = &[
     (4, 3, false, None),
     (4, 1000000, true, Some(33)),
     (5, 1000000, true, None),
-    (6, 1000000, true, Some(395)),
+    (6, 1000000, true, Some(391)),
 ];
 
 #[test]
