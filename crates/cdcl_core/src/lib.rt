@@ -39,6 +39,7 @@
 //! | `Redundancy`, `resolve_away`, `shorten` | `litRedundant`, minimisation, by binary clauses (Glucose) |
 //! | `Merits`: activity, `levels`, `shape` | clause activity, LBD (glue), signature |
 //! | `tidy`, `idle`, `forget` | `reduceDB`, its candidates, deletion |
+//! | overfull, `shed` | more live additions than the bound that the log's end owes; deletion for that bound |
 //! | `review`, `containing` | eager subsumption of recent learnt clauses |
 //! | `strengthen`, `shorter` | subsumption and strengthening (self-subsuming resolution), once |
 //! | `is_irredundant`, `set_aside` | irredundant: of the formula, or standing for a clause of it that went |

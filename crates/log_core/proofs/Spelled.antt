@@ -6,7 +6,7 @@ use Rattle.std.specs.List.{flat_map, join_with_byte}
 use Rattle.std.proofs.lemmas.Grind.{common_steps}
 use Rattle.sat_theory.specs.Line.{Add, Delete}
 use Rattle.lrat_text.specs.Spelling.{id_item, literal_item, line_text}
-use Rattle.log_core.proofs.ReadRows.{begins-same, begins-more, begins-on, lines-none, lines-first, first-size, cut-first}
+use Rattle.log_core.proofs.ReadRows.{begins-same, begins-on, lines-none, lines-first, first-size, cut-first}
 use Rattle.log_core.proofs.Taken.{ids_from-more, ids_from-none, literals_from-more, literals_from-none}
 
 -- items, each followed by a blank, before others

@@ -9,6 +9,18 @@ ghost use Rattle.op_basis.specs.Closed.{right_on_first as right_on_first_of, rig
 
 use crate::Op;
 
+/// The word of the operator a of (a, b).
+const FIRST: u8 = 0b0011;
+
+/// The word of the operator b of (a, b).
+const SECOND: u8 = 0b0101;
+
+/// The word of the operator not a of (a, b).
+const NOT_FIRST: u8 = 0b1100;
+
+/// The word of the operator not b of (a, b).
+const NOT_SECOND: u8 = 0b1010;
+
 /// The operator with its operands exchanged.
 #[tactic(auto, unfolding(crate::specs::Closed::swapped))]
 pub fn swapped(op: Op) -> Op
@@ -46,15 +58,6 @@ fn composed(outer: Op, left: Op, right: Op) -> Op
         outer.apply(left.apply(true, true), right.apply(true, true)),
     )
 }
-
-/// The words of the operators a, b, not a and not b of (a, b).
-const FIRST: u8 = 0b0011;
-
-const SECOND: u8 = 0b0101;
-
-const NOT_FIRST: u8 = 0b1100;
-
-const NOT_SECOND: u8 = 0b1010;
 
 /// The operator with its first operand complemented.
 #[tactic(auto, unfolding(crate::specs::Closed::first_complemented))]
