@@ -6,15 +6,12 @@ use Rattle.std.proofs.lemmas.Nat.{or_lt}
 use Rattle.std.proofs.lemmas.Nat.Bits.{bit_at_ones}
 use Rattle.chain_theory.specs.Operator.{digit}
 use Rattle.net_theory.specs.declared.data.Sig.{Sig}
-use Rattle.net_theory.specs.Net.{sig_value}
 use Rattle.lane_sim.specs.declared.rows.Operand.{Operand}
 use Rattle.lane_sim.specs.Chosen.{chosen_at, AreChosenBelow}
-use Rattle.lane_sim.specs.Cone.{Cone, places, value_in}
-use Rattle.lane_sim.specs.Combining.{operand_word, EndsBefore}
+use Rattle.lane_sim.specs.Cone.{Cone, places}
+use Rattle.lane_sim.specs.Combining.{operand_word}
 use Rattle.lane_sim.specs.FourLaws.{each_masked}
-use Rattle.lane_sim.specs.LaneLaws.{operand_bit, operand_ends, words_are_lanes}
 use Rattle.lane_sim.specs.PatternLaws.{pattern_low, same_pattern}
-use Rattle.lane_sim.specs.Rows.{IsOperandOf}
 use Rattle.lane_sim.specs.Seen.{pattern_at, four_of, AreSeen, AreSeenFour, AreRows, AreOperands}
 use Rattle.lane_sim.specs.SeenLaws.{digit_or, digit_or_left, digit_or_right, mask_only, mask_all, both_true}
 use Rattle.lane_sim.specs.ShownLaws.{step_is}
@@ -128,18 +125,6 @@ chosen_shown c w signals os used lanes when test rows width found words rows_is 
     (subst (λ (r : ℕ). AreChosenBelow (length used) (pattern_at lanes used) when r (width_of r) found) rows_is seen)))
 
 -- ---- what chooses
-
--- a signal of the cone
-pub signal_chosen : (c : Cone) (w : Words) (s : Sig) (o : Operand) (lanes : List ℕ) (rows width j b : ℕ) → AreWords c w → rows ≡ w.rows → lanes ≡ w.lanes → width ≡ width_of rows → IsOperandOf (places c) width s o → b < 64 → 64 * j + b < w.rows → chosen_at lanes o j b ≡ sig_value (value_in c (64 * j + b)) s
-signal_chosen c w s o lanes rows width j b words rows_is lanes_is width_is is low within =
-    let own : IsOperandOf (places c) (width_of w.rows) s o = subst (λ (n : ℕ). IsOperandOf (places c) n s o) (width_is ∙ ap (λ (r : ℕ). width_of r) rows_is) is in
-    ap (λ (ls : List ℕ). chosen_at ls o j b) lanes_is ∙ operand_bit (places c) (value_in c) (width_of w.rows) w.rows w.lanes s o j b (words_are_lanes c w words) own low within
-
--- whose row ends before the words do
-pub signal_ends : (c : Cone) (w : Words) (s : Sig) (o : Operand) (lanes : List ℕ) (rows width : ℕ) → AreWords c w → rows ≡ w.rows → lanes ≡ w.lanes → width ≡ width_of rows → IsOperandOf (places c) width s o → EndsBefore (length lanes) (width_of rows) o
-signal_ends c w s o lanes rows width words rows_is lanes_is width_is is =
-    let size : length lanes ≡ length (places c) * width_of rows = ap (length {A = ℕ}) lanes_is ∙ words.size ∙ ap (λ (r : ℕ). length (places c) * width_of r) (sym rows_is) in
-    operand_ends (places c) (width_of rows) (length lanes) s o (subst (λ (n : ℕ). IsOperandOf (places c) n s o) width_is is) (omega (arith, size))
 
 -- words of their own
 pub word_chosen : (chosen : List ℕ) (j b : ℕ) → b < 64 → digit (slice_index_or chosen (0 + j) 0) b ≡ digit (slice_index_or chosen ((64 * j + b) / 64) 0) ((64 * j + b) % 64)

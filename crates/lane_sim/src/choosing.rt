@@ -1,18 +1,16 @@
-//! Which patterns signals show under all assignments, under those that give a further signal the bit 1, or under those
-//! that words name. Four words are taken at a time, and where all patterns were seen the search ends.
+//! Which patterns signals show under all assignments, or under those that words name. Four words are taken at a time, and where all patterns were seen the search ends.
 
 ghost use Rattle.std.specs.Prelude.{◌*◌, ◌/◌, ◌%◌, ◌≤◌, ◌<◌, length, slice_index_or, All};
 ghost use Rattle.chain_theory.specs.Operator.{digit};
-ghost use Rattle.net_theory.specs.Net.{sig_value};
 ghost use Rattle.lane_sim.specs.Chosen.{chosen_at, AreChosenBelow};
 ghost use Rattle.lane_sim.specs.Combining.{EndsBefore};
-ghost use Rattle.lane_sim.specs.Cone.{IsSigAmong, places, value_in};
+ghost use Rattle.lane_sim.specs.Cone.{IsSigAmong, places};
 ghost use Rattle.lane_sim.specs.Seen.{pattern_at, AreRows, AllEnd};
 ghost use Rattle.lane_sim.specs.Words.{AreWords, ArePatterns, ArePatternsOf, width_of as width_of_rows};
 
 use crate::cone::Cone;
 use crate::rows::{Operand, four_words, word};
-use crate::showing::{fill_operands, ones, operand_in, seen, seen_four, word_mask};
+use crate::showing::{fill_operands, ones, seen, seen_four, word_mask};
 use crate::words::{Words, lanes_of, rows_of, width_of};
 use net_theory::Sig;
 
@@ -93,25 +91,6 @@ pub fn patterns(words: &Words, cone: &Cone, signals: &[Sig]) -> u64
     fill_operands(&mut operands, cone, width, signals);
     let (used, _) = operands.split_at(signals.len());
     seen_chosen(lanes, rows, used, lanes, Operand::One)
-}
-
-/// The mask of the patterns that the signals show where a further signal is 1: digit `t` is 1 exactly where some
-/// assignment of the leaves gives the signals the bits of `t`, the first signal's the most significant, and `when` the
-/// bit 1.
-pub fn patterns_where(words: &Words, cone: &Cone, signals: &[Sig], when: Sig) -> u64
-    requires few { length signals.now ≤ 6 }
-    requires known { All (IsSigAmong (places cone.now)) signals.now }
-    requires when { IsSigAmong (places cone.now) when }
-    requires words { AreWords cone.now words.now }
-    ensures { ArePatternsOf cone.now signals.now (λ row. sig_value (value_in cone.now row) when) result }
-{
-    let lanes = lanes_of(words);
-    let rows = rows_of(words);
-    let width = width_of(rows);
-    let mut operands = [Operand::Zero; MOST_SIGNALS];
-    fill_operands(&mut operands, cone, width, signals);
-    let (used, _) = operands.split_at(signals.len());
-    seen_chosen(lanes, rows, used, lanes, operand_in(cone, width, when))
 }
 
 /// The mask of the patterns that the signals show under the assignments that the words `chosen` name: bit `b` of word `j` is 1 for the assignment `64 * j + b`.

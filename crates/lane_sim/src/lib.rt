@@ -20,7 +20,7 @@ mod simulation;
 mod words;
 
 pub use above::{Index, copy_words, index_of, simulate_above};
-pub use choosing::{MOST_SIGNALS, patterns, patterns_on, patterns_where};
+pub use choosing::{MOST_SIGNALS, patterns, patterns_on};
 pub use cone::{Cone, MOST_LEAVES};
 pub use net_theory::{Gate, Sig};
 pub use simulation::cone_words;

@@ -6,7 +6,7 @@
 //! - `observed_spec` is the window's specification with the cells of all unseen rows free. The tail is evaluated above its
 //!   surround with each number in the place of the window's outputs; where its watchers never differ, the row of
 //!   the window's inputs is unseen.
-//! - `substitute_observed` puts a chain that agrees with it into the window's place, and all sinks keep their values.
+//! - A chain that agrees with it may take the window's place, and all sinks keep their values (`seen_keeps`).
 //!
 //! ```text
 //! let readers = readers_of(alloc, &net)?;
@@ -17,14 +17,14 @@
 mod differing;
 mod following;
 mod forcing;
+mod lists;
 mod narrowing;
 mod observing;
 mod putting;
 mod shape;
-mod substitution;
 mod trailing;
 
+pub use lists::lists_of;
 pub use narrowing::{observed_spec, observed_spec_by};
 pub use shape::Tail;
-pub use substitution::{lists_of, substitute_observed};
 pub use trailing::{tail, tail_by};
