@@ -1,5 +1,5 @@
 //! Heads of lines.
-ghost use Rattle.std.specs.Prelude.{◌≡◌};
+ghost use Rattle.std.specs.Prelude.{◌≡◌, ◌<◌, ◌^◌};
 ghost use Rattle.log_core.specs.Rows.{size_of};
 
 /// What the log keeps of a line outside its row of bytes: kind, id, and the number of bytes that
@@ -15,7 +15,8 @@ pub(crate) enum Head {
 impl Head {
     /// How many bytes of the row the line takes.
     pub(crate) fn size(self) -> usize
-        ensures { result ≡ size_of self }
+        ensures is { result ≡ size_of self }
+        ensures few { result < 2 ^ 33 }
     {
         match self {
             Head::Add { lits, hints, .. } => lits as usize + hints as usize,

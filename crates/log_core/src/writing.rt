@@ -1,7 +1,7 @@
 //! Logs as texts: their lines one after another, as the grammar spells them. Each number is spelled
 //! as it is read, with no line built in between. Room is reserved once for all items of a line. Where memory
 //! runs out, a text has what it had as a prefix, and is cut back once.
-ghost use Rattle.std.specs.Prelude.{◌≡◌, ◌+◌, ◌*◌, ◌≤◌, [], ◌∷◌, ◌++◌, length, vec_len, OnOk, OnErr};
+ghost use Rattle.std.specs.Prelude.{◌≡◌, ◌+◌, ◌*◌, ◌^◌, ◌<◌, ◌≤◌, [], ◌∷◌, ◌++◌, length, vec_len, OnOk, OnErr};
 ghost use Rattle.std.specs.Vec.{vec_capacity};
 ghost use Rattle.std.specs.List.{flat_map};
 ghost use Rattle.sat_theory.specs.Line as theory;
@@ -19,18 +19,13 @@ use crate::unpacking::literal_at;
 use cnf_core::Lit;
 use std::alloc::AllocError;
 
-/// More bytes in a line count as running out of memory: each may spell a number, which takes room.
-const MOST_BYTES: usize = 1_000_000_000_000_000_000;
-
 /// Reserves the items of a line whose lists take some bytes, each of which spells a number at most, and the rest
 /// of that line, which takes no more than two items.
 fn reserve(out: &mut Vec<u8>, bytes: usize) -> Result<(), AllocError>
+    requires few { bytes < 2 ^ 33 }
     ensures same { out.new.items ≡ out.old.items }
     ensures room { OnOk result (vec_len out.new + MOST_CHARACTERS * (bytes + 2) ≤ vec_capacity out.new) }
 {
-    if bytes > MOST_BYTES {
-        return Err(AllocError);
-    }
     out.reserve(MOST_CHARACTERS * (bytes + 2))?;
     Ok(())
 }
@@ -163,7 +158,7 @@ fn push_line(out: &mut Vec<u8>, head: Head, bytes: &[u8]) -> Result<(), AllocErr
     ensures ok { OnOk result (out.new.items ≡ out.old.items ++ line_text (line_in head bytes.now)) }
     ensures begins { BeginsAs out.old.items out.new.items }
 {
-    reserve(out, bytes.len())?;
+    reserve(out, head.size())?;
     put_line(out, head, bytes);
     Ok(())
 }
