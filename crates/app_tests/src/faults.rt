@@ -180,7 +180,7 @@ const LONG: &[(&str, &str)] = &[
 ];
 
 #[test]
-fn reads_that_fail_behind_a_refused_line_are_told(rt: HostRuntime) {
+fn reads_that_fail_after_a_refused_line_are_told(rt: HostRuntime) {
     for &(line, front) in LONG {
         assert!(rt; is_read_on(rt.alloc(), line, front), "{line} {front}");
     }
@@ -223,7 +223,7 @@ fn notes_that_fail_change_no_other_status(rt: HostRuntime) {
 }
 
 /// The line that comes after a text, counted by its line feeds.
-fn line_behind(text: &[u8]) -> u32 {
+fn line_after(text: &[u8]) -> u32 {
     let mut line = 1;
     for byte in text {
         if *byte == b'\n' && line < 1_000 {
@@ -236,7 +236,7 @@ fn line_behind(text: &[u8]) -> u32 {
 /// Whether a certificate that is cut off after `length` bytes is refused at the line where it ends.
 fn is_cut_off(alloc: Global, length: usize) -> bool {
     let (front, _) = NONE.as_bytes().split_at(length.min(NONE.len()));
-    match format!(in alloc; "error: Syntax {}\n", line_behind(front)) {
+    match format!(in alloc; "error: Syntax {}\n", line_after(front)) {
         Ok(note) => tells(alloc, "recheck", front, 2, "", note.as_str()),
         Err(_) => false,
     }
