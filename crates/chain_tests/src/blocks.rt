@@ -88,7 +88,7 @@ fn taken(alloc: Global, text: &[u8]) -> Result<usize, ChainError> {
     Ok(used)
 }
 
-/// The refusals of a count, of the first step and of the output behind it.
+/// The refusals of a count, of the first step and of the output after it.
 const BAD_COUNT: Result<usize, ChainError> = Err(ChainError::BadCount(4));
 
 const BAD_STEP: Result<usize, ChainError> = Err(ChainError::BadStep(5));

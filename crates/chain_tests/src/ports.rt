@@ -161,7 +161,7 @@ fn is_text(read: Result<Vec<u8>, ReadError>, text: &[u8]) -> bool {
 }
 
 /// Whether a port fails once, and the next call reads it to its end.
-fn is_read_behind_a_fault(alloc: Global) -> bool {
+fn is_read_after_a_fault(alloc: Global) -> bool {
     let mut port = InputPort::new(Dripping {
         rest: b"abcde",
         calls: 0,
@@ -175,7 +175,7 @@ fn is_read_behind_a_fault(alloc: Global) -> bool {
 
 #[test]
 fn reads_port(rt: HostRuntime) {
-    assert!(rt; is_read_behind_a_fault(rt.alloc()));
+    assert!(rt; is_read_after_a_fault(rt.alloc()));
 }
 
 /// Takes some bytes a call, and fails at one call.
