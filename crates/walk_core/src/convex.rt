@@ -38,7 +38,7 @@ pub fn convex_window(
     ensures none { IfOk result (λ found. IfNone found ((w : definition.Window) → w.gates ≡ gates.items →
         AreJust (IsInput net.now gates.items) w.inputs → length w.inputs ≤ 6 → Belongs net.now w → ⊥)) }
 {
-    // brings the type invariant into the proof
+    // for the prover: brings the invariant of the net
     let _gates = net.gates();
     let inputs = all_inputs(alloc, net, &gates)?;
     if inputs.len() > MOST_INPUTS {

@@ -61,7 +61,8 @@ fn reader_of(net: &Net, readers: &Readers, place: u32, number: u32) -> u32
     reader
 }
 
-/// A place beside a gate: an operand, a reader, or a reader of an operand; 0 for a constant.
+/// A place beside a gate: an operand, a reader, or a reader of an operand; 0 for a constant, and where there is no such
+/// reader.
 fn place_beside(net: &Net, readers: &Readers, gate: u32, random: &mut Random) -> u32
     requires readers { AreReaders net.now readers.now }
 {

@@ -32,7 +32,7 @@ pub fn replaced(
     ensures fewer { length chain.now.steps < length window.now.gates →
         IfOk result (λ new. length new.gates < length net.now.gates) }
 {
-    // brings the type invariant into the proof
+    // for the prover: brings the invariant of the net
     let _gates = net.gates();
     let lists = lists_of(window);
     let new = replace_keeping(alloc, net, &lists, chain)?;

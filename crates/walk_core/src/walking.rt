@@ -69,6 +69,7 @@ fn count_next(pace: Pace, cap: u32, random: &mut Random) -> u32
     ensures few { result ≤ 6 }
 {
     let most = cap.min(most_of(pace));
+    // for the prover: `min` changes nothing, since no pace has more than five gates
     random.below(most.saturating_sub(1)).min(4) + 2
 }
 
@@ -99,7 +100,7 @@ struct Indexed {
     readers: Readers,
 }
 
-/// A net with its index.
+/// Makes the index of a net.
 fn with_index(alloc: Global, net: Net) -> Result<Indexed, AllocError>
     ensures net { IfOk result (λ made. made.net ≡ net) }
     ensures readers { IfOk result (λ made. AreReaders made.net made.readers) }
