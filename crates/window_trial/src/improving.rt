@@ -20,15 +20,16 @@ use walk_core::walked;
 /// A net of fewer gates is left to windows, where no rounds of moves are asked for: a window or two show all of it.
 const LEAST_MOVED: usize = 6;
 
-/// How many rounds of moves that keep the size a small net goes through, also where none are asked for, and up to how many
-/// gates it is small.
+/// How many rounds of moves that keep the size a small net goes through, also where none are asked for.
 const FEW_ROUNDS: u32 = 3;
 
+/// The most gates of a small net.
 const FEW_GATES: usize = 1000;
 
-/// How often moves follow windows at most, and up to how many gates they follow them at all.
+/// How often moves follow windows at most.
 const MOST_TURNS: u32 = 8;
 
+/// In a net of more gates moves don't follow windows.
 const MANY_GATES: usize = 10_000;
 
 /// What is left of a net.
@@ -178,7 +179,7 @@ pub fn improve_net<S: Solver>(
     requires { IsInRange settings }
     ensures { IfOk result (λ left. Leaves settings net.now left.net left.settled left.undecided.items) }
 {
-    // brings the type invariant into the proof
+    // for the prover: brings the invariant of the net
     let _gates = net.gates();
     let tidy = drop_dead(alloc, net)?;
     if settings.cap == 0 {

@@ -59,7 +59,7 @@ fn decide_window<S: Solver>(
 {
     let max = window.gates().len() as u32 - 1;
     let spec = asked_spec(alloc, net, readers, window, settings.observe)?;
-    // brings the type invariants into the proof
+    // for the prover: brings the invariants of the specification and of the basis
     let _inputs = spec.n();
     let _operators = settings.basis.get();
     let heading = Heading {
@@ -98,7 +98,7 @@ fn try_window<S: Solver>(
     ensures outcome { (visit : VisitValue) → IsWindow net.now visit.root visit.partner visit.count window.now → IsListed net.now settings.cap visit → IfOk result (λ outcome. IsOutcome settings net.now visit outcome) }
     ensures basis { memory.new.basis ≡ memory.old.basis }
 {
-    // brings the type invariant into the proof
+    // for the prover: brings the invariant of the net
     let _gates = net.gates();
     match decide_window::<S>(alloc, net, readers, window, settings, memory)? {
         Decided::Least => Ok(Outcome::Passed),
@@ -128,7 +128,7 @@ fn try_visit<S: Solver>(
     ensures outcome { IfOk result (λ outcome. IsOutcome settings net.now visit outcome) }
     ensures basis { memory.new.basis ≡ memory.old.basis }
 {
-    // brings the type invariant into the proof
+    // for the prover: brings the invariant of the net
     let _gates = net.gates();
     if !is_partner_or_none(alloc, net, readers, visit.root, visit.partner)? {
         return Ok(Outcome::Passed);
