@@ -94,8 +94,8 @@ fn compare_circuits<S: Solver>(
 }
 
 /// Decides with the solver `S` whether two BLIF netlists do the same that stand one after the other in at most
-/// 33,554,432 bytes, the first up to the first line `.end`. The budget is 1 to 10,000,000 `conflicts`: those of
-/// questions about pairs of signals that were given up, and of the search after them.
+/// 33,554,432 bytes, the first up to the first line `.end`. The budget is 1 to 10,000,000 `conflicts`: for each pair of
+/// signals or sink that is given up its limit counts, and then the clauses that the last search learns.
 ///
 /// A text that isn't two netlists is refused by what comes first: no second, the first fault of the first, the first
 /// fault of the second, whose lines are numbered from 1, different interfaces. Two netlists of one interface are
