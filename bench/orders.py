@@ -1,9 +1,9 @@
 #!/usr/bin/env python3
 """orders.py PROGRAM [--orders N] [--steps R ..]: decides the formulas of sums.py, those of R steps alone where they are named,
 each with its variables in N orders (8), by `PROGRAM solve`, the built program `benchmarks`, and by minisat with and
-without its preprocessing. It prints the sums over the refuted and over the satisfied ones: conflicts, of `solve` the
-additions to its log, and user seconds of one run each. One order tells little: the sums over all of them do. `solve` tells
-no additions of satisfied ones: as root, with perf, a second run counts the calls that make them (a uprobe).
+without its preprocessing. It prints the sums over the refuted and over the satisfied ones: conflicts, of `solve` the shorter clauses
+beside them, and user seconds of one run each. One order tells little: the sums over all of them do. `solve` tells neither of
+satisfied ones: as root, with perf, a second run counts the calls that add to its log and those of shorter clauses (uprobes).
 
 orders.py --classes PROGRAM [EVERY]: each EVERY-th (1) of the 222 classes of functions of four inputs by `PROGRAM synth`, the
 released program, each certificate rechecked; by minisat the `ssv` formulas of all sizes up to the fewest; and by ABC's
@@ -47,30 +47,34 @@ def write_ordered(variables, clauses, seed, path):
 
 
 def probe(program):
-    """The event of each addition to a log of a program that isn't stripped; None where the system counts no such thing."""
+    """The events of each addition to a log and of each shorter clause among them, of a program that isn't stripped; None
+    where the system counts no such thing."""
     names = subprocess.run(["nm", "-C", program], capture_output=True, text=True).stdout.splitlines()
-    at = [int(it.split()[0], 16) for it in names if it.endswith(" log_core::log::Log::add")]
     parts = [it.split() for it in subprocess.run(["readelf", "-lW", program], capture_output=True, text=True).stdout.splitlines()]
     loaded = [[int(word, 16) for word in it[1:5]] for it in parts if it[:1] == ["LOAD"]]
-    offsets = [at[0] - low + offset for offset, low, _, size in loaded if at and low <= at[0] < low + size]
-    try:
-        with open("/sys/kernel/tracing/uprobe_events", "w", encoding="ascii") as file:
-            file.write(f"p:batsokemi/addition {os.path.abspath(program)}:{offsets[0]:#x}\n")
-    except (OSError, IndexError):
-        return None
-    return "batsokemi:addition" if shutil.which("perf") else None
+    events = []
+    for event, name in (("addition", "log_core::log::Log::add"), ("shorter", "cdcl_core::search::Search::add_shorter")):
+        at = [int(it.split()[0], 16) for it in names if it.endswith(" " + name)]
+        offsets = [at[0] - low + offset for offset, low, _, size in loaded if at and low <= at[0] < low + size]
+        try:
+            with open("/sys/kernel/tracing/uprobe_events", "a" if events else "w", encoding="ascii") as file:
+                file.write(f"p:batsokemi/{event} {os.path.abspath(program)}:{offsets[0]:#x}\n")
+        except (OSError, IndexError):
+            return None
+        events.append(f"batsokemi:{event}")
+    return events if shutil.which("perf") else None
 
 
-def counted(event, command, path):
-    """How often a run comes to the event."""
+def counted(events, command, path):
+    """How often a run comes to each of the events."""
     with open(path, encoding="ascii") as file:
-        told = subprocess.run(["perf", "stat", "-x,", "-e", event, *command], stdin=file, capture_output=True, text=True).stderr
-    return sum(int(it.split(",")[0]) for it in told.splitlines() if event in it)
+        told = subprocess.run(["perf", "stat", "-x,", "-e", ",".join(events), *command], stdin=file, capture_output=True, text=True).stderr
+    return [sum(int(it.split(",")[0]) for it in told.splitlines() if event in it) for event in events]
 
 
 def main_orders(program, orders, steps):
-    event = probe(program)
-    print(row(["Formulas", "Solver", "Conflicts", "Time"]), row(["---"] * 4).replace(" ", ""), sep="\n")
+    events = probe(program)
+    print(row(["Formulas", "Solver", "Conflicts", "Shorter clauses", "Time"]), row(["---"] * 5).replace(" ", ""), sep="\n")
     with tempfile.TemporaryDirectory() as folder:
         path = os.path.join(folder, "formula")
         for less, answer in ((1, "refuted"), (0, "satisfied")):
@@ -82,12 +86,15 @@ def main_orders(program, orders, steps):
                     write_ordered(variables, clauses, seed, path)
                     for name, command, file in [("solve", [program, "solve"], path)] + [(" ".join(it), [*it, path + ".cnf"], path) for it in SOLVERS]:
                         done = run(command, file)
-                        sums[name, "conflicts"] += conflicts_of(done.text)
+                        sums[name, "conflicts"] += conflicts_of(done.text) if name != "solve" or not events else 0
                         sums[name, "seconds"] += done.seconds
-                    if event and not less:
-                        sums["solve", "conflicts"] += counted(event, [program, "solve"], path)
+                    if events:
+                        additions, shorter = counted(events, [program, "solve"], path)
+                        sums["solve", "conflicts"] += additions - shorter
+                        sums["solve", "shorter"] += shorter
             for name in ["solve"] + [" ".join(it) for it in SOLVERS]:
-                cells = [in_words(sums[name, "conflicts"] or None), f"{sums[name, 'seconds']:.1f} s"]
+                counts = [in_words(sums[name, it] or None) for it in ("conflicts", "shorter")]
+                cells = [*counts, f"{sums[name, 'seconds']:.1f} s"]
                 print(row([f"{len(formulas)} {answer}, {orders} orders", name, *cells]), flush=True)
 
 
