@@ -13,17 +13,7 @@ use op_basis::{BENCH, Basis, read_basis};
 use settings::{MOST_CONFLICTS, MOST_STEPS, Method, SynthSettings, method_named};
 use text_core::number_up_to;
 
-/// A command by its name.
-#[derive(Clone, Copy)]
-pub(crate) enum Kind {
-    Agree,
-    Recheck,
-    Synth,
-    Improve,
-    Equiv,
-    Gen,
-}
-
+/// The names of the options, by what each sets.
 const BASIS: &[u8] = b"--basis";
 
 const METHOD: &[u8] = b"--method";
@@ -50,8 +40,19 @@ const LEAST_DEPTH: &[u8] = b"--least-depth";
 
 const DEPTH: &[u8] = b"--depth";
 
-// The most blocks of a netlist that is generated.
+/// The most blocks of a netlist that is generated.
 const MOST_BLOCKS: u32 = 10_000;
+
+/// A command by its name.
+#[derive(Clone, Copy)]
+pub(crate) enum Kind {
+    Agree,
+    Recheck,
+    Synth,
+    Improve,
+    Equiv,
+    Gen,
+}
 
 /// The command of a name.
 pub(crate) fn kind_named(name: &[u8]) -> Option<Kind>
@@ -268,8 +269,6 @@ pub(crate) fn given_deed(words: &[String]) -> Option<Deed>
         Some(_) => None,
     }
 }
-
-// ---- flags
 
 /// The value of `--least-depth`.
 pub(crate) fn given_least_depth(words: &[String]) -> Option<bool>
