@@ -74,14 +74,14 @@ struct batsokemi_answer {
  * output   a buffer of `output_room` bytes for the output.
  * notes    a buffer of `notes_room` bytes for the notes: an error line, or the report of `improve`.
  *
- * An output that is no longer than its buffer stands at the buffer's start, and the bytes behind it are as before. One
+ * An output that is no longer than its buffer stands at the buffer's start, and the bytes after it are as before. One
  * that is longer isn't written at all: the whole buffer is as before, and `answer.output_length` says what room is wanted. A
  * second call with that room gives the same answer, and does all the work again: where a question may be hard, give much
  * room at first, as by mmap, where what isn't written takes no memory. The same holds of the notes, each buffer by itself;
- * so a room of 0 asks for the length alone. No NUL is written behind a text.
+ * so a room of 0 asks for the length alone. No NUL is written after a text.
  *
  * Ownership: the caller keeps all four blocks. The function reads the first two and writes into the others, never beyond
- * their rooms, and keeps no pointer behind the call. What it takes by malloc it gives back before it returns.
+ * their rooms, and keeps no pointer after the call. What it takes by malloc it gives back before it returns.
  *
  * The four pointers aren't NULL, also where the length is 0 (batsokemi_call below takes NULL). A block that is written
  * overlaps no other one. A length is at most PTRDIFF_MAX.

@@ -2,7 +2,7 @@
 
 Finds the fewest steps for many functions, in this many processes (as many as there are processors), and rechecks each
 certificate. Each line of the files is one question: the table of an output, or those of several with commas between, as
-rows of 0, 1 and -, or in hex with 0x in front; what stands behind a blank or # is passed over. `-` is the standard input.
+rows of 0, 1 and -, or in hex with 0x in front; what stands after a blank or # is passed over. `-` is the standard input.
 
   --processes N   how many processes work
   --keep DIR      keeps the certificates as DIR/NUMBER.chains

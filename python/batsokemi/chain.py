@@ -122,7 +122,7 @@ class Chain:
         return '\n'.join([*lines, 'endmodule', ''])
 
     def _names(self, name: str, inputs: Sequence[str], outputs: Sequence[str]) -> tuple[list[str], list[str]]:
-        """The name of each place, behind one of none, and those of the outputs."""
+        """The name of each place, after one of none, and those of the outputs."""
         ins = list(inputs) or [f'x{place}' for place in range(1, self.inputs + 1)]
         outs = list(outputs) or [f'y{number}' for number in range(1, len(self.outputs) + 1)]
         if len(ins) != self.inputs or len(outs) != len(self.outputs):

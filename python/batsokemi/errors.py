@@ -8,7 +8,7 @@ from collections.abc import Sequence
 class Error(Exception):
     """A call that has no answer.
 
-    `name` is the first item of the error line, as `BadRow`, and `fields` are those behind it, numbers as `int`. Where
+    `name` is the first item of the error line, as `BadRow`, and `fields` are those after it, numbers as `int`. Where
     there is no error line, the name is that of the status.
     """
 
