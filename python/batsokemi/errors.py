@@ -33,7 +33,7 @@ class UsageError(Error):
         self.command = command
 
     def __str__(self) -> str:
-        return f'the program takes no command {self.command!r}; docs/FORMATS.md has the ranges of its options'
+        return f'the program takes no command {self.command!r}; docs/batsokemi.1 has the ranges of its options'
 
     def __reduce__(self) -> tuple[object, ...]:
         return type(self), (self.status, self.line, self.command)

@@ -9,7 +9,7 @@ Exact synthesis of Boolean chains with certificates, resynthesis of netlists, an
 equivalence checking. Every function of the program is formally verified.
 
   synth     truth tables -> a chain with the fewest two-input steps, and a certificate that no fewer do
-  recheck   a certificate -> its verdict, exactly where it is valid
+  recheck   a certificate (up to 256 MiB) -> its verdict, exactly where it is valid
   agree     truth tables and a chain -> whether the chain has every specified value
   improve   a netlist (BLIF, BENCH) -> an equivalent one with no more gates, and a report
   equiv     two netlists (BLIF) -> equal, with an LRAT refutation; or a counterexample
@@ -129,7 +129,7 @@ about_recheck() {
 batsokemi recheck [OPTION VALUE].. [CERTIFICATE]
 
 Writes the verdict of a certificate of `synth`, exactly where the certificate is valid: it makes the formula
-of each size anew from the tables and follows each line of each refutation.
+of each size anew from the tables and follows each line of each refutation. At most 256 MiB are read.
 
 END
     options_of recheck

@@ -1,6 +1,10 @@
 # shellcheck shell=bash
 # Gives the program its files, and takes certificates out of what it writes. A part of the launcher.
 
+# Files that go when the launcher ends, also where it is stopped.
+unfinished=()
+trap 'rm -f ${unfinished[@]+"${unfinished[@]}"}' EXIT
+
 # fail STATUS NAME WHY: the line and the status of a fault in reading or writing
 fail() {
     echo "error: $2: $3" >&2
@@ -27,15 +31,32 @@ end_of() {
         }' "$1"
 }
 
-# both FIRST SECOND: two netlists in one text; the first gets its line .end where it lacks one
-both() {
-    cat "$1"
+# joint FILE END: what stands between two netlists, where the first is FILE: its line .end where it lacks one
+joint() {
     [ -z "$(tail -c 1 "$1" | tr '\0' x)" ] || echo
-    case "$(end_of "$1")" in
+    case "$2" in
         open) printf '\n.end\n' ;;
         hanging) echo ;;
     esac
-    cat "$2"
+}
+
+# open_both FIRST SECOND: standard input is two netlists in one text. Of a first one that is no plain file, and can
+# be read but once, a copy is read
+open_both() {
+    local first=$1 copy='' end between
+    if [ ! -f "$first" ]; then
+        copy=$(mktemp) || fail 6 WriteFault "no temporary file can be made"
+        unfinished+=("$copy")
+        cat "$first" >"$copy" || fail 5 ReadFault "$first can't be read"
+        first=$copy
+    fi
+    end=$(end_of "$first")
+    # what comes after the end of the first would be taken for the beginning of the second
+    [ "${end% *}" != more ] || { echo "error: First Syntax ${end#more }" >&2; exit 2; }
+    between=$(joint "$first" "$end"; echo .)
+    exec 3<"$first"
+    [ -z "$copy" ] || rm -f "$copy"
+    exec < <(cat <&3; printf '%s' "${between%.}"; cat "$2") 3<&-
 }
 
 # open_files: standard input is the file, the two files in one text, or what it was
@@ -50,11 +71,7 @@ open_files() {
     done
     if [ ${#files[@]} = 2 ]; then
         [ "${files[0]}" != - ] && [ "${files[1]}" != - ] || refuse "of two netlists none can be standard input"
-        # what comes after the end of the first would be taken for the beginning of the second
-        local end
-        end=$(end_of "${files[0]}")
-        [ "${end% *}" != more ] || { echo "error: First Syntax ${end#more }" >&2; exit 2; }
-        exec < <(both "${files[@]}")
+        open_both "${files[@]}"
     elif [ "${files[0]--}" != - ]; then
         exec <"${files[0]}"
     elif [ "$command" != gen ] && [ -t 0 ] && [ -t 2 ]; then
@@ -95,6 +112,14 @@ part_of() {
     if [ -e "$1" ] && [ ! -f "$1" ]; then echo "$1"; else echo "$1.part.$$"; fi
 }
 
+# begin FILE: what goes to it can be written
+begin() {
+    local part
+    part=$(part_of "$1")
+    { : >"$part"; } 2>/dev/null || fail 6 WriteFault "$1 can't be written"
+    [ "$part" = "$1" ] || unfinished+=("$part")
+}
+
 # finish STATUS PART FILE: an answer takes the place of the file, and what is none goes
 finish() {
     [ "$2" = "$3" ] && return
@@ -109,6 +134,7 @@ finish() {
 split_answer() {
     local part status left
     left=$(mktemp) || fail 6 WriteFault "no temporary file can be made"
+    unfinished+=("$left")
     if [ -n "$certificate" ]; then
         part=$(part_of "$certificate")
         "$program" "$command" ${options[@]+"${options[@]}"} >"$part"
@@ -128,6 +154,7 @@ split_answer() {
 split_report() {
     local part status left
     left=$(mktemp) || fail 6 WriteFault "no temporary file can be made"
+    unfinished+=("$left")
     if [ -n "$certificate" ]; then
         part=$(part_of "$certificate")
         "$program" "$command" ${options[@]+"${options[@]}"} 2>"$part"
@@ -161,13 +188,11 @@ answer_all() {
     [ -z "$answer" ] || answer=$(behind "$answer")
     [ -z "$certificate" ] || certificate=$(behind "$certificate")
     if [ -n "$answer" ]; then
+        begin "$answer"
         part=$(part_of "$answer")
-        { : >"$part"; } 2>/dev/null || fail 6 WriteFault "$answer can't be written"
         exec >"$part"
     fi
-    if [ -n "$certificate" ]; then
-        { : >"$(part_of "$certificate")"; } 2>/dev/null || fail 6 WriteFault "$certificate can't be written"
-    fi
+    [ -z "$certificate" ] || begin "$certificate"
     if is_split; then
         case "$command" in improve) split_report ;; *) split_answer ;; esac
     elif [ -n "$part" ]; then

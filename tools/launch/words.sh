@@ -138,6 +138,7 @@ take_file() {
 
 # check_together: what options ask of each other
 check_together() {
+    local file
     case "$command" in
         synth)
             [ "${named[--least-depth]-}" != yes ] || [ "${named[--method]-}" = fence ] ||
@@ -150,6 +151,11 @@ check_together() {
             fi
             [ "${named[--format]-}" != bench ] || is_of_gates "${named[--basis]-bench}" ||
                 refuse "with --format bench the basis has operators of bench alone, and not '${named[--basis]}'"
+            ;;
+        equiv)
+            for file in ${files[@]+"${files[@]}"}; do
+                [[ $file != *.bench ]] || tell "equiv reads BLIF alone, and $file is named as BENCH"
+            done
             ;;
         gen) [ -n "${named[--blocks]-}" ] || refuse "gen wants --blocks N (batsokemi help gen)" ;;
     esac
