@@ -120,12 +120,23 @@ begin() {
     [ "$part" = "$1" ] || unfinished+=("$part")
 }
 
+# the most bytes of a certificate that recheck reads
+most_rechecked=268435456
+
+# keep PART FILE: an answer takes the place of the file
+keep() {
+    mv -f "$1" "$2"
+    if [ "$command" = synth ] && [ "$(wc -c <"$2")" -gt "$most_rechecked" ]; then
+        tell "$2 is longer than the 256 MiB that recheck reads; a smaller --max or --conflicts gives less"
+    fi
+}
+
 # finish STATUS PART FILE: an answer takes the place of the file, and what is none goes
 finish() {
     [ "$2" = "$3" ] && return
     case "$1" in
-        0 | 4) mv -f "$2" "$3" ;;
-        8) if [ -s "$2" ]; then mv -f "$2" "$3"; else rm -f "$2"; fi ;;
+        0 | 4) keep "$2" "$3" ;;
+        8) if [ -s "$2" ]; then keep "$2" "$3"; else rm -f "$2"; fi ;;
         *) rm -f "$2" ;;
     esac
 }
