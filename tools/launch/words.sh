@@ -154,7 +154,7 @@ check_together() {
             ;;
         equiv)
             for file in ${files[@]+"${files[@]}"}; do
-                [[ $file != *.bench ]] || tell "equiv reads BLIF alone, and $file is named as BENCH"
+                [[ $file != *.bench ]] || tell "equiv reads BLIF alone, and $file is named as BENCH; tools/blif writes BENCH as BLIF"
             done
             ;;
         gen) [ -n "${named[--blocks]-}" ] || refuse "gen wants --blocks N (batsokemi help gen)" ;;
