@@ -21,6 +21,12 @@ IfUndecided (Equal log) P = Unit {0}
 IfUndecided (Differ sink at) P = Unit {0}
 IfUndecided (Undecided log) P = P log
 
+-- about the lines of either log
+abbrev pub IfLogged : Equiv → (List theory.Line → Type 0) → Type 0
+IfLogged (Equal log) P = P log
+IfLogged (Differ sink at) P = Unit {0}
+IfLogged (Undecided log) P = P log
+
 abbrev pub IsDecided : Equiv → Type 0
 IsDecided (Equal log) = Unit {0}
 IsDecided (Differ sink at) = Unit {0}

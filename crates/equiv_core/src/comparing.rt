@@ -3,7 +3,7 @@
 //! input at which the circuits differ. What the sweep finds is believed only where simulation shows a difference.
 ghost use Rattle.std.specs.Prelude.{◌≡◌, ◌≤◌, ◌<◌, ◌*◌, ◌^◌, ℕ, length, Err, IfOk, IfErr, IfSome, OnOk};
 ghost use Rattle.sat_theory.specs.Formula.{Formula, bits_of, Satisfies};
-ghost use Rattle.sat_theory.specs.Log.{Refutes, IsSpent, IsKept};
+ghost use Rattle.sat_theory.specs.Log.{Refutes, IsSpent, IsKept, IsThinned};
 ghost use Rattle.sat_solve.specs.Budgets.{most_budget};
 ghost use Rattle.net_theory.specs.Circuit.{IsProper};
 ghost use Rattle.net_document.specs.Alike.{AreAlike};
@@ -11,7 +11,7 @@ ghost use Rattle.equiv_theory.specs.Miter.{miter as miter_of, variables};
 ghost use Rattle.equiv_theory.specs.Difference.{AreComparable, HaveSameInterface, IsFirstDifference};
 ghost use Rattle.equiv_core.specs.declared.answer.EquivError.TheVariants.{DifferentInterface};
 ghost use Rattle.equiv_core.specs.Limits.{IsSmall};
-ghost use Rattle.equiv_core.specs.Comparing.{IfEqual, IfDiffer, IfUndecided, IsDecided};
+ghost use Rattle.equiv_core.specs.Comparing.{IfEqual, IfDiffer, IfUndecided, IfLogged, IsDecided};
 
 use crate::answer::{Equiv, EquivError};
 use crate::interface::same_interface;
@@ -138,6 +138,7 @@ fn finished<S: Solver>(
     ensures differ { IfOk result (λ e. IfDiffer e (IsFirstDifference first.now second.now)) }
     ensures undecided { IfOk result (λ e. IfUndecided e (λ lines. IsSpent (miter_of first.now second.now) lines budget)) }
     ensures kept { IfOk result (λ e. IfUndecided e (IsKept (miter_of first.now second.now))) }
+    ensures thinned { IfOk result (λ e. IfLogged e (IsThinned (miter_of first.now second.now))) }
     ensures decides { 2 * 3 ^ variables first.now second.now ≤ budget → IfOk result IsDecided }
 {
     let left = left_of(budget, spent);
@@ -168,6 +169,7 @@ pub(crate) fn compare<S: Solver>(
     ensures differ { IfOk result (λ e. IfDiffer e (IsFirstDifference first.now second.now)) }
     ensures undecided { IfOk result (λ e. IfUndecided e (λ lines. IsSpent (miter_of first.now second.now) lines budget)) }
     ensures kept { IfOk result (λ e. IfUndecided e (IsKept (miter_of first.now second.now))) }
+    ensures thinned { IfOk result (λ e. IfLogged e (IsThinned (miter_of first.now second.now))) }
     ensures decides { 2 * 3 ^ variables first.now second.now ≤ budget → IfOk result IsDecided }
 {
     let _vars = cnf.vars(); // for the prover: brings in the bounds of the formula
@@ -181,9 +183,9 @@ pub(crate) fn compare<S: Solver>(
 }
 
 /// Decides with the solver `S` whether two proper circuits of one interface, each of fewer than 300,000,000 sources
-/// and sinks (combinational inputs and outputs), do the same, unless it takes more than `budget` conflicts, from 1 to
-/// 10,000,000: those of questions about pairs of signals that were given up, at most half of them, and of the search
-/// after them.
+/// and sinks (combinational inputs and outputs), do the same, unless that takes more than a `budget` from 1 to
+/// 10,000,000: for each pair of signals or sink that is given up its limit counts, up to half of the budget, and then
+/// the clauses that the last search learns.
 ///
 /// They are equal only with a log that refutes their miter, so that anybody can check it; they differ only at an
 /// input that shows it, at the first sink that does; and it is undecided only with a log that has spent the
@@ -205,6 +207,9 @@ pub fn equiv<S: Solver>(
     ensures differ { IfOk result (λ e. IfDiffer e (IsFirstDifference first.now.net second.now.net)) }
     ensures undecided { IfOk result (λ e. IfUndecided e (λ lines. IsSpent (miter_of first.now.net second.now.net) lines budget)) }
     ensures kept { IfOk result (λ e. IfUndecided e (IsKept (miter_of first.now.net second.now.net))) }
+    // Of either log's additions at most three quarters, 2,000, and one for each variable of the miter are live at its
+    // end, and it deletes no clause of the miter.
+    ensures thinned { IfOk result (λ e. IfLogged e (IsThinned (miter_of first.now.net second.now.net))) }
     ensures decides { 2 * 3 ^ variables first.now.net second.now.net ≤ budget → IfOk result IsDecided }
     ensures interface { IfOk result (λ _. HaveSameInterface first.now second.now) }
     ensures refused { IfErr result (λ e. e ≡ DifferentInterface → HaveSameInterface first.now second.now → ⊥) }

@@ -1,9 +1,9 @@
 //! Two nets of few sources compared under all assignments, where that takes less time than a solver: each assignment is
 //! simulated in both.
-ghost use Rattle.std.specs.Prelude.{◌≡◌, ◌≤◌, ◌++◌, ◌∷◌, [], ℕ, Bool, true, false, length, IfOk};
+ghost use Rattle.std.specs.Prelude.{◌≡◌, ◌≤◌, ◌↔◌, ◌++◌, ◌∷◌, [], ℕ, Bool, true, false, length, IfOk, IsTrue};
 ghost use Rattle.net_theory.specs.Net.{sink_values};
 ghost use Rattle.equiv_theory.specs.Difference.{AreComparable, Differ as AreDifferent};
-ghost use Rattle.equiv_core.specs.Every.{HasNoneUnder};
+ghost use Rattle.equiv_core.specs.Every.{HasNoneUnder, IsNarrow};
 
 use crate::values::first_difference;
 use net_core::Net;
@@ -16,7 +16,9 @@ const MOST_SOURCES: u32 = 12;
 const MOST_VALUES: usize = 1_000_000_000;
 
 /// Whether two nets have few enough sources, gates and sinks to be compared under all assignments.
-pub(crate) fn are_narrow(first: &Net, second: &Net) -> bool {
+pub(crate) fn are_narrow(first: &Net, second: &Net) -> bool
+    ensures { IsTrue result ↔ IsNarrow first.now second.now }
+{
     let sources = first.sources();
     if sources > MOST_SOURCES {
         return false;

@@ -5,6 +5,7 @@ ghost use Rattle.net_theory.specs.Net.{sink_values};
 ghost use Rattle.equiv_theory.specs.Miter.{variables};
 ghost use Rattle.equiv_theory.specs.Difference.{AreComparable, Differ as AreDifferent};
 ghost use Rattle.equiv_core.specs.Limits.{AreSmall};
+ghost use Rattle.equiv_core.specs.Every.{IsNarrow};
 
 use crate::answer::Equiv;
 use crate::comparing::compare;
@@ -14,11 +15,12 @@ use net_core::Net;
 use sat_solve::Solver;
 use std::alloc::{AllocError, Global};
 
-/// Whether the solver `S` finds two nets of as many sources and as many sinks equivalent: true only where each sink has
-/// the same value in both under every assignment. False where they differ, and where more than `budget` conflicts in
-/// vain, from 1 to 10,000,000, would be needed: so with a budget of at least twice 3 to the number of the miter's
-/// variables only where they differ. Nets of few sources are simulated under all assignments. Each has at most
-/// 100,000 gates, and the first fewer than 300,000,000 sources and sinks.
+/// Whether two nets of as many sources and as many sinks are found equivalent: true only where each sink has the same value
+/// in both under every assignment. Narrow nets, of at most 12 sources and, under all their assignments, 1,000,000,000 values
+/// of gates and sinks, are simulated under each, and false says that they differ. Of others the solver `S` decides, and it
+/// is false also where more than `budget` conflicts in vain, from 1 to 10,000,000, would be needed: so with a budget of at
+/// least twice 3 to the number of the miter's variables only where they differ. Each has at most 100,000 gates, and the
+/// first fewer than 300,000,000 sources and sinks.
 pub fn equal_nets<S: Solver>(
     alloc: Global,
     first: &Net,
@@ -29,6 +31,7 @@ pub fn equal_nets<S: Solver>(
     requires small { AreSmall first.now second.now }
     requires budget { (1 ≤ budget) × (budget ≤ most_budget) }
     ensures same { IfOk result (λ same. same ≡ true → (given : ℕ → Bool) → sink_values first.now given ≡ sink_values second.now given) }
+    ensures narrow { IsNarrow first.now second.now → IfOk result (λ same. same ≡ false → AreDifferent first.now second.now) }
     ensures decides { 2 * 3 ^ variables first.now second.now ≤ budget → IfOk result (λ same. same ≡ false → AreDifferent first.now second.now) }
 {
     if are_narrow(first, second) {

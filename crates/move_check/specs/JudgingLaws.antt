@@ -59,4 +59,8 @@ small_with n c m small same = record { small = small.small; first_gates = small.
 pub judged_is : (basis : Basis) (n c m k : Net) → IsFit basis n c → IsNet m → m.gates ≡ c.gates → HasSinksOf n m → ((given : ℕ → Bool) → sink_values n given ≡ sink_values m given) → IsPruned m k → IsPruned n k
 judged_is basis n c m k fit net gates has same pruned = judged_pruned n m k net has (omega (arith, fit.fewer, ap (length {A = Gate}) gates)) same pruned
 
+-- what is left of a candidate after both cleanups has no more gates than the candidate
+pub judged_lean : (n c m k : Net) → IsPruned n c → m.gates ≡ c.gates → IsPruned m k → length k.gates ≤ length n.gates
+judged_lean n c m k first gates second = omega (arith, first.answers.fewer, ap (length {A = Gate}) gates, second.answers.fewer)
+
 pub ruleset judging = (common_steps, comparable_nets, small_with, judged_is, judged_operators)

@@ -1,5 +1,5 @@
 //! What may be said of a candidate.
-ghost use Rattle.std.specs.Prelude.{◌≡◌, ◌≤◌, true, IfOk, IfSome};
+ghost use Rattle.std.specs.Prelude.{◌≡◌, ◌≤◌, true, length, IfOk, IfSome};
 ghost use Rattle.sat_solve.specs.Budgets.{most_budget};
 ghost use Rattle.net_theory.specs.Answers.{IsPruned};
 ghost use Rattle.op_basis.specs.Basis.{members};
@@ -54,6 +54,7 @@ pub fn judged<S: Solver>(
 ) -> Result<Option<Net>, AllocError>
     requires budget { (1 ≤ budget) × (budget ≤ most_budget) }
     ensures pruned { IfOk result (λ found. IfSome found (IsPruned net.now)) }
+    ensures lean { IfOk result (λ found. IfSome found (λ m. length m.gates ≤ length candidate.now.gates)) }
     ensures operators { IfOk result (λ found. IfSome found (HasOperatorsWithin (members basis) net.now)) }
 {
     let lean = drop_dead(alloc, candidate)?;

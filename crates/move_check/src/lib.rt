@@ -5,8 +5,8 @@
 //! a designer compares what a synthesis tool has written. So the moves can be any heuristic, and what is believed is that
 //! comparison alone (translation validation: Pnueli, Siegel and Singerman, 1998).
 //!
-//! The theorem is that of `judged`: what it answers can stand for the net, without dead gates, with no more gates and
-//! with operators of the basis or of the net.
+//! The theorem is that of `judged`: what it answers can stand for the net, without dead gates, with no more gates than
+//! the net and than the candidate, and with operators of the basis or of the net.
 //!
 //! ```text
 //! match judged::<S>(alloc, &net, &candidate, basis, 100000)? {

@@ -1,6 +1,6 @@
 use Rattle.op_basis.specs.Basis.{members}
 use Rattle.move_check.specs.Fitting.{IsFit}
-use Rattle.move_check.specs.JudgingLaws.{comparable_nets, judged_is, judged_operators}
+use Rattle.move_check.specs.JudgingLaws.{comparable_nets, judged_is, judged_lean, judged_operators}
 use Rattle.move_check.proofs.judging.judged.Goals as goal
 
 pub equal_nets-requires-clause-comparable : goal.equal_nets-requires-clause-comparable
@@ -10,6 +10,9 @@ pub returns-clause-pruned : goal.returns-clause-pruned
 returns-clause-pruned g c =
     let fit : IsFit (members c.args.basis) c.args.net.now c.in_ok-lean.lean = c.is_fit.ensures c.if-not-is_fit.false in
     judged_is (members c.args.basis) c.args.net.now c.in_ok-lean.lean c.in_ok-judged.judged c.in_ok-drop_dead.field-0 fit c.sinks-sinks.ensures.net c.in_ok-judged.ensures.gates c.in_ok-judged.ensures.sinks (c.in_ok-same.ensures.same c.if-not-same.false) c.in_ok-drop_dead.ensures.pruned
+
+pub returns-clause-lean : goal.returns-clause-lean
+returns-clause-lean g c = judged_lean c.args.candidate.now c.in_ok-lean.lean c.in_ok-judged.judged c.in_ok-drop_dead.field-0 c.in_ok-lean.ensures.pruned c.in_ok-judged.ensures.gates c.in_ok-drop_dead.ensures.pruned
 
 pub returns-clause-operators : goal.returns-clause-operators
 returns-clause-operators g c =
