@@ -112,6 +112,7 @@ pub(crate) fn at_steps(
     ensures answer { (ls : List Line) (answer : Answer) → answer ≡ judging.with_block heading frame low (steps_then frame (block.steps_from frame (steps_of steps.items) (line_of line.now ∷ ls))) → Judged result (line.now.number + 1) ls answer }
     ensures tells { (ls all : List Line) → heading_in all ≡ Some heading → IsBlock frame all (steps_then frame (block.steps_from frame (steps_of steps.items) (line_of line.now ∷ ls))) → IfOk result (λ s. Tells s (line.now.number + 1) ls all) }
 {
+    // for the prover: brings the invariant of the specification
     let _inputs = heading.spec.n();
     let step = match step_at(&frame, steps.len() as u32, line.text, line.ended) {
         Ok(step) => step,
@@ -168,6 +169,7 @@ pub(crate) fn at_outs(
     ensures answer { (ls : List Line) (answer : Answer) → answer ≡ judging.with_block heading frame low (outs_then frame (steps_of steps.items) (block.outs_from frame outs.items (line_of line.now ∷ ls))) → Judged result (line.now.number + 1) ls answer }
     ensures tells { (ls all : List Line) → heading_in all ≡ Some heading → IsBlock frame all (outs_then frame (steps_of steps.items) (block.outs_from frame outs.items (line_of line.now ∷ ls))) → IfOk result (λ s. Tells s (line.now.number + 1) ls all) }
 {
+    // for the prover: brings the invariant of the specification
     let _inputs = heading.spec.n();
     let out = match out_at(&frame, outs.len() as u32, line.text, line.ended) {
         Ok(out) => out,
@@ -331,7 +333,7 @@ pub(crate) fn at_end(told: Told, line: &TextLine) -> Result<Stage, BundleError>
     ensures tells { (ls all : List Line) → heading_in all ≡ Some told.heading → HasEnded told.heading told.chain told.verdict 1 line.now.number all → IfOk result (λ s. Tells s (line.now.number + 1) ls all) }
 {
     if !is_line(b"end", line) {
-        // dropped here at once: left to the exit, each of its fields would be
+        // for the prover: dropped here at once; left to the exit, each of its fields would be
         drop(told);
         return Err(BundleError::Syntax(line.number));
     }

@@ -56,7 +56,7 @@ pub(crate) fn at_inputs(alloc: Global, line: &TextLine) -> Result<Stage, BundleE
 
 /// The basis of a line, where it is spelled as it is written.
 #[tactic(auto, unfolding(cert_theory::specs::Judging::basis_in))]
-pub fn basis_in(alloc: Global, line: &TextLine) -> Result<Option<Basis>, AllocError>
+pub(crate) fn basis_in(alloc: Global, line: &TextLine) -> Result<Option<Basis>, AllocError>
     ensures exact { IfOk result (λ basis. basis ≡ judging.basis_in (line_of line.now)) }
     ensures some { IfOk result (λ basis. IfSome basis (λ b. 0 < b)) }
 {
@@ -135,7 +135,7 @@ pub(crate) fn at_tables(
 
 /// The method of a line.
 #[tactic(auto, unfolding(cert_theory::specs::Judging::method_in))]
-pub fn method_in(line: &TextLine) -> Option<Method>
+pub(crate) fn method_in(line: &TextLine) -> Option<Method>
     ensures { result ≡ judging.method_in (line_of line.now) }
 {
     method_named(value_of(b"method ", line)?)
@@ -162,7 +162,7 @@ pub(crate) fn at_method(spec: Spec, basis: Basis, line: &TextLine) -> Result<Sta
 
 /// The number of conflicts of a line, from 1 to 10,000,000.
 #[tactic(auto, unfolding(cert_theory::specs::Judging::conflicts_in))]
-pub fn conflicts_in(line: &TextLine) -> Option<u32>
+pub(crate) fn conflicts_in(line: &TextLine) -> Option<u32>
     ensures { result ≡ judging.conflicts_in (line_of line.now) }
 {
     let conflicts = number_up_to(MOST_CONFLICTS, value_of(b"conflicts ", line)?)?;
@@ -199,7 +199,7 @@ pub(crate) fn at_conflicts(
 
 /// The greatest size of a line, at most 16.
 #[tactic(auto, unfolding(cert_theory::specs::Judging::max_in))]
-pub fn max_in(line: &TextLine) -> Option<u32>
+pub(crate) fn max_in(line: &TextLine) -> Option<u32>
     ensures exact { result ≡ judging.max_in (line_of line.now) }
     ensures small { IfSome result (λ max. max ≤ most_steps) }
 {

@@ -31,9 +31,8 @@ mod told;
 
 pub use cert_theory::{BundleError, Ended, Heading, PartError, Verdict};
 pub use checking::check_bundle;
-pub use heading::{basis_in, conflicts_in, max_in, method_in};
 pub use lines::{Numbered, TextLine, is_line, number_behind, numbered_in};
-pub use logs::ended_in;
+pub use logs::{ended_in, low_with};
 pub use part::{PartReader, PartStep};
 pub use reader::{BundleReader, tell};
 pub use stage::Stage;

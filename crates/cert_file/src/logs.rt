@@ -63,12 +63,12 @@ pub(crate) fn at_begun(
     Ok(Stage::Within { running, reader })
 }
 
-/// The first open size, with one size more.
-fn low_with(low: Option<u32>, end: Ended, size: u32) -> Option<u32>
-    ensures { result ≡ judging.low_with low end size }
+/// The first that is open, with one more: of sizes, or of levels.
+pub fn low_with(low: Option<u32>, end: Ended, next: u32) -> Option<u32>
+    ensures { result ≡ judging.low_with low end next }
 {
     match (low, end) {
-        (None, Ended::Open) => Some(size),
+        (None, Ended::Open) => Some(next),
         _ => low,
     }
 }

@@ -70,7 +70,7 @@ pub(crate) fn take(alloc: Global, stage: Stage, line: &TextLine) -> Result<Stage
         } => at_found(heading, low, chain, line),
         Stage::End { told } => at_end(told, line),
         Stage::Done { told } => {
-            // dropped here at once: left to the exit, each of its fields would be
+            // for the prover: dropped here at once; left to the exit, each of its fields would be
             drop(told);
             Err(BundleError::Syntax(line.number))
         }
@@ -110,7 +110,7 @@ pub(crate) fn verdict_of(stage: Stage, number: u32) -> Result<Verdict, BundleErr
 {
     let told = told_of(stage, number)?;
     let verdict = told.verdict;
-    // dropped here at once: left to the exit, each of its fields would be
+    // for the prover: dropped here at once; left to the exit, each of its fields would be
     drop(told);
     Ok(verdict)
 }

@@ -79,7 +79,7 @@ impl PartReader {
         } = self;
         if is_done(text, lf) {
             let empty = checker.refuted();
-            // dropped here at once: left to the exit, each of its fields would be
+            // for the prover: dropped here at once; left to the exit, each of its fields would be
             drop(checker);
             closed(empty, missing == 0, end)?;
             return Ok(PartStep::Done);
@@ -92,7 +92,7 @@ impl PartReader {
                 missing: missing.saturating_sub(added),
             })),
             Err(fault) => {
-                // dropped here at once: left to the exit, each of its fields would be
+                // for the prover: dropped here at once; left to the exit, each of its fields would be
                 drop(checker);
                 Err(fault)
             }
