@@ -95,6 +95,7 @@ told_of budget d e c k text Equal of_d of_e told = record {
   nets = record { first_is = of_d.net; second_is = of_e.net };
   lines = told.lines;
   refutes = told.refutes;
+  thinned = told.thinned;
   text_is = told.text_is;
 }
 told_of budget d e c k text Differ of_d of_e told = record {
@@ -110,6 +111,7 @@ told_of budget d e c k text Undecided of_d of_e told = record {
   lines = told.lines;
   spent = told.spent;
   kept = told.kept;
+  thinned = told.thinned;
   small = told.small;
   text_is = told.text_is;
 }

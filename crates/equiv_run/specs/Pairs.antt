@@ -1,7 +1,7 @@
 -- Two netlists in one text, one after the other: the answers, and the refusals.
 use Rattle.std.specs.Prelude.{◌≡◌, ◌≢◌, ℕ, ◌-◌, ◌*◌, ◌^◌, ◌≤◌, ◌<◌, Bool, false, List, length, map, take, drop, slice_index_or, Some, None, Ok}
 use Rattle.sat_theory.specs.Line.{Line}
-use Rattle.sat_theory.specs.Log.{Refutes, IsSpent, IsKept}
+use Rattle.sat_theory.specs.Log.{Refutes, IsSpent, IsKept, IsThinned}
 use Rattle.net_theory.specs.Document.{Name, Document, latches_of, source_names, sink_names}
 use Rattle.net_theory.specs.Behaviour.{IsMapOf, HasOneMap, Same}
 use Rattle.net_theory.specs.WellFormed.{IsWellFormed}
@@ -70,7 +70,7 @@ pub record HasMiter (d e : Document) (first second : Net) : Type 0 where
 
 -- ---- the answers
 
--- They do the same, and the lines refute the miter of their nets.
+-- They do the same, and the lines refute the miter of their nets, and are thinned.
 pub record IsEqualTold (d e : Document) (text : List ℕ) : Type 0 where
   pub same : Same d e
   pub first : Net
@@ -78,6 +78,7 @@ pub record IsEqualTold (d e : Document) (text : List ℕ) : Type 0 where
   pub nets : HasMiter d e first second
   pub lines : List Line
   pub refutes : Refutes (miter first second) lines
+  pub thinned : IsThinned (miter first second) lines
   pub text_is : text ≡ equal_text lines
 
 -- They differ under the bits of the text, at the sink of the text and at none before it.
@@ -87,8 +88,8 @@ pub record IsDifferTold (d e : Document) (text : List ℕ) : Type 0 where
   pub differ : DocumentsDiffer d e sink bits
   pub text_is : text ≡ differ_text d.outputs (latches_of d) sink bits
 
--- The lines have spent the budget on the miter of their nets, and keep at least half of what they add. A budget of
--- twice three to the number of the miter's variables is never spent.
+-- The lines have spent the budget on the miter of their nets, keep at least half of what they add, and are thinned. A
+-- budget of twice three to the number of the miter's variables is never spent.
 pub record IsUndecidedTold (budget : ℕ) (d e : Document) (text : List ℕ) : Type 0 where
   pub first : Net
   pub second : Net
@@ -96,6 +97,7 @@ pub record IsUndecidedTold (budget : ℕ) (d e : Document) (text : List ℕ) : T
   pub lines : List Line
   pub spent : IsSpent (miter first second) lines budget
   pub kept : IsKept (miter first second) lines
+  pub thinned : IsThinned (miter first second) lines
   pub small : budget < 2 * 3 ^ variables first second
   pub text_is : text ≡ undecided_text lines
 

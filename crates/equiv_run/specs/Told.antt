@@ -2,7 +2,7 @@
 use Rattle.std.specs.Prelude.{◌≡◌, ℕ, ◌*◌, ◌^◌, ◌≤◌, ◌<◌, Bool, List}
 use Rattle.std.proofs.Common.{arith}
 use Rattle.sat_theory.specs.Line.{Line}
-use Rattle.sat_theory.specs.Log.{Refutes, IsSpent, IsKept}
+use Rattle.sat_theory.specs.Log.{Refutes, IsSpent, IsKept, IsThinned}
 use Rattle.net_theory.specs.Circuit.{Circuit}
 use Rattle.net_document.specs.Alike.{AreAlike}
 use Rattle.net_document.specs.Format.{HasNetFault}
@@ -20,6 +20,7 @@ pub record AreEqual (c k : Circuit) (text : List ℕ) : Type 0 where
   pub alike : AreAlike c k
   pub lines : List Line
   pub refutes : Refutes (miter c.net k.net) lines
+  pub thinned : IsThinned (miter c.net k.net) lines
   pub text_is : text ≡ equal_text lines
 
 pub record AreDifferent (c k : Circuit) (text : List ℕ) : Type 0 where
@@ -34,6 +35,7 @@ pub record AreUndecided (budget : ℕ) (c k : Circuit) (text : List ℕ) : Type 
   pub lines : List Line
   pub spent : IsSpent (miter c.net k.net) lines budget
   pub kept : IsKept (miter c.net k.net) lines
+  pub thinned : IsThinned (miter c.net k.net) lines
   pub small : budget < 2 * 3 ^ variables c.net k.net
   pub text_is : text ≡ undecided_text lines
 
@@ -70,11 +72,11 @@ IsSecondRefused bytes DifferentInterface = ⊥
 more : (n budget : ℕ) → (n ≤ budget → ⊥) → budget < n
 more n budget not = omega (arith, not)
 
-pub tell_equal : (budget : ℕ) (c k : Circuit) (lines : List Line) (text : List ℕ) → HaveSameInterface c k → AreAlike c k → Refutes (miter c.net k.net) lines → text ≡ equal_text lines → IsCircuitTold budget c k text Equal
-tell_equal budget c k lines text interface alike refutes is = record { interface = interface; alike = alike; lines = lines; refutes = refutes; text_is = is }
+pub tell_equal : (budget : ℕ) (c k : Circuit) (lines : List Line) (text : List ℕ) → HaveSameInterface c k → AreAlike c k → Refutes (miter c.net k.net) lines → IsThinned (miter c.net k.net) lines → text ≡ equal_text lines → IsCircuitTold budget c k text Equal
+tell_equal budget c k lines text interface alike refutes thinned is = record { interface = interface; alike = alike; lines = lines; refutes = refutes; thinned = thinned; text_is = is }
 
 pub tell_differ : (budget : ℕ) (c k : Circuit) (sink : ℕ) (bits : List Bool) (text : List ℕ) → HaveSameInterface c k → IsFirstDifference c.net k.net sink bits → text ≡ differ_text c.outputs c.latches sink bits → IsCircuitTold budget c k text Differ
 tell_differ budget c k sink bits text interface differ is = record { interface = interface; sink = sink; bits = bits; differ = differ; text_is = is }
 
-pub tell_undecided : (budget : ℕ) (c k : Circuit) (lines : List Line) (text : List ℕ) → HaveSameInterface c k → IsSpent (miter c.net k.net) lines budget → IsKept (miter c.net k.net) lines → (2 * 3 ^ variables c.net k.net ≤ budget → ⊥) → text ≡ undecided_text lines → IsCircuitTold budget c k text Undecided
-tell_undecided budget c k lines text interface spent kept not is = record { interface = interface; lines = lines; spent = spent; kept = kept; small = more (2 * 3 ^ variables c.net k.net) budget not; text_is = is }
+pub tell_undecided : (budget : ℕ) (c k : Circuit) (lines : List Line) (text : List ℕ) → HaveSameInterface c k → IsSpent (miter c.net k.net) lines budget → IsKept (miter c.net k.net) lines → IsThinned (miter c.net k.net) lines → (2 * 3 ^ variables c.net k.net ≤ budget → ⊥) → text ≡ undecided_text lines → IsCircuitTold budget c k text Undecided
+tell_undecided budget c k lines text interface spent kept thinned not is = record { interface = interface; lines = lines; spent = spent; kept = kept; thinned = thinned; small = more (2 * 3 ^ variables c.net k.net) budget not; text_is = is }

@@ -86,11 +86,5 @@ pub fn restructured<S: Solver>(
     if candidate.gates().len() >= net.gates().len() {
         return Ok(None);
     }
-    let Some(better) = judged::<S>(alloc, net, &candidate, basis, MOST_CLAUSES)? else {
-        return Ok(None);
-    };
-    if better.gates().len() >= net.gates().len() {
-        return Ok(None);
-    }
-    Ok(Some(better))
+    judged::<S>(alloc, net, &candidate, basis, MOST_CLAUSES)
 }
