@@ -8,6 +8,10 @@
 //! both searches find, also that the first was left open, is remembered (`spec_memory`) for tables with their inputs in a
 //! normal order (`spec_order`), by which a chain goes back. What stays open is searched again.
 //!
+//! The theorem is that of `decide`: `Shorter` has a chain of at most `max` steps over the basis that agrees, `Least` comes
+//! only where there is no such chain, `Open` only with a valid certificate that leaves a size open; with `max` at most 4
+//! nothing stays open.
+//!
 //! ```text
 //! let heading = Heading { spec, basis, method, conflicts, max: 6 };
 //! let mut memory = Memory::new(alloc, basis);

@@ -53,7 +53,7 @@ pub(crate) fn turned_heading(
 {
     let heading = question.heading;
     let spec = turned_spec(alloc, &heading.spec, order)?;
-    // brings the type invariant into the proof
+    // for the prover: brings the invariant of the specification
     let _inputs = spec.n();
     Ok(Heading {
         spec,

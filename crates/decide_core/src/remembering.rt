@@ -23,10 +23,7 @@ fn is_over(chain: &Chain, basis: Basis) -> bool
     ensures over { result ≡ true → IsOver (members basis) chain.now }
     ensures not_over { result ≡ false → IsOver (members basis) chain.now → ⊥ }
 {
-    match first_outside(chain, basis) {
-        Some(_) => false,
-        None => true,
-    }
+    first_outside(chain, basis).is_none()
 }
 
 /// Whether a chain agrees with a specification.
@@ -37,10 +34,7 @@ fn agrees(chain: &Chain, spec: &Spec) -> bool
     ensures agrees { result ≡ true → Agrees chain.now (specification spec.now) }
     ensures differs { result ≡ false → Agrees chain.now (specification spec.now) → ⊥ }
 {
-    match first_difference(chain, spec) {
-        Some(_) => false,
-        None => true,
-    }
+    first_difference(chain, spec).is_none()
 }
 
 /// Whether a chain is one that the heading asks for.
@@ -49,7 +43,7 @@ pub fn serves(chain: &Chain, heading: &Heading) -> bool
     ensures yes { result ≡ true → IsShorter heading.now chain.now }
     ensures not { result ≡ false → IsShorter heading.now chain.now → ⊥ }
 {
-    // bring the invariants into the proof
+    // for the prover: brings the invariant of the specification
     let _inputs = heading.spec.n();
     if chain.n() != heading.spec.n() {
         return false;

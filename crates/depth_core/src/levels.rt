@@ -57,10 +57,9 @@ fn with_levels(alloc: Global, parts: &[Part], levels: usize) -> Result<Vec<Part>
     let mut left = parts;
     while let Some((part, rest)) = left.split_first() {
         left = rest;
-        if levels_in(part) != levels {
-            continue;
+        if levels_in(part) == levels {
+            own.push(copied(alloc, part)?)?;
         }
-        own.push(copied(alloc, part)?)?;
     }
     Ok(own)
 }

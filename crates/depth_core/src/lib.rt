@@ -6,6 +6,9 @@
 //! with fewer levels than the chain are searched level by level. The first fence with a chain gives the flattest chain:
 //! all fences with fewer levels than it have their logs by then. These logs are kept, and the others dropped.
 //!
+//! The theorem is that of `least_depth`: it answers a valid depth bundle for what was asked, or a valid bundle whose
+//! verdict is no minimum; all their logs are thrifty (`size_loop`'s `Thrift`).
+//!
 //! - `searching`: the search, `least_depth`.
 //! - `levels`: the fences of one number of levels, one after the other.
 //! - `writing`: depth bundles as they are written.

@@ -27,7 +27,7 @@ use tt_core::Spec;
 pub enum Deep {
     /// A chain of the fewest steps was found, and the flatter fences were searched.
     Least(DepthBundle),
-    /// None was found: a bundle whose verdict isn't a minimum.
+    /// The fewest steps aren't known, or no chain is within `max`: a bundle whose verdict isn't a minimum.
     Other(Bundle),
 }
 

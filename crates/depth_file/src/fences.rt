@@ -1,29 +1,36 @@
 //! The listed fences that are flatter than a chain, in their order.
 ghost use Rattle.std.specs.Prelude.{◌≡◌, ◌++◌, ◌≤◌, map, IfOk, OnOk};
-ghost use Rattle.fence_core.specs.Fence.{listed_fences};
 ghost use Rattle.enc_theory.specs.declared.part.Part.TheVariants.{Levels};
 ghost use Rattle.depth_theory.specs.Flatter.{of_levels, flatter};
 
 use enc_theory::Part;
-use fence_core::fences;
+use fence_core::{Fence, fences};
 use std::alloc::{AllocError, Global};
 use tt_core::{Spec, live_part};
 
-/// Adds the listed fences of `levels` levels.
+/// A copy of a fence.
+fn copied(alloc: Global, fence: &Fence) -> Result<Fence, AllocError>
+    ensures { IfOk result (λ copy. copy ≡ fence.now) }
+{
+    let levels = Vec::from_slice(alloc, fence.levels())?;
+    Ok(Fence::new(levels))
+}
+
+/// Adds those of the fences that have `levels` levels, in their order.
 #[tactic(auto, using(crate::proofs::FenceLists::fencing), unfolding(depth_theory::specs::Flatter::of_levels))]
 fn push_level(
     alloc: Global,
     parts: &mut Vec<Part>,
-    size: u32,
-    outputs: u32,
+    fences: &[Fence],
     levels: usize,
 ) -> Result<(), AllocError>
-    requires { size ≤ 16 }
-    ensures { OnOk result (parts.new.items ≡ parts.old.items ++ map Levels (of_levels (listed_fences size outputs) levels)) }
+    ensures { OnOk result (parts.new.items ≡ parts.old.items ++ map Levels (of_levels fences.now levels)) }
 {
-    for fence in fences(alloc, size, outputs)? {
+    let mut left = fences;
+    while let Some((fence, rest)) = left.split_first() {
+        left = rest;
         if fence.levels().len() == levels {
-            parts.push(Part::Levels(fence))?;
+            parts.push(Part::Levels(copied(alloc, fence)?))?;
         }
     }
     Ok(())
@@ -41,10 +48,10 @@ pub(crate) fn flatter_parts(
     ensures { IfOk result (λ parts. parts.items ≡ map Levels (flatter spec.now size levels)) }
 {
     let live = live_part(alloc, spec)?;
-    let outputs = live.outputs();
+    let listed = fences(alloc, size, live.outputs())?;
     let mut parts = Vec::new(alloc);
     for below in 0..levels {
-        push_level(alloc, &mut parts, size, outputs, below as usize)?;
+        push_level(alloc, &mut parts, &listed, below as usize)?;
     }
     Ok(parts)
 }

@@ -19,7 +19,7 @@ use crate::bundle::{at_front, behind_bundle};
 use crate::fences::flatter_parts;
 use crate::lines::{depth_at, fault_at, title_at, verdict_at};
 use crate::stage::{Flat, Stage};
-use cert_file::{PartReader, PartStep, TextLine, ended_in, is_line};
+use cert_file::{PartReader, PartStep, TextLine, ended_in, is_line, low_with};
 use cert_theory::{Ended, Heading};
 use cnf_core::Cnf;
 use depth_theory::{DepthError, DepthVerdict};
@@ -143,16 +143,6 @@ fn at_begun(alloc: Global, flat: Flat, line: &TextLine) -> Result<Stage, DepthEr
     let cnf = formula_of(alloc, &flat)?;
     let reader = PartReader::new(alloc, cnf, flat.heading.conflicts, end)?;
     Ok(Stage::Within { flat, reader })
-}
-
-/// How many levels the first open fence has, with one fence more.
-fn low_with(low: Option<u32>, end: Ended, levels: u32) -> Option<u32>
-    ensures { result ≡ low_with_of low end levels }
-{
-    match (low, end) {
-        (None, Ended::Open) => Some(levels),
-        _ => low,
-    }
 }
 
 /// What comes after a fence whose log ends so.
@@ -279,6 +269,7 @@ pub(crate) fn verdict_of(
 {
     let stage = closed(alloc, stage)?;
     let verdict = verdict_in(&stage);
+    // for the prover: dropped before the exits, of which each would drop it
     drop(stage);
     let Some(verdict) = verdict else {
         return Err(DepthError::Syntax(number));

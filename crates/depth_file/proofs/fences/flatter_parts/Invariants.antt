@@ -1,9 +1,8 @@
 -- The fences of the levels so far.
 use Rattle.std.proofs.Common.{◌≡◌, map}
 use Rattle.enc_theory.specs.declared.part.Part.TheVariants.{Levels}
-use Rattle.fence_core.specs.Fence.{listed_fences}
 use Rattle.depth_theory.specs.Flatter.{by_levels}
 use Rattle.depth_file.proofs.fences.flatter_parts.Given as goal
 
 abbrev pub invariant-loop-below : goal.invariant-loop-below
-invariant-loop-below l = l.parts.items ≡ map Levels (by_levels (listed_fences l.size l.outputs) l.below)
+invariant-loop-below l = l.parts.items ≡ map Levels (by_levels l.listed.items l.below)
