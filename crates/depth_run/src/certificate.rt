@@ -26,7 +26,7 @@ use tt_core::SpecError;
 pub enum Found {
     /// A chain of the fewest steps, and what is known of its levels.
     Least(DepthVerdict),
-    /// No chain of the fewest steps; what is known of the steps.
+    /// The fewest steps aren't known, or no chain is within `max`: what is known of the steps.
     Other(Verdict),
 }
 
