@@ -9,6 +9,7 @@ orders.py --classes PROGRAM [EVERY]: each EVERY-th (1) of the 222 classes of fun
 released program, each certificate rechecked; by minisat the `ssv` formulas of all sizes up to the fewest; and by ABC's
 `exact` in one session, where berkeley-abc is installed. A line for each: additions or conflicts, and user seconds."""
 import collections
+import itertools
 import os
 import random
 import shutil
@@ -52,17 +53,17 @@ def probe(program):
     names = subprocess.run(["nm", "-C", program], capture_output=True, text=True).stdout.splitlines()
     parts = [it.split() for it in subprocess.run(["readelf", "-lW", program], capture_output=True, text=True).stdout.splitlines()]
     loaded = [[int(word, 16) for word in it[1:5]] for it in parts if it[:1] == ["LOAD"]]
-    events = []
+    lines = []
     for event, name in (("addition", "log_core::log::Log::add"), ("shorter", "cdcl_core::search::Search::add_shorter")):
         at = [int(it.split()[0], 16) for it in names if it.endswith(" " + name)]
         offsets = [at[0] - low + offset for offset, low, _, size in loaded if at and low <= at[0] < low + size]
-        try:
-            with open("/sys/kernel/tracing/uprobe_events", "a" if events else "w", encoding="ascii") as file:
-                file.write(f"p:batsokemi/{event} {os.path.abspath(program)}:{offsets[0]:#x}\n")
-        except (OSError, IndexError):
-            return None
-        events.append(f"batsokemi:{event}")
-    return events if shutil.which("perf") else None
+        lines += [f"p:batsokemi/{event} {os.path.abspath(program)}:{it:#x}\n" for it in offsets]
+    try:
+        with open("/sys/kernel/tracing/uprobe_events", "w", encoding="ascii") as file:
+            file.writelines(lines)
+    except OSError:
+        return None
+    return ["batsokemi:addition", "batsokemi:shorter"] if len(lines) == 2 and shutil.which("perf") else None
 
 
 def counted(events, command, path):
@@ -147,7 +148,8 @@ def main():
         main_classes(words[1], int(words[2]) if len(words) > 2 else 1)
         return
     orders = int(words[words.index("--orders") + 1]) if "--orders" in words else 8
-    steps = [int(it) for it in words[words.index("--steps") + 1:] if it.isdigit()] if "--steps" in words else list(CLASSES)
+    behind = words[words.index("--steps") + 1:] if "--steps" in words else [str(it) for it in CLASSES]
+    steps = [int(it) for it in itertools.takewhile(str.isdigit, behind)]
     main_orders(words[0], orders, steps)
 
 
