@@ -57,4 +57,7 @@ def main():
     print(f'{count} tables, {len(same)} merged', file=sys.stderr)
 
 
-main()
+if __name__ == '__main__':
+    if sys.argv[1:2] == ['--help']:
+        sys.exit(print(__doc__))
+    main()

@@ -51,4 +51,7 @@ def main():
         print(f'| {name} | {says} | {spent:.1f} s | {int(says.split()[0]) / spent:,.0f} |')
 
 
-main()
+if __name__ == '__main__':
+    if sys.argv[1:2] == ['--help']:
+        sys.exit(print(__doc__))
+    main()
