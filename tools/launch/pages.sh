@@ -111,7 +111,8 @@ two-input steps and a certificate of that: a refutation of each smaller size. It
   levels D           (--least-depth yes) of the chains of R steps none has fewer than D levels
 
 Tables: the line `inputs N`, then a line for each output with 2^N characters 0, 1 or - (don't-care). Row 0
-comes first, and x1 is the most significant digit of a row's number. tools/tables makes them of hex tables.
+comes first, and x1 is the most significant digit of a row's number. Each line ends with LF, the last one too;
+tools/tables makes them of hex tables, and of these lines with CR LF or without the last LF.
 
 END
     options_of synth
