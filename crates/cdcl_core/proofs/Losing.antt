@@ -93,6 +93,7 @@ forgotten_lost a b c id some forgotten lost = record {
   head = ap (λ (s : Search). s.head) lost.rest ∙ forgotten.head;
   given = ap (λ (s : Search). s.given) lost.rest ∙ forgotten.given;
   least = ap (λ (s : Search). s.least) lost.rest ∙ forgotten.least;
+  shorter = ap (λ (s : Search). s.shorter) lost.rest ∙ forgotten.shorter;
   clauses = ap length lost.deleted.clauses ∙ length-set b.clauses.clauses (id - 1) None ∙ forgotten.clauses;
   fewer = λ k clause is. forgotten.fewer k clause (still_live id b.clauses c.clauses k clause lost.deleted some is).0;
 }

@@ -89,6 +89,7 @@ jumped_restarted a b c jumped restarted =
       vars = restarted.vars ∙ jumped.vars;
       given = restarted.given ∙ jumped.given;
       least = restarted.least ∙ jumped.least;
+      shorter = restarted.shorter ∙ jumped.shorter;
       clauses = clauses ∙ jumped.clauses;
       starts = (let h : length b.starts.items < length a.starts.items = jumped.starts in let g : length c.starts.items ≤ length b.starts.items = restarted.starts in omega (arith, h, g));
     }

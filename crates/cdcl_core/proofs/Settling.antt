@@ -66,6 +66,7 @@ settled_propagated a b c settled propagated =
       vars = propagated.rest.grown.vars ∙ settled.vars;
       given = propagated.given ∙ settled.given;
       least = propagated.least ∙ settled.least;
+      shorter = propagated.shorter ∙ settled.shorter;
       more = (let h : length a.clauses.clauses ≤ length b.clauses.clauses = settled.more in omega (arith, h, clauses));
       starts = (let h : length b.clauses.clauses + length b.starts.items ≤ length a.clauses.clauses + length a.starts.items = settled.starts in omega (arith, h, clauses, starts));
       longer = λ same. (let h : length b.clauses.clauses ≡ length a.clauses.clauses → length a.trail.lits ≤ length b.trail.lits = settled.longer in let low : length a.trail.lits ≤ length b.trail.lits = h (omega (arith, same, clauses)) in let g : length b.trail.lits ≤ length c.trail.lits = propagated.rest.grown.longer in omega (arith, low, g));
@@ -89,6 +90,7 @@ settled_jumped a b c settled jumped =
       vars = jumped.vars ∙ settled.vars;
       given = jumped.given ∙ settled.given;
       least = jumped.least ∙ settled.least;
+      shorter = jumped.shorter ∙ settled.shorter;
       more = omega arith;
       starts = omega arith;
       longer = λ same. absurd (omega arith);
@@ -104,6 +106,7 @@ settled_forgotten a b c settled forgotten =
       vars = ap (λ (t : Trailed). t.vars) forgotten.trail ∙ settled.vars;
       given = forgotten.given ∙ settled.given;
       least = forgotten.least ∙ settled.least;
+      shorter = forgotten.shorter ∙ settled.shorter;
       more = (let h : length a.clauses.clauses ≤ length b.clauses.clauses = settled.more in omega (arith, h, clauses));
       starts = (let h : length b.clauses.clauses + length b.starts.items ≤ length a.clauses.clauses + length a.starts.items = settled.starts in omega (arith, h, clauses, starts));
       longer = λ same. (let h : length b.clauses.clauses ≡ length a.clauses.clauses → length a.trail.lits ≤ length b.trail.lits = settled.longer in let low : length a.trail.lits ≤ length b.trail.lits = h (omega (arith, same, clauses)) in omega (arith, low, lits));
@@ -114,6 +117,7 @@ jumped_forgotten a b c jumped forgotten = record {
   vars = ap (λ (t : Trailed). t.vars) forgotten.trail ∙ jumped.vars;
   given = forgotten.given ∙ jumped.given;
   least = forgotten.least ∙ jumped.least;
+  shorter = forgotten.shorter ∙ jumped.shorter;
   clauses = forgotten.clauses ∙ jumped.clauses;
   starts = (let h : length b.starts.items < length a.starts.items = jumped.starts in let same : length c.starts.items ≡ length b.starts.items = ap (λ ls. length ls.items) forgotten.starts in omega (arith, h, same));
 }

@@ -43,7 +43,7 @@ pub visited_written : (s t : Search) → IsVisited s → t ≡ record s { lines 
 visited_written s t visited same = subst (λ (x : Search). IsVisited x) (sym same) (record { guarded = visited.guarded; low = visited.low; begun = visited.begun })
 
 pub forgotten_written : (a s t : Search) → HasForgotten a s → t ≡ record s { lines = t.lines } → HasForgotten a t
-forgotten_written a s t forgotten same = subst (λ (x : Search). HasForgotten a x) (sym same) (record { trail = forgotten.trail; starts = forgotten.starts; head = forgotten.head; given = forgotten.given; least = forgotten.least; clauses = forgotten.clauses; fewer = forgotten.fewer })
+forgotten_written a s t forgotten same = subst (λ (x : Search). HasForgotten a x) (sym same) (record { trail = forgotten.trail; starts = forgotten.starts; head = forgotten.head; given = forgotten.given; least = forgotten.least; shorter = forgotten.shorter; clauses = forgotten.clauses; fewer = forgotten.fewer })
 
 -- what was noted of clauses before they are forgotten
 pub forgotten_noted : (a b c : Search) → b ≡ record a { merits = b.merits } → HasForgotten b c → HasForgotten a c
@@ -53,6 +53,7 @@ forgotten_noted a b c same forgotten = record {
   head = forgotten.head ∙ ap (λ (s : Search). s.head) same;
   given = forgotten.given ∙ ap (λ (s : Search). s.given) same;
   least = forgotten.least ∙ ap (λ (s : Search). s.least) same;
+  shorter = forgotten.shorter ∙ ap (λ (s : Search). s.shorter) same;
   clauses = forgotten.clauses ∙ ap (λ (s : Search). length s.clauses.clauses) same;
   fewer = λ id clause is. subst (λ (x : Stored). live_in x id ≡ Some clause) (ap (λ (s : Search). s.clauses) same) (forgotten.fewer id clause is);
 }

@@ -83,6 +83,7 @@ pub record HasForgotten (old new : Search) : Type 0 where
   pub head : new.head ≡ old.head
   pub given : new.given ≡ old.given
   pub least : new.least ≡ old.least
+  pub shorter : new.shorter ≡ old.shorter
   pub clauses : length new.clauses.clauses ≡ length old.clauses.clauses
   pub fewer : (id : ℕ) (clause : List ℤ) → live_in new.clauses id ≡ Some clause → live_in old.clauses id ≡ Some clause
 

@@ -119,6 +119,7 @@ pub record HasJumped (old new : Search) : Type 0 where
   pub vars : new.trail.vars ≡ old.trail.vars
   pub given : new.given ≡ old.given
   pub least : new.least ≡ old.least
+  pub shorter : new.shorter ≡ old.shorter
   pub clauses : length new.clauses.clauses ≡ length old.clauses.clauses + 1
   pub starts : length new.starts.items < length old.starts.items
 
@@ -139,6 +140,7 @@ pub record HasSettled (old new : Search) : Type 0 where
   pub vars : new.trail.vars ≡ old.trail.vars
   pub given : new.given ≡ old.given
   pub least : new.least ≡ old.least
+  pub shorter : new.shorter ≡ old.shorter
   pub more : length old.clauses.clauses ≤ length new.clauses.clauses
   pub starts : length new.clauses.clauses + length new.starts.items ≤ length old.clauses.clauses + length old.starts.items
   pub longer : length new.clauses.clauses ≡ length old.clauses.clauses → length old.trail.lits ≤ length new.trail.lits
@@ -161,4 +163,5 @@ pub record HasRun (budget : ℕ) (old new : Search) : Type 0 where
   pub vars : new.trail.vars ≡ old.trail.vars
   pub given : new.given ≡ old.given
   pub least : new.least ≡ old.least
+  pub shorter : new.shorter ≡ old.shorter
   pub few : length new.clauses.clauses ≤ new.given + budget + new.trail.vars + 1

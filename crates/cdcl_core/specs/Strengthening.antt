@@ -45,9 +45,10 @@ pub record HasSetAside (old new : Search) : Type 0 where
   pub clauses : length new.clauses.clauses ≡ length old.clauses.clauses
   pub fewer : (id : ℕ) (clause : List ℤ) → live_in new.clauses id ≡ Some clause → live_in old.clauses id ≡ Some clause
 
--- The last clause is one that is never forgotten.
+-- The last clause is one that is never forgotten, as those are that were so.
 pub record HasAdded (old new : Search) : Type 0 where
   pub alike : IsAlike old new
+  pub low : new.shorter.low ≡ old.shorter.low
   pub high : new.shorter.high ≡ length new.clauses.clauses
 
 -- Clauses may have been added, with ids up to `end`.

@@ -121,6 +121,7 @@ impl Search {
         requires end { end ≤ 4000000000 }
         ensures strengthening { OnOk result (IsStrengthening self.new work.new.units) }
         ensures strengthened { OnOk result (HasStrengthened end self.old self.new) }
+        ensures low { OnOk result (self.new.shorter.low ≡ self.old.shorter.low) }
         ensures logged { (f : Formula) → IsLogged f self.old → OnOk result (IsLogged f self.new) }
     {
         let last = self.clauses.last();
@@ -155,6 +156,7 @@ impl Search {
         requires end { end ≤ 4000000000 }
         ensures strengthening { OnOk result (IsStrengthening self.new work.new.units) }
         ensures strengthened { OnOk result (HasStrengthened end self.old self.new) }
+        ensures low { OnOk result (self.new.shorter.low ≡ self.old.shorter.low) }
         ensures logged { (f : Formula) → IsLogged f self.old → OnOk result (IsLogged f self.new) }
     {
         match work.finder.find(&self.clauses, id)? {
@@ -173,6 +175,7 @@ impl Search {
         requires end { end ≤ 4000000000 }
         ensures strengthening { OnOk result (IsStrengthening self.new work.new.units) }
         ensures strengthened { OnOk result (HasStrengthened end self.old self.new) }
+        ensures low { OnOk result (self.new.shorter.low ≡ self.old.shorter.low) }
         ensures logged { (f : Formula) → IsLogged f self.old → OnOk result (IsLogged f self.new) }
     {
         for turn in 0..work.finder.turns() {
@@ -190,6 +193,7 @@ impl Search {
         requires end { end ≤ 4000000000 }
         ensures bare { OnOk result (IsBare self.new) }
         ensures strengthened { OnOk result (HasStrengthened end self.old self.new) }
+        ensures low { OnOk result (self.new.shorter.low ≡ self.old.shorter.low) }
         ensures logged { (f : Formula) → IsLogged f self.old → OnOk result (IsLogged f self.new) }
     {
         let alloc = *self.starts.allocator();
@@ -205,6 +209,7 @@ impl Search {
         ensures bare { IsBare self.new }
         ensures clauses { self.new.clauses ≡ self.old.clauses }
         ensures alike { IsAlike self.old self.new }
+        ensures low { self.new.shorter.low ≡ length self.new.clauses.clauses }
         ensures high { self.new.shorter.high ≡ length self.new.clauses.clauses }
         ensures logged { (f : Formula) → IsLogged f self.old → IsLogged f self.new }
     {
@@ -228,6 +233,7 @@ impl Search {
         ensures visited { IfOk result (λ found. IfNone found (IsVisited self.new)) }
         ensures conflict { IfOk result (λ found. IfSome found (IsFalsified (live_in self.new.clauses) (fell_of self.new.trail))) }
         ensures strengthened { IfOk result (λ _. HasStrengthened end self.old self.new) }
+        ensures low { IfOk result (λ _. self.new.shorter.low ≡ length self.old.clauses.clauses) }
         ensures logged { (f : Formula) → IsLogged f self.old → IfOk result (λ _. IsLogged f self.new) }
     {
         self.rewind();

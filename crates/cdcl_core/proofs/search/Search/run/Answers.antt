@@ -40,6 +40,7 @@ loop-conflict-preserved c =
       logged = λ f log. logged_decided f b d (c.in_ok-tidy.ensures.logged f (c.in_ok-conflict.ensures.logged f (c.loop-conflict.invariant.logged f log))) decided;
       given = decided.given ∙ given;
       least = decided.least ∙ settled.least ∙ c.loop-conflict.invariant.least;
+      shorter = decided.shorter ∙ settled.shorter ∙ c.loop-conflict.invariant.shorter;
       few = omega (arith, clauses, starts, vars, short, under, given);
       vars = vars ∙ settled.vars ∙ c.loop-conflict.invariant.vars;
     }

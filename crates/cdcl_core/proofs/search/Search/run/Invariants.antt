@@ -10,6 +10,7 @@ invariant-loop-conflict l = record {
   logged : (f : Formula) → IsLogged f l.initial.self → IsLogged f l.self;
   given : l.self.given ≡ l.initial.self.given;
   least : l.self.least ≡ l.initial.self.least;
+  shorter : l.self.shorter ≡ l.initial.self.shorter;
   few : length l.self.clauses.clauses + length l.self.starts.items ≤ l.initial.self.given + l.budget + l.self.trail.vars + 1;
   vars : l.self.trail.vars ≡ l.initial.self.trail.vars;
 }
