@@ -1,3 +1,4 @@
+use Rattle.std.proofs.Common.{◌∙◌, refl}
 use Rattle.cdcl_core.proofs.Standing.{strengthened_self, strengthened_trans}
 use Rattle.cdcl_core.proofs.search.Search.strengthen_all.Goals as goal
 
@@ -5,6 +6,7 @@ pub loop-turn-init : goal.loop-turn-init
 loop-turn-init c = record {
   strengthening = c.requires.strengthening;
   strengthened = strengthened_self c.args.end c.args.self.now;
+  low = refl;
   logged = λ f logged. logged;
 }
 
@@ -15,6 +17,7 @@ pub loop-turn-preserved : goal.loop-turn-preserved
 loop-turn-preserved c = record {
   strengthening = c.in_ok-strengthen_one.ensures.strengthening;
   strengthened = strengthened_trans c.args.end c.args.self.now c.loop-turn.self c.strengthen_one.new.self c.loop-turn.invariant.strengthened c.in_ok-strengthen_one.ensures.strengthened;
+  low = c.in_ok-strengthen_one.ensures.low ∙ c.loop-turn.invariant.low;
   logged = λ f logged. c.in_ok-strengthen_one.ensures.logged f (c.loop-turn.invariant.logged f logged);
 }
 
@@ -26,3 +29,6 @@ returns-clause-strengthened c = c.loop-turn.invariant.strengthened
 
 pub returns-clause-logged : goal.returns-clause-logged
 returns-clause-logged c = c.loop-turn.invariant.logged
+
+pub returns-clause-low : goal.returns-clause-low
+returns-clause-low c = c.loop-turn.invariant.low
