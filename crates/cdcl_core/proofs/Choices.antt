@@ -1,4 +1,4 @@
--- How the heap holds the variables without a value, all through a search.
+-- The heap holds all variables without a value, throughout a search.
 use Rattle.std.proofs.Common.{◌≡◌, ◌≢◌, ℕ, ◌+◌, ◌-◌, ◌<◌, ◌≤◌, ℤ, Bool, true, false, List, Option, length, slice_index_or, slice_set, subst, sym, ap, ◌∙◌, arith, refl}
 use Rattle.std.proofs.Math.Logic.{⊎_elim}
 use Rattle.std.proofs.lemmas.Bool.{cases_lt, cases_eq}
@@ -15,7 +15,7 @@ use Rattle.cdcl_core.specs.Choosing.{IsChoosing}
 use Rattle.cdcl_core.proofs.Growing.{same_pushed}
 use Rattle.cdcl_core.proofs.Jumps.{pushed_on}
 
--- both literals of a variable are free, or neither is
+-- both literals of a variable have no value, or neither
 free_same : (t : Trailed) (l m : ℤ) → variable l ≡ variable m → IsFree t l → IsFree t m
 free_same t l m same free =
     ⊎_elim
@@ -25,7 +25,7 @@ free_same t l m same free =
     (ap (fell t) (sym (opposite-opposite m)) ∙ here.1, here.0))
     (same_variable l m same)
 
--- what is free when more literals are true was free before
+-- what has no value after further assignments had none before
 free_before : (t new : Trailed) (l : ℤ) → IsTrail t → SameFallen (length t.lits) (fell t) (fell new) → IsFree new l → IsFree t l
 free_before t new l trail same free = (up l free.0, up (opposite l) free.1)
   where
@@ -36,7 +36,7 @@ free_before t new l trail same free = (up l free.0, up (opposite l) free.1)
         (λ (low : fell t m ≤ 0). omega (arith, low))
         (cases_lt 0 (fell t m))
 
--- So the heap may stay unchanged when more literals become true.
+-- So assignments may leave the heap unchanged.
 pub choosing_more : (t new : Trailed) (c : Choice) → IsTrail t → new.vars ≡ t.vars → SameFallen (length t.lits) (fell t) (fell new) → IsChoosing t c → IsChoosing new c
 choosing_more t new c trail vars same choosing = record {
   vars = choosing.vars ∙ sym vars;
@@ -58,7 +58,7 @@ marked_heap h v b = record { vars = h.vars; scores = h.scores; marks = slice_set
 held_still : (h : Held) (v w : ℕ) (b : Bool) → w ≢ v → IsHeld h w → IsHeld (marked_heap h v b) w
 held_still h v w b apart held = get_or-set_other h.marks v w b false apart ∙ held
 
--- And a variable may leave the heap where it gets a value.
+-- And a variable that gets a value may leave the heap.
 pub choosing_decided : (t : Trailed) (c d : Choice) (x : ℤ) (v r : ℕ) → IsTrail t → IsChoosing t c → variable x ≡ v → IsOver t.vars x → IsFree t x → d.heap ≡ marked_heap c.heap v false → length d.signs.items ≡ length c.signs.items → IsChoosing (pushed t x r) d
 choosing_decided t c d x v r trail choosing var over free_x heap signs = record {
   vars = ap (λ (h : Held). h.vars) heap ∙ choosing.vars;
@@ -77,7 +77,7 @@ choosing_decided t c d x v r trail choosing var over free_x heap signs = record 
 pub record AreReleased (t : Trailed) (from end : ℕ) (c : Choice) : Type 0 where
   pub held : (p : ℕ) (d : ℤ) → from ≤ p → p < end → p < length t.lits → IsHeld c.heap (variable (slice_index_or t.lits p d))
 
--- When all from an index on are released, the trail may be cut back to there.
+-- If all from an index on are held, the trail may be cut back to there.
 pub choosing_back : (t back : Trailed) (from end : ℕ) (c : Choice) → IsTrail t → length t.lits ≤ end → IsChoosing t c → AreReleased t from end c → IsBack from t back → IsChoosing back c
 choosing_back t back from end c trail all choosing released is_back = record {
   vars = choosing.vars ∙ sym is_back.vars;
@@ -86,7 +86,7 @@ choosing_back t back from end c trail all choosing released is_back = record {
   held = λ l over free. held_now l (subst (λ (n : ℕ). IsOver n l) is_back.vars over) free;
 }
   where
-    -- what has lost its value was released
+    -- what lost its value is held
     lost : (l m : ℤ) → variable m ≡ variable l → fell back m ≡ 0 → 0 < fell t m → IsHeld c.heap (variable l)
     lost l m same none down =
         let high : fell t m ≤ length t.lits = trail.places.within m in
@@ -117,14 +117,14 @@ choosing_scores c d vars marks signs t choosing = record {
   held = λ l over free. rw marks (choosing.held l over free);
 }
 
--- a step back more
+-- one more step back
 pub back_more : (n : ℕ) (a b c : Trailed) → IsBack n a b → 0 < n → IsBack (length b.lits - 1) b c → IsBack (length c.lits) a c
 back_more n a b c first some second =
     let low : length b.lits ≡ n = first.short in
     let short : length c.lits ≡ length b.lits - 1 = second.short in
     rw short (back_trans n (length b.lits - 1) a b c (omega arith) first second)
 
--- The last literal is released.
+-- The last literal is unassigned.
 pub last_released : (t : Trailed) (c : Choice) (l : ℤ) → ((d : ℤ) → l ≡ slice_index_or t.lits (length t.lits - 1) d) → IsHeld c.heap (variable l) → AreReleased t (length t.lits - 1) (length t.lits) c
 last_released t c l is held = record {
   held = λ p d from low _. (let at : p ≡ length t.lits - 1 = omega (arith, from, low) in subst (λ (m : ℤ). IsHeld c.heap (variable m)) (is d ∙ ap (λ (q : ℕ). slice_index_or t.lits q d) (sym at)) held);

@@ -1,4 +1,4 @@
--- What a search has shown is still shown when its log was thinned.
+-- Final deletions keep what a search has shown.
 use Rattle.std.proofs.Common.{◌≡◌, ℕ, ◌≤◌, List, [], Contains, subst, sym, arith}
 use Rattle.sat_theory.specs.Formula.{Formula}
 use Rattle.sat_theory.specs.Line.{Line}

@@ -60,7 +60,7 @@ from_tail a x xs are = λ k d low.
     let here : slice_index_or (x ∷ xs) (suc k) d ≡ slice_index_or xs k d = refl in
     omega (arith, at, here)
 
--- one of them that passes no more
+-- one of them no longer passes
 pub count_dropped : (p q : ℕ → Bool) (a x : ℕ) (xs : List ℕ) → AreFrom a xs → a ≤ x → x < a + length xs → p x ≡ true → q x ≡ false → ((y : ℕ) → (y ≡ x → ⊥) → q y ≡ p y) → count_by q xs + 1 ≡ count_by p xs
 count_dropped p q a x [] are low high was is others = absurd (let none : length {A = ℕ} [] ≡ 0 = refl in omega arith)
 count_dropped p q a x (y ∷ ys) are low high was is others =
@@ -95,7 +95,7 @@ but p r y = cond {A = Bool} (y == r) false (p y)
 but_other : (p : ℕ → Bool) (r y : ℕ) → (y ≡ r → ⊥) → but p r y ≡ p y
 but_other p r y apart = rw (ne_eqb y r apart) refl
 
--- at most one fewer passes where one number may no more
+-- at most one fewer passes if one number no longer does
 count_but : (p : ℕ → Bool) (a r : ℕ) (xs : List ℕ) → AreFrom a xs → count_by p xs ≤ count_by (but p r) xs + 1
 count_but p a r [] are = (let none : count_by p [] ≡ 0 = refl in omega arith)
 count_but p a r (y ∷ ys) are =

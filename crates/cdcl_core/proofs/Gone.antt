@@ -1,4 +1,4 @@
--- The log when clauses are deleted.
+-- The log under deletions of clauses.
 use Rattle.std.proofs.Common.{◌⊎◌, ◌≡◌, ◌≢◌, ℕ, ◌+◌, ◌-◌, ◌*◌, ◌<◌, ◌≤◌, ◌==◌, ◌||◌, ℤ, Bool, true, false, if◌then◌else◌, List, [], ◌∷◌, ◌++◌, length, slice_index_or, Contains, All, Any, Option, Some, None, IsSome, is_some, count_by, subst, sym, ap, ◌∙◌, arith, inl, inr, refl}
 use Rattle.std.proofs.Math.Logic.{⊎_elim}
 use Rattle.std.proofs.lemmas.Bool.{cases_lt, ne_eqb, eq-eqb}
@@ -249,7 +249,7 @@ pub reaches_gone : (f : Formula) (lines : List Line) (own : ℕ) (ids : List ℕ
 reaches_gone f lines own [] has = has
 reaches_gone f lines own (x ∷ xs) has = ⊎_elim (λ (there : Contains f.clauses []). inl there) (λ (added : Any AddsEmpty lines). inr (any_front lines (Delete own (x ∷ xs)) added)) has
 
--- what is live, and what is gone
+-- what is live, and what is deleted
 live_are : (f : Formula) (s : Stored) (lines : List Line) (deleted least : ℕ) → IsLog f s lines deleted least → live_additions (after (start f) lines) lines + deleted ≡ additions lines
 live_are f s lines deleted least log = log.gone
 
@@ -260,7 +260,7 @@ log_kept f s lines deleted least log enough =
     let half : 2 * deleted ≤ additions lines = ⊎_elim (λ (low : 2 * deleted ≤ least). omega (arith, low, enough)) (λ (half : 2 * deleted ≤ additions lines). half) log.half in
     omega (arith, all, half)
 
--- A log that isn't thick is thinned.
+-- A log with few enough live additions is thinned.
 pub log_thinned : (f : Formula) (s : Stored) (lines : List Line) (deleted least : ℕ) → IsLog f s lines deleted least → (length f.clauses + 4 * (deleted + s.vars + 2000) < length s.clauses → ⊥) → IsThinned f lines
 log_thinned f s lines deleted least log thin = record {
   spares = log.spares;

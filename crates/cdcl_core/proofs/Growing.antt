@@ -1,4 +1,4 @@
--- How the trail grows: by one literal with its reason, and on from there.
+-- Extension of the trail: by one literal with its reason, and step by step.
 use Rattle.std.proofs.Common.{◌≡◌, ℕ, ◌+◌, ◌<◌, ◌≤◌, ℤ, List, [], ◌∷◌, ◌++◌, length, slice_index_or, Option, sym, ap, ◌∙◌, arith, refl}
 use Rattle.std.proofs.Math.Logic.{⊎_elim}
 use Rattle.std.proofs.lemmas.Bool.{cases_lt}
@@ -17,7 +17,7 @@ same_pushed t l r trail small down =
     let room : code_of (opposite l) < length t.table = rw trail.table_room (code_of-room (opposite l) t.vars (rw variable-opposite small)) in
     rw (place_in-set t.table (opposite l) (length t.lits + 1) room) (same_push t.lits (fell t) l down)
 
--- a literal of the trail is of another variable than a free one
+-- a trail literal has another variable than a free one
 pub apart_free : (t : Trailed) (p : ℕ) (d l : ℤ) → IsTrail t → p < length t.lits → IsFree t l → variable (slice_index_or t.lits p d) ≡ variable l → ⊥
 apart_free t p d l trail within free same =
     let down : fell t (opposite (slice_index_or t.lits p d)) ≡ p + 1 = place_at t.lits (fell t) p d (slice_index_or t.lits p d) trail.places within refl in

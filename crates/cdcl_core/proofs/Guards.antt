@@ -1,4 +1,4 @@
--- How the watch invariant lasts.
+-- What keeps the watch invariant.
 use Rattle.std.proofs.Common.{◌≡◌, ℕ, ◌+◌, ◌<◌, ◌≤◌, ◌⊎◌, ℤ, pos, List, [], ◌∷◌, ◌++◌, length, slice_index_or, Contains, All, Some, subst, sym, ap, ◌∙◌, arith, inl, inr, refl}
 use Rattle.std.proofs.Math.Logic.{⊎_elim}
 use Rattle.std.proofs.lemmas.Bool.{cases_lt, cases_eq}
@@ -17,14 +17,14 @@ use Rattle.clause_db.specs.Moving.{added_watches}
 use Rattle.cdcl_core.specs.Guarding.{HasTrue, IsBacked, IsTrueForGood, IsGuarded, HasTrueAt}
 use Rattle.cdcl_core.proofs.Judging.{settled_by_true}
 
--- with fewer propagated literals less is asked
+-- with fewer propagated literals less is required
 pub guarded_less : (s : Stored) (places : ℤ → ℕ) (starts : List ℕ) (low high : ℕ) → low ≤ high → IsGuarded s places starts high → IsGuarded s places starts low
 guarded_less s places starts low high order guarded = record {
   long = λ id w clause watches is fallen. guarded.long id w clause watches is (fallen.0, (let h : places w ≤ low = fallen.1 in omega (arith, h, order)));
   short = guarded.short;
 }
 
--- what backs a literal still does when more have fallen,
+-- the true literal of a clause still protects it when more are false,
 backed_more : (f g : ℤ → ℕ) (starts : List ℕ) (n : ℕ) (clause : List ℤ) (w : ℤ) → SameFallen n f g → ((l : ℤ) → f l ≤ n) → All (λ s. s ≤ n) starts → 0 < f w → IsBacked f starts clause w → IsBacked g starts clause w
 backed_more f g starts n clause w same within low some backed = record {
   lit = backed.lit;
@@ -48,7 +48,7 @@ good_more f g starts n clause same within low good = record {
       (same.there (slice_index_or starts k d) (opposite good.lit) under (good.on, good.bottom k d inside)).1;
 }
 
--- The invariant lasts when literals become true and clauses watch others that aren't false.
+-- The invariant is kept when literals become true and clauses watch others that aren't false.
 pub guarded_moved : (a b : Stored) (f g : ℤ → ℕ) (starts : List ℕ) (n head : ℕ) → SameFallen n f g → ((l : ℤ) → f l ≤ n) → head ≤ n → All (λ s. s ≤ head) starts → b.clauses ≡ a.clauses → ((id : ℕ) (w : ℤ) → Watches b id w → Watches a id w ⊎ (f w ≡ 0)) → IsGuarded a f starts head → IsGuarded b g starts head
 guarded_moved a b f g starts n head same within high low clauses moved guarded = record {
   long = λ id w clause watches is fallen.
@@ -82,7 +82,7 @@ guarded_visited s t starts head l trail low inside at visited guarded = record {
   short = guarded.short;
 }
 
--- a literal that is true hasn't fallen
+-- a true literal isn't false
 true_up : (t : Trailed) (l : ℤ) → IsTrail t → 0 < fell t (opposite l) → fell t l ≡ 0
 true_up t l trail on = ap (fell t) (sym (opposite-opposite l)) ∙ trail.places.one_side (opposite l) on
 
@@ -162,8 +162,8 @@ guarded_decided s t starts trail guarded = record {
       record { lit = good.lit; there = good.there; on = good.on; bottom = All-push (λ x. fell t (opposite good.lit) ≤ x) starts (length t.lits) good.bottom (trail.places.within (opposite good.lit)) };
 }
 
--- A learnt clause keeps the invariant: its first literal is true, and its second one fell last of
--- the others.
+-- A learnt clause keeps the invariant: its first literal is true, and its second one became false last of the
+-- others.
 pub guarded_added : (s : Stored) (places : ℤ → ℕ) (starts : List ℕ) (head : ℕ) (lits : List ℤ) → IsStored s → 0 < length lits → 0 < places (opposite (slice_index_or lits 0 (pos 1))) → places (slice_index_or lits 0 (pos 1)) ≡ 0 → (length lits < 2 → All (λ x. places (opposite (slice_index_or lits 0 (pos 1))) ≤ x) starts) → (2 ≤ length lits → All (λ x. x < places (slice_index_or lits 1 (pos 1))) starts) → IsGuarded s places starts head → IsGuarded (added s lits) places starts head
 guarded_added s places starts head lits stored some on up bottom late guarded = record {
   long = λ id w clause watches is fallen. ⊎_elim

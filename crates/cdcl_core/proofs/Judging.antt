@@ -1,4 +1,4 @@
--- What a clause says under the values of a trail.
+-- The status of a clause under the values of a trail.
 use Rattle.std.proofs.Common.{◌≡◌, ℕ, ◌+◌, ◌<◌, ◌≤◌, ◌⊎◌, ℤ, List, length, slice_index_or, Contains, All, Option, Some, None, subst, sym, ap, ◌∙◌, arith, inl, inr, refl}
 use Rattle.std.proofs.Math.Logic.{⊎_elim}
 use Rattle.std.proofs.lemmas.Bool.{cases_eq}
@@ -10,7 +10,7 @@ use Rattle.cdcl_theory.specs.Trails.{Trailed, fell, IsTrail}
 use Rattle.clause_db.specs.Members.{AreMembersOf, all_of_members}
 use Rattle.cdcl_core.specs.Verdicts.{IsLeft}
 
--- the literal at one of the first i indices has no value, and all others there have fallen
+-- the literal at one of the first i indices has no value, and all others there are false
 pub record IsOneLeft (places : ℤ → ℕ) (lits : List ℤ) (i : ℕ) (l : ℤ) : Type 0 where
   pub index : ℕ
   pub early : index < i
@@ -23,7 +23,7 @@ pub record IsOneLeft (places : ℤ → ℕ) (lits : List ℤ) (i : ℕ) (l : ℤ
 pub record AllDown (places : ℤ → ℕ) (lits : List ℤ) (i : ℕ) : Type 0 where
   pub each : (k : ℕ) (d : ℤ) → k < i → 0 < places (slice_index_or lits k d)
 
--- the first i literals have fallen, but for the one that was found
+-- the first i literals are false, except the one that was found
 abbrev pub HasSeen : (ℤ → ℕ) → List ℤ → ℕ → Option ℤ → Type 0
 HasSeen places lits i None = AllDown places lits i
 HasSeen places lits i (Some l) = IsOneLeft places lits i l
@@ -34,7 +34,7 @@ seen_none places lits = record { each = λ k d (low : k < 0). absurd (omega arit
 at_index : (lits : List ℤ) (i k : ℕ) (d l : ℤ) → k ≡ i → i < length lits → slice_index_or lits i l ≡ l → slice_index_or lits k d ≡ l
 at_index lits i k d l e within at = grind (arith, common_steps)
 
--- one more literal that has fallen
+-- one more literal is false
 pub seen_down : (places : ℤ → ℕ) (lits : List ℤ) (i : ℕ) (l : ℤ) (found : Option ℤ) → i < length lits → slice_index_or lits i l ≡ l → 0 < places l → HasSeen places lits i found → HasSeen places lits (i + 1) found
 seen_down places lits i l None within at down seen = record { each = λ k d low. ⊎_elim (λ (e : k ≡ i). subst (λ (x : ℤ). 0 < places x) (sym (at_index lits i k d l e within at)) down) (λ (apart : k ≡ i → ⊥). seen.each k d (omega arith)) (cases_eq k i) }
 seen_down places lits i l (Some m) within at down seen = record {
@@ -47,7 +47,7 @@ seen_down places lits i l (Some m) within at down seen = record {
   others = λ k d low. ⊎_elim (λ (e : k ≡ i). inr (subst (λ (x : ℤ). 0 < places x) (sym (at_index lits i k d l e within at)) down)) (λ (apart : k ≡ i → ⊥). seen.others k d (omega arith)) (cases_eq k i);
 }
 
--- the first that has no value
+-- the first literal without a value
 pub seen_left : (places : ℤ → ℕ) (lits : List ℤ) (i : ℕ) (l : ℤ) → i < length lits → slice_index_or lits i l ≡ l → places l ≡ 0 → places (opposite l) ≡ 0 → HasSeen places lits i None → HasSeen places lits (i + 1) (Some l)
 seen_left places lits i l within at up free seen = record {
   index = i;
@@ -71,14 +71,14 @@ seen_one places lits i l done seen = record {
   others = λ k d low. seen.others k d (omega arith);
 }
 
--- a true literal settles a clause, since it is neither fallen nor free
+-- a true literal settles a clause, since it is neither false nor free
 pub settled_by_true : (places : ℤ → ℕ) (lits : List ℤ) (l : ℤ) → Contains lits l → places l ≡ 0 → 0 < places (opposite l) → IsSettled places lits
 settled_by_true places lits l there up true_now = record {
   not_false = λ all. (let down : 0 < places l = All-contains (λ m. 0 < places m) lits l all there in omega arith);
   not_unit = λ u none free all. ⊎_elim (λ (e : l ≡ u). (let h : places (opposite l) ≡ places (opposite u) = ap (λ (x : ℤ). places (opposite x)) e in omega arith)) (λ (down : 0 < places l). omega arith) (All-contains (λ m. (m ≡ u) ⊎ (0 < places m)) lits l all there);
 }
 
--- and so do two that haven't fallen
+-- and so do two that aren't false
 pub settled_by_two : (places : ℤ → ℕ) (lits : List ℤ) (i : ℕ) (l m : ℤ) → IsClause lits → i < length lits → slice_index_or lits i l ≡ l → places l ≡ 0 → HasSeen places lits i (Some m) → IsSettled places lits
 settled_by_two places lits i l m clause within at up seen = record {
   not_false = λ all_down. (let down : 0 < places l = subst (λ (x : ℤ). 0 < places x) at (all_down i l within) in omega arith);
@@ -103,7 +103,7 @@ left_implies live t id row l trail read left = record {
   others = all_of_members (λ m. (m ≡ l) ⊎ IsFallen (fell t) (length t.lits) m) row read.clause read.same (λ k d low. ⊎_elim (λ (e : slice_index_or row k d ≡ l). inl e) (λ (down : 0 < fell t (slice_index_or row k d)). inr (down, trail.places.within (slice_index_or row k d))) (left.others k d low));
 }
 
--- A clause all of whose literals have fallen is falsified.
+-- A clause all of whose literals are false is falsified.
 pub row_falsified : (live : ℕ → Option (List ℤ)) (places : ℤ → ℕ) (id : ℕ) (row : List ℤ) → AreMembersOf live id row → All (λ m. 0 < places m) row → IsFalsified live places id
 row_falsified live places id row read down = record {
   clause = read.clause;

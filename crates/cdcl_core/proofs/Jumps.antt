@@ -27,7 +27,7 @@ pushed_on t l r trail over free =
       true_not_fallen (t.lits ++ l ∷ []) (fell (pushed t l r)) (length t.lits) l l whole.places (omega (arith, long)) at,
     )
 
--- The invariant lasts when a literal is made true.
+-- The invariant is kept when a literal is assigned.
 pub guarded_pushed : (s : Stored) (t : Trailed) (starts : List ℕ) (head : ℕ) (l : ℤ) (r : ℕ) → IsTrail t → IsOver t.vars l → IsFree t l → head ≤ length t.lits → All (λ x. x ≤ head) starts → IsGuarded s (fell t) starts head → IsGuarded s (fell (pushed t l r)) starts head
 guarded_pushed s t starts head l r trail over free low begun guarded =
     guarded_moved s s (fell t) (fell (pushed t l r)) starts (length t.lits) head (same_pushed t l r trail over.1 free.1) trail.places.within low begun refl (λ id w watches. inl watches) guarded

@@ -1,4 +1,4 @@
--- How the decision levels of a trail last: through propagation, a decision, and a backjump.
+-- Propagation, decisions and backjumps keep the invariant of decision levels.
 use Rattle.std.proofs.Common.{◌≡◌, ℕ, ◌+◌, ◌-◌, ◌<◌, ◌≤◌, ◌⊎◌, ℤ, pos, List, [], ◌∷◌, ◌++◌, length, slice_index_or, Contains, All, AllPairs, Option, Some, subst, sym, ap, ◌∙◌, arith, inl, inr}
 use Rattle.std.proofs.Math.Logic.{⊎_elim}
 use Rattle.std.proofs.lemmas.Bool.{cases_lt, cases_eq}
@@ -70,7 +70,7 @@ layered_decided live t starts more l layered settled over free is = rw is (recor
     same : SameFallen (length t.lits) (fell t) (fell (pushed t l 0))
     same = same_pushed t l 0 layered.whole over.1 free.1
 
--- what fell after a place isn't false any more when the trail was cut back to it
+-- what became false after a position isn't false once the trail is cut back to it
 pub back_gone : (n : ℕ) (t new : Trailed) (l : ℤ) → IsTrail new → IsBack n t new → n < fell t l → fell new l ≡ 0
 back_gone n t new l trail back late =
     ⊎_elim
@@ -241,7 +241,7 @@ layered_jumped live more t back starts fewer start end place id lits hints is_mo
         let same_reason : reason_of back (slice_index_or t.lits p d) ≡ reason_of t (slice_index_or t.lits p d) = ap (λ (rs : List ℕ). slice_index_or rs (variable (slice_index_or t.lits p d)) 0) is_back.reasons in
         ap (reason_of (pushed back u id)) (get_or_append_left back.lits (u ∷ []) d p early) ∙ reason_other back p id d u trail_back early free ∙ ap (reason_of back) same_lit ∙ same_reason ∙ layered.decisions p d was
 
--- all literals of a learnt clause have fallen
+-- all literals of a learnt clause are false
 pub learnt_fallen : (live : ℕ → Option (List ℤ)) (t : Trailed) (start place : ℕ) (lits : List ℤ) (hints : List ℕ) → IsLearnt live t start lits place hints → All (λ l. 0 < fell t l) lits
 learnt_fallen live t start place lits hints learnt k d low =
     ⊎_elim
@@ -253,7 +253,7 @@ learnt_fallen live t start place lits hints learnt k d low =
 pub learnt_over : (live : ℕ → Option (List ℤ)) (t : Trailed) (start place : ℕ) (lits : List ℤ) (hints : List ℕ) → IsLearnt live t start lits place hints → IsOver t.vars (asserting lits)
 learnt_over live t start place lits hints learnt = (learnt.clause.literals 0 (pos 0) learnt.some, learnt.variables 0 (pos 0) learnt.some)
 
--- So the levels last through a backjump, over stored clauses.
+-- So a backjump keeps the invariant of levels, over stored clauses.
 pub jumped_layers : (s : Stored) (t back : Trailed) (starts fewer : List ℕ) (start end place id : ℕ) (lits : List ℤ) (hints : List ℕ) (u : ℤ) → IsLayered (live_in s) t starts → IsLearnt (live_in s) t start lits place hints → IsLastStart starts start → IsDropped place starts fewer end → IsTrail back → IsBack end t back → id ≡ length s.clauses + 1 → u ≡ asserting lits → IsLayered (live_in (added s lits)) (pushed back u id) fewer
 jumped_layers s t back starts fewer start end place id lits hints u layered learnt level dropped trail_back is_back id_is u_is =
     rw u_is (layered_jumped (live_in s) (live_in (added s lits)) t back starts fewer start end place id lits hints

@@ -1,4 +1,4 @@
--- How the log grows.
+-- Additions to the log.
 use Rattle.std.proofs.Common.{◌≡◌, ◌⊎◌, ℕ, ◌+◌, ◌-◌, ◌*◌, ◌^◌, ◌<◌, ◌≤◌, ℤ, Bool, true, List, [], ◌∷◌, ◌++◌, length, slice_index_or, Contains, All, Option, Some, is_some, count_by, subst, sym, ap, ◌∙◌, arith, inl, inr, refl}
 use Rattle.std.proofs.Math.Logic.{⊎_elim}
 use Rattle.std.proofs.lemmas.Bool.{cases_eq, ne_eqb}
@@ -131,7 +131,8 @@ log_added f s lines id lits hints deleted least log stored is_clause within smal
         (λ (apart : k ≡ length (added_ids lines) → ⊥). (let inside : k < length (added_ids lines) = omega (arith, low, one_more, apart) in get_or_append_left (added_ids lines) (id ∷ []) d k inside ∙ log.ids k d inside))
         (cases_eq k (length (added_ids lines)))
 
--- A clause that is new among the clauses of a search is new in the log, whose other clauses are covered.
+-- A clause that no live clause of a search subsumes is subsumed by none of the log either: the log's other
+-- clauses are covered.
 new_in_state : (f : Formula) (s : Search) (st : State) (lits : List ℤ) → IsStateOf f s.clauses st → AreCovered f s → IsNew (live_in s.clauses) lits → IsNew st.live lits
 new_in_state f s st lits state covered new id clause is inside =
     ⊎_elim
@@ -141,7 +142,7 @@ new_in_state f s st lits state covered new id clause is inside =
     (λ (kept : live_in s.clauses id ≡ Some (sorted clause)). new id (sorted clause) kept (All-sorted (Contains lits) clause inside))
     (state.only id clause is)
 
--- that is new and not empty
+-- it isn't empty either
 pub new_added : (f : Formula) (s : Search) (id : ℕ) (lits : List ℤ) (hints : List ℕ) → IsLogged f s → IsNew (live_in s.clauses) lits → 0 < length lits → AreNew f (s.lines ++ Add id lits hints ∷ [])
 new_added f s id lits hints logged new some = record {
   fresh = EachLine-push IsFresh (start f) s.lines (Add id lits hints) logged.new.fresh (new_in_state f s (after (start f) s.lines) lits logged.log.state logged.covered new);
@@ -176,7 +177,7 @@ covered_same f s t covered clauses given shorter id clause here =
 no_literals : IsClause []
 no_literals = record { literals = λ k d (low : k < 0). absurd (omega arith); differ = λ i j d less (low : j < 0). absurd (omega arith) }
 
--- It may end the log.
+-- It can end the log.
 pub log_refuted : (f : Formula) (s : Stored) (lines : List Line) (id : ℕ) (hints : List ℕ) (deleted least : ℕ) → IsLog f s lines deleted least → IsStored s → s.vars < 1000000000 → id ≡ length s.clauses + 1 → HintsHold (live_in s) (among []) hints → IsLog f (added s []) (lines ++ Add id [] hints ∷ []) deleted least
 log_refuted f s lines id hints deleted least log stored small is hold = log_added f s lines id [] hints deleted least log stored no_literals (λ k d (low : k < 0). absurd (omega arith)) small is hold
 

@@ -1,4 +1,4 @@
--- A search whose clauses are deleted.
+-- Deletion of a clause from a search.
 use Rattle.std.proofs.Common.{◌≡◌, ℕ, ◌+◌, ◌-◌, ◌*◌, ◌<◌, ◌≤◌, ◌↔◌, ℤ, List, [], ◌∷◌, ◌++◌, length, slice_index_or, Contains, All, Option, Some, None, subst, sym, ap, ◌∙◌, arith, inl, inr, refl}
 use Rattle.std.proofs.Math.Logic.{⊎_elim}
 use Rattle.std.proofs.lemmas.List.{length-set}
@@ -17,7 +17,7 @@ use Rattle.cdcl_core.specs.Searching.{IsSearching, IsVisited, IsIrredundant, IsC
 use Rattle.cdcl_core.specs.Forgetting.{IsPending, IsNoReason, IsImplied, NoneImplied, HasHalf, HasLost, HasForgotten}
 use Rattle.cdcl_core.proofs.Gone.{log_lost}
 
--- A clause of which no literal is implied by it is no reason; `row` has its literals.
+-- A clause that is the reason of none of its literals is no reason; `row` has its literals.
 pub no_reason : (s : Search) (id : ℕ) (row : List ℤ) → IsSearching s → ((clause : List ℤ) → live_in s.clauses id ≡ Some clause → (l : ℤ) → Contains row l ↔ Contains clause l) → NoneImplied s.trail row (length row) id → IsNoReason s id
 no_reason s id row searching same none = record {
   none = λ p d low reason at.
@@ -32,7 +32,7 @@ no_reason s id row searching same none = record {
 fewer_closed : (live less : ℕ → Option (List ℤ)) (places : ℤ → ℕ) (starts : List ℕ) → ((id : ℕ) (clause : List ℤ) → less id ≡ Some clause → live id ≡ Some clause) → All (λ s. IsClosed live places s) starts → All (λ s. IsClosed less places s) starts
 fewer_closed live less places starts inside all = All-weaker (λ s. IsClosed live places s) (λ s. IsClosed less places s) (λ s closed. closed_less live less places s inside closed) starts all
 
--- Without a clause that is no reason the levels are unchanged.
+-- Deleting a clause that is no reason keeps the invariant of levels.
 layered_lost : (s : Search) (b : Stored) (id : ℕ) → IsLayered (live_in s.clauses) s.trail s.starts.items → 0 < id → IsDeleted id s.clauses b → IsNoReason s id → IsLayered (live_in b) s.trail s.starts.items
 layered_lost s b id layered some gone free = record {
   whole = layered.whole;
@@ -67,7 +67,7 @@ searching_lost s b id n clause searching stored is gone free = record {
   choosing = searching.choosing;
 }
 
--- The watch invariant lasts.
+-- The watch invariant is kept.
 pub visited_lost : (s : Search) (b : Stored) (id n : ℕ) → 0 < id → IsVisited s → IsDeleted id s.clauses b → IsVisited (record s { clauses = b; deleted = n })
 visited_lost s b id n some visited gone = record {
   guarded = record {
@@ -78,7 +78,7 @@ visited_lost s b id n some visited gone = record {
   begun = visited.begun;
 }
 
--- The log has one id more to delete.
+-- The log has one more id to delete.
 pub pending_lost : (f : Formula) (s : Search) (b : Stored) (ids : List ℕ) (id : ℕ) (clause : List ℤ) → IsPending f s ids → IsStored s.clauses → live_in s.clauses id ≡ Some clause → s.given < id → IsDeleted id s.clauses b → HasHalf s → IsPending f (record s { clauses = b; deleted = s.deleted + 1 }) (ids ++ id ∷ [])
 pending_lost f s b ids id clause pending stored is learnt gone room = record {
   log = log_lost f s.clauses b s.lines ids id clause s.deleted s.least pending.log stored is (omega (arith, pending.given, learnt)) gone (⊎_elim (λ (low : 2 * (s.deleted + 1) ≤ s.least). inl low) (λ (half : 2 * (s.deleted + 1) + s.given ≤ length s.clauses.clauses). inr (omega (arith, pending.given, half))) room);
@@ -98,7 +98,7 @@ forgotten_lost a b c id some forgotten lost = record {
   fewer = λ k clause is. forgotten.fewer k clause (still_live id b.clauses c.clauses k clause lost.deleted some is).0;
 }
 
--- The clauses of the formula are still covered: a clause that covers one isn't forgotten.
+-- The clauses of the formula are still covered: a clause that covers one isn't deleted.
 pub covered_lost : (f : Formula) (s t : Search) (id : ℕ) → 0 < id → (IsIrredundant s id → ⊥) → HasLost id s t → AreCovered f s → AreCovered f t
 covered_lost f s t id some redundant lost covered k clause here =
     let cover : IsCovered s clause = covered k clause here in

@@ -22,7 +22,7 @@ first_least live t starts first p layered begins (suc k, inside, at) = (let less
 pub first_inside : (live : ℕ → Option (List ℤ)) (t : Trailed) (starts : List ℕ) (first : ℕ) → IsLayered live t starts → IsFirstStart starts first → first < length t.lits
 first_inside live t starts first layered begins = (let low : slice_index_or starts 0 0 < length t.lits = layered.inside 0 0 begins.some in omega (arith, low, begins.begins 0))
 
--- What is below all levels has its reasons.
+-- All literals of level 0 have reasons.
 pub layered_bottom : (live : ℕ → Option (List ℤ)) (t back : Trailed) (starts none : List ℕ) (first : ℕ) → IsLayered live t starts → IsFirstStart starts first → none ≡ [] → IsTrail back → IsBack first t back → IsLayered live back none
 layered_bottom live t back starts none first layered begins is trail is_back = rw is (record {
   whole = trail;
@@ -55,7 +55,7 @@ guarded_bottom s t back starts none head first begins begun is is_back guarded =
     let there : Contains starts first = (0, begins.some, begins.begins first) in
     rw is (guarded_back s t back starts [] head first (All-contains (λ x. x ≤ head) starts first begun there) there (λ k d (low : k < 0). absurd (omega (arith, low))) (λ k d (low : k < 0). absurd (omega (arith, low))) is_back guarded)
 
--- The counters don't matter.
+-- The counters are irrelevant.
 pub searching_counted : (s : Search) (r : Restarts) → IsSearching s → IsSearching (record s { restarts = r })
 searching_counted s r searching = record {
   stored = searching.stored;

@@ -96,7 +96,7 @@ settled_jumped a b c settled jumped =
       longer = λ same. absurd (omega arith);
     }
 
--- Forgetting keeps all of that.
+-- Deletion of learnt clauses keeps all of that.
 pub settled_forgotten : (a b c : Search) → HasSettled a b → HasForgotten b c → HasSettled a c
 settled_forgotten a b c settled forgotten =
     let clauses : length c.clauses.clauses ≡ length b.clauses.clauses = forgotten.clauses in
@@ -122,7 +122,7 @@ jumped_forgotten a b c jumped forgotten = record {
   starts = (let h : length b.starts.items < length a.starts.items = jumped.starts in let same : length c.starts.items ≡ length b.starts.items = ap (λ ls. length ls.items) forgotten.starts in omega (arith, h, same));
 }
 
--- What is left is settled.
+-- The clauses that are left are settled.
 pub all_settled_forgotten : (b c : Search) → HasForgotten b c → AllSettled (live_in b.clauses) (fell b.trail) → AllSettled (live_in c.clauses) (fell c.trail)
 all_settled_forgotten b c forgotten settled = rw forgotten.trail (fewer_settled settled)
   where

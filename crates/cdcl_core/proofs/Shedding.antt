@@ -1,5 +1,5 @@
--- Why few enough clauses are live after all those went that may: the others are never forgotten, or
--- reasons of different literals of the trail.
+-- Few enough clauses are live after all were deleted that may be: the others are irredundant, or reasons of
+-- different literals of the trail.
 use Rattle.std.proofs.Common.{◌≡◌, ◌⊎◌, ℕ, ◌+◌, ◌-◌, ◌<◌, ◌≤◌, ℤ, pos, true, List, map, length, count_by, Contains, Some, None, is_some, subst, ap, ◌∙◌, arith, inl, inr}
 use Rattle.std.proofs.Math.Logic.{⊎_elim}
 use Rattle.std.proofs.lemmas.List.{length-map, get_or-map, length-set}
@@ -39,7 +39,7 @@ reasons s = map (reason_of s.trail) s.trail.lits
 in_reasons : (s : Search) (id : ℕ) → IsReason s id → Contains (reasons s) id
 in_reasons s id reason = (reason.place, (let low : reason.place < length s.trail.lits = reason.low in omega (arith, low, length-map s.trail.lits (reason_of s.trail))), get_or-map (reason_of s.trail) s.trail.lits reason.place (pos 0) id reason.low ∙ reason.is (pos 0))
 
--- Where all live additions stay, they are few.
+-- If no live addition may be deleted, they are few.
 few_stay : (f : Formula) (s : Search) → IsSearching s → IsLogged f s → ((id : ℕ) (clause : List ℤ) → s.given < id → live_in s.clauses id ≡ Some clause → Stays s id) → IsOverfull s → ⊥
 few_stay f s searching logged stay full =
     let st : State = after (start f) s.lines in
@@ -63,11 +63,11 @@ few_stay f s searching logged stay full =
         (stay y (sorted there.0) (omega (arith, from, logged.given)) kept))
         (logged.log.state.only y there.0 there.1)
 
--- While too many are live, the learnt ones with ids up to n stay.
+-- While too many are live, those with ids up to n can't be deleted.
 pub record StayUpTo (n : ℕ) (s : Search) : Type 0 where
   pub stay : IsOverfull s → (id : ℕ) (clause : List ℤ) → s.given < id → id ≤ n → live_in s.clauses id ≡ Some clause → Stays s id
 
--- what the trail, the formula and the shorter clauses say of an id
+-- what the trail, the formula and the strengthened clauses say of an id
 stays_same : (s t : Search) (id : ℕ) → t.trail ≡ s.trail → t.given ≡ s.given → t.shorter ≡ s.shorter → Stays s id → Stays t id
 stays_same s t id trail given shorter stays = ⊎_elim
     (λ (never : IsIrredundant s id). inl (rw (given, shorter) never))
@@ -90,7 +90,7 @@ stay_lost n s t before lost = record {
       (before.stay (omega (arith, full, given, deleted, vars, high_same, low_same, long)) id clause (omega (arith, low, given)) (omega (arith, high, apart)) older.0);
 }
 
--- With the line that deletes what went, few enough are live.
+-- After the line with the deletions, few enough are live.
 pub bounded_written : (n : ℕ) (s t : Search) → IsSearching t → StayUpTo n s → length s.clauses.clauses ≤ n → t ≡ record s { lines = t.lines } → IsBounded t
 bounded_written n s t searching before all same = record {
   few = λ f logged full. few_stay f t searching logged (λ id clause low live.

@@ -1,4 +1,4 @@
--- What the endings of a search show of the formula.
+-- What the ends of a search show of the formula.
 use Rattle.std.proofs.Common.{◌≡◌, ℕ, suc, ◌+◌, ◌*◌, ◌<◌, ◌≤◌, ℤ, Bool, true, List, [], ◌∷◌, length, slice_index_or, Contains, All, Any, subst, sym, ap, ◌∙◌, arith, inl, refl}
 use Rattle.std.proofs.Math.Logic.{⊎_elim}
 use Rattle.std.proofs.lemmas.Bool.{cases_lt}
@@ -28,7 +28,7 @@ no_lines s = tt
 pub refuted_at_once : (f : Formula) (lines : List Line) → lines ≡ [] → Contains f.clauses [] → Refutes f lines
 refuted_at_once f lines none there = rw none (record { holds = no_lines (start f); reaches = inl there })
 
--- a list has a literal that hasn't fallen, if not all have
+-- a list has a literal that isn't false, if not all are
 left_over : (places : ℤ → ℕ) (lits : List ℤ) → (All (λ l. 0 < places l) lits → ⊥) → (k : ℕ) × (m : ℤ) × (k < length lits) × (slice_index_or lits k m ≡ m) × (places m ≡ 0)
 left_over places [] none = absurd (none (λ k d (low : k < 0). absurd (omega arith)))
 left_over places (l ∷ lits) none =
@@ -39,7 +39,7 @@ left_over places (l ∷ lits) none =
     (λ (up : places l ≤ 0). (0, l, (let h : 0 < suc (length lits) = omega arith in h), refl, omega arith))
     (cases_lt 0 (places l))
 
--- a settled clause is true under the values of the trail, where all variables have one
+-- a settled clause is true if all variables have a value
 settled_true : (t : Trailed) (bits : List Bool) (lits : List ℤ) → Follows t bits → HaveValues t (1 + t.vars) → IsClause lits → IsWithin t.vars lits → IsSettled (fell t) lits → IsTrueClause (bits_of bits) lits
 unfolding IsTrueClause
 settled_true t bits lits follows values clause within settled =
@@ -73,7 +73,7 @@ not_both : (line : Line) → AddsSome line → AddsEmpty line → ⊥
 not_both (Add id lits hints) some empty = (let e : length lits ≡ 0 = ap length empty in let h : 0 < length lits = some in omega arith)
 not_both (Delete id ids) some empty = empty
 
--- A log of at least `budget` additions has spent the budget.
+-- A log of at least `budget` additions reaches the budget.
 pub log_spent : (f : Formula) (s : Stored) (lines : List Line) (deleted least budget : ℕ) → IsLog f s lines deleted least → AreNew f lines → (Contains f.clauses [] → ⊥) → budget ≤ additions lines → IsSpent f lines budget
 log_spent f s lines deleted least budget log new none enough = record {
   holds = log.holds;
@@ -86,11 +86,11 @@ nothing : (f : Formula) → 4 * live_additions (after (start f) []) [] ≤ 3 * a
 unfolding added_ids
 nothing f = (let none : live_additions (after (start f) []) [] ≡ 0 = refl in omega (arith, none))
 
--- With no line there is nothing to delete.
+-- Without lines there is nothing to delete.
 pub thinned_at_once : (f : Formula) (lines : List Line) → lines ≡ [] → IsThinned f lines
 thinned_at_once f lines none = rw none (record { spares = All-nil (SparesFormula f); few = nothing f })
 
--- What has spent more has spent less.
+-- A log that reaches a budget reaches smaller ones.
 pub spent_less : (f : Formula) (lines : List Line) (less more : ℕ) → less ≤ more → IsSpent f lines more → IsSpent f lines less
 spent_less f lines less more low spent = record {
   holds = spent.holds;

@@ -1,4 +1,4 @@
--- Clauses of the formula that go where others subsume them, and what is added for them.
+-- Deletion of clauses of the formula that others subsume, and addition of those.
 use Rattle.std.proofs.Common.{◌≡◌, ℕ, zero, suc, ◌+◌, ◌-◌, ◌<◌, ◌≤◌, ◌==◌, ℤ, Bool, false, List, [], length, Contains, All, Option, Some, None, subst, sym, ap, ◌∙◌, arith, inl, inr, refl}
 use Rattle.std.specs.Prelude.{Result, Ok, Err, IfOk}
 use Rattle.std.proofs.Math.Logic.{⊎_elim}
@@ -30,7 +30,7 @@ positive (suc n) is = omega arith
 pub same_clause : (o : Option (List ℤ)) (a b : List ℤ) → o ≡ Some a → o ≡ Some b → a ≡ b
 same_clause o a b first second = cc
 
--- A state still has a clause of the formula that goes from the clauses of the search.
+-- A state of the log still has a clause of the formula that the search deletes,
 state_aside : (f : Formula) (a b : Stored) (st : State) (id : ℕ) → IsStateOf f a st → 0 < id → id ≤ length f.clauses → IsDeleted id a b → IsStateOf f b st
 state_aside f a b st id state some low gone = record {
   vars = state.vars;
@@ -65,7 +65,7 @@ log_aside f a b lines deleted least id log some low gone = record {
   half = log.half;
 }
 
--- What the clause covered is covered by the one that stands for it.
+-- What the clause covered is covered by the one that replaces it.
 covered_aside : (f : Formula) (s t : Search) (by id : ℕ) → 0 < id → CanStand s by id → IsDeleted id s.clauses t.clauses → t.given ≡ s.given → t.shorter ≡ s.shorter → AreCovered f s → AreCovered f t
 covered_aside f s t by id some stand gone given shorter covered k clause here =
     let cover : IsCovered s clause = covered k clause here in
@@ -86,7 +86,7 @@ covered_aside f s t by id some stand gone given shorter covered k clause here =
       stays = rw (given, shorter) stays;
     }
 
--- A search that takes a clause of the formula from its clauses is still one of the formula.
+-- A search that deletes such a clause is still one of the formula.
 pub logged_aside : (f : Formula) (s : Search) (b : Stored) (by id : ℕ) → IsLogged f s → CanStand s by id → IsDeleted id s.clauses b → IsLogged f (record s { clauses = b })
 logged_aside f s b by id logged stand gone =
     let live : (c : List ℤ) × (live_in s.clauses id ≡ Some c) = some_live (live_in s.clauses id) stand.id_live in
@@ -98,7 +98,7 @@ logged_aside f s b by id logged stand gone =
       covered = covered_aside f s (record s { clauses = b }) by id inside.0 stand gone refl refl logged.covered;
     }
 
--- With one more clause that is never forgotten the formula is still covered.
+-- With one more irredundant clause the formula is still covered.
 pub covered_more : (f : Formula) (s t : Search) (lits : List ℤ) → AreCovered f s → t.clauses ≡ added s.clauses lits → t.given ≡ s.given → t.shorter.low ≡ s.shorter.low → s.shorter.high ≤ t.shorter.high → AreCovered f t
 covered_more f s t lits covered clauses given low high k clause here =
     let cover : IsCovered s clause = covered k clause here in
@@ -113,7 +113,7 @@ covered_more f s t lits covered clauses given low high k clause here =
           cover.stays;
     }
 
--- The same where no such clause was there before.
+-- The same for the first such clause.
 pub covered_first : (f : Formula) (s t : Search) → AreCovered f s → s.shorter.high ≡ 0 → t.clauses ≡ s.clauses → t.given ≡ s.given → AreCovered f t
 covered_first f s t covered none clauses given k clause here =
     let cover : IsCovered s clause = covered k clause here in
@@ -144,7 +144,7 @@ visited_full s visited id is =
     let good = visited.guarded.short id [] is (omega (arith, none)) in
     (let low : good.there.0 < length {A = ℤ} [] = good.there.1 in omega (arith, low, none))
 
--- What is still so after a clause was replaced.
+-- The invariant after a clause was replaced.
 pub strengthening_replaced : (s t r : Search) (lits : List ℤ) (old new : List Bool) → IsStrengthening s old → 0 < length lits → t.clauses ≡ added s.clauses lits → HasAdded s t → IsBare r → HasSetAside t r → IsUnitsOf (added s.clauses lits) new → IsStrengthening r new
 strengthening_replaced s t r lits old new strengthening some clauses has_added bare aside units = record {
   bare = bare;

@@ -1,4 +1,4 @@
--- Which variables are open doesn't matter, and what a probe leaves.
+-- The decision variables are irrelevant, and a call under assumptions keeps the invariant.
 use Rattle.std.proofs.Common.{◌≡◌, ◌≤◌, length, Option, ap, arith, refl}
 use Rattle.sat_theory.specs.Formula.{Formula}
 use Rattle.clause_db.specs.Stored.{Stored}
@@ -44,7 +44,7 @@ logged_scoped f s x logged = record {
   covered = covered_same f s (record s { scope = x }) logged.covered refl refl refl;
 }
 
--- A search that has gone down is still under way.
+-- A search that backtracked to level 0 keeps it,
 pub under_way_restarted : (a b : Search) → IsUnderWay a → IsSearching b → IsVisited b → HasRestarted a b → IsUnderWay b
 under_way_restarted a b way searching visited restarted =
     let clauses : length b.clauses.clauses ≡ length a.clauses.clauses = ap (λ (x : Stored). length x.clauses) restarted.clauses in
@@ -57,7 +57,7 @@ under_way_restarted a b way searching visited restarted =
       least = omega (arith, way.least, restarted.least);
     }
 
--- One that has settled too.
+-- and so does one that resolved its conflicts.
 pub under_way_settled : (a b : Search) → IsUnderWay a → IsSearching b → IsVisited b → HasSettled a b → IsUnderWay b
 under_way_settled a b way searching visited settled = record {
   searching = searching;

@@ -36,7 +36,7 @@ units_more live places n units new = record {
       (cases_eq id (n + 1));
 }
 
--- whose clause is settled,
+-- its clause is settled,
 settled_true : (places : ℤ → ℕ) (clause : List ℤ) → IsSettled places clause → length clause < 2 → HasTrue places clause
 settled_true places [] settled short = absurd (settled.not_false (λ k d (low : k < 0). absurd (omega (arith, low))))
 settled_true places (l ∷ []) settled short =

@@ -96,7 +96,7 @@ first_or_behind xs m j within at =
     (λ (high : 2 ≤ j). inr high)
     (cases_lt j 2)
 
--- Where all after the first two have fallen, and one of these too, all but the other one have.
+-- If all after the first two are false, and one of these too, all but the other one are.
 pub all_but : (s : Stored) (t : Trailed) (id : ℕ) (l other : ℤ) (lits clause : List ℤ) → IsFront s id l lits → IsOther lits l other → 0 < fell t l → AreDown t lits 2 (length lits) → live_in s id ≡ Some clause → All (λ m. (m ≡ other) ⊎ (0 < fell t m)) clause
 all_but s t id l other lits clause front is fallen down live k d low =
     let m : ℤ = slice_index_or clause k d in
@@ -111,7 +111,7 @@ all_but s t id l other lits clause front is fallen down live k d low =
 pub blocks : (s : Stored) (l other : ℤ) (index id : ℕ) → IsStored s → id ≡ id_at s l index → Watches s id other → IsOf s (id_at s l index) other
 blocks s l other index id stored id_is watches clause is = watched_in s id other clause stored watches (ap (live_in s) id_is ∙ is)
 
--- Where all but one have fallen, that one follows, or the clause is falsified.
+-- If all but one are false, that one follows, or the clause is falsified.
 pub left_over : (places : ℤ → ℕ) (lits : List ℤ) (other : ℤ) → 0 < places other → All (λ m. (m ≡ other) ⊎ (0 < places m)) lits → All (λ m. 0 < places m) lits
 left_over places lits other down all k d low = ⊎_elim (λ (e : slice_index_or lits k d ≡ other). subst (λ (x : ℤ). 0 < places x) (sym e) down) (λ (h : 0 < places (slice_index_or lits k d)). h) (all k d low)
 
@@ -136,7 +136,7 @@ true_grown live s a b id trail grown on clause is =
     let was : HasTrue (fell a) clause = on clause is in
     record { lit = was.lit; there = was.there; on = (grown.same.there (length a.lits) (opposite was.lit) (omega arith) (was.on, trail.places.within (opposite was.lit))).0 }
 
--- and what hasn't fallen hadn't before
+-- and what isn't false wasn't before
 pub up_before : (live : ℕ → Option (List ℤ)) (a b : Trailed) (l : ℤ) → IsTrail a → IsGrown live a b → fell b l ≡ 0 → fell a l ≡ 0
 up_before live a b l trail grown up =
     ⊎_elim
@@ -241,12 +241,12 @@ rest_trans a b c r s t trail first second = record {
   moved = λ id w watches. ⊎_elim (λ (old : Watches b id w). first.moved id w old) (λ (up : fell s w ≡ 0). inr (up_before (live_in b) r s w trail first.grown up)) (second.moved id w watches);
 }
 
--- The invariant lasts over visits,
+-- Visits keep the invariant,
 pub guarded_rest : (a b : Stored) (s t : Trailed) (starts : List ℕ) (head : ℕ) → IsTrail s → head ≤ length s.lits → All (λ x. x ≤ head) starts → IsRest a b s t → IsGuarded a (fell s) starts head → IsGuarded b (fell t) starts head
 guarded_rest a b s t starts head trail low begun rest guarded =
     guarded_moved a b (fell s) (fell t) starts (length s.lits) head rest.grown.same trail.places.within low begun rest.clauses rest.moved guarded
 
--- and goes on by one literal.
+-- with one more literal propagated.
 pub guarded_next : (a b : Stored) (s t : Trailed) (starts : List ℕ) (from head : ℕ) (l : ℤ) → IsTrail s → IsTrail t → from ≤ head → head < length s.lits → opposite (slice_index_or s.lits head l) ≡ l → All (λ x. x ≤ from) starts → IsRest a b s t → ((id : ℕ) → Watches b id l → HasTrueAt b (fell t) id) → IsGuarded a (fell s) starts head → IsGuarded b (fell t) starts (head + 1)
 guarded_next a b s t starts from head l trail trail_now low inside at begun rest visited guarded =
     guarded_visited b t starts head l trail_now begun_head (let longer : length s.lits ≤ length t.lits = rest.grown.longer in omega (arith, inside, longer)) (ap opposite (rest.grown.lits head l inside) ∙ at) visited (guarded_rest a b s t starts head trail (omega (arith, inside)) begun_head rest guarded)

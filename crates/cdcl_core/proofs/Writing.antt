@@ -45,7 +45,7 @@ visited_written s t visited same = subst (λ (x : Search). IsVisited x) (sym sam
 pub forgotten_written : (a s t : Search) → HasForgotten a s → t ≡ record s { lines = t.lines } → HasForgotten a t
 forgotten_written a s t forgotten same = subst (λ (x : Search). HasForgotten a x) (sym same) (record { trail = forgotten.trail; starts = forgotten.starts; head = forgotten.head; given = forgotten.given; least = forgotten.least; shorter = forgotten.shorter; clauses = forgotten.clauses; fewer = forgotten.fewer })
 
--- what was noted of clauses before they are forgotten
+-- the scores recorded before clauses are deleted
 pub forgotten_noted : (a b c : Search) → b ≡ record a { merits = b.merits } → HasForgotten b c → HasForgotten a c
 forgotten_noted a b c same forgotten = record {
   trail = forgotten.trail ∙ ap (λ (s : Search). s.trail) same;
@@ -67,13 +67,13 @@ visited_after a b same visited = subst (λ (x : Search). IsVisited x) (sym same)
 pub logged_after : (f : Formula) (a b : Search) → b ≡ record a { merits = b.merits } → IsLogged f a → IsLogged f b
 logged_after f a b same logged = subst (λ (x : Search). IsLogged f x) (sym same) (record { log = logged.log; new = logged.new; given = logged.given; covered = covered_same f a (record a { merits = b.merits }) logged.covered refl refl refl })
 
--- A log that isn't thick is thinned.
+-- A log with few enough live additions is thinned.
 pub thinned_written : (f : Formula) (s t : Search) → (IsThick s → ⊥) → t ≡ record s { lines = t.lines } → IsAccounted f t → IsThinned f t.lines
 thinned_written f s t thin same accounted =
     let still : IsThick t → ⊥ = subst (λ (x : Search). IsThick x → ⊥) (sym same) thin in
     log_thinned f t.clauses t.lines t.deleted t.least accounted.log (λ less. still (omega (arith, less, accounted.given)))
 
--- Where all learnt clauses are deleted, the log isn't thick.
+-- If all additions are deleted, few enough are live.
 pub thin_at_end : (f : Formula) (s : Search) (ids : List ℕ) → IsPending f s ids → ((id : ℕ) (clause : List ℤ) → s.given < id → live_in s.clauses id ≡ Some clause → ⊥) → IsThick s → ⊥
 thin_at_end f s ids pending none thick =
     let all : length s.clauses.clauses ≡ length f.clauses + s.deleted = log_all_gone f s.clauses (with_gone s.lines (length s.clauses.clauses) ids) s.deleted s.least pending.log (λ id clause low live. none id clause (omega (arith, low, pending.given)) live) in

@@ -1,4 +1,4 @@
--- Which variables a search can still decide on.
+-- Which variables a search can still decide.
 use Rattle.std.specs.Prelude.{◌≡◌, ℕ, ◌+◌, ◌<◌, ◌≤◌, ℤ, length}
 use Rattle.sat_theory.specs.Formula.{variable}
 use Rattle.cdcl_theory.specs.Trails.{Trailed}
@@ -6,7 +6,7 @@ use Rattle.trail_core.specs.Values.{IsOver, IsFree}
 use Rattle.var_heap.specs.Held.{IsHeld}
 use Rattle.cdcl_core.specs.declared.choosing.Choice.{Choice}
 
--- The heap holds each variable without a value, and there is room for all variables.
+-- The heap holds each variable without a value, and the tables have room for all variables.
 -- Example: on the trail 2, -1 over three variables, 3 has to be held, and 1 and 2 may be.
 pub record IsChoosing (t : Trailed) (c : Choice) : Type 0 where
   pub vars : c.heap.vars ≡ t.vars

@@ -1,4 +1,4 @@
--- How a search ends, and what it has then shown.
+-- The ends of a search, and what each shows of the formula.
 use Rattle.std.specs.Prelude.{◌≡◌, ℕ, ◌+◌, ◌≤◌}
 use Rattle.sat_theory.specs.Formula.{Formula}
 use Rattle.sat_theory.specs.Log.{HasEmpty, additions}
@@ -23,7 +23,7 @@ pub record HasRefuted (f : Formula) (s : Search) : Type 0 where
   pub accounted : IsAccounted f s
   pub reaches : HasEmpty f s.lines
 
--- the log holds, and has at least `budget` additions, and at least `least`
+-- the log holds, and has at least `budget` and at least `least` additions
 pub record HasSpent (f : Formula) (budget : ℕ) (s : Search) : Type 0 where
   pub logged : IsLogged f s
   pub enough : budget ≤ additions s.lines

@@ -1,4 +1,4 @@
--- What a search forgets (deletion of learnt clauses).
+-- Reduction of the clause database (deletion of learnt clauses).
 use Rattle.std.specs.Prelude.{◌≡◌, ◌⊎◌, ℕ, ◌+◌, ◌-◌, ◌*◌, ◌<◌, ◌≤◌, ℤ, List, [], ◌∷◌, ◌++◌, length, slice_index_or, Some, IsSome}
 use Rattle.sat_theory.specs.Formula.{Formula, opposite}
 use Rattle.sat_theory.specs.Line as theory
@@ -8,45 +8,45 @@ use Rattle.clause_db.specs.Deleting.{IsDeleted}
 use Rattle.cdcl_core.specs.declared.search.Search.{Search}
 use Rattle.cdcl_core.specs.Searching.{IsLog, IsLogged, IsIrredundant}
 
--- the lines with one more that deletes the ids, if there are any
+-- the lines, followed by one that deletes the ids, if there are any
 abbrev pub with_gone : List theory.Line → ℕ → List ℕ → List theory.Line
 with_gone lines own [] = lines
 with_gone lines own (id ∷ ids) = lines ++ theory.Delete own (id ∷ ids) ∷ []
 
--- With a line that deletes the ids of `gone`, the log is that of the live clauses.
+-- With a further line that deletes the ids of `gone`, the log is that of the live clauses.
 pub record IsPending (f : Formula) (s : Search) (gone : List ℕ) : Type 0 where
   pub log : IsLog f s.clauses (with_gone s.lines (length s.clauses.clauses) gone) s.deleted s.least
   pub given : s.given ≡ length f.clauses
 
--- a literal is true, and the clause of an id made it so
+-- a literal is true, and the clause with this id is its reason
 abbrev pub IsImplied : Trailed → ℕ → ℤ → Type 0
 IsImplied t id l = (0 < fell t (opposite l)) × (reason_of t l ≡ id)
 
--- none of the first n literals is true by the clause of an id
+-- none of the first n literals is true with this clause as its reason
 abbrev pub NoneImplied : Trailed → List ℤ → ℕ → ℕ → Type 0
 NoneImplied t lits n id = (k : ℕ) (d : ℤ) → k < n → k < length lits → IsImplied t id (slice_index_or lits k d) → ⊥
 
--- some literal is true by the clause of an id
+-- some literal is true with this clause as its reason
 pub record SomeImplied (t : Trailed) (id : ℕ) : Type 0 where
   pub literal : ℤ
   pub implied : IsImplied t id literal
 
--- a literal of the trail has the clause of an id for its reason
+-- the clause with this id is the reason of a trail literal
 pub record IsReason (s : Search) (id : ℕ) : Type 0 where
   pub place : ℕ
   pub low : place < length s.trail.lits
   pub is : (d : ℤ) → reason_of s.trail (slice_index_or s.trail.lits place d) ≡ id
 
--- no literal of the trail has the clause of an id for its reason
+-- the clause with this id is the reason of no trail literal
 pub record IsNoReason (s : Search) (id : ℕ) : Type 0 where
   pub none : (p : ℕ) (d : ℤ) → p < length s.trail.lits → HasReason (live_in s.clauses) s.trail p → reason_of s.trail (slice_index_or s.trail.lits p d) ≡ id → ⊥
 
--- Another deletion keeps at least half of all additions, or of `least`.
+-- After one more deletion at least half of all additions, or of `least`, are still not deleted.
 abbrev pub HasHalf : Search → Type 0
 HasHalf s = (2 * (s.deleted + 1) ≤ s.least) ⊎ (2 * (s.deleted + 1) + s.given ≤ length s.clauses.clauses)
 
--- The clause of an id is live, was learnt and stands for none of the formula, is no reason, and its
--- deletion keeps half.
+-- The clause with this id is live, is an addition, is redundant (replaces no clause of the formula) and is no
+-- reason, and its deletion keeps half.
 pub record MayGo (s : Search) (id : ℕ) : Type 0 where
   pub learnt : s.given < id
   pub redundant : IsIrredundant s id → ⊥
@@ -54,29 +54,30 @@ pub record MayGo (s : Search) (id : ℕ) : Type 0 where
   pub is_live : IsSome (live_in s.clauses id)
   pub reason : IsNoReason s id
 
--- the log has too many live additions: fewer than a quarter are deleted, with vars + 2000 to spare
+-- the log has too many live additions for its end: more additions than four times the deleted ones, the
+-- variables and 2000 together
 abbrev pub IsThick : Search → Type 0
 IsThick s = s.given + 4 * (s.deleted + s.clauses.vars + 2000) < length s.clauses.clauses
 
--- too many additions are live for the bound that the end of the log owes (IsThick), where the shorter
--- clauses, which are never forgotten, don't count
+-- too many additions are live for that bound (IsThick) during a search, when the irredundant ones, which are
+-- never deleted, don't count
 abbrev pub IsOverfull : Search → Type 0
 IsOverfull s = s.given + (s.shorter.high - s.shorter.low) + 4 * (s.deleted + s.clauses.vars + 2000) < length s.clauses.clauses
 
--- The live additions are within that bound, where the log is one over a formula.
+-- The live additions are within that bound, if the log is one of a formula.
 pub record IsBounded (s : Search) : Type 0 where
   pub few : (f : Formula) → IsLogged f s → IsOverfull s → ⊥
 
--- a clause that can't be deleted while others are too many: it is never forgotten, or is a reason
+-- a clause that can't be deleted even if too many are live: it is irredundant, or a reason
 abbrev pub Stays : Search → ℕ → Type 0
 Stays s id = IsIrredundant s id ⊎ IsReason s id
 
--- one clause was deleted, and nothing else changed
+-- One clause was deleted from the search, and nothing else changed.
 pub record HasLost (id : ℕ) (old new : Search) : Type 0 where
   pub deleted : IsDeleted id old.clauses new.clauses
   pub rest : new ≡ record old { clauses = new.clauses; deleted = old.deleted + 1 }
 
--- Clauses may be deleted, and nothing else changed but the log.
+-- Clauses may have been deleted, and nothing else changed but the log and the counters.
 pub record HasForgotten (old new : Search) : Type 0 where
   pub trail : new.trail ≡ old.trail
   pub starts : new.starts ≡ old.starts
@@ -87,7 +88,7 @@ pub record HasForgotten (old new : Search) : Type 0 where
   pub clauses : length new.clauses.clauses ≡ length old.clauses.clauses
   pub fewer : (id : ℕ) (clause : List ℤ) → live_in new.clauses id ≡ Some clause → live_in old.clauses id ≡ Some clause
 
--- one line more may delete clauses
+-- at most one line was added, a deletion
 pub record MoreGone (old new : List theory.Line) : Type 0 where
   pub own : ℕ
   pub ids : List ℕ

@@ -1,4 +1,4 @@
--- Decision levels that are dropped (backtracking).
+-- Dropping decision levels (backtracking).
 use Rattle.std.specs.Prelude.{◌≡◌, ℕ, ◌<◌, ◌≤◌, ◌-◌, List, length, slice_index_or, All}
 
 -- The starts from `back` on were dropped, and the first of them was `end`.

@@ -1,8 +1,8 @@
 -- Luby's sequence.
 use Rattle.std.specs.Prelude.{◌≡◌, ℕ, ◌+◌, ◌-◌, ◌*◌, ◌^◌, ◌<◌, ◌≤◌}
 
--- The member at the index 2 ^ (k + 1) - 1 is 2 ^ k, and those from the index 2 ^ k to there repeat
--- the sequence.
+-- The member at index 2 ^ (k + 1) - 1 is 2 ^ k, and those from index 2 ^ k up to it repeat the sequence from
+-- its beginning.
 -- Example: it begins 1, 1, 2, 1, 1, 2, 4, 1, 1, 2.
 pub data IsLuby : ℕ → ℕ → Type 0 where
   Last : (k : ℕ) → IsLuby (2 ^ (k + 1) - 1) (2 ^ k)

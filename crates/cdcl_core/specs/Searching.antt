@@ -1,4 +1,4 @@
--- What holds throughout a search.
+-- The invariants of a search, and what its steps change.
 use Rattle.std.specs.Prelude.{◌≡◌, ◌⊎◌, ℕ, ◌+◌, ◌*◌, ◌<◌, ◌≤◌, ℤ, List, length, slice_index_or, All, Contains, Option, Some}
 use Rattle.sat_theory.specs.Formula.{Formula}
 use Rattle.sat_theory.specs.Line as theory
@@ -14,7 +14,7 @@ use Rattle.cdcl_core.specs.Choosing.{IsChoosing}
 use Rattle.cdcl_core.specs.Guarding.{IsGuarded}
 use Rattle.cdcl_core.specs.Visiting.{IsRest}
 
--- the parts of the search fit together
+-- the parts of the search agree with one another
 pub record IsSearching (s : Search) : Type 0 where
   pub stored : IsStored s.clauses
   pub vars : s.clauses.vars ≡ s.trail.vars
@@ -22,15 +22,15 @@ pub record IsSearching (s : Search) : Type 0 where
   pub ready : IsReady s.trail.vars s.analysis
   pub choosing : IsChoosing s.trail s.choice
 
--- The entry is a clause, which contracts of the clauses see as `shown`: with its literals in the order
--- of their codes.
+-- The entry is a clause, and contracts of the clause database see it as `shown`: its literals in the order of
+-- their codes.
 pub record IsShownAs (entry : Option (List ℤ)) (shown : List ℤ) : Type 0 where
   pub given : List ℤ
   pub is : entry ≡ Some given
   pub order : shown ≡ sorted given
 
--- A state has exactly the live clauses, up to the order of their literals, and those of the formula,
--- and the last id is its greatest.
+-- The state of the log has exactly the live clauses, up to the order of their literals, and those of the
+-- formula; the last id is its greatest.
 pub record IsStateOf (f : Formula) (clauses : Stored) (state : State) : Type 0 where
   pub vars : state.vars ≡ f.vars
   pub greatest : state.greatest ≡ length clauses.clauses
@@ -39,10 +39,9 @@ pub record IsStateOf (f : Formula) (clauses : Stored) (state : State) : Type 0 w
   pub only : (id : ℕ) (clause : List ℤ) → state.live id ≡ Some clause → (by_id f.clauses id ≡ Some clause) ⊎ (live_in clauses id ≡ Some (sorted clause))
 
 -- The lines are a log over the formula whose state is that of the live clauses: each line holds, and
--- deletions name additions alone, so that a clause of the formula which the search keeps no more is
--- live in the log. Ids are given one after another, so those above the formula's are the additions'.
--- Of the additions `deleted` are deleted, at most half of all, or of `least`, the number that an open
--- log has at least.
+-- deletions name additions alone, so a clause of the formula that the search has deleted is still live in the
+-- log. Ids are consecutive, so those above the formula's are the additions'. `deleted` of the additions are
+-- deleted, at most half of all, or of `least`, the number of additions that an undecided log has at least.
 pub record IsLog (f : Formula) (clauses : Stored) (lines : List theory.Line) (deleted least : ℕ) : Type 0 where
   pub vars : clauses.vars ≡ f.vars
   pub holds : EachLine IsStep (start f) lines
@@ -53,17 +52,17 @@ pub record IsLog (f : Formula) (clauses : Stored) (lines : List theory.Line) (de
   pub gone : live_additions (after (start f) lines) lines + deleted ≡ additions lines
   pub half : (2 * deleted ≤ least) ⊎ (2 * deleted ≤ additions lines)
 
--- each addition is of a new clause with a literal
+-- each addition is a clause with a literal that no live clause subsumes
 pub record AreNew (f : Formula) (lines : List theory.Line) : Type 0 where
   pub fresh : EachLine IsFresh (start f) lines
   pub some : All AddsSome lines
 
--- The clause of an id is never forgotten (is irredundant): its id is at most the number of the
--- formula's clauses, or one of those of shorter clauses.
+-- The clause with this id is irredundant, and so never deleted by a reduction: it is one of the formula, or
+-- one of the strengthened clauses.
 abbrev pub IsIrredundant : Search → ℕ → Type 0
 IsIrredundant s id = (id ≤ s.given) ⊎ ((s.shorter.low < id) × (id ≤ s.shorter.high))
 
--- a live clause that is never forgotten subsumes the clause
+-- a live irredundant clause subsumes the clause
 pub record IsCovered (s : Search) (clause : List ℤ) : Type 0 where
   pub by : ℕ
   pub cover : List ℤ
@@ -71,7 +70,7 @@ pub record IsCovered (s : Search) (clause : List ℤ) : Type 0 where
   pub inside : All (Contains clause) cover
   pub stays : IsIrredundant s by
 
--- The search keeps each clause of the formula, or one that subsumes it.
+-- The search has each clause of the formula, or an irredundant one that subsumes it.
 abbrev pub AreCovered : Formula → Search → Type 0
 AreCovered f s = (id : ℕ) (clause : List ℤ) → by_id f.clauses id ≡ Some clause → IsCovered s clause
 
@@ -80,7 +79,7 @@ pub record IsAccounted (f : Formula) (s : Search) : Type 0 where
   pub log : IsLog f s.clauses s.lines s.deleted s.least
   pub given : s.given ≡ length f.clauses
 
--- and the log hasn't added the empty clause, and the clauses say no less than the formula
+-- moreover the log hasn't added the empty clause, and the live clauses imply the formula's
 pub record IsLogged (f : Formula) (s : Search) : Type 0 where
   pub log : IsLog f s.clauses s.lines s.deleted s.least
   pub new : AreNew f s.lines
@@ -134,8 +133,7 @@ pub record HasRestarted (old new : Search) : Type 0 where
   pub clauses : new.clauses ≡ old.clauses
   pub starts : length new.starts.items ≤ length old.starts.items
 
--- For each learnt clause at least one level was dropped, and where none was learnt the trail is no
--- shorter.
+-- For each learnt clause at least one level was dropped; if none was learnt the trail is no shorter.
 pub record HasSettled (old new : Search) : Type 0 where
   pub vars : new.trail.vars ≡ old.trail.vars
   pub given : new.given ≡ old.given
@@ -157,8 +155,8 @@ pub record HasDecided (old new : Search) : Type 0 where
   pub starts : length new.starts.items ≡ length old.starts.items + 1
   pub lits : length new.trail.lits ≡ length old.trail.lits + 1
 
--- A search has gone on: it has at most as many clauses as the budget lets it have, and as may follow
--- on the way down from the levels.
+-- The search went on: it has at most as many clauses as the budget allows, and one for each level that it may
+-- have dropped since.
 pub record HasRun (budget : ℕ) (old new : Search) : Type 0 where
   pub vars : new.trail.vars ≡ old.trail.vars
   pub given : new.given ≡ old.given

@@ -1,4 +1,4 @@
--- What holds of a solver between its calls, and of which formulas it is one.
+-- The invariant of a solver between calls, and which formulas it solves.
 use Rattle.std.specs.Prelude.{◌≡◌, ◌+◌, ◌<◌, ◌≤◌, ℕ, [], length, Contains}
 use Rattle.sat_theory.specs.Formula.{Formula, IsFormula}
 use Rattle.clause_db.specs.Stored.{IsStored}
@@ -9,12 +9,12 @@ use Rattle.cdcl_core.specs.declared.solver.Stage.TheVariants.{Empty, Undecided, 
 use Rattle.cdcl_core.specs.Searching.{IsSearching, IsVisited, IsLogged}
 use Rattle.cdcl_core.specs.Endings.{HasRefuted}
 
--- A search and what is known of its formula, as contracts see a solver.
+-- A search and its status, as contracts see a solver.
 pub record Solving : Type 0 where
   pub search : Search
   pub stage : Stage
 
--- Between calls a search may stand at any level, and the ids of later clauses have room in 32 bits.
+-- Between calls a search may be at any level, and ids of later clauses fit in 32 bits.
 pub record IsUnderWay (s : Search) : Type 0 where
   pub searching : IsSearching s
   pub visited : IsVisited s
@@ -28,7 +28,7 @@ IsStaged s Undecided = IsUnderWay s
 IsStaged s Refuted = IsStored s.clauses
 IsStaged s Failed = Unit {0}
 
--- The search is one of the formula, none of whose clauses is empty.
+-- The search is one over the formula, which hasn't the empty clause.
 pub record IsOf (f : Formula) (least : ℕ) (s : Search) : Type 0 where
   pub formula : IsFormula f
   pub some : Contains f.clauses [] → ⊥

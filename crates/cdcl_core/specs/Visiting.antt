@@ -15,7 +15,7 @@ use Rattle.cdcl_core.specs.declared.visiting.Fate.TheVariants.{Kept, Moved, Fals
 abbrev pub id_at : Stored → ℤ → ℕ → ℕ
 id_at s l index = slice_index_or (list_of s.watches l) index 0
 
--- the literals at the indices from low to high have fallen
+-- the literals at the indices from low to high are false
 abbrev pub AreDown : Trailed → List ℤ → ℕ → ℕ → Type 0
 AreDown t lits low high = (k : ℕ) (d : ℤ) → low ≤ k → k < high → 0 < fell t (slice_index_or lits k d)
 
@@ -23,7 +23,7 @@ AreDown t lits low high = (k : ℕ) (d : ℤ) → low ≤ k → k < high → 0 <
 abbrev pub AreTrue : Trailed → List Watch → ℕ → ℕ → Type 0
 AreTrue t watches low high = (k : ℕ) (d : Watch) → low ≤ k → k < high → 0 < fell t (opposite (slice_index_or watches k d).blocker)
 
--- The clause stays, and has a true literal now.
+-- The clause keeps its watch, and has a true literal now.
 pub record IsKept (a b : Stored) (s t : Trailed) (l : ℤ) (index : ℕ) : Type 0 where
   pub same : b ≡ a
   pub grown : IsGrown (live_in b) s t
@@ -37,7 +37,7 @@ pub record IsMoved (a b : Stored) (s t : Trailed) (l : ℤ) (index : ℕ) : Type
   pub up : fell s to ≡ 0
   pub is : b ≡ rewatched a (id_at a l index) l to index
 
--- The clause of an id is falsified.
+-- The clause with this id is falsified.
 pub record IsFound (a b : Stored) (s t : Trailed) (id : ℕ) : Type 0 where
   pub same : b ≡ a
   pub same_trail : t ≡ s
@@ -48,8 +48,8 @@ IsFate a b s t l index Kept = IsKept a b s t l index
 IsFate a b s t l index Moved = IsMoved a b s t l index
 IsFate a b s t l index (Falsified id) = IsFound a b s t id
 
--- The clauses are unchanged, the trail grew, and each watch is an old one, or its literal wasn't
--- false before.
+-- The clauses are unchanged, the trail was extended, and each watch is an old one or its literal wasn't false
+-- before.
 pub record IsRest (a b : Stored) (s t : Trailed) : Type 0 where
   pub clauses : b.clauses ≡ a.clauses
   pub vars : b.vars ≡ a.vars

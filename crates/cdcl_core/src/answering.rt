@@ -1,4 +1,4 @@
-//! The answers of the solver, made of how its search ended.
+//! The answers of the solver, from the end of its search.
 ghost use Rattle.std.specs.Prelude.{◌≡◌, ℕ, ◌+◌, ◌*◌, ◌^◌, ◌<◌, ◌≤◌, [], length, max, Contains, IfOk};
 ghost use Rattle.sat_theory.specs.Formula.{Formula, IsFormula, bits_of, Satisfies};
 ghost use Rattle.sat_theory.specs.Log.{Refutes, IsSpent, IsKept, IsThinned};
@@ -16,7 +16,7 @@ use sat_solve::Solved;
 use std::alloc::{AllocError, Global};
 use std::mem;
 
-/// Decides the formula of a search that is under way, unless it takes more than `budget` further additions.
+/// Decides the formula of a search between calls, or leaves it undecided after `budget` further additions.
 fn decide_rest(search: &mut Search, alloc: Global, budget: u32) -> Result<Solved, AllocError>
     requires under_way { IsUnderWay search.old }
     requires most { budget ≤ most_budget }
@@ -33,7 +33,7 @@ fn decide_rest(search: &mut Search, alloc: Global, budget: u32) -> Result<Solved
     answer(search, alloc, target)
 }
 
-/// Gives what a search shows of each formula that it stands for.
+/// The answer of a search, for each formula that it is a search of.
 pub(crate) fn conclude(
     search: &mut Search,
     stage: Stage,
@@ -58,7 +58,7 @@ pub(crate) fn conclude(
     }
 }
 
-/// Runs a search at level 0, and gives what it shows of each formula that it stands for.
+/// Runs a search from level 0, and returns its answer.
 fn answer(search: &mut Search, alloc: Global, budget: u32) -> Result<Solved, AllocError>
     requires searching { IsSearching search.old }
     requires visited { IsVisited search.old }
@@ -81,7 +81,7 @@ fn answer(search: &mut Search, alloc: Global, budget: u32) -> Result<Solved, All
     }
 }
 
-/// Takes the log of a search that has ended, with enough deletions.
+/// Takes the log of a search that has ended, after the deletions that its end needs.
 fn log_of(search: &mut Search, alloc: Global) -> Result<Log, AllocError>
     requires stored { IsStored search.old.clauses }
     ensures refutes { (f : Formula) → HasRefuted f search.old → IfOk result (λ log. Refutes f log) }

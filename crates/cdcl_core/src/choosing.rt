@@ -1,14 +1,13 @@
-//! Decisions: which variable a search decides on, and with which sign. It is a variable without a
-//! value with the greatest score, where a conflict bumps its variables and late conflicts count
-//! more (VSIDS: Moskewicz and others, "Chaff", 2001; Eén and Sörensson, "An extensible SAT-solver",
-//! 2003), and it gets the value that it had last (phase saving: Pipatsrisawat and Darwiche, "A
-//! lightweight component caching scheme for satisfiability solvers", 2007). The variables in the
-//! reasons of the learnt clause's other literals are bumped by half of the step, once for each
-//! reason (after the reason side rate of Liang, Ganesh, Poupart and Czarnecki, "Learning rate based
-//! branching heuristic for SAT solvers", 2016).
+//! Decisions: which variable a search decides, and with which phase. It is a variable without a value with
+//! the greatest score; a conflict bumps its variables, and late conflicts count more (VSIDS: Moskewicz and
+//! others, "Chaff", 2001; Eén and Sörensson, "An extensible SAT-solver", 2003). It gets the value that it had
+//! last (phase saving: Pipatsrisawat and Darwiche, "A lightweight component caching scheme for satisfiability
+//! solvers", 2007). The variables in the reasons of the learnt clause's other literals are bumped by half of
+//! the increment, once for each reason (after the reason side rate of Liang, Ganesh, Poupart and Czarnecki,
+//! "Learning rate based branching heuristic for SAT solvers", 2016).
 //!
-//! Backtracking puts the variables that lose their values back into the heap, and only decisions
-//! take any out. So where the heap is empty, all variables have values.
+//! Backtracking puts the variables that lose their values back into the heap, and only decisions take any
+//! out. So if the heap is empty, all variables have values.
 ghost use Rattle.std.specs.Prelude.{◌≡◌, ℕ, ℤ, ◌+◌, ◌-◌, ◌<◌, ◌≤◌, length, All, IfOk, IfSome, IfNone};
 ghost use Rattle.sat_theory.specs.Formula.{variable as variable_of, IsWithin};
 ghost use Rattle.cdcl_theory.specs.Trails.{Trailed, IsTrail, IsExplained, IsBack, pushed, fell as fell_of};
@@ -22,26 +21,26 @@ use std::alloc::{AllocError, Global};
 use trail_core::Trail;
 use var_heap::VarHeap;
 
-/// What the first conflict adds to the scores of its variables.
+/// What the first conflict adds to the scores of its variables (the increment).
 const FIRST_STEP: u64 = 1 << 40;
 
-/// The step above which all scores are divided, and the step with them (rescaling).
+/// The increment above which all scores and the increment are divided (rescaling).
 const GREATEST_STEP: u64 = 1 << 56;
 
-/// The power of 2 that divides where the variables are few: little is lost by rounding.
+/// The exponent of 2 of a rescaling for few variables: little is lost by rounding.
 const SMALL_SCALE: u32 = 1;
 
-/// That where they are many. A rescaling goes over all of them, and short probes touch few: so it
-/// comes once in some hundreds of conflicts.
+/// The exponent for many variables. A rescaling goes over all of them while short calls under assumptions
+/// touch few, so it has to be rare: once in some hundreds of conflicts.
 const GREAT_SCALE: u32 = 32;
 
-/// The variables are many from this number on.
+/// The number of variables from which on they count as many.
 const MANY_VARS: usize = 1 << 13;
 
-/// Each conflict makes the step greater by this part of it (the decay of older bumps).
+/// Each conflict increases the increment by 1 in this number (the decay of older bumps).
 const STEP_PART: u64 = 16;
 
-/// The variables of a reason are bumped by the step divided by this.
+/// The variables of a reason are bumped by the increment divided by this.
 const REASON_PART: u64 = 2;
 
 /// The decision variables, with their scores and saved phases.
@@ -57,7 +56,7 @@ pub(crate) struct Choice {
 impl Choice {
     ghost use Rattle.cdcl_core.specs.Choosing.{IsChoosing};
 
-    /// All variables with the same score; each is decided to be true first.
+    /// All variables with the score 0; the first phase of each is true.
     pub(crate) fn new(alloc: Global, vars: u32) -> Result<Choice, AllocError>
         ensures { IfOk result (λ c. (t : Trailed) → t.vars ≡ vars → IsChoosing t c) }
     {
@@ -68,8 +67,7 @@ impl Choice {
         })
     }
 
-    /// Takes out a variable without a value of greatest score, and answers the literal to decide
-    /// on.
+    /// Takes out a variable without a value of greatest score, and returns the literal to decide.
     pub(crate) fn take_free(&mut self, trail: &Trail) -> Option<Lit>
         requires whole { IsTrail trail.now }
         requires choosing { IsChoosing trail.now self.old }
@@ -88,8 +86,8 @@ impl Choice {
         None
     }
 
-    /// Backtracks to the first `len` literals of the trail: each variable that loses its value goes back into the heap,
-    /// and its phase is saved.
+    /// Backtracks to the first `len` literals of the trail: each variable that loses its value goes back into
+    /// the heap, and its phase is saved.
     pub(crate) fn back_to(&mut self, trail: &mut Trail, len: usize)
         requires whole { IsTrail trail.old }
         requires choosing { IsChoosing trail.old self.old }
@@ -103,7 +101,7 @@ impl Choice {
         }
     }
 
-    /// The same for the last literal.
+    /// Unassigns the last literal of the trail in this way.
     fn take_back(&mut self, trail: &mut Trail)
         requires whole { IsTrail trail.old }
         requires choosing { IsChoosing trail.old self.old }
@@ -128,7 +126,7 @@ impl Choice {
         }
     }
 
-    /// Bumps the variables of `lits`: adds the step to their scores.
+    /// Bumps the variables of `lits`: adds the increment to their scores.
     pub(crate) fn bump(&mut self, lits: &[Lit])
         requires { IsWithin self.old.heap.vars lits.now }
         ensures { (t : Trailed) → IsChoosing t self.old → IsChoosing t self.new }
@@ -137,7 +135,7 @@ impl Choice {
         self.add(lits, step);
     }
 
-    /// Bumps the variables in the reasons of fallen literals by a part of the step.
+    /// Bumps the variables in the reasons of false literals by a part of the increment.
     pub(crate) fn bump_reasons(&mut self, trail: &Trail, clauses: &ClauseDb, lits: &[Lit])
         requires vars { clauses.now.vars ≡ trail.now.vars }
         requires explained { IsExplained (live_in clauses.now) trail.now }
@@ -156,7 +154,7 @@ impl Choice {
         }
     }
 
-    /// Makes the step greater, so that the next conflict counts more than those before.
+    /// Increases the increment, so that the next conflict counts more than those before, with rescaling.
     pub(crate) fn grow(&mut self)
         ensures { (t : Trailed) → IsChoosing t self.old → IsChoosing t self.new }
     {

@@ -1,9 +1,10 @@
-//! How a search forgets learnt clauses (reduceDB): they go from the clauses, and the log gets a
-//! deletion. The reason of a true literal stays, so that all that is learnt later can be derived;
-//! and at most half of the learnt clauses, or of `least`, are ever deleted, so a log that ends open
-//! keeps half of its additions (`half` of `IsLog`). Which clauses go is chosen in `merits`. Where too
-//! many are live at a decision even so, learnt clauses go in the order of ids (`IsBounded`). When a
-//! search has ended, no reason is needed any more, and the log is thinned in the order of ids.
+//! Reduction of the clause database (reduceDB): learnt clauses are removed from the search, and the log gets
+//! a deletion. The reason of a true literal stays, so that all that is learnt later can be derived. At most
+//! half of the additions, or of `least`, are ever deleted, so a log that leaves the formula undecided keeps
+//! half of its additions live (`half` of `IsLog`). `merits` chooses the clauses. If still too many are live
+//! at a decision, learnt clauses are deleted in the order of ids (`IsBounded`). At the end of a search no
+//! reason is needed any more, and further additions are deleted in the order of ids until the log's end has
+//! few enough.
 ghost use Rattle.std.specs.Prelude.{◌≡◌, ◌+◌, ◌*◌, ◌<◌, ◌↔◌, length, IsTrue, IsFalse, IsSome, OnOk};
 ghost use Rattle.sat_theory.specs.Formula.{Formula, IsWithin};
 ghost use Rattle.sat_theory.specs.Log.{IsThinned};
@@ -15,13 +16,15 @@ use cnf_core::Lit;
 use std::alloc::AllocError;
 use trail_core::Trail;
 
-/// The number of live additions that a log may have without any deletion.
+/// A log may have four times as many additions as deleted ones, variables and this number together.
 const SLACK: u64 = 2000;
 
-/// How many clauses go at least, if so many may, where too many are live: a search goes over all of them seldom.
+/// The least number of clauses deleted at once when too many are live, if so many may be: so the scan over
+/// all clauses is rare.
 const SHED: usize = 1000;
 
-/// Whether a last id is above the bound for the others, `standing` of which never go.
+/// Whether the additions, without the `standing` irredundant ones, are more than four times the deleted ones,
+/// the variables and the slack together.
 fn exceeds(last: u32, given: u32, standing: u32, deleted: u32, vars: u32) -> bool
     ensures { IsTrue result ↔ (given + standing + 4 * (deleted + vars + 2000) < last) }
 {
@@ -29,7 +32,7 @@ fn exceeds(last: u32, given: u32, standing: u32, deleted: u32, vars: u32) -> boo
     u64::from(last) > u64::from(given) + u64::from(standing) + bound
 }
 
-/// Whether one of `lits` is true with the clause of `id` as its reason.
+/// Whether one of `lits` is true with this clause as its reason.
 fn has_implied(trail: &Trail, lits: &[Lit], id: u32) -> bool
     requires { IsWithin trail.now.vars lits.now }
     ensures none { IsFalse result → NoneImplied trail.now lits.now (length lits.now) id }
@@ -58,7 +61,8 @@ impl Search {
         has_implied(&self.trail, self.clauses.arranged(id), id)
     }
 
-    /// Whether another deletion keeps at least half of all additions, or of `least`.
+    /// Whether, after one more deletion, at least half of all additions, or of `least`, are still not
+    /// deleted.
     fn has_half(&self) -> bool
         ensures { IsTrue result ↔ HasHalf self.now }
     {
@@ -67,7 +71,7 @@ impl Search {
             || u64::from(self.clauses.last()) >= u64::from(self.given) + both
     }
 
-    /// Whether a clause is one of the formula or stands for one.
+    /// Whether a clause is one of the formula, or replaces one.
     pub(crate) fn is_irredundant(&self, id: u32) -> bool
         ensures { IsTrue result ↔ IsIrredundant self.now id }
     {
@@ -86,7 +90,8 @@ impl Search {
         !self.is_reason(id)
     }
 
-    /// Deletes a learnt clause, and adds its id to `gone`, those that the next line deletes.
+    /// Deletes a learnt clause from the search, and adds its id to `gone`, the ids that the next line of the
+    /// log deletes.
     fn let_go(&mut self, id: u32, gone: &mut Vec<u32>) -> Result<(), AllocError>
         requires live { IsSome (live_in self.old.clauses id) }
         requires learnt { self.old.given < id }
@@ -102,7 +107,7 @@ impl Search {
         Ok(())
     }
 
-    /// Writes the line that deletes the ids of `gone`, if there are any.
+    /// Adds a line to the log that deletes the ids of `gone`, if there are any.
     fn write_gone(&mut self, gone: &[u32]) -> Result<(), AllocError>
         ensures lines { OnOk result (self.new.lines ≡ with_gone self.old.lines (length self.old.clauses.clauses) gone.now) }
         ensures same { OnOk result (self.new ≡ record self.old { lines = self.new.lines }) }
@@ -114,7 +119,7 @@ impl Search {
         Ok(())
     }
 
-    /// Deletes the clauses of `ids` that may be deleted.
+    /// Deletes those clauses of `ids` that may be deleted.
     pub(crate) fn forget(&mut self, ids: &[u32]) -> Result<(), AllocError>
         requires searching { IsSearching self.old }
         requires visited { IsVisited self.old }
@@ -134,7 +139,7 @@ impl Search {
         Ok(())
     }
 
-    /// Notes the clause that was learnt last, and deletes recent ones that it subsumes.
+    /// Records the clause learnt last, and deletes recent ones that it subsumes.
     pub(crate) fn review(&mut self) -> Result<(), AllocError>
         requires searching { IsSearching self.old }
         requires visited { IsVisited self.old }
@@ -148,7 +153,7 @@ impl Search {
         Ok(())
     }
 
-    /// Notes the clause that was learnt last, and answers the ids of recent ones that it subsumes.
+    /// Records the clause learnt last, and returns the ids of recent ones that it subsumes.
     fn note_last(&mut self) -> Result<Vec<u32>, AllocError>
         requires searching { IsSearching self.old }
         ensures { self.new ≡ record self.old { merits = self.new.merits } }
@@ -163,7 +168,7 @@ impl Search {
         self.merits.containing(alloc, &self.clauses, lits)
     }
 
-    /// Deletes idle clauses when that is due, and frees their room.
+    /// Deletes the less active candidates if a reduction is due, and frees their memory.
     fn forget_idle(&mut self) -> Result<(), AllocError>
         requires searching { IsSearching self.old }
         requires visited { IsVisited self.old }
@@ -181,7 +186,7 @@ impl Search {
         Ok(())
     }
 
-    /// The ids of the idle clauses that are to be deleted, when that is due.
+    /// The ids of the clauses to delete, if a reduction is due.
     fn due_ones(&mut self) -> Result<Vec<u32>, AllocError>
         ensures { self.new ≡ record self.old { merits = self.new.merits } }
     {
@@ -192,7 +197,7 @@ impl Search {
         self.merits.idle(alloc, &self.clauses)
     }
 
-    /// Whether more additions are live than the end of the log may have.
+    /// Whether more additions are live than the end of the log may have. Irredundant ones don't count.
     fn is_overfull(&self) -> bool
         ensures { IsTrue result ↔ IsOverfull self.now }
     {
@@ -206,7 +211,7 @@ impl Search {
         )
     }
 
-    /// Deletes learnt clauses that are no reasons, the first ones first, until few enough are live.
+    /// Deletes learnt clauses that are no reasons, in the order of ids, until few enough are live.
     fn shed(&mut self) -> Result<(), AllocError>
         requires searching { IsSearching self.old }
         requires visited { IsVisited self.old }
@@ -231,7 +236,7 @@ impl Search {
         Ok(())
     }
 
-    /// Deletes idle clauses when that is due, and further ones where too many are live.
+    /// Reduces the clause database if that is due, and deletes further clauses if too many are live.
     pub(crate) fn tidy(&mut self) -> Result<(), AllocError>
         requires searching { IsSearching self.old }
         requires visited { IsVisited self.old }
@@ -250,7 +255,7 @@ impl Search {
         Ok(())
     }
 
-    /// Whether the log has too many live additions.
+    /// Whether more additions are live than the end of the log may have.
     fn is_thick(&self) -> bool
         ensures { IsTrue result ↔ IsThick self.now }
     {
@@ -259,7 +264,7 @@ impl Search {
                 + 4 * (u64::from(self.deleted) + u64::from(self.clauses.vars()) + SLACK)
     }
 
-    /// Deletes learnt clauses, the first ones first, until few enough are live.
+    /// Deletes additions in the order of ids until few enough are live.
     fn thin_out(&mut self, gone: &mut Vec<u32>) -> Result<(), AllocError>
         requires stored { IsStored self.old.clauses }
         ensures lines { OnOk result (self.new.lines ≡ self.old.lines) }
@@ -280,8 +285,8 @@ impl Search {
         Ok(())
     }
 
-    /// Deletes learnt clauses until the log has few enough live ones. They may be reasons, so this
-    /// is the end of a search.
+    /// Deletes additions until the log's end has few enough live ones. Reasons and irredundant clauses may be
+    /// among them, so this ends the search.
     pub(crate) fn thin(&mut self) -> Result<(), AllocError>
         requires stored { IsStored self.old.clauses }
         ensures gone { OnOk result (MoreGone self.old.lines self.new.lines) }

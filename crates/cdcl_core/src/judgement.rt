@@ -1,5 +1,5 @@
-//! What a clause says under the values of a trail. The search judges only clauses of one literal,
-//! since the others are watched; the definitions are those that watched propagation has to meet.
+//! The status of a clause under the values of a trail. The search evaluates only unit clauses this way, since
+//! the others are watched; the definitions are those that watched propagation has to satisfy.
 ghost use Rattle.sat_theory.specs.Formula.{IsClause, IsWithin};
 ghost use Rattle.cdcl_theory.specs.Trails.{fell as fell_of};
 ghost use Rattle.cdcl_core.specs.Verdicts.{IsVerdict};
@@ -7,9 +7,9 @@ ghost use Rattle.cdcl_core.specs.Verdicts.{IsVerdict};
 use cnf_core::Lit;
 use trail_core::Trail;
 
-/// What a clause says under the values of a trail.
+/// The status of a clause under the values of a trail.
 pub(crate) enum Verdict {
-    /// A literal is true, or two have no value.
+    /// A literal is true, or at least two have no value.
     Settled,
     /// All but this one are false, and this has no value.
     Unit(Lit),
@@ -17,7 +17,7 @@ pub(crate) enum Verdict {
     Falsified,
 }
 
-/// Reads a clause under the values of a trail.
+/// The status of a clause under the values of a trail.
 #[tactic(auto, using(crate::proofs::Judging::judging))]
 pub(crate) fn judge(trail: &Trail, lits: &[Lit]) -> Verdict
     requires clause { IsClause lits.now }

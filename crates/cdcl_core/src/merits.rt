@@ -1,13 +1,13 @@
-//! What is known of the learnt clauses' use, and which of them are candidates for deletion. Nothing
-//! is promised here: the search checks of each candidate whether it may be deleted, so a bad choice
-//! costs time and never an answer.
+//! Activity and LBD of the learnt clauses, and which of them are candidates for deletion. The contracts
+//! promise nothing: the search checks for each candidate whether it may be deleted, so a bad choice costs
+//! time and never soundness.
 //!
-//! A clause is idle (a candidate) where it has at least three literals, was learnt over at least
-//! five levels (its LBD or glue: Audemard and Simon, "Predicting learnt clauses quality in modern
-//! SAT solvers", 2009) and had no part in recent conflicts. From time to time the less active half
-//! of the idle ones goes, where late conflicts count more for the activity (Eén and Sörensson, "An
-//! extensible SAT-solver", 2003). And where the clause that was learnt last subsumes one of the few
-//! before it, that one goes at once (Biere and others, "CaDiCaL", 2020).
+//! A clause is a candidate if it has at least three literals, was learnt over at least five levels (its LBD
+//! or glue: Audemard and Simon, "Predicting learnt clauses quality in modern SAT solvers", 2009) and had no
+//! part in recent conflicts. From time to time the less active half of the candidates is deleted; late
+//! conflicts count more for the activity (Eén and Sörensson, "An extensible SAT-solver", 2003). And if the
+//! clause learnt last subsumes one of the few before it, that one is deleted at once (Biere and others,
+//! "CaDiCaL", 2020).
 ghost use Rattle.sat_theory.specs.Formula.{IsWithin};
 
 use clause_db::ClauseDb;
@@ -16,47 +16,47 @@ use std::alloc::{AllocError, Global};
 use subsume_core::contains_all;
 use trail_core::Trail;
 
-/// What a part in the first conflict adds to the activity of a clause.
+/// What a part in the first conflict adds to the activity of a clause (the activity increment).
 const FIRST_STEP: u64 = 1 << 20;
 
-/// The step above which all activities are divided, and the step with them (rescaling).
+/// The increment above which all activities and the increment are divided (rescaling).
 const GREATEST_STEP: u64 = 1 << 60;
 
-/// The divisor of that.
+/// The divisor of a rescaling.
 const SCALE: u64 = 1 << 40;
 
-/// Each conflict makes the step greater by this part of it.
+/// Each conflict increases the increment by 1 in this number (the decay of older activity).
 const STEP_PART: u64 = 1000;
 
-/// Clauses over at most this number of levels (LBD) stay.
+/// Clauses over at most this number of levels (LBD) are never candidates.
 const FEW_LEVELS: u32 = 4;
 
-/// Clauses that had a part in one of this number of last conflicts stay.
+/// Clauses with a part in one of this number of last conflicts are no candidates.
 const RECENT: usize = 2000;
 
-/// The number of conflicts before the first deletion: short searches gain nothing by one.
+/// The number of conflicts before the first deletion: short searches don't gain from it.
 const FIRST_DUE: usize = 2000;
 
-/// With `LONGER_WAIT` added, the number of conflicts from the first deletion to the second.
+/// With `LONGER_WAIT` added, the number of conflicts between the first deletion and the second.
 const FIRST_WAIT: usize = 2000;
 
-/// How much longer each wait is than the one before.
+/// The number of conflicts by which each interval is longer than the one before.
 const LONGER_WAIT: usize = 75;
 
-/// The number of clauses before the last one that are tested for being subsumed by it.
+/// The number of clauses before the last one that are tested for subsumption by it.
 const LAST_ONES: usize = 20;
 
-/// The number of last clauses whose signatures are kept: more than `LAST_ONES`, since the last
-/// clause is one of them too.
+/// The number of last clauses whose signatures are kept: more than `LAST_ONES`, since the last clause is one
+/// of them.
 const RING: usize = 32;
 
-/// What is known of a learnt clause.
+/// Activity, last use and LBD of a learnt clause.
 #[derive(Clone, Copy)]
 struct Merit {
     activity: u64,
-    /// the number of the last conflict that it had a part in
+    /// the number of the last conflict in which it had a part
     used: u32,
-    /// the number of levels of its literals when it was learnt (LBD), counted up to one more than few
+    /// the number of levels of its literals when it was learnt (LBD), capped at `FEW_LEVELS` + 1
     levels: u32,
 }
 
@@ -67,30 +67,30 @@ struct Idle {
     id: u32,
 }
 
-/// What is known of the learnt clauses, in the order of their ids.
+/// The scores of the learnt clauses in the order of their ids.
 #[derive(Drop)]
 pub(crate) struct Merits {
     /// ids above this are those of learnt clauses
     given: u32,
     merits: Vec<Merit>,
-    /// the number of conflicts so far: entries but for those of clauses that are never forgotten
+    /// the number of conflicts so far: the entries without those of irredundant clauses
     conflicts: usize,
-    /// the signatures of the last clauses, by index modulo `RING`: a bit for each literal, maybe
-    /// shared
+    /// the signatures of the last clauses, by index modulo `RING`: a bit for each literal, which several may
+    /// share
     shapes: [u64; RING],
-    /// what a part in the next conflict counts
+    /// the activity increment
     step: u64,
     /// the number of hints of all learnt clauses
     hints: u64,
-    /// by level, the number of the last conflict that counted it
+    /// by level, the number of the last conflict that counted it for its LBD
     counted: Vec<usize>,
-    /// the number of the conflict after which clauses are deleted next
+    /// the number of conflicts at which clauses are deleted next
     due: usize,
     wait: usize,
 }
 
 impl Merits {
-    /// No learnt clause yet, after `given` clauses over `vars` variables.
+    /// No learnt clause yet; the formula has `given` clauses over `vars` variables.
     pub(crate) fn new(alloc: Global, given: u32, vars: u32) -> Result<Merits, AllocError> {
         Ok(Merits {
             given,
@@ -105,7 +105,7 @@ impl Merits {
         })
     }
 
-    /// Bumps the learnt clauses among those that a conflict was derived from.
+    /// Bumps the learnt clauses among the antecedents of a learnt clause.
     pub(crate) fn count_parts(&mut self, ids: &[u32]) {
         let number = self.merits.len();
         let used = short(self.conflicts);
@@ -126,12 +126,12 @@ impl Merits {
         }
     }
 
-    /// The number of hints of all clauses that were learnt so far.
+    /// The number of hints of all clauses learnt so far.
     pub(crate) fn hints(&self) -> u64 {
         self.hints
     }
 
-    /// Makes the step greater; above the bound all activities are rescaled.
+    /// Increases the increment, and rescales all activities if it is above the bound.
     fn grow(&mut self) {
         self.step = self.step.saturating_add(self.step / STEP_PART);
         if self.step <= GREATEST_STEP {
@@ -147,8 +147,8 @@ impl Merits {
         }
     }
 
-    /// The number of levels of a learnt clause (LBD): those of its fallen literals, and one for the
-    /// level of the conflict. Where they are many it stops counting.
+    /// The number of levels of a learnt clause (LBD): those of its false literals, and one for the level of
+    /// the conflict. It stops counting above `FEW_LEVELS`.
     fn levels(&mut self, trail: &Trail, starts: &[usize], lits: &[Lit]) -> u32
         requires { IsWithin trail.now.vars lits.now }
     {
@@ -168,7 +168,7 @@ impl Merits {
         levels
     }
 
-    /// Notes the clause that was learnt last, after the search went back.
+    /// Records the clause learnt last, after the backjump.
     pub(crate) fn note(
         &mut self,
         trail: &Trail,
@@ -190,7 +190,7 @@ impl Merits {
         Ok(())
     }
 
-    /// Notes a clause that is never forgotten, and that no later one is compared with.
+    /// Records an irredundant clause: it is never a candidate, and later clauses aren't tested against it.
     pub(crate) fn note_shorter(&mut self) -> Result<(), AllocError> {
         let index = self.merits.len();
         self.merits.push(Merit {
@@ -202,7 +202,7 @@ impl Merits {
         Ok(())
     }
 
-    /// The ids of recent clauses that the last one subsumes.
+    /// The ids of recent live clauses that the last one, with the literals `lits`, subsumes.
     pub(crate) fn containing(
         &self,
         alloc: Global,
@@ -232,7 +232,7 @@ impl Merits {
         self.given.saturating_add(1).saturating_add(short(index))
     }
 
-    /// Whether a deletion is due. If so, the next one is scheduled.
+    /// Whether a reduction is due. If so, the next one is scheduled.
     pub(crate) fn is_due(&mut self) -> bool {
         if self.conflicts < self.due {
             return false;
@@ -242,7 +242,7 @@ impl Merits {
         true
     }
 
-    /// The merits of the clause at an index, where it is idle: a candidate for deletion.
+    /// The scores of the clause at an index, if it is a candidate.
     fn idle_at(&self, clauses: &ClauseDb, index: usize) -> Option<Merit> {
         if index >= self.merits.len() {
             return None;
@@ -258,7 +258,7 @@ impl Merits {
         Some(merit)
     }
 
-    /// The idle clauses, in the order of ids.
+    /// The candidates in the order of ids.
     fn candidates(&self, alloc: Global, clauses: &ClauseDb) -> Result<Vec<Idle>, AllocError> {
         let mut candidates = Vec::new(alloc);
         for index in 0..self.merits.len() {
@@ -272,7 +272,7 @@ impl Merits {
         Ok(candidates)
     }
 
-    /// The ids of the less active half of the idle clauses.
+    /// The ids of the less active half of the candidates.
     pub(crate) fn idle(&self, alloc: Global, clauses: &ClauseDb) -> Result<Vec<u32>, AllocError> {
         let mut ids = Vec::new(alloc);
         let candidates = self.candidates(alloc, clauses)?;
@@ -288,7 +288,7 @@ impl Merits {
     }
 }
 
-/// The activity that half of the idle clauses don't reach.
+/// The median activity of the candidates: half of them have less.
 fn middle(alloc: Global, candidates: &[Idle]) -> Result<Option<u64>, AllocError> {
     let mut activities = Vec::with_capacity(alloc, candidates.len())?;
     for candidate in candidates {
@@ -298,7 +298,7 @@ fn middle(alloc: Global, candidates: &[Idle]) -> Result<Option<u64>, AllocError>
     Ok(activities.get(activities.len() / 2).copied())
 }
 
-/// A number in 32 bits, saturating.
+/// A number saturated to 32 bits.
 fn short(number: usize) -> u32 {
     number.min(u32::MAX as usize) as u32
 }

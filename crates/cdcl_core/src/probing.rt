@@ -1,11 +1,11 @@
-//! Probes: a search tries to make some literals true, and decides these and open variables alone
-//! (`Scope`). What it learns from conflicts are clauses of the formula, as ever, and it gives up
-//! after some of them. So probes of a circuit's equal points, from its inputs on, show that these
-//! are equal by short logs (SAT sweeping: Kuehlmann, Paruthi, Krohm and Ganai, "Robust Boolean
-//! reasoning for equivalence checking and functional property verification", 2002).
+//! Solving under assumptions: a search decides the assumptions and then only the decision variables of the
+//! call (`Scope`). It learns clauses of the formula from conflicts as always, and gives up after a limit. SAT
+//! sweeping of a circuit from its inputs on shows node equivalences this way by short logs (Kuehlmann,
+//! Paruthi, Krohm and Ganai, "Robust Boolean reasoning for equivalence checking and functional property
+//! verification", 2002).
 //!
-//! Its decisions are free: the invariants of a search hold whatever variable without a value is
-//! decided. A probe leaves the trail standing, and the next step of the search goes down first.
+//! The choice of decisions is free: the invariants of a search hold whatever unassigned variable is decided.
+//! A call leaves the trail as it is, and the next step of the search backtracks to level 0 first.
 ghost use Rattle.std.specs.Prelude.{◌≡◌, ◌+◌, ◌<◌, ◌≤◌, [], length, IsFalse, IfOk, IfSome, IfNone};
 ghost use Rattle.sat_theory.specs.Formula.{Formula, IsWithin};
 ghost use Rattle.cdcl_theory.specs.Falling.{AllSettled};
@@ -20,10 +20,10 @@ use sat_solve::{Cones, Probed};
 use std::alloc::AllocError;
 use trail_core::Trail;
 
-/// A probe makes no decision where the last id is so great, so that later searches have room.
+/// From this last id on, a call under assumptions makes no decision, so that ids are left for later searches.
 const LAST_ID: u32 = 1_900_000_000;
 
-/// Whether a target is false.
+/// Whether an assumption is false.
 fn is_clashed(trail: &Trail, targets: &[Lit]) -> bool
     requires within { IsWithin trail.now.vars targets.now }
 {
@@ -56,7 +56,7 @@ impl Search {
         self.go_down(first);
     }
 
-    /// Ends all probes.
+    /// Ends solving under assumptions: backtracks to level 0, and frees the decision variables.
     pub(crate) fn close(&mut self)
         requires searching { IsSearching self.old }
         requires visited { IsVisited self.old }
@@ -69,7 +69,7 @@ impl Search {
         self.scope = None;
     }
 
-    /// The least number of additions of the log where it ends open after `budget` further ones.
+    /// The number of additions that a log needs to leave the formula undecided after `budget` further ones.
     pub(crate) fn target(&self, budget: u32) -> u32
         requires given { self.now.given ≤ length self.now.clauses.clauses }
         requires few { length self.now.clauses.clauses < 2950000000 }
@@ -84,14 +84,14 @@ impl Search {
         self.least.max(additions + budget)
     }
 
-    /// Whether a probe makes no further decision: the last id is `end` or greater, or it has worked enough.
+    /// Whether a call makes no further decision: the last id is at least `end`, or its work limit is reached.
     fn has_ended(&self, end: u32) -> bool
         ensures { IsFalse result → length self.now.clauses.clauses < end }
     {
         self.clauses.last() >= end || has_worked(&self.scope, self.merits.hints())
     }
 
-    /// Begins a level with a decision of a probe where the last id is below `end`, or ends the probe.
+    /// Makes a decision under assumptions if the last id is below `end`, or ends the call.
     fn decide_open(
         &mut self,
         targets: &[Lit],
@@ -130,7 +130,7 @@ impl Search {
         Ok(None)
     }
 
-    /// Begins a probe at level 0.
+    /// Begins a call under assumptions, at level 0.
     fn begin_probe(&mut self, targets: &[Lit], cones: &Cones, limit: u32) -> Result<(), AllocError>
         requires searching { IsSearching self.old }
         requires visited { IsVisited self.old }
@@ -146,8 +146,8 @@ impl Search {
         Ok(())
     }
 
-    /// Tries to make the targets true. A decision that is due after `limit` conflicts ends it, or after as much work as
-    /// belongs to them; None: the formula is refuted.
+    /// Solves under assumptions. The call ends at the first decision after `limit` conflicts, or after the
+    /// work that corresponds to them; None: the formula is refuted.
     pub(crate) fn probe(
         &mut self,
         targets: &[Lit],
@@ -168,7 +168,7 @@ impl Search {
         self.probe_to(targets, cones, end)
     }
 
-    /// A probe from level 0 that ends where a decision is due and the last id is `end` or greater.
+    /// The same from level 0, ending at the first decision for which the last id is at least `end`.
     fn probe_to(
         &mut self,
         targets: &[Lit],

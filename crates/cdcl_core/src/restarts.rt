@@ -1,14 +1,13 @@
-//! Restarts: a search goes back to level 0 and decides anew after runs of conflicts whose lengths
-//! follow Luby's sequence (Luby, Sinclair and Zuckerman, "Optimal speedup of Las Vegas algorithms",
-//! 1993). The clauses, the scores and the saved phases stay, so a restart loses little, and no
-//! answer depends on when it comes.
+//! Restarts: the search backtracks to level 0 after runs of conflicts whose lengths follow Luby's sequence
+//! (Luby, Sinclair and Zuckerman, "Optimal speedup of Las Vegas algorithms", 1993). Clauses, scores and saved
+//! phases stay, so a restart loses little, and no answer depends on its time.
 ghost use Rattle.std.specs.Prelude.{◌≡◌, ℕ, ◌+◌, ◌-◌, ◌*◌, ◌%◌, ◌^◌, ◌<◌, ◌≤◌, IsTrue, IsFalse};
 ghost use Rattle.cdcl_core.specs.Luby.{IsLuby, IsPowerUpTo};
 
 /// The number of conflicts of the shortest runs.
 const SHORTEST_RUN: u64 = 80;
 
-/// The number of runs after which the sequence begins anew.
+/// The number of runs after which the sequence starts over, so that indices fit in 32 bits.
 const RUNS: u32 = 2147483647;
 
 /// The current run of conflicts.
@@ -29,7 +28,7 @@ impl Restarts {
         }
     }
 
-    /// Counts a conflict, and answers whether a run ended with it.
+    /// Counts a conflict, and returns whether a run ended with it.
     pub(crate) fn count(&mut self) -> bool
         ensures goes_on { IsFalse result → self.new ≡ record self.old { left = self.old.left - 1 } }
         ensures due { IsTrue result → self.old.left ≤ 1 }

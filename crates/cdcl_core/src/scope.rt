@@ -1,14 +1,15 @@
-//! The open variables of a probe: those that it decides, after its targets. A target is open, and
-//! where an open variable has a value, the variables that it is made of are opened too (the lazy
-//! cone of a gate), unless that value is one of level 0. Of those without a value one of greatest rank
-//! is decided first: the last gate of them, where each ranks above those that it is made of. So a
-//! probe leaves all else to propagation.
+//! The decision variables of a call under assumptions. The variables of the assumptions are decision
+//! variables, and once a decision variable has a value, the fanins of its gate become decision variables too
+//! (the lazy cone of a gate), unless the value is one of level 0. Of those without a value, one of greatest
+//! rank is decided first: the last gate in topological order, if each gate ranks above its fanins. Everything
+//! else is left to propagation. A variable is called open while it is a decision variable of the current
+//! call.
 //!
-//! A probe works within bounds: the literals that it looks through on the trail and the hints of what
-//! it learns are counted, since few conflicts that are far from the targets may cost as much as many.
+//! A call has a work limit: the trail literals looked at and the hints of learnt clauses are counted, since a
+//! few conflicts far from the assumptions may cost as much as many.
 //!
-//! Nothing is promised of it but literals without a value: which of them is decided has no bearing
-//! on what is learnt.
+//! The contracts promise only that a decision has no value: which variable is decided has no effect on
+//! soundness.
 ghost use Rattle.std.specs.Prelude.{◌≡◌, ◌+◌, length, IfOk, IfSome};
 ghost use Rattle.sat_theory.specs.Formula.{IsWithin};
 ghost use Rattle.trail_core.specs.Values.{IsOver, IsFree};
@@ -19,38 +20,38 @@ use std::alloc::{AllocError, Global};
 use trail_core::Trail;
 use var_heap::VarHeap;
 
-/// How much a probe may work for each conflict of its limit.
+/// The work limit of a call for each conflict of its limit, in trail literals looked at.
 const WORK: u64 = 200;
 
-/// What a hint of a learnt clause counts, where a literal that is looked through on the trail counts 1.
+/// The work counted for a hint of a learnt clause; a trail literal looked at counts 1.
 const HINT_WORK: u64 = 4;
 
-/// The open variables of the current probe.
+/// The decision variables of the current call under assumptions.
 #[derive(Drop)]
 pub(crate) struct Scope {
-    /// the open variables, but for those that had a value when they would have been decided
+    /// the decision variables, except those that had a value when they were taken out
     pub(crate) heap: VarHeap,
-    /// by variable, the number of the probe that opened it last; 0: none did
+    /// by variable, the number of the last call that had it as a decision variable; 0: none
     pub(crate) opened: Vec<u32>,
-    /// the number of the current probe
+    /// the number of the current call
     pub(crate) probe: u32,
-    /// up to which trail index the open variables have opened those that they are made of
+    /// the trail index up to which the fanins of decision variables were added
     pub(crate) scanned: usize,
-    /// how many literals of level 0 there were when the current probe began
+    /// the number of literals of level 0 when the current call began
     pub(crate) fixed: usize,
-    /// the variables that are still to be opened
+    /// the work list of `open`: variables still to be added
     pub(crate) left: Vec<u32>,
-    /// the number of trail literals that the current probe has looked through
+    /// the number of trail literals that the current call looked at
     pub(crate) seen: u64,
-    /// the number of hints of all clauses that were learnt before it
+    /// the number of hints of all clauses learnt before the call
     pub(crate) hints: u64,
-    /// how much it may work
+    /// the work limit of the call
     pub(crate) most: u64,
     ghost sized: { length opened.items ≡ heap.vars + 1 },
 }
 
 impl Scope {
-    /// No open variable.
+    /// No decision variable.
     fn new(alloc: Global, vars: u32) -> Result<Scope, AllocError> {
         Ok(Scope {
             heap: VarHeap::new(alloc, vars)?,
@@ -65,7 +66,7 @@ impl Scope {
         })
     }
 
-    /// Closes all variables.
+    /// Removes all decision variables.
     fn clear(&mut self) {
         for _turn in 0..self.opened.len() {
             if self.heap.pop().is_none() {
@@ -74,7 +75,7 @@ impl Scope {
         }
     }
 
-    /// Begins a probe, with the variables of its targets.
+    /// Begins a call, with the variables of its assumptions as decision variables.
     fn begin(&mut self, trail: &Trail, targets: &[Lit], cones: &Cones) -> Result<(), AllocError> {
         self.clear();
         self.probe = self.probe.wrapping_add(1);
@@ -86,8 +87,8 @@ impl Scope {
         Ok(())
     }
 
-    /// Opens the variable of a target, and where it has a value those that it is made of: a target is asked about itself,
-    /// also where level 0 has its value.
+    /// Makes the variable of an assumption a decision variable, and if it has a value its fanins too, even if
+    /// the value is one of level 0.
     fn begin_at(&mut self, trail: &Trail, variable: u32, cones: &Cones) -> Result<(), AllocError> {
         self.open(trail, variable, cones)?;
         if position_of(trail, variable) > 0 {
@@ -97,21 +98,22 @@ impl Scope {
         Ok(())
     }
 
-    /// Lets the probe work as much as belongs to a limit of conflicts, after `hints` hints.
+    /// Sets the work limit for a limit of conflicts; `hints` is the number of hints of all clauses learnt so
+    /// far.
     fn allow(&mut self, hints: u64, limit: u32) {
         self.seen = 0;
         self.hints = hints;
         self.most = u64::from(limit) * WORK;
     }
 
-    /// Whether the probe has worked as much as it may, where there are `hints` hints by now.
+    /// Whether the work limit is reached, given the number of hints so far.
     fn is_spent(&self, hints: u64) -> bool {
         let derived = hints.saturating_sub(self.hints);
         self.seen / HINT_WORK >= (self.most / HINT_WORK).saturating_sub(derived)
     }
 
-    /// Opens a variable, and while one has a value those that it is made of, but for values of level 0: these need nothing
-    /// to hold them up.
+    /// Makes a variable a decision variable, and transitively the fanins of those that have a value. Values
+    /// of level 0 need no justification by fanins.
     fn open(&mut self, trail: &Trail, variable: u32, cones: &Cones) -> Result<(), AllocError> {
         self.left.push(variable)?;
         for _turn in 0..u64::MAX {
@@ -135,7 +137,8 @@ impl Scope {
         Ok(())
     }
 
-    /// Marks a variable as open, and answers whether it wasn't. It has its rank from the first time on.
+    /// Marks a variable as a decision variable, and returns whether it wasn't one. It gets its rank the first
+    /// time.
     fn mark(&mut self, variable: u32, cones: &Cones) -> bool {
         let before = entry(&self.opened, variable);
         if variable == 0 || variable as usize >= self.opened.len() || before == self.probe {
@@ -149,14 +152,14 @@ impl Scope {
         true
     }
 
-    /// Puts an open variable into the heap.
+    /// Puts a decision variable into the heap.
     fn hold(&mut self, variable: u32) {
         if variable > 0 && (variable as usize) < self.opened.len() {
             self.heap.push(variable);
         }
     }
 
-    /// Opens what the open variables on the trail are made of.
+    /// Adds the fanins of the decision variables that got values since the last scan of the trail.
     fn scan(&mut self, trail: &Trail, cones: &Cones) -> Result<(), AllocError> {
         let fresh = trail.len().saturating_sub(self.scanned);
         self.seen = self.seen.saturating_add(fresh as u64);
@@ -172,7 +175,8 @@ impl Scope {
         Ok(())
     }
 
-    /// Takes out an open variable without a value, of greatest rank, and answers its literal by its saved phase.
+    /// Takes out a decision variable without a value, of greatest rank, and returns its literal with the
+    /// saved phase.
     fn take_free(&mut self, trail: &Trail, signs: &[bool]) -> Option<Lit>
         ensures over { IfSome result (IsOver trail.now.vars) }
         ensures free { IfSome result (IsFree trail.now) }
@@ -190,7 +194,8 @@ impl Scope {
         None
     }
 
-    /// Puts the open variables of the trail from index `from` on back, before the trail is cut back to there.
+    /// Puts the decision variables on the trail from index `from` on back into the heap, before backtracking
+    /// to there.
     fn release(&mut self, trail: &Trail, from: usize) {
         self.scanned = self.scanned.min(from);
         for index in from..trail.len() {
@@ -202,7 +207,7 @@ impl Scope {
     }
 }
 
-/// The entry of a variable; 0 after the end of the row.
+/// The entry of a variable; 0 beyond the end of the table.
 fn entry(row: &[u32], variable: u32) -> u32 {
     match row.get(variable as usize) {
         Some(number) => *number,
@@ -210,7 +215,7 @@ fn entry(row: &[u32], variable: u32) -> u32 {
     }
 }
 
-/// The saved phase of a variable; true after the end of the row.
+/// The saved phase of a variable; true beyond the end of the table.
 fn sign(signs: &[bool], variable: u32) -> bool {
     match signs.get(variable as usize) {
         Some(positive) => *positive,
@@ -218,7 +223,8 @@ fn sign(signs: &[bool], variable: u32) -> bool {
     }
 }
 
-/// 1 + the trail position of a variable's literal; 0 where it has no value, or the trail lacks it.
+/// The position of a variable: 1 + the trail index of its literal; 0 if it has no value, or the trail lacks
+/// it.
 fn position_of(trail: &Trail, variable: u32) -> u32 {
     if variable == 0 || variable > trail.vars() {
         return 0;
@@ -227,7 +233,7 @@ fn position_of(trail: &Trail, variable: u32) -> u32 {
     positive.max(trail.fell(Lit::of(variable, false)))
 }
 
-/// Begins a probe with the variables of its targets.
+/// Begins a call, with the variables of its assumptions as decision variables.
 pub(crate) fn open_targets(
     scope: &mut Option<Scope>,
     alloc: Global,
@@ -244,14 +250,15 @@ pub(crate) fn open_targets(
     }
 }
 
-/// Lets the probe, if one is running, work as much as belongs to a limit of conflicts, after `hints` hints.
+/// Sets the work limit of the call, if one is running, for a limit of conflicts; `hints` is the number of
+/// hints so far.
 pub(crate) fn allow_work(scope: &mut Option<Scope>, hints: u64, limit: u32) {
     if let Some(scope) = scope {
         scope.allow(hints, limit);
     }
 }
 
-/// Whether the probe, if one is running, has worked as much as it may, where there are `hints` hints by now.
+/// Whether the work limit of the call is reached, if one is running, given the number of hints so far.
 pub(crate) fn has_worked(scope: &Option<Scope>, hints: u64) -> bool {
     match scope {
         Some(scope) => scope.is_spent(hints),
@@ -259,7 +266,7 @@ pub(crate) fn has_worked(scope: &Option<Scope>, hints: u64) -> bool {
     }
 }
 
-/// The first target without a value.
+/// The first assumption without a value.
 fn free_target(trail: &Trail, targets: &[Lit]) -> Option<Lit>
     requires within { IsWithin trail.now.vars targets.now }
     ensures over { IfSome result (IsOver trail.now.vars) }
@@ -275,7 +282,7 @@ fn free_target(trail: &Trail, targets: &[Lit]) -> Option<Lit>
     None
 }
 
-/// The next decision of a probe: a target, or an open variable; None where none is left.
+/// The next decision under assumptions: an assumption, or a decision variable; None if all have values.
 pub(crate) fn next_open(
     scope: &mut Option<Scope>,
     trail: &Trail,
@@ -297,7 +304,7 @@ pub(crate) fn next_open(
     Ok(scope.take_free(trail, signs))
 }
 
-/// Puts open variables back, if any probe is running, before the trail is cut back.
+/// Puts decision variables back into the heap before backtracking, if a call is running.
 pub(crate) fn release_open(scope: &mut Option<Scope>, trail: &Trail, from: usize) {
     if let Some(scope) = scope {
         scope.release(trail, from);

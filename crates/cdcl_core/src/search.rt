@@ -1,7 +1,6 @@
-//! The search (CDCL): it propagates, learns a clause from each conflict and backjumps to where that
-//! is unit, and begins a level with a decision where there is no conflict, until all variables have
-//! values, the empty clause follows, or the budget is spent. The invariant of the whole is
-//! `IsSearching`, that of the watches `IsVisited`.
+//! The search (CDCL): it propagates, learns a clause from each conflict and backjumps to where that is unit,
+//! and makes a decision where there is no conflict, until all variables have values, the empty clause
+//! follows, or the budget is reached. Its invariant is `IsSearching`, that of the watches `IsVisited`.
 ghost use Rattle.std.specs.Prelude.{◌≡◌, ◌+◌, ◌<◌, ◌≤◌, ◌↔◌, [], length, IsTrue, IfOk, OnOk, IfSome, IfNone};
 ghost use Rattle.sat_theory.specs.Formula.{Formula};
 ghost use Rattle.cdcl_theory.specs.Falling.{AllSettled, IsFalsified};
@@ -23,17 +22,18 @@ use log_core::Log;
 use std::alloc::{AllocError, Global};
 use trail_core::Trail;
 
-/// The number of conflicts before the clauses of the formula are strengthened: short searches gain nothing by it.
+/// The number of conflicts before the clauses of the formula are strengthened: short searches don't gain from
+/// it.
 const FIRST_CONFLICTS: u32 = 300;
 
-/// The number of clauses up to which a formula is strengthened, and of shorter ones that are added at most.
+/// The greatest number of clauses of a formula that is strengthened, and of strengthened clauses added.
 const MOST_STRENGTHENED: u32 = 400_000;
 
-/// An id that is never given.
+/// An id that no clause gets.
 const NEVER: u32 = 4_294_967_295;
 
-/// The state of a search: the clauses of the formula and the learnt ones, the trail, where the
-/// decision levels begin, and the log so far.
+/// The state of a search: the clauses of the formula and the learnt ones, the trail, the starts of the
+/// decision levels, and the log so far.
 #[derive(Drop)]
 pub(crate) struct Search {
     pub(crate) clauses: ClauseDb,
@@ -48,31 +48,31 @@ pub(crate) struct Search {
     pub(crate) choice: Choice,
     pub(crate) restarts: Restarts,
     pub(crate) merits: Merits,
-    /// the clauses that stand for longer ones of the formula
+    /// the additions that replace longer clauses of the formula
     pub(crate) shorter: Shorter,
-    /// the number of learnt clauses that are deleted
+    /// the number of deleted additions
     pub(crate) deleted: u32,
-    /// the least number of additions of the log where it ends open
+    /// the least number of additions of a log that leaves the formula undecided
     pub(crate) least: u32,
-    /// the open variables, from the first probe on
+    /// the decision variables under assumptions; None before the first such call and after the last one
     pub(crate) scope: Option<Scope>,
 }
 
-/// Which additions stand for clauses of the formula that they subsume: those with ids above `low` up to `high`. They are
-/// never forgotten.
+/// The additions that replace clauses of the formula which they subsume: those with ids above `low` up to
+/// `high`. They are never deleted.
 #[derive(Clone, Copy, Drop)]
 pub(crate) struct Shorter {
     pub(crate) low: u32,
     pub(crate) high: u32,
 }
 
-/// How a search ends.
+/// The end of a search.
 pub(crate) enum Ending {
     /// All variables have values, and no clause is falsified.
     Valued,
     /// The log ends with the empty clause.
     Refuted,
-    /// The budget is spent, and a decision is due.
+    /// The budget is reached, and a decision is due.
     Spent,
 }
 
@@ -81,7 +81,7 @@ impl Search {
     ghost use Rattle.cdcl_core.specs.Endings.{Ends, HasRefuted};
     ghost use Rattle.cdcl_core.specs.Forgetting.{IsBounded};
 
-    /// A search over a formula, before its first step. Where its log ends open, it has at least
+    /// A search over a formula, before its first step. A log that leaves the formula undecided has at least
     /// `least` additions.
     pub(crate) fn new(alloc: Global, cnf: &Cnf, least: u32) -> Result<Search, AllocError>
         ensures searching { IfOk result IsSearching }
@@ -94,8 +94,7 @@ impl Search {
     {
         let vars = cnf.vars();
         let given = cnf.clauses().len() as u32;
-        // The greatest parts come last, so that where memory runs out the fewest have to be
-        // dropped.
+        // The largest tables come last, so that little has to be freed where memory runs out.
         let merits = Merits::new(alloc, given, vars)?;
         let trail = Trail::new(alloc, vars)?;
         let choice = Choice::new(alloc, vars)?;
@@ -119,8 +118,8 @@ impl Search {
         })
     }
 
-    /// Assigns the literals of unit clauses, which aren't watched, at level 0. What follows from
-    /// them is found by propagation.
+    /// Assigns the literals of unit clauses, which aren't watched, at level 0, and returns the id of a
+    /// falsified one, if any. Propagation then finds what follows.
     #[tactic(auto, using(crate::proofs::Settling::searching_grown))]
     pub(crate) fn begin(&mut self) -> Result<Option<u32>, AllocError>
         requires searching { IsSearching self.old }
@@ -134,7 +133,7 @@ impl Search {
         push_units(&mut self.trail, &self.clauses)
     }
 
-    /// Unit propagation by watched literals.
+    /// Unit propagation by watched literals. Returns the id of a falsified clause, if any.
     fn propagate(&mut self) -> Result<Option<u32>, AllocError>
         requires searching { IsSearching self.old }
         requires visited { IsVisited self.old }
@@ -153,8 +152,8 @@ impl Search {
         }
     }
 
-    /// Learns a clause from a conflict in the last level, which begins at trail index `start`,
-    /// backjumps to where the clause is unit, and assigns its literal.
+    /// Learns a clause from a conflict in the last level, which begins at trail index `start`, backjumps to
+    /// where the clause is unit, and assigns its literal.
     fn jump(&mut self, conflict: u32, start: usize) -> Result<(), AllocError>
         requires searching { IsSearching self.old }
         requires level { IsLastStart self.old.starts.items start }
@@ -202,7 +201,7 @@ impl Search {
         self.head = first;
     }
 
-    /// Counts a conflict, and restarts where a run of conflicts ends with it.
+    /// Counts a conflict, and restarts if a run of conflicts ends with it.
     fn restart(&mut self)
         requires searching { IsSearching self.old }
         requires visited { IsVisited self.old }
@@ -220,7 +219,8 @@ impl Search {
         self.go_down(first);
     }
 
-    /// Propagates, and learns from each conflict, until there is none, or one at level 0.
+    /// Propagates, and learns from each conflict, until there is none, or one at level 0, whose id it
+    /// returns.
     pub(crate) fn settle(&mut self) -> Result<Option<u32>, AllocError>
         requires searching { IsSearching self.old }
         requires visited { IsVisited self.old }
@@ -253,8 +253,8 @@ impl Search {
         u64::from(self.clauses.last()) >= u64::from(self.given) + u64::from(budget)
     }
 
-    /// Begins a level with a decision. Where all variables have values the search ends with them,
-    /// and where the budget is spent it ends open.
+    /// Makes a decision, which begins a level. If all variables have values the search ends with them, and if
+    /// the budget is reached it ends undecided.
     fn decide(&mut self, budget: u32) -> Result<Option<Ending>, AllocError>
         requires searching { IsSearching self.old }
         requires settled { AllSettled (live_in self.old.clauses) (fell_of self.old.trail) }
@@ -280,7 +280,7 @@ impl Search {
         Ok(None)
     }
 
-    /// Adds the empty clause to the log.
+    /// Adds the empty clause, which a falsified clause at level 0 implies, to the log.
     pub(crate) fn refute(&mut self, conflict: u32) -> Result<(), AllocError>
         requires searching { IsSearching self.old }
         requires few { length self.old.clauses.clauses < 4000000000 }
@@ -299,7 +299,7 @@ impl Search {
         Ok(())
     }
 
-    /// Whether the search is at level 0, with the last id `pause` or greater.
+    /// Whether the search is at level 0 and the last id is at least `pause`.
     fn is_paused(&self, pause: u32) -> bool
         ensures bottom { IsTrue result → self.now.starts.items ≡ [] }
         ensures due { IsTrue result → pause ≤ length self.now.clauses.clauses }
@@ -307,8 +307,8 @@ impl Search {
         self.starts.is_empty() && self.clauses.last() >= pause
     }
 
-    /// Decides and learns until the formula is decided, or a decision is due after at least `budget` additions. It
-    /// pauses, and answers None, where it is at level 0 and the last id is `pause` or greater.
+    /// Decides and learns until the formula is decided, or a decision is due after at least `budget`
+    /// additions. It pauses, and returns None, at level 0 once the last id is at least `pause`.
     fn run(&mut self, budget: u32, pause: u32) -> Result<Option<Ending>, AllocError>
         requires searching { IsSearching self.old }
         requires visited { IsVisited self.old }
@@ -339,8 +339,9 @@ impl Search {
         }
     }
 
-    /// The last id at which the search pauses to strengthen the clauses of the formula. It doesn't where the budget is
-    /// small, where probes have learnt (their clauses hold the formula together), and where the formula is large.
+    /// The last id at which the search pauses to strengthen the clauses of the formula. It doesn't pause if
+    /// the budget is small, if calls under assumptions have learnt clauses already, or if the formula is
+    /// large.
     fn pause(&self, budget: u32) -> u32 {
         let is_probed = self.clauses.last() > self.given;
         if budget <= FIRST_CONFLICTS || is_probed || self.given > MOST_STRENGTHENED {
@@ -365,7 +366,7 @@ impl Search {
             return Ok(ending);
         }
         let before = self.clauses.last();
-        // for the prover: none was strengthened before
+        // for the prover: strengthening happens once
         if self.shorter.high == 0 {
             if let Some(conflict) = self.strengthen(before + MOST_STRENGTHENED)? {
                 self.refute(conflict)?;
@@ -376,7 +377,7 @@ impl Search {
         self.run_on(budget, shorter)
     }
 
-    /// Goes on without a pause, where `shorter` of the additions don't count against the budget.
+    /// Goes on without a pause; `shorter` of the additions don't count towards the budget.
     fn run_on(&mut self, budget: u32, shorter: u32) -> Result<Ending, AllocError>
         requires searching { IsSearching self.old }
         requires visited { IsVisited self.old }

@@ -1,4 +1,4 @@
-//! The solver of this crate, as one of the trait: a search, and what is known of its formula.
+//! The implementation of `sat_solve::Solver`: a search, and whether its formula is decided already.
 use crate::answering::conclude;
 use crate::search::Search;
 use cnf_core::{Cnf, Lit};
@@ -6,20 +6,20 @@ use sat_solve::{Cones, Probed, Solved, Solver};
 use std::alloc::{AllocError, Global};
 use std::marker::Model;
 
-/// What is known of the formula so far.
+/// Whether the formula is decided already.
 #[derive(Clone, Copy, Drop)]
 pub(crate) enum Stage {
-    /// It has the empty clause.
+    /// The formula has the empty clause.
     Empty,
-    /// It isn't decided.
+    /// Not decided yet.
     Undecided,
     /// The log ends with the empty clause.
     Refuted,
-    /// Nothing: memory ran out in a probe.
+    /// Memory ran out in a call under assumptions: the search can't be used any more.
     Failed,
 }
 
-/// A solver by conflict-driven clause learning. Contracts see its search, and what is known of the formula.
+/// A solver by conflict-driven clause learning. Contracts see its search and its status.
 #[derive(Drop)]
 pub struct Cdcl {
     search: Search,

@@ -1,14 +1,13 @@
-//! Clauses of the formula give way to shorter ones that subsume them, by unit and binary clauses,
-//! learnt ones too (subsumption and self-subsuming resolution: Eén and Biere, "Effective preprocessing in SAT through
-//! variable and clause elimination", 2005; as inprocessing: Järvisalo, Heule and Biere, "Inprocessing
-//! rules", 2012). It takes place once, at level 0, when a search has learnt some clauses, so short
-//! searches don't pay for it.
+//! Subsumption and strengthening of the formula's clauses by unit and binary clauses, learnt ones included
+//! (self-subsuming resolution: Eén and Biere, "Effective preprocessing in SAT through variable and clause
+//! elimination", 2005; as inprocessing: Järvisalo, Heule and Biere, "Inprocessing rules", 2012). It runs
+//! once, at level 0, after a number of conflicts, so short searches don't pay for it.
 //!
-//! A shorter clause is an addition of the log like any other: it follows by hints and is new. The
-//! longer one goes from the clauses of the search, and stays in the log, which deletes no clause of
-//! the formula. What the search then says of the formula rests on `AreCovered`: each clause of the
-//! formula is there, or one that subsumes it and is never forgotten. No variable has a value
-//! meanwhile, so no clause is a reason; the unit clauses are assigned anew at the end.
+//! A strengthened clause is an addition of the log like any other: it follows by hints, and no live clause
+//! subsumes it. The longer one is deleted from the search and stays in the log, which deletes no clause of
+//! the formula. The answers about the formula rest on `AreCovered`: the search has each clause of the
+//! formula, or an irredundant one that subsumes it. Meanwhile no variable has a value, so no clause is a
+//! reason; unit clauses are assigned again at the end.
 ghost use Rattle.std.specs.Prelude.{◌≡◌, ℕ, ◌+◌, ◌<◌, ◌≤◌, [], length, IsTrue, IfOk, IfSome, IfNone, OnOk};
 ghost use Rattle.sat_theory.specs.Formula.{Formula, IsClause, IsWithin};
 ghost use Rattle.sat_theory.specs.Holding.{among, HintsHold};
@@ -25,7 +24,7 @@ use cnf_core::Lit;
 use std::alloc::{AllocError, Global};
 use subsume_core::{Finder, Found, Marks, Units, contains_all, holds, is_new, keep_others};
 
-/// What is lent for the work.
+/// The data structures for strengthening.
 #[derive(Drop)]
 pub(crate) struct Work {
     pub(crate) finder: Finder,
@@ -35,7 +34,7 @@ pub(crate) struct Work {
     pub(crate) known: Vec<Lit>,
 }
 
-/// What is needed to strengthen the clauses 1 to `given`.
+/// The data structures for strengthening the clauses 1 to `given`.
 fn work_on(alloc: Global, clauses: &ClauseDb, given: u32) -> Result<Work, AllocError>
     ensures { IfOk result (λ w. IsUnitsOf clauses.now w.units) }
 {
@@ -52,7 +51,7 @@ impl Search {
     ghost use Rattle.cdcl_core.specs.Searching.{IsSearching, IsVisited, IsLogged, HasRestarted};
     ghost use Rattle.cdcl_core.specs.Strengthening.{IsBare, IsAlike, IsStrengthening, HasStrengthened, CanStand, HasSetAside, HasAdded};
 
-    /// Takes back all values, those of level 0 too.
+    /// Unassigns all variables, those of level 0 too.
     fn rewind(&mut self)
         requires searching { IsSearching self.old }
         requires bottom { self.old.starts.items ≡ [] }
@@ -64,7 +63,7 @@ impl Search {
         self.head = 0;
     }
 
-    /// Adds a clause that follows by hints and is new, one that is never forgotten.
+    /// Adds an irredundant clause that follows by hints and that no live clause subsumes.
     fn add_shorter(&mut self, lits: &[Lit], hints: &[u32]) -> Result<(), AllocError>
         requires bare { IsBare self.old }
         requires clause { IsClause lits.now }
@@ -89,7 +88,7 @@ impl Search {
         Ok(())
     }
 
-    /// Whether a clause of the formula may go, since another one, which is never forgotten, subsumes it.
+    /// Whether a clause of the formula may be deleted, since another irredundant clause `by` subsumes it.
     fn can_stand(&self, by: u32, id: u32) -> bool
         ensures { IsTrue result → CanStand self.now by id }
     {
@@ -102,7 +101,7 @@ impl Search {
         contains_all(self.clauses.arranged(id), self.clauses.arranged(by))
     }
 
-    /// Takes a clause of the formula from the clauses of the search, but not from the log, where `by` subsumes it.
+    /// Deletes a clause of the formula from the search, but not from the log, if the clause `by` subsumes it.
     fn set_aside(&mut self, id: u32, by: u32)
         requires bare { IsBare self.old }
         ensures bare { IsBare self.new }
@@ -115,7 +114,8 @@ impl Search {
         self.clauses.delete(id);
     }
 
-    /// Puts a shorter clause in the place of one of the formula, where the tests let it, and the last id is below `end`.
+    /// Replaces a clause of the formula by the shorter one that the finder found, if the tests succeed and
+    /// the last id is below `end`.
     fn replace(&mut self, work: &mut Work, id: u32, end: u32) -> Result<(), AllocError>
         requires strengthening { IsStrengthening self.old work.old.units }
         requires end { end ≤ 4000000000 }
@@ -150,7 +150,7 @@ impl Search {
         Ok(())
     }
 
-    /// Looks at one clause of the formula.
+    /// Subsumes or strengthens one clause of the formula.
     fn strengthen_one(&mut self, work: &mut Work, id: u32, end: u32) -> Result<(), AllocError>
         requires strengthening { IsStrengthening self.old work.old.units }
         requires end { end ≤ 4000000000 }
@@ -169,7 +169,7 @@ impl Search {
         }
     }
 
-    /// Looks at all clauses of the formula.
+    /// Subsumes or strengthens all clauses of the formula.
     fn strengthen_all(&mut self, work: &mut Work, end: u32) -> Result<(), AllocError>
         requires strengthening { IsStrengthening self.old work.old.units }
         requires end { end ≤ 4000000000 }
@@ -185,7 +185,7 @@ impl Search {
         Ok(())
     }
 
-    /// Makes what is needed for the work, and looks at all clauses.
+    /// Makes the data structures, and subsumes or strengthens all clauses.
     fn strengthen_bare(&mut self, end: u32) -> Result<(), AllocError>
         requires bare { IsBare self.old }
         requires full { (id : ℕ) → live_in self.old.clauses id ≡ Some [] → ⊥ }
@@ -202,7 +202,7 @@ impl Search {
         Ok(())
     }
 
-    /// Sets where the ids of shorter clauses begin.
+    /// Sets where the ids of strengthened clauses begin.
     fn begin_shorter(&mut self)
         requires bare { IsBare self.old }
         requires first { self.old.shorter.high ≡ 0 }
@@ -220,8 +220,8 @@ impl Search {
         };
     }
 
-    /// Strengthens the clauses of the formula, by further ones with ids up to `end`, and begins anew at level 0. It
-    /// answers the id of a falsified clause, where there is one.
+    /// Strengthens the clauses of the formula, by additions with ids up to `end`, and assigns the unit
+    /// clauses at level 0 again. It returns the id of a falsified clause, if there is one.
     pub(crate) fn strengthen(&mut self, end: u32) -> Result<Option<u32>, AllocError>
         requires searching { IsSearching self.old }
         requires visited { IsVisited self.old }

@@ -1,5 +1,4 @@
-//! The first step of a search: unit clauses aren't watched, so they are assigned once, at level 0,
-//! and stay.
+//! The first step of a search: unit clauses aren't watched, so they are assigned once, at level 0.
 ghost use Rattle.std.specs.Prelude.{◌≡◌, [], IfOk, IfSome, IfNone};
 ghost use Rattle.cdcl_theory.specs.Falling.{IsFalsified};
 ghost use Rattle.cdcl_theory.specs.Trails.{IsTrail, IsGrown, fell as fell_of};
@@ -11,8 +10,7 @@ use clause_db::ClauseDb;
 use std::alloc::AllocError;
 use trail_core::Trail;
 
-/// Assigns the literals of all live unit clauses. It stops at one that is falsified, and answers
-/// its id.
+/// Assigns the literals of all live unit clauses. It stops at a falsified one, and returns its id.
 pub(crate) fn push_units(trail: &mut Trail, clauses: &ClauseDb) -> Result<Option<u32>, AllocError>
     requires whole { IsTrail trail.old }
     requires vars { clauses.now.vars ≡ trail.old.vars }

@@ -1,10 +1,9 @@
-//! Propagation by watched literals: only the clauses that watch a falsified literal are visited
-//! (Moskewicz and others, "Chaff", 2001). A visited clause keeps its watch where its other watched
-//! literal is true or becomes so, and else watches another literal that isn't false. Its literals
-//! are read as `ClauseDb::arranged_at` gives them: the two that it watches come first, and the
-//! search for a replacement goes over the rest. Each entry of a watch list has a blocking literal
-//! of its clause: while that is true, the clause isn't even read (Sörensson and Eén, "MiniSat 2.1",
-//! 2008).
+//! Propagation by watched literals: only the clauses that watch a false literal are visited (Moskewicz and
+//! others, "Chaff", 2001). A visited clause keeps its watch if its other watched literal is or becomes true,
+//! and otherwise watches another literal that isn't false. `ClauseDb::arranged_at` gives its literals: the
+//! two watched ones first, and the search for a replacement goes over the rest. Each entry of a watch list
+//! has a blocking literal of its clause: while that is true, the clause isn't even read (Sörensson and Eén,
+//! "MiniSat 2.1", 2008).
 ghost use Rattle.std.specs.Prelude.{◌≡◌, ℕ, ℤ, ◌<◌, ◌≤◌, ◌⊎◌, List, [], length, slice_index_or, All, IfOk, IfSome, IfNone};
 ghost use Rattle.sat_theory.specs.Formula.{variable as variable_of, IsWithin};
 ghost use Rattle.cdcl_theory.specs.Falling.{AllSettled, IsFalsified};
@@ -19,9 +18,9 @@ use cnf_core::Lit;
 use std::alloc::AllocError;
 use trail_core::Trail;
 
-/// What became of a visited clause.
+/// The outcome of a visit of a clause.
 pub(crate) enum Fate {
-    /// It has a true literal, and its watch stays.
+    /// It has a true literal, and keeps its watch.
     Kept,
     /// It watches another literal.
     Moved,
@@ -29,7 +28,7 @@ pub(crate) enum Fate {
     Falsified(u32),
 }
 
-/// A literal that a clause can watch, and its index in `arranged_at`.
+/// A literal that a clause can watch instead, and its index in `arranged_at`.
 #[derive(Clone, Copy)]
 struct Standing {
     place: usize,
@@ -46,7 +45,7 @@ fn besides(lits: &[Lit], lit: Lit) -> Lit
     lits[usize::from(lits[0] == lit)]
 }
 
-/// The first literal from index `low` on that isn't false, with its index.
+/// The first literal from index `low` on that isn't false, and its index: a replacement watch.
 fn first_standing(trail: &Trail, lits: &[Lit], low: usize) -> Option<Standing>
     requires within { IsWithin trail.now.vars lits.now }
     requires inside { low ≤ length lits.now }
@@ -64,7 +63,7 @@ fn first_standing(trail: &Trail, lits: &[Lit], low: usize) -> Option<Standing>
     None
 }
 
-/// Visits the clause at an index in the watch list of a falsified literal.
+/// Visits the clause at an index in the watch list of a false literal.
 fn visit(
     trail: &mut Trail,
     clauses: &mut ClauseDb,
@@ -99,7 +98,7 @@ fn visit(
     Ok(Fate::Kept)
 }
 
-/// The first index from `from` on at which the blocking literal isn't true.
+/// The first index from `from` on whose blocking literal isn't true.
 fn first_open(trail: &Trail, watches: &[Watch], from: usize) -> Option<usize>
     requires within { All (λ w. variable_of w.blocker ≤ trail.now.vars) watches.now }
     ensures some { IfSome result (λ k. (from ≤ k) × (k < length watches.now) × AreTrue trail.now watches.now from k) }
@@ -113,8 +112,8 @@ fn first_open(trail: &Trail, watches: &[Watch], from: usize) -> Option<usize>
     None
 }
 
-/// Visits all clauses that watch a falsified literal, except those whose blocking literal is true.
-/// It stops at a falsified clause.
+/// Visits all clauses that watch a false literal, except those whose blocking literal is true. It stops at a
+/// falsified clause and returns its id.
 fn visit_watching(
     trail: &mut Trail,
     clauses: &mut ClauseDb,
@@ -145,8 +144,8 @@ fn visit_watching(
     Ok(None)
 }
 
-/// Propagates the trail literals from index `from` on, until all are visited or a live clause is
-/// falsified, whose id is answered.
+/// Propagates the trail literals from index `from` on, until all are propagated or a live clause is
+/// falsified; it returns the id of that clause.
 pub(crate) fn propagate_watched(
     trail: &mut Trail,
     clauses: &mut ClauseDb,

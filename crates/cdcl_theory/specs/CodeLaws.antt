@@ -1,4 +1,4 @@
--- Entries of tables that are written.
+-- Tables over literals after an entry was written.
 use Rattle.std.specs.Prelude.{◌≡◌, ℕ, zero, suc, ◌+◌, ◌*◌, ◌<◌, ◌≤◌, ◌⊎◌, ℤ, pos, negsuc, Bool, true, false, List, length, slice_index_or, slice_set, replicate, refl}
 use Rattle.std.specs.Ordering.{int_eq}
 use Rattle.std.proofs.Common.{ap, arith, inl, inr}
@@ -49,14 +49,14 @@ int_eq-same l m e = (Decides-int_eq l m).1 e
 pub int_eq-other : (l m : ℤ) → (l ≡ m → ⊥) → int_eq l m ≡ false
 int_eq-other l m apart = grind (arith, Decides-int_eq l m)
 
--- the place of the literal that was written, and those of the others
+-- the position of the literal that was written, and those of the others
 pub with_place-same : (places : ℤ → ℕ) (l m : ℤ) (p : ℕ) → m ≡ l → with_place places l p m ≡ p
 with_place-same places l m p e = rw (int_eq-same m l e) refl
 
 pub with_place-other : (places : ℤ → ℕ) (l m : ℤ) (p : ℕ) → (m ≡ l → ⊥) → with_place places l p m ≡ places m
 with_place-other places l m p apart = rw (int_eq-other m l apart) refl
 
--- a member of a set with one literal more, and of a set with one less
+-- membership after a literal is added to a set, and after one is removed
 pub with_literal-cases : (set : ℤ → Bool) (l m : ℤ) → with_literal set l m ≡ true → (m ≡ l) ⊎ (set m ≡ true)
 with_literal-cases set l m is =
     ⊎_elim (λ (same : m ≡ l). inl same) (λ (apart : m ≡ l → ⊥). inr (let e : int_eq m l ≡ false = int_eq-other m l apart in rw e at is)) (cases_literal m l)
@@ -107,14 +107,14 @@ mark_unset marks l m room =
     (λ (apart : m ≡ l → ⊥). let e : int_eq m l ≡ false = int_eq-other m l apart in rw e (read_other marks (code_of l) (code_of m) false false (λ same. apart (code_of-same m l same))))
     (cases_literal m l)
 
--- So a mark puts a literal into the set, or takes it out.
+-- So setting a mark adds a literal to the set, and clearing it removes it.
 pub marked_in-set : (marks : List Bool) (l : ℤ) → code_of l < length marks → marked_in (slice_set marks (code_of l) true) ≡ with_literal (marked_in marks) l
 marked_in-set marks l room = λ i m. mark_set marks l m room i
 
 pub marked_in-unset : (marks : List Bool) (l : ℤ) → code_of l < length marks → marked_in (slice_set marks (code_of l) false) ≡ without_literal (marked_in marks) l
 marked_in-unset marks l room = λ i m. mark_unset marks l m room i
 
--- in tables of the default alone nothing has fallen, and nothing is marked
+-- in tables of defaults no literal is false, and none is marked
 pub place_in-none : (n : ℕ) (l : ℤ) → place_in (replicate n 0) l ≡ 0
 unfolding place_in
 place_in-none n l = ⊎_elim (λ (within : code_of l < n). grind (arith, common_steps)) (λ (past : n ≤ code_of l). grind (arith, common_steps)) (cases_lt (code_of l) n)

@@ -1,4 +1,4 @@
--- What tables with an entry for each literal say.
+-- Tables with an entry for each literal.
 use Rattle.std.specs.Prelude.{ℕ, if◌then◌else◌, ℤ, Bool, false, not, ◌&&◌, List, slice_index_or}
 use Rattle.std.specs.Ordering.{int_eq}
 pub use Rattle.cnf_core.specs.Codes.{code_of}

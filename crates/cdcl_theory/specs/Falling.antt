@@ -1,40 +1,40 @@
--- A solver makes literals true one after another. A literal falls (becomes false) where its
--- opposite is made true; its place is 1 + the trail position of that: 1 for the first one that
--- falls, 2 for the next, and 0 for a literal that hasn't fallen.
+-- Unit propagation as positions of false literals. A literal becomes false when its opposite is assigned. Its
+-- position is 1 + the trail index of that opposite: 1 for the first false literal, 2 for the next, and 0 for
+-- a literal that isn't false. The functions below map a literal to its position.
 use Rattle.std.specs.Prelude.{◌≡◌, ℕ, ◌<◌, ◌≤◌, ◌⊎◌, ℤ, List, Contains, All, Option, Some}
 use Rattle.sat_theory.specs.Formula.{opposite}
 
--- l has fallen, with a place up to p
+-- l is false, at a position up to p
 abbrev pub IsFallen : (ℤ → ℕ) → ℕ → ℤ → Type 0
 IsFallen fell p l = (0 < fell l) × (fell l ≤ p)
 
--- when the first p literals have fallen, the variable of l has no value
+-- in the state of the first p assignments the variable of l has no value
 pub record HasNoValue (fell : ℤ → ℕ) (p : ℕ) (l : ℤ) : Type 0 where
   pub not_false : IsFallen fell p l → ⊥
   pub not_true : IsFallen fell p (opposite l) → ⊥
 
--- A state of values is closed where no live clause is falsified, and none is unit (all its literals
--- but one falsified, and that one without a value): unit propagation is complete.
--- Example: with the one live clause 1, 2 it is closed while nothing has fallen. When 2 falls it
--- isn't, since 1 follows. A falsified clause is excluded by any u that has no value; there always
--- is one, since variables have no end.
+-- The state of the first p assignments is closed if no live clause is falsified in it, and none is unit (all
+-- literals but one are false, and that one has no value): unit propagation is complete.
+-- Example: with the one live clause 1, 2 it is closed while neither is false. Once 2 is false it isn't, since
+-- 1 follows. A falsified clause is excluded by any u without a value; there always is one, since there are
+-- infinitely many variables.
 pub record IsClosed (live : ℕ → Option (List ℤ)) (fell : ℤ → ℕ) (p : ℕ) : Type 0 where
   pub excludes : (u : ℤ) → HasNoValue fell p u → (id : ℕ) (clause : List ℤ) → live id ≡ Some clause → All (λ l. (l ≡ u) ⊎ IsFallen fell p l) clause → ⊥
 
--- all literals but u fell at places up to p, and u has no value then: the clause is unit
+-- all literals but u are false at positions up to p, and u has no value then: the clause is unit
 pub record IsUnitUnder (fell : ℤ → ℕ) (p : ℕ) (lits : List ℤ) (u : ℤ) : Type 0 where
   pub free : HasNoValue fell p u
   pub others : All (λ l. (l ≡ u) ⊎ IsFallen fell p l) lits
 
--- The clause of an id is the reason of l (its antecedent): the other literals of it fell at places
--- up to p.
+-- The clause with this id is the reason of l (its antecedent): its other literals are false at positions up
+-- to p.
 pub record Implies (live : ℕ → Option (List ℤ)) (fell : ℤ → ℕ) (p : ℕ) (l : ℤ) (id : ℕ) : Type 0 where
   pub clause : List ℤ
   pub is_live : live id ≡ Some clause
   pub there : Contains clause l
   pub others : All (λ m. (m ≡ l) ⊎ IsFallen fell p m) clause
 
--- the literals with places up to n are the same, at the same places
+-- the same literals are false at positions up to n, each at the same position
 pub record SameFallen (n : ℕ) (f g : ℤ → ℕ) : Type 0 where
   pub there : (p : ℕ) (l : ℤ) → p ≤ n → IsFallen f p l → IsFallen g p l
   pub back : (p : ℕ) (l : ℤ) → p ≤ n → IsFallen g p l → IsFallen f p l

@@ -1,4 +1,4 @@
--- What closed states of values say of new clauses, and how they last.
+-- Closed states: which clauses no live clause subsumes, and what keeps a state closed.
 use Rattle.std.specs.Prelude.{◌≡◌, ℕ, ◌<◌, ◌≤◌, ◌⊎◌, ℤ, List, Contains, All, Option, Some, ◌==◌, Bool, true, false, if◌then◌else◌}
 use Rattle.std.proofs.Common.{sym, ◌∙◌, subst, arith, inl, inr}
 use Rattle.std.proofs.Math.Logic.{⊎_elim}
@@ -8,8 +8,8 @@ use Rattle.sat_theory.specs.Log.{IsNew}
 use Rattle.sat_theory.specs.State.{with_clause}
 use Rattle.cdcl_theory.specs.Falling.{IsFallen, HasNoValue, IsClosed, IsUnitUnder, Implies, SameFallen, AllSettled}
 
--- A clause that is unit in a closed state is new, however it was found: a live clause that subsumes
--- it would be unit or falsified there too.
+-- No live clause subsumes a clause that is unit in a closed state, however it was found: a live clause that
+-- does would be unit or falsified there too.
 pub unit_is_new : (live : ℕ → Option (List ℤ)) (fell : ℤ → ℕ) (p : ℕ) (lits : List ℤ) (u : ℤ) → IsClosed live fell p → IsUnitUnder fell p lits u → IsNew live lits
 unit_is_new live fell p lits u closed unit id clause is inside =
     closed.excludes u unit.free id clause is (λ k d within. All-contains (λ l. (l ≡ u) ⊎ IsFallen fell p l) lits _ unit.others (inside k d within))
@@ -38,7 +38,7 @@ free_back n p f g u same low free = record {
 all_moved : (clause : List ℤ) (u : ℤ) (P Q : ℤ → Type 0) → ((l : ℤ) → P l → Q l) → All (λ l. (l ≡ u) ⊎ P l) clause → All (λ l. (l ≡ u) ⊎ Q l) clause
 all_moved clause u P Q move all = All-weaker (λ l. (l ≡ u) ⊎ P l) (λ l. (l ≡ u) ⊎ Q l) (λ l. ⊎_elim (λ (same : l ≡ u). inl same) (λ (is : P l). inr (move l is))) clause all
 
--- what was closed stays closed, and what was a reason stays a reason
+-- closed states stay closed, and reasons stay reasons
 pub closed_kept : (live : ℕ → Option (List ℤ)) (n p : ℕ) (f g : ℤ → ℕ) → SameFallen n f g → p ≤ n → IsClosed live f p → IsClosed live g p
 closed_kept live n p f g same low closed = record {
   excludes = λ u free id clause is all. closed.excludes u (free_back n p f g u same low free) id clause is (all_moved clause u (IsFallen g p) (IsFallen f p) (λ l h. same.back p l low h) all);
@@ -52,7 +52,7 @@ implies_kept live n p f g l id same low implies = record {
   others = all_moved implies.clause l (IsFallen f p) (IsFallen g p) (λ m h. same.there p m low h) implies.others;
 }
 
--- a state stays closed with fewer live clauses, and with clauses more that aren't unit or falsified
+-- a state stays closed with fewer live clauses, and with further ones that are neither unit nor falsified
 pub closed_less : (live less : ℕ → Option (List ℤ)) (fell : ℤ → ℕ) (p : ℕ) → ((id : ℕ) (clause : List ℤ) → less id ≡ Some clause → live id ≡ Some clause) → IsClosed live fell p → IsClosed less fell p
 closed_less live less fell p inside closed = record { excludes = λ u free id clause is all. closed.excludes u free id clause (inside id clause is) all }
 
@@ -60,7 +60,7 @@ chosen : {A : Type 0} (b : Bool) (x y z : A) → (if b then x else y) ≡ z → 
 chosen true x y z is = inl is
 chosen false x y z is = inr is
 
--- A clause with two literals that haven't fallen keeps a state closed.
+-- Adding a clause with two literals that aren't false keeps a state closed.
 pub closed_added : (live : ℕ → Option (List ℤ)) (fell : ℤ → ℕ) (p id : ℕ) (lits : List ℤ) (a b : ℤ) → Contains lits a → Contains lits b → (a ≡ b → ⊥) → (IsFallen fell p a → ⊥) → (IsFallen fell p b → ⊥) → IsClosed live fell p → IsClosed (with_clause live id lits) fell p
 closed_added live fell p id lits a b a_in b_in differ a_up b_up closed = record {
   excludes = λ u free k clause is all.
@@ -77,7 +77,7 @@ closed_added live fell p id lits a b a_in b_in differ a_up b_up closed = record 
         (λ (down : IsFallen fell p a). a_up down)
         (All-contains (λ l. (l ≡ u) ⊎ IsFallen fell p l) lits a all a_in)
 
--- a reason stays one with more live clauses
+-- a reason stays a reason when clauses are added
 pub implies_more : (live more : ℕ → Option (List ℤ)) (fell : ℤ → ℕ) (p : ℕ) (l : ℤ) (id : ℕ) → ((k : ℕ) (clause : List ℤ) → live k ≡ Some clause → more k ≡ Some clause) → Implies live fell p l id → Implies more fell p l id
 implies_more live more fell p l id inside implies = record {
   clause = implies.clause;
@@ -86,7 +86,7 @@ implies_more live more fell p l id inside implies = record {
   others = implies.others;
 }
 
--- Where all clauses are settled, the state of all values is closed.
+-- If all clauses are settled, the state of all assignments is closed.
 pub settled_closed : (live : ℕ → Option (List ℤ)) (fell : ℤ → ℕ) (n : ℕ) → ((l : ℤ) → fell l ≤ n) → AllSettled live fell → IsClosed live fell n
 settled_closed live fell n within settled = record {
   excludes = λ u free id clause is all.

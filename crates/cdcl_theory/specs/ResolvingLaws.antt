@@ -1,4 +1,4 @@
--- One resolution with a reason, and the hints of the clause that is left.
+-- One resolution step with a reason, and the hints of the resolvent.
 use Rattle.std.specs.Prelude.{◌≡◌, ℕ, ◌<◌, ◌⊎◌, ℤ, Bool, true, false, List, [], ◌∷◌, reverse, Contains, All, Option, Some}
 use Rattle.std.proofs.Common.{sym, subst, arith, inl, inr}
 use Rattle.std.proofs.Math.Logic.{⊎_elim}
@@ -23,7 +23,7 @@ unfolding HintsHold
 hint_before live set id [] clause t is unit hold = absurd hold
 hint_before live set id (more ∷ hints) clause t is unit hold = (clause, t, is, unit, hold)
 
--- The reason of t as one more first hint: the opposite of t is replaced by the other literals.
+-- One more hint at the front, the reason of t: in the resolvent its other literals replace the opposite of t.
 pub derived_step : (live : ℕ → Option (List ℤ)) (fell : ℤ → ℕ) (kept less : ℤ → Bool) (hints : List ℕ) (id : ℕ) (clause : List ℤ) (t : ℤ) → IsDerived live fell kept hints → live id ≡ Some clause → Contains clause t → fell t ≡ 0 → 0 < fell (opposite t) → All (λ m. (m ≡ t) ⊎ (less m ≡ true)) clause → ((m : ℤ) → kept m ≡ true → (m ≡ opposite t) ⊎ (less m ≡ true)) → IsDerived live fell less (id ∷ hints)
 derived_step live fell kept less hints id clause t derived is there up down others moved = record {
   from = λ set inside fallen.
@@ -42,12 +42,12 @@ derived_step live fell kept less hints id clause t derived is there up down othe
     out set fallen (inl is_in) = absurd (let h : 0 < fell t = fallen t is_in in omega arith)
     out set fallen (inr is_out) = is_out
 
--- The hints hold from the literals of a list that has exactly those kept.
+-- The hints hold for a list whose literals are exactly the kept ones.
 pub resolvent_holds : (live : ℕ → Option (List ℤ)) (fell : ℤ → ℕ) (p : ℕ) (kept : ℤ → Bool) (ids : List ℕ) (lits : List ℤ) → IsResolvent live fell p kept ids → ((m : ℤ) → kept m ≡ true → Contains lits m) → All (λ m. 0 < fell m) lits → HintsHold live (among lits) (reverse ids)
 resolvent_holds live fell p kept ids lits resolvent inside fallen =
     resolvent.derived.from (among lits) (λ m is. among-from_Contains lits m (inside m is)) (λ m is. All-contains (λ x. 0 < fell x) lits m fallen (Contains-from_among lits m is))
 
--- hints that hold name live clauses
+-- hints that hold are ids of live clauses
 pub hints_live : (live : ℕ → Option (List ℤ)) (set : ℤ → Bool) (hints : List ℕ) → HintsHold live set hints → All (λ id. (clause : List ℤ) × (live id ≡ Some clause)) hints
 unfolding HintsHold
 hints_live live set [] hold = absurd hold

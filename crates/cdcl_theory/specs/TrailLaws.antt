@@ -1,4 +1,4 @@
--- How the trail grows and goes back.
+-- Laws of assigning literals and of backtracking.
 use Rattle.std.specs.Prelude.{◌≡◌, ℕ, zero, suc, ◌+◌, ◌-◌, ◌*◌, ◌<◌, ◌≤◌, ◌==◌, ◌⊎◌, ℤ, true, false, List, [], ◌∷◌, ◌++◌, length, count_by, slice_index_or, slice_set, replicate, Contains, All, Option, Some, IsSome, refl}
 use Rattle.std.proofs.Common.{sym, ap, ◌∙◌, subst, arith, cond, inl, inr}
 use Rattle.std.proofs.Math.Logic.{⊎_elim}
@@ -13,18 +13,18 @@ use Rattle.cdcl_theory.specs.Falling.{IsFallen, Implies, SameFallen}
 use Rattle.cdcl_theory.specs.FallingLaws.{same_trans, same_less}
 use Rattle.cdcl_theory.specs.Trails.{Trailed, fell, reason_of, ArePlaces, IsTrail, HasReason, IsExplained, IsLayered, pushed, IsBack}
 
--- the opposite of the literal at index p has the place p + 1
+-- the opposite of the literal at trail index p has the position p + 1
 pub place_at : (lits : List ℤ) (places : ℤ → ℕ) (p : ℕ) (d l : ℤ) → ArePlaces lits places → p < length lits → slice_index_or lits p d ≡ l → places (opposite l) ≡ p + 1
 place_at lits places p d l are within is = subst (λ (m : ℤ). places (opposite m) ≡ p + 1) is (are.placed p d within)
 
--- a literal on the trail hasn't fallen
+-- a literal on the trail isn't false
 pub true_not_fallen : (lits : List ℤ) (places : ℤ → ℕ) (p : ℕ) (d l : ℤ) → ArePlaces lits places → p < length lits → slice_index_or lits p d ≡ l → places l ≡ 0
 true_not_fallen lits places p d l are within is =
     let at : places (opposite l) ≡ p + 1 = place_at lits places p d l are within is in
     let up : places (opposite (opposite l)) ≡ 0 = are.one_side (opposite l) (omega arith) in
     rw opposite-opposite at up
 
--- the literal with the place p + 1 is the opposite of the one at index p
+-- the literal at position p + 1 is the opposite of the one at trail index p
 pub fallen_at : (lits : List ℤ) (places : ℤ → ℕ) (p : ℕ) (d m : ℤ) → ArePlaces lits places → places m ≡ p + 1 → m ≡ opposite (slice_index_or lits p d)
 fallen_at lits places p d m are at =
     let found : slice_index_or lits (places m - 1) d ≡ opposite m = are.found m d (omega arith) in
@@ -32,7 +32,7 @@ fallen_at lits places p d m are at =
     let found_at : slice_index_or lits p d ≡ opposite m = rw index at found in
     sym (ap opposite found_at ∙ opposite-opposite m)
 
--- One literal more, without a value before, at the end.
+-- A literal without a value is assigned.
 pub places_push : (lits : List ℤ) (places : ℤ → ℕ) (t : ℤ) → ArePlaces lits places → 0 < variable t → places t ≡ 0 → places (opposite t) ≡ 0 → ArePlaces (lits ++ t ∷ []) (with_place places (opposite t) (length lits + 1))
 places_push lits places t are some up down = record {
   placed = λ p d within. placed p d (let e : length (lits ++ t ∷ []) ≡ length lits + 1 = length_push lits t in omega arith);
@@ -89,7 +89,7 @@ places_push lits places t are some up down = record {
         with_place-other places (opposite t) (opposite l) (length lits + 1) apart_too ∙ are.one_side l here)
         (cases_literal l (opposite t))
 
--- The last literal taken off.
+-- The last literal is unassigned.
 pub places_pop : (lits all : List ℤ) (places : ℤ → ℕ) (t : ℤ) → all ≡ lits ++ t ∷ [] → ArePlaces all places → 0 < variable t → ArePlaces lits (with_place places (opposite t) 0)
 places_pop lits all places t split are some = record {
   placed = λ p d low. rw (with_place-other places (opposite t) (opposite (slice_index_or lits p d)) 0 (λ e. (let h : places (opposite (slice_index_or lits p d)) ≡ places (opposite t) = ap places e in let g : places (opposite (slice_index_or lits p d)) ≡ p + 1 = old p d low in omega (arith, h, g, last)))) (old p d low);
@@ -136,7 +136,7 @@ places_pop lits all places t split are some = record {
         let not_last : places l ≡ length lits + 1 → ⊥ = λ e. apart (fallen_at all places (length lits) t l are e ∙ ap opposite (at_last t)) in
         omega (arith, long, high, not_last)
 
--- the places up to the length of the trail are unchanged
+-- positions up to the length of the trail are unchanged
 pub same_push : (lits : List ℤ) (places : ℤ → ℕ) (t : ℤ) → places (opposite t) ≡ 0 → SameFallen (length lits) places (with_place places (opposite t) (length lits + 1))
 same_push lits places t down = record {
   there = λ p l low is. ⊎_elim
@@ -181,7 +181,7 @@ place_entry : (table : List ℕ) (l : ℤ) → place_in table l ≡ slice_index_
 unfolding place_in
 place_entry table l = refl
 
--- A trail with one more literal is a trail,
+-- The invariant of trails holds after an assignment,
 pub trail_push : (t : Trailed) (l : ℤ) (reason : ℕ) → IsTrail t → 0 < variable l → variable l ≤ t.vars → fell t l ≡ 0 → fell t (opposite l) ≡ 0 → IsTrail (pushed t l reason)
 trail_push t l reason trail some small up down =
     let room : code_of (opposite l) < length t.table = rw trail.table_room (code_of-room (opposite l) t.vars (rw variable-opposite small)) in
@@ -200,7 +200,7 @@ trail_push t l reason trail some small up down =
       few = trail.few;
     }
 
--- and so is a trail without its last literal.
+-- and after the last literal is unassigned.
 pub trail_pop : (t : Trailed) (lits : List ℤ) (l : ℤ) → IsTrail t → t.lits ≡ lits ++ l ∷ [] → IsTrail (record { vars = t.vars; lits = lits; table = slice_set t.table (code_of (opposite l)) 0; reasons = t.reasons })
 trail_pop t lits l trail split =
     let long : length t.lits ≡ length lits + 1 = ap length split ∙ length_push lits l in
@@ -267,14 +267,14 @@ trail_none vars few = record {
     all_zeros zero = refl
     all_zeros (suc n) = let ih : 0 + count_by (λ x. x == 0) (replicate {A = ℕ} n 0) ≡ length (replicate {A = ℕ} n 0) = all_zeros n in let one : count_by (λ x. x == 0) (replicate {A = ℕ} (suc n) 0) ≡ 1 + count_by (λ x. x == 0) (replicate {A = ℕ} n 0) = sum_by-cons (λ (x : ℕ). cond {A = ℕ} (x == 0) 1 0) 0 (replicate {A = ℕ} n 0) in omega arith
 
--- What is in levels is explained.
+-- A trail with levels is explained.
 pub layered_explained : (live : ℕ → Option (List ℤ)) (t : Trailed) (starts : List ℕ) → IsLayered live t starts → IsExplained live t
 layered_explained live t starts layered = record {
   whole = layered.whole;
   reasons = λ p d within. ⊎_elim (λ (start : Contains starts p). inl (layered.decisions p d start)) (λ (reason : HasReason live t p). inr reason) (layered.reasons p within);
 }
 
--- A literal that has fallen, other than the opposite of a decision, is false by the reason of its opposite.
+-- A false literal other than the opposite of a decision is false by the reason of its opposite.
 pub reason_fallen : (live : ℕ → Option (List ℤ)) (t : Trailed) (l : ℤ) → IsExplained live t → 0 < fell t l → (reason_of t (opposite l) ≡ 0 → ⊥) → HasReason live t (fell t l - 1)
 reason_fallen live t l explained down some =
     ⊎_elim
@@ -288,14 +288,14 @@ reason_fallen live t l explained down some =
 pub implied_fallen : (live : ℕ → Option (List ℤ)) (t : Trailed) (l : ℤ) → IsExplained live t → 0 < fell t l → (reason_of t (opposite l) ≡ 0 → ⊥) → Implies live (fell t) (fell t l - 1) (opposite l) (reason_of t (opposite l))
 implied_fallen live t l explained down some = subst (λ (m : ℤ). Implies live (fell t) (fell t l - 1) m (reason_of t m)) (explained.whole.places.found l l down) ((reason_fallen live t l explained down some).implied l)
 
--- Its clause is live,
+-- That clause is live,
 pub live_fallen : (live : ℕ → Option (List ℤ)) (t : Trailed) (l : ℤ) → IsExplained live t → 0 < fell t l → (reason_of t (opposite l) ≡ 0 → ⊥) → IsSome (live (reason_of t (opposite l)))
 live_fallen live t l explained down some = some_of (live (reason_of t (opposite l))) (implied_fallen live t l explained down some).clause (implied_fallen live t l explained down some).is_live
   where
     some_of : (o : Option (List ℤ)) (clause : List ℤ) → o ≡ Some clause → IsSome o
     some_of o clause is = rw is refl
 
--- and all others of it have fallen.
+-- and all its other literals are false.
 pub others_fallen : (live : ℕ → Option (List ℤ)) (t : Trailed) (l m : ℤ) (clause : List ℤ) → IsExplained live t → 0 < fell t l → (reason_of t (opposite l) ≡ 0 → ⊥) → live (reason_of t (opposite l)) ≡ Some clause → Contains clause m → (m ≡ opposite l → ⊥) → 0 < fell t m
 others_fallen live t l m clause explained down some is there apart =
     ⊎_elim

@@ -1,12 +1,12 @@
--- The trail: the literals that are true, in the order in which they came.
+-- The trail: the true literals in the order of their assignment.
 use Rattle.std.specs.Prelude.{◌≡◌, ℕ, ◌+◌, ◌-◌, ◌*◌, ◌<◌, ◌≤◌, ◌==◌, ◌⊎◌, ℤ, List, [], ◌∷◌, ◌++◌, length, count_by, slice_index_or, slice_set, Contains, All, AllPairs, Option}
 use Rattle.sat_theory.specs.Formula.{variable, opposite}
 use Rattle.cdcl_theory.specs.Codes.{code_of, place_in}
 use Rattle.cdcl_theory.specs.Falling.{Implies, SameFallen, IsClosed}
 
--- the variables are 1 to vars; `table` has the place of each literal (1 + the trail position of its
--- opposite, 0 where it isn't false), and `reasons` has for each variable the id of the clause that
--- made it true
+-- The state of a trail over the variables 1 to vars. `table` has the position of each literal (1 + the trail
+-- index of its opposite, 0 if it isn't false), `reasons` has for each variable the id of the clause that
+-- implied it (0 for a decision).
 pub record Trailed : Type 0 where
   pub vars : ℕ
   pub lits : List ℤ
@@ -19,18 +19,17 @@ fell t = place_in t.table
 abbrev pub reason_of : Trailed → ℤ → ℕ
 reason_of t l = slice_index_or t.reasons (variable l) 0
 
--- The places are those of the trail: the literal whose opposite is at index p has the place p + 1,
--- and all others have 0.
+-- The positions are those of the trail: the literal whose opposite is at trail index p has the position p +
+-- 1, and all others have 0.
 pub record ArePlaces (lits : List ℤ) (places : ℤ → ℕ) : Type 0 where
   pub placed : (p : ℕ) (d : ℤ) → p < length lits → places (opposite (slice_index_or lits p d)) ≡ p + 1
   pub within : (l : ℤ) → places l ≤ length lits
   pub found : (l d : ℤ) → 0 < places l → slice_index_or lits (places l - 1) d ≡ opposite l
   pub one_side : (l : ℤ) → 0 < places l → places (opposite l) ≡ 0
 
--- A trail fits its tables: each of its literals is one of the variables 1 to vars and has its
--- place, and the tables have room for all variables. By `room` each literal of the trail has taken
--- one entry of the table that was 0, so the trail is no longer than the table, and its places fit
--- 32 bits.
+-- The trail agrees with its tables: each of its literals is one of the variables 1 to vars, at its position,
+-- and the tables have room for all variables. `room` counts: each trail literal replaced one 0 of the table,
+-- so the trail is no longer than the table and positions fit 32 bits.
 pub record IsTrail (t : Trailed) : Type 0 where
   pub places : ArePlaces t.lits (fell t)
   pub variables : All (λ l. (0 < variable l) × (variable l ≤ t.vars)) t.lits
@@ -39,7 +38,7 @@ pub record IsTrail (t : Trailed) : Type 0 where
   pub room : length t.lits + count_by (λ x. x == 0) t.table ≡ length t.table
   pub few : t.vars < 1000000000
 
--- one more true literal, with its reason
+-- one more literal is assigned, with its reason
 abbrev pub pushed : Trailed → ℤ → ℕ → Trailed
 pushed t l reason = record {
   vars = t.vars;
@@ -48,11 +47,11 @@ pushed t l reason = record {
   reasons = slice_set t.reasons (variable l) reason;
 }
 
--- the clause of the literal at index p is its reason
+-- the clause recorded for the literal at trail index p is its reason
 pub record HasReason (live : ℕ → Option (List ℤ)) (t : Trailed) (p : ℕ) : Type 0 where
   pub implied : (d : ℤ) → Implies live (fell t) p (slice_index_or t.lits p d) (reason_of t (slice_index_or t.lits p d))
 
--- The trail grew: it begins as before, and each new literal has its reason.
+-- The trail was extended: its old literals and reasons are unchanged, and each new literal has its reason.
 pub record IsGrown (live : ℕ → Option (List ℤ)) (old new : Trailed) : Type 0 where
   pub vars : new.vars ≡ old.vars
   pub longer : length old.lits ≤ length new.lits
@@ -69,14 +68,13 @@ pub record IsBack (n : ℕ) (old new : Trailed) : Type 0 where
   pub lits : (p : ℕ) (d : ℤ) → p < n → slice_index_or new.lits p d ≡ slice_index_or old.lits p d
   pub same : SameFallen n (fell old) (fell new)
 
--- Each literal of the trail follows by its reason, or is a decision, whose reason is 0.
+-- Each trail literal is implied by its reason, or is a decision, whose reason is 0.
 pub record IsExplained (live : ℕ → Option (List ℤ)) (t : Trailed) : Type 0 where
   pub whole : IsTrail t
   pub reasons : (p : ℕ) (d : ℤ) → p < length t.lits → (reason_of t (slice_index_or t.lits p d) ≡ 0) ⊎ HasReason live t p
 
--- The decision levels of a trail begin at its decisions, whose indices are the starts, and which
--- have the reason 0. Each state before a decision is closed, and each literal that is no decision
--- has a reason.
+-- The decision levels of a trail begin at its decisions, whose trail indices are the starts and whose reason
+-- is 0. The state before each decision is closed, and every other literal has a reason.
 pub record IsLayered (live : ℕ → Option (List ℤ)) (t : Trailed) (starts : List ℕ) : Type 0 where
   pub whole : IsTrail t
   pub inside : All (λ s. s < length t.lits) starts

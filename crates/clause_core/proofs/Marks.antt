@@ -1,4 +1,4 @@
--- The bits of a clause's variables, while the clause is written.
+-- The table of signs during the simplification of a clause.
 use Rattle.std.proofs.Common.{◌≡◌, ◌≢◌, ℕ, zero, suc, ◌+◌, ◌≤◌, ◌<◌, ℤ, pos, negsuc, neg_ℤ, Bool, true, false, not, ◌||◌, List, [], ◌∷◌, ◌++◌, Option, Some, None, get_or, set, take, All, length, refl, ap, ap₂, sym, ◌∙◌, subst, arith, inl, inr, ◌⊎◌}
 use mathlib.Core.Bool.{beq}
 use Rattle.std.proofs.Math.Logic.{⊎_elim}
@@ -62,14 +62,14 @@ seen_again seen lits v false false raws is some low at = simplified-again lits v
 seen_again seen lits v true false raws is some low at = simplified-opposite lits v false raws (is.known v true some low ∙ rw at refl)
 seen_again seen lits v false true raws is some low at = simplified-opposite lits v true raws (is.known v false some low ∙ rw at refl)
 
--- one that didn't occur: its literal is new
+-- one that didn't occur: its literal is added
 pub seen_new : (seen : List (Option Bool)) (lits : List ℤ) (v : ℕ) (bit : Bool) (raws : List Raw) → IsSeen seen lits → 1 ≤ v → v < length seen → get_or seen v None ≡ None → simplified lits (Var v bit ∷ raws) ≡ simplified (lits ++ signed v bit ∷ []) raws
 seen_new seen lits v bit raws is some low at = simplified-new lits v bit raws (is.known v (not bit) some low ∙ rw at refl) (is.known v bit some low ∙ rw at refl)
 
 pub seen_clause : (seen : List (Option Bool)) (lits : List ℤ) (v : ℕ) (bit : Bool) → IsSeen seen lits → 1 ≤ v → v < length seen → get_or seen v None ≡ None → IsClause lits → IsClause (lits ++ signed v bit ∷ [])
 seen_clause seen lits v bit is some low at clause = clause_push lits v bit clause some (is.known v (not bit) some low ∙ rw at refl) (is.known v bit some low ∙ rw at refl)
 
--- its bit is known from now on
+-- then the table has its sign
 pub seen_push : (seen : List (Option Bool)) (lits : List ℤ) (v : ℕ) (bit : Bool) → IsSeen seen lits → 1 ≤ v → v < length seen → get_or seen v None ≡ None → IsSeen (set seen v (Some bit)) (lits ++ signed v bit ∷ [])
 seen_push seen lits v bit is some low at = record {
   known = λ w c from to.
@@ -89,13 +89,13 @@ seen_push seen lits v bit is some low at = record {
   within = rw length-set (All-push (λ l. variable l < length seen) lits (signed v bit) is.within (rw variable-signed low));
 }
 
--- ---- forgetting
+-- ---- clearing
 
 same_is : (b : Bool) → same_bit b b ≡ true
 same_is true = refl
 same_is false = refl
 
--- a variable is forgotten, or its entry is unchanged and none of the literals is its
+-- an entry is cleared, or it is unchanged and none of the literals has its variable
 pub record Forgotten (lits : List ℤ) (at : ℕ) (first now : List (Option Bool)) : Type 0 where
   pub each : (v : ℕ) → (get_or now v None ≡ None) ⊎ ((get_or now v None ≡ get_or first v None) × ((k : ℕ) (d : ℤ) → k < at → variable (get_or lits k d) ≢ v))
   pub size : length now ≡ length first
@@ -115,7 +115,7 @@ there {A} lits l is none =
     let same : l ≡ x = (Decides-int_eq l x).0 found.4 in
     absurd (none found.0 x found.2 (ap variable (found.3 ∙ sym same)))
 
--- a variable of none of the literals isn't known
+-- a variable of none of the literals has no sign
 unknown : (lits : List ℤ) (at : ℕ) (seen : List (Option Bool)) → IsSeen seen lits → (v : ℕ) → ((k : ℕ) (d : ℤ) → k < at → variable (get_or lits k d) ≢ v) → length lits ≤ at → get_or seen v None ≡ None
 unknown lits at seen is zero none all = is.zero
 unknown lits at seen is (suc v) none all =
@@ -138,7 +138,7 @@ forgotten_all lits at first now seen is all = record {
 
 -- ---- the list
 
--- A formula may get a clause over its variables.
+-- A clause over a formula's variables can be added to it.
 pub list_pushed : (vars : ℕ) (old new : List (List ℤ)) (seen : List (Option Bool)) (clause : List ℤ) → new ≡ old ++ clause ∷ [] → IsFormula (record { vars = vars; clauses = old }) → vars < 1000000000 → length seen ≡ vars + 1 → IsBlank seen → IsClause clause → All (λ l. variable l < length seen) clause → HoldsList (record { vars = vars; clauses = new }) seen
 list_pushed vars old new seen clause is before few room blank is_clause within = rw is (record {
   formula = record {

@@ -1,4 +1,4 @@
--- The cases of a listed clause.
+-- The cases of the simplification of a raw clause.
 use Rattle.std.proofs.Common.{◌≡◌, ◌≢◌, ℕ, zero, suc, ◌≤◌, ◌<◌, ℤ, pos, negsuc, neg_ℤ, Bool, true, false, not, List, [], ◌∷◌, ◌++◌, Some, None, get_or, length, refl, ap, ◌∙◌, subst, arith, inl, inr, ◌⊎◌}
 use Rattle.std.proofs.Math.Logic.{⊎_elim}
 use Rattle.std.proofs.lemmas.Cmp.{int_eq_equiv}
@@ -58,7 +58,7 @@ other : (lits : List ℤ) (l : ℤ) (k : ℕ) (d : ℤ) → has lits l ≡ false
 unfolding has
 other lits l k d new within same = not_both (has lits l) (list_any_at (int_eq l) lits k d within (rw same (int_eq_equiv.refl l))) new
 
--- A clause may get a literal of a variable that neither literal of which it has.
+-- A literal can be added to a clause that has neither literal of its variable.
 pub clause_push : (lits : List ℤ) (v : ℕ) (bit : Bool) → IsClause lits → 1 ≤ v → has lits (signed v (not bit)) ≡ false → has lits (signed v bit) ≡ false → IsClause (lits ++ signed v bit ∷ [])
 clause_push lits v bit clause some opposite new = record {
   literals = All-push (λ l. 0 < variable l) lits (signed v bit) clause.literals (rw variable-signed (omega arith));

@@ -1,4 +1,4 @@
--- Bounds for the lengths of comprehensions, and for the number of clauses that are written.
+-- Bounds on the lengths of list comprehensions, and on the number of clauses added.
 use Rattle.std.specs.Prelude.{ℕ, zero, suc, ◌+◌, ◌*◌, ◌≤◌, ◌<◌, ℤ, List, [], ◌∷◌, All, length, Some, None, Option}
 use Rattle.std.specs.List.{range_with_len, flat_map}
 use Rattle.std.proofs.Common.{arith, length-append}

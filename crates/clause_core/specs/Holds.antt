@@ -1,4 +1,5 @@
--- Truth of clauses as a bit, and how it is that of listed clauses and of comprehensions.
+-- Truth of clauses as a bit; a simplified clause has the truth value of its raw clause, and a list
+-- comprehension of clauses is true where all its members are.
 use Rattle.std.proofs.Common.{◌≡◌, ◌⊎◌, ℕ, zero, suc, ◌+◌, ◌-◌, ◌<◌, ◌≤◌, Bool, true, false, not, ◌&&◌, ◌||◌, List, [], ◌∷◌, ◌++◌, map, get_or, Option, Some, None, Contains, refl, sym, ap, ◌∙◌, subst, arith, inl, inr, ⊎_elim}
 use Rattle.std.specs.Prelude.{ℤ, if◌then◌else◌}
 use Rattle.std.specs.List.{list_any, list_all, flat_map, filter, range_with_len}
@@ -149,7 +150,7 @@ satisfied_holds v f all = λ k d low. Any-from_list_any (literal_value v) (get_o
 
 -- ---- listed clauses
 
--- a variable has a bit
+-- the value of a literal of a variable with this value
 unfoldable pub same : Bool → Bool → Bool
 same bit true = bit
 same bit false = not bit
@@ -158,7 +159,7 @@ unfoldable pub raw_value : Assignment → Raw → Bool
 raw_value v (Fixed bit) = bit
 raw_value v (Var x bit) = same (v x) bit
 
--- one of the listed literals is true
+-- one of the raw literals is true
 unfoldable pub raws_bit : Assignment → List Raw → Bool
 raws_bit v raws = list_any (raw_value v) raws
 
@@ -192,8 +193,7 @@ pushed_bit : (v : Assignment) (lits : List ℤ) (lit : ℤ) → clause_bit v (li
 unfolding clause_bit
 pushed_bit v lits lit = list_any-append (literal_value v) lits (lit ∷ [])
 
--- what a literal adds to a clause: nothing where the clause has it, and truth where it has its
--- opposite
+-- the effect of one more literal: none if the clause already has it, and truth if it has the opposite
 opposite_there : (c x bit rest : Bool) → (same x (not bit) ≡ true → c ≡ true) → true ≡ (c || (same x bit || rest))
 unfolding same
 opposite_there true x bit rest e = refl
@@ -216,7 +216,7 @@ true_there : (c rest : Bool) → true ≡ (c || (true || rest))
 true_there true rest = refl
 true_there false rest = refl
 
--- What is left of a listed clause is true exactly where the clause is.
+-- A simplified clause is true exactly where the raw clause is; a tautology counts as true.
 simplified_bit : (v : Assignment) (raws : List Raw) (lits : List ℤ) → ArePositive raws → option_bit v (simplified lits raws) ≡ (clause_bit v lits || raws_bit v raws)
 unfolding simplified raws_bit raw_value
 simplified_bit v [] lits positive = grind (arith, common_steps)
@@ -241,7 +241,7 @@ nothing_more : (v : Assignment) (rest : Bool) → (clause_bit v [] || rest) ≡ 
 unfolding clause_bit
 nothing_more v rest = refl
 
--- What is written of a listed clause is true exactly where the clause is.
+-- The clauses that a raw clause adds are true exactly where it is.
 pub holds-written : (v : Assignment) (raws : List Raw) → ArePositive raws → holds v (written raws) ≡ raws_bit v raws
 unfolding written
 holds-written v raws positive = listed_bit v (simplified [] raws) ∙ simplified_bit v raws [] positive ∙ nothing_more v (raws_bit v raws)

@@ -1,4 +1,4 @@
--- Comprehensions over ranges, turn by turn, with the terms of a loop's counter.
+-- List comprehensions over ranges, one iteration at a time, in terms of the loop's counter.
 use Rattle.std.proofs.Common.{◌≡◌, ℕ, zero, suc, ◌+◌, ◌-◌, ◌≤◌, List, [], ◌∷◌, ◌++◌, map, refl, ap, ◌∙◌, arith, add-zero, append-nil}
 use Rattle.std.proofs.lemmas.Grind.{common_steps, flat_map-append}
 use Rattle.std.proofs.lemmas.List.{map-append}

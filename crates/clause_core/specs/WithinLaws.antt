@@ -1,4 +1,4 @@
--- Listed literals whose variables are within the formula's.
+-- Raw literals whose variables are within the formula's.
 use Rattle.std.proofs.Common.{◌≡◌, ℕ, ◌≤◌, Bool, List, [], ◌∷◌, ◌++◌, All}
 use Rattle.std.proofs.lemmas.List.Elements.{All-nil, All-cons, All-push}
 use Rattle.clause_core.specs.declared.raw.Raw.TheVariants.{Var}

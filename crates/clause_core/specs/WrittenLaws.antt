@@ -1,4 +1,5 @@
--- What is written is a clause of the formula: different variables, all within the number of variables.
+-- A simplified clause is a clause of the formula: its variables are different and within the number of
+-- variables.
 use Rattle.std.proofs.Common.{◌≡◌, ◌≢◌, ◌⊎◌, ℕ, zero, suc, ◌<◌, ◌≤◌, Bool, true, false, not, List, [], ◌∷◌, ◌++◌, map, get_or, Option, Some, None, Contains, refl, sym, ap, ◌∙◌, subst, arith, inl, inr, ⊎_elim}
 use Rattle.std.specs.Prelude.{ℤ, pos, negsuc}
 use Rattle.std.specs.List.{flat_map}
@@ -13,7 +14,7 @@ use Rattle.clause_core.specs.declared.raw.Raw.TheVariants.{Fixed, Var}
 use Rattle.clause_core.specs.Clauses.{has, simplified, listed, written}
 use Rattle.clause_core.specs.Holds.{any_make, contains_head, contains_tail, contains_cases, flat_map_get}
 
--- a listed literal's variable is one of 1 to vars
+-- the variable of a raw literal is one of 1 to vars
 abbrev pub IsOf : ℕ → Raw → Type 0
 IsOf vars (Fixed bit) = Unit {0}
 IsOf vars (Var x bit) = (1 ≤ x) × (x ≤ vars)

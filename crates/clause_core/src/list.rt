@@ -1,7 +1,7 @@
-//! Clauses as they are written, one at a time. While a clause is written, a table over all
-//! variables has the sign of each that occurs in it; a literal whose variable occurs is a repeat or
-//! an opposite, by one look. After the clause its entries are cleared, so that a clause takes time
-//! linear in the number of listed literals.
+//! Simplification of raw clauses, one at a time. During a clause, a table over all variables has the sign of
+//! each variable seen so far, so one look-up tells whether a literal is new, a repeat or the opposite of an
+//! earlier one. Afterwards only the entries of the clause's variables are cleared, so a clause takes time
+//! linear in the number of its raw literals.
 ghost use Rattle.std.specs.Prelude.{◌≡◌, ◌<◌, ◌≤◌, ◌-◌, ◌^◌, List, [], ◌∷◌, ◌++◌, length, All, IfOk, OnOk, OnErr};
 ghost use Rattle.sat_theory.specs.Formula.{IsClause};
 ghost use Rattle.clause_core.specs.declared.raw.Raw.{Raw};
@@ -14,8 +14,8 @@ use cnf_core::{Clause, Cnf, Lit};
 use std::alloc::{AllocError, Global};
 use std::marker::Model;
 
-/// Adds a variable's literal to those of a clause, whose signs by variable are in `seen`. Answers
-/// false where the clause is a tautology.
+/// Adds a literal to a clause; `seen` has the signs of the clause's variables. Returns false if the clause is
+/// a tautology.
 fn add_literal(
     lits: &mut Vec<Lit>,
     seen: &mut [Option<bool>],
@@ -39,7 +39,7 @@ fn add_literal(
     }
 }
 
-/// Adds a listed literal to those of a clause. Answers false where the clause is a tautology.
+/// Adds a raw literal to a clause. Returns false if the clause is a tautology.
 #[tactic(auto, using(crate::proofs::Simplified::constants), unfolding(crate::specs::Clauses::IsWithin))]
 fn add(lits: &mut Vec<Lit>, seen: &mut [Option<bool>], raw: Raw) -> Result<bool, AllocError>
     requires clause { IsClause lits.old.items }
@@ -56,8 +56,8 @@ fn add(lits: &mut Vec<Lit>, seen: &mut [Option<bool>], raw: Raw) -> Result<bool,
     }
 }
 
-/// Writes the literals of a listed clause into an empty list. Answers false where the clause is a
-/// tautology, so that nothing is written.
+/// Simplifies a raw clause into an empty list of literals. Returns false if it is a tautology; the list is of
+/// no use then.
 #[tactic(auto, using(crate::proofs::Simplified::constants))]
 fn gather(lits: &mut Vec<Lit>, seen: &mut [Option<bool>], raws: &[Raw]) -> Result<bool, AllocError>
     requires none { lits.old.items ≡ [] }
@@ -78,7 +78,7 @@ fn gather(lits: &mut Vec<Lit>, seen: &mut [Option<bool>], raws: &[Raw]) -> Resul
     Ok(true)
 }
 
-/// Clears the entries of the literals' variables.
+/// Clears the entries of the literals' variables in `seen`.
 fn forget(seen: &mut [Option<bool>], lits: &[Lit])
     requires { IsSeen seen.old lits.now }
     ensures { IsBlank seen.new }
@@ -88,13 +88,13 @@ fn forget(seen: &mut [Option<bool>], lits: &[Lit])
     }
 }
 
-/// A formula that grows: the variables 1 to `vars`, and clauses over them. Each clause is written
-/// in time linear in the number of listed literals.
+/// A growing formula over the variables 1 to `vars`. Adding a clause takes time linear in the number of its
+/// raw literals.
 #[derive(Drop)]
 pub struct ClauseList {
     vars: u32,
     clauses: Vec<Clause>,
-    // the signs of a clause's variables, while it is written
+    // the signs of a clause's variables while it is simplified; all None between calls
     seen: Vec<Option<bool>>,
 }
 
@@ -111,7 +111,7 @@ impl Model for ClauseList {
 }
 
 impl ClauseList {
-    /// No clause yet, over the variables 1 to `vars`.
+    /// The formula without a clause, over the variables 1 to `vars`, fewer than 1,000,000,000.
     pub fn new(alloc: Global, vars: u32) -> Result<ClauseList, AllocError>
         requires { vars < 1000000000 }
         ensures { IfOk result (λ list. list ≡ record { vars = vars; clauses = [] }) }
@@ -123,8 +123,8 @@ impl ClauseList {
         })
     }
 
-    /// Writes a listed clause: what is false is left out, and so is a repeated literal; where
-    /// something is true, or a literal and its opposite are listed, nothing is written.
+    /// Simplifies a raw clause and adds it: false constants and repeated literals are left out. If it is a
+    /// tautology, with a true constant or a literal and its opposite, nothing is added.
     #[tactic(auto, unfolding(crate::specs::Clauses::written))]
     pub fn push(&mut self, alloc: Global, raws: &[Raw]) -> Result<(), AllocError>
         requires { All (IsWithin self.old.vars) raws.now }
@@ -148,14 +148,14 @@ impl ClauseList {
         self.vars
     }
 
-    /// The clauses that were written, in their order.
+    /// The simplified clauses in the order in which they were added.
     pub fn clauses(&self) -> &[Clause]
         ensures { result.now ≡ self.now.clauses }
     {
         &self.clauses
     }
 
-    /// The formula of the clauses that were written.
+    /// The formula of these clauses, fewer than 2,000,000,000. An error means that memory ran out.
     pub fn into_cnf(self, alloc: Global) -> Result<Cnf, AllocError>
         requires { length self.clauses < 2000000000 }
         ensures { IfOk result (λ cnf. cnf ≡ self) }

@@ -3,8 +3,8 @@
 /// A literal as it is listed, before its clause is written.
 #[derive(Clone, Copy)]
 pub enum Raw {
-    /// What is true or false whatever the variables are.
+    /// A constant.
     Fixed(bool),
-    /// That a variable, numbered from 1, has this bit.
+    /// The literal of a variable, numbered from 1, that is true where the variable has this value.
     Var(u32, bool),
 }

@@ -1,4 +1,4 @@
--- The literals of each clause in an order of their own.
+-- The literals of each clause in their stored order.
 use Rattle.std.proofs.Common.{◌≡◌, ◌≢◌, ℕ, ◌-◌, ◌<◌, ◌≤◌, ◌⊎◌, ℤ, pos, List, [], ◌∷◌, map, length, take, slice_index_or, slice_set, refl, sym, ap, ◌∙◌, subst, arith, inl, inr}
 use Rattle.std.specs.List.{swap, swap_remove}
 use Rattle.std.specs.List.Sorted.{IsPermutation}
@@ -53,7 +53,7 @@ behind_watched lits l k at other = ⊎_elim
     (λ (high : 2 ≤ k). high)
     (cases_lt k 2)
 
--- the index of the literal to give up, and that of the one to take
+-- the index of the literal to give up, and that of its replacement
 abbrev pub IsFound : List ℤ → ℤ → ℕ → Type 0
 IsFound lits from low = (low ≡ 0) × ((pair_of lits).first ≡ from) ⊎ (low ≡ 1) × ((pair_of lits).first ≢ from)
 
@@ -62,7 +62,7 @@ low_high lits from to low high found at other =
     let behind : 2 ≤ high = behind_watched lits to high at other in
     ⊎_elim (λ (first : (low ≡ 0) × ((pair_of lits).first ≡ from)). omega (arith, behind, first.0)) (λ (second : (low ≡ 1) × ((pair_of lits).first ≢ from)). omega (arith, behind, second.0)) found
 
--- The literal to take replaces the other one.
+-- The replacement takes the place of the other literal.
 swapped_pair : (lits : List ℤ) (from to : ℤ) (low high : ℕ) → IsFound lits from low → high < length lits → ((d : ℤ) → slice_index_or lits high d ≡ to) → IsNoneOf (pair_of lits) to → pair_of (swap lits low high) ≡ replaced (pair_of lits) from to
 swapped_pair lits from to low high found inside at other =
     let behind : 2 ≤ high = behind_watched lits to high at other in
@@ -94,8 +94,8 @@ arranged_order blocks new id low high given under inside is = record {
       (cases_eq (k - 1) (id - 1)));
 }
 
--- A clause is moved: its entry is pushed to one list and taken out of the other, and two of its
--- literals are exchanged. The code exchanges before it takes out, which gives the same.
+-- A watch is moved: its entry is pushed to one list and removed from the other, and two literals of the
+-- clause are swapped. The code swaps before it removes, with the same result.
 pub moved_is : (w a b c : Arranged) (from to m : ℤ) (id index low high : ℕ) → a ≡ record w { lists = with_id w.lists to id; rows = with_blocker w.rows to m } → b ≡ record a { lists = slice_set a.lists (code_of from) (swap_remove (listed_in a.lists from) index 0); rows = with_row a.rows from (swap_remove (row_of a.rows from) index (pos 1)) }
     → c ≡ record b { blocks = slice_set b.blocks (id - 1) (swap (block_at b.blocks id) low high) } → (from ≡ to → ⊥)
     → c ≡ record { blocks = slice_set w.blocks (id - 1) (swap (block_at w.blocks id) low high); lists = slice_set (with_id w.lists to id) (code_of from) (swap_remove (listed_in w.lists from) index 0); rows = rows_moved w.rows from to index m }
@@ -130,8 +130,8 @@ besides_is lits from m low found two is = ⊎_elim
 pub pushed_list : (w a : Arranged) (from to m : ℤ) (id : ℕ) → a ≡ record w { lists = with_id w.lists to id; rows = with_blocker w.rows to m } → (from ≡ to → ⊥) → listed_in a.lists from ≡ listed_in w.lists from
 pushed_list w a from to m id pushed apart = ap (λ (x : Arranged). listed_in x.lists from) pushed ∙ listed-other w.lists to from _ apart
 
--- What has changed where a clause watches another literal: its pair and two lists, their blocking
--- literals, and the order of its literals.
+-- All changes when a clause watches another literal: its pair and two lists, their blocking literals, and the
+-- order of its literals.
 abbrev pub IsMoved : Arranged → Arranged → ℕ → ℤ → ℤ → ℕ → Type 0
 IsMoved w c id from to index =
     (watching_of c ≡ watching_moved (watching_of w) id from to index)

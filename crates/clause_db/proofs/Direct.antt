@@ -70,8 +70,8 @@ direct_swap b e i low are = All-take (IsDirect b) (length e - 1) (slice_set e i 
 pub direct_put : (b : Blocked) (e : Listed) (i : ℕ) (m : ℤ) → i < length e → All (IsDirect b) e → All (IsDirect b) (slice_set e i (blocked_by (slice_index_or e i no_watch) m))
 direct_put b e i m low are = All-set (IsDirect b) e i (blocked_by (slice_index_or e i no_watch) m) (All-get_or (IsDirect b) e i no_watch low are) are
 
--- The clauses of the first n ids keep their starts and ids, and all entries are of these: so the
--- entries stay valid, with their ids.
+-- The clauses of the first n ids keep their starts and ids, and all entries are of these, so the entries stay
+-- valid, with their ids.
 abbrev IsKept : Blocked → ℕ → Watch → Type 0
 IsKept b n w = IsDirect b w × (id_in b.starts w.start ≤ n)
 
@@ -97,7 +97,7 @@ kept_lists b new (e ∷ es) n kept are =
     let tail : lists_of new.starts es ≡ lists_of b.starts es = kept_lists b new es n kept (All-tail (All (IsKept b n)) e es are) in
     ap (λ (xs : List ℕ). xs ∷ lists_of new.starts es) head ∙ ap (λ (ls : List (List ℕ)). ids_of b.starts e ∷ ls) tail
 
--- So they stay while a clause is appended,
+-- So they stay valid when a clause is appended,
 all_kept : (b : Blocked) (all : List Listed) → AreDirect b all → AreKept b (length b.lists) all
 all_kept b all are = All-weaker (All (IsDirect b)) (All (IsKept b (length b.lists))) (λ e. All-weaker (IsDirect b) (IsKept b (length b.lists)) (λ w is. (is, is.given)) e) all are
 

@@ -1,5 +1,5 @@
--- The entries of all watch lists while clauses move in the row: ids in place of starts, and then
--- the new starts.
+-- The entries of all watch lists while clauses move in the arena: ids instead of starts, and then the new
+-- starts.
 use Rattle.std.proofs.Common.{◌≡◌, ℕ, ◌+◌, ◌-◌, ◌<◌, ◌≤◌, ℤ, List, [], ◌∷◌, map, length, slice_index_or, All, refl, sym, ap, ◌∙◌, subst, arith}
 use Rattle.std.proofs.lemmas.List.{length-map, get_or-map, same_lists}
 use Rattle.std.proofs.lemmas.List.Elements.{All-head, All-tail, All-map, All-weaker}

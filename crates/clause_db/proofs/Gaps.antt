@@ -33,7 +33,7 @@ list_at row starts k d low = get_or-map (list_in row) (ranges_of row starts) k (
 lists_long : (row : List ℤ) (starts : List ℕ) → length (lists_in row (ranges_of row starts)) ≡ length starts
 lists_long row starts = length-map (ranges_of row starts) (list_in row) ∙ room_of row starts
 
--- Each list and the two places before it are in another row, maybe elsewhere.
+-- Each list and the two entries before it are in another row, possibly elsewhere.
 pub record AreMoved (row new : List ℤ) (starts news : List ℕ) : Type 0 where
   pub long : length news ≡ length starts
   pub headed : (k : ℕ) → k < length starts → 1 < start_at news k
@@ -117,7 +117,7 @@ end_next b row starts k view are low =
     let start : start_at b.starts k ≡ start_at starts k = ap (λ (x : Blocked). start_at x.starts k) (sym view) in
     rw (some, index, start, shown_count b row starts k view are low) refl
 
--- The lists before an index end at a place or before it, two places before the list at the index.
+-- The lists before an index end at a position or before it, two entries before the list at the index.
 pub record IsEnd (row : List ℤ) (starts : List ℕ) (index end : ℕ) : Type 0 where
   pub before : (k : ℕ) → k < index → start_at starts k + count_at row (start_at starts k) ≤ end
   pub room : index < length starts → end + 2 ≤ start_at starts index
@@ -233,7 +233,7 @@ down_moved row new starts news index end t are inside last to news_is long copie
         (cases_eq k index))
         (cases_eq i index)
 
--- the list at an index, as its two places before it say
+-- the list at an index, as the two entries before it describe it
 pub record IsRead (row : List ℤ) (starts : List ℕ) (index end s count : ℕ) : Type 0 where
   pub within : index < length starts
   pub at : start_at starts index ≡ s
@@ -331,7 +331,7 @@ emptied row starts index h are low is = record {
   others = λ p d apart. get_or-set_other row (start_at starts index - 1) p h d apart;
 }
 
--- The other lists, and all ids, are maybe elsewhere.
+-- The other lists, and all ids, may have moved.
 emptied_count : (row new : List ℤ) (starts : List ℕ) (index k : ℕ) → AreRanges row (ranges_of row starts) → IsEmptied row new starts index → index < length starts → k < length starts → (k ≡ index → ⊥) → count_at new (start_at starts k) ≡ count_at row (start_at starts k)
 emptied_count row new starts index k are is within low apart = ap (λ (l : ℤ). variable l - 1) (is.others (start_at starts k - 1) (pos 1) (λ e.
     let head_k : 1 < start_at starts k = headed_at row starts k are low in

@@ -1,5 +1,5 @@
--- A clause goes from one watch list to another: its entry is read, and appended to the second one,
--- two of its literals change places, and the entry leaves the first one.
+-- A watch moves from one list to another: its entry is read and appended to the second list, two literals of
+-- the clause are swapped, and the entry is removed from the first list.
 use Rattle.std.proofs.Common.{◌≡◌, ℕ, ◌<◌, ℤ, pos, List, [], ◌∷◌, ◌++◌, length, slice_index_or, slice_set, All, refl, sym, ap, ◌∙◌, subst}
 use Rattle.std.specs.List.{swap_remove}
 use Rattle.std.proofs.lemmas.List.{length-set}

@@ -5,7 +5,7 @@ use Rattle.std.proofs.lemmas.Bool.{cases_eq, ne_eqb}
 use Rattle.std.proofs.lemmas.Bool.Decides.{eqb_tells}
 use Rattle.clause_db.specs.BlockRanges.{id_in}
 
--- what a first place has, and the others
+-- the id of the first start, and those of the others
 id_first : (x : ℕ) (xs : List ℕ) (s : ℕ) → x ≡ s → id_in (x ∷ xs) s ≡ 1
 unfolding id_in
 id_first x xs s e = ⊎_elim (λ same. rw same.0 refl) (λ differ. absurd (differ.1 e)) (eqb_tells x s)

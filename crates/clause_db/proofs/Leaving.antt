@@ -1,4 +1,4 @@
--- A clause that is deleted, and what the marks, blocks and lists show then.
+-- Deletion of a clause, and what contracts then see of the marks, the arena and the lists.
 use Rattle.std.proofs.Common.{Bool, false, slice_set, Option, None, ◌≡◌, ℕ, ◌-◌, ◌<◌, ◌≤◌, ◌⊎◌, ℤ, List, [], length, slice_index_or, Some, sym, ap, ◌∙◌, subst, arith, refl}
 use Rattle.std.specs.List.{swap_remove}
 use Rattle.std.proofs.Math.Logic.{⊎_elim}

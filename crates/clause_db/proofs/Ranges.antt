@@ -9,7 +9,7 @@ use Rattle.std.proofs.lemmas.List.Edits.{length-swap, swapped_from_swap, Swapped
 use Rattle.std.proofs.lemmas.List.Quantifiers.{all_pairs_push}
 use Rattle.clause_db.specs.BlockRanges.{Range, list_in, lists_in, AreRanges}
 
--- a range within a prefix of a row, and one behind it
+-- a range within a prefix of a row, and one after it
 pub range_front : (row more : List ℤ) (a b : ℕ) → a ≤ b → b ≤ length row → slice_range (row ++ more) a b ≡ slice_range row a b
 range_front row more a b low high =
     let room : b - a ≤ length (drop a row) = rw length-drop (omega arith) in
@@ -57,7 +57,7 @@ range_swapped row a b low high order inside is_low is_high =
         (cases_eq k high))
         (cases_eq k low)
 
--- A range that has neither place isn't changed.
+-- A range without these two positions isn't changed.
 range_apart : (row : List ℤ) (a b i j : ℕ) → a ≤ b → b ≤ length row → i < length row → j < length row → ((k : ℕ) → a ≤ k → k < b → k ≡ i → ⊥) → ((k : ℕ) → a ≤ k → k < b → k ≡ j → ⊥) → slice_range (swap row i j) a b ≡ slice_range row a b
 range_apart row a b i j order inside is_i is_j not_i not_j =
     range_same row (swap row i j) a b order inside (let kept : length (swap row i j) ≡ length row = length-swap row i j in omega (arith, kept, inside))
@@ -123,7 +123,7 @@ ranges_written row new more ranges is are = record {
   behind = are.behind;
 }
 
--- And the range of what was appended, after two places for id and length, becomes the last one.
+-- And the range of the appended literals, after two entries for id and length, becomes the last one.
 heads_long : (row : List ℤ) (id head : ℤ) → length (row ++ id ∷ head ∷ []) ≡ length row + 2
 heads_long row id head = length-append row (id ∷ head ∷ [])
 
@@ -148,7 +148,7 @@ lists_added row new lits id head ranges r is at end are =
     let before : lists_in new ranges ≡ lists_in row ranges = lists_written (row ++ heads) new lits ranges is (ranges_written row (row ++ heads) heads ranges refl are) ∙ lists_written row (row ++ heads) heads ranges refl are in
     map-append (list_in new) ranges (r ∷ []) ∙ ap (λ (xs : List ℤ). lists_in new ranges ++ xs ∷ []) list ∙ ap (λ (ls : List (List ℤ)). ls ++ lits ∷ []) before
 
--- The last range is removed, with all of the row from the second place before its start on.
+-- The last range is removed, with the row from two entries before its start on.
 pub ends_before : (row : List ℤ) (ranges : List Range) (n k : ℕ) (d r : Range) → AreRanges row ranges → n + 1 ≡ length ranges → r ≡ slice_index_or ranges n d → k < n
     → ((slice_index_or ranges k d).start ≤ (slice_index_or ranges k d).end) × ((slice_index_or ranges k d).end ≤ r.start - 2) × (length (take (r.start - 2) row) ≡ r.start - 2)
 ends_before row ranges n k d r are all is low =

@@ -117,7 +117,7 @@ shown_moved vars live a new id from to index is order =
     ap (λ (cs : List (Option (List ℤ))). (let s : Stored = record { vars = vars; clauses = cs; watches = watching_of new } in s)) (sym (clauses_permuted live a.blocks new.blocks (moved_long a new id from to index is) order))
     ∙ ap (λ (w : Watching). (let s : Stored = record { vars = vars; clauses = clauses_of live a.blocks; watches = w } in s)) is
 
--- whether the id that is asked for is live, as the code reads it
+-- whether an id is live, as the code reads it
 pub live_read : (vars : ℕ) (live : List Bool) (a : Arranged) (now : Stored) (id : ℕ) (mark : Bool) → shown vars live a ≡ now → length live ≡ length a.blocks → 0 < id
     → id - 1 < length live → mark ≡ slice_index_or live (id - 1) mark → IsTrue mark ↔ IsSome (live_in now id)
 live_read vars live a now id mark view same some low is =

@@ -39,7 +39,7 @@ behind_at row starts i k are order low =
     let late : k < length (ranges_of row starts) = rw (room_of row starts) low in
     rw (range_of row starts i d early, range_of row starts k d low) at (are.behind i k d order late)
 
--- There are fewer lists than places in the row.
+-- There are fewer lists than entries of the row.
 start_least : (row : List ℤ) (starts : List ℕ) (k : ℕ) → AreRanges row (ranges_of row starts) → k < length starts → k + 1 < start_at starts k
 start_least row starts zero are low = headed_at row starts 0 are low
 start_least row starts (suc k) are low =
@@ -57,7 +57,7 @@ starts_few row starts are = ⊎_elim
     (λ (none : length starts ≤ 0). omega (arith, none))
     (cases_lt 0 (length starts))
 
--- Two rows that agree on the two places before each list have the same ranges and ids.
+-- Two rows that agree on the two entries before each list have the same ranges and ids.
 abbrev AgreeBefore : List ℤ → List ℤ → List ℕ → Type 0
 AgreeBefore row new starts = (k j : ℕ) → k < length starts → 0 < j → j ≤ 2 → slice_index_or new (start_at starts k - j) (pos 1) ≡ slice_index_or row (start_at starts k - j) (pos 1)
 
@@ -232,7 +232,7 @@ shown_cut b row new starts front n s view are all is front_is new_is =
     lists_cut row (ranges_of row starts) n (range_at row s) are (rw (room_of row starts) all) (λ d. last_range row starts n s d all is) in
     rw (front_is, new_is) (ap (lists_in (take (s - 2) row)) (cut_ranges row starts n s are all is) ∙ cut ∙ ap (λ (x : Blocked). take n x.lists) view ∙ ap (λ (m : ℕ). take m b.lists) count)
 
--- The list that begins at a place is read,
+-- The list that begins at a position is read,
 its_list : (b : Blocked) (row : List ℤ) (starts : List ℕ) (index s : ℕ) → shown row starts ≡ b → index < length b.lists → start_at b.starts index ≡ s → slice_index_or b.lists index [] ≡ list_in row (range_at row s)
 its_list b row starts index s view low at =
     let inside : index < length starts = omega (arith, low, lists_room b row starts view) in
@@ -249,7 +249,7 @@ begun_low b s start = (let some : 0 < id_in b.starts s = start.some in let given
 begun : (b : Blocked) (s : ℕ) → IsStart b s → IsBegun b s
 begun b s start = (id_in b.starts s - 1, begun_low b s start, start.is)
 
--- and lies within the row, with two places before it.
+-- and lies within the row, with two entries before it.
 inside_begun : (b : Blocked) (row : List ℤ) (starts : List ℕ) (s : ℕ) → shown row starts ≡ b → AreRanges row (ranges_of row starts) → IsBegun b s → (1 < s) × (s + count_at row s ≤ length row)
 inside_begun b row starts s view are (index, low, at) =
     let inside : index < length starts = omega (arith, low, lists_room b row starts view) in
@@ -266,7 +266,7 @@ id_at_start b row starts index s view are low here =
     let at : start_at starts index ≡ s = sym (here ∙ get_or_default starts index s 0 inside) in
     ap (λ (x : Blocked). id_in x.starts s) (sym view) ∙ id_found starts index s inside at (λ i early e. let behind : start_at starts i + count_at row (start_at starts i) + 1 < start_at starts index = behind_at row starts i index are early inside in omega (arith, behind, e, at))
 
--- It is read at the second place before the list,
+-- It is read two entries before the list,
 pub read_id : (b : Blocked) (row : List ℤ) (starts : List ℕ) (s : ℕ) (head : ℤ) (number : ℕ) → shown row starts ≡ b → AreLaid row starts → IsStart b s → head ≡ slice_index_or row (s - 2) head → number ≡ variable head → id_in b.starts s ≡ number - 1
 read_id b row starts s head number view laid start here is =
     let within : (1 < s) × (s + count_at row s ≤ length row) = start_inside b row starts s view laid.0 start in
@@ -280,7 +280,7 @@ read_id b row starts s head number view laid start here is =
     let read : number - 1 ≡ number_at row s = ap (λ (n : ℕ). n - 1) is ∙ ap (λ (l : ℤ). variable l - 1) (here ∙ get_or_default row (s - 2) head (pos 1) (omega (arith, some, end))) in
     omega (arith, first, its, read)
 
--- the length at the place before it, and then the list.
+-- the length one entry before it, and then the list.
 pub read_count : (row : List ℤ) (s : ℕ) (head : ℤ) (count : ℕ) → (1 < s) × (s + count_at row s ≤ length row) → head ≡ slice_index_or row (s - 1) head → count ≡ variable head → count - 1 ≡ count_at row s
 read_count row s head count (some, end) here is = ap (λ (n : ℕ). n - 1) is ∙ ap (λ (l : ℤ). variable l - 1) (here ∙ get_or_default row (s - 1) head (pos 1) (omega (arith, some, end)))
 

@@ -1,5 +1,4 @@
--- The literals of each clause in an order of their own, in which the two that it watches come
--- first.
+-- The literals of each clause in their stored order, the two watched ones first.
 use Rattle.std.specs.Prelude.{◌≡◌, ℕ, ◌-◌, ◌⊎◌, ℤ, List, [], ◌∷◌, ◌++◌, map, slice_index_or, slice_set, Bool, if◌then◌else◌, Option, Some, None}
 use Rattle.std.specs.List.{swap}
 use Rattle.std.specs.List.Sorted.{IsPermutation}
@@ -25,7 +24,7 @@ block_at blocks id = slice_index_or blocks (id - 1) []
 abbrev pub watching_of : Arranged → Watching
 watching_of a = record { pairs = map pair_of a.blocks; lists = a.lists }
 
--- a clause was added, with its literals in their own order
+-- a clause was added, with its literals in the given order
 abbrev pub arranged_more : Arranged → List ℤ → ℕ → Arranged
 arranged_more a lits id = record { blocks = a.blocks ++ lits ∷ []; lists = with_ids a.lists lits id; rows = with_blockers a.rows lits }
 
@@ -37,18 +36,17 @@ exchanged_at a id low high = record { blocks = slice_set a.blocks (id - 1) (swap
 abbrev pub IsNoneOf : Pair → ℤ → Type 0
 IsNoneOf p l = (l ≡ p.first) ⊎ (l ≡ p.second) → ⊥
 
--- the literals of each id, maybe in another order
+-- the literals of each id, possibly reordered
 pub record ArePermuted (blocks new : List (List ℤ)) : Type 0 where
   pub each : (id : ℕ) → IsPermutation (block_at blocks id) (block_at new id)
 
--- The clauses of the ids that are live: the literals of each in the order of their codes. Both
--- lists are equally long.
--- Example: of true, false and the literals 3, -2, 1 and none they are Some of 1, -2, 3, and None.
+-- The clauses of the live ids, with their literals in the order of their codes. Both lists are equally long.
+-- Example: the marks true, false with the literals 3, -2, 1 and none give Some of 1, -2, 3, and None.
 unfoldable pub clauses_of : List Bool → List (List ℤ) → List (Option (List ℤ))
 clauses_of [] blocks = []
 clauses_of (live ∷ rest) [] = []
 clauses_of (live ∷ rest) (block ∷ blocks) = (if live then Some (sorted block) else None) ∷ clauses_of rest blocks
 
--- what contracts see of them
+-- what contracts see of the clause database
 abbrev pub shown : ℕ → List Bool → Arranged → Stored
 shown vars live a = record { vars = vars; clauses = clauses_of live a.blocks; watches = watching_of a }

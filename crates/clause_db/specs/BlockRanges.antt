@@ -1,5 +1,5 @@
--- How blocks hold their lists: all literals in one row, and before those of each list its id and
--- its length, each as a literal that encodes a number.
+-- The layout of the arena: all literals in one row, and before those of each list its id and its length, each
+-- encoded as a literal.
 use Rattle.std.specs.Prelude.{◌≡◌, ℕ, suc, ◌+◌, ◌-◌, ◌<◌, ◌≤◌, ◌==◌, if◌then◌else◌, ℤ, pos, List, [], ◌∷◌, map, length, slice_index_or, All, AllPairs}
 use Rattle.std.specs.List.{slice_range}
 use Rattle.sat_theory.specs.Formula.{variable}
@@ -9,17 +9,17 @@ pub record Blocked : Type 0 where
   pub lists : List (List ℤ)
   pub starts : List ℕ
 
--- where a list is in the row
+-- where a list is in the row: from start, up to but excluding end
 pub record Range : Type 0 where
   pub start : ℕ
   pub end : ℕ
 
--- Before a list is its length, as a literal whose variable is 1 + the number.
+-- The entry before a list is its length, as a literal whose variable is 1 + the number.
 -- Example: in the row 2, 3, -4, 1 a list of two literals begins at 2.
 abbrev pub count_at : List ℤ → ℕ → ℕ
 count_at row start = variable (slice_index_or row (start - 1) (pos 1)) - 1
 
--- Before the length is its id, encoded likewise; in the example it is 1.
+-- The entry before the length is its id, encoded likewise; in the example it is 1.
 abbrev pub number_at : List ℤ → ℕ → ℕ
 number_at row start = variable (slice_index_or row (start - 2) (pos 1)) - 1
 
@@ -58,12 +58,12 @@ pub record IsStart (b : Blocked) (s : ℕ) : Type 0 where
   pub given : id_in b.starts s ≤ length b.lists
   pub is : slice_index_or b.starts (id_in b.starts s - 1) 0 ≡ s
 
--- The first n lists have the same starts and ids in both.
+-- The first n lists have the same starts and ids in both states.
 abbrev pub KeepsIds : Blocked → Blocked → ℕ → Type 0
 KeepsIds old new n = (s : ℕ) → IsStart old s → id_in old.starts s ≤ n → IsStart new s × (id_in new.starts s ≡ id_in old.starts s)
 
--- Each range lies within the row and after those before it, and the two places before it are in
--- none of them.
+-- Each range lies within the row and after the ranges before it, with two entries for id and length in front
+-- of it.
 pub record AreRanges (row : List ℤ) (ranges : List Range) : Type 0 where
   pub headed : All (λ r. 1 < r.start) ranges
   pub inside : All (λ r. (r.start ≤ r.end) × (r.end ≤ length row)) ranges

@@ -13,7 +13,7 @@ use Rattle.clause_db.specs.declared.lists.Watch.{Watch}
 unfoldable pub row_of : List (List ℤ) → ℤ → List ℤ
 row_of rows l = slice_index_or rows (code_of l) []
 
--- the rows with the one of l replaced
+-- the rows with that of l replaced
 abbrev pub with_row : List (List ℤ) → ℤ → List ℤ → List (List ℤ)
 with_row rows l row = slice_set rows (code_of l) row
 
@@ -21,7 +21,7 @@ with_row rows l row = slice_set rows (code_of l) row
 abbrev pub blocker_at : List (List ℤ) → ℤ → ℕ → ℤ
 blocker_at rows l k = slice_index_or (row_of rows l) k (pos 1)
 
--- one blocking literal more at the end of a literal's row
+-- a blocking literal appended to a literal's row
 abbrev pub with_blocker : List (List ℤ) → ℤ → ℤ → List (List ℤ)
 with_blocker rows l m = with_row rows l (row_of rows l ++ m ∷ [])
 
@@ -34,11 +34,12 @@ with_blockers rows lits = if nat_lt (length lits) 2 then rows else with_blocker 
 abbrev pub besides : Pair → ℤ → ℤ
 besides p l = if int_eq p.first l then p.second else p.first
 
--- The blocking literal at an index left the row of `from`, and one came into the row of `to`.
+-- A watch is moved: the blocking literal at an index is removed from the row of `from`, and another one is
+-- appended to the row of `to`.
 abbrev pub rows_moved : List (List ℤ) → ℤ → ℤ → ℕ → ℤ → List (List ℤ)
 rows_moved rows from to index m = with_row (with_blocker rows to m) from (swap_remove (row_of rows from) index (pos 1))
 
--- l is a literal of the clause of an id
+-- l is a literal of the clause with this id, if that is live
 abbrev pub IsOf : Stored → ℕ → ℤ → Type 0
 IsOf s id l = (clause : List ℤ) → live_in s id ≡ Some clause → Contains clause l
 

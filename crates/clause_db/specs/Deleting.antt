@@ -7,17 +7,17 @@ use Rattle.clause_db.specs.Blocking.{row_of, with_row}
 use Rattle.clause_db.specs.Arranging.{Arranged}
 use Rattle.clause_db.specs.Stored.{Stored, Watches}
 
--- An id left a list; the last one took its place.
+-- An id was removed from a list; the last one took its place.
 pub record HasLeft (id : ℕ) (old new : List ℕ) : Type 0 where
   pub index : ℕ
   pub inside : index < length old
   pub at_index : slice_index_or old index 0 ≡ id
   pub is : new ≡ swap_remove old index 0
 
--- The clause of an id was deleted: no clause has the id any more, the id left the watch lists of
--- the clause, its pair is that of no literals, and all else is unchanged.
--- Example: of the clauses 1: 1, 2 and 2: 1, 3 and 3: 1, 4 in the list 1, 2, 3 of the literal 1, the
--- first one leaves 3, 2.
+-- The clause with this id was deleted: its entry is empty, the id is removed from the watch lists of the
+-- clause, its pair is that of no literals, and everything else is unchanged.
+-- Example: with the clauses 1: 1, 2 and 2: 1, 3 and 3: 1, 4, deleting the first one turns the list 1, 2, 3 of
+-- the literal 1 into 3, 2.
 pub record IsDeleted (id : ℕ) (old new : Stored) : Type 0 where
   pub vars : new.vars ≡ old.vars
   pub clauses : new.clauses ≡ slice_set old.clauses (id - 1) None
@@ -26,8 +26,8 @@ pub record IsDeleted (id : ℕ) (old new : Stored) : Type 0 where
   pub left : (l : ℤ) → Watches old id l → HasLeft id (list_of old.watches l) (list_of new.watches l)
   pub others : (l : ℤ) → (Watches old id l → ⊥) → list_of new.watches l ≡ list_of old.watches l
 
--- the lists without the entry at an index of a literal's watch list, and the rows without its
--- blocking literal
+-- the watch lists without the entry at an index of a literal's list, and the rows without its blocking
+-- literal
 abbrev pub lists_left : List (List ℕ) → ℤ → ℕ → List (List ℕ)
 lists_left lists l index = slice_set lists (code_of l) (swap_remove (listed_in lists l) index 0)
 

@@ -1,4 +1,4 @@
--- The clauses keep their invariant when one of them is deleted.
+-- Deleting a clause keeps the invariant.
 use Rattle.std.specs.Prelude.{◌≡◌, ◌≢◌, ℕ, zero, suc, ◌+◌, ◌-◌, ◌*◌, ◌<◌, ◌≤◌, ◌⊎◌, ◌==◌, Bool, true, false, if◌then◌else◌, ℤ, List, [], ◌∷◌, length, slice_get, slice_index_or, slice_set, Contains, AllPairs, Option, Some, None, IsSome, refl}
 use Rattle.std.specs.Option.{option_flatten}
 use Rattle.std.proofs.Common.{sym, ap, ◌∙◌, subst, arith, inl, inr}
@@ -53,7 +53,7 @@ deleted_at clauses id (suc k) some = ⊎_elim
     live_suc (slice_set clauses (id - 1) None) k ∙ ap option_flatten (set_other clauses (id - 1) k (λ h. apart (omega (arith, h, some)))) ∙ sym (live_suc clauses k) ∙ sym (without_other (live_at clauses) id (suc k) apart))
     (cases_eq (suc k) id)
 
--- The id of a deleted clause is no clause's, and nothing else changes.
+-- No clause has the id of a deleted clause, and nothing else changes.
 pub live_deleted : (id : ℕ) (old new : Stored) → IsDeleted id old new → 0 < id → live_in new ≡ without (live_in old) (id ∷ [])
 live_deleted id old new deleted some = λ i k. (ap (λ (xs : List (Option (List ℤ))). live_at xs k) deleted.clauses ∙ deleted_at old.clauses id k some) i
 
@@ -82,7 +82,7 @@ pub pair_left : (id : ℕ) (old new : Stored) (k : ℕ) → IsDeleted id old new
 pair_left id old new k deleted some some_k apart =
     ap (λ (ps : List Pair). slice_index_or ps (k - 1) no_pair) deleted.pairs ∙ get_or-set_other old.watches.pairs (id - 1) (k - 1) no_pair no_pair (λ e. apart (omega (arith, e, some, some_k)))
 
--- Other clauses watch what they watched.
+-- Other clauses watch the same literals as before.
 pub still_watches : (id : ℕ) (old new : Stored) (k : ℕ) (l : ℤ) → IsDeleted id old new → 0 < id → Watches new k l → Watches old k l × (k ≡ id → ⊥)
 still_watches id old new k l deleted some watches =
     let before : (live_in old k ≡ Some watches.clause) × (k ≡ id → ⊥) = still_live id old new k watches.clause deleted some watches.is_live in (

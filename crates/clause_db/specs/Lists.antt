@@ -1,10 +1,10 @@
--- How watch lists lie, as ids and as blocking literals: an entry has a blocking literal and the
--- start of its clause's literals, which determines the id.
+-- Watch lists as ids and as blocking literals: an entry has a blocking literal and the start of its clause's
+-- literals, which determines the id.
 use Rattle.std.specs.Prelude.{ℕ, ◌-◌, ◌<◌, ◌≤◌, ℤ, pos, List, [], map, length, slice_index_or, All}
 use Rattle.clause_db.specs.declared.lists.Watch.{Watch}
 use Rattle.clause_db.specs.BlockRanges.{Blocked, id_in, IsStart}
 
--- the entries of a literal's list
+-- the entries of a literal's watch list
 abbrev pub Listed : Type 0
 Listed = List Watch
 
@@ -15,11 +15,11 @@ nothing_listed = []
 abbrev pub no_watch : Watch
 no_watch = record { blocker = pos 1; start = 0 }
 
--- an entry with another blocking literal
+-- the entry with its blocking literal replaced
 abbrev pub blocked_by : Watch → ℤ → Watch
 blocked_by w l = record { blocker = l; start = w.start }
 
--- the ids alone, by the starts of clauses, and the blocking literals alone
+-- the ids alone, by the starts of the lists; the blocking literals alone
 abbrev pub ids_of : List ℕ → Listed → List ℕ
 ids_of starts entries = map (λ (w : Watch). id_in starts w.start) entries
 
@@ -34,22 +34,21 @@ lists_of starts all = map (λ (e : Listed). ids_of starts e) all
 unfoldable pub rows_of : List Listed → List (List ℤ)
 rows_of all = map (λ (e : Listed). blockers_of e) all
 
--- The start of an entry is that of a list.
+-- The start of an entry is that of a list in the arena.
 abbrev pub IsDirect : Blocked → Watch → Type 0
 IsDirect b w = IsStart b w.start
 
 abbrev pub AreDirect : Blocked → List Listed → Type 0
 AreDirect b all = All (All (IsDirect b)) all
 
--- An entry with the id of its clause in place of the start, and one with the start in place of the
--- id.
+-- An entry with the id of its clause instead of the start, and one with the start instead of the id.
 abbrev pub named : List ℕ → Watch → Watch
 named starts w = record { blocker = w.blocker; start = id_in starts w.start }
 
 abbrev pub placed : List ℕ → Watch → Watch
 placed starts w = record { blocker = w.blocker; start = slice_index_or starts (w.start - 1) 0 }
 
--- The entry has an id in place of the start of a list.
+-- The entry has the id of a list instead of its start.
 abbrev pub IsNamed : Blocked → Watch → Type 0
 IsNamed b w = (0 < w.start) × (w.start ≤ length b.lists)
 

@@ -1,10 +1,10 @@
--- The literals of a live clause in an order of their own, as `arranged` gives them.
+-- The literals of a live clause in their stored order, as `arranged` gives them.
 use Rattle.std.specs.Prelude.{◌≡◌, ℕ, ◌⊎◌, ◌↔◌, ℤ, Bool, true, List, slice_index_or, Contains, All, Option, Some, IsSome}
 use Rattle.std.proofs.lemmas.List.Elements.{All-contains, All-contains_itself}
 use Rattle.sat_theory.specs.Holding.{IsUnitOutside}
 use Rattle.clause_db.specs.DeletingLaws.{some_live}
 
--- the literals of the live clause of an id
+-- exactly the literals of the live clause with this id, in some order
 pub record AreMembersOf (live : ℕ → Option (List ℤ)) (id : ℕ) (lits : List ℤ) : Type 0 where
   pub clause : List ℤ
   pub is_live : live id ≡ Some clause
@@ -15,7 +15,7 @@ members_read live id lits some same =
     let found : (clause : List ℤ) × (live id ≡ Some clause) = some_live (live id) some in
     record { clause = found.0; is_live = found.1; same = same found.0 found.1 }
 
--- What holds of all of them holds of all literals of the clause, and the other way round.
+-- A property of all literals of the list holds of all literals of the clause, and vice versa.
 pub all_of_members : (P : ℤ → Type 0) (lits clause : List ℤ) → ((l : ℤ) → Contains lits l ↔ Contains clause l) → All P lits → All P clause
 all_of_members P lits clause same all = λ k d low. All-contains P lits (slice_index_or clause k d) all ((same (slice_index_or clause k d)).1 (All-contains_itself clause k d low))
 

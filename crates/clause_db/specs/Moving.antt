@@ -1,4 +1,4 @@
--- The clauses keep their invariant when one is added, and when one watches another literal.
+-- Adding a clause and moving a watch keep the invariant.
 use Rattle.std.specs.Prelude.{◌≡◌, ◌≢◌, ℕ, ◌+◌, ◌-◌, ◌*◌, ◌<◌, ◌≤◌, ◌⊎◌, ℤ, pos, List, [], ◌∷◌, ◌++◌, length, slice_index_or, slice_set, replicate, Contains, All, AllPairs, Option, Some, refl}
 use Rattle.std.proofs.Common.{sym, ap, ◌∙◌, subst, arith, inl, inr}
 use Rattle.std.proofs.Math.Logic.{⊎_elim}
@@ -176,7 +176,7 @@ stored_added s lits stored is_clause within few = record {
           | inr other ↦ subst (λ (xs : List ℕ). AllPairs (λ a b. a ≢ b) xs) (sym other.1) (stored.once l)
         ]
 
--- what a clause watches where one clause was added
+-- the watched literals after a clause was added
 pub added_watches : (s : Stored) (lits : List ℤ) (id : ℕ) (l : ℤ) → IsStored s → Watches (added s lits) id l → ((id ≡ length s.clauses + 1) × (2 ≤ length lits) × ((l ≡ (pair_of lits).first) ⊎ (l ≡ (pair_of lits).second))) ⊎ Watches s id l
 added_watches s lits id l stored watches = ⊎_elim
     (λ (new : (id ≡ length s.clauses + 1) × (sorted lits ≡ watches.clause)).
@@ -188,7 +188,7 @@ added_watches s lits id l stored watches = ⊎_elim
     inr (record { clause = watches.clause; is_live = old; long = watches.long; watched = subst (λ (p : Pair). (l ≡ p.first) ⊎ (l ≡ p.second)) (pair_old s.watches lits (length s.clauses + 1) id low.0 (omega (arith, low.1, room))) watches.watched }))
     (live_added s lits id watches.clause watches.is_live)
 
--- what a clause watches after `to` took the place of `from`
+-- the watched literals after `to` replaced `from`
 replaced_cases : (p : Pair) (from to l : ℤ) → ((from ≡ p.first) ⊎ (from ≡ p.second)) → ((l ≡ (replaced p from to).first) ⊎ (l ≡ (replaced p from to).second)) → (l ≡ to) ⊎ (((l ≡ p.first) ⊎ (l ≡ p.second)) × ((p.first ≡ p.second → ⊥) → l ≡ from → ⊥))
 replaced_cases p from to l which is =
     ⊎_elim
@@ -240,8 +240,7 @@ replaced_differ p from to other =
     now_second : (p.first ≡ from → ⊥) → replaced p from to ≡ record { first = p.first; second = to }
     now_second apart = rw (int_eq-other p.first from apart) refl
 
--- The clause of an id, which is at an index in the watch list of `from`, can watch another of its
--- literals.
+-- The clause with an id at an index in the watch list of `from` can watch another of its literals.
 pub record IsMovable (s : Stored) (id : ℕ) (from to : ℤ) (index : ℕ) : Type 0 where
   pub inside : index < length (list_of s.watches from)
   pub at_index : slice_index_or (list_of s.watches from) index 0 ≡ id
@@ -251,7 +250,7 @@ pub record IsMovable (s : Stored) (id : ℕ) (from to : ℤ) (index : ℕ) : Typ
 pub movable_watches : (s : Stored) (id : ℕ) (from to : ℤ) (index : ℕ) → IsStored s → IsMovable s id from to index → Watches s id from
 movable_watches s id from to index stored movable = subst (λ (k : ℕ). Watches s k from) movable.at_index (stored.only from (slice_index_or (list_of s.watches from) index 0) (Contains-get_or (list_of s.watches from) index 0 movable.inside))
 
--- each watch is one of before, except the one of `to`
+-- each watch is an old one, except that of `to`
 pub rewatched_old : (s : Stored) (id : ℕ) (from to : ℤ) (index k : ℕ) (l : ℤ) → IsStored s → IsMovable s id from to index → Watches (rewatched s id from to index) k l → Watches s k l ⊎ ((k ≡ id) × (l ≡ to))
 rewatched_old s id from to index k l stored movable watches =
     let of_from : Watches s id from = movable_watches s id from to index stored movable in
@@ -271,7 +270,7 @@ rewatched_old s id from to index k l stored movable watches =
     inl (record { clause = watches.clause; is_live = watches.is_live; long = watches.long; watched = subst (λ (p : Pair). (l ≡ p.first) ⊎ (l ≡ p.second)) pair watches.watched }))
     (cases_eq k id)
 
--- the clause doesn't watch `from` any more
+-- the clause no longer watches `from`
 pub rewatched_gone : (s : Stored) (id : ℕ) (from to : ℤ) (index : ℕ) → IsStored s → IsMovable s id from to index → Watches (rewatched s id from to index) id from → ⊥
 rewatched_gone s id from to index stored movable watches =
     let of_from : Watches s id from = movable_watches s id from to index stored movable in
@@ -284,7 +283,7 @@ rewatched_gone s id from to index stored movable watches =
     old.1 (stored.pairs id of_from.clause of_from.is_live of_from.long).differ refl)
     (replaced_cases (pair_at s.watches id) from to from of_from.watched (subst (λ (p : Pair). (from ≡ p.first) ⊎ (from ≡ p.second)) pair watches.watched))
 
--- what else was watched still is
+-- all other watches are kept
 pub rewatched_kept : (s : Stored) (id : ℕ) (from to : ℤ) (index k : ℕ) (l : ℤ) → IsStored s → IsMovable s id from to index → Watches s k l → ((k ≡ id → ⊥) ⊎ (l ≡ from → ⊥)) → Watches (rewatched s id from to index) k l
 rewatched_kept s id from to index k l stored movable watches apart =
     let of_from : Watches s id from = movable_watches s id from to index stored movable in

@@ -1,9 +1,8 @@
--- The literals of a clause in one order, in which two lists of the same literals, each as often,
--- are equal.
+-- Sorted clauses: two lists of the same literals, each equally often, are equal when sorted.
 use Rattle.std.specs.Prelude.{if◌then◌else◌, nat_lt, ℤ, List, [], ◌∷◌}
 use Rattle.cdcl_theory.specs.Codes.{code_of}
 
--- a literal put before the first one of a greater or equal code
+-- insertion of a literal before the first one of a greater or equal code
 unfoldable pub inserted : ℤ → List ℤ → List ℤ
 inserted l [] = l ∷ []
 inserted l (m ∷ ms) = if nat_lt (code_of m) (code_of l) then m ∷ inserted l ms else l ∷ m ∷ ms

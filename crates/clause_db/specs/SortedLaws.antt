@@ -1,4 +1,4 @@
--- The order of codes keeps the literals of a list, and is the same for all orders of them.
+-- Sorting by codes keeps the literals of a list, and has the same result for all orders of them.
 use Rattle.std.specs.Prelude.{◌≡◌, ◌≢◌, ℕ, zero, suc, ◌+◌, ◌-◌, ◌<◌, ◌≤◌, ◌==◌, false, ℤ, pos, List, [], ◌∷◌, map, length, slice_get, slice_index_or, slice_set, Contains, All, AllPairs, Some, refl}
 use Rattle.std.specs.List.{swap, IsDistinct}
 use Rattle.std.specs.List.Sorted.{IsPermutation, IsNonDecreasingBy}
@@ -115,7 +115,7 @@ tail_is x y xs ys e = cc
 inserted_long : (l : ℤ) (xs : List ℤ) → length (inserted l xs) ≡ length xs + 1
 inserted_long l xs = let long : length (inserted l xs) ≡ suc (length xs) = length_permutation (l ∷ xs) (inserted l xs) (inserted_permutes l xs) in omega (arith, long)
 
--- a literal is put into one list alone
+-- a literal can be inserted in one way only
 inserted_same : (l : ℤ) (xs ys : List ℤ) → inserted l xs ≡ inserted l ys → xs ≡ ys
 inserted_same l [] [] e = refl
 inserted_same l [] (y ∷ ys) e = absurd (
@@ -147,7 +147,7 @@ inserted_same l (x ∷ xs) (y ∷ ys) e = ⊎_elim
     (cases_lt (code_of y) (code_of l)))
     (cases_lt (code_of x) (code_of l))
 
--- a literal takes the place of another
+-- a literal replaces another
 sorted_put : (x : ℤ) (xs : List ℤ) (k : ℕ) (d : ℤ) → k < length xs → inserted (slice_index_or xs k d) (sorted (slice_set xs k x)) ≡ inserted x (sorted xs)
 unfolding sorted
 sorted_put x [] k d low = absurd (omega (arith, low))
@@ -180,7 +180,7 @@ sorted_swap xs i j low high = ap sorted (sym (swap_is xs i j (pos 1) low high)) 
 pub sorted_same : (xs ys : List ℤ) → IsPermutation xs ys → sorted xs ≡ sorted ys
 sorted_same xs ys order = IsPermutation-keeps xs (λ l. sorted xs ≡ sorted l) refl (λ l i j low high same. same ∙ sym (sorted_swap l i j low high)) ys order
 
--- The same literals in another order are a clause too.
+-- A clause in another order is a clause.
 variables_differ : (lits : List ℤ) → AllPairs (λ l m. variable l ≢ variable m) lits → AllPairs (λ a b. a ≢ b) (map variable lits)
 variables_differ lits differ i j d order within e =
     let high : j < length lits = rw length-map at within in
@@ -204,7 +204,7 @@ clause_permuted lits new order clause = record {
         IsDistinct-IsPermutation (λ a b. a == b) flips (map variable lits) (map variable new) (IsPermutation-map variable lits new order)
         (IsDistinct-from_AllPairs Decides-eqb (map variable lits) (variables_differ lits clause.differ))
 
--- What holds of the literals holds of them in the order of codes, and the other way round.
+-- A property of all literals holds of them sorted, and vice versa.
 pub Contains-sorted : (xs : List ℤ) (l : ℤ) → Contains xs l → Contains (sorted xs) l
 Contains-sorted xs l there = Contains-permutation xs (sorted xs) l (sorted_permutes xs) there
 

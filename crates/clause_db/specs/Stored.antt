@@ -1,5 +1,5 @@
--- Clauses by their ids, and what they watch. The literals of a clause are shown in the order of their
--- codes, in whatever order they are kept.
+-- Clauses by their ids, and their watched literals. Contracts see the literals of a clause in the order of
+-- their codes, whatever the stored order is.
 use Rattle.std.specs.Prelude.{◌≡◌, ◌≢◌, ℕ, ◌+◌, ◌-◌, ◌*◌, ◌≤◌, ◌==◌, ◌⊎◌, if◌then◌else◌, ℤ, List, [], ◌∷◌, ◌++◌, length, slice_get, replicate, Contains, AllPairs, Option, Some, None}
 use Rattle.std.specs.Option.{option_flatten}
 use Rattle.sat_theory.specs.Formula.{IsClause, IsWithin}
@@ -12,8 +12,8 @@ use Rattle.clause_db.specs.Sorted.{sorted}
 abbrev pub live_at : List (Option (List ℤ)) → ℕ → Option (List ℤ)
 live_at clauses id = if id == 0 then None else option_flatten (slice_get clauses (id - 1))
 
--- the variables of the formula, an entry for each id that was given (its clause, where that is live),
--- and what the clauses watch
+-- the variables of the formula, an entry for each id given so far (its clause, if that is live), and the
+-- watched literals
 pub record Stored : Type 0 where
   pub vars : ℕ
   pub clauses : List (Option (List ℤ))
@@ -22,13 +22,13 @@ pub record Stored : Type 0 where
 abbrev pub live_in : Stored → ℕ → Option (List ℤ)
 live_in s id = live_at s.clauses id
 
--- the clause of an id is live and has at least two literals
+-- the clause with this id is live and has at least two literals
 pub record IsLong (s : Stored) (id : ℕ) : Type 0 where
   pub clause : List ℤ
   pub is_live : live_in s id ≡ Some clause
   pub long : 2 ≤ length clause
 
--- The clause of an id is live, has at least two literals, and l is one of the two that it watches.
+-- The clause with this id is live, has at least two literals, and watches l.
 pub record Watches (s : Stored) (id : ℕ) (l : ℤ) : Type 0 where
   pub clause : List ℤ
   pub is_live : live_in s id ≡ Some clause
@@ -58,15 +58,15 @@ pub record IsStored (s : Stored) : Type 0 where
 abbrev pub none_stored : ℕ → Stored
 none_stored vars = record { vars = vars; clauses = []; watches = record { pairs = []; lists = replicate (2 * vars + 2) [] } }
 
--- One clause more, under the id after all others, watches its first two literals.
+-- A clause is added under the next id, and watches its first two literals.
 abbrev pub added : Stored → List ℤ → Stored
 added s lits = record { vars = s.vars; clauses = s.clauses ++ Some (sorted lits) ∷ []; watches = watching_more s.watches lits (length s.clauses + 1) }
 
--- more clauses, one after another
+-- several clauses are added one after another
 unfoldable pub all_added : Stored → List (List ℤ) → Stored
 all_added s [] = s
 all_added s (c ∷ cs) = all_added (added s c) cs
 
--- the clause of an id watches `to` in place of `from`
+-- the clause with this id watches `to` instead of `from`
 abbrev pub rewatched : Stored → ℕ → ℤ → ℤ → ℕ → Stored
 rewatched s id from to index = record { vars = s.vars; clauses = s.clauses; watches = watching_moved s.watches id from to index }

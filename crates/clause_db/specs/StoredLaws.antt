@@ -1,4 +1,4 @@
--- One clause more after the others.
+-- Adding a clause.
 use Rattle.std.specs.Prelude.{◌≡◌, ℕ, zero, suc, ◌+◌, ◌-◌, ◌<◌, ◌≤◌, ◌⊎◌, ◌==◌, Bool, true, false, if◌then◌else◌, ℤ, List, [], ◌∷◌, ◌++◌, map, length, slice_get, Option, Some, None, refl}
 use Rattle.std.specs.Option.{option_flatten}
 use Rattle.std.proofs.Common.{sym, ap, ◌∙◌, arith, inl, inr, append_assoc}
@@ -28,7 +28,7 @@ added_at clauses lits (suc k) =
     let some : (suc k == 0) ≡ false = ne_eqb (suc k) 0 (λ e. omega arith) in
     rw (some, index, entry_at clauses (Some lits) k, test) (chosen_inside option_flatten (k == length clauses) (Some (Some lits)) (slice_get clauses k))
 
--- It is live under the next id, and nothing else changes.
+-- The clause is live under the next id, and nothing else changes.
 pub live_in-add : (s : Stored) (lits : List ℤ) → live_in (added s lits) ≡ with_clause (live_in s) (length s.clauses + 1) (sorted lits)
 live_in-add s lits = λ i id. added_at s.clauses (sorted lits) id i
 
@@ -69,7 +69,7 @@ chosen : {A : Type 0} (b : Bool) (x y z : A) → (if b then x else y) ≡ z → 
 chosen true x y z is = inl (refl, is)
 chosen false x y z is = inr is
 
--- a clause that is then live is the new one, or an old one
+-- a clause that is live afterwards is the new one, or an old one
 pub added_cases : (live : ℕ → Option (List ℤ)) (id : ℕ) (lits : List ℤ) (k : ℕ) (clause : List ℤ) → with_clause live id lits k ≡ Some clause → ((k ≡ id) × (lits ≡ clause)) ⊎ (live k ≡ Some clause)
 added_cases live id lits k clause is =
     ⊎_elim

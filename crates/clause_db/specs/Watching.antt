@@ -1,12 +1,11 @@
--- Which literals clauses watch: two for each clause of at least two literals.
+-- The watched literals: two for each clause of at least two literals.
 use Rattle.std.specs.Prelude.{◌≡◌, ℕ, ◌+◌, ◌-◌, ◌*◌, if◌then◌else◌, nat_lt, ℤ, pos, List, [], ◌∷◌, ◌++◌, length, slice_index_or, slice_set}
 use Rattle.std.specs.List.{swap_remove}
 use Rattle.std.specs.Ordering.{int_eq}
 use Rattle.cdcl_theory.specs.Codes.{code_of}
 use Rattle.clause_db.specs.declared.watches.Pair.{Pair}
 
--- the watched pair of each id, and for each literal, by its code, the ids of the clauses that watch
--- it
+-- the watched pair of each id, and for each literal, by its code, the ids of the clauses that watch it
 pub record Watching : Type 0 where
   pub pairs : List Pair
   pub lists : List (List ℕ)
@@ -26,11 +25,11 @@ no_pair = record { first = pos 1; second = pos 1 }
 abbrev pub pair_at : Watching → ℕ → Pair
 pair_at w id = slice_index_or w.pairs (id - 1) (record { first = pos 1; second = pos 1 })
 
--- the first two literals; 1 is in place of a missing one
+-- the first two literals; 1 replaces a missing one
 abbrev pub pair_of : List ℤ → Pair
 pair_of lits = record { first = slice_index_or lits 0 (pos 1); second = slice_index_or lits 1 (pos 1) }
 
--- one id more at the end of a literal's watch list
+-- an id appended to a literal's watch list
 abbrev pub with_id : List (List ℕ) → ℤ → ℕ → List (List ℕ)
 with_id lists l id = slice_set lists (code_of l) (listed_in lists l ++ id ∷ [])
 
@@ -41,11 +40,11 @@ with_ids lists lits id = if nat_lt (length lits) 2 then lists else with_id (with
 abbrev pub watching_more : Watching → List ℤ → ℕ → Watching
 watching_more w lits id = record { pairs = w.pairs ++ pair_of lits ∷ []; lists = with_ids w.lists lits id }
 
--- the pair with `to` in place of `from`
+-- the pair with `to` instead of `from`
 abbrev pub replaced : Pair → ℤ → ℤ → Pair
 replaced p from to = if int_eq p.first from then record { first = to; second = p.second } else record { first = p.first; second = to }
 
--- A clause watches `to` in place of `from`, in whose watch list it was at an index.
+-- A clause watches `to` instead of `from`, in whose watch list it was at an index.
 abbrev pub watching_moved : Watching → ℕ → ℤ → ℤ → ℕ → Watching
 watching_moved w id from to index = record {
   pairs = slice_set w.pairs (id - 1) (replaced (pair_at w id) from to);

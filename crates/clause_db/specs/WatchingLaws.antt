@@ -1,4 +1,4 @@
--- How watch lists change.
+-- Watch lists after changes.
 use Rattle.std.specs.Prelude.{◌≡◌, ◌≢◌, ℕ, ◌+◌, ◌-◌, ◌<◌, ◌≤◌, ◌⊎◌, ℤ, pos, List, [], ◌∷◌, ◌++◌, length, take, slice_index_or, slice_set, replicate, Contains, AllPairs, refl}
 use Rattle.std.specs.List.{swap_remove}
 use Rattle.std.proofs.Common.{sym, ap, ◌∙◌, arith, inl, inr}

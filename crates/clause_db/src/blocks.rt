@@ -1,10 +1,9 @@
-//! The clause arena: lists of literals in one row, one after another. Before the literals of each
-//! list are its id, which is 1 + its index, and its length, both as literals whose variable is 1 +
-//! the number. So a list and its id are read by the position where it begins, with no table. The
-//! invariant: the ranges lie in the row, one after another with at least two places between them,
-//! and the ids are right. An exchange of literals in one list leaves the ids, the lengths and all
-//! other lists unchanged. A list that is emptied leaves a gap until `pack` moves the lists after it
-//! down; that goes list by list, and the invariant holds after each.
+//! The clause arena: lists of literals in one vector, one after another. Each list has two entries before it,
+//! its id (1 + its index) and its length, both encoded as literals whose variable is 1 + the number. So a
+//! list and its id are read by the position where it begins, with no table. The invariant: the ranges lie in
+//! the vector, one after another with at least two entries between them, and the ids are right. Swapping
+//! literals of one list leaves ids, lengths and all other lists unchanged. An emptied list leaves a gap until
+//! `pack` moves the lists after it down, list by list; the invariant holds after each.
 ghost use Rattle.std.specs.Prelude.{◌≡◌, [], ◌∷◌, ◌++◌, ◌<◌, ◌+◌, ◌-◌, ◌^◌, length, take, slice_index_or, slice_set, IfOk, OnOk, OnErr};
 ghost use Rattle.std.specs.List.{swap};
 ghost use Rattle.sat_theory.specs.Formula.{variable as variable_of};
@@ -16,8 +15,8 @@ use cnf_core::Lit;
 use std::alloc::{AllocError, Global};
 use std::marker::Model;
 
-/// Lists of literals, one after another in one row, without an allocation for each. Contracts see
-/// the lists, and where in the row each begins.
+/// Lists of literals, one after another in one vector, without an allocation for each. Contracts see the
+/// lists, and where each begins.
 #[derive(Drop)]
 pub(crate) struct Blocks {
     row: Vec<Lit>,
@@ -46,8 +45,8 @@ impl Blocks {
         Ok(Blocks { row, starts })
     }
 
-    /// Appends a list. A row of more than 2,147,483,647 places is an error too; each list takes two
-    /// places more than it has literals.
+    /// Appends a list. A vector of more than 2,147,483,647 entries is an error too; each list takes two
+    /// entries more than it has literals.
     pub(crate) fn push(&mut self, lits: &[Lit]) -> Result<(), AllocError>
         ensures ok { OnOk result (self.new.lists ≡ self.old.lists ++ lits.now ∷ []) }
         ensures kept { OnOk result (KeepsIds self.old self.new (length self.old.lists)) }
@@ -85,8 +84,8 @@ impl Blocks {
         self.row[start - 1] = written(0);
     }
 
-    /// Moves each list to begin two places after the end of the one before it, and frees the places
-    /// after the last one. The ids stay, and the positions where lists begin change.
+    /// Moves each list to begin two entries after the end of the one before it, and frees the rest. The ids
+    /// stay, and the positions where lists begin change.
     pub(crate) fn pack(&mut self)
         ensures lists { self.new.lists ≡ self.old.lists }
         ensures ids { AreIds self.new }
@@ -98,15 +97,15 @@ impl Blocks {
         self.cut(end);
     }
 
-    /// How many lists there are.
+    /// The number of lists.
     fn count(&self) -> usize
         ensures { result ≡ length self.now.lists }
     {
         self.starts.len()
     }
 
-    /// Moves the list at an index, with the two places before it, down to `end`, where the one
-    /// before it ends, and answers where it then ends.
+    /// Moves the list at an index, with the two entries before it, down to `end`, the end of the list before
+    /// it, and returns its new end.
     fn move_down(&mut self, index: usize, end: usize) -> usize
         requires inside { index < length self.old.lists }
         requires before { end ≡ end_before self.old index }
@@ -123,7 +122,7 @@ impl Blocks {
         end + 2 + (past - start)
     }
 
-    /// Frees the places after the last list, which ends at `end`.
+    /// Frees the entries after the last list, which ends at `end`.
     fn cut(&mut self, end: usize)
         requires { end ≡ end_before self.old (length self.old.lists) }
         ensures lists { self.new.lists ≡ self.old.lists }
@@ -180,7 +179,7 @@ impl Blocks {
     }
 }
 
-/// A number as a literal of the row.
+/// A number encoded as a literal.
 fn written(number: usize) -> Lit
     requires { number < 2 ^ 31 - 1 }
     ensures { variable_of result ≡ number + 1 }

@@ -1,10 +1,10 @@
-//! Clauses with their ids and what they watch. The literals of each clause stand once, in an order in
-//! which the two that it watches come first; contracts see them in the order of their codes, so a
-//! clause that watches another literal is the same to them. Besides what contracts see there are: in
-//! each watch list, where contracts see ids, a blocking literal and the position of the clause. The
-//! invariant of `Watches` ties the positions to the ids. So `compact` moves literals, and contracts
-//! see no change. Every call states its effect as an equation on what contracts see (`added`,
-//! `rewatched`), so what the solver needs of watches are laws about these.
+//! Clauses with their ids and watched literals. The literals of each clause are stored once, the two watched
+//! ones first; contracts see them in the order of their codes, so replacing a watched literal doesn't change
+//! the clause for them. Beyond what contracts see, each entry of a watch list has a blocking literal and the
+//! arena position of the clause, where contracts see its id. The invariant of `Watches` relates positions and
+//! ids. So `compact` moves literals, and contracts see no change. Every method states its effect as an
+//! equation on what contracts see (`added`, `rewatched`), so the facts that the solver needs about watches
+//! are laws about these.
 ghost use Rattle.std.specs.Prelude.{◌≡◌, ◌≢◌, ℕ, ◌+◌, ◌<◌, ◌≤◌, ◌⊎◌, ◌↔◌, ℤ, Some, IsTrue, IsSome, IfOk, OnOk, OnErr};
 ghost use Rattle.std.specs.Prelude.{List, [], ◌∷◌, map, length, slice_index_or, Contains, All, AllPairs};
 ghost use Rattle.sat_theory.specs.Formula.{variable as variable_of, IsClause, IsWithin};
@@ -23,10 +23,9 @@ use cnf_core::{Cnf, Lit};
 use std::alloc::{AllocError, Global};
 use std::marker::Model;
 
-/// Clauses by their ids, which are 1, 2 and so on, over the variables of one formula. Each clause
-/// of at least two literals watches two of them. Contracts see the variables, a list with an entry
-/// for each id that was given (its clause, where that is live), the watched pairs, and for each
-/// literal a list of ids.
+/// Clauses over the variables of one formula, by their ids 1, 2 and so on. Each clause of at least two
+/// literals watches two of them. Contracts see the variables, a list with an entry for each id given so far
+/// (its clause, if that is live), the watched pairs, and for each literal a list of ids.
 #[derive(Drop)]
 pub struct ClauseDb {
     vars: u32,
@@ -52,9 +51,9 @@ impl Model for ClauseDb {
 
 #[tactic(auto, using(crate::proofs::Databases::databases))]
 impl ClauseDb {
-    /// The clauses of a formula, under the ids that they have there. Each watches its first two
-    /// literals. The literals of all clauses, and two places more for each clause, are at most
-    /// 2,147,483,647; more count as running out of memory.
+    /// The clauses of a formula, under their ids there. Each watches its first two literals. The literals of
+    /// all clauses, and two entries more for each clause, are at most 2,147,483,647; more count as running
+    /// out of memory.
     pub fn new(alloc: Global, cnf: &Cnf) -> Result<ClauseDb, AllocError>
         ensures all { IfOk result (λ c. c ≡ all_added (none_stored cnf.now.vars) cnf.now.clauses) }
         ensures clauses { IfOk result (λ c. live_in c ≡ by_id (map sorted cnf.now.clauses)) }
@@ -81,10 +80,10 @@ impl ClauseDb {
         })
     }
 
-    /// Adds a clause over the variables of the formula, and answers its id, 1 + the last one. It
-    /// watches its first two literals. The literals of all clauses, and two places more for each id
-    /// that was given, are at most 2,147,483,647; more count as running out of memory. Those of a
-    /// deleted clause count until `compact`.
+    /// Adds a clause over the variables of the formula, and returns its id, 1 + the last one. It watches its
+    /// first two literals. The literals of all clauses, and two entries more for each id given so far, are at
+    /// most 2,147,483,647; more count as running out of memory. Those of a deleted clause count until
+    /// `compact`.
     pub fn add(&mut self, lits: &[Lit]) -> Result<u32, AllocError>
         requires clause { IsClause lits.now }
         requires variables { IsWithin self.old.vars lits.now }
@@ -105,8 +104,7 @@ impl ClauseDb {
         }
     }
 
-    /// The literals of a live clause in an order of their own: the two that it watches, if any,
-    /// come first.
+    /// The literals of a live clause in their stored order: the two watched ones, if any, come first.
     pub fn arranged(&self, id: u32) -> &[Lit]
         requires live { IsSome (live_in self.now id) }
         ensures value { live_in self.now id ≡ Some (sorted result.now) }
@@ -134,7 +132,7 @@ impl ClauseDb {
         self.watches.entry_block(lit, index)
     }
 
-    /// Whether an id is that of a live clause.
+    /// Whether the clause with this id is live.
     pub fn live(&self, id: u32) -> bool
         ensures { IsTrue result ↔ IsSome (live_in self.now id) }
     {
@@ -147,7 +145,7 @@ impl ClauseDb {
         }
     }
 
-    /// How many variables the formula has.
+    /// The number of variables of the formula.
     pub fn vars(&self) -> u32
         ensures value { result ≡ self.now.vars }
         ensures whole { IsStored self.now }
@@ -155,7 +153,7 @@ impl ClauseDb {
         self.vars
     }
 
-    /// The last id that was given; 0 where there is none.
+    /// The last id given; 0 if there is none.
     pub fn last(&self) -> u32
         ensures value { result ≡ length self.now.clauses }
         ensures whole { IsStored self.now }
@@ -177,8 +175,8 @@ impl ClauseDb {
         (pair.first, pair.second)
     }
 
-    /// The clauses that watch a literal of the formula's variables, each once, with one literal of
-    /// each. `id_at` reads their ids.
+    /// The watch list of a literal of the formula's variables: for each clause that watches it an entry with
+    /// a blocking literal of the clause. `id_at` reads the ids.
     pub fn watching(&self, lit: Lit) -> &[Watch]
         requires { variable_of lit ≤ self.now.vars }
         ensures exact { (id : ℕ) → Contains (list_of self.now.watches lit) id ↔ WatchesOf self.now id lit }
@@ -201,8 +199,8 @@ impl ClauseDb {
         self.watches.id_at(lit, index)
     }
 
-    /// Makes `by`, a literal of the clause at an index in the watch list of `lit`, the blocking
-    /// literal of that entry. Nothing else changes.
+    /// Makes `by`, a literal of the clause at an index in the watch list of `lit`, the blocking literal of
+    /// that entry. Contracts see no change.
     pub fn block(&mut self, lit: Lit, index: usize, by: Lit)
         requires over { variable_of lit ≤ self.old.vars }
         requires inside { index < length (list_of self.old.watches lit) }
@@ -213,11 +211,10 @@ impl ClauseDb {
         self.watches.set(lit, index, by);
     }
 
-    /// Makes the clause at an index in the watch list of `from` watch `to`, another one of its
-    /// literals, in place of `from`. In that list the last entry takes its place, and the list of
-    /// `to` gets it at the end.
+    /// Makes the clause at an index in the watch list of `from` watch `to`, another one of its literals,
+    /// instead of `from`. In that list the last entry takes its place; in the list of `to` it is appended.
     ///
-    /// place: the index of `to` in `arranged`; with another number it is searched for.
+    /// place: the index of `to` in `arranged`; if it isn't there, it is searched for.
     pub fn rewatch_at(
         &mut self,
         from: Lit,
@@ -234,8 +231,8 @@ impl ClauseDb {
         Ok(())
     }
 
-    /// Deletes a live clause. Its id is never given again. In the watch lists of the clause the
-    /// last entry takes its place. `compact` frees the room of its literals.
+    /// Deletes a live clause. Its id is never reused. In its watch lists the last entry takes its place.
+    /// `compact` frees the memory of its literals.
     pub fn delete(&mut self, id: u32)
         requires { IsSome (live_in self.old id) }
         ensures live { live_in self.new ≡ without (live_in self.old) (id ∷ []) }
@@ -254,7 +251,7 @@ impl ClauseDb {
         self.live[id as usize - 1] = false;
     }
 
-    /// Frees the room of deleted clauses, in place. Contracts see no change.
+    /// Frees the memory of deleted clauses, in place. Contracts see no change.
     pub fn compact(&mut self)
         ensures same { self.new ≡ self.old }
         ensures whole { IsStored self.new }
@@ -262,8 +259,8 @@ impl ClauseDb {
         self.watches.compact();
     }
 
-    /// As `rewatch_at`, where the index isn't known: makes a clause that watches `from` watch `to`,
-    /// another one of its literals, in place of it.
+    /// As `rewatch_at`, for an unknown index: makes a clause that watches `from` watch `to`, another one of
+    /// its literals, instead.
     pub fn rewatch(&mut self, id: u32, from: Lit, to: Lit) -> Result<(), AllocError>
         requires from { WatchesOf self.old id from }
         requires there { (clause : List ℤ) → live_in self.old id ≡ Some clause → Contains clause to }

@@ -1,20 +1,18 @@
-//! The clause database of a solver: the clauses of a formula and those that are added, by their
-//! ids. `cnf_core` has the formulas and literals, `sat_theory` says what a clause is, and
-//! `cdcl_theory` has the codes of literals. The words of the solver: see the table in `cdcl_core`.
+//! The clause database of a solver: the clauses of a formula and those added later, by their ids. It builds
+//! on the formulas and literals of `cnf_core`, on the clauses of `sat_theory` and on the literal codes of
+//! `cdcl_theory`. The table in `cdcl_core` relates the names to those of MiniSat and CaDiCaL.
 //!
-//! Contracts see a list with an entry for each id that was given, the clause where it is live;
-//! `add` appends one entry, `delete` empties one, and `arranged` and `live` read. Each clause of at
-//! least two literals watches two of them: `watched` answers which, `watching` and `id_at` give the
-//! clauses that watch a literal, and `rewatch` makes a clause watch another one (Moskewicz and
-//! others, "Chaff", 2001).
+//! Contracts see a list with an entry for each id given so far, the clause if it is live; `add` appends an
+//! entry, `delete` empties one, and `arranged` and `live` read. Each clause of at least two literals watches
+//! two of them: `watched` returns these, `watching` and `id_at` give the clauses that watch a literal, and
+//! `rewatch` replaces a watched literal (Moskewicz and others, "Chaff", 2001).
 //!
-//! The literals of a clause stand once, in one row with those of all clauses: the watched two first,
-//! so that propagation finds all that it reads of a clause side by side. A clause that watches another
-//! literal exchanges it with the one that it gives up. So the order in which they were added is lost,
-//! and contracts see the literals in the order of their codes.
+//! The literals of all clauses are stored in one arena, each once, the two watched ones of a clause first, so
+//! propagation reads adjacent memory. A clause that watches another literal swaps it with the one it gives
+//! up. So the original order is lost, and contracts see the literals in the order of their codes.
 //!
-//! An entry of a watch list has a literal of its clause, the blocking literal, which `block`
-//! replaces by another one (Sörensson and Eén, "MiniSat 2.1", 2008).
+//! An entry of a watch list has a literal of its clause, the blocking literal, which `block` replaces
+//! (Sörensson and Eén, "MiniSat 2.1", 2008).
 //!
 //! ```text
 //! let mut clauses = ClauseDb::new(alloc, &cnf)?;     // the clauses 1 to 4

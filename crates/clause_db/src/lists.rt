@@ -1,7 +1,6 @@
-//! The watch list of a literal: for each clause that watches it a blocking literal, and the
-//! position where its literals begin. Both are in one struct, so no two lists have to be equally
-//! long, and a visit reads no table of starts. While clauses are moved, entries have ids in place
-//! of the starts.
+//! The watch list of a literal: for each clause that watches it a blocking literal, and the arena position
+//! where its literals begin. Both are in one struct, so lists can't differ in length, and a visit needs no
+//! table of starts. While clauses are moved, entries have ids instead of starts.
 ghost use Rattle.std.specs.Prelude.{◌≡◌, ◌-◌, ◌<◌, ◌∷◌, [], ◌++◌, length, take, map, slice_index_or, slice_set, All, IfOk, OnOk, OnErr};
 ghost use Rattle.std.specs.List.{swap_remove};
 ghost use Rattle.clause_db.specs.Lists.{no_watch, blocked_by, named, placed, IsDirect, IsNamed};
@@ -14,13 +13,13 @@ use std::marker::Model;
 /// An entry of a watch list: a clause that watches the literal.
 #[derive(Clone, Copy)]
 pub struct Watch {
-    /// The blocking literal: one of the clause, so while it is true, the clause is.
+    /// The blocking literal, one of the clause's: while it is true, the clause is.
     pub blocker: Lit,
-    /// the position where its literals begin
+    /// the arena position where its literals begin
     pub(crate) start: u32,
 }
 
-/// The watch list of a literal. Contracts see the entries.
+/// The watch list of a literal. Contracts see its entries.
 #[derive(Drop)]
 pub(crate) struct WatchList {
     entries: Vec<Watch>,
@@ -36,7 +35,7 @@ impl Model for WatchList {
 
 #[tactic(auto, using(crate::proofs::Listed::entries))]
 impl WatchList {
-    /// No entry, with room for `room` entries.
+    /// The empty list, with capacity for `room` entries.
     pub(crate) fn none(alloc: Global, room: usize) -> Result<WatchList, AllocError>
         ensures { IfOk result (λ list. list ≡ []) }
     {

@@ -1,12 +1,12 @@
-//! How much room the clauses of a formula take, so that no list grows while they are added. It is
-//! counted and never relied on: no contract speaks of it, and with other numbers lists would grow.
+//! The capacities that the clauses of a formula need, so that no list grows while they are added. No contract
+//! depends on them: with other numbers, lists would grow.
 use cnf_core::{Cnf, Lit};
 use std::alloc::{AllocError, Global};
 
-/// What is kept free for what is added later: an eighth more, and a few.
+/// Spare capacity for later additions: an eighth more, and this number.
 const FEW: usize = 8;
 
-/// The numbers of clauses, of their literals, and of those that watch each literal, by its code.
+/// The numbers of clauses, of their literals, and of the clauses that watch each literal, by its code.
 #[derive(Drop)]
 pub(crate) struct Room {
     clauses: usize,
@@ -15,7 +15,7 @@ pub(crate) struct Room {
 }
 
 impl Room {
-    /// Counts the clauses of a formula, each of which watches its first two literals.
+    /// Counts for a formula whose clauses watch their first two literals.
     pub(crate) fn of(alloc: Global, cnf: &Cnf) -> Result<Room, AllocError> {
         let mut watching = vec![in alloc; 0; 2 * cnf.vars() as usize + 2]?;
         let mut literals: usize = 0;
@@ -31,17 +31,17 @@ impl Room {
         })
     }
 
-    /// For how many clauses there is to be room.
+    /// The capacity for clauses.
     pub(crate) fn clauses(&self) -> usize {
         with_more(self.clauses)
     }
 
-    /// For how many literals there is to be room.
+    /// The capacity for literals.
     pub(crate) fn literals(&self) -> usize {
         with_more(self.literals)
     }
 
-    /// For how many entries there is to be room in the watch list of a literal's code.
+    /// The capacity of the watch list of a literal, by its code.
     pub(crate) fn watching(&self, code: usize) -> usize {
         match self.watching.get(code) {
             Some(0) => 0,
@@ -51,7 +51,7 @@ impl Room {
     }
 }
 
-/// Counts the first two literals, if there are two.
+/// Counts the first two literals of a clause, if it has two.
 fn count_first_two(watching: &mut [u32], lits: &[Lit]) {
     if lits.len() < 2 {
         return;
@@ -67,7 +67,7 @@ fn count(watching: &mut [u32], code: usize) {
     }
 }
 
-/// A number, and what is kept free besides.
+/// A number with spare capacity.
 fn with_more(count: usize) -> usize {
     count.saturating_add(count / 8).saturating_add(FEW)
 }

@@ -1,9 +1,8 @@
-//! Which clauses watch a literal. A clause watches the first two of its literals in an order of
-//! their own, so no pair is kept, and an entry of a watch list has the position where they begin,
-//! which the invariant ties to the table of starts. Moving a watch reads its entry once: it is
-//! a push to one list, an exchange of two literals, and a removal from another list. The push comes
-//! first, since it alone can run out of memory. While the literals of all clauses move, entries have
-//! ids in place of starts.
+//! The watch lists. A clause watches the first two literals of its stored order, so no pair is kept, and an
+//! entry of a watch list has the arena position of its clause, which the invariant relates to the table of
+//! starts. Moving a watch reads its entry once: a push to one list, a swap of two literals, and a removal
+//! from another list. The push comes first, since it alone can run out of memory. While literals move in the
+//! arena, entries have ids instead of starts.
 ghost use Rattle.std.specs.Prelude.{◌≡◌, ◌≢◌, ◌⊎◌, ◌↔◌, ℤ, IsTrue, ◌+◌, ◌-◌, ◌*◌, ◌<◌, ◌≤◌, [], length, take, map, All, Contains, pos, slice_index_or, slice_set, replicate, IfOk, OnOk, OnErr};
 ghost use Rattle.std.specs.List.{swap_remove};
 ghost use Rattle.cdcl_theory.specs.Codes.{code_of};
@@ -20,16 +19,15 @@ use cnf_core::Lit;
 use std::alloc::{AllocError, Global};
 use std::marker::Model;
 
-/// The two literals that a clause watches; where it has fewer, the literal 1 is in place of a
-/// missing one.
+/// The two watched literals of a clause; if it has fewer, the literal 1 replaces a missing one.
 #[derive(Clone, Copy)]
 pub(crate) struct Pair {
     pub(crate) first: Lit,
     pub(crate) second: Lit,
 }
 
-/// The literals of each clause, by its id, of which it watches the first two, and for each literal,
-/// by its code, its watch list.
+/// The literals of each clause, by its id (it watches the first two), and the watch list of each literal, by
+/// its code.
 #[derive(Drop)]
 pub(crate) struct Watches {
     blocks: Blocks,
@@ -65,7 +63,7 @@ impl Watches {
         })
     }
 
-    /// The literals of an id: those that it watches come first.
+    /// The literals of the clause with this id, the watched ones first.
     pub(crate) fn block(&self, id: u32) -> &[Lit]
         requires some { 0 < id }
         requires given { id ≤ length self.now.blocks }
@@ -74,7 +72,7 @@ impl Watches {
         self.blocks.get(id as usize - 1)
     }
 
-    /// The two literals that an id watches.
+    /// The watched literals of the clause with this id.
     pub(crate) fn pair(&self, id: u32) -> Pair
         requires some { 0 < id }
         requires given { id ≤ length self.now.blocks }
@@ -102,7 +100,7 @@ impl Watches {
         self.blocks.id(watch.start)
     }
 
-    /// Whether an id is at an index in a watch list. The starts are compared, so no clause is read.
+    /// Whether an id is at an index in a watch list. It compares the starts, so no clause is read.
     pub(crate) fn stands_at(&self, lit: Lit, index: usize, id: u32) -> bool
         requires room { code_of lit < length self.now.lists }
         requires inside { index < length (listed_in self.now.lists lit) }
@@ -195,9 +193,9 @@ impl Watches {
         self.lists[lit.code()].set(index, by);
     }
 
-    /// Makes a clause watch `to`, another one of its literals, in place of `from`, in whose watch
-    /// list it is at an index. The two are exchanged; `to` is looked for at `place` first. Its
-    /// blocking literal in the list of `to` is the literal that it goes on watching.
+    /// Makes a clause watch `to`, another one of its literals, instead of `from`, in whose watch list it is
+    /// at an index. The two are swapped; `to` is looked for at `place` first. The blocking literal of the new
+    /// entry is the other watched literal.
     pub(crate) fn move_to(
         &mut self,
         from: Lit,
@@ -228,8 +226,7 @@ impl Watches {
         Ok(())
     }
 
-    /// Removes an id from two watch lists, at the indices `index` and `place`, and empties its
-    /// literals.
+    /// Removes an id from two watch lists, at the indices `index` and `place`, and empties its literals.
     pub(crate) fn leave(&mut self, id: u32, one: Lit, index: usize, other: Lit, place: usize)
         requires some { 0 < id }
         requires given { id ≤ length self.old.blocks }
@@ -252,8 +249,8 @@ impl Watches {
         self.blocks.empty(id as usize - 1);
     }
 
-    /// Frees the room of emptied literals. Those of each clause may begin elsewhere afterwards, so
-    /// each entry has the id of its clause meanwhile, and then its new start.
+    /// Frees the memory of emptied lists. The others may move, so entries have the ids of their clauses
+    /// meanwhile, and then the new starts.
     pub(crate) fn compact(&mut self)
         ensures { self.new ≡ self.old }
     {
@@ -292,7 +289,7 @@ fn all_starts_for_ids(lists: &mut [WatchList], blocks: &Blocks)
     }
 }
 
-/// The first two literals; 1 is in place of a missing one.
+/// The first two literals; 1 replaces a missing one.
 fn first_two(lits: &[Lit]) -> Pair
     ensures { result ≡ pair_of lits.now }
 {

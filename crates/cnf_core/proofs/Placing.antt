@@ -1,4 +1,4 @@
--- A literal is kept as the index of its entry.
+-- A literal is stored as its index in tables.
 use Rattle.std.proofs.lemmas.Grind.{common_steps}
 use Rattle.cnf_core.specs.CodeLaws.{code_of-literal_of, literal_of-code_of, variable-literal_of, opposite-literal_of, positive-even, even-positive}
 

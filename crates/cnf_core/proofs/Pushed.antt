@@ -1,4 +1,4 @@
--- One more clause in a formula.
+-- A clause is appended to a formula.
 use Rattle.std.proofs.Common.{◌≡◌, ℕ, ◌+◌, ◌<◌, ℤ, List, [], ◌∷◌, ◌++◌, length, arith, length-append}
 use Rattle.std.proofs.lemmas.List.Elements.{All-push}
 use Rattle.sat_theory.specs.Formula.{IsClause, IsWithin}

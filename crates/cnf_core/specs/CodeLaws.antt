@@ -1,4 +1,4 @@
--- Each literal has an entry of its own, and a table has room for them.
+-- Distinct literals have distinct table indices, and a table has room for all of them.
 use Rattle.std.specs.Prelude.{◌≡◌, ℕ, zero, suc, ◌+◌, ◌-◌, ◌*◌, ◌/◌, ◌%◌, ◌<◌, ◌≤◌, ◌⊎◌, ◌<ℤ◌, ℤ, pos, negsuc, refl}
 use Rattle.std.specs.Int.Bits.{bit_xor, xor_step, xor_zero_r}
 use Rattle.std.proofs.Common.{◌∙◌, sym, subst, ap, arith, inl, inr, rules}
@@ -7,7 +7,7 @@ use Rattle.std.proofs.lemmas.Bool.{cases_lt}
 use Rattle.sat_theory.specs.Formula.{variable, opposite}
 use Rattle.cnf_core.specs.Codes.{code_of, literal_of}
 
--- each literal has its own entry
+-- distinct literals have distinct indices
 pub code_of-same : (l m : ℤ) → code_of l ≡ code_of m → l ≡ m
 code_of-same (pos a) (pos b) e = let h : 2 * a ≡ 2 * b = e in let same : a ≡ b = omega arith in ap (λ (n : ℕ). pos n) same
 code_of-same (pos a) (negsuc b) e = let h : 2 * a ≡ 2 * suc b + 1 = e in absurd (omega arith)

@@ -1,4 +1,4 @@
-//! Assignments, and what satisfies a formula: each clause has to have a literal that is true.
+//! Assignments, and the test whether one satisfies a formula: each clause needs a true literal.
 ghost use Rattle.std.specs.Prelude.{◌≡◌, ◌↔◌, IsTrue, length};
 ghost use Rattle.sat_theory.specs.Formula.{bits_of, literal_value as literal_value_of, IsTrueClause, Satisfies, variable};
 
@@ -51,7 +51,7 @@ fn is_true(bits: &[bool], clause: &Clause) -> bool
     clause.lits().iter().any(|lit| literal_value(bits, *lit))
 }
 
-/// The bit of a literal; variables after the end of `bits` are 0.
+/// The value of a literal; a variable beyond the end of `bits` counts as false.
 fn literal_value(bits: &[bool], lit: Lit) -> bool
     ensures { result ≡ literal_value_of (bits_of bits.now) lit }
 {

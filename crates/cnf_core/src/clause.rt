@@ -1,5 +1,5 @@
-//! Clauses. That the literals have different variables is an invariant of the type: shown once,
-//! where a clause is made, and known wherever one is read.
+//! Clauses. The type's invariant says that the literals have different variables: it is shown once, where a
+//! clause is made, and known wherever one is read.
 ghost use Rattle.std.specs.Prelude.{◌≡◌, ◌↔◌, IsTrue};
 ghost use Rattle.sat_theory.specs.Formula.{IsClause, IsWithin};
 
@@ -41,7 +41,7 @@ impl Clause {
         &self.lits
     }
 
-    /// Whether its variables are 1 to `vars`.
+    /// Whether all its variables are among 1 to `vars`.
     pub fn is_within(&self, vars: u32) -> bool
         ensures { IsTrue result ↔ IsWithin vars self.now }
     {

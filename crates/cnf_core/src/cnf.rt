@@ -1,5 +1,5 @@
-//! Formulas in conjunctive normal form (CNF). Their bounds are an invariant of the type, so ids and
-//! variables never exceed 32 bits, not even with all clauses that a log adds.
+//! Formulas in conjunctive normal form (CNF). The type's invariant bounds variables and clauses, so that ids
+//! and variables fit in 32 bits even with all clauses that a log adds.
 ghost use Rattle.std.specs.Prelude.{◌≡◌, ◌↔◌, ◌<◌, ◌+◌, [], ◌∷◌, ◌++◌, length, Contains, IsTrue, OnOk, OnErr};
 ghost use Rattle.sat_theory.specs.Formula.{IsWithin};
 ghost use Rattle.cnf_core.specs.Bounds.{IsCnf};
@@ -52,7 +52,7 @@ impl Cnf {
         Ok(())
     }
 
-    /// How many variables it has.
+    /// The number of variables.
     pub fn vars(&self) -> u32
         ensures value { result ≡ self.now.vars }
         ensures whole { IsCnf self.now }
@@ -68,7 +68,7 @@ impl Cnf {
         &self.clauses
     }
 
-    /// Whether the empty clause is one of its clauses.
+    /// Whether the formula has the empty clause.
     pub fn has_empty(&self) -> bool
         ensures value { IsTrue result ↔ Contains self.now.clauses [] }
         ensures whole { IsCnf self.now }

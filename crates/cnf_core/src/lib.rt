@@ -1,7 +1,7 @@
 //! Literals, clauses and formulas in conjunctive normal form, and whether an assignment satisfies
 //! them, by the definitions of `sat_theory`, which contracts here cite.
 //!
-//! The one theorem: `satisfied` is true exactly where each clause has a true literal.
+//! The one theorem: `satisfied` returns true if and only if each clause has a true literal.
 //!
 //! ```text
 //! let mut cnf = Cnf::new(alloc, 2);

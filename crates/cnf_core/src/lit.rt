@@ -1,6 +1,5 @@
-//! Literals, kept as their table index: the opposite is the neighbouring index, and an entry is
-//! read without computing. That index and number determine each other rests on two laws
-//! (`CodeLaws`).
+//! Literals, stored as table indices: the opposite literal is the neighbouring index (one bit flipped), and a
+//! table entry is read without arithmetic. Index and DIMACS number determine each other (`CodeLaws`).
 ghost use Rattle.std.specs.Prelude.{◌≡◌, ℕ, ℤ, pos, ◌<◌, ◌^◌, ◌<ℤ◌, ◌↔◌, IsTrue};
 ghost use Rattle.std.specs.Ordering.{int_eq};
 ghost use Rattle.std.specs.Cmp.Rules.{comparing};
@@ -11,9 +10,9 @@ ghost use Rattle.sat_theory.specs.Formula.{variable as variable_of, opposite as 
 
 use std::marker::Model;
 
-/// A literal: a variable from 1 to 2147483647, and a sign. Contracts see it as a number, as DIMACS
-/// writes it: 3 says that variable 3 is true, -3 that it is false. It is kept as the index of its
-/// entry in tables (6 and 7 in the example).
+/// A literal: a variable from 1 to 2147483647, and a sign. Contracts see it as its DIMACS number: 3 means
+/// that variable 3 is true, -3 that it is false. It is stored as its index in tables over literals (6 and 7
+/// in the example).
 #[derive(Clone, Copy)]
 pub struct Lit(u32);
 
@@ -47,7 +46,7 @@ impl PartialEq for Lit {
 
 #[tactic(auto, using(crate::proofs::Placing::placing))]
 impl Lit {
-    /// The literal that `number` writes in DIMACS.
+    /// The literal with this DIMACS number.
     pub fn new(number: i32) -> Lit
         requires { IsLit number }
         ensures { result ≡ number }
@@ -58,7 +57,7 @@ impl Lit {
         Lit(2 * number.unsigned_abs() + 1)
     }
 
-    /// The literal of `variable` that is positive where `positive`.
+    /// The literal of `variable`: the positive one if `positive`, else the negative one.
     pub fn of(variable: u32, positive: bool) -> Lit
         requires some { 0 < variable }
         requires small { variable < 2 ^ 31 }
@@ -71,7 +70,7 @@ impl Lit {
         Lit(2 * variable + 1)
     }
 
-    /// The number that writes it.
+    /// Its DIMACS number.
     pub fn get(self) -> i32
         ensures value { result ≡ self }
         ensures whole { IsLit self }
@@ -107,8 +106,8 @@ impl Lit {
         self.0 % 2 == 0
     }
 
-    /// The index of its entry in a table over all literals: 2 v for the variable v, 2 v + 1 for its
-    /// opposite. A table of 2 n + 2 entries has room for the variables 1 to n.
+    /// Its index in a table over all literals: 2 v for the variable v, 2 v + 1 for its opposite. A table of 2
+    /// n + 2 entries has room for the variables 1 to n.
     pub fn code(self) -> usize
         ensures value { result ≡ code_of self }
         ensures small { result < 2 ^ 33 }

@@ -1,4 +1,4 @@
--- Where the walk begins, and what it ends with.
+-- The start of the resolution, and its result.
 use Rattle.std.proofs.Common.{◌≡◌, ◌≢◌, ℕ, suc, ◌+◌, ◌-◌, ◌<◌, ◌≤◌, ◌⊎◌, ℤ, pos, Bool, true, List, [], ◌∷◌, ◌++◌, length, take, reverse, slice_index_or, Contains, All, Option, Some, subst, sym, ap, ◌∙◌, arith, inl, inr, refl}
 use Rattle.std.proofs.Math.Logic.{⊎_elim}
 use Rattle.std.proofs.lemmas.Bool.{both_ways, cases_lt, cases_eq}
@@ -20,7 +20,7 @@ use Rattle.trail_core.specs.Values.{IsOver}
 use Rattle.conflict_core.specs.Walking.{AreMarked, AreOthers, IsMarkedClause, HasFallenAt, IsListed, IsLastMarked, NoneMarked, OnlyBelow, IsWalk, IsClear}
 use Rattle.conflict_core.specs.Learning.{IsLearnt}
 
--- The walk begins at the falsified clause.
+-- The resolution starts with the falsified clause.
 pub walk_begun : (live : ℕ → Option (List ℤ)) (t : Trailed) (id : ℕ) (lits : List ℤ) (clear marks : List Bool) (touched : List ℤ) (none ids : List ℕ) → IsTrail t → IsClear t.vars clear → IsFalsified live (fell t) id → live id ≡ Some lits → AreMarked (fell t) lits clear marks → IsListed t.vars marks touched → none ≡ [] → ids ≡ none ++ id ∷ [] → IsWalk live t marks touched ids
 walk_begun live t id lits clear marks touched none ids trail is_clear falsified is marked listed empty ids_are = record {
   resolvent = record {
@@ -33,7 +33,7 @@ walk_begun live t id lits clear marks touched none ids trail is_clear falsified 
     fallen : All (λ l. 0 < fell t l) lits
     fallen = let here : live id ≡ Some falsified.clause = falsified.is_live in let same : falsified.clause ≡ lits = cc in subst (λ (c : List ℤ). All (λ l. 0 < fell t l) c) same falsified.fallen
 
--- where nothing is marked from an index on, what is marked fell up to it
+-- if nothing is marked from an index on, every marked literal was falsified before it
 pub marked_low : (t : Trailed) (marks : List Bool) (start high : ℕ) (m : ℤ) → IsTrail t → NoneMarked t marks start high → 0 < fell t m → fell t m ≤ high → marked_in marks m ≡ true → fell t m ≤ start
 marked_low t marks start high m trail none some under is =
     ⊎_elim
@@ -43,7 +43,7 @@ marked_low t marks start high m trail none some under is =
     (λ (early : fell t m ≤ start). early)
     (cases_lt start (fell t m))
 
--- A literal of the falsified clause fell in the level, since the state before it was closed.
+-- A literal of the falsified clause became false in the level, since the state before it was closed.
 pub conflict_in_level : (live : ℕ → Option (List ℤ)) (t : Trailed) (start id : ℕ) (marks : List Bool) → IsTrail t → start < length t.lits → IsClosed live (fell t) start → IsFalsified live (fell t) id → IsMarkedClause live marks id → NoneMarked t marks start (length t.lits) → ⊥
 conflict_in_level live t start id marks trail level closed falsified marked none =
     closed.excludes u (record {
@@ -58,7 +58,7 @@ conflict_in_level live t start id marks trail level closed falsified marked none
     at : slice_index_or t.lits start u ≡ u
     at = grind (arith, common_steps)
 
--- all marked literals but one fell up to an index
+-- all marked literals but one were falsified up to an index
 abbrev pub IsAlone : Trailed → ℕ → List Bool → ℤ → Type 0
 IsAlone t start marks first = (m : ℤ) → marked_in marks m ≡ true → (m ≡ first) ⊎ (fell t m ≤ start)
 
@@ -83,7 +83,7 @@ alone_left live t start top first marks touched ids trail at walk last none m is
 pub alone_less : (t : Trailed) (start : ℕ) (old new : List Bool) (first : ℤ) → IsAlone t start old first → OnlyBelow t start old new → IsAlone t start new first
 alone_less t start old new first alone only m is = ⊎_elim (λ (was : marked_in old m ≡ true). alone m was) (λ (low : fell t m ≤ start). inr low) (only m is)
 
--- The clause at the end of the walk is what is learnt.
+-- The final resolvent is the learnt clause.
 pub walk_learnt : (live : ℕ → Option (List ℤ)) (t : Trailed) (start top back : ℕ) (first : ℤ) (marks : List Bool) (touched lower lits : List ℤ) (ids hints : List ℕ) → IsTrail t → start ≤ top → top < length t.lits → opposite (slice_index_or t.lits top first) ≡ first → IsOver t.vars first → IsWalk live t marks touched ids → IsAlone t start marks first → AreOthers t.vars marks first lower → All (λ m. fell t m ≤ back) lower → (0 < back → HasFallenAt (fell t) lower back) → ((d : ℤ) → 0 < length lower → fell t (slice_index_or lower 0 d) ≡ back) → lits ≡ first ∷ lower → hints ≡ reverse ids → IsLearnt live t start lits back hints
 walk_learnt live t start top back first marks touched lower lits ids hints trail after within at over walk alone others low there head lits_are hints_are = rw (lits_are, hints_are) (record {
   some = omega arith;
@@ -136,13 +136,13 @@ walk_learnt live t start top back first marks touched lower lits ids hints trail
     apart : (a b : ℤ) → 0 < fell t a → 0 < fell t b → (a ≡ b → ⊥) → variable a ≡ variable b → ⊥
     apart a b down_a down_b differ same = ⊎_elim (λ (e : a ≡ b). differ e) (λ (e : a ≡ opposite b). (let up : fell t (opposite b) ≡ 0 = trail.places.one_side b down_b in let h : fell t a ≡ fell t (opposite b) = ap (fell t) e in omega arith)) (same_variable a b same)
 
--- With no decision the walk goes down to nothing.
+-- Without decisions the final resolvent is the empty clause.
 pub walk_refuted : (live : ℕ → Option (List ℤ)) (t : Trailed) (marks : List Bool) (touched : List ℤ) (ids hints : List ℕ) → IsTrail t → IsWalk live t marks touched ids → NoneMarked t marks 0 (length t.lits) → hints ≡ reverse ids → HintsHold live (among []) hints
 walk_refuted live t marks touched ids hints trail walk none are = rw are (resolvent_holds live (fell t) (length t.lits) (marked_in marks) ids [] walk.resolvent
     (λ m is. absurd (let was : IsFallen (fell t) (length t.lits) m = walk.resolvent.below m is in let low : fell t m ≤ 0 = marked_low t marks 0 (length t.lits) m trail none was.0 was.1 is in let some : 0 < fell t m = was.0 in omega arith))
     (λ k d (less : k < 0). absurd (omega arith)))
 
--- the greatest place so far
+-- the greatest position so far
 pub fallen_more : (places : ℤ → ℕ) (lits : List ℤ) (i back more : ℕ) (d l : ℤ) → i < length lits → slice_index_or lits i d ≡ l → All (λ m. places m ≤ back) (take i lits) → back ≤ more → places l ≤ more → All (λ m. places m ≤ more) (take (i + 1) lits)
 fallen_more places lits i back more d l within at low grown new = rw (take_more lits i d within, at) (All-push (λ m. places m ≤ more) (take i lits) l (All-weaker (λ m. places m ≤ back) (λ m. places m ≤ more) (λ m h. omega (arith, h, grown)) (take i lits) low) new)
 

@@ -1,4 +1,4 @@
--- Reasons by the ids that literals were pushed with.
+-- Reasons by the ids recorded with the literals.
 use Rattle.std.proofs.Common.{◌≡◌, ℕ, ◌-◌, ◌<◌, ◌↔◌, ℤ, List, Contains, Option, Some, sym, ap, ◌∙◌}
 use Rattle.sat_theory.specs.Formula.{opposite}
 use Rattle.cdcl_theory.specs.Falling.{Implies}
@@ -9,7 +9,7 @@ use Rattle.cdcl_theory.specs.TrailLaws.{others_fallen, implied_fallen}
 reason_some : (t : Trailed) (l implied : ℤ) (id : ℕ) → implied ≡ opposite l → id ≡ reason_of t implied → (id ≡ 0 → ⊥) → reason_of t (opposite l) ≡ 0 → ⊥
 reason_some t l implied id at is some none = some (is ∙ ap (reason_of t) at ∙ none)
 
--- The other literals of a reason have fallen, in whatever order they are read.
+-- The other literals of a reason are false, in whatever order they are read.
 pub others_down : (live : ℕ → Option (List ℤ)) (t : Trailed) (l implied m : ℤ) (id : ℕ) (lits : List ℤ) → IsExplained live t → 0 < fell t l → implied ≡ opposite l → id ≡ reason_of t implied → (id ≡ 0 → ⊥) → ((clause : List ℤ) → live id ≡ Some clause → (x : ℤ) → Contains lits x ↔ Contains clause x) → Contains lits m → (m ≡ implied → ⊥) → 0 < fell t m
 others_down live t l implied m id lits explained down at is some same there apart =
     others_fallen live t l m implies.clause explained down none implies.is_live ((same implies.clause (ap live (is ∙ ap (reason_of t) at) ∙ implies.is_live) m).0 there) (λ e. apart (e ∙ sym at))

@@ -1,4 +1,4 @@
--- Marking the fallen literals of a clause, and gathering those that are marked.
+-- Marking the false literals of a clause, and gathering those that are marked.
 use Rattle.std.proofs.Common.{◌≡◌, ◌↔◌, ℕ, ◌+◌, ◌<◌, ◌⊎◌, ℤ, Bool, true, Option, Some, IsSome, List, [], ◌∷◌, ◌++◌, length, take, slice_index_or, All, Contains, subst, sym, ap, ◌∙◌, arith, inl, inr, refl}
 use Rattle.std.proofs.Math.Logic.{⊎_elim}
 use Rattle.std.proofs.lemmas.Bool.{both_ways, false_from_ne_true}
@@ -15,7 +15,7 @@ use Rattle.conflict_core.specs.Walking.{AreMarked, IsMarkedBy, AreTaken, AreOthe
 first_there : (l : ℤ) → Contains (l ∷ []) l
 first_there l = (0, (let one : 0 < 1 = omega arith in one), refl)
 
--- nothing to mark: the literal hasn't fallen, or it is marked
+-- nothing to mark: the literal isn't false, or it is marked already
 pub marked_not_fallen : (places : ℤ → ℕ) (l : ℤ) (marks : List Bool) → places l ≡ 0 → AreMarked places (l ∷ []) marks marks
 marked_not_fallen places l marks up = record {
   stay = λ m is. is;
@@ -76,12 +76,12 @@ listed_unset vars old new touched l before now same = record {
     was m mark (inl e) = absurd (both_ways (marked_in new m) (ap (λ (f : ℤ → Bool). f m) now ∙ without_literal-same (marked_in old) l m e) mark)
     was m mark (inr apart) = sym (ap (λ (f : ℤ → Bool). f m) now ∙ without_literal-other (marked_in old) l m apart) ∙ mark
 
--- each literal of the list has its place in the table
+-- each literal of the list has an entry in the table
 pub listed_inside : (vars : ℕ) (marks new : List Bool) (touched : List ℤ) → IsListed vars marks touched → length new ≡ length marks → All (λ l. code_of l < length new) touched
 listed_inside vars marks new touched listed same = All-weaker (IsOver vars) (λ l. code_of l < length new) (λ l over. rw (same, listed.room) (code_of-room l vars over.1)) touched listed.over
 
--- With one literal unmarked and the others of the list taken, nothing is marked, and the taken ones
--- are the others.
+-- If one literal is unmarked and the others of the list are moved out, nothing is marked, and the gathered
+-- ones are the others.
 pub others_taken : (vars : ℕ) (old off new : List Bool) (touched others : List ℤ) (first : ℤ) → IsListed vars old touched → marked_in off ≡ without_literal (marked_in old) first → AreTaken touched off new others → AreOthers vars old first others
 others_taken vars old off new touched others first listed now taken = record {
   over = λ k d low. All-contains (IsOver vars) touched (slice_index_or others k d) listed.over (taken.inside k d low).0;

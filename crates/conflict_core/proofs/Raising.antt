@@ -1,4 +1,4 @@
--- The literal that fell last becomes the first of a list, and the others change places.
+-- The literal that became false last is swapped to the front, and the others are reordered.
 use Rattle.std.proofs.Common.{◌≡◌, ◌≢◌, ℕ, ◌<◌, ◌≤◌, ◌⊎◌, ℤ, Bool, true, List, length, slice_index_or, slice_set, Contains, All, AllPairs, subst, sym, ap, ◌∙◌, arith, inl, inr, refl}
 use Rattle.std.specs.List.{swap}
 use Rattle.std.specs.List.Sorted.{IsPermutation}
@@ -111,7 +111,7 @@ swapped_differ xs i low differ a b d less within same =
     moved a b p q less (inr (inr x)) (inr (inl y)) e = omega (arith, less, y.1)
     moved a b p q less (inr (inr x)) (inr (inr y)) e = omega (arith, less, x.2, y.2, e)
 
--- What is said of all literals and of one stays,
+-- A property of all literals, and one of some literal, are kept,
 pub raised_all : (places : ℤ → ℕ) (back : ℕ) (old new : List ℤ) (P : ℤ → Type 0) → IsRaised places back old new → All P old → All P new
 raised_all places back old new P (inl (i, low, is, at)) all = rw is (swapped_all old i P low all)
 raised_all places back old new P (inr (is, none)) all = rw is all
@@ -123,7 +123,7 @@ raised_contains places back old new m (inr (is, none)) there = rw is there
 pub raised_fallen : (places : ℤ → ℕ) (back : ℕ) (old new : List ℤ) → IsRaised places back old new → HasFallenAt places old back → HasFallenAt places new back
 raised_fallen places back old new raised (w, there, at) = (w, raised_contains places back old new w raised there, at)
 
--- and so does that they are the marked ones but one.
+-- and so is that they are the marked ones but one.
 pub raised_others : (places : ℤ → ℕ) (vars back : ℕ) (marks : List Bool) (first : ℤ) (old new : List ℤ) → IsRaised places back old new → AreOthers vars marks first old → AreOthers vars marks first new
 raised_others places vars back marks first old new raised others = record {
   over = raised_all places back old new (IsOver vars) raised others.over;
@@ -136,7 +136,7 @@ raised_others places vars back marks first old new raised others = record {
     differ (inl (i, low, is, at)) = rw is (swapped_differ old i low others.differ)
     differ (inr (is, none)) = rw is others.differ
 
--- The first one fell at `back`.
+-- The first one has the position `back`.
 pub raised_head : (places : ℤ → ℕ) (back : ℕ) (old new : List ℤ) (d : ℤ) → IsRaised places back old new → All (λ m. 0 < places m) new → All (λ m. places m ≤ back) old → (0 < back → HasFallenAt places old back) → 0 < length new → places (slice_index_or new 0 d) ≡ back
 raised_head places back old new d (inl (i, low, is, at)) down all there some =
     let was : Stood old i 0 = stood old i 0 low (omega (arith, low)) in
@@ -149,6 +149,6 @@ raised_head places back old new d (inr (is, none)) down all there some =
     let w : HasFallenAt places old back = there (omega (arith, first, low, same)) in
     absurd (All-contains (λ l. places l ≢ back) old w.0 none w.1 w.2)
 
--- nothing so far fell at `back`
+-- none so far has the position `back`
 pub none_more : (places : ℤ → ℕ) (lits : List ℤ) (i back : ℕ) → ((k : ℕ) (d : ℤ) → k < i → places (slice_index_or lits k d) ≢ back) → length lits ≤ i → All (λ l. places l ≢ back) lits
 none_more places lits i back none done k d within = none k d (omega (arith, within, done))

@@ -1,4 +1,4 @@
--- A marked literal goes by a binary clause whose other literal is marked.
+-- A binary clause whose other literal is marked removes a marked literal.
 use Rattle.std.proofs.Common.{◌≡◌, ℕ, ◌<◌, ◌≤◌, ◌⊎◌, ◌↔◌, ℤ, pos, Bool, true, List, [], ◌∷◌, ◌++◌, length, reverse, slice_index_or, Contains, All, Option, Some, subst, sym, ap, ◌∙◌, arith, inl, inr}
 use Rattle.std.proofs.Math.Logic.{⊎_elim}
 use Rattle.std.proofs.lemmas.Bool.{both_ways, cases_eq, cases_lt}
@@ -38,7 +38,7 @@ same_of clause a b is (i, low_i, at_i) (j, low_j, at_j) same =
     at_a : (k : ℕ) → k < length clause → slice_index_or clause k a ≡ a → slice_index_or clause k (pos 1) ≡ a
     at_a k low at = get_or_default clause k (pos 1) a low ∙ at
 
--- Two different literals of a list of two are all.
+-- Two different literals of a list of two are all its literals.
 both_of : (lits : List ℤ) (a b m : ℤ) → length lits ≡ 2 → Contains lits a → Contains lits b → Contains lits m → (a ≡ b → ⊥) → (m ≡ a) ⊎ (m ≡ b)
 both_of lits a b m two (i, low_i, at_i) (j, low_j, at_j) (k, low_k, at_k) differ =
     ⊎_elim
@@ -82,11 +82,11 @@ two_apart live id first other is e =
     let same : first ≡ other = same_of is.clause first other is.is_clause is.here is.there (ap variable e ∙ variable-opposite other) in
     opposite-differs other (All-contains (λ l. 0 < variable l) is.clause other is.is_clause.literals is.there) (sym e ∙ same)
 
--- so that one stays marked,
+-- so the latter stays marked,
 pub first_stays : (live : ℕ → Option (List ℤ)) (id : ℕ) (first other : ℤ) (old new : List Bool) → IsTwo live id first other → marked_in old first ≡ true → marked_in new ≡ without_literal (marked_in old) (opposite other) → marked_in new first ≡ true
 first_stays live id first other old new is kept unmarked = ap (λ (f : ℤ → Bool). f first) unmarked ∙ without_literal-other (marked_in old) (opposite other) first (two_apart live id first other is) ∙ kept
 
--- and no more are marked.
+-- and no further literal is marked.
 pub fewer_unmarked : (l : ℤ) (start old new : List Bool) → AreFewer start old → marked_in new ≡ without_literal (marked_in old) l → AreFewer start new
 fewer_unmarked l start old new before unmarked m mark = before m (⊎_elim
     (λ (e : m ≡ l). absurd (both_ways (marked_in new m) (at ∙ without_literal-same (marked_in old) l m e) mark))
@@ -96,7 +96,7 @@ fewer_unmarked l start old new before unmarked m mark = before m (⊎_elim
     at : marked_in new m ≡ without_literal (marked_in old) l m
     at = ap (λ (f : ℤ → Bool). f m) unmarked
 
--- The clause of two, as a hint.
+-- The binary clause as a hint.
 pub walk_shortened : (live : ℕ → Option (List ℤ)) (t : Trailed) (id : ℕ) (first other : ℤ) (old new : List Bool) (touched : List ℤ) (ids now : List ℕ) → IsTrail t → IsTwo live id first other → marked_in old first ≡ true → marked_in old (opposite other) ≡ true → marked_in new ≡ without_literal (marked_in old) (opposite other) → length new ≡ length old → now ≡ ids ++ id ∷ [] → IsWalk live t old touched ids → IsWalk live t new touched now
 walk_shortened live t id first other old new touched ids now trail is kept on unmarked same ids_are walk = record {
   resolvent = rw ids_are (record {

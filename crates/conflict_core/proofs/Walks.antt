@@ -1,4 +1,4 @@
--- The steps of the walk.
+-- The steps of the resolution.
 use Rattle.std.proofs.Common.{◌≡◌, ℕ, ◌+◌, ◌<◌, ◌≤◌, ◌⊎◌, ℤ, Bool, true, false, List, [], ◌∷◌, ◌++◌, length, reverse, slice_index_or, Contains, All, Option, Some, subst, sym, ap, ◌∙◌, arith, inl, inr}
 use Rattle.std.proofs.Math.Logic.{⊎_elim}
 use Rattle.std.proofs.lemmas.Bool.{both_ways, cases_eq}
@@ -22,7 +22,7 @@ reason_at live t p l reason at = subst (λ (x : ℤ). Implies live (fell t) p x 
 pub opposite_fell : (t : Trailed) (p : ℕ) (l : ℤ) → IsTrail t → p < length t.lits → slice_index_or t.lits p l ≡ l → fell t (opposite l) ≡ p + 1
 opposite_fell t p l trail within at = place_at t.lits (fell t) p l l trail.places within at
 
--- Resolution with the reason of any literal: that one goes, and the others of its reason come.
+-- Resolution with the reason of any literal: it is removed, and the others of its reason are added.
 resolved_below : (live : ℕ → Option (List ℤ)) (lits : List ℤ) (places : ℤ → ℕ) (high p id : ℕ) (l : ℤ) (kept less : ℤ → Bool) (ids : List ℕ) → ArePlaces lits places → p < length lits → p ≤ high → slice_index_or lits p l ≡ l → IsResolvent live places high kept ids → (implies : Implies live places p l id) → ((m : ℤ) → kept m ≡ true → (m ≡ opposite l) ⊎ (less m ≡ true)) → All (λ m. (m ≡ l) ⊎ (less m ≡ true)) implies.clause → ((m : ℤ) → less m ≡ true → (kept m ≡ true) ⊎ (Contains implies.clause m × (m ≡ l → ⊥))) → IsResolvent live places high less (ids ++ id ∷ [])
 resolved_below live lits places high p id l kept less ids are within low at before implies moved others only =
     let down : places (opposite l) ≡ p + 1 = place_at lits places p l l are within at in
@@ -36,7 +36,7 @@ resolved_below live lits places high p id l kept less ids are within low at befo
     early m apart (inl same) = absurd (apart same)
     early m apart (inr fallen) = (let some : 0 < places m = fallen.0 in let under : places m ≤ p = fallen.1 in (some, omega arith))
 
--- The walk goes over one reason.
+-- One resolution step keeps the invariant.
 pub walk_resolved : (live : ℕ → Option (List ℤ)) (t : Trailed) (p id : ℕ) (l : ℤ) (lits : List ℤ) (old off new : List Bool) (touched more : List ℤ) (ids now : List ℕ) → IsTrail t → p < length t.lits → slice_index_or t.lits p l ≡ l → HasReason live t p → id ≡ reason_of t l → live id ≡ Some lits → IsWalk live t old touched ids → marked_in off ≡ without_literal (marked_in old) (opposite l) → AreMarked (fell t) lits off new → IsListed t.vars new more → now ≡ ids ++ id ∷ [] → IsWalk live t new more now
 walk_resolved live t p id l lits old off new touched more ids now trail within at reason id_is is walk unmarked marked listed ids_are =
     record {
@@ -74,7 +74,7 @@ walk_resolved live t p id l lits old off new touched more ids now trail within a
         (λ (new_one : Contains lits m × (0 < fell t m)). inr (subst (λ (c : List ℤ). Contains c m) (sym same) new_one.0, λ e. (let h : fell t m ≡ 0 = ap (fell t) e ∙ up in let some : 0 < fell t m = new_one.1 in omega arith)))
         (marked.only m is)
 
--- What it changes of the marks.
+-- The change of the marks.
 pub marks_replaced : (live : ℕ → Option (List ℤ)) (t : Trailed) (p id : ℕ) (l : ℤ) (lits : List ℤ) (old off new : List Bool) → IsTrail t → p < length t.lits → slice_index_or t.lits p l ≡ l → HasReason live t p → id ≡ reason_of t l → live id ≡ Some lits → marked_in off ≡ without_literal (marked_in old) (opposite l) → AreMarked (fell t) lits off new → IsReplaced t p old new
 marks_replaced live t p id l lits old off new trail within at reason id_is is unmarked marked = record {
   stay = λ m was. ⊎_elim (λ (e : m ≡ opposite l). inl (ap (fell t) e ∙ down)) (λ (apart : m ≡ opposite l → ⊥). inr (marked.stay m (off_at m ∙ without_literal-other (marked_in old) (opposite l) m apart ∙ was))) (cases_literal m (opposite l));
@@ -110,11 +110,11 @@ marks_replaced live t p id l lits old off new trail within at reason id_is is un
     still m was (inl e) = absurd (both_ways (marked_in off m) (off_at m ∙ without_literal-same (marked_in old) (opposite l) m e) was)
     still m was (inr apart) = (sym (off_at m ∙ without_literal-other (marked_in old) (opposite l) m apart) ∙ was, λ e. apart (fallen_at t.lits (fell t) p l m trail.places e ∙ ap opposite at))
 
--- what was marked at lower places stays marked
+-- marked literals at lower positions stay marked
 pub stay_replaced : (t : Trailed) (low p : ℕ) (a b c : List Bool) → low ≤ p → StayBelow t low a b → IsReplaced t p b c → StayBelow t low a c
 stay_replaced t low p a b c order before replaced m is was = ⊎_elim (λ (e : fell t m ≡ p + 1). absurd (omega arith)) (λ (still : marked_in c m ≡ true). still) (replaced.stay m (before m is was))
 
--- only literals at lower places were marked anew
+-- only literals at lower positions were newly marked
 pub replaced_below : (t : Trailed) (start p : ℕ) (old new : List Bool) → p < start → IsReplaced t p old new → OnlyBelow t start old new
 replaced_below t start p old new early replaced m is = ⊎_elim (λ (low : fell t m ≤ p). inr (omega arith)) (λ (was : (marked_in old m ≡ true) × (fell t m ≡ p + 1 → ⊥)). inl was.0) (replaced.only m is)
 

@@ -1,4 +1,4 @@
--- What is learnt from a conflict.
+-- The result of the analysis of a conflict.
 use Rattle.std.specs.Prelude.{◌≡◌, ◌≢◌, ℕ, ◌+◌, ◌<◌, ◌≤◌, ◌⊎◌, ℤ, pos, List, length, slice_index_or, Contains, All, Option}
 use Rattle.std.specs.List.{swap}
 use Rattle.sat_theory.specs.Formula.{IsClause, IsWithin}
@@ -9,22 +9,22 @@ use Rattle.conflict_core.specs.declared.analysis.Analysis.{Analysis}
 use Rattle.conflict_core.specs.declared.walk.Walk.{Walk}
 use Rattle.conflict_core.specs.Walking.{IsClear, IsWalk}
 
--- the invariant of the walk, on the fields of a `Walk`
+-- the invariant of the resolution, on the fields of a `Walk`
 abbrev pub IsWalkOf : (ℕ → Option (List ℤ)) → Trailed → Walk → Type 0
 IsWalkOf live t w = IsWalk live t w.marks w.touched.items w.hints.items
 
--- no mark is left over from an earlier conflict, and there is room for a verdict on each variable
+-- no mark is left over from an earlier conflict, and the tables have room for all variables
 pub record IsReady (vars : ℕ) (a : Analysis) : Type 0 where
   pub clear : IsClear vars a.walk.marks
   pub touched : IsWithin vars a.walk.touched.items
   pub verdicts : length a.redundancy.verdicts.items ≡ vars + 1
 
--- each literal from a trail index on has its reason
+-- each literal from a trail index on has a reason
 abbrev pub HaveReasons : (ℕ → Option (List ℤ)) → Trailed → ℕ → Type 0
 HaveReasons live t from = (p : ℕ) → from ≤ p → p < length t.lits → HasReason live t p
 
--- a clause that is falsified in the level that begins at trail index `start`, with all that a walk
--- back over this level reads
+-- a clause that is falsified in the level that begins at trail index `start`, with all that the analysis of
+-- this level needs
 pub record IsConflict (live : ℕ → Option (List ℤ)) (t : Trailed) (start conflict : ℕ) : Type 0 where
   pub level : start < length t.lits
   pub closed : IsClosed live (fell t) start
@@ -32,18 +32,17 @@ pub record IsConflict (live : ℕ → Option (List ℤ)) (t : Trailed) (start co
   pub explained : IsExplained live t
   pub falsified : IsFalsified live (fell t) conflict
 
--- the asserting literal of a learnt clause, which fell last
+-- the asserting literal of a learnt clause, which became false last
 abbrev pub asserting : List ℤ → ℤ
 asserting lits = slice_index_or lits 0 (pos 0)
 
--- A literal that fell at `back`, if there is one, was exchanged with the first of all; else all stay.
+-- A literal at position `back`, if there is one, was swapped to the front; otherwise the list is unchanged.
 abbrev pub IsRaised : (ℤ → ℕ) → ℕ → List ℤ → List ℤ → Type 0
 IsRaised places back old new = ((i : ℕ) × (i < length old) × (new ≡ swap old 0 i) × ((d : ℤ) → places (slice_index_or old i d) ≡ back)) ⊎ ((new ≡ old) × All (λ l. places l ≢ back) old)
 
--- The clause that is learnt from a conflict in the level that begins at trail index `start`: its
--- first literal fell in the level, all others at places up to `back`, where the second one fell;
--- back is 0 where there is no other. Backtracking to a length from `back` to `start` makes the
--- clause unit.
+-- The clause learnt from a conflict in the level that begins at trail index `start`: its first literal became
+-- false in the level, all others at positions up to `back`, the position of the second one; back is 0 if
+-- there is no other. Backtracking to a length from `back` to `start` makes the clause unit.
 pub record IsLearnt (live : ℕ → Option (List ℤ)) (t : Trailed) (start : ℕ) (lits : List ℤ) (back : ℕ) (hints : List ℕ) : Type 0 where
   pub some : 0 < length lits
   pub after : start < fell t (asserting lits)

@@ -1,5 +1,4 @@
--- The walk back over the trail from a conflict: the marked literals are the clause that it has come
--- to.
+-- Resolution from a conflict back over the trail: the marked literals are the current resolvent.
 use Rattle.std.specs.Prelude.{◌≡◌, ◌≢◌, ℕ, ◌+◌, ◌*◌, ◌<◌, ◌≤◌, ◌⊎◌, ℤ, Bool, true, false, List, length, slice_index_or, Contains, All, AllPairs, Option, Some}
 use Rattle.sat_theory.specs.Formula.{opposite}
 use Rattle.cdcl_theory.specs.Codes.{marked_in}
@@ -7,32 +6,32 @@ use Rattle.cdcl_theory.specs.Trails.{Trailed, fell}
 use Rattle.cdcl_theory.specs.Resolving.{IsResolvent}
 use Rattle.trail_core.specs.Values.{IsOver}
 
--- exactly the fallen literals of a list were marked
+-- exactly the false literals of a list were marked
 pub record AreMarked (places : ℤ → ℕ) (lits : List ℤ) (old new : List Bool) : Type 0 where
   pub stay : (m : ℤ) → marked_in old m ≡ true → marked_in new m ≡ true
   pub there : All (λ m. 0 < places m → marked_in new m ≡ true) lits
   pub only : (m : ℤ) → marked_in new m ≡ true → (marked_in old m ≡ true) ⊎ (Contains lits m × (0 < places m))
 
--- exactly the fallen literals of the clause of an id were marked
+-- exactly the false literals of the clause with this id were marked
 pub record IsMarkedBy (live : ℕ → Option (List ℤ)) (places : ℤ → ℕ) (id : ℕ) (old new : List Bool) : Type 0 where
   pub clause : List ℤ
   pub is_live : live id ≡ Some clause
   pub marked : AreMarked places clause old new
 
--- no literal that fell at a trail index from low to high is marked
+-- no literal whose opposite is at a trail index from low to high is marked
 abbrev pub NoneMarked : Trailed → List Bool → ℕ → ℕ → Type 0
 NoneMarked t marks low high = (p : ℕ) (d : ℤ) → low ≤ p → p < high → marked_in marks (opposite (slice_index_or t.lits p d)) ≡ true → ⊥
 
 abbrev pub HasRoom : ℕ → List Bool → Type 0
 HasRoom vars marks = length marks ≡ 2 * vars + 2
 
--- the list, over the variables, has all marked literals
+-- the list, whose variables are in range, contains all marked literals
 pub record IsListed (vars : ℕ) (marks : List Bool) (touched : List ℤ) : Type 0 where
   pub room : HasRoom vars marks
   pub over : All (IsOver vars) touched
   pub all : (m : ℤ) → marked_in marks m ≡ true → Contains touched m
 
--- The clause of the marked literals, all of which have fallen, follows by the ids used.
+-- The clause of the marked literals, all of which are false, follows by the ids used.
 pub record IsWalk (live : ℕ → Option (List ℤ)) (t : Trailed) (marks : List Bool) (touched : List ℤ) (ids : List ℕ) : Type 0 where
   pub resolvent : IsResolvent live (fell t) (length t.lits) (marked_in marks) ids
   pub listed : IsListed t.vars marks touched
@@ -57,28 +56,28 @@ pub record AreOthers (vars : ℕ) (marks : List Bool) (first : ℤ) (others : Li
   pub all : (m : ℤ) → marked_in marks m ≡ true → (m ≡ first) ⊎ Contains others m
   pub differ : AllPairs (λ a b. a ≢ b) others
 
--- p is the last trail index from low to high whose literal fell and is marked
+-- p is the last trail index from low to high with a marked literal
 pub record IsLastMarked (t : Trailed) (marks : List Bool) (low high p : ℕ) : Type 0 where
   pub after : low ≤ p
   pub before : p < high
   pub there : (d : ℤ) → marked_in marks (opposite (slice_index_or t.lits p d)) ≡ true
   pub last : NoneMarked t marks (p + 1) high
 
--- the literal that fell at trail index p isn't marked any more, and of the others only those that
--- fell before it may be marked anew
+-- the literal falsified at trail index p is unmarked, and of the others only those falsified before may be
+-- newly marked
 pub record IsReplaced (t : Trailed) (p : ℕ) (old new : List Bool) : Type 0 where
   pub stay : (m : ℤ) → marked_in old m ≡ true → (fell t m ≡ p + 1) ⊎ (marked_in new m ≡ true)
   pub only : (m : ℤ) → marked_in new m ≡ true → (fell t m ≤ p) ⊎ ((marked_in old m ≡ true) × (fell t m ≢ p + 1))
 
--- the marked literals with places up to p stay marked
+-- the marked literals at positions up to p stay marked
 abbrev pub StayBelow : Trailed → ℕ → List Bool → List Bool → Type 0
 StayBelow t p old new = (m : ℤ) → fell t m ≤ p → marked_in old m ≡ true → marked_in new m ≡ true
 
--- only literals with places up to p were marked anew
+-- only literals at positions up to p were newly marked
 abbrev pub OnlyBelow : Trailed → ℕ → List Bool → List Bool → Type 0
 OnlyBelow t p old new = (m : ℤ) → marked_in new m ≡ true → (marked_in old m ≡ true) ⊎ (fell t m ≤ p)
 
--- none was marked anew
+-- no literal was newly marked
 abbrev pub AreFewer : List Bool → List Bool → Type 0
 AreFewer old new = (m : ℤ) → marked_in new m ≡ true → marked_in old m ≡ true
 
@@ -86,6 +85,6 @@ AreFewer old new = (m : ℤ) → marked_in new m ≡ true → marked_in old m �
 abbrev pub IsMarkedClause : (ℕ → Option (List ℤ)) → List Bool → ℕ → Type 0
 IsMarkedClause live marks id = (clause : List ℤ) → live id ≡ Some clause → All (λ m. marked_in marks m ≡ true) clause
 
--- one of the literals has the place p
+-- one of the literals has the position p
 abbrev pub HasFallenAt : (ℤ → ℕ) → List ℤ → ℕ → Type 0
 HasFallenAt places lits p = (w : ℤ) × Contains lits w × (places w ≡ p)

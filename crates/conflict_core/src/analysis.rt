@@ -1,8 +1,8 @@
-//! What is learnt from a conflict, and why it is a clause that a log may add. A walk back over the
-//! conflict's level ends at its first unique implication point (first UIP); minimisation and
-//! shortening remove other literals by the same kind of resolution; and what is left marked is
-//! gathered. That it follows by the hints is the invariant of the walk (`IsWalk`); that one literal
-//! of the level is left, and where the others fell, is what the search backjumps by (`IsLearnt`).
+//! The learnt clause, and why a log may add it. Resolution goes back over the conflict's level to its first
+//! unique implication point (first UIP); minimisation and binary clauses remove further literals by
+//! resolution too; the marked literals that are left form the clause. It follows by the hints: this is the
+//! invariant of the resolution (`IsWalk`). One literal of the level is left, and the position of the next one
+//! is the backjump target (`IsLearnt`).
 ghost use Rattle.std.specs.Prelude.{◌≡◌, ℕ, ℤ, ◌+◌, ◌<◌, ◌≤◌, ◌∷◌, [], length, slice_index_or, reverse, All, IfOk, OnOk};
 ghost use Rattle.std.specs.List.Sorted.{IsPermutation};
 ghost use Rattle.sat_theory.specs.Formula.{IsWithin};
@@ -21,12 +21,12 @@ use cnf_core::Lit;
 use std::alloc::{AllocError, Global};
 use trail_core::Trail;
 
-/// The memory of the conflict analysis, used again for each conflict.
+/// The tables of the conflict analysis, reused for each conflict.
 #[derive(Drop)]
 pub struct Analysis {
     walk: Walk,
     redundancy: Redundancy,
-    /// the literals of the learnt clause that fell below the conflict's level
+    /// the literals of the learnt clause that became false below the conflict's level
     lower: Vec<Lit>,
 }
 
@@ -42,15 +42,14 @@ impl Analysis {
         })
     }
 
-    /// The literals that the last call of `learn` marked on its walk, those of the learnt clause
-    /// among them.
+    /// The literals that the last call of `learn` marked, those of the learnt clause among them.
     pub fn touched(&self) -> &[Lit]
         ensures within { (vars : ℕ) → IsReady vars self.now → IsWithin vars result.now }
     {
         &self.walk.touched
     }
 
-    /// Resolves away the literals that follow from others of the clause, of those falsified before
+    /// Resolves away literals that reasons imply from others of the clause, among those falsified before
     /// trail index `start` (clause minimisation).
     fn minimise(
         &mut self,
@@ -74,7 +73,7 @@ impl Analysis {
         Ok(())
     }
 
-    /// Unmarks what an earlier walk left marked.
+    /// Clears the marks that an interrupted analysis left.
     fn clear(&mut self)
         ensures { (vars : ℕ) → HasRoom vars self.old.walk.marks → length self.old.redundancy.verdicts.items ≡ vars + 1 → IsReady vars self.new }
     {
@@ -82,8 +81,8 @@ impl Analysis {
         self.walk.marks.clear();
     }
 
-    /// Walks back from a conflict to the first UIP of its level, and gathers the clause that is
-    /// left. Where memory runs out, marks are left over.
+    /// Resolves from a conflict back to the first UIP of its level, minimises, and gathers the clause. If
+    /// memory runs out, marks are left over.
     fn walk_back(
         &mut self,
         alloc: Global,
@@ -115,9 +114,8 @@ impl Analysis {
         Ok(Learnt { lits, back, hints })
     }
 
-    /// Learns a clause from one that is falsified in the level that begins at trail index `start`:
-    /// the first UIP clause, minimised. It is ready for the next conflict, even where memory runs
-    /// out.
+    /// Learns the minimised first-UIP clause from one that is falsified in the level that begins at trail
+    /// index `start`. Even if memory runs out, it is ready for the next conflict.
     pub fn learn(
         &mut self,
         alloc: Global,
@@ -143,8 +141,8 @@ impl Analysis {
         learnt
     }
 
-    /// Walks back over the whole trail from a conflict, and gathers the hints. Where memory runs
-    /// out, marks are left over.
+    /// Resolves from a conflict back over the whole trail, and gathers the hints. If memory runs out, marks
+    /// are left over.
     fn walk_down(
         &mut self,
         alloc: Global,
@@ -187,7 +185,7 @@ impl Analysis {
     }
 }
 
-/// The greatest `fell` of some literals: where the last one fell; 0 where there is none.
+/// The greatest position of some literals, where the last one became false; 0 if there is none.
 fn last_fallen(trail: &Trail, lits: &[Lit]) -> u32
     requires { IsWithin trail.now.vars lits.now }
     ensures all { All (λ m. fell_of trail.now m ≤ result) lits.now }
@@ -200,7 +198,7 @@ fn last_fallen(trail: &Trail, lits: &[Lit]) -> u32
     back
 }
 
-/// Exchanges the first literal that fell at `back`, if there is one, with the first of all.
+/// Swaps the first literal at position `back`, if there is one, to the front.
 fn raise(trail: &Trail, lits: &mut Vec<Lit>, back: u32)
     requires { IsWithin trail.now.vars lits.old.items }
     ensures { IsRaised (fell_of trail.now) back lits.old.items lits.new.items }
@@ -213,9 +211,9 @@ fn raise(trail: &Trail, lits: &mut Vec<Lit>, back: u32)
     }
 }
 
-/// Puts the literals that fell in the first half of the places up to `back` before the others; the first of
-/// all stays. A clause that gives up a watch takes the first literal that isn't false, and one that fell early
-/// and is free again is so for long.
+/// Puts the literals at positions up to half of `back` before the others; the first literal stays in front. A
+/// clause that needs another watch takes the first literal that isn't false, and one that became false early
+/// is, once unassigned, free for long.
 fn put_early_first(trail: &Trail, lits: &mut Vec<Lit>, back: u32)
     requires { IsWithin trail.now.vars lits.old.items }
     ensures order { IsPermutation lits.old.items lits.new.items }
@@ -230,7 +228,7 @@ fn put_early_first(trail: &Trail, lits: &mut Vec<Lit>, back: u32)
     }
 }
 
-/// A literal followed by others.
+/// One literal followed by others.
 fn joined(alloc: Global, first: Lit, others: &[Lit]) -> Result<Vec<Lit>, AllocError>
     ensures { IfOk result (λ v. v.items ≡ first ∷ others.now) }
 {
@@ -240,7 +238,7 @@ fn joined(alloc: Global, first: Lit, others: &[Lit]) -> Result<Vec<Lit>, AllocEr
     Ok(lits)
 }
 
-/// Ids in reverse.
+/// The ids in reverse order.
 fn turned(alloc: Global, ids: &[u32]) -> Result<Vec<u32>, AllocError>
     ensures { IfOk result (λ v. v.items ≡ reverse ids.now) }
 {

@@ -1,14 +1,14 @@
-//! What is learnt from a conflict.
+//! The result of the analysis of a conflict.
 use cnf_core::Lit;
 
 /// A clause that was learnt from a conflict.
 #[derive(Drop)]
 pub struct Learnt {
-    /// Its literals; the first is the one of the conflict's level (the asserting literal), and the
-    /// second fell last of the others.
+    /// Its literals: first the one of the conflict's level (the asserting literal), second the one of the
+    /// others that became false last.
     pub lits: Vec<Lit>,
-    /// Where the second one fell, the backjump target; 0 where there is no other.
+    /// The position of the second one, the backjump target; 0 if there is no other.
     pub back: u32,
-    /// The ids of the clauses that it follows from, as a log names them.
+    /// The ids of the clauses from which it follows, in the order of a log's hints.
     pub hints: Vec<u32>,
 }

@@ -1,6 +1,5 @@
-//! The set of literals of the clause that a walk has come to, as a mark for each (`seen`). Every
-//! change is stated as an equation of sets, so the walk is proved about sets of literals and not
-//! about tables.
+//! The literals of the current resolvent as a set, with a mark for each (`seen` in MiniSat). Every change is
+//! stated as an equation of sets, so the analysis is proved about sets of literals and not about tables.
 ghost use Rattle.std.specs.Prelude.{◌≡◌, ℕ, ◌<◌, [], length, All, IfOk, OnOk};
 ghost use Rattle.sat_theory.specs.Holding.{with_literal};
 ghost use Rattle.cdcl_theory.specs.Codes.{code_of, marked_in, without_literal};
@@ -10,7 +9,7 @@ use cnf_core::Lit;
 use std::alloc::{AllocError, Global};
 use std::marker::Model;
 
-/// A set of literals, as a mark for each. Contracts see the list of marks.
+/// A set of literals as a table of marks. Contracts see the list of marks.
 #[derive(Drop)]
 pub(crate) struct Marks {
     marks: Vec<bool>,
@@ -44,7 +43,7 @@ impl Marks {
         self.marks[lit.code()]
     }
 
-    /// Puts a literal into the set.
+    /// Adds a literal to the set.
     pub(crate) fn set(&mut self, lit: Lit)
         requires { code_of lit < length self.old }
         ensures set { marked_in self.new ≡ with_literal (marked_in self.old) lit }
@@ -69,7 +68,7 @@ impl Marks {
         self.marks.fill(false);
     }
 
-    /// Removes the literals of a list from the set, and gathers those that were in it.
+    /// Removes the literals of a list from the set, and appends those that were in it to `taken`.
     #[tactic(auto, using(crate::proofs::Marking::taking))]
     pub(crate) fn take(&mut self, lits: &[Lit], taken: &mut Vec<Lit>) -> Result<(), AllocError>
         requires inside { All (λ l. code_of l < length self.old) lits.now }

@@ -1,6 +1,6 @@
-//! Which literals of a clause follow from its others (are redundant), as a guess: the recursion
-//! promises only to stay in bounds. Each literal that it names is then resolved away by a step of
-//! the walk, which is right whatever was guessed.
+//! Which literals of a clause its others imply (are redundant), as a guess: the recursion promises only to
+//! stay in bounds. Each literal found is then resolved away by a step of the analysis, which is sound
+//! whatever was guessed.
 ghost use Rattle.std.specs.Prelude.{◌≡◌, ℤ, ◌+◌, ◌<◌, ◌≤◌, true, length, All, IfOk, IfSome};
 ghost use Rattle.sat_theory.specs.Formula.{variable as variable_of, IsWithin};
 ghost use Rattle.cdcl_theory.specs.Codes.{marked_in};
@@ -14,28 +14,28 @@ use cnf_core::Lit;
 use std::alloc::{AllocError, Global};
 use trail_core::Trail;
 
-/// The greatest depth of the recursion over reasons.
+/// The greatest depth of the recursion over reasons, which bounds the call stack.
 const DEPTH: u32 = 1000;
 
-/// What is known of a fallen literal.
+/// What is known of a false literal.
 #[derive(Clone, Copy)]
 enum Verdict {
     Open,
-    /// it follows from the literals of a clause
+    /// redundant: the literals of the clause imply it
     Follows,
-    /// it doesn't, or the recursion was too deep to see it
+    /// it isn't, or the recursion reached its greatest depth
     Stands,
 }
 
-/// Which literals of a clause follow from its others, and may be resolved away. It is found by a
-/// search over reasons from each of them, and determines nothing but how short the clause gets.
+/// The redundant literals of a clause, which may be resolved away, found by a search over reasons. Only the
+/// length of the clause depends on the result.
 #[derive(Drop)]
 pub(crate) struct Redundancy {
     /// by variable
     verdicts: Vec<Verdict>,
     /// the literals that have a verdict
     judged: Vec<Lit>,
-    /// those that follow, each after all that it follows from
+    /// the redundant ones, each after all that imply it
     redundant: Vec<Lit>,
     ghost judged_inside: { All (λ l. variable_of l < length verdicts.items) judged.items },
     ghost redundant_inside: { All (λ l. variable_of l < length verdicts.items) redundant.items },
@@ -71,8 +71,8 @@ impl Redundancy {
         Ok(())
     }
 
-    /// Judges a fallen literal without a verdict: whether it follows from the marked ones, within
-    /// the depth.
+    /// Decides whether the marked literals imply a false literal without a verdict, by a recursion over
+    /// reasons of at most `depth` steps.
     fn judge(
         &mut self,
         trail: &Trail,
@@ -114,7 +114,8 @@ impl Redundancy {
         Ok(true)
     }
 
-    /// Judges the marked literals of a list that were falsified before trail index `start`.
+    /// Finds the redundant ones among the marked literals of a list that were falsified before trail index
+    /// `start`.
     pub(crate) fn find(
         &mut self,
         trail: &Trail,
@@ -143,7 +144,7 @@ impl Redundancy {
         Ok(())
     }
 
-    /// Takes the last of the literals that follow off the list.
+    /// Removes and returns the last of the redundant literals.
     pub(crate) fn pop(&mut self) -> Option<Lit>
         ensures inside { IfSome result (λ l. variable_of l < length self.new.verdicts.items) }
         ensures fewer { IfSome result (λ _. length self.new.redundant.items < length self.old.redundant.items) }

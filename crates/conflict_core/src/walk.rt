@@ -1,9 +1,8 @@
-//! The walk back over the trail from a conflict. The marked literals are the clause that it has
-//! come to, and each step resolves it with the reason of one of its literals: `IsWalk` says that
-//! the marked literals have all fallen, and that their clause follows by the ids that were used. No
-//! step breaks that, wherever it is made; the order of the steps, which literals are tried and when
-//! the walk ends are the subject of other facts. The literals that were touched are listed too, so
-//! that the marks are cleared in time linear in the walk.
+//! Resolution from a conflict back over the trail. The marked literals are the current resolvent, and each
+//! step resolves it with the reason of one of its literals. `IsWalk` says that the marked literals are all
+//! false, and that their clause follows by the ids used. Every step keeps this wherever it is made; the order
+//! of the steps, the choice of literals and the end of the resolution are other facts. The marked literals
+//! are listed too, so that the marks are cleared in linear time.
 ghost use Rattle.std.specs.Prelude.{◌≡◌, ℤ, ◌+◌, ◌<◌, ◌≤◌, ◌∷◌, [], length, slice_index_or, IsSome, IfOk, OnOk, IfSome, IfNone};
 ghost use Rattle.sat_theory.specs.Formula.{variable as variable_of, opposite as opposite_of, IsClause, IsWithin};
 ghost use Rattle.cdcl_theory.specs.Falling.{IsFalsified};
@@ -19,14 +18,13 @@ use cnf_core::Lit;
 use std::alloc::{AllocError, Global};
 use trail_core::Trail;
 
-/// A walk back over the trail from a conflict. The marked literals are the clause that it has come
-/// to.
+/// The current resolvent of a conflict analysis: its literals are marked.
 #[derive(Drop)]
 pub(crate) struct Walk {
     pub(crate) marks: Marks,
-    /// the literals that were marked since the walk began
+    /// the literals marked since the conflict
     pub(crate) touched: Vec<Lit>,
-    /// the ids of the clauses that were used, from the conflict on
+    /// the ids of the clauses used, from the conflict on
     pub(crate) hints: Vec<u32>,
 }
 
@@ -43,7 +41,7 @@ impl Walk {
         })
     }
 
-    /// Marks a literal, if it has fallen.
+    /// Marks a literal if it is false.
     #[tactic(auto, using(crate::proofs::Gathering::marking_one))]
     fn mark(&mut self, trail: &Trail, lit: Lit) -> Result<(), AllocError>
         requires over { IsOver trail.now.vars lit }
@@ -61,7 +59,7 @@ impl Walk {
         Ok(())
     }
 
-    /// Marks the literals of a clause that have fallen.
+    /// Marks the false literals of a clause.
     #[tactic(auto, using(crate::proofs::Gathering::marking_all))]
     fn mark_fallen(&mut self, trail: &Trail, lits: &[Lit]) -> Result<(), AllocError>
         requires clause { IsClause lits.now }
@@ -78,8 +76,8 @@ impl Walk {
         Ok(())
     }
 
-    /// Marks the literals of a live clause that have fallen. They are read in the order of
-    /// propagation, so from memory that it has just read.
+    /// Marks the false literals of a live clause. They are read in the clause's stored order, from memory
+    /// that propagation has just read.
     #[tactic(auto, using(crate::proofs::Gathering::marking_clause))]
     fn mark_clause(&mut self, trail: &Trail, clauses: &ClauseDb, id: u32) -> Result<(), AllocError>
         requires vars { clauses.now.vars ≡ trail.now.vars }
@@ -94,7 +92,7 @@ impl Walk {
         Ok(())
     }
 
-    /// Marks the literals of a falsified clause, from which the walk begins.
+    /// Starts with a falsified clause: marks its literals.
     pub(crate) fn begin(
         &mut self,
         trail: &Trail,
@@ -116,8 +114,8 @@ impl Walk {
         Ok(())
     }
 
-    /// Resolves with the reason of the literal that fell at a trail index: its other literals
-    /// replace it.
+    /// Resolves with the reason of the true literal at a trail index: the other literals of the reason
+    /// replace its opposite.
     pub(crate) fn resolve(
         &mut self,
         trail: &Trail,
@@ -140,7 +138,8 @@ impl Walk {
         Ok(())
     }
 
-    /// Resolves with the reasons of all marked literals at the trail indices from `low` to `high`.
+    /// Resolves with the reasons of all marked literals whose opposites are at the trail indices from `low`
+    /// to `high`, last first.
     pub(crate) fn resolve_down(
         &mut self,
         trail: &Trail,
@@ -170,7 +169,7 @@ impl Walk {
         Ok(())
     }
 
-    /// The last index from `low` to `high` whose literal fell and is marked.
+    /// The last trail index from `low` to `high` with a marked literal.
     fn last_marked(&self, trail: &Trail, low: usize, high: usize) -> Option<usize>
         requires room { HasRoom trail.now.vars self.now.marks }
         requires inside { high ≤ length trail.now.lits }
@@ -187,8 +186,8 @@ impl Walk {
         None
     }
 
-    /// Resolves until one literal of the level that begins at `start` is left (the first UIP), and
-    /// answers its index. Each index of the level is read at most twice.
+    /// Resolves until one literal of the level that begins at trail index `start` is left (the first UIP),
+    /// and returns its trail index. Each index of the level is read at most twice.
     pub(crate) fn reduce(
         &mut self,
         trail: &Trail,
@@ -214,8 +213,8 @@ impl Walk {
         Ok(top)
     }
 
-    /// Resolves a literal away if it is marked, was falsified before trail index `start`, and isn't
-    /// the opposite of a decision.
+    /// Resolves a literal away if it is marked, was falsified before trail index `start`, and isn't the
+    /// opposite of a decision.
     pub(crate) fn resolve_away(
         &mut self,
         trail: &Trail,
@@ -241,10 +240,10 @@ impl Walk {
         self.resolve(trail, clauses, place)
     }
 
-    /// Removes each marked literal that is false by a binary clause whose other literal is `first`;
-    /// that clause is the hint. Only clauses whose blocking literal is the opposite of a marked one
-    /// are read, and in a binary clause it is the other literal. No contract says that, so one
-    /// could be missed; none is removed wrongly.
+    /// Removes each marked literal whose opposite is in a binary clause with `first`, by resolution with that
+    /// clause, which is the hint. Only clauses whose blocking literal is the opposite of a marked literal are
+    /// read: in a binary clause the blocking literal is the other literal. No contract says so; were it
+    /// otherwise, a literal could stay that might go, and none would be removed wrongly.
     pub(crate) fn shorten(&mut self, clauses: &ClauseDb, first: Lit) -> Result<(), AllocError>
         requires over { variable_of first ≤ clauses.now.vars }
         requires room { HasRoom clauses.now.vars self.old.marks }
@@ -252,7 +251,7 @@ impl Walk {
         ensures fewer { OnOk result (AreFewer self.old.marks self.new.marks) }
         ensures room { length self.new.marks ≡ length self.old.marks }
     {
-        // for the prover: always true where a walk was reduced
+        // for the prover: always true after `reduce`
         if !self.marks.has(first) {
             return Ok(());
         }
@@ -273,8 +272,8 @@ impl Walk {
         Ok(())
     }
 
-    /// Clears all marks, and gathers the marked literals except the one that fell at an index,
-    /// which is the answer.
+    /// Clears all marks, moves the marked literals into `others` except the one whose opposite is at trail
+    /// index `top`, and returns that one.
     pub(crate) fn take_others(
         &mut self,
         trail: &Trail,

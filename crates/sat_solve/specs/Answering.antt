@@ -1,10 +1,10 @@
--- The answers of the solver, by cases.
+-- Facts about a solver's answer, by cases.
 use Rattle.std.specs.Prelude.{Bool, List}
 use Rattle.sat_theory.specs.Line as theory
 use Rattle.sat_solve.specs.declared.solver.Solved.{Solved}
 use Rattle.sat_solve.specs.declared.solver.Solved.TheVariants.{Sat, Unsat, Open}
 
--- a fact about the bits of the assignment, and about the lines of the log
+-- P holds of the bits of the assignment, or of the lines of the log, if the answer is of this kind
 abbrev pub IfSat : Solved → (List Bool → Type 0) → Type 0
 IfSat (Sat bits) P = P bits
 IfSat (Unsat log) P = Unit {0}

@@ -1,5 +1,4 @@
--- How many clauses a solver may be asked to learn before it leaves a formula open: so few that the ids of all
--- lines have room in 32 bits.
+-- The greatest budget of learnt clauses: small enough for the ids of all lines to fit in 32 bits.
 use Rattle.std.specs.Prelude.{ℕ}
 
 abbrev pub most_budget : ℕ

@@ -3,43 +3,46 @@ use cnf_core::{Assign, Cnf, Lit};
 use log_core::Log;
 use std::alloc::{AllocError, Global};
 
-/// What is known of a formula.
+/// The answer to a formula.
 #[derive(Drop)]
 pub enum Solved {
     /// The assignment satisfies it.
     Sat(Assign),
     /// The log refutes it.
     Unsat(Log),
-    /// The log holds and has spent the budget.
+    /// Undecided: the log holds and has reached the budget of additions.
     Open(Log),
 }
 
-/// What a probe came to. It is a hint: nothing is promised of it, but that the solver stays one of its formula.
+/// The result of a call under assumptions. It is a hint: the contract promises only that the solver is still
+/// one of its formula.
 #[derive(Clone, Copy)]
 pub enum Probed {
-    /// The formula is refuted.
+    /// The formula itself is refuted.
     Refuted,
-    /// The targets can't all be true.
+    /// Unsatisfiable under the assumptions: one of them became false.
     Clashed,
-    /// The targets are true, and all open variables have values.
+    /// All assumptions are true and all decision variables have values, with no conflict.
     Standing,
-    /// The limit was reached.
+    /// Undecided: the limit was reached.
     GivenUp,
 }
 
-/// Which variables a probe decides, by variable (the entry at index 0 is unused). Entries after the end of a row are
-/// 0, and variables that the formula lacks count as none.
+/// Which variables a call under assumptions decides: tables by variable (index 0 is unused) with the fanins
+/// of its gate and its rank. Indices beyond the end of a table read as 0, and variables that the formula
+/// doesn't have count as 0, none.
 #[derive(Clone, Copy)]
 pub struct Cones<'a> {
-    /// when an open variable has a value, this one is opened too; 0: none
+    /// the first fanin: it becomes a decision variable once this variable is one and has a value; 0: none
     pub first: &'a [u32],
-    /// and this one
+    /// the second fanin, likewise
     pub second: &'a [u32],
-    /// of the open variables without a value one of greatest rank is decided first
+    /// among the decision variables without a value, one of greatest rank is decided first
     pub rank: &'a [u32],
 }
 
-/// An incremental solver of one formula in conjunctive normal form: probes learn clauses of it, `finish` decides it.
+/// An incremental solver of one formula in conjunctive normal form: calls under assumptions learn clauses of
+/// it, `finish` decides it.
 pub trait Solver: Drop {
     ghost use Rattle.std.specs.Prelude.{◌≡◌, ℕ, ◌*◌, ◌^◌, ◌<◌, ◌≤◌, length, max, IfOk};
     ghost use Rattle.sat_theory.specs.Formula.{Formula, IsWithin, bits_of, Satisfies};
@@ -47,14 +50,14 @@ pub trait Solver: Drop {
     ghost use Rattle.sat_solve.specs.Budgets.{most_budget};
     ghost use Rattle.sat_solve.specs.Answering.{IfSat, IfUnsat, IfOpen, IfLogged, IsDecided};
 
-    /// Of which formula it is a solver, and how many additions its log has at least where it ends open.
+    /// The formula that it solves, and the least number of additions of a log that leaves it undecided.
     ghost IsSolverOf: { Formula → ℕ → Self → Type 0 };
 
     /// The number of variables.
     ghost vars_of: { Self → ℕ };
 
-    /// A solver of a formula. Where its log ends open, it has at least `least` additions, and half of these may be
-    /// deleted at any time.
+    /// A solver of a formula. A log that leaves the formula undecided has at least `least` additions; up to
+    /// half of these may be deleted at any time.
     fn new(alloc: Global, cnf: &Cnf, least: u32) -> Result<Self, AllocError>
     where
         Self: Sized,
@@ -62,18 +65,20 @@ pub trait Solver: Drop {
         ensures solver { IfOk result (IsSolverOf cnf.now least) }
         ensures vars { IfOk result (λ s. vars_of s ≡ cnf.now.vars) };
 
-    /// Tries to make all targets true: decides those without a value, in their order, and then open variables alone,
-    /// the targets' variables first of all. A decision that is due after `limit` conflicts ends it.
+    /// Solves under assumptions: decides the assumptions without a value in their order, and then only
+    /// decision variables, those of the assumptions first (see `Cones`). It returns `GivenUp` at the first
+    /// decision after `limit` conflicts, or after work that corresponds to that many.
     fn probe(&mut self, targets: &[Lit], cones: Cones, limit: u32) -> Result<Probed, AllocError>
         requires within { IsWithin (vars_of self.old) targets.now }
         ensures kept { (f : Formula) (least : ℕ) → IsSolverOf f least self.old → IfOk result (λ _. IsSolverOf f least self.new) }
         ensures vars { IfOk result (λ _. vars_of self.new ≡ vars_of self.old) };
 
-    /// The value that a variable has since the last probe; None where it has none, or the formula lacks it.
+    /// The value of a variable after the last call under assumptions; None if it has none, or the formula
+    /// doesn't have the variable.
     fn bit(&self, variable: u32) -> Option<bool>;
 
-    /// Decides the formula, unless it takes more than `budget` further learnt clauses, from 1 to 10,000,000: the
-    /// answer is Open at the first decision that is due after `budget` of them, where the log has `least` or more.
+    /// Decides the formula, or returns Open at the first decision after `budget` further learnt clauses, from
+    /// 1 to 10,000,000; its log then has at least `least` additions.
     fn finish(self, alloc: Global, budget: u32) -> Result<Solved, AllocError>
     where
         Self: Sized,
@@ -91,8 +96,8 @@ pub trait Solver: Drop {
         // A budget of twice 3 to the number of variables decides every formula.
         ensures decides { (f : Formula) (least : ℕ) → IsSolverOf f least self → 2 * 3 ^ f.vars ≤ max least budget → IfOk result IsDecided };
 
-    /// Decides a formula, unless it takes more than `budget` learnt clauses, from 1 to 10,000,000: the answer is
-    /// Open at the first decision that is due after `budget` of them.
+    /// Decides a formula, or returns Open at the first decision after `budget` learnt clauses, from 1 to
+    /// 10,000,000.
     fn solve(alloc: Global, cnf: &Cnf, budget: u32) -> Result<Solved, AllocError>
     where
         Self: Sized,

@@ -1,4 +1,4 @@
-//! Clauses by their ids, and which literals they watch.
+//! The clause database: clauses by their ids, and the literals that they watch.
 ghost use Rattle.std.specs.Prelude.{◌≡◌, ℤ, ◌≤◌, List, Some, Contains, IsTrue, IfSome};
 ghost use Rattle.sat_theory.specs.Formula.{variable as variable_of};
 ghost use Rattle.clause_db.specs.Stored.{live_in, IsLong};
@@ -20,7 +20,7 @@ fn are(lits: &[Lit], numbers: &[i32]) -> bool {
     true
 }
 
-/// Whether the literals of a live clause stand in this order, the watched ones in front.
+/// Whether a clause is live and has its literals in this order, the watched ones first.
 fn stands(clauses: &ClauseDb, id: u32, numbers: &[i32]) -> bool {
     clauses.live(id) && are(clauses.arranged(id), numbers)
 }
@@ -30,10 +30,10 @@ fn database(alloc: Global, clauses: &[&[u8]]) -> Result<ClauseDb, AllocError> {
     ClauseDb::new(alloc, &formula(alloc, 3, clauses)?)
 }
 
-/// The literals by the ids that they have.
+/// The literals of each id, in their stored order.
 const HELD: &[(u32, &[i32])] = &[(1, &[-2, 1]), (2, &[]), (3, &[3])];
 
-/// Whether the clauses have their ids, and their literals stand in the order in which they were added.
+/// Whether the clauses have these ids, and their literals are in the order in which they were added.
 fn all_held(clauses: &ClauseDb) -> bool {
     for &(id, numbers) in HELD {
         if !stands(clauses, id, numbers) {
@@ -43,7 +43,7 @@ fn all_held(clauses: &ClauseDb) -> bool {
     !clauses.live(0) && !clauses.live(4) && !clauses.live(4294967295)
 }
 
-/// Whether two clauses have ids from 1 on, and the next is that of an added one.
+/// Whether two clauses have the ids 1 and 2, and an added one the next id.
 fn have_ids(clauses: &mut ClauseDb) -> Result<bool, AllocError> {
     if clauses.vars() != 3 || clauses.last() != 2 {
         return Ok(false);
@@ -52,7 +52,7 @@ fn have_ids(clauses: &mut ClauseDb) -> Result<bool, AllocError> {
     Ok(id == 3 && clauses.last() == 3 && all_held(clauses))
 }
 
-/// Whether clauses have their ids.
+/// The same for a database of two clauses.
 fn are_counted(alloc: Global) -> Result<bool, AllocError> {
     let mut clauses = database(alloc, &[b"1 -2 1 0 0", b"2 0 0"])?;
     let well = have_ids(&mut clauses);
@@ -65,7 +65,7 @@ fn clauses_have_ids(rt: HostRuntime) {
     assert!(rt; matches!(are_counted(rt.alloc()), Ok(true)));
 }
 
-/// The literal of a number, if its variable is one of the formula.
+/// The literal of a number, if the formula has its variable.
 fn over(clauses: &ClauseDb, number: i32) -> Option<Lit>
     ensures { IfSome result (λ l. variable_of l ≤ clauses.now.vars) }
 {
@@ -79,7 +79,7 @@ fn over(clauses: &ClauseDb, number: i32) -> Option<Lit>
     Some(lit)
 }
 
-/// Whether the clauses of these ids watch a literal, with these literals beside them.
+/// Whether the clauses with these ids watch a literal, with these blocking literals.
 fn watching(clauses: &ClauseDb, number: i32, ids: &[u32], beside: &[i32]) -> bool {
     let Some(lit) = over(clauses, number) else {
         return false;
@@ -107,7 +107,7 @@ fn is_long(clauses: &ClauseDb, id: u32) -> bool
     clauses.live(id) && clauses.arranged(id).len() >= 2
 }
 
-/// The literal at a place of a live clause.
+/// The literal at an index of a live clause.
 fn literal_at(clauses: &ClauseDb, id: u32, place: usize) -> Option<Lit>
     ensures { IfSome result (λ l. (clause : List ℤ) → live_in clauses.now id ≡ Some clause → Contains clause l) }
 {
@@ -126,8 +126,8 @@ fn watches(clauses: &ClauseDb, id: u32, one: i32, other: i32) -> bool {
     first.get() == one && second.get() == other
 }
 
-/// Lets a clause watch its literal at a place in place of a watched one, if it may. That is the second one, if
-/// the first is another literal.
+/// Makes a clause watch its literal at an index instead of the watched literal `from`, or instead of its
+/// second one if `from` isn't the first. Returns false if it watches that literal already.
 fn rewatch(clauses: &mut ClauseDb, id: u32, from: i32, place: usize) -> Result<bool, AllocError> {
     if !is_long(clauses, id) {
         return Ok(false);
@@ -147,7 +147,7 @@ fn rewatch(clauses: &mut ClauseDb, id: u32, from: i32, place: usize) -> Result<b
     Ok(true)
 }
 
-/// Literals with the clauses that watch them and the literals beside them.
+/// Literals, each with the clauses that watch it and their blocking literals.
 const FIRST: &[(i32, &[u32], &[i32])] = &[
     (1, &[1, 2, 3], &[2, 3, 2]),
     (2, &[1, 3], &[1, 1]),
@@ -155,14 +155,14 @@ const FIRST: &[(i32, &[u32], &[i32])] = &[
     (-1, &[], &[]),
 ];
 
-/// The same where the first clause watches 3 in place of 1.
+/// The same after the first clause watches 3 instead of 1.
 const THEN: &[(i32, &[u32], &[i32])] = &[
     (1, &[3, 2], &[2, 3]),
     (2, &[1, 3], &[1, 1]),
     (3, &[2, 1], &[1, 2]),
 ];
 
-/// Whether literals are watched so.
+/// Whether the watch lists are these.
 fn all_watching(clauses: &ClauseDb, rows: &[(i32, &[u32], &[i32])]) -> bool {
     for &(number, ids, beside) in rows {
         if !watching(clauses, number, ids, beside) {
@@ -172,7 +172,8 @@ fn all_watching(clauses: &ClauseDb, rows: &[(i32, &[u32], &[i32])]) -> bool {
     true
 }
 
-/// Whether clauses watch their first two literals, and then the first one 3 in place of 1, not a second time.
+/// Whether clauses watch their first two literals, the first one then watches 3 instead of 1, and a second
+/// replacement by the same literal is refused.
 fn are_watched(clauses: &mut ClauseDb) -> Result<bool, AllocError> {
     let first = all_watching(clauses, FIRST);
     let goes = rewatch(clauses, 1, 1, 2)?;
@@ -182,7 +183,7 @@ fn are_watched(clauses: &mut ClauseDb) -> Result<bool, AllocError> {
     Ok(gone && kept && all_watching(clauses, THEN))
 }
 
-/// Whether the three clauses are watched so.
+/// The same for a database of these three clauses.
 fn three_are_watched(alloc: Global) -> Result<bool, AllocError> {
     let mut clauses = database(alloc, THREE)?;
     let well = are_watched(&mut clauses);

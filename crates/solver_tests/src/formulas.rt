@@ -1,4 +1,4 @@
-//! Literals, clauses and formulas, and what satisfies them.
+//! Literals, clauses, formulas and assignments that satisfy them.
 use cnf_core::{Assign, Cnf, Lit, satisfied};
 use lrat_tests::building::formula;
 use std::alloc::{AllocError, Global};
@@ -23,7 +23,7 @@ fn satisfies(alloc: Global, cnf: &Cnf, bits: &[bool; 3]) -> Result<bool, AllocEr
     Ok(well)
 }
 
-/// Whether just those bits satisfy the formula.
+/// Whether exactly those assignments satisfy the formula.
 fn all_satisfy(alloc: Global, cnf: &Cnf) -> Result<bool, AllocError> {
     for (bits, yes) in ASSIGNMENTS {
         if satisfies(alloc, cnf, bits)? != *yes {
@@ -33,7 +33,7 @@ fn all_satisfy(alloc: Global, cnf: &Cnf) -> Result<bool, AllocError> {
     Ok(!cnf.has_empty())
 }
 
-/// Whether they satisfy that formula.
+/// The same for that formula.
 fn are_judged(alloc: Global) -> Result<bool, AllocError> {
     let cnf = formula(alloc, 3, &[b"1 1 -2 0 0", b"2 2 3 0 0"])?;
     let well = all_satisfy(alloc, &cnf);
@@ -41,7 +41,7 @@ fn are_judged(alloc: Global) -> Result<bool, AllocError> {
     well
 }
 
-/// Whether a formula tells of its empty clause.
+/// Whether a formula with the empty clause is found to have it.
 fn is_empty(alloc: Global) -> Result<bool, AllocError> {
     Ok(formula(alloc, 2, &[b"1 -2 0 0", b"2 0 0"])?.has_empty())
 }
@@ -53,7 +53,7 @@ fn assignments_satisfy_and_empty_clauses_are_told(rt: HostRuntime) {
     assert!(rt; judged && told);
 }
 
-/// Numbers of literals, with the variable, whether it is positive, and the place.
+/// DIMACS numbers of literals, each with its variable, whether it is positive, and its table index.
 const LITERALS: &[(i32, u32, bool, usize)] = &[
     (1, 1, true, 2),
     (-1, 1, false, 3),
@@ -61,7 +61,7 @@ const LITERALS: &[(i32, u32, bool, usize)] = &[
     (2147483647, 2147483647, true, 4294967294),
 ];
 
-/// Whether the literal of a number tells these.
+/// Whether the literal of a number has these properties.
 fn tells(number: i32, variable: u32, positive: bool, place: usize) -> bool {
     if number == 0 || number == i32::MIN {
         return false;

@@ -2,7 +2,7 @@
 use std::alloc::{AllocError, Global};
 use var_heap::VarHeap;
 
-/// Whether the variables come in this order, and then none.
+/// Whether exactly these variables are popped, in this order.
 fn pops(heap: &mut VarHeap, order: &[u32]) -> bool {
     for variable in order {
         match heap.pop() {
@@ -17,7 +17,7 @@ fn pops(heap: &mut VarHeap, order: &[u32]) -> bool {
     heap.pop().is_none()
 }
 
-/// Whether variables come by their scores.
+/// Whether variables are popped by decreasing score.
 fn greatest_first(alloc: Global) -> Result<bool, AllocError> {
     let mut heap = VarHeap::new(alloc, 3)?;
     heap.bump(2, 5);
@@ -28,7 +28,7 @@ fn greatest_first(alloc: Global) -> Result<bool, AllocError> {
     Ok(well)
 }
 
-/// Whether scores stay at the greatest number, and a variable comes back once.
+/// Whether scores saturate, and a variable pushed twice is held once.
 fn back_again(alloc: Global) -> Result<bool, AllocError> {
     let mut heap = VarHeap::new(alloc, 2)?;
     heap.bump(1, 18446744073709551615);

@@ -1,5 +1,5 @@
-//! Tests of `cnf_core` and of the crates from `cdcl_theory` to `cdcl_core`: what satisfies formulas, the parts of
-//! the solver, and the solver on formulas in steps of difficulty, each of its logs fed to the checker.
+//! Tests of `cnf_core` and of the crates from `cdcl_theory` to `cdcl_core`: satisfaction of formulas, the
+//! parts of the solver, and the solver on formulas of increasing difficulty, with each of its logs checked.
 #![tactic(auto)]
 
 #[cfg(test)]

@@ -1,14 +1,14 @@
-//! Formulas made clause by clause, and the pigeons, of which each is to have a hole of its own.
+//! Formulas built clause by clause, and the pigeonhole formulas.
 use cnf_core::Cnf;
 use lrat_tests::building::{clause, push_within};
 use std::alloc::{AllocError, Global};
 
-/// Spells one more number.
+/// Appends a number.
 fn spell(alloc: Global, text: &mut String, number: i64) -> Result<(), AllocError> {
     text.push_str(format!(in alloc; "{number} ")?.as_str())
 }
 
-/// Spells an addition of these literals.
+/// Appends these literals as an addition in the text format of logs.
 fn spell_all(alloc: Global, text: &mut String, lits: &[i64]) -> Result<(), AllocError> {
     text.push_str("1 ")?;
     for lit in lits {
@@ -24,12 +24,12 @@ pub(crate) fn push(alloc: Global, cnf: &mut Cnf, lits: &[i64]) -> Result<(), All
     push_within(cnf, clause(alloc, text.as_bytes()))
 }
 
-/// The variable that says that a pigeon has a hole.
+/// The variable that is true if a pigeon has a hole.
 fn place(holes: u32, pigeon: u32, hole: u32) -> u32 {
     holes.wrapping_mul(pigeon).wrapping_add(hole)
 }
 
-/// Adds that a pigeon has one of the holes.
+/// Adds the clause that a pigeon has one of the holes.
 fn push_pigeon(alloc: Global, cnf: &mut Cnf, holes: u32, pigeon: u32) -> Result<(), AllocError> {
     let mut lits = Vec::new(alloc);
     for hole in 1..=holes {
@@ -38,7 +38,7 @@ fn push_pigeon(alloc: Global, cnf: &mut Cnf, holes: u32, pigeon: u32) -> Result<
     push(alloc, cnf, &lits)
 }
 
-/// Adds that no two pigeons have a hole.
+/// Adds the clauses that no two pigeons share a hole.
 fn push_hole(alloc: Global, cnf: &mut Cnf, holes: u32, hole: u32) -> Result<(), AllocError> {
     for pigeon in 0..=holes {
         for other in 0..pigeon {
@@ -50,7 +50,7 @@ fn push_hole(alloc: Global, cnf: &mut Cnf, holes: u32, hole: u32) -> Result<(), 
     Ok(())
 }
 
-/// Adds that each pigeon has a hole of its own.
+/// Adds the clauses that each pigeon has a hole of its own.
 fn push_pigeons(alloc: Global, cnf: &mut Cnf, holes: u32) -> Result<(), AllocError> {
     for pigeon in 0..=holes {
         push_pigeon(alloc, cnf, holes, pigeon)?;
@@ -61,7 +61,7 @@ fn push_pigeons(alloc: Global, cnf: &mut Cnf, holes: u32) -> Result<(), AllocErr
     Ok(())
 }
 
-/// More pigeons by one than holes, of which each is to have a hole of its own.
+/// The pigeonhole formula: `holes` + 1 pigeons, at most 10, each in a hole of its own. It is unsatisfiable.
 pub(crate) fn pigeons(alloc: Global, holes: u32) -> Result<Cnf, AllocError> {
     let holes = holes.min(9);
     let mut cnf = Cnf::new(alloc, holes * (holes + 1));

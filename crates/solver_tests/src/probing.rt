@@ -1,11 +1,12 @@
-//! Probes of the solver: what one comes to, what is known after it, and how the formula is decided then.
+//! Solving under assumptions: the result of a call, the values after it, and the answer to the formula
+//! afterwards.
 use cdcl_core::{Cdcl, Solved};
 use cnf_core::{Clause, Cnf};
 use lrat_tests::building::{clause, formula};
 use sat_solve::{Cones, Probed, Solver};
 use std::alloc::{AllocError, Global};
 
-/// A probe of a formula with the cones of `CONES`, and what is wanted of it.
+/// A call under assumptions, with the fanins of `CONES`, and its expected results.
 #[derive(Clone, Copy)]
 struct Probe {
     clauses: &'static [&'static [u8]],
@@ -13,12 +14,12 @@ struct Probe {
     targets: &'static [u8],
     limit: u32,
     ended: Probed,
-    /// a variable, and the bit that it has then
+    /// a variable, and its expected value after the call
     bit: (u32, Option<bool>),
     satisfiable: bool,
 }
 
-/// 3 and 4 are both 1 AND 2, and 5 says that they differ.
+/// 3 and 4 are both 1 AND 2, and 5 is true if they differ.
 const MITER: &[&[u8]] = &[
     b"1 -3 1 0 0",
     b"2 -3 2 0 0",
@@ -32,7 +33,7 @@ const MITER: &[&[u8]] = &[
     b"10 5 3 -4 0 0",
 ];
 
-/// What 3, 4 and 5 are made of.
+/// The fanins and ranks of 3, 4 and 5.
 const CONES: Cones = Cones {
     first: &[0, 0, 0, 1, 1, 3],
     second: &[0, 0, 0, 2, 2, 4],
@@ -89,7 +90,7 @@ const PROBES: &[Probe] = &[
     },
 ];
 
-/// Whether two probes came to the same.
+/// Whether two results are equal.
 fn are_same(first: Probed, second: Probed) -> bool {
     match first {
         Probed::Refuted => matches!(second, Probed::Refuted),
@@ -99,7 +100,7 @@ fn are_same(first: Probed, second: Probed) -> bool {
     }
 }
 
-/// Whether a probe comes to what is wanted, and the formula is decided so then.
+/// Whether a call has the expected results, and the formula the expected answer afterwards.
 fn is_probed<S: Solver>(
     alloc: Global,
     cnf: &Cnf,
@@ -120,7 +121,7 @@ fn is_probed<S: Solver>(
     }
 }
 
-/// Whether all probes come to what is wanted.
+/// Whether all calls have the expected results.
 fn are_probed(alloc: Global) -> Result<bool, AllocError> {
     for row in PROBES {
         let cnf = formula(alloc, row.vars, row.clauses)?;

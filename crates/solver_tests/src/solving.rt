@@ -1,4 +1,5 @@
-//! The solver: formulas in steps of difficulty, how many clauses are learnt, and each log fed to the checker.
+//! The solver on formulas of increasing difficulty: its answers, the number of learnt clauses, and each log
+//! fed to the checker.
 use crate::pigeons::{pigeons, push};
 use cdcl_core::{Cdcl, Solved};
 use cnf_core::Cnf;
@@ -9,7 +10,7 @@ use lrat_text::{Line, read_line, write_line};
 use sat_solve::Solver;
 use std::alloc::{AllocError, Global};
 
-/// How many clauses the lines of a log add and delete, and how many lines the checker refuses.
+/// The numbers of clauses that the lines of a log add and delete, and of lines that the checker rejects.
 #[derive(Clone, Copy)]
 struct Counts {
     added: u64,
@@ -18,7 +19,7 @@ struct Counts {
 }
 
 impl Counts {
-    /// Counts one more line.
+    /// Counts a line.
     fn count(&mut self, line: &Line) {
         match line {
             Line::Add { .. } => self.added = self.added.saturating_add(1),
@@ -28,13 +29,13 @@ impl Counts {
         }
     }
 
-    /// Counts whether it's refused.
+    /// Counts a rejected line.
     fn judge(&mut self, taken: bool) {
         self.refused = self.refused.saturating_add(u64::from(!taken));
     }
 }
 
-/// Whether the checker takes a line of a text.
+/// Whether the checker accepts a line of a text.
 fn is_fed(alloc: Global, checker: &mut Checker, text: &[u8]) -> bool {
     let Some((_, body)) = text.split_last() else {
         return false;
@@ -45,7 +46,7 @@ fn is_fed(alloc: Global, checker: &mut Checker, text: &[u8]) -> bool {
     checker.feed(line).is_ok()
 }
 
-/// Whether the checker takes a line, as it is written and read again.
+/// Whether the checker accepts a line after it is written and read again.
 fn is_taken(alloc: Global, checker: &mut Checker, line: &Line) -> Result<bool, AllocError> {
     let mut text = Vec::new(alloc);
     write_line(line, &mut text)?;
@@ -69,25 +70,25 @@ fn count_lines(alloc: Global, checker: &mut Checker, log: &Log) -> Result<Counts
     Ok(counts)
 }
 
-/// What is wanted of the answer to pigeons.
+/// The expected answer to a pigeonhole formula.
 #[derive(Clone, Copy)]
 struct Told {
     holes: u32,
     budget: u32,
-    /// None: either way
+    /// None: either answer is right
     refuted: Option<bool>,
-    /// None: however many clauses are learnt
+    /// None: any number of learnt clauses is right
     added: Option<u64>,
 }
 
-/// What is wanted of an answer.
+/// An expected answer.
 #[derive(Clone, Copy)]
 enum Wanted {
     /// These bits satisfy the formula.
     Bits(&'static [bool]),
-    /// A log refutes it, with this number of lines, if that is told.
+    /// A log refutes it, with this number of lines, if given.
     Refuted(Option<usize>),
-    /// The log is open and has one line, which begins so.
+    /// The formula is undecided, and the log has one line, which begins like this.
     Learnt(&'static [u8]),
     Pigeons(Told),
 }
@@ -100,7 +101,7 @@ fn has_bits(solved: &Solved, bits: &[bool]) -> bool {
     }
 }
 
-/// Whether the answer is a log that refutes, with `lines` lines if that is told.
+/// Whether the answer is a log that refutes the formula, with `lines` lines if given.
 fn is_refuted(
     alloc: Global,
     checker: &mut Checker,
@@ -118,7 +119,7 @@ fn is_refuted(
     Ok(long && counts.refused == 0 && checker.refuted())
 }
 
-/// Whether the answer is an open log of one line, which begins so.
+/// Whether the formula is undecided, with a log of one line, which begins like this.
 fn is_learnt(alloc: Global, solved: &Solved, begin: &[u8]) -> Result<bool, AllocError> {
     let Solved::Open(log) = solved else {
         return Ok(false);
@@ -128,7 +129,8 @@ fn is_learnt(alloc: Global, solved: &Solved, begin: &[u8]) -> Result<bool, Alloc
     Ok(log.len() == 1 && text.starts_with(begin))
 }
 
-/// Whether a log of the pigeons with these counts keeps half of its additions where it is open, and no more than it may.
+/// Whether the log of a pigeonhole formula with these counts keeps half of its additions live if the formula
+/// is undecided, and no more live additions than a log may have at its end.
 fn is_thrifty(counts: Counts, holes: u32, refuted: bool) -> bool {
     let live = counts.added.saturating_sub(counts.deleted);
     let vars = u64::from(holes).saturating_mul(u64::from(holes).saturating_add(1));
@@ -140,7 +142,7 @@ fn is_thrifty(counts: Counts, holes: u32, refuted: bool) -> bool {
                 .saturating_add(8000)
 }
 
-/// Whether counts of a log are what is wanted of pigeons.
+/// Whether the counts of a log are as expected of a pigeonhole formula.
 fn fits(counts: Counts, refuted: bool, wanted: Told) -> bool {
     let end = match wanted.refuted {
         Some(end) => end == refuted,
@@ -154,7 +156,7 @@ fn fits(counts: Counts, refuted: bool, wanted: Told) -> bool {
     end && added && enough && counts.refused == 0 && is_thrifty(counts, wanted.holes, refuted)
 }
 
-/// Whether a log of pigeons is what is wanted.
+/// Whether the log of a pigeonhole formula is as expected.
 fn is_right(
     alloc: Global,
     checker: &mut Checker,
@@ -166,7 +168,7 @@ fn is_right(
     Ok(checker.refuted() == refuted && fits(counts, refuted, wanted))
 }
 
-/// Whether an answer to pigeons is what is wanted.
+/// Whether the answer to a pigeonhole formula is as expected.
 fn is_told(
     alloc: Global,
     checker: &mut Checker,
@@ -180,7 +182,7 @@ fn is_told(
     }
 }
 
-/// Whether an answer is what is wanted, and this checker takes its log.
+/// Whether an answer is as expected, and this checker accepts its log.
 fn is_wanted(
     alloc: Global,
     checker: &mut Checker,
@@ -195,7 +197,7 @@ fn is_wanted(
     }
 }
 
-/// Whether an answer is what is wanted, and a checker of the formula takes its log.
+/// Whether an answer is as expected, and a checker for the formula accepts its log.
 fn is_checked(
     alloc: Global,
     cnf: Cnf,
@@ -208,7 +210,7 @@ fn is_checked(
     well
 }
 
-/// The answer within a budget of 1 to 1000000.
+/// The answer within a budget of 1 to 1000000; other budgets count as 1.
 fn answer(alloc: Global, cnf: &Cnf, budget: u32) -> Result<Solved, AllocError> {
     if budget == 0 || budget > 1000000 {
         return Cdcl::solve(alloc, cnf, 1);
@@ -216,7 +218,7 @@ fn answer(alloc: Global, cnf: &Cnf, budget: u32) -> Result<Solved, AllocError> {
     Cdcl::solve(alloc, cnf, budget)
 }
 
-/// Whether a formula has the answer that is wanted, within a budget.
+/// Whether a formula has the expected answer within a budget.
 fn is_answered(alloc: Global, cnf: Cnf, budget: u32, wanted: &Wanted) -> Result<bool, AllocError> {
     let Ok(solved) = answer(alloc, &cnf, budget) else {
         drop(cnf);
@@ -230,7 +232,7 @@ fn is_answered(alloc: Global, cnf: Cnf, budget: u32, wanted: &Wanted) -> Result<
 /// The variables 1 and 2, and all four clauses over both.
 const CONTRADICTION: &[&[u8]] = &[b"1 1 2 0 0", b"2 -1 2 0 0", b"3 1 -2 0 0", b"4 -1 -2 0 0"];
 
-/// A step that negates its input by conjunction alone.
+/// The encoding of one conjunction step that negates its input. It is unsatisfiable.
 const NEGATION: &[&[u8]] = &[
     b"1 3 0 0",
     b"1 -3 1 0 0",
@@ -257,7 +259,7 @@ const NEGATION: &[&[u8]] = &[
     b"1 -4 -5 -6 -7 0 0",
 ];
 
-/// The conflict after the decisions 1 and 5 leads back to -3, -2 and -1, of which -2 follows from -1.
+/// The conflict after the decisions 1 and 5 resolves to -3, -2 and -1, of which -1 makes -2 redundant.
 const IMPLIED: &[&[u8]] = &[
     b"1 -1 2 0 0",
     b"2 -5 3 0 0",
@@ -265,7 +267,7 @@ const IMPLIED: &[&[u8]] = &[
     b"4 -3 -4 0 0",
 ];
 
-/// The same, and 1 follows from 3, so that -1 goes too.
+/// The same, and 3 implies 1, so -1 is removed too.
 const SHORTENED: &[&[u8]] = &[
     b"1 -1 2 0 0",
     b"2 -5 3 0 0",
@@ -274,7 +276,7 @@ const SHORTENED: &[&[u8]] = &[
     b"5 -3 1 0 0",
 ];
 
-/// The same with 2 in the last clause besides, so that -1 stays.
+/// The same with 2 added to the last clause, so -1 stays.
 const NOT_SHORTENED: &[&[u8]] = &[
     b"1 -1 2 0 0",
     b"2 -5 3 0 0",
@@ -329,7 +331,7 @@ const FORMULAS: &[(&str, u32, &[&[u8]], Wanted)] = &[
     ),
 ];
 
-/// Whether some clauses have this answer within a budget of one.
+/// Whether these clauses have the expected answer within a budget of one.
 fn are_answered(
     alloc: Global,
     vars: u32,
@@ -347,7 +349,7 @@ fn formulas_are_answered(rt: HostRuntime) {
     }
 }
 
-/// Whether pigeons have the answer that is wanted.
+/// Whether a pigeonhole formula has the expected answer.
 fn are_told(alloc: Global, wanted: Told) -> Result<bool, AllocError> {
     let cnf = pigeons(alloc, wanted.holes)?;
     is_answered(alloc, cnf, wanted.budget, &Wanted::Pigeons(wanted))
@@ -355,9 +357,8 @@ fn are_told(alloc: Global, wanted: Told) -> Result<bool, AllocError> {
 
 /// Pigeonhole formulas: the number of holes, the budget, whether it is enough, and the number of additions.
 ///
-/// Where it's told how many additions there are, it's as many as an independent program makes that takes the same
-/// steps: they tell of scores, of signs, of when restarts come and in which order literals are watched, which no
-/// contract says.
+/// If a number of additions is given, an independent program that takes the same steps makes as many: this
+/// tests scores, phases, restarts and the order of watched literals, about which no contract says anything.
 const PIGEONS: &[(u32, u32, bool, Option<u64>)] = &[
     (3, 1, false, None),
     (3, 1000000, true, None),
@@ -383,7 +384,7 @@ fn pigeons_have_no_holes(rt: HostRuntime) {
 
 #[test]
 fn ten_pigeons_have_a_log(rt: HostRuntime) {
-    // either way
+    // refuted or not
     let wanted = Told {
         holes: 9,
         budget: 20000,
@@ -393,8 +394,8 @@ fn ten_pigeons_have_a_log(rt: HostRuntime) {
     assert!(rt; matches!(are_told(rt.alloc(), wanted), Ok(true)));
 }
 
-/// Adds that the first of some variables is true, that each follows from the one before, and that the last is false.
-/// What follows last is listed first.
+/// Adds the clauses that the first of some variables is true, that each variable implies the next one, and
+/// that the last one is false; the implications in reverse order.
 fn push_row(alloc: Global, cnf: &mut Cnf, vars: u32) -> Result<(), AllocError> {
     for left in 1..vars {
         let from = i64::from(vars - left);
@@ -404,7 +405,8 @@ fn push_row(alloc: Global, cnf: &mut Cnf, vars: u32) -> Result<(), AllocError> {
     push(alloc, cnf, &[-i64::from(vars)])
 }
 
-/// Whether a row of 4000 implications from a true to a false variable is refuted by a log of one line.
+/// Whether a chain of 4000 variables, each implying the next one, from a true to a false one, is refuted by a
+/// log of one line.
 fn is_followed(alloc: Global) -> Result<bool, AllocError> {
     let mut cnf = Cnf::new(alloc, 4000);
     push_row(alloc, &mut cnf, 4000)?;

@@ -10,10 +10,10 @@ use lrat_tests::building::formula;
 use std::alloc::{AllocError, Global};
 use subsume_core::{Finder, Found, Marks, Units, contains_all, holds, is_new, keep_others};
 
-/// The clauses that all tests here begin with.
+/// The clauses with which all tests here begin.
 const CLAUSES: &[&[u8]] = &[b"1 1 2 0 0", b"2 -1 2 3 0 0", b"3 1 2 3 0 0", b"4 -2 0 0"];
 
-/// The literals of numbers from -9 to 9; 0 and others are passed over.
+/// The literals of numbers from -9 to 9; 0 and others are skipped.
 fn literals(alloc: Global, numbers: &[i32]) -> Result<Vec<Lit>, AllocError> {
     let mut lits = Vec::new(alloc);
     for number in numbers {
@@ -36,7 +36,7 @@ fn are(lits: &[Lit], numbers: &[i32]) -> bool {
     true
 }
 
-/// The clauses in the order in which they are looked at; beyond the turns the numbers go on.
+/// The clauses in the order of the turns, with an entry beyond the last turn.
 const ORDER: &[u32] = &[4, 1, 2, 3, 4, 1, 2, 3, 0];
 
 /// Whether the finder has its turns in this order.
@@ -49,7 +49,7 @@ fn comes_in_order(finder: &Finder) -> bool {
     finder.turns() == 6
 }
 
-/// By clause, the one that subsumes it or 0, the literals that go, and the hints for that.
+/// By clause, the one that subsumes it or 0, the literals that are removed, and the hints for that.
 const FOUND: &[(u32, u32, &[i32], &[u32])] = &[
     (1, 0, &[2], &[4, 1]),
     (2, 0, &[-1, 2], &[4, 1, 2]),
@@ -57,7 +57,7 @@ const FOUND: &[(u32, u32, &[i32], &[u32])] = &[
     (4, 0, &[], &[]),
 ];
 
-/// The id of a clause that was found to subsume another one, and 0 for other answers.
+/// The id of the clause that was found to subsume another one; 0 for other results.
 fn subsuming(found: Found) -> u32 {
     match found {
         Found::Subsumed(other) => other,
@@ -65,7 +65,7 @@ fn subsuming(found: Found) -> u32 {
     }
 }
 
-/// Whether that is what is found.
+/// Whether the finder has these results.
 fn all_found(finder: &mut Finder, clauses: &ClauseDb) -> Result<bool, AllocError> {
     for &(id, other, gone, hints) in FOUND {
         let found = subsuming(finder.find(clauses, id)?);
@@ -76,7 +76,7 @@ fn all_found(finder: &mut Finder, clauses: &ClauseDb) -> Result<bool, AllocError
     Ok(true)
 }
 
-/// Whether a unit clause that is added subsumes the second clause.
+/// Whether an added unit clause is found to subsume the second clause.
 fn finds_added(finder: &mut Finder, clauses: &mut ClauseDb) -> Result<bool, AllocError> {
     if clauses.vars() != 3 || clauses.last() != 4 {
         return Ok(false);
@@ -86,7 +86,7 @@ fn finds_added(finder: &mut Finder, clauses: &mut ClauseDb) -> Result<bool, Allo
     Ok(subsuming(finder.find(clauses, 2)?) == 5)
 }
 
-/// Whether the finder finds what is there.
+/// Whether the finder has the right turns and results, also after an addition.
 fn finds(alloc: Global, clauses: &mut ClauseDb) -> Result<bool, AllocError> {
     let mut finder = Finder::new(alloc, clauses, 4)?;
     let well = comes_in_order(&finder) && all_found(&mut finder, clauses)?;
@@ -95,7 +95,7 @@ fn finds(alloc: Global, clauses: &mut ClauseDb) -> Result<bool, AllocError> {
     Ok(well && added?)
 }
 
-/// Whether it does from these clauses.
+/// The same for a database of these clauses.
 fn are_found(alloc: Global) -> Result<bool, AllocError> {
     let mut clauses = ClauseDb::new(alloc, &formula(alloc, 3, CLAUSES)?)?;
     let well = finds(alloc, &mut clauses);
@@ -108,7 +108,7 @@ fn clauses_are_subsumed_and_shortened(rt: HostRuntime) {
     assert!(rt; matches!(are_found(rt.alloc()), Ok(true)));
 }
 
-/// Lists with hints, and whether they follow by them.
+/// Lists of literals with hints, and whether they follow by these.
 const HINTED: &[(&[i32], &[u32], bool)] = &[
     (&[3], &[4, 1, 2], true),
     (&[3], &[1, 4, 2], false),
@@ -119,7 +119,7 @@ const HINTED: &[(&[i32], &[u32], bool)] = &[
     (&[2, 3], &[1], false),
 ];
 
-/// Whether those that do are told.
+/// Whether `holds` returns this.
 fn all_hold(alloc: Global, clauses: &ClauseDb) -> Result<bool, AllocError> {
     let mut known = Vec::new(alloc);
     for &(numbers, hints, yes) in HINTED {
@@ -131,7 +131,7 @@ fn all_hold(alloc: Global, clauses: &ClauseDb) -> Result<bool, AllocError> {
     Ok(true)
 }
 
-/// Whether they are, from these clauses.
+/// The same for a database of these clauses.
 fn are_held(alloc: Global) -> Result<bool, AllocError> {
     let clauses = ClauseDb::new(alloc, &formula(alloc, 3, CLAUSES)?)?;
     let well = all_hold(alloc, &clauses);
@@ -144,7 +144,7 @@ fn hints_hold_in_their_order(rt: HostRuntime) {
     assert!(rt; matches!(are_held(rt.alloc()), Ok(true)));
 }
 
-/// The literal of a number, if its variable is one of the clauses'.
+/// The literal of a number, if the clauses have its variable.
 fn over(clauses: &ClauseDb, number: i32) -> Option<Lit>
     ensures { IfSome result (λ l. variable_of l ≤ clauses.now.vars) }
 {
@@ -161,7 +161,7 @@ fn over(clauses: &ClauseDb, number: i32) -> Option<Lit>
 /// Pairs of literals, and whether no clause subsumes them.
 const PAIRS: &[(i32, i32, bool)] = &[(1, 3, true), (1, 2, false), (2, 1, false), (1, -2, false)];
 
-/// Whether a pair is new.
+/// Whether no live clause subsumes a pair.
 fn is_new_pair(clauses: &ClauseDb, units: &Units, marks: &mut Marks, one: i32, other: i32) -> bool
     requires units { IsUnitsOf clauses.now units.now }
     requires some { (id : ℕ) → live_in clauses.now id ≡ Some [] → ⊥ }
@@ -175,7 +175,7 @@ fn is_new_pair(clauses: &ClauseDb, units: &Units, marks: &mut Marks, one: i32, o
     is_new(clauses, units, marks, &[one, other])
 }
 
-/// Whether those are told that are.
+/// Whether `is_new` returns this for all pairs.
 fn all_new(clauses: &ClauseDb, units: &Units, marks: &mut Marks) -> bool
     requires units { IsUnitsOf clauses.now units.now }
     requires some { (id : ℕ) → live_in clauses.now id ≡ Some [] → ⊥ }
@@ -188,7 +188,7 @@ fn all_new(clauses: &ClauseDb, units: &Units, marks: &mut Marks) -> bool
     true
 }
 
-/// Whether a unit clause is new, and isn't any more once it is added.
+/// Whether no live clause subsumes a unit clause, until it is added.
 fn comes(
     clauses: &mut ClauseDb,
     units: &mut Units,
@@ -208,7 +208,7 @@ fn comes(
     Ok(new && !is_new(clauses, units, marks, &[lit]))
 }
 
-/// Whether lists are told to be new, and those that are added not any more.
+/// The same for a database of these clauses, with the pairs before.
 fn are_new(alloc: Global) -> Result<bool, AllocError> {
     let cnf = formula(alloc, 3, CLAUSES)?;
     if cnf.has_empty() {
@@ -229,7 +229,7 @@ fn lists_are_new_until_they_are_added(rt: HostRuntime) {
     assert!(rt; matches!(are_new(rt.alloc()), Ok(true)));
 }
 
-/// Whether a list without some of its literals is another one, and inside it.
+/// Whether a list without some of its literals is right, and inside the list.
 fn is_kept(alloc: Global) -> Result<bool, AllocError> {
     let lits = literals(alloc, &[-1, 2, 3])?;
     let gone = literals(alloc, &[3, -1])?;

@@ -1,4 +1,4 @@
-//! Trails that go on and back.
+//! Trails under assignments and backtracking.
 ghost use Rattle.std.specs.Prelude.{◌≤◌, IfSome};
 ghost use Rattle.sat_theory.specs.Formula.{variable as variable_of};
 
@@ -6,7 +6,7 @@ use cnf_core::Lit;
 use std::alloc::{AllocError, Global};
 use trail_core::Trail;
 
-/// The literal of a number, if its variable is one of the trail's.
+/// The literal of a number, if the trail has its variable.
 fn over(trail: &Trail, number: i32) -> Option<Lit>
     ensures { IfSome result (λ l. variable_of l ≤ trail.now.vars) }
 {
@@ -20,7 +20,7 @@ fn over(trail: &Trail, number: i32) -> Option<Lit>
     Some(lit)
 }
 
-/// Pushes a literal, if its variable is one of the trail's and has no value.
+/// Pushes a literal if the trail has its variable and that has no value. Returns whether it did.
 fn push_free(trail: &mut Trail, number: i32, reason: u32) -> Result<bool, AllocError> {
     let Some(lit) = over(trail, number) else {
         return Ok(false);
@@ -32,7 +32,8 @@ fn push_free(trail: &mut Trail, number: i32, reason: u32) -> Result<bool, AllocE
     Ok(true)
 }
 
-/// Whether literals of the trail's variables fell at these places.
+/// Whether literals have these positions: 1 + the trail index at which each became false, 0 if it isn't
+/// false.
 fn fell(trail: &Trail, places: &[(i32, u32)]) -> bool {
     for &(number, fell) in places {
         let Some(lit) = over(trail, number) else {
@@ -48,7 +49,7 @@ fn fell(trail: &Trail, places: &[(i32, u32)]) -> bool {
 /// Literals with their reasons, and whether they can be pushed.
 const PUSHED: &[(i32, u32, bool)] = &[(2, 0, true), (-1, 7, true), (1, 8, false), (4, 9, false)];
 
-/// Whether those literals are pushed which can be.
+/// Whether exactly the literals that can be pushed are.
 fn goes_on(trail: &mut Trail) -> Result<bool, AllocError> {
     for &(number, reason, pushed) in PUSHED {
         if push_free(trail, number, reason)? != pushed {
@@ -58,13 +59,13 @@ fn goes_on(trail: &mut Trail) -> Result<bool, AllocError> {
     Ok(true)
 }
 
-/// Where the literals fell then.
+/// The positions of the literals after that.
 const FALLS: &[(i32, u32)] = &[(1, 2), (-1, 0), (2, 0), (-2, 1), (3, 0), (-3, 0)];
 
-/// The assignment then.
+/// The assignment after that.
 const BITS: &[bool] = &[false, true, false];
 
-/// Whether the trail tells what was pushed.
+/// Whether the trail has the assignment and the positions of the pushed literals.
 fn tells(alloc: Global, trail: &Trail) -> Result<bool, AllocError> {
     let assign = trail.assignment(alloc)?;
     let told = assign.bits() == BITS;
@@ -72,7 +73,7 @@ fn tells(alloc: Global, trail: &Trail) -> Result<bool, AllocError> {
     Ok(told && fell(trail, FALLS))
 }
 
-/// Whether the trail goes back to its first literal.
+/// Whether backtracking leaves the first literal.
 fn goes_back(trail: &mut Trail) -> bool {
     if trail.len() != 2 || trail.at(1).get() != -1 {
         return false;
@@ -81,14 +82,14 @@ fn goes_back(trail: &mut Trail) -> bool {
     trail.len() == 1 && fell(trail, &[(1, 0)])
 }
 
-/// Whether a trail goes on and back.
+/// Whether a trail is right after assignments and after backtracking.
 fn goes(alloc: Global, trail: &mut Trail) -> Result<bool, AllocError> {
     let on = goes_on(trail)?;
     let told = tells(alloc, trail)?;
     Ok(on && told && goes_back(trail))
 }
 
-/// Whether a trail of three variables does.
+/// The same for a trail of three variables.
 fn three_go(alloc: Global) -> Result<bool, AllocError> {
     let mut trail = Trail::new(alloc, 3)?;
     let well = goes(alloc, &mut trail);

@@ -12,7 +12,7 @@ use Rattle.sat_theory.specs.Formula.{variable, IsClause}
 use Rattle.sat_theory.specs.Holding.{among}
 use Rattle.cdcl_theory.specs.CodeLaws.{int_eq-same}
 
--- A list has what its set has.
+-- A list has the literals of its set.
 pub contains_among : (lits : List ℤ) (l : ℤ) → among lits l ≡ true → Contains lits l
 contains_among lits l is = Contains-from_any {eq = int_eq} (λ x y e. (Decides-int_eq x y).0 e) l lits is
 
@@ -25,7 +25,7 @@ all_contained lits inner all = All-weaker (λ l. among lits l ≡ true) (Contain
 pub all_among : (lits inner : List ℤ) → All (Contains lits) inner → All (λ l. among lits l ≡ true) inner
 all_among lits inner all = All-weaker (Contains lits) (λ l. among lits l ≡ true) (λ l is. among_contains lits l is) inner all
 
--- What is left of a list is inside it, and is a clause where it is one.
+-- The literals kept of a list are inside it, and are a clause if it is one.
 pub filter_inside : (p : ℤ → Bool) (lits : List ℤ) → All (Contains lits) (filter p lits)
 filter_inside p lits = All-filter p (Contains lits) lits (All-contains_itself lits)
 

@@ -41,6 +41,6 @@ new_by_literals s flags lits stored units some apart id (l ∷ m ∷ rest) is in
     let there : Contains lits first = All-contains (Contains lits) (l ∷ m ∷ rest) first inside pair.first in
     ((All-contains (IsApart s flags lits) lits first apart there).none_watching.none id (record { clause = l ∷ m ∷ rest; is_live = is; long = long; watched = inl refl })).not_inside (l ∷ m ∷ rest) is inside
 
--- one more literal of a list is apart
+-- one more literal of the list is no unit clause and watched by no clause inside it
 pub apart_more : (s : Stored) (flags : List Bool) (lits list : List ℤ) (i : ℕ) (l : ℤ) → i < length list → slice_index_or list i l ≡ l → IsApart s flags lits l → All (IsApart s flags lits) (take i list) → All (IsApart s flags lits) (take (i + 1) list)
 apart_more s flags lits list i l low at here before = rw (take_more list i l low, at) (All-push (IsApart s flags lits) (take i list) l before here)

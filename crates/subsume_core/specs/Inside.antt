@@ -1,9 +1,9 @@
--- Clauses inside a list: those that subsume it.
+-- Clauses inside a list of literals: those that subsume it.
 use Rattle.std.specs.Prelude.{◌≡◌, ℕ, ℤ, Bool, false, List, Contains, All, Some}
 use Rattle.cdcl_theory.specs.Codes.{marked_in}
 use Rattle.clause_db.specs.Stored.{Stored, live_in, Watches}
 
--- the clause of an id, if it is live, isn't inside a list
+-- the clause with this id, if it is live, isn't inside a list
 pub record NotInside (s : Stored) (lits : List ℤ) (id : ℕ) : Type 0 where
   pub not_inside : (clause : List ℤ) → live_in s id ≡ Some clause → All (Contains lits) clause → ⊥
 

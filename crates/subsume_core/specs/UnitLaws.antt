@@ -1,4 +1,4 @@
--- Flags stay those of the unit clauses where clauses go.
+-- Deleting clauses keeps the flags valid.
 use Rattle.std.specs.Prelude.{◌≡◌, ℕ, ◌+◌, ◌*◌, ◌≤◌, ℤ, Bool, List, [], ◌∷◌, Contains, All, Some}
 use Rattle.std.proofs.Common.{◌∙◌, ap, sym}
 use Rattle.std.proofs.lemmas.List.Elements.{All-contains}
@@ -13,6 +13,6 @@ units_fewer a b flags vars fewer units = record {
   flagged = λ id l is. units.flagged id l (fewer id (l ∷ []) is);
 }
 
--- What is contained in a list over the variables is over them.
+-- Literals of a list over the variables are over them.
 pub within_contained : (n : ℕ) (lits inner : List ℤ) → All (Contains lits) inner → IsWithin n lits → IsWithin n inner
 within_contained n lits inner inside within = λ i d low. All-contains (λ (l : ℤ). variable l ≤ n) lits _ within (inside i d low)

@@ -9,7 +9,7 @@ pub record IsUnitsOf (s : Stored) (flags : List Bool) : Type 0 where
   pub room : length flags ≡ 2 * s.vars + 2
   pub flagged : (id : ℕ) (l : ℤ) → live_in s id ≡ Some (l ∷ []) → marked_in flags l ≡ true
 
--- the same for the ids up to n
+-- the same for the clauses with ids up to n
 pub record AreFlagged (s : Stored) (n : ℕ) (flags : List Bool) : Type 0 where
   pub room : length flags ≡ 2 * s.vars + 2
   pub flagged : (id : ℕ) (l : ℤ) → id ≤ n → live_in s id ≡ Some (l ∷ []) → marked_in flags l ≡ true

@@ -1,13 +1,11 @@
-//! Which clauses are subsumed by unit and binary clauses, and which are shortened by them. Nothing
-//! is promised here: what is told is tested where it is used, so a wrong guess costs time and never
-//! an answer.
+//! Finds clauses that unit and binary clauses subsume or strengthen. The contracts promise nothing: each
+//! result is tested where it is used, so a wrong guess costs time and never soundness.
 //!
-//! The literals of the clause under work are marked. A unit or binary clause that has only marked
-//! literals subsumes it. One that has only marked literals but for one, the opposite of a marked
-//! literal, takes the mark off that literal. The clause of the literals that keep their marks
-//! follows by all clauses that were used, from the last one back to the first, and then the clause
-//! itself: each needs, besides the literal whose mark it took, only one that was still marked, so
-//! one that is kept or whose own hint comes before.
+//! The literals of the current clause are marked. A unit or binary clause with marked literals alone subsumes
+//! it. One whose literals are all marked except the opposite of a marked literal clears the mark of that
+//! literal. The clause of the literals that are still marked at the end follows by all clauses used, from the
+//! last one back to the first, and then the current clause itself: besides the literal whose mark it cleared,
+//! each needs only one that was still marked then, so one that is kept or whose own hint comes before.
 ghost use Rattle.std.specs.Prelude.{◌≤◌};
 
 use crate::marks::Marks;
@@ -15,53 +13,53 @@ use clause_db::ClauseDb;
 use cnf_core::Lit;
 use std::alloc::{AllocError, Global};
 
-/// Clauses of this number of literals or more count as equally long.
+/// From this number of literals on, clauses are treated as equally long.
 const LONG: usize = 64;
 
-/// Longer clauses aren't looked at: the tests of what is found compare each literal with each.
+/// Longer clauses are skipped: the tests of a result compare each literal with each.
 const MOST_LITERALS: usize = 500;
 
-/// How many binary clauses are looked through, before nothing is found any more.
+/// The number of binary clauses read before the finder gives up.
 const MOST_WORK: usize = 50_000_000;
 
-/// What was found about a clause.
+/// The result for one clause.
 #[derive(Clone, Copy)]
 pub enum Found {
     Nothing,
     /// the id of a clause that subsumes it
     Subsumed(u32),
-    /// it follows without some of its literals
+    /// it follows without some of its literals (`Finder::gone`), by hints (`Finder::hints`)
     Shorter,
 }
 
-/// A binary clause of a literal: its other literal, and its id.
+/// A binary clause, by one of its literals: the other literal, and the id.
 #[derive(Clone, Copy)]
 struct Binary {
     other: Lit,
     id: u32,
 }
 
-/// Looks for clauses that unit and binary clauses subsume or shorten.
+/// Finds clauses that unit and binary clauses subsume or strengthen.
 #[derive(Drop)]
 pub struct Finder {
-    /// the given clauses by rising length
+    /// the ids of the given clauses by increasing length
     order: Vec<u32>,
-    /// how many of them have at most two literals
+    /// the number of those with at most two literals
     short: usize,
-    /// by literal, the id of the first unit clause of it; 0 where there is none
+    /// by literal, the id of its first unit clause; 0 if there is none
     units: Vec<u32>,
-    /// by literal, the binary clauses that have it
+    /// by literal, the binary clauses with this literal
     rows: Vec<Vec<Binary>>,
-    /// the literals of the clause under work
+    /// the literals of the current clause that aren't removed yet
     marks: Marks,
     gone: Vec<Lit>,
     hints: Vec<u32>,
-    /// how many binary clauses may still be looked through
+    /// the number of binary clauses that may still be read
     work: usize,
 }
 
 impl Finder {
-    /// Of the clauses 1 to `given`.
+    /// A finder for the clauses 1 to `given`.
     pub fn new(alloc: Global, clauses: &ClauseDb, given: u32) -> Result<Finder, AllocError> {
         let room = 2 * clauses.vars() as usize + 2;
         let mut finder = Finder {
@@ -78,7 +76,7 @@ impl Finder {
         Ok(finder)
     }
 
-    /// Takes note of all live clauses, those that were added to the given ones too.
+    /// Records all live unit and binary clauses, those added to the given ones too.
     fn note_all(&mut self, clauses: &ClauseDb) -> Result<(), AllocError> {
         for before in 0..clauses.last() {
             let id = before + 1;
@@ -89,7 +87,7 @@ impl Finder {
         Ok(())
     }
 
-    /// Takes note of a clause of one or two literals that was added; others change nothing.
+    /// Records a unit or binary clause that was added; other clauses are ignored.
     pub fn note(&mut self, lits: &[Lit], id: u32) -> Result<(), AllocError> {
         match lits.len() {
             1 => self.note_unit(lits[0], id),
@@ -117,14 +115,13 @@ impl Finder {
         Ok(())
     }
 
-    /// How many turns there are: one for each of the given clauses, and one more for each of at
-    /// most two literals.
+    /// The number of turns: one for each given clause, and a second one for those of at most two literals.
     pub fn turns(&self) -> usize {
         self.order.len().saturating_add(self.short)
     }
 
-    /// The clause to look at in a turn: all given ones by rising length, and then those of at most
-    /// two literals again, since longer ones may have come to be unit clauses; 0 beyond.
+    /// The id of the clause to look at in a turn: all given ones by increasing length, then those of at most
+    /// two literals again, since longer clauses may have become unit meanwhile; 0 beyond the last turn.
     pub fn at(&self, turn: usize) -> u32 {
         let count = self.order.len();
         if turn < count {
@@ -133,7 +130,7 @@ impl Finder {
         number_at(&self.order, turn - count)
     }
 
-    /// Looks for unit and binary clauses that subsume a clause or shorten it.
+    /// Finds out whether unit and binary clauses subsume or strengthen a clause.
     pub fn find(&mut self, clauses: &ClauseDb, id: u32) -> Result<Found, AllocError> {
         self.gone.clear();
         self.hints.clear();
@@ -150,17 +147,17 @@ impl Finder {
         found
     }
 
-    /// The literals without which the clause follows that `find` told to be shorter last.
+    /// The literals to remove from the clause for which `find` last returned `Shorter`.
     pub fn gone(&self) -> &[Lit] {
         &self.gone
     }
 
-    /// The hints by which it does.
+    /// The hints by which it follows without them.
     pub fn hints(&self) -> &[u32] {
         &self.hints
     }
 
-    /// Looks at the literals of a clause, which are marked. Marks only go, so a second look would
+    /// Looks at the literals of a clause, which are marked. Marks are only cleared, so a second pass would
     /// find no more.
     fn look(&mut self, clauses: &ClauseDb, id: u32, lits: &[Lit]) -> Result<Found, AllocError> {
         let other = self.sweep(clauses, id, lits)?;
@@ -170,7 +167,7 @@ impl Finder {
         self.tell(id)
     }
 
-    /// What was found about a clause that isn't subsumed.
+    /// The result for a clause that isn't subsumed.
     fn tell(&mut self, id: u32) -> Result<Found, AllocError> {
         if self.gone.is_empty() {
             return Ok(Found::Nothing);
@@ -180,8 +177,8 @@ impl Finder {
         Ok(Found::Shorter)
     }
 
-    /// Looks at each literal of a clause once, and answers the id of a clause that subsumes it; 0
-    /// where none was found.
+    /// Looks at each literal of a clause once, and returns the id of a clause that subsumes it; 0 if none was
+    /// found.
     fn sweep(&mut self, clauses: &ClauseDb, id: u32, lits: &[Lit]) -> Result<u32, AllocError> {
         for lit in lits {
             if self.work == 0 {
@@ -199,7 +196,7 @@ impl Finder {
         Ok(0)
     }
 
-    /// Counts the binary clauses that were looked through for a literal.
+    /// Counts the binary clauses that were read for a literal.
     fn pay(&mut self, lit: Lit) {
         let count = self.count(lit).saturating_add(self.count(lit.opposite()));
         self.work = self.work.saturating_sub(count);
@@ -213,7 +210,7 @@ impl Finder {
         }
     }
 
-    /// Takes the mark off a literal, if a clause of its opposite allows it.
+    /// Removes a literal from the clause if a clause with its opposite allows it.
     fn drop_literal(&mut self, clauses: &ClauseDb, id: u32, lit: Lit) -> Result<(), AllocError> {
         let by = self.inside(clauses, id, lit.opposite());
         if by == 0 {
@@ -225,8 +222,8 @@ impl Finder {
         Ok(())
     }
 
-    /// A live unit or binary clause of a literal, other than the clause `id`, with no other literal
-    /// that isn't marked; 0 where there is none.
+    /// The id of a live unit or binary clause of a literal, other than the clause `id`, whose other literal
+    /// is marked; 0 if there is none.
     fn inside(&self, clauses: &ClauseDb, id: u32, lit: Lit) -> u32 {
         let unit = number_at(&self.units, lit.code());
         if unit != id && clauses.live(unit) {
@@ -252,7 +249,7 @@ fn number_at(numbers: &[u32], index: usize) -> u32 {
     }
 }
 
-/// A number of empty rows.
+/// A number of empty lists.
 fn rows(alloc: Global, count: usize) -> Result<Vec<Vec<Binary>>, AllocError> {
     let mut rows = Vec::with_capacity(alloc, count)?;
     for _row in 0..count {
@@ -261,7 +258,7 @@ fn rows(alloc: Global, count: usize) -> Result<Vec<Vec<Binary>>, AllocError> {
     Ok(rows)
 }
 
-/// The clauses 1 to `given`, by rising length.
+/// The ids 1 to `given`, by increasing length of their clauses (counting sort).
 fn by_length(alloc: Global, clauses: &ClauseDb, given: u32) -> Result<Vec<u32>, AllocError> {
     let mut places = places(alloc, clauses, given)?;
     let mut order = vec![in alloc; 0u32; given as usize]?;
@@ -279,7 +276,7 @@ fn by_length(alloc: Global, clauses: &ClauseDb, given: u32) -> Result<Vec<u32>, 
     Ok(order)
 }
 
-/// How many of the clauses 1 to `given` have at most two literals.
+/// The number of clauses among 1 to `given` with at most two literals.
 fn count_short(clauses: &ClauseDb, given: u32) -> usize {
     let mut short: usize = 0;
     for before in 0..given {
@@ -290,7 +287,8 @@ fn count_short(clauses: &ClauseDb, given: u32) -> usize {
     short
 }
 
-/// By length, the number of shorter ones among the clauses 1 to `given`.
+/// By length, the number of shorter clauses among 1 to `given`: where those of this length begin in the
+/// order.
 fn places(alloc: Global, clauses: &ClauseDb, given: u32) -> Result<Vec<usize>, AllocError> {
     let mut places = vec![in alloc; 0usize; LONG + 2]?;
     for before in 0..given {
@@ -303,7 +301,7 @@ fn places(alloc: Global, clauses: &ClauseDb, given: u32) -> Result<Vec<usize>, A
     Ok(places)
 }
 
-/// Adds to each number the sum of those before it.
+/// Replaces each number by the sum up to it.
 fn add_up(numbers: &mut [usize]) {
     let mut sum: usize = 0;
     for index in 0..numbers.len() {
@@ -312,7 +310,7 @@ fn add_up(numbers: &mut [usize]) {
     }
 }
 
-/// How many literals a clause has, at most `LONG`; 0 where it isn't live.
+/// The number of literals of a clause, at most `LONG`; 0 if it isn't live.
 fn length_of(clauses: &ClauseDb, id: u32) -> usize
     ensures { result ≤ LONG }
 {

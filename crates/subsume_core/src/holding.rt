@@ -1,6 +1,6 @@
-//! Whether a list follows by hints, as an addition of a log does (reverse unit propagation, RUP).
-//! The set that grows along the hints is a list, whose membership test is that of the definition
-//! (`among`), so each turn of the loop is a step of the definition (`HintsHold`).
+//! Whether a list of literals follows by hints, as an addition of a log has to (reverse unit propagation,
+//! RUP). The set that grows along the hints is a list, whose membership test is that of the definition
+//! (`among`), so each iteration of the loop is a step of the definition (`HintsHold`).
 ghost use Rattle.std.specs.Prelude.{◌≡◌, ◌↔◌, true, not, All, Contains, IsTrue, IfOk, IfSome, OnOk};
 ghost use Rattle.std.specs.List.{filter};
 ghost use Rattle.sat_theory.specs.Formula.{IsClause};
@@ -11,8 +11,8 @@ use clause_db::ClauseDb;
 use cnf_core::Lit;
 use std::alloc::AllocError;
 
-/// Whether a list follows by hints from live clauses, as an addition of a log does. `known` is lent
-/// for the work.
+/// Whether a list of literals follows by hints from live clauses, as an addition of a log has to. `known` is
+/// scratch space.
 pub fn holds(
     clauses: &ClauseDb,
     lits: &[Lit],
@@ -87,8 +87,7 @@ fn is_among(set: &[Lit], lit: Lit) -> bool
     set.iter().any(|member| lit == *member)
 }
 
-/// Puts the literals of `lits` that aren't among `gone` into `kept`, in their order, in place of
-/// what it has.
+/// Replaces the contents of `kept` by the literals of `lits` that aren't in `gone`, in their order.
 pub fn keep_others(lits: &[Lit], gone: &[Lit], kept: &mut Vec<Lit>) -> Result<(), AllocError>
     ensures exact { OnOk result (kept.new.items ≡ filter (λ l. not (among gone.now l)) lits.now) }
     ensures inside { OnOk result (All (Contains lits.now) kept.new.items) }

@@ -1,5 +1,5 @@
-//! Marks of literals, by which membership in a list is tested in one step. What is marked is promised
-//! nowhere: `covers` tells whether all literals of a list are.
+//! Marks of literals, which test membership in a list in constant time. No contract promises which literals
+//! are marked: `covers` tells whether all literals of a list are.
 ghost use Rattle.std.specs.Prelude.{◌≡◌, ◌↔◌, true, All, IsTrue};
 ghost use Rattle.cdcl_theory.specs.Codes.{marked_in};
 
@@ -29,7 +29,7 @@ impl Marks {
         })
     }
 
-    /// Marks a literal, or takes its mark off.
+    /// Sets or clears the mark of a literal.
     pub(crate) fn set(&mut self, lit: Lit, on: bool) {
         let code = lit.code();
         if code < self.flags.len() {

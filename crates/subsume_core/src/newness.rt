@@ -1,8 +1,7 @@
-//! Whether a list is new: no live clause has all its literals in it. A live clause of two literals
-//! or more that had would watch one of the list's literals, and so stand in a watch list of these; a
-//! unit clause is flagged; and no live clause is empty. So the watch lists of the list's literals
-//! and their flags are all that is read. The list's literals are marked meanwhile: a clause of them
-//! alone has only marked ones.
+//! Whether no live clause subsumes a list of literals. A live clause of at least two literals that did would
+//! watch one of the list's literals, and so be in its watch list; a unit clause is flagged; and no live
+//! clause is empty. So only the watch lists and flags of the list's literals are read. The list's literals
+//! are marked meanwhile: a clause inside the list has only marked literals.
 ghost use Rattle.std.specs.Prelude.{◌≡◌, ℕ, ℤ, ◌≤◌, List, [], true, Some, All, IsTrue};
 ghost use Rattle.sat_theory.specs.Formula.{variable as variable_of, IsWithin};
 ghost use Rattle.sat_theory.specs.Log.{IsNew};
@@ -16,7 +15,8 @@ use crate::units::Units;
 use clause_db::ClauseDb;
 use cnf_core::Lit;
 
-/// Whether no live clause subsumes a list, where no live clause is empty. `marks` is lent for the work.
+/// Whether no live clause subsumes a list, given that no live clause is empty. `marks` is scratch space, with
+/// no mark set.
 pub fn is_new(clauses: &ClauseDb, units: &Units, marks: &mut Marks, lits: &[Lit]) -> bool
     requires units { IsUnitsOf clauses.now units.now }
     requires within { IsWithin clauses.now.vars lits.now }
@@ -29,7 +29,7 @@ pub fn is_new(clauses: &ClauseDb, units: &Units, marks: &mut Marks, lits: &[Lit]
     is_new
 }
 
-/// The same, by marks of the list's literals.
+/// The same, with the list's literals marked.
 fn is_new_by(clauses: &ClauseDb, units: &Units, marks: &Marks, lits: &[Lit]) -> bool
     requires units { IsUnitsOf clauses.now units.now }
     requires within { IsWithin clauses.now.vars lits.now }
@@ -42,7 +42,7 @@ fn is_new_by(clauses: &ClauseDb, units: &Units, marks: &Marks, lits: &[Lit]) -> 
     are_apart(clauses, units, marks, lits)
 }
 
-/// The same, where all literals of the list are marked.
+/// The same, given that all literals of the list are marked.
 fn are_apart(clauses: &ClauseDb, units: &Units, marks: &Marks, lits: &[Lit]) -> bool
     requires units { IsUnitsOf clauses.now units.now }
     requires within { IsWithin clauses.now.vars lits.now }
@@ -60,8 +60,8 @@ fn are_apart(clauses: &ClauseDb, units: &Units, marks: &Marks, lits: &[Lit]) -> 
     true
 }
 
-/// Whether a literal is no unit clause, and no clause that watches it has marked literals alone. Such a
-/// clause is inside no list whose literals are all marked.
+/// Whether a literal is no unit clause, and each clause that watches it has an unmarked literal. Then none of
+/// these is inside a list whose literals are all marked.
 fn is_apart(clauses: &ClauseDb, units: &Units, marks: &Marks, lit: Lit) -> bool
     requires { variable_of lit ≤ clauses.now.vars }
     ensures { (lits : List ℤ) → All (λ l. marked_in marks.now l ≡ true) lits → IsTrue result → IsApart clauses.now units.now lits lit }
@@ -72,7 +72,7 @@ fn is_apart(clauses: &ClauseDb, units: &Units, marks: &Marks, lit: Lit) -> bool
     none_watching(clauses, marks, lit)
 }
 
-/// Whether no clause that watches a literal has marked literals alone.
+/// Whether each clause that watches a literal has an unmarked literal.
 fn none_watching(clauses: &ClauseDb, marks: &Marks, lit: Lit) -> bool
     requires { variable_of lit ≤ clauses.now.vars }
     ensures { (lits : List ℤ) → All (λ l. marked_in marks.now l ≡ true) lits → IsTrue result → NoneWatching clauses.now lits lit }

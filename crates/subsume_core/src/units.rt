@@ -1,6 +1,6 @@
-//! Which literals are unit clauses. That the flag of each live unit clause is set is a fact of the
-//! flags and the clauses (`IsUnitsOf`). A clause that is added has its flag set; where a clause goes
-//! nothing is done, since a flag without a clause can only keep a list from being added.
+//! Flags of the literals that are unit clauses. The flag of each live unit clause is set (`IsUnitsOf`).
+//! Adding a unit clause sets its flag; deletion clears none, since a flag without a clause can only prevent
+//! an addition.
 ghost use Rattle.std.specs.Prelude.{◌≡◌, ℕ, ◌+◌, ◌*◌, length, IfOk};
 ghost use Rattle.sat_theory.specs.Formula.{IsWithin};
 ghost use Rattle.cdcl_theory.specs.Codes.{marked_in};
@@ -27,7 +27,7 @@ impl Model for Units {
 }
 
 impl Units {
-    /// Those of the live clauses.
+    /// The flags of the live unit clauses.
     pub fn new(alloc: Global, clauses: &ClauseDb) -> Result<Units, AllocError>
         ensures { IfOk result (IsUnitsOf clauses.now) }
     {
@@ -72,7 +72,7 @@ impl Units {
         self.flags[code] = true;
     }
 
-    /// Takes note of a clause that was added.
+    /// Records a clause that was added.
     pub fn note(&mut self, lits: &[Lit])
         ensures { (s : Stored) → IsUnitsOf s self.old → IsWithin s.vars lits.now → IsUnitsOf (added s lits.now) self.new }
     {

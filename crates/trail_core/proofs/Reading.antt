@@ -1,4 +1,4 @@
--- The entries of a trail's tables, and what they say of assignments.
+-- The entries of a trail's tables, and the assignments read from them.
 use Rattle.std.proofs.Common.{◌≡◌, ℕ, zero, suc, ◌+◌, ◌-◌, ◌<◌, ◌≤◌, ◌==◌, ℤ, pos, negsuc, Bool, true, false, nat_lt, List, [], ◌∷◌, ◌++◌, length, slice_set, slice_index_or, subst, sym, ap, ◌∙◌, arith, refl}
 use Rattle.std.proofs.lemmas.Bool.{ne_eqb, lt-ltb, le-ltb}
 use Rattle.std.proofs.lemmas.Grind.{common_steps}
@@ -26,7 +26,7 @@ back_popped t now l lits code view trail is at =
     let same : length t.lits - 1 ≡ length lits = omega arith in
     rw (at, ← view, same) (back_pop t lits l trail is)
 
--- bits that are true exactly where the negative literal has fallen follow the trail
+-- bits that are true exactly where the negative literal is false follow the trail
 pub follows : (t : Trailed) (bits : List Bool) → IsTrail t → length bits ≡ t.vars → ((k : ℕ) (d : Bool) → k < t.vars → slice_index_or bits k d ≡ nat_lt 0 (fell t (negsuc k))) → Follows t bits
 follows t bits trail long told = record { long = long; values = λ l over fallen. value l over.0 over.1 fallen; others = λ v some low free. other v some low free }
   where

@@ -15,7 +15,7 @@ IsFree t l = (fell t l ≡ 0) × (fell t (opposite l) ≡ 0)
 abbrev pub HaveValues : Trailed → ℕ → Type 0
 HaveValues t v = (l : ℤ) → 0 < variable l → variable l < v → (0 < fell t l) ⊎ (0 < fell t (opposite l))
 
--- each literal whose opposite has fallen is true, and a variable without a value is false
+-- each literal whose opposite is false is true, and a variable without a value is false
 pub record Follows (t : Trailed) (bits : List Bool) : Type 0 where
   pub long : length bits ≡ t.vars
   pub values : (l : ℤ) → IsOver t.vars l → 0 < fell t (opposite l) → literal_value (bits_of bits) l ≡ true

@@ -1,17 +1,17 @@
-//! The trail of a solver: the literals that are true, in the order in which they were assigned,
-//! each with its reason (the id of the clause that made it true). Its invariant is that of
-//! `cdcl_theory`. The words of the solver: see the table in `cdcl_core`.
+//! The trail of a solver: the true literals in the order of their assignment, each with its reason (the id of
+//! the clause that implied it). Its invariant is that of `cdcl_theory`. The table in `cdcl_core` relates the
+//! names to those of MiniSat and CaDiCaL.
 //!
-//! A literal falls (becomes false) where its opposite is pushed: `fell` answers 1 + the trail
-//! position of that one, and 0 for a literal that isn't false. Backtracking takes the last literals
-//! off, and earlier positions stay.
+//! A literal becomes false when its opposite is pushed: `fell` returns 1 + the trail index of that opposite,
+//! and 0 for a literal that isn't false. Backtracking removes the last literals; earlier ones keep their
+//! positions.
 //!
 //! ```text
 //! let mut trail = Trail::new(alloc, 3)?;
 //! trail.push(Lit::new(2), 0)?;
 //! trail.push(Lit::new(-1), 7)?;
-//! trail.fell(Lit::new(1))     // 2
-//! trail.reason(Lit::new(-1))  // 7
+//! trail.falsified_at(Lit::new(1)) // 2
+//! trail.reason(Lit::new(-1))      // 7
 //! ```
 #![tactic(auto)]
 

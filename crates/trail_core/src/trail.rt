@@ -1,6 +1,6 @@
-//! The trail as a row of literals, with two tables: the trail position at which each literal fell,
-//! and the reason of each variable. The invariant `IsTrail` says that tables and row agree;
-//! backtracking takes the last literals off one by one, with their entries.
+//! The trail as a list of literals with two tables: the position at which each literal became false, and the
+//! reason of each variable. The invariant `IsTrail` says that list and tables agree; backtracking removes the
+//! last literals one by one, with their entries.
 ghost use Rattle.std.specs.Prelude.{◌≡◌, ℤ, negsuc, ◌+◌, ◌-◌, ◌<◌, ◌≤◌, ◌↔◌, [], length, slice_index_or, IsTrue, IfOk, OnOk, OnErr};
 ghost use Rattle.sat_theory.specs.Formula.{variable as variable_of};
 ghost use Rattle.cdcl_theory.specs.Trails.{IsTrail, IsBack, pushed, fell as fell_of, reason_of};
@@ -10,8 +10,8 @@ use cnf_core::{Assign, Lit};
 use std::alloc::{AllocError, Global};
 use std::marker::Model;
 
-/// The literals that are true, in the order in which they were assigned, with their reasons.
-/// Contracts see the row of literals, the table of positions and the table of reasons.
+/// The true literals in the order of their assignment, with their reasons. Contracts see the list of
+/// literals, the table of positions and the table of reasons.
 #[derive(Drop)]
 pub struct Trail {
     vars: u32,
@@ -49,7 +49,7 @@ impl Trail {
         })
     }
 
-    /// How many variables there are.
+    /// The number of variables.
     pub fn vars(&self) -> u32
         ensures value { result ≡ self.now.vars }
         ensures whole { IsTrail self.now }
@@ -65,7 +65,7 @@ impl Trail {
         self.lits.len()
     }
 
-    /// The literal at an index.
+    /// The literal at a trail index, from 0 on.
     pub fn at(&self, index: usize) -> Lit
         requires { index < length self.now.lits }
         ensures value { (d : ℤ) → result ≡ slice_index_or self.now.lits index d }
@@ -75,7 +75,7 @@ impl Trail {
         self.lits[index]
     }
 
-    /// 1 + the trail position of its opposite where the literal is false, else 0.
+    /// 1 + the trail index of its opposite if the literal is false, else 0.
     #[tactic(auto, using(crate::proofs::Reading::reading), unfolding(cdcl_theory::specs::Codes::place_in))]
     pub fn fell(&self, lit: Lit) -> u32
         requires { variable_of lit ≤ self.now.vars }
@@ -85,7 +85,8 @@ impl Trail {
         self.table[lit.code()]
     }
 
-    /// The id that the literal was pushed with.
+    /// The id of the clause that implied the literal, 0 for a decision. It means something only while the
+    /// variable has a value.
     pub fn reason(&self, lit: Lit) -> u32
         requires { variable_of lit ≤ self.now.vars }
         ensures value { result ≡ reason_of self.now lit }
@@ -93,7 +94,8 @@ impl Trail {
         self.reasons[lit.variable() as usize]
     }
 
-    /// Assigns a variable without a value: `lit` becomes true.
+    /// Assigns a variable without a value: `lit` becomes true, with the id of its reason, or 0 for a
+    /// decision.
     pub fn push(&mut self, lit: Lit, reason: u32) -> Result<(), AllocError>
         requires over { variable_of lit ≤ self.old.vars }
         requires free { IsFree self.old lit }
@@ -107,7 +109,7 @@ impl Trail {
         Ok(())
     }
 
-    /// Takes back the last literal.
+    /// Unassigns the last literal.
     pub fn pop(&mut self)
         requires { 0 < length self.old.lits }
         ensures back { IsBack (length self.old.lits - 1) self.old self.new }

@@ -1,4 +1,4 @@
--- Variables that are exchanged, put into the row, and taken out.
+-- Variables are exchanged, appended and removed.
 use Rattle.std.specs.Prelude.{◌≡◌, ℕ, ◌+◌, ◌-◌, ◌<◌, ◌≤◌, refl}
 use Rattle.std.proofs.Common.{sym, ap, ◌∙◌, subst, arith}
 use Rattle.std.proofs.Math.Logic.{⊎_elim}
@@ -17,7 +17,7 @@ after_first f a x b y k apart e = with_entry-other (with_entry f a x) b y k apar
 pub after_none : (f : ℕ → ℕ) (a x b y k : ℕ) → (k ≡ b → ⊥) → (k ≡ a → ⊥) → with_entry (with_entry f a x) b y k ≡ f k
 after_none f a x b y k apart other = with_entry-other (with_entry f a x) b y k apart ∙ with_entry-other f a x k other
 
--- Two places of a row change their variables.
+-- The variables at two places are exchanged.
 pub arranged_swapped : (h s : ℕ → ℕ) (len bound a b : ℕ) → IsArranged h s len bound → 0 < a → a ≤ len → 0 < b → b ≤ len → (a ≡ b → ⊥) → IsArranged (with_entry (with_entry h a (h b)) b (h a)) (with_entry (with_entry s (h b) a) (h a) b) len bound
 arranged_swapped h s len bound a b is some_a low_a some_b low_b apart = record {
   some = λ p some low. entry_at p (λ x. 0 < x) (is.some a some_a low_a) (is.some b some_b low_b) (is.some p some low);
@@ -86,7 +86,7 @@ arranged_swapped h s len bound a b is some_a low_a some_b low_b apart = record {
         (cases_eq v (h b)))
         (cases_eq v (h a))
 
--- One variable more at the end.
+-- A variable is appended.
 pub arranged_put : (h s : ℕ → ℕ) (len bound v : ℕ) → IsArranged h s len bound → 0 < v → v < bound → s v ≡ 0 → IsArranged (with_entry h (len + 1) v) (with_entry s v (len + 1)) (len + 1) bound
 arranged_put h s len bound v is some low none = record {
   some = λ p some_p low_p. entry_at p (λ x. 0 < x) some (λ less. is.some p some_p less) low_p;
@@ -135,7 +135,7 @@ arranged_put h s len bound v is some low none = record {
         ap (with_entry h (len + 1) v) same ∙ with_entry-other h (len + 1) v (s w) (λ e. omega arith) ∙ is.found w here)
         (cases_eq w v)
 
--- The first variable is taken out, and replaced by the last one.
+-- The first variable is removed, and the last one replaces it.
 pub arranged_taken : (h s : ℕ → ℕ) (len bound : ℕ) → IsArranged h s len bound → 0 < len → IsArranged (with_entry h 1 (h len)) (with_entry (with_entry s (h len) 1) (h 1) 0) (len - 1) bound
 arranged_taken h s len bound is some = record {
   some = λ p some_p low_p. entry_at p (λ x. 0 < x) (is.some len some (omega arith)) (is.some p some_p (omega arith));

@@ -1,4 +1,4 @@
--- Variables that are put into a row and taken out.
+-- Appending and removing variables.
 use Rattle.std.specs.Prelude.{◌≡◌, ℕ, zero, suc, ◌+◌, ◌-◌, ◌<◌, ◌==◌, Bool, true, false, List, length, count_by, slice_set, replicate, refl}
 use Rattle.std.proofs.Common.{sym, ap, ◌∙◌, subst, arith, cond}
 use Rattle.std.proofs.Math.Logic.{⊎_elim}

@@ -1,4 +1,4 @@
--- How the heap order of a row is restored.
+-- Restoring the heap order.
 use Rattle.std.specs.Prelude.{◌≡◌, ℕ, zero, suc, ◌+◌, ◌*◌, ◌/◌, ◌<◌, ◌≤◌, ◌⊎◌}
 use Rattle.std.proofs.Common.{sym, ap, ◌∙◌, subst, arith, inl, inr}
 use Rattle.std.proofs.Math.Logic.{⊎_elim}
@@ -44,7 +44,7 @@ ordered_up h score len i q is low (some, left, right) greater = record {
       ];
 }
 
--- Where it is at the top, or its parent's score isn't less, the row is a heap.
+-- If it is at the top, or its parent's score isn't less, the list is a heap.
 pub ordered_above : (h score : ℕ → ℕ) (len i : ℕ) → IsOrderedAbove h score len i → ((q : ℕ) → IsUnder i q → score (h i) ≤ score (h q)) → IsOrdered h score len
 ordered_above h score len i is top = record {
   order = λ q p low under. ⊎_elim (λ (e : p ≡ i). subst (λ (x : ℕ). score (h x) ≤ score (h q)) (sym e) (top q (subst (λ (x : ℕ). IsUnder x q) e under))) (λ (apart : p ≡ i → ⊥). is.others q p low under apart) (cases_eq p i);
@@ -106,7 +106,7 @@ first_greatest h score len is (suc bound) p under some low =
     (λ (one : p ≤ 1). let e : p ≡ 1 = omega arith in rw e (omega arith))
     (cases_lt 1 p)
 
--- Where the score of a variable rises, the order can fail against its parent only.
+-- If the score of a variable increases, the order can fail against its parent only.
 pub ordered_risen : (h s score : ℕ → ℕ) (len bound v y : ℕ) → IsArranged h s len bound → IsOrdered h score len → 0 < s v → score v ≤ y → IsOrderedAbove h (with_entry score v y) len (s v)
 ordered_risen h s score len bound v y are is held rise = record {
   others = λ q p low (some, left, right) apart.
@@ -139,8 +139,7 @@ ordered_elsewhere h s score len bound v y are is none = record {
 pub ordered_alike : (h score : ℕ → ℕ) (len : ℕ) (f : ℕ → ℕ) → ((a b : ℕ) → a ≤ b → f a ≤ f b) → IsOrdered h score len → IsOrdered h (λ v. f (score v)) len
 ordered_alike h score len f rising is = record { order = λ q p low under. rising (score (h p)) (score (h q)) (is.order q p low under) }
 
--- Of the children of q the right one has the greater score, or the left one, or there is the left
--- one alone.
+-- The child of q with the greater score is the right one, or the left one, or the left one is the only child.
 pub greater_right : (h score : ℕ → ℕ) (len q : ℕ) → 0 < q → 2 * q + 1 ≤ len → score (h (2 * q)) < score (h (2 * q + 1)) → IsGreaterChild h score len q (2 * q + 1)
 greater_right h score len q some low less = record {
   inside = low;

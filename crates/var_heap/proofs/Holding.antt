@@ -32,7 +32,7 @@ held_variable vars scores r v row room held =
     let below : at r (place r v) < length r.places.items = row.arranged.below (place r v) here within in
     (omega (arith, found, some), omega (arith, found, below, room))
 
--- what contracts see is whole
+-- what contracts see satisfies the invariant
 pub row_whole : (vars : ℕ) (scores : List ℕ) (r : Row) → IsRow r → length scores ≡ vars + 1 → length r.places.items ≡ vars + 1 → IsWhole (shown vars scores r)
 row_whole vars scores r row scores_room places_room = record {
   scores_room = scores_room;
@@ -62,13 +62,13 @@ none_held h vars scores r v view row none held =
     let low : place r v ≤ r.len = row.arranged.within v here in
     omega arith
 
--- a held variable that is put back stays held
+-- pushing a held variable changes nothing
 pub held_stays : (h : Held) (vars : ℕ) (scores : List ℕ) (r : Row) (v : ℕ) → shown vars scores r ≡ h → 0 < place r v → h ≡ record h { marks = slice_set h.marks v true }
 held_stays h vars scores r v view some =
     let same : slice_set (marks_of r.places.items) v true ≡ marks_of r.places.items = sym (marks_set r.places.items v 1) ∙ marks_kept r.places.items v 1 (omega arith) some in
     rw (← view) (ap (λ (m : List Bool). (let x : Held = record { vars = vars; scores = scores; marks = m } in x)) (sym same))
 
--- scores that rise
+-- increasing a score
 pub risen_above : (vars : ℕ) (scores now : List ℕ) (r : Row) (v y p : ℕ) → IsHeap vars scores r → v ≤ vars → now ≡ slice_set scores v y → place r v ≡ p → 0 < p → slice_index_or scores v 0 ≤ y → IsOrderedAbove (at r) (entry now) r.len p
 risen_above vars scores now r v y p heap low is at_p some rise =
     let room : length scores ≡ vars + 1 = heap.scores_room in
@@ -88,7 +88,7 @@ risen_elsewhere vars scores r v y heap low none =
 divided_order : (by a b : ℕ) → 0 < by → a ≤ b → a / by ≤ b / by
 divided_order by a b some low = le-div (a / by) b by some (subst (λ (v : ℕ). v ≤ b) (mul_comm by (a / by)) (le_trans (mul-div-le a by) low))
 
--- scores that are divided
+-- dividing all scores
 entry_divided : (by : ℕ) (xs : List ℕ) (v : ℕ) → entry (map (λ s. s / by) xs) v ≡ entry xs v / by
 unfolding entry
 entry_divided by [] v = sym (zero-div by)

@@ -1,4 +1,4 @@
--- Rows of which places are written.
+-- Lists of variables after writes.
 use Rattle.std.specs.Prelude.{◌≡◌, ◌≢◌, ℕ, ◌+◌, ◌<◌, ◌≤◌, ◌==◌, List, length, count_by, slice_index_or, slice_set}
 use Rattle.std.proofs.Common.{sym, ap, ◌∙◌, subst, arith}
 use Rattle.std.proofs.Math.Logic.{⊎_elim}
@@ -53,7 +53,7 @@ swapped_entries xs a b x y first second =
 pub standing_inside : (r : Row) (p x : ℕ) → IsRow r → 0 < p → p ≤ r.len → x ≡ slice_index_or r.heap.items p x → x < length r.places.items
 standing_inside r p x row some low is = standing_below r p x row some low (read_standing r p x row some low is)
 
--- Two places are written, and the places of their variables.
+-- The variables at two places are written, and the places of these variables.
 pub record AreSwapped (old new : Row) (a b x y : ℕ) : Type 0 where
   pub heap : new.heap.items ≡ slice_set (slice_set old.heap.items a y) b x
   pub places : new.places.items ≡ slice_set (slice_set old.places.items y a) x b

@@ -1,4 +1,4 @@
--- Entries that are written.
+-- Writing entries.
 use Rattle.std.specs.Prelude.{◌≡◌, ℕ, zero, suc, ◌+◌, ◌<◌, ◌==◌, false, nat_lt, List, [], ◌∷◌, length, count_by, slice_index_or, slice_set, refl}
 use Rattle.std.proofs.Common.{sym, ap, ◌∙◌, arith, cond}
 use Rattle.std.proofs.Math.Logic.{⊎_elim}

@@ -18,7 +18,7 @@ score_of h v = slice_index_or h.scores v 0
 abbrev pub IsVariable : Held → ℕ → Type 0
 IsVariable h v = (0 < v) × (v ≤ h.vars)
 
--- Each variable has a score and a mark, and nothing but variables is held.
+-- Each variable has a score and a mark, and only variables are held.
 pub record IsWhole (h : Held) : Type 0 where
   pub scores_room : length h.scores ≡ h.vars + 1
   pub marks_room : length h.marks ≡ h.vars + 1
@@ -30,7 +30,7 @@ pub record IsGreatest (h : Held) (v : ℕ) : Type 0 where
   pub variable : IsVariable h v
   pub greatest : (w : ℕ) → IsHeld h w → score_of h w ≤ score_of h v
 
--- all variables are held and nothing else, with the score 0
+-- exactly the variables are held, each with the score 0
 pub record IsFull (vars : ℕ) (h : Held) : Type 0 where
   pub vars_are : h.vars ≡ vars
   pub held : (v : ℕ) → IsHeld h v ↔ IsVariable h v

@@ -1,4 +1,4 @@
--- How a row holds variables, and when it is a heap.
+-- The list of variables and their places, and when it is a heap.
 use Rattle.std.specs.Prelude.{◌≡◌, ◌≢◌, ℕ, ◌+◌, ◌*◌, ◌<◌, ◌≤◌, ◌==◌, List, length, count_by}
 use Rattle.var_heap.specs.declared.row.Row.{Row}
 use Rattle.var_heap.specs.Entries.{entry, marks_of}
@@ -10,8 +10,8 @@ at r = entry r.heap.items
 abbrev pub place : Row → ℕ → ℕ
 place r = entry r.places.items
 
--- Each place from 1 to len has a variable below bound, whose place it is, and each variable with a
--- place is there.
+-- Each place from 1 to len has a variable below bound, and the variable has that place; a variable with a
+-- place is at it.
 pub record IsArranged (at_place place_of : ℕ → ℕ) (len bound : ℕ) : Type 0 where
   pub some : (p : ℕ) → 0 < p → p ≤ len → 0 < at_place p
   pub below : (p : ℕ) → 0 < p → p ≤ len → at_place p < bound
@@ -28,7 +28,7 @@ pub record IsRow (r : Row) : Type 0 where
 abbrev pub HasScores : List ℕ → Row → Type 0
 HasScores scores r = length scores ≡ length r.places.items
 
--- the same variables are held, maybe at other places
+-- the same variables are held, possibly at other places
 pub record IsMoved (old new : Row) : Type 0 where
   pub len : new.len ≡ old.len
   pub marks : marks_of new.places.items ≡ marks_of old.places.items
@@ -58,7 +58,7 @@ pub record IsGreaterChild (at_place score : ℕ → ℕ) (len q c : ℕ) : Type 
   pub under : IsUnder c q
   pub greater : (p : ℕ) → p ≤ len → IsUnder p q → score (at_place p) ≤ score (at_place c)
 
--- The row is a heap by the scores of the variables 1 to vars.
+-- The list is a heap by the scores of the variables 1 to vars.
 pub record IsHeap (vars : ℕ) (scores : List ℕ) (r : Row) : Type 0 where
   pub row : IsRow r
   pub scores_room : length scores ≡ vars + 1

@@ -1,15 +1,14 @@
-//! The binary heap itself: a row of variables in which no variable scores more than its parent, and
-//! the place of each variable. A variable moves up or down until that holds again; relations on
-//! rows say which one, how far, and that no other leaves, so `VarHeap` shows scores and held
-//! variables alone.
+//! The binary heap itself: a list of variables in which none has a greater score than its parent, and the
+//! place (index in the list) of each variable. A variable moves up or down until the order holds again.
+//! Relations on the lists say what has moved and that no variable is lost, so `VarHeap` shows only scores and
+//! held variables.
 ghost use Rattle.std.specs.Prelude.{◌≡◌, ◌≢◌, ◌+◌, ◌-◌, ◌*◌, ◌<◌, ◌≤◌, true, false, length, slice_set, IfOk, IfSome, IfNone};
 ghost use Rattle.var_heap.specs.Entries.{entry, with_entry, marks_of};
 ghost use Rattle.var_heap.specs.Rows.{IsRow, at, place, HasScores, IsOrdered, IsOrderedAbove, IsOrderedBelow, IsGreaterChild, IsMoved, IsFilled};
 
 use std::alloc::{AllocError, Global};
 
-/// The held variables at the places 1 to `len` of a row; the children of place p are at 2 p and 2 p
-/// + 1.
+/// The held variables at the places 1 to `len`; the children of place p are at 2 p and 2 p + 1.
 #[derive(Drop)]
 pub(crate) struct Row {
     pub(crate) heap: Vec<u32>,
@@ -19,7 +18,7 @@ pub(crate) struct Row {
 }
 
 impl Row {
-    /// The row of the variables 1 to `vars` at the places 1 to `vars`.
+    /// All variables from 1 to `vars`, each at its own number as place.
     pub(crate) fn new(alloc: Global, vars: u32) -> Result<Row, AllocError>
         ensures row { IfOk result IsRow }
         ensures room { IfOk result (λ r. length r.places.items ≡ vars + 1) }
@@ -36,7 +35,7 @@ impl Row {
         Ok(row)
     }
 
-    /// Takes out the first variable, and moves the last one to its place.
+    /// Removes and returns the first variable, and moves the last one to its place.
     pub(crate) fn take_first(&mut self) -> u32
         requires row { IsRow self.old }
         requires some { 0 < self.old.len }
@@ -56,7 +55,7 @@ impl Row {
         first
     }
 
-    /// Appends a variable at the end of the row.
+    /// Appends a variable that isn't held.
     pub(crate) fn put(&mut self, v: u32)
         requires row { IsRow self.old }
         requires variable { (0 < v) × (v < length self.old.places.items) }
@@ -112,7 +111,7 @@ impl Row {
         }
     }
 
-    /// The child of a place whose variable has the greater score.
+    /// The child whose variable has the greater score; None if there is no child.
     fn greater_below(&self, scores: &[u64], above: usize) -> Option<usize>
         requires row { IsRow self.now }
         requires scores { HasScores scores.now self.now }

@@ -1,5 +1,5 @@
-//! Variables with scores, some of them held. That the first of the row has a greatest score follows
-//! from the heap order, level by level.
+//! Variables with scores, some of them held. The first place has a greatest score, which follows from the
+//! heap order, level by level.
 ghost use Rattle.std.specs.Prelude.{◌≡◌, ℕ, ◌+◌, ◌-◌, ◌/◌, ◌<◌, ◌^◌, ◌↔◌, true, false, map, min, slice_set, IsTrue, IfOk, IfSome, IfNone};
 ghost use Rattle.var_heap.specs.Held.{IsHeld, IsVariable, IsWhole, IsGreatest, IsFull, score_of};
 
@@ -7,8 +7,8 @@ use crate::row::Row;
 use std::alloc::{AllocError, Global};
 use std::marker::Model;
 
-/// Variables with scores, some of them held. Contracts see the scores and which variables are held;
-/// the held ones are in a row whose first has a greatest score.
+/// Variables with scores, some of them held by the heap. Contracts see the scores and which variables are
+/// held.
 #[derive(Drop)]
 pub struct VarHeap {
     vars: u32,
@@ -31,7 +31,7 @@ impl Model for VarHeap {
 }
 
 impl VarHeap {
-    /// Holds the variables 1 to `vars`, each with the score 0. No later `push` takes memory.
+    /// Holds the variables 1 to `vars`, each with the score 0. No later call allocates memory.
     pub fn new(alloc: Global, vars: u32) -> Result<VarHeap, AllocError>
         ensures full { IfOk result (IsFull vars) }
         ensures whole { IfOk result IsWhole }
@@ -41,7 +41,7 @@ impl VarHeap {
         Ok(VarHeap { vars, scores, row })
     }
 
-    /// Takes out a held variable of greatest score; None where none is held.
+    /// Removes and returns a held variable of greatest score; None if none is held.
     pub fn pop(&mut self) -> Option<u32>
         ensures greatest { IfSome result (IsGreatest self.old) }
         ensures taken { IfSome result (λ v. self.new ≡ record self.old { marks = slice_set self.old.marks v false }) }
@@ -59,7 +59,7 @@ impl VarHeap {
         Some(first)
     }
 
-    /// Puts a variable back; one that is held stays.
+    /// Adds a variable to the heap; nothing changes if it is held.
     pub fn push(&mut self, v: u32)
         requires { IsVariable self.old v }
         ensures held { self.new ≡ record self.old { marks = slice_set self.old.marks v true } }
@@ -73,7 +73,7 @@ impl VarHeap {
         self.row.up(&self.scores, last);
     }
 
-    /// Adds `by` to the score of a variable, saturating at 64 bits.
+    /// Adds `by` to the score of a variable, held or not, saturating at 64 bits.
     pub fn bump(&mut self, v: u32, by: u64)
         requires { IsVariable self.old v }
         ensures added { self.new ≡ record self.old { scores = slice_set self.old.scores v (min (score_of self.old v + by) (2 ^ 64 - 1)) } }
@@ -86,7 +86,7 @@ impl VarHeap {
         }
     }
 
-    /// Divides every score by 2 to a power, rounded down.
+    /// Divides every score by 2 to the power `power`, rounding down.
     pub fn divide(&mut self, power: u32)
         requires { power < 64 }
         ensures divided { self.new ≡ record self.old { scores = map (λ s. s / 2 ^ power) self.old.scores } }

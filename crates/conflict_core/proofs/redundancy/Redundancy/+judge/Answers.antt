@@ -10,7 +10,7 @@ use Rattle.clause_db.specs.Stored.{live_in}
 use Rattle.conflict_core.proofs.Explaining.{others_down}
 use Rattle.conflict_core.proofs.redundancy.Redundancy.+judge.Goals as goal
 
--- the depth falls
+-- the depth decreases
 less : (depth t : ℕ) → depth ≡ t → (depth ≡ 0 → ⊥) → depth - 1 < t
 less depth t same some = omega arith
 
