@@ -24,7 +24,7 @@
 //! | `given` | the number of original clauses |
 //! | `Choice`: `take_free` | decision heap: `pickBranchLit`, `decide` |
 //! | `signs` | saved phases |
-//! | `step`, `bump`, `grow` | `var_inc`, `varBumpActivity`, `varDecayActivity` with rescaling |
+//! | `increment`, `bump`, `grow` | `var_inc`, `varBumpActivity`, `varDecayActivity` with rescaling |
 //! | `back_to`, `go_down` | `cancelUntil`, `backtrack`; to level 0 |
 //! | `begin`, `push_units` | assignment of the unit clauses at level 0 |
 //! | `visit`, `first_standing`, `besides` | inner loop of `propagate`, replacement watch, other watch |
@@ -33,20 +33,23 @@
 //! | `settle` | propagate, and learn until there is no conflict |
 //! | `probe` | solve under assumptions with a conflict limit |
 //! | `Scope` | its decision variables: the cone of the assumptions |
-//! | `Walk`, `touched`, `reduce` | `analyze`, the literals marked `seen`, up to the first UIP |
-//! | `Redundancy`, `resolve_away`, `shorten` | `litRedundant`, minimisation; by binary clauses |
+//! | `Resolution`, `touched`, `resolve_to_uip` | `analyze`, the literals marked `seen`, up to the first UIP |
+//! | `Redundancy`, `resolve_away` | `litRedundant`, minimisation |
+//! | `minimise_with_binaries` | minimisation by binary clauses (Glucose) |
 //! | `Merits`: `activity`, `levels`, `shape` | clause activity, LBD (glue), signature |
 //! | `tidy`, `forget_idle`, `forget` | `reduceDB`, deletion of learnt clauses |
-//! | `is_overfull`, `shed` | more live additions than the end of the log may have; deletion down to that |
+//! | `is_overfull`, `shed` | more additions live than the log's end may have; deletion down to that |
 //! | `review`, `containing` | eager subsumption of recent learnt clauses |
 //! | `strengthen`, `shorter` | subsumption and strengthening (self-subsuming resolution), once |
-//! | `is_irredundant`, `set_aside` | irredundant: original, or replacing an original; deletion of a subsumed one |
+//! | `is_irredundant` | irredundant: an original clause, or one that replaces an original |
+//! | `set_aside` | deletion of a subsumed original clause |
 //! | `rewind` | unassign everything, level 0 too |
 //! | log, line, hint | LRAT proof, step, antecedent id |
 //! | `IsKept` | at least half of the additions are live at the end |
 //! | `IsThinned`, `thin` | at most about three quarters are; the deletions at the end for that |
 //! | `Ending`: `Valued`, `Refuted`, `Spent` | SAT, UNSAT, limit reached |
-//! | `IsGuarded`, `IsVisited`, `IsSettled` | watch invariant, it up to `head`, neither unit nor falsified |
+//! | `IsGuarded`, `IsVisited` | watch invariant; it up to `head` |
+//! | `IsSettled` | a clause is neither unit nor falsified |
 #![tactic(auto)]
 
 mod answering;

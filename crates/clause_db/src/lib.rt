@@ -11,7 +11,7 @@
 //! propagation reads adjacent memory. A clause that watches another literal swaps it with the one it gives
 //! up. So the original order is lost, and contracts see the literals in the order of their codes.
 //!
-//! An entry of a watch list has a literal of its clause, the blocking literal, which `block` replaces
+//! An entry of a watch list has a literal of its clause, the blocking literal, which `set_blocker` replaces
 //! (Sörensson and Eén, "MiniSat 2.1", 2008).
 //!
 //! ```text

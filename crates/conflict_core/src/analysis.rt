@@ -1,8 +1,8 @@
-//! The learnt clause, and why a log may add it. Resolution goes back over the conflict's level to its first
-//! unique implication point (first UIP); minimisation and binary clauses remove further literals by
-//! resolution too; the marked literals that are left form the clause. It follows by the hints: this is the
-//! invariant of the resolution (`IsWalk`). One literal of the level is left, and the position of the next one
-//! is the backjump target (`IsLearnt`).
+//! The learnt clause, and why a log may add it. Resolution goes back over the conflict's level to
+//! its first unique implication point (first UIP); minimisation and binary clauses remove further
+//! literals by resolution too; the marked literals that are left form the clause. It follows by the
+//! hints: this is the invariant of the resolution (`IsWalk`). One literal of the level is left, and
+//! the position of the next one is the backjump target (`IsLearnt`).
 ghost use Rattle.std.specs.Prelude.{◌≡◌, ℕ, ℤ, ◌+◌, ◌<◌, ◌≤◌, ◌∷◌, [], length, slice_index_or, reverse, All, IfOk, OnOk};
 ghost use Rattle.std.specs.List.Sorted.{IsPermutation};
 ghost use Rattle.sat_theory.specs.Formula.{IsWithin};
