@@ -37,7 +37,7 @@ const GREAT_SCALE: u32 = 32;
 /// The number of variables from which on they count as many.
 const MANY_VARS: usize = 1 << 13;
 
-/// Each conflict increases the increment by 1 in this number (the decay of older bumps).
+/// After each conflict the increment grows by itself divided by this (the decay of older bumps).
 const STEP_PART: u64 = 16;
 
 /// The variables of a reason are bumped by the increment divided by this.

@@ -25,7 +25,7 @@ const GREATEST_STEP: u64 = 1 << 60;
 /// The divisor of a rescaling.
 const SCALE: u64 = 1 << 40;
 
-/// Each conflict increases the increment by 1 in this number (the decay of older activity).
+/// After each conflict the increment grows by itself divided by this (the decay of older activity).
 const STEP_PART: u64 = 1000;
 
 /// Clauses over at most this number of levels (LBD) are never candidates.
