@@ -1,5 +1,5 @@
-//! Chains of the fewest levels: what `synth --least-depth yes` writes, and what `recheck --depth yes` reports of it and
-//! of what it isn't.
+//! Chains of the fewest levels: what `synth --least-depth yes` writes, and what `recheck --depth yes` reports of
+//! it and of what it isn't.
 use crate::running::{tells, told};
 use std::alloc::{AllocError, Global};
 

@@ -50,8 +50,8 @@ fn failing(
     }
 }
 
-/// Whether a call that failed was reported, and what it has to leave of the whole text stands on the output: nothing where
-/// it was a read, a prefix where it was a write, and the whole where it was one on the notes.
+/// Whether a call that failed was reported, and what it has to leave of the whole text stands on the output:
+/// nothing where it was a read, a prefix where it was a write, and the whole where it was one on the notes.
 fn leaves(seen: &Seen, port: Port, whole: &[u8]) -> bool {
     match port {
         Port::Reads => seen.is(5, b"", b"error: ReadFault\n"),
@@ -95,8 +95,8 @@ fn makes(alloc: Global, run: (&str, &[u8], u8), whole: &[u8], port: Port, some: 
     }
 }
 
-/// Whether each call of a run that fails is reported and leaves what it has to, where the run writes, and reads and makes
-/// notes as it is given.
+/// Whether each call of a run that fails is reported and leaves what it has to, where the run writes, and reads
+/// and makes notes as it is given.
 fn withstands(alloc: Global, run: (&str, &[u8], u8), reads: bool, notes: bool) -> bool {
     let Ok(seen) = told(alloc, run.0, run.1) else {
         return false;
@@ -107,7 +107,8 @@ fn withstands(alloc: Global, run: (&str, &[u8], u8), reads: bool, notes: bool) -
         && makes(alloc, run, whole, Port::Notes, notes)
 }
 
-/// Every command with an input that has an answer, the status of that answer, and whether it reads and makes notes.
+/// Every command with an input that has an answer, the status of that answer, and whether it reads and makes
+/// notes.
 const RUNS: &[(&str, &str, u8, bool, bool)] = &[
     ("agree", XOR, 0, true, false),
     ("synth", AND_OF_THREE, 0, true, false),
@@ -128,8 +129,8 @@ fn each_call_that_fails_is_told(rt: HostRuntime) {
     }
 }
 
-/// Whether `synth` leaves what it wrote before its call of this number, where that call fails: whole pieces, of which
-/// the last is the heading, a section, or nothing.
+/// Whether `synth` leaves what it wrote before its call of this number, where that call fails: whole pieces, of
+/// which the last is the heading, a section, or nothing.
 fn leaves_pieces(alloc: Global, call: u64, end: &str) -> bool {
     match failing(alloc, "synth", AND_OF_THREE.as_bytes(), Port::Writes, call) {
         Ok(seen) => seen.status == 6 && seen.out.written().ends_with(end.as_bytes()),
@@ -160,7 +161,8 @@ fn long(alloc: Global, front: &str) -> Result<Vec<u8>, AllocError> {
     Ok(text)
 }
 
-/// Whether a run on a refused text makes three reads, of which the last finds the end, and each that fails is reported.
+/// Whether a run on a refused text makes three reads, of which the last finds the end, and each that fails is
+/// reported.
 fn is_read_on(alloc: Global, line: &str, front: &str) -> bool {
     match long(alloc, front) {
         Ok(text) => calls_of(alloc, line, &text, Port::Reads, b"", 2) == Some(3),
@@ -186,7 +188,8 @@ fn reads_that_fail_after_a_refused_line_are_told(rt: HostRuntime) {
     }
 }
 
-/// Whether a run with this status keeps it where its first hundred calls on the notes fail, and reports nothing there.
+/// Whether a run with this status keeps it where its first hundred calls on the notes fail, and reports nothing
+/// there.
 fn keeps_status(alloc: Global, line: &str, input: &[u8], status: u8) -> bool {
     let notes = Fails::UpTo(100);
     match run_on(alloc, line, input, Fails::None, Fails::None, notes) {

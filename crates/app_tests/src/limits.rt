@@ -1,4 +1,5 @@
-//! Limits of tables, netlists and certificates at their values and one past them, and netlists that depend on themselves.
+//! Limits of tables, netlists and certificates at their values and one past them, and netlists that depend on
+//! themselves.
 use crate::running::{Seen, told};
 use std::alloc::{AllocError, Global};
 

@@ -129,8 +129,8 @@ fn synth_is_asked_with_settings(rt: HostRuntime) {
     }
 }
 
-/// The format, the basis, the method, the cap, the rounds, the conflicts, whether rows that nobody sees are left out, and
-/// the effort.
+/// The format, the basis, the method, the cap, the rounds, the conflicts, whether rows that nobody sees are left
+/// out, and the effort.
 type Improve = (Format, u16, Method, u32, u32, u32, bool, u32);
 
 /// A command of these settings.

@@ -90,7 +90,8 @@ pub(crate) fn told(alloc: Global, line: &str, input: &[u8]) -> Result<Seen, Allo
     run_on(alloc, line, input, Fails::None, Fails::None, Fails::None)
 }
 
-/// Whether a run where nothing fails ends with this status, and these texts then stand on the output and on the notes.
+/// Whether a run where nothing fails ends with this status, and these texts then stand on the output and on the
+/// notes.
 pub(crate) fn tells(
     alloc: Global,
     line: &str,

@@ -1,5 +1,5 @@
-//! Certificates of windows that stay undecided: each is cut out of the report of `improve`, and `recheck` has to find
-//! its verdict.
+//! Certificates of windows that stay undecided: each is cut out of the report of `improve`, and `recheck` has to
+//! find its verdict.
 use crate::running::told;
 use std::alloc::{AllocError, Global};
 
@@ -11,7 +11,8 @@ const ADDER: &str =
 const GATES: &str =
     "INPUT(a)\nINPUT(b)\nINPUT(c)\nINPUT(d)\nINPUT(e)\nOUTPUT(s)\nOUTPUT(t)\nOUTPUT(k)\np = XOR(a, b)\ns = XOR(p, c)\nq = AND(a, b)\nr = AND(p, c)\nh = OR(q, r)\nu = XOR(d, e)\nt = XOR(u, h)\nv = AND(d, e)\nw = AND(u, h)\nk = OR(v, w)\n";
 
-/// Whether `recheck` finds of a certificate without its last line, `end`, the verdict `open` that its last line then is.
+/// Whether `recheck` finds of a certificate without its last line, `end`, the verdict `open` that its last line
+/// then is.
 fn is_found_open(alloc: Global, front: &[u8]) -> Result<bool, AllocError> {
     let mut certificate = Vec::from_slice(alloc, front)?;
     certificate.extend_from_slice(b"end\n")?;

@@ -2,12 +2,13 @@
 //!
 //! A static library for programs that ask many questions, whose header is `include/batsokemi.h`. The function
 //! `batsokemi_run` calls `chain_app::run` over a source and two sinks in memory, so what it promises is what the
-//! program promises (`specs/Called`): a run of these words over these bytes kept its promises, and what it wrote is
-//! what stands in the buffers where it has room there. It keeps nothing between two calls, and shares nothing with
-//! another one that runs beside it.
+//! program promises (`specs/Called`): a run of these words over these bytes kept its promises, and what it wrote
+//! is what stands in the buffers where it has room there. It keeps nothing between two calls, and shares nothing
+//! with another one that runs beside it.
 //!
 //! ```text
-//! struct batsokemi_answer a = batsokemi_run("synth", 5, tables, length, output, sizeof output, notes, sizeof notes);
+//! struct batsokemi_answer a = batsokemi_run("synth", 5, tables, length, output, sizeof output, notes, sizeof
+//! notes);
 //! ```
 #![tactic(auto)]
 
@@ -25,11 +26,11 @@ use port_io::MemorySink;
 use room::put;
 use std::alloc::Global;
 
-/// Does what the words of `command` ask of the bytes of `input`. Single blanks part the words, as in `synth --max 3`;
-/// the empty text has no command in it.
+/// Does what the words of `command` ask of the bytes of `input`. Single blanks part the words, as in `synth
+/// --max 3`; the empty text has no command in it.
 ///
-/// The answer has the status, as the program's, and the lengths of the output and of the notes in bytes. A text that
-/// is no longer than its buffer stands at the buffer's start; where it is longer, the buffer is as it was.
+/// The answer has the status, as the program's, and the lengths of the output and of the notes in bytes. A text
+/// that is no longer than its buffer stands at the buffer's start; where it is longer, the buffer is as it was.
 #[unsafe(no_mangle)]
 pub extern "C" fn batsokemi_run(
     alloc: Global,

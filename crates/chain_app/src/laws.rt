@@ -27,9 +27,9 @@ pub fn commands_are_tasks()
 {}
 
 /// An answer is owed: where no call failed at all, no read and no write, and memory sufficed, a run that keeps its
-/// promises has the status of an answer, and of no error, for each input that the command can answer: `agree` for a
-/// question, `recheck` for a valid certificate of either kind, `synth` for tables, `improve` for a netlist, `equiv` for
-/// two netlists of one interface, and `gen` always.
+/// promises has the status of an answer, and of no error, for each input that the command can answer: `agree`
+/// for a question, `recheck` for a valid certificate of either kind, `synth` for tables, `improve` for a
+/// netlist, `equiv` for two netlists of one interface, and `gen` always.
 pub fn answers_are_owed()
     ensures agree { (r : Run) → KeepsPromises r → Owes (AsksWell Agree HasQuestion) IsAgreeStatus r }
     ensures recheck { (r : Run) → KeepsPromises r → Owes (AsksWell Recheck IsValid) (λ s. s ≡ Done) r }

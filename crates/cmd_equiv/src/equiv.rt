@@ -78,8 +78,8 @@ fn refusal_of(error: CompareError) -> Refusal
 /// Whether two netlists have the same outputs and next states, decided with the solver `S`.
 #[derive(Drop)]
 pub struct Equiv<S> {
-    /// The budget, after which the two stay undecided: for each pair or sink that is given up its limit counts, and then
-    /// the clauses that the last search learns.
+    /// The budget, after which the two stay undecided: for each pair or sink that is given up its limit counts,
+    /// and then the clauses that the last search learns.
     pub budget: u32,
     /// The solver.
     pub solver: PhantomData<S>,

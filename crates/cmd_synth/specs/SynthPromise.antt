@@ -45,7 +45,8 @@ pub record SynthPromise (r : Run) : Type 0 where
       → HasTablesFault input error
       → InputHeld r
       → TellsError r (synth_refusal error)
-  -- Where the output failed a prefix stands there, and nothing else; and where memory ran out, a prefix or nothing.
+  -- Where the output failed a prefix stands there, and nothing else; and where memory ran out, a prefix or
+  -- nothing.
   pub cut : (asked : SynthSettings) (input : List ℕ)
       → Runs (Synth asked) r input
       → r.status ≡ WriteFault

@@ -8,8 +8,8 @@ use std::alloc::{AllocError, Global};
 /// The numbers of the calls that are to fail.
 type Fails = &'static [u64];
 
-/// The input, what fails of reads, of writes and of notes, the status, how many reads failed, and what stands on the
-/// output and on the notes.
+/// The input, what fails of reads, of writes and of notes, the status, how many reads failed, and what stands on
+/// the output and on the notes.
 type Run = (
     &'static [u8],
     (Fails, Fails, Fails),

@@ -6,7 +6,7 @@ pub record Line : Type 0 where
   pub text : List ℕ
   pub ended : Bool
 
--- what follows the last LF: a line that no LF ends, unless it is empty
+-- the line after the last LF, which no LF ends; there is none if nothing follows the LF
 abbrev pub last_line : List ℕ → List Line
 last_line [] = []
 last_line (b ∷ bs) = record { text = b ∷ bs; ended = false } ∷ []
