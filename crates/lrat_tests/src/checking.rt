@@ -103,8 +103,8 @@ fn faults_are_told(rt: HostRuntime) -> Result<(), AllocError> {
     Ok(())
 }
 
-/// Whether a checker of the contradiction answers the lines of a log, one after another, as the
-/// rows say, and is refuted after exactly those where they say so.
+/// Whether a checker of the contradiction returns the expected result for each line of a log, and is refuted after
+/// exactly the lines that are marked so.
 fn is_log(
     alloc: Global,
     indexed: bool,
