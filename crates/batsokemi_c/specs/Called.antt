@@ -52,8 +52,8 @@ pub record IsPut (text old new : List ℕ) : Type 0 where
 abbrev pub empty_sink : Store
 empty_sink = record { written = []; schedule = first_schedule [] }
 
--- A call wrote an output and notes to sinks in memory, its answer tells the status and how long both are, and they
--- stand in the buffers where they have room there.
+-- A call wrote an output and notes to sinks in memory; its result has the status and the lengths of both, and the
+-- buffers have them if they fit.
 pub record IsAnswered (command input output output' notes notes' : List ℕ) (status output_length notes_length : ℕ) : Type 0 where
   pub out : Store
   pub note : Store

@@ -34,7 +34,7 @@ depth_status (depths.OpenTooShort line) = Refused
 depth_status (depths.WrongLevels line) = Refused
 depth_status depths.Memory = Memory
 
--- A fault in the certificate of the fewest steps has the word `Bundle` before it; running out of memory hasn't.
+-- A fault in the certificate of the fewest steps has the word "Bundle" before it; running out of memory hasn't.
 -- Example: Bundle StepRefused 13 NotUnit 22.
 abbrev pub named_inside : BundleError → List Field
 named_inside bundles.Memory = memory

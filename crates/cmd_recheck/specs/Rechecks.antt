@@ -9,8 +9,8 @@ use Rattle.frame_core.specs.Promise.{InputHeld, OutputHeld, Stands, TellsError, 
 use Rattle.cmd_lines.specs.Runs.{Runs}
 use Rattle.cmd_verdicts.specs.Verdicts.{most_of_bundle}
 
--- `command` runs `task`. `Spells` says which bytes are the text of a valid certificate, `verdict` what verdict
--- it has, and `Tells` what a run has told of bytes with a verdict.
+-- `command` has the task `task`. `Spells` says which bytes are the text of a valid certificate, `verdict` is its
+-- verdict, and the predicate on runs says what the reported verdict means.
 pub record Rechecks {Certificate : Type 0} (command : Command) (task : Task) (Spells : List ℕ → Certificate → Type 0) (verdict : Certificate → task.Answer) (Tells : Run → List ℕ → Type 0) (r : Run) : Type 0 where
   -- A valid certificate gets an answer.
   pub complete : (input : List ℕ) (b : Certificate)

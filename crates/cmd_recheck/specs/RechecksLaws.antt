@@ -30,9 +30,9 @@ never_limit refusal (inl (inl malformed)) is = let bad : Malformed ≡ Limit = s
 never_limit refusal (inl (inr refused)) is = let bad : Refused ≡ Limit = sym refused ∙ is in cc
 never_limit refusal (inr memory) is = let bad : Memory ≡ Limit = sym (ap (λ (r : Refusal). r.status) memory) ∙ is in cc
 
--- What that takes of the task: how much it reads, that a verdict has the status 0 and no report, and how faults
--- are refused; that a certificate's text has no fault, and no verdict but its own; and that a verdict that
--- stands is told so.
+-- What the task has to fulfil: how much it reads; a verdict has the status 0 and no report; how faults are
+-- refused; the text of a certificate has no fault, and no verdict but its own; and a verdict that was written is
+-- true.
 pub record IsRechecking {Certificate : Type 0} (task : Task) (Spells : List ℕ → Certificate → Type 0) (verdict : Certificate → task.Answer) (Tells : Run → List ℕ → Type 0) : Type 0 where
   pub reads : task.reads ≡ Some most_of_bundle
   pub done : (answer : task.Answer) → (task.reply answer).status ≡ Done

@@ -39,8 +39,9 @@ pub record FindsNone (asked : SynthSettings) (tables : Words) (r : Run) (input :
   pub stands : Stands r (least_depth_reply (record { text = text; found = Other (NoChain asked.max) }))
   pub none : (steps : ℕ) → steps ≤ asked.max → HasChain (specification tables) (members asked.basis) steps → ⊥
 
--- A depth bundle stands there. `steps` steps are the fewest, some chain of `steps` steps has `levels` levels,
--- and none has fewer than `low`; in the text the log of a fence of `low` levels is spent.
+-- A depth certificate was written. `steps` is the least number of steps, some chain of `steps` steps has
+-- `levels` levels, and none has fewer than `low`; in the text a log of a fence with `low` levels reaches the
+-- budget.
 pub record FindsBounds (asked : SynthSettings) (tables : Words) (r : Run) (input : List ℕ) : Type 0 where
   pub text : List ℕ
   pub low : ℕ
@@ -73,15 +74,15 @@ pub record LeastDepthPromise (r : Run) : Type 0 where
       → (r.status ≡ Done) ⊎ (r.status ≡ Undecided)
       → Replies (least_depth_task asked) r input
   pub never_refused : (asked : SynthSettings) → AsksFor r.words (LeastDepth asked) → r.status ≡ Refused → ⊥
-  -- The status 0 tells the fewest levels of a chain of the fewest steps, or that no chain of at most `max` steps
-  -- agrees.
+  -- The status 0 means: the output has the fewest levels of a chain of the fewest steps, or no chain of at most
+  -- `max` steps implements the tables.
   pub least : (asked : SynthSettings) (input : List ℕ) (tables : Words)
       → Runs (LeastDepth asked) r input
       → AreTables input tables
       → r.status ≡ Done
       → FindsLeast asked tables r input ⊎ FindsNone asked tables r input
-  -- The status 4 tells the fewest steps and bounds of the levels, with a log that has spent its budget, or a
-  -- bound of the steps.
+  -- The status 4 means: the output has the fewest steps and bounds of the levels, with a log that reaches the
+  -- budget, or a bound of the steps.
   pub bounded : (asked : SynthSettings) (input : List ℕ) (tables : Words)
       → Runs (LeastDepth asked) r input
       → AreTables input tables

@@ -54,9 +54,9 @@ abbrev pub IsAcceptedSo : List ℕ → Found → Type 0
 IsAcceptedSo text (Least verdict) = GivesLevels text verdict
 IsAcceptedSo text (Other verdict) = GivesVerdict text verdict
 
--- The text is that of a depth bundle for the tables in the bytes and for what is asked, or that of a certificate
--- of the fewest steps whose verdict is no minimum. What it says of chains is true. Who judges the text again has
--- the same verdict; so has `recheck --depth yes`, or `recheck`, of a text within its limit.
+-- The text is a depth certificate for the tables in the bytes and for the settings, or a certificate of the
+-- fewest steps whose verdict isn't a minimum. What it says about chains is true. Judging the text gives the same
+-- verdict, and so does `recheck --depth yes`, or `recheck`, if the text is within its limit.
 pub record IsCertified (asked : SynthSettings) (bytes : List ℕ) (c : Certified) : Type 0 where
   pub within : length bytes ≤ most_of_tables
   pub certificate : IsCertificate bytes asked c.text c.found

@@ -15,8 +15,8 @@ use Rattle.frame_core.specs.Run.{Run}
 use Rattle.cmd_lines.specs.Runs.{Runs}
 use Rattle.frame_core.specs.Promise.{InputHeld, OutputHeld, TellsError, Replies}
 
--- What stands on the output is the beginning of a certificate for the tables in the bytes and for what is asked,
--- or of its heading and of whole sections after it.
+-- A prefix was written: of a certificate for the tables in the bytes and for the settings, or of the header of a
+-- certificate and whole sections after it.
 pub record LeavesFront (r : Run) (asked : SynthSettings) (input : List ℕ) : Type 0 where
   pub tables : Words
   pub are : AreTables input tables

@@ -128,7 +128,7 @@ command_in None words = None
 command_in (Some kind) words = if are_options (options_of kind) words then command_with kind words else None
 
 -- The command that words ask for, if they ask for one.
--- Example: synth --max 3 --basis nand asks for NAND alone, at most 3 steps, by the method ssv, with a
+-- Example: synth --max 3 --basis nand asks for NAND as the only operator, at most 3 steps, the method ssv, and a
 -- budget of 100,000.
 unfoldable pub command_of : List (List ℕ) → Option Command
 command_of [] = None

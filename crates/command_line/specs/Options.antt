@@ -99,7 +99,7 @@ conflicts_row = number_row (codes "--conflicts") 1 most_conflicts (Some usual.co
 abbrev pub cap_row : Row ℕ
 cap_row = number_row (codes "--cap") 0 improver.most_gates_of_window (Some improver.usual.cap)
 
--- the most rounds over all windows
+-- the most rounds over all windows that may change the netlist
 abbrev pub rounds_row : Row ℕ
 rounds_row = number_row (codes "--rounds") 1 improver.most_rounds (Some improver.usual.rounds)
 

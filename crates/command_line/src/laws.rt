@@ -29,8 +29,9 @@ pub fn order_of_options_is_free()
         AsksFor (name ∷ flat pairs) command → AsksFor (name ∷ flat other) command }
 {}
 
-/// What `synth` and `improve` are asked with is in their ranges, the basis of a format with it, and so are the
-/// budget of `equiv` and the number of blocks of `gen`. The fewest levels are sought by fences alone.
+/// The settings of `synth` and `improve` are in their ranges, and so are the budget of `equiv` and the number of
+/// blocks of `gen`. The basis of `improve` fits the format. The method of the search for the fewest levels is
+/// always `fence`.
 pub fn settings_are_in_range()
     ensures synth { (words : List (List ℕ)) (settings : SynthSettings) → AsksFor words (Synth settings) → IsInRange settings }
     ensures least_depth { (words : List (List ℕ)) (settings : SynthSettings) → AsksFor words (LeastDepth settings) → IsInRange settings × (settings.method ≡ Fence) }
@@ -39,7 +40,7 @@ pub fn settings_are_in_range()
     ensures blocks { (words : List (List ℕ)) (blocks : ℕ) (deed : Deed) → AsksFor words (Gen blocks deed) → (1 ≤ blocks) × (blocks ≤ most_blocks) }
 {}
 
-/// `synth` and `improve` alone ask with what is usual, and so does `improve` with the format alone.
+/// Without options `synth` and `improve` have their default settings, and so has `improve` with only a format.
 pub fn names_alone_ask_for_what_is_usual()
     ensures synth { AsksFor (codes "synth" ∷ []) (Synth usual) }
     ensures improve { AsksFor (codes "improve" ∷ []) (Improve Blif improver.usual) }

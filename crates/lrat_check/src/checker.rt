@@ -133,7 +133,7 @@ impl Checker {
         ensures refuted { OnOk result (self.new.refuted ≡ (self.old.refuted || adds_empty (line_value line))) }
         ensures unchanged { OnErr result (self.new ≡ self.old) }
     {
-        let _clauses = &self.clauses;
+        let _clauses = &self.clauses; // for the prover: brings in their invariant
         match line {
             Line::Add { id, lits, hints } => self.add(id, lits, &hints),
             Line::Delete { ids, .. } => self.delete(&ids),

@@ -7,7 +7,7 @@ pub record Split : Type 0 where
   pub first : List ℕ
   pub more : List (List ℕ)
 
--- the items of front ++ text, where front has no blank (byte 32)
+-- the items of an unfinished item, which has no blank (byte 32), followed by a text
 unfoldable pub split_from : List ℕ → List ℕ → Split
 split_from front [] = record { first = front; more = [] }
 split_from front (b ∷ bs) = if b == 32 then record { first = front; more = (split_from [] bs).first ∷ (split_from [] bs).more } else split_from (front ++ b ∷ []) bs

@@ -11,7 +11,7 @@ abbrev pub last_line : List ℕ → List Line
 last_line [] = []
 last_line (b ∷ bs) = record { text = b ∷ bs; ended = false } ∷ []
 
--- the lines of front ++ bytes, where front has no LF
+-- the lines of an unfinished line, which has no LF, followed by bytes
 unfoldable pub lines_from : List ℕ → List ℕ → List Line
 lines_from front [] = last_line front
 lines_from front (b ∷ bs) = if b == 10 then record { text = front; ended = true } ∷ lines_from [] bs else lines_from (front ++ b ∷ []) bs
