@@ -1,25 +1,25 @@
-//! Runs of each command on memory, as tables: what comes in, the status, and what stands outside.
+//! Runs of each command in memory, as tables: the input, the status, and what is written.
 use crate::running::{Seen, tells, told};
 use std::alloc::{AllocError, Global};
 
 const XOR: &str = "inputs 2\n0110\nchain 1\nx3 x1 x2 0110\nout x3\nend\n";
 
-/// A certificate that XOR takes one step.
+/// A certificate that XOR needs one step.
 const ONE: &str =
     "chains 1\ninputs 2\n0110\nbasis all\nmethod ssv\nconflicts 100000\nmax 16\nsize 0\nrefuted\ndone\nchain 1\nx3 x1 x2 0110\nout x3\nminimum 1\nend\n";
 
-/// One that NOT has no chain of at most one step over AND, by the cuts.
+/// A certificate that NOT has no chain of at most one step over AND, by the symmetry-breaking constraints.
 const NONE: &str =
     "chains 1\ninputs 1\n10\nbasis 0001\nmethod ssv\nconflicts 100000\nmax 1\nsize 0\nrefuted\ndone\nsize 1\nrefuted\n27 -5 0 4 25 26 22 20 0\n28 0 4 25 26 27 18 16 0\ndone\nnone 1\nend\n";
 
-/// That one with a hint too few, and without its end.
+/// The same certificate without one of the hints, and without its last line.
 const REFUSED: &str =
     "chains 1\ninputs 1\n10\nbasis 0001\nmethod ssv\nconflicts 100000\nmax 1\nsize 0\nrefuted\ndone\nsize 1\nrefuted\n27 -5 0 4 25 22 20 0\n";
 
 const CUT: &str =
     "chains 1\ninputs 1\n10\nbasis 0001\nmethod ssv\nconflicts 100000\nmax 1\nsize 0\nrefuted\ndone\nsize 1\nrefuted\n27 -5 0 4 25 26 22 20 0\n28 0 4 25 26 27 18 16 0\ndone\n";
 
-/// A netlist whose gate q is read by nothing, and that one without it.
+/// A netlist whose gate q is dangling, and the same without it.
 const TWO: &str =
     ".model x\n.inputs a b\n.outputs p\n.names a b p\n10 1\n.names a b q\n01 1\n.end\n";
 
@@ -35,7 +35,7 @@ const ONE_GATE: &str = ".model s\n.inputs a b\n.outputs y\n.names a b y\n01 1\n1
 const BLOCK: &str =
     ".model gen\n.inputs a0 b0\n.outputs y0\n.names a0 b0 p0\n10 1\n.names a0 b0 q0\n01 1\n.names p0 q0 y0\n1- 1\n-1 1\n.end\n";
 
-/// Command lines and inputs, the status, and what then stands on the output and on the notes.
+/// Command lines, inputs, the status, the output and the notes.
 const RUNS: &[(&str, &str, u8, &str, &str)] = &[
     ("agree", XOR, 0, "agrees\n", ""),
     (
@@ -175,14 +175,14 @@ const AND: &str = ".model p\n.inputs a b\n.outputs y\n.names a b y\n11 1\n.end\n
 
 const ZERO: &str = ".model q\n.inputs a b\n.outputs y\n.names y\n.end\n";
 
-/// Those texts one after the other.
+/// The concatenation of two texts.
 fn joined(alloc: Global, first: &str, second: &str) -> Result<String, AllocError> {
     let mut both = String::from_str(alloc, first)?;
     both.push_str(second)?;
     Ok(both)
 }
 
-/// Whether `equiv` of two texts ends with `status`, and writes `out` and `note`.
+/// Whether `equiv` on two texts ends with `status`, and writes `out` and `note`.
 fn are_judged(alloc: Global, first: &str, second: &str, status: u8, out: &str, note: &str) -> bool {
     match joined(alloc, first, second) {
         Ok(input) => tells(alloc, "equiv", input.as_bytes(), status, out, note),
@@ -190,7 +190,7 @@ fn are_judged(alloc: Global, first: &str, second: &str, status: u8, out: &str, n
     }
 }
 
-/// Two netlists, the status, and what stands on the output and on the notes.
+/// Two netlists, the status, the output and the notes.
 const PAIRS: &[(&str, &str, u8, &str, &str)] = &[
     (AND, ZERO, 8, "differ output y\nat 11\n", ""),
     (
@@ -225,21 +225,21 @@ fn equiv_tells(rt: HostRuntime) {
     }
 }
 
-/// XOR of six inputs in two orders, which have no equal points but the inputs and the output.
+/// XOR of six inputs in two orders: no nodes are equivalent but the inputs and the output.
 const ROW: &str =
     ".inputs a b c d e f\n.outputs y\n.names a b p\n10 1\n01 1\n.names p c q\n10 1\n01 1\n.names q d r\n10 1\n01 1\n.names r e s\n10 1\n01 1\n.names s f y\n10 1\n01 1\n.end\n";
 
 const OTHER_ROW: &str =
     ".inputs a b c d e f\n.outputs y\n.names f b p\n10 1\n01 1\n.names p d q\n10 1\n01 1\n.names q a r\n10 1\n01 1\n.names r e s\n10 1\n01 1\n.names s c y\n10 1\n01 1\n.end\n";
 
-/// Whether a run answered with a log after `word`, and nothing on the notes.
+/// Whether the output of a run is `word` and then a log, with empty notes.
 fn is_log(seen: &Seen, status: u8, word: &str) -> bool {
     let out = seen.out.written();
     let log = out.starts_with(word.as_bytes()) && out.ends_with(b"done\n");
     seen.status == status && log && seen.note.written().is_empty()
 }
 
-/// Whether a line of `equiv` on two texts answers with a log after `word`, and nothing on the notes.
+/// Whether the output of an `equiv` command line on two texts is `word` and then a log, with empty notes.
 fn tells_log(alloc: Global, line: &str, first: &str, second: &str, status: u8, word: &str) -> bool {
     let Ok(input) = joined(alloc, first, second) else {
         return false;
@@ -250,7 +250,7 @@ fn tells_log(alloc: Global, line: &str, first: &str, second: &str, status: u8, w
     }
 }
 
-/// Lines of `equiv`, two netlists, the status, and the word before the log.
+/// Command lines of `equiv`, two netlists, the status, and the word before the log.
 const LOGS: &[(&str, &str, &str, u8, &str)] = &[
     ("equiv", THREE_GATES, ONE_GATE, 0, "equal\n"),
     ("equiv", ROW, OTHER_ROW, 0, "equal\n"),

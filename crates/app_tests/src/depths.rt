@@ -1,5 +1,5 @@
-//! Chains of the fewest levels: what `synth --least-depth yes` writes, and what `recheck --depth yes` reports of it and
-//! of what it isn't.
+//! Chains of the fewest levels: what `synth --least-depth yes` writes, and what `recheck --depth yes` reports on
+//! valid and on faulty certificates.
 use crate::running::{tells, told};
 use std::alloc::{AllocError, Global};
 
@@ -7,19 +7,19 @@ const SYNTH: &str = "synth --method fence --least-depth yes";
 
 const RECHECK: &str = "recheck --depth yes";
 
-/// The first lines of a certificate of x1 AND x2, and of that AND x3: two steps, on two levels.
+/// The first lines of a certificate of x1 AND x2 and of x1 AND x2 AND x3: two steps on two levels.
 const FRONT: &str =
     "chains 1\ninputs 3\n00000011\n00000001\nbasis all\nmethod fence\nconflicts 100000\nmax 16\nsize 0\nfence\nrefuted\ndone\nsize 1\nfence 1\nrefuted\n132 0 1 2 9 17 0\ndone\nchain 2\nx4 x1 x2 0001\nx5 x3 x4 0001\nout x4\nout x5\nminimum 2\nend\n";
 
-/// The log that refutes its one flatter fence.
+/// The log that refutes its only fence with fewer levels.
 const FLATTER: &str =
     "fence 2\nrefuted\n276 -1 0 3 19 274 0\n277 -38 -15 9 0 181 194 0\n278 -33 -8 6 0 111 116 0\n279 24 33 -8 0 270 271 52 84 100 35 0\n280 -19 0 270 271 24 25 26 278 279 236 240 81 35 0\n281 -39 0 280 2 34 32 207 212 0\n282 28 0 280 229 10 8 278 279 236 270 240 271 35 256 272 281 273 2 34 196 180 36 0\n283 0 270 271 280 2 229 33 8 10 278 279 236 240 35 272 273 256 281 282 252 177 36 0\ndone\n";
 
-/// The same with a budget of one clause, which leaves its one flatter fence open.
+/// The same with a budget of one clause, which leaves its only fence with fewer levels open.
 const OPEN: &str =
     "chains 1\ninputs 3\n00000011\n00000001\nbasis all\nmethod fence\nconflicts 1\nmax 16\nsize 0\nfence\nrefuted\ndone\nsize 1\nfence 1\nrefuted\n132 0 1 2 9 17 0\ndone\nchain 2\nx4 x1 x2 0001\nx5 x3 x4 0001\nout x4\nout x5\nminimum 2\nend\ndepth 2\nfence 2\nopen\n276 -1 0 3 19 274 0\ndone\n";
 
-/// The text of these parts.
+/// The concatenation of these parts.
 fn joined(alloc: Global, parts: [&str; 4]) -> Result<String, AllocError> {
     let mut text = String::new(alloc);
     for part in parts {
@@ -28,7 +28,7 @@ fn joined(alloc: Global, parts: [&str; 4]) -> Result<String, AllocError> {
     Ok(text)
 }
 
-/// Whether `recheck --depth yes` reports this of the text of these parts.
+/// Whether `recheck --depth yes` reports this on the text of these parts.
 fn is_judged(alloc: Global, parts: [&str; 4], status: u8, out: &str, note: &str) -> bool {
     match joined(alloc, parts) {
         Ok(text) => tells(alloc, RECHECK, text.as_bytes(), status, out, note),
@@ -36,7 +36,7 @@ fn is_judged(alloc: Global, parts: [&str; 4], status: u8, out: &str, note: &str)
     }
 }
 
-/// Whether a text is a certificate that is found valid.
+/// Whether `recheck --depth yes` finds a text valid.
 fn is_valid(alloc: Global, text: &[u8]) -> bool {
     match told(alloc, RECHECK, text) {
         Ok(seen) => seen.status == 0,
@@ -44,7 +44,7 @@ fn is_valid(alloc: Global, text: &[u8]) -> bool {
     }
 }
 
-/// Whether `synth` writes a certificate of the fewest levels with this ending, which is found valid.
+/// Whether `synth` writes a certificate of the fewest levels with this trailer, which is found valid.
 fn is_found(alloc: Global, input: &str, ending: &str) -> bool {
     match told(alloc, SYNTH, input.as_bytes()) {
         Ok(seen) => {
@@ -57,7 +57,7 @@ fn is_found(alloc: Global, input: &str, ending: &str) -> bool {
     }
 }
 
-/// Tables, and how their certificates end.
+/// Tables, and the trailers of their certificates.
 const FOUND: &[(&str, &str)] = &[
     (
         "inputs 4\n0000000000000001\n",
@@ -79,7 +79,7 @@ fn fewest_levels_are_found(rt: HostRuntime) {
 
 /// The first lines of a bundle, its line of the depth, its logs and its ending; the status, and what is reported.
 const JUDGED: &[(&str, &str, &str, &str, u8, &str, &str)] = &[
-    // a budget that is spent leaves levels open
+    // a budget that is reached leaves levels open
     (
         OPEN,
         "",

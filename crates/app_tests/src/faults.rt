@@ -1,4 +1,4 @@
-//! Each read, each write and each call on the notes failing in its turn, for every command.
+//! Fault injection: for every command, each read, each write and each call of the notes fails in its turn.
 use crate::running::{Fails, Seen, run_on, tells, told};
 use std::alloc::{AllocError, Global};
 
@@ -18,11 +18,11 @@ const THREE_GATES: &str =
 const GATES: &str =
     "INPUT(a)\nINPUT(b)\nOUTPUT(y)\nn = NAND(a, b)\np = NAND(a, n)\nq = NAND(b, n)\ny = NAND(p, q)\n";
 
-/// AND twice, once as NOR of complements.
+/// AND twice, the second time as NOR of complements.
 const SAME: &str =
     ".model s\n.inputs a b\n.outputs y\n.names a b y\n11 1\n.end\n.model t\n.inputs a b\n.outputs y\n.names a p\n0 1\n.names b q\n0 1\n.names p q y\n00 1\n.end\n";
 
-/// That netlist, and one that differs from it.
+/// A netlist, and one that differs from it.
 const TWO: &str =
     ".model s\n.inputs a b\n.outputs y\n.names a b p\n10 1\n.names a b q\n01 1\n.names p q y\n1- 1\n-1 1\n.end\n.model t\n.inputs a b\n.outputs y\n.names y\n.end\n";
 
@@ -34,7 +34,7 @@ enum Port {
     Notes,
 }
 
-/// A run where one call of a port fails.
+/// A run in which one call of a port fails.
 fn failing(
     alloc: Global,
     line: &str,
@@ -50,8 +50,8 @@ fn failing(
     }
 }
 
-/// Whether a call that failed was reported, and what it has to leave of the whole text stands on the output: nothing where
-/// it was a read, a prefix where it was a write, and the whole where it was one on the notes.
+/// Whether a call that failed was reported, and the right part of the whole text was written: nothing if it was
+/// a read, a prefix if it was a write, and the whole text if it was a call of the notes.
 fn leaves(seen: &Seen, port: Port, whole: &[u8]) -> bool {
     match port {
         Port::Reads => seen.is(5, b"", b"error: ReadFault\n"),
@@ -63,8 +63,8 @@ fn leaves(seen: &Seen, port: Port, whole: &[u8]) -> bool {
     }
 }
 
-/// How many calls of a port a run makes that ends with this status; None where a failure of one isn't reported, or
-/// leaves something else than it has to.
+/// How many calls of a port a run with this status makes; None if the failure of a call isn't reported, or leaves
+/// other output than it has to.
 fn calls_of(
     alloc: Global,
     line: &str,
@@ -87,7 +87,8 @@ fn calls_of(
     None
 }
 
-/// Whether a run makes calls of a port, or none, and each that fails is reported and leaves what it has to.
+/// Whether a run calls a port if `some`, and not otherwise, and each failure is reported and leaves the right
+/// output.
 fn makes(alloc: Global, run: (&str, &[u8], u8), whole: &[u8], port: Port, some: bool) -> bool {
     match calls_of(alloc, run.0, run.1, port, whole, run.2) {
         Some(calls) => (calls > 0) == some,
@@ -95,8 +96,8 @@ fn makes(alloc: Global, run: (&str, &[u8], u8), whole: &[u8], port: Port, some: 
     }
 }
 
-/// Whether each call of a run that fails is reported and leaves what it has to, where the run writes, and reads and makes
-/// notes as it is given.
+/// Whether each failure of a call in a run is reported and leaves the right output. The run writes, and reads and
+/// writes notes as given.
 fn withstands(alloc: Global, run: (&str, &[u8], u8), reads: bool, notes: bool) -> bool {
     let Ok(seen) = told(alloc, run.0, run.1) else {
         return false;
@@ -107,7 +108,7 @@ fn withstands(alloc: Global, run: (&str, &[u8], u8), reads: bool, notes: bool) -
         && makes(alloc, run, whole, Port::Notes, notes)
 }
 
-/// Every command with an input that has an answer, the status of that answer, and whether it reads and makes notes.
+/// Every command with an input that has an answer, the status, and whether the command reads and writes notes.
 const RUNS: &[(&str, &str, u8, bool, bool)] = &[
     ("agree", XOR, 0, true, false),
     ("synth", AND_OF_THREE, 0, true, false),
@@ -128,8 +129,8 @@ fn each_call_that_fails_is_told(rt: HostRuntime) {
     }
 }
 
-/// Whether `synth` leaves what it wrote before its call of this number, where that call fails: whole pieces, of which
-/// the last is the heading, a section, or nothing.
+/// Whether the output of `synth`, if its write with this number fails, is what it wrote before: whole pieces, of
+/// which the last is the header or a section, or nothing.
 fn leaves_pieces(alloc: Global, call: u64, end: &str) -> bool {
     match failing(alloc, "synth", AND_OF_THREE.as_bytes(), Port::Writes, call) {
         Ok(seen) => seen.status == 6 && seen.out.written().ends_with(end.as_bytes()),
@@ -137,7 +138,7 @@ fn leaves_pieces(alloc: Global, call: u64, end: &str) -> bool {
     }
 }
 
-/// Calls, and how what they leave ends.
+/// Numbers of calls that fail, and the end of what was written.
 const PIECES: &[(u64, &str)] = &[
     (2, "\nmax 16\n"),
     (3, "\nmax 16\nsize 0\nrefuted\ndone\n"),
@@ -151,7 +152,7 @@ fn certificates_go_out_in_pieces(rt: HostRuntime) {
     }
 }
 
-/// A text that more than one read brings.
+/// A text that is longer than one read.
 fn long(alloc: Global, front: &str) -> Result<Vec<u8>, AllocError> {
     let mut text = Vec::from_slice(alloc, front.as_bytes())?;
     for _ in 0..5_000u32 {
@@ -160,7 +161,8 @@ fn long(alloc: Global, front: &str) -> Result<Vec<u8>, AllocError> {
     Ok(text)
 }
 
-/// Whether a run on a refused text makes three reads, of which the last finds the end, and each that fails is reported.
+/// Whether a run on a refused text makes three reads, the last of which finds the end, and each failure is
+/// reported.
 fn is_read_on(alloc: Global, line: &str, front: &str) -> bool {
     match long(alloc, front) {
         Ok(text) => calls_of(alloc, line, &text, Port::Reads, b"", 2) == Some(3),
@@ -168,7 +170,7 @@ fn is_read_on(alloc: Global, line: &str, front: &str) -> bool {
     }
 }
 
-/// Lines, and the fronts of texts that they refuse.
+/// Command lines, and the beginnings of texts that they refuse.
 const LONG: &[(&str, &str)] = &[
     ("agree", "inputs 2\n0110\nchain 1\nx3 x3 x1 0110\n"),
     ("synth", "inputs 2\n012\n"),
@@ -186,7 +188,7 @@ fn reads_that_fail_after_a_refused_line_are_told(rt: HostRuntime) {
     }
 }
 
-/// Whether a run with this status keeps it where its first hundred calls on the notes fail, and reports nothing there.
+/// Whether a run keeps its status if its first hundred calls of the notes fail, and the notes stay empty.
 fn keeps_status(alloc: Global, line: &str, input: &[u8], status: u8) -> bool {
     let notes = Fails::UpTo(100);
     match run_on(alloc, line, input, Fails::None, Fails::None, notes) {
@@ -195,7 +197,7 @@ fn keeps_status(alloc: Global, line: &str, input: &[u8], status: u8) -> bool {
     }
 }
 
-/// Lines with their inputs and their statuses.
+/// Command lines, inputs and statuses.
 const STATUSES: &[(&str, &str, u8)] = &[
     ("agree", XOR, 0),
     (
@@ -222,7 +224,7 @@ fn notes_that_fail_change_no_other_status(rt: HostRuntime) {
     }
 }
 
-/// The line that comes after a text, counted by its line feeds.
+/// The number of the line after a text, counted by its line feeds.
 fn line_after(text: &[u8]) -> u32 {
     let mut line = 1;
     for byte in text {
@@ -233,7 +235,7 @@ fn line_after(text: &[u8]) -> u32 {
     line
 }
 
-/// Whether a certificate that is cut off after `length` bytes is refused at the line where it ends.
+/// Whether a certificate that is truncated to `length` bytes is refused at the line where it ends.
 fn is_cut_off(alloc: Global, length: usize) -> bool {
     let (front, _) = NONE.as_bytes().split_at(length.min(NONE.len()));
     match format!(in alloc; "error: Syntax {}\n", line_after(front)) {

@@ -1,4 +1,5 @@
-//! Limits of tables, netlists and certificates at their values and one past them, and netlists that depend on themselves.
+//! Limits of tables, netlists and certificates at their values and one past them, and netlists that depend on
+//! themselves.
 use crate::running::{Seen, told};
 use std::alloc::{AllocError, Global};
 
@@ -8,7 +9,7 @@ fn push_bytes(text: &mut Vec<u8>, byte: u8, count: usize) -> Result<(), AllocErr
     text.resize(length, byte)
 }
 
-/// A text: the first of `ends`, `byte` `count` times, and the second of `ends`.
+/// A text: the first of `ends`, then `byte` repeated `count` times, then the second of `ends`.
 fn long(alloc: Global, ends: Ends, byte: u8, count: usize) -> Result<Vec<u8>, AllocError> {
     let mut text = Vec::from_slice(alloc, ends.0)?;
     push_bytes(&mut text, byte, count)?;
@@ -20,10 +21,10 @@ const BLIF: &str = "improve --cap 0";
 
 const BENCH: &str = "improve --cap 0 --format bench";
 
-/// What stands before and after something long.
+/// The texts before and after something long.
 type Ends = (&'static [u8], &'static [u8]);
 
-/// What stands before and after a name, or a comment, that may be long.
+/// The texts before and after a name, or a comment, that may be long.
 const NAME: Ends = (b".model l\n.inputs a ", b"\n.outputs a\n.end\n");
 
 const COMMENT: Ends = (b".model l\n#", b"\n.inputs a\n.outputs a\n.end\n");
@@ -32,10 +33,10 @@ const BENCH_NAME: Ends = (b"INPUT(a)\nINPUT(", b")\nOUTPUT(a)\n");
 
 const BENCH_COMMENT: Ends = (b"INPUT(a)\n#", b"\nOUTPUT(a)\n");
 
-/// What is long alone.
+/// Nothing before or after.
 const BARE: Ends = (b"", b"");
 
-/// A table of `width` inputs, all of them a, whose one cube asks nothing.
+/// A table of `width` inputs, all of them a, with one cube without literals.
 fn wide(alloc: Global, width: usize) -> Result<Vec<u8>, AllocError> {
     let mut text = Vec::from_slice(alloc, b".inputs a\n.outputs y\n.names")?;
     for _ in 0..width {
@@ -66,7 +67,7 @@ fn push_row(text: &mut Vec<u8>, row: u32) -> Result<(), AllocError> {
     Ok(())
 }
 
-/// A table of twelve inputs with this number of rows, the first 4,096 all different.
+/// A table of twelve inputs with `count` rows, the first 4,096 all different.
 fn rows(alloc: Global, count: usize) -> Result<Vec<u8>, AllocError> {
     let mut text = Vec::from_slice(
         alloc,
@@ -78,19 +79,19 @@ fn rows(alloc: Global, count: usize) -> Result<Vec<u8>, AllocError> {
     Ok(text)
 }
 
-/// Appends a gate that reads the one of this number, which is below the greatest.
+/// Appends a gate that reads the gate with this number, which is below the greatest.
 fn push_gate(alloc: Global, text: &mut Vec<u8>, gate: usize) -> Result<(), AllocError> {
     let table = format!(in alloc; ".names a g{} g{}\n11 1\n", gate, gate.saturating_add(1))?;
     text.extend_from_slice(table.as_bytes())
 }
 
-/// Appends the line that names the gate of this number as the output.
+/// Appends the line that makes the gate with this number the output.
 fn push_output(alloc: Global, text: &mut Vec<u8>, gate: usize) -> Result<(), AllocError> {
     let line = format!(in alloc; ".outputs g{}\n", gate)?;
     text.extend_from_slice(line.as_bytes())
 }
 
-/// Gates in a row, each reading the one before it.
+/// A chain of gates, each reading the one before it.
 fn ladder(alloc: Global, gates: usize) -> Result<Vec<u8>, AllocError> {
     let mut text = Vec::from_slice(alloc, b".inputs a g0\n")?;
     for gate in 0..gates {
@@ -103,17 +104,17 @@ fn ladder(alloc: Global, gates: usize) -> Result<Vec<u8>, AllocError> {
 /// A text.
 #[derive(Clone, Copy)]
 enum Made {
-    /// This one.
+    /// This text.
     Text(&'static str),
-    /// One with a byte, repeated that number of times.
+    /// A text with this byte, repeated this number of times.
     Long(Ends, u8, usize),
-    /// A table with that number of inputs.
+    /// A table with this number of inputs.
     Inputs(usize),
-    /// A gate in BENCH with that number of operands.
+    /// A gate in BENCH with this number of operands.
     Operands(usize),
-    /// A table with that number of rows.
+    /// A table with this number of rows.
     Rows(usize),
-    /// A netlist of that number of gates.
+    /// A netlist with this number of gates.
     Gates(usize),
 }
 
@@ -129,13 +130,13 @@ fn bytes_of(alloc: Global, text: Made) -> Result<Vec<u8>, AllocError> {
     }
 }
 
-/// Whether a run came to this status, and this is reported on the notes. A refusal leaves nothing on the output.
+/// Whether a run ended with this status and these notes. A refusal writes no output.
 fn is_answer(seen: &Seen, status: u8, note: &str) -> bool {
     let out = seen.out.written().is_empty() == (status != 0);
     out && seen.status == status && seen.note.written() == note.as_bytes()
 }
 
-/// Whether a run on a text without faults comes to this.
+/// Whether a run on a text without faults ends with this status and these notes.
 fn notes(alloc: Global, line: &str, text: Made, status: u8, note: &str) -> bool {
     let Ok(text) = bytes_of(alloc, text) else {
         return false;
@@ -146,10 +147,10 @@ fn notes(alloc: Global, line: &str, text: Made, status: u8, note: &str) -> bool 
     }
 }
 
-/// What is reported of a netlist without gates.
+/// The report on a netlist without gates.
 const EMPTY: &str = "gates 0 -> 0\nsettled\n";
 
-/// Lines, texts, the status, and what is reported on the notes.
+/// Command lines, texts, the status, and the notes.
 type Runs = &'static [(&'static str, Made, u8, &'static str)];
 
 const LIMITS: Runs = &[
@@ -216,7 +217,7 @@ fn texts_have_limits(rt: HostRuntime) {
     }
 }
 
-/// The same of gates, which take the longest, and what is left of a thousand blocks.
+/// The same for the number of gates, which takes the longest, and the result for a thousand blocks.
 const GATES: Runs = &[
     (
         BLIF,

@@ -1,4 +1,4 @@
-//! Command lines, and what they ask for.
+//! Tests of the command line: which command each line asks for.
 
 use crate::running::words_of;
 use command_line::{Command, Deed, Format, ImproveSettings, SynthSettings, WordsError, read_words};
@@ -6,7 +6,7 @@ use op_basis::Basis;
 use settings::Method;
 use std::alloc::Global;
 
-/// Whether a line asks for this command, or is refused so.
+/// Whether a line asks for this command, or is refused with this error.
 fn asks(alloc: Global, line: &str, wanted: Result<Command, WordsError>) -> bool {
     match words_of(alloc, line) {
         Ok(words) => read_words(&words) == wanted,
@@ -24,7 +24,7 @@ enum Bare {
     Gen(u32, Deed),
 }
 
-/// That command.
+/// The command without settings.
 fn command_of(command: Bare) -> Command {
     match command {
         Bare::Agree => Command::Agree,
@@ -35,7 +35,7 @@ fn command_of(command: Bare) -> Command {
     }
 }
 
-/// Lines, and the commands that they ask for.
+/// Command lines, and the commands that they ask for.
 const COMMANDS: &[(&str, Bare)] = &[
     ("agree", Bare::Agree),
     ("recheck", Bare::Recheck),
@@ -58,10 +58,10 @@ fn lines_ask_for_commands(rt: HostRuntime) {
     }
 }
 
-/// The basis, the method, the greatest size, the conflicts, and whether the fewest levels are sought.
+/// The basis, the method, the greatest size, the conflicts, and whether the fewest levels are searched for.
 type Synth = (u16, Method, u32, u32, bool);
 
-/// A command of these settings.
+/// A command with these settings.
 fn synth_of(settings: Synth) -> Command {
     let (basis, method, max, conflicts, fewest_levels) = settings;
     let settings = SynthSettings {
@@ -76,7 +76,7 @@ fn synth_of(settings: Synth) -> Command {
     Command::Synth(settings)
 }
 
-/// Lines of `synth`, with the settings that they ask for. What isn't named has its default.
+/// Command lines of `synth`, and their settings. Options that aren't named have their defaults.
 const SYNTHS: &[(&str, Synth)] = &[
     ("synth", (65_535, Method::Ssv, 16, 100_000, false)),
     (
@@ -103,7 +103,7 @@ const SYNTHS: &[(&str, Synth)] = &[
         "synth --basis 0110,1001 --conflicts 1",
         (576, Method::Ssv, 16, 1, false),
     ),
-    // the fewest levels are sought by fences
+    // the fewest levels are searched for by fences
     (
         "synth --least-depth yes --method fence",
         (65_535, Method::Fence, 16, 100_000, true),
@@ -129,11 +129,11 @@ fn synth_is_asked_with_settings(rt: HostRuntime) {
     }
 }
 
-/// The format, the basis, the method, the cap, the rounds, the conflicts, whether rows that nobody sees are left out, and
-/// the effort.
+/// The format, the basis, the method, the cap, the rounds, the conflicts, whether observability don't-cares are
+/// used, and the effort.
 type Improve = (Format, u16, Method, u32, u32, u32, bool, u32);
 
-/// A command of these settings.
+/// A command with these settings.
 fn improve_of(settings: Improve) -> Command {
     let (format, basis, method, cap, rounds, conflicts, observe, effort) = settings;
     let settings = ImproveSettings {
@@ -148,7 +148,7 @@ fn improve_of(settings: Improve) -> Command {
     Command::Improve { format, settings }
 }
 
-/// Lines of `improve`, with the settings that they ask for.
+/// Command lines of `improve`, and their settings.
 const IMPROVES: &[(&str, Improve)] = &[
     (
         "improve",
@@ -193,7 +193,7 @@ const IMPROVES: &[(&str, Improve)] = &[
             0,
         ),
     ),
-    // rows that nobody sees
+    // observability don't-cares
     (
         "improve --observe no",
         (
@@ -215,7 +215,7 @@ const IMPROVES: &[(&str, Improve)] = &[
         "improve --cap 5 --observe yes --rounds 1000",
         (Format::Blif, 65_535, Method::Ssv, 5, 1000, 100_000, true, 0),
     ),
-    // moves that keep the size
+    // moves that keep the number of gates
     (
         "improve --effort 1000 --cap 4",
         (
@@ -229,7 +229,7 @@ const IMPROVES: &[(&str, Improve)] = &[
             1000,
         ),
     ),
-    // BENCH has bases of its gates
+    // bases of BENCH are sets of its gates
     (
         "improve --format bench",
         (
@@ -282,7 +282,7 @@ fn improve_is_asked_with_settings(rt: HostRuntime) {
     }
 }
 
-/// Lines that ask for nothing.
+/// Lines that aren't command lines.
 const NOTHING: &[&str] = &[
     "",
     "Agree",

@@ -1,9 +1,9 @@
-//! Runs on memory, with calls that are made to fail.
+//! Runs in memory, with fault injection.
 use chain_app::run;
 use port_io::{MemorySink, MemorySource};
 use std::alloc::{AllocError, Global};
 
-/// What a run came to: its status, and what stands on the output and on the notes.
+/// The results of a run: its status, its output and its notes.
 #[derive(Drop)]
 pub(crate) struct Seen {
     pub(crate) status: u8,
@@ -12,13 +12,13 @@ pub(crate) struct Seen {
 }
 
 impl Seen {
-    /// Whether this is the status, and these texts stand on the output and on the notes.
+    /// Whether the run has this status, this output and these notes.
     pub(crate) fn is(&self, status: u8, out: &[u8], note: &[u8]) -> bool {
         self.status == status && self.out.written() == out && self.note.written() == note
     }
 }
 
-/// Which call of a port fails: this one, all up to this one, or none.
+/// Which calls of a port fail: one, all up to one, or none.
 #[derive(Clone, Copy)]
 pub(crate) enum Fails {
     None,
@@ -37,7 +37,7 @@ fn calls(alloc: Global, fails: Fails) -> Result<Vec<u64>, AllocError> {
     Ok(calls)
 }
 
-/// The words of a line, which blanks part.
+/// The words of a line, separated by blanks.
 pub(crate) fn words_of(alloc: Global, line: &str) -> Result<Vec<String>, AllocError> {
     let mut words = Vec::new(alloc);
     for word in line.split(' ') {
@@ -57,7 +57,7 @@ fn sink(alloc: Global, fails: Fails) -> Result<MemorySink, AllocError> {
     Ok(MemorySink::new(alloc, calls(alloc, fails)?))
 }
 
-/// The output and the notes before a run.
+/// An output and notes before a run.
 fn nothing(alloc: Global, writes: Fails, notes: Fails) -> Result<Seen, AllocError> {
     let out = sink(alloc, writes)?;
     let note = sink(alloc, notes)?;
@@ -68,7 +68,7 @@ fn nothing(alloc: Global, writes: Fails, notes: Fails) -> Result<Seen, AllocErro
     })
 }
 
-/// Runs on memory, where calls of the source, of the output and of the notes may fail.
+/// Runs in memory; calls of the source, of the output and of the notes may fail.
 pub(crate) fn run_on(
     alloc: Global,
     line: &str,
@@ -85,12 +85,12 @@ pub(crate) fn run_on(
     Ok(seen)
 }
 
-/// Runs where nothing fails.
+/// Runs without a failure.
 pub(crate) fn told(alloc: Global, line: &str, input: &[u8]) -> Result<Seen, AllocError> {
     run_on(alloc, line, input, Fails::None, Fails::None, Fails::None)
 }
 
-/// Whether a run where nothing fails ends with this status, and these texts then stand on the output and on the notes.
+/// Whether a run without a failure ends with this status, this output and these notes.
 pub(crate) fn tells(
     alloc: Global,
     line: &str,

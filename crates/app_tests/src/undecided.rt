@@ -1,9 +1,9 @@
-//! Certificates of windows that stay undecided: each is cut out of the report of `improve`, and `recheck` has to find
-//! its verdict.
+//! Certificates of windows that stay undecided: each is taken from the report of `improve`, and `recheck` has to
+//! report its verdict.
 use crate::running::told;
 use std::alloc::{AllocError, Global};
 
-/// Two full adders in a row, of which a budget of one clause leaves four windows of six gates undecided.
+/// Two full adders in a row. With a budget of one clause, four windows of six gates stay undecided.
 const ADDER: &str =
     ".model a\n.inputs a b c d e\n.outputs s t k\n.names a b p\n01 1\n10 1\n.names p c s\n01 1\n10 1\n.names a b q\n11 1\n.names p c r\n11 1\n.names q r h\n1- 1\n-1 1\n.names d e u\n01 1\n10 1\n.names u h t\n01 1\n10 1\n.names d e v\n11 1\n.names u h w\n11 1\n.names v w k\n1- 1\n-1 1\n.end\n";
 
@@ -11,7 +11,8 @@ const ADDER: &str =
 const GATES: &str =
     "INPUT(a)\nINPUT(b)\nINPUT(c)\nINPUT(d)\nINPUT(e)\nOUTPUT(s)\nOUTPUT(t)\nOUTPUT(k)\np = XOR(a, b)\ns = XOR(p, c)\nq = AND(a, b)\nr = AND(p, c)\nh = OR(q, r)\nu = XOR(d, e)\nt = XOR(u, h)\nv = AND(d, e)\nw = AND(u, h)\nk = OR(v, w)\n";
 
-/// Whether `recheck` finds of a certificate without its last line, `end`, the verdict `open` that its last line then is.
+/// Whether `recheck` reports the verdict `open`, which is the last line of a certificate given without its line
+/// `end`.
 fn is_found_open(alloc: Global, front: &[u8]) -> Result<bool, AllocError> {
     let mut certificate = Vec::from_slice(alloc, front)?;
     certificate.extend_from_slice(b"end\n")?;
@@ -20,7 +21,7 @@ fn is_found_open(alloc: Global, front: &[u8]) -> Result<bool, AllocError> {
     Ok(seen.status == 0 && out.starts_with(b"open ") && front.ends_with(out))
 }
 
-/// How many certificates a report has; None where `recheck` doesn't find the verdict of one.
+/// How many certificates a report has; None if `recheck` doesn't report the verdict of one of them.
 fn certificates_of(alloc: Global, report: &[u8]) -> Result<Option<u32>, AllocError> {
     let mut certificate = Vec::new(alloc);
     let mut count = 0u32;
@@ -41,7 +42,7 @@ fn certificates_of(alloc: Global, report: &[u8]) -> Result<Option<u32>, AllocErr
     Ok(Some(count))
 }
 
-/// Whether the report of a line has this many certificates, and `recheck` finds the verdict of each.
+/// Whether the report of a command line has this many certificates, and `recheck` reports the verdict of each.
 fn are_found_open(alloc: Global, line: &str, input: &str, count: u32) -> bool {
     let Ok(seen) = told(alloc, line, input.as_bytes()) else {
         return false;
@@ -52,7 +53,7 @@ fn are_found_open(alloc: Global, line: &str, input: &str, count: u32) -> bool {
     }
 }
 
-/// Lines, netlists, and how many windows stay undecided: none of up to five gates.
+/// Command lines, netlists, and how many windows stay undecided: none with up to five gates.
 const UNDECIDED: &[(&str, &str, u32)] = &[
     ("improve --conflicts 1", ADDER, 0),
     ("improve --conflicts 1 --cap 6", ADDER, 4),

@@ -1,5 +1,5 @@
-//! The program `batsokemi`: it collects the words, makes ports over the standard streams, and calls
-//! `chain_app::run`, which does the rest.
+//! The program `batsokemi`: it collects the arguments, wraps the standard streams in ports, and calls
+//! `chain_app::run`.
 #![tactic(auto)]
 
 use chain_app::{Status, run};
@@ -7,7 +7,7 @@ use port_io::{InputPort, OutputPort};
 use std::process::ExitCode;
 use std::{env, io};
 
-/// The words after the program's name. A word that isn't UTF-8 is no word of a command.
+/// The arguments after the program's name. An argument that isn't UTF-8 is a usage error.
 fn words_of(rt: &HostRuntime) -> Result<Vec<String>, Status> {
     let collected = match env::args(rt) {
         Ok(words) => words.skip(1).collect(rt.alloc()),

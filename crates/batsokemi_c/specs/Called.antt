@@ -1,4 +1,4 @@
--- What a call of the library's function comes to.
+-- The contract of the library's function.
 use Rattle.std.specs.Prelude.{◌≡◌, ℕ, ◌<◌, ◌≤◌, ◌⊎◌, List, [], ◌++◌, length, drop, All, Some}
 use Rattle.std.specs.Str.{IsUtf8}
 use Rattle.port_io.specs.Memory.{Store, first_schedule}
@@ -10,12 +10,12 @@ use Rattle.frame_core.specs.Outside.{Side}
 use Rattle.frame_core.specs.Run.{run_of}
 use Rattle.chain_app.specs.KeepsPromises.{KeepsPromises}
 
--- Some word of a line isn't UTF-8, and it has no words.
+-- Some word of the command line isn't UTF-8, and there are no words.
 pub record IsNoText (command : List ℕ) (words : List (List ℕ)) : Type 0 where
   pub not_all : All IsUtf8 (items_of command) → ⊥
   pub none : words ≡ []
 
--- The words of a command line are what single blanks part, as `synth`, `--max` and `3` of "synth --max 3".
+-- The words of a command line are separated by single blanks, as `synth`, `--max` and `3` in "synth --max 3".
 abbrev pub AreWords : List ℕ → List (List ℕ) → Type 0
 AreWords command words = (words ≡ items_of command) ⊎ IsNoText command words
 
@@ -27,14 +27,14 @@ holding bytes faults = record { bytes = Some bytes; faults = faults }
 abbrev pub seen : Store → Side
 seen sink = holding sink.written sink.schedule.faults
 
--- The program ran with these words, its source held the input, and it kept its promises.
+-- The program ran with the words of `command`, its source held the input, and it kept its promises.
 pub record HasRun (command input : List ℕ) (out out' note note' : Store) (status : Status) : Type 0 where
   pub words : List (List ℕ)
   pub are_words : AreWords command words
   pub left : Side
   pub keeps : KeepsPromises (run_of words (holding input 0, left) (seen out, seen out') (seen note, seen note') status)
 
--- Memory ran out before, and nothing was written.
+-- Memory ran out before the run, and nothing was written.
 pub record IsStarved (out out' note note' : Store) (status : Status) : Type 0 where
   pub status_is : status ≡ Memory
   pub on_out : out' ≡ out
@@ -43,17 +43,17 @@ pub record IsStarved (out out' note note' : Store) (status : Status) : Type 0 wh
 abbrev pub IsCalled : List ℕ → List ℕ → Store → Store → Store → Store → Status → Type 0
 IsCalled command input out out' note note' status = HasRun command input out out' note note' status ⊎ IsStarved out out' note note' status
 
--- The text stands at the start of the buffer, and where it has no room there, the buffer is as before.
+-- If the text fits, it is at the start of the buffer, and otherwise the buffer is unchanged.
 pub record IsPut (text old new : List ℕ) : Type 0 where
   pub fits : length text ≤ length old → new ≡ text ++ drop (length text) old
   pub beyond : length old < length text → new ≡ old
 
--- a sink to which nothing was written, and none of whose calls is to fail
+-- a sink to which nothing was written, and whose calls don't fail
 abbrev pub empty_sink : Store
 empty_sink = record { written = []; schedule = first_schedule [] }
 
--- A call wrote an output and notes to sinks in memory, its answer tells the status and how long both are, and they
--- stand in the buffers where they have room there.
+-- A call wrote an output and notes to sinks in memory; its result has the status and the lengths of both, and the
+-- buffers have them if they fit.
 pub record IsAnswered (command input output output' notes notes' : List ℕ) (status output_length notes_length : ℕ) : Type 0 where
   pub out : Store
   pub note : Store

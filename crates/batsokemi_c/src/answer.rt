@@ -1,13 +1,13 @@
-//! What a call answers.
+//! The result of a call.
 
-/// How a call ended, as C sees it.
+/// The result of a call, as a C struct.
 #[repr(C)]
 #[derive(Clone, Copy)]
 pub struct Answer {
-    /// The number of the program's status, 0 to 8.
+    /// The program's exit status, 0 to 8.
     pub status: u32,
-    /// How many bytes the output has.
+    /// The length of the output in bytes.
     pub output: usize,
-    /// How many bytes the notes have.
+    /// The length of the notes in bytes.
     pub notes: usize,
 }

@@ -1,4 +1,4 @@
-//! A run of the program over memory.
+//! A run of the program in memory.
 ghost use Rattle.batsokemi_c.specs.Called.{IsCalled};
 
 use crate::input::Input;
@@ -7,7 +7,7 @@ use chain_app::{Status, run};
 use port_io::MemorySink;
 use std::alloc::Global;
 
-/// Runs the program, where memory suffices for its words.
+/// Runs the program, unless memory runs out while the command line is split into words.
 pub fn call(
     alloc: Global,
     command: &[u8],

@@ -4,7 +4,7 @@ ghost use Rattle.std.specs.Prelude.{◌≡◌, Some};
 use port_io::{Failed, Source};
 use std::marker::Model;
 
-/// Bytes that stand elsewhere in memory. Its calls never fail.
+/// A source of borrowed bytes. Its calls never fail.
 #[derive(Drop)]
 pub struct Input<'a> {
     rest: &'a [u8],

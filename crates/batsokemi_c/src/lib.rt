@@ -1,13 +1,13 @@
-//! The program as one function of C: a command line and the bytes of an input in, a status and two texts out.
+//! The program as one C function: a command line and an input in, a status and two texts out.
 //!
-//! A static library for programs that ask many questions, whose header is `include/batsokemi.h`. The function
-//! `batsokemi_run` calls `chain_app::run` over a source and two sinks in memory, so what it promises is what the
-//! program promises (`specs/Called`): a run of these words over these bytes kept its promises, and what it wrote is
-//! what stands in the buffers where it has room there. It keeps nothing between two calls, and shares nothing with
-//! another one that runs beside it.
+//! This is a static library for programs that make many calls; its header is `include/batsokemi.h`. The function
+//! `batsokemi_run` calls `chain_app::run` over a source and two sinks in memory, so its contract is the
+//! program's (`specs/Called`): a run with these words and this input kept its promises, and the buffers have
+//! what it wrote if it fits. There is no state between calls, and concurrent calls share nothing.
 //!
 //! ```text
-//! struct batsokemi_answer a = batsokemi_run("synth", 5, tables, length, output, sizeof output, notes, sizeof notes);
+//! struct batsokemi_answer a = batsokemi_run("synth", 5, tables, length, output, sizeof output, notes, sizeof
+//! notes);
 //! ```
 #![tactic(auto)]
 
@@ -25,11 +25,11 @@ use port_io::MemorySink;
 use room::put;
 use std::alloc::Global;
 
-/// Does what the words of `command` ask of the bytes of `input`. Single blanks part the words, as in `synth --max 3`;
-/// the empty text has no command in it.
+/// Runs the command line `command` on the bytes of `input`. Words are separated by single blanks, as in
+/// `synth --max 3`; the empty text has no command.
 ///
-/// The answer has the status, as the program's, and the lengths of the output and of the notes in bytes. A text that
-/// is no longer than its buffer stands at the buffer's start; where it is longer, the buffer is as it was.
+/// The result has the program's exit status, and the lengths of the output and of the notes in bytes. A text that
+/// fits into its buffer is at the buffer's start; if it doesn't fit, the buffer is unchanged.
 #[unsafe(no_mangle)]
 pub extern "C" fn batsokemi_run(
     alloc: Global,

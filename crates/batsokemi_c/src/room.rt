@@ -1,7 +1,7 @@
-//! A text into a buffer of the caller's.
+//! Copying a text into a buffer of the caller.
 ghost use Rattle.batsokemi_c.specs.Called.{IsPut};
 
-/// Writes a text to the buffer's start where it has room there; else the buffer stays as it is.
+/// Copies a text to the start of the buffer if it fits; otherwise the buffer is unchanged.
 pub fn put(text: &[u8], buffer: &mut [u8])
     ensures { IsPut text.now buffer.old buffer.new }
 {

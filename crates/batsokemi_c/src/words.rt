@@ -9,7 +9,7 @@ ghost use Rattle.batsokemi_c.specs.Called.{AreWords};
 use std::alloc::{AllocError, Global};
 use text_core::next_item;
 
-/// Why a command line gave no words.
+/// Why a command line can't be split into words.
 #[derive(Clone, Copy)]
 enum WordsFault {
     /// A word isn't UTF-8.
@@ -40,7 +40,7 @@ fn word_of(alloc: Global, item: &[u8]) -> Result<String, WordsFault>
     Ok(String::from_str(alloc, text)?)
 }
 
-/// The words that single blanks part, where each is UTF-8.
+/// The words, which single blanks separate, if all are UTF-8.
 fn items_in(alloc: Global, command: &[u8]) -> Result<Vec<String>, WordsFault>
     ensures words { IfOk result (λ words. spelled words ≡ items_of command.now) }
     ensures not_text { IsErrOf result WordsFault.NotText → All IsUtf8 (items_of command.now) → ⊥ }
@@ -61,7 +61,7 @@ fn items_in(alloc: Global, command: &[u8]) -> Result<Vec<String>, WordsFault>
     Ok(words)
 }
 
-/// The words of a command line; none where one of them isn't UTF-8.
+/// The words of a command line; no words if one of them isn't UTF-8.
 pub fn words_of(alloc: Global, command: &[u8]) -> Result<Vec<String>, AllocError>
     ensures { IfOk result (λ words. AreWords command.now (spelled words)) }
 {

@@ -1,4 +1,4 @@
--- Every command is a task.
+-- The task of every command is well formed.
 use Rattle.command_line.specs.declared.command.Command.{Command}
 use Rattle.command_line.specs.declared.command.Command.TheVariants.{Agree, Recheck, RecheckDepth, Synth, LeastDepth, Improve, Equiv, Gen}
 use Rattle.frame_core.specs.Task.{IsTask}

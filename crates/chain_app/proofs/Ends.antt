@@ -1,4 +1,4 @@
--- What a run's ending says to its caller.
+-- What the ending of a run says to its caller.
 use Rattle.std.specs.Prelude.{◌≡◌, List, ℕ, Option, Some, None, Ok, Err}
 use Rattle.std.proofs.Common.{sym, ◌∙◌, ap, subst}
 use Rattle.command_line.specs.declared.command.Command.{Command}
@@ -31,7 +31,7 @@ one_command words a b is_a is_b = some_same a b (sym is_a ∙ is_b)
     some_same : (x y : Command) → Some x ≡ Some y → x ≡ y
     some_same x y e = cc
 
--- what was read is what they ask for, and what wasn't read asks for nothing
+-- the parser returns the command that the words ask for, and an error if they ask for none
 usage_none : (o : Option Command) (c : Command) → Ok c ≡ or_usage o → o ≡ Some c
 usage_none None c e = absurd cc
 usage_none (Some d) c e = let same : c ≡ d = cc in ap (λ (x : Command). Some x) (sym same)
@@ -71,7 +71,7 @@ every r e ends = record {
   keeps = λ command asks. keeps r e command ends asks;
 }
 
--- All that is promised follows from a run's having an ending.
+-- A run with an ending keeps all promises.
 pub kept : (r : Run) (e : Ending) → IsEnding r e → KeepsPromises r
 kept r e ends = record {
   ending = (e, ends);
@@ -86,7 +86,7 @@ kept r e ends = record {
   gen = gen_promised r (λ blocks deed asks. keeps r e (Gen blocks deed) ends asks) (λ blocks deed asks. ran r e (Gen blocks deed) ends asks);
 }
 
--- So input without a fault has the status of an answer where no call failed at all.
+-- If no call failed at all, an input without a fault gets the status of an answer.
 pub owed : (r : Run) (command : Command) (input : List ℕ) → KeepsPromises r → AsksFor r.words command → HasInput (task_of command).reads r.source.bytes input → IsAnswerable (task_of command) input → AllSteady r → IsAnswerStatus r.status
 owed r command input promises asks has can steady =
     let got = (promises.every.keeps command asks).complete input has can steady in

@@ -1,4 +1,4 @@
--- What performing a command comes to is a run of the command that was asked for.
+-- Running a command is a run of the command that the arguments ask for.
 use Rattle.std.specs.Prelude.{◌≡◌, ℕ, List}
 use Rattle.std.proofs.Common.{sym, subst}
 use Rattle.command_line.specs.declared.command.Command.{Command}

@@ -1,4 +1,4 @@
--- How a run ends, whatever its words are.
+-- How a run ends, whatever its arguments are.
 use Rattle.std.specs.Prelude.{◌≡◌}
 use Rattle.command_line.specs.declared.command.Command.{Command}
 use Rattle.command_line.specs.CommandLine.{AsksFor}
@@ -8,12 +8,12 @@ use Rattle.frame_core.specs.Told.{error_line, usage}
 use Rattle.frame_core.specs.Run.{Outcome, Run, IsRun}
 use Rattle.chain_app.specs.Tasks.{task_of}
 
--- the words asked for nothing, or for a command, whose run had an outcome
+-- the arguments asked for no command, or for one whose run had an outcome
 pub data Ending : Type 0 where
   Idle : Ending
   Ran : (command : Command) (outcome : Outcome) → Ending
 
--- Words that are no command line are reported as that, and nothing else is touched.
+-- Arguments that aren't a command line are reported as such, and nothing else happens.
 pub record IsIdle (r : Run) : Type 0 where
   pub no_line : (command : Command) → AsksFor r.words command → ⊥
   pub status_is : r.status ≡ Usage

@@ -1,4 +1,4 @@
--- What the top call promises: the table of contents of its theorem.
+-- The contract of the top-level function, as a table of contents.
 use Rattle.frame_core.specs.Run.{Run}
 use Rattle.chain_app.specs.Ending.{Ending, IsEnding}
 use Rattle.chain_app.specs.RunPromise.{RunPromise}
@@ -12,11 +12,11 @@ use Rattle.cmd_equiv.specs.EquivPromise.{EquivPromise}
 use Rattle.cmd_gen.specs.GenPromise.{GenPromise}
 
 pub record KeepsPromises (r : Run) : Type 0 where
-  -- The run had an ending, from which all follows that can be seen of it.
+  -- The run had an ending, which determines everything that a caller sees.
   pub ending : (ending : Ending) × IsEnding r ending
-  -- What every run keeps, whatever its words are, and every command.
+  -- The promise of every run, whatever its arguments are, and of every command.
   pub every : RunPromise r
-  -- What each command promises besides, in its own words.
+  -- The promise of each command of its own.
   pub agree : AgreePromise r
   pub recheck : RecheckPromise r
   pub recheck_depth : RecheckDepthPromise r

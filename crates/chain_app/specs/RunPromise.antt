@@ -1,4 +1,4 @@
--- What every run keeps, whatever its words are.
+-- The promise of every run, whatever its arguments are.
 use Rattle.std.specs.Prelude.{◌≡◌}
 use Rattle.command_line.specs.declared.command.Command.{Command}
 use Rattle.command_line.specs.CommandLine.{AsksFor}
@@ -9,7 +9,7 @@ use Rattle.frame_core.specs.Promise.{CommandPromise}
 use Rattle.chain_app.specs.Tasks.{task_of}
 
 pub record RunPromise (r : Run) : Type 0 where
-  -- Words that ask for nothing are reported as that, and nothing else is touched.
+  -- Arguments that ask for no command are reported as such, and nothing else happens.
   pub usage : ((command : Command) → AsksFor r.words command → ⊥) → IsIdle r
   pub usage_only : r.status ≡ Usage → (command : Command) → AsksFor r.words command → ⊥
   -- A command keeps what every command promises.

@@ -1,4 +1,4 @@
--- What each command is.
+-- The task of each command.
 use Rattle.command_line.specs.declared.command.Command.{Command}
 use Rattle.command_line.specs.declared.command.Command.TheVariants.{Agree, Recheck, RecheckDepth, Synth, LeastDepth, Improve, Equiv, Gen}
 use Rattle.frame_core.specs.Task.{Task}

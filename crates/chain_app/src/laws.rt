@@ -1,4 +1,4 @@
-//! What the definitions come to, each law the contract of a function that does nothing.
+//! Consequences of the definitions. Each law is the contract of a function with an empty body.
 ghost use Rattle.std.specs.Prelude.{◌≡◌, ℕ, List};
 ghost use Rattle.improve_settings.specs.declared.improve.ImproveSettings.{ImproveSettings};
 ghost use Rattle.settings.specs.declared.synth.SynthSettings.{SynthSettings};
@@ -20,16 +20,16 @@ ghost use Rattle.cmd_equiv.specs.Owed.{CanBeCompared};
 ghost use Rattle.chain_app.specs.KeepsPromises.{KeepsPromises};
 ghost use Rattle.chain_app.specs.Tasks.{task_of};
 
-/// Every command keeps to what a task is: its bytes have answers or one refusal at most, never both, and
-/// beyond its limit neither.
+/// The task of every command is well formed: an input has answers or at most one refusal, never both, and
+/// neither if it is too long.
 pub fn commands_are_tasks()
     ensures { (command : Command) → IsTask (task_of command) }
 {}
 
-/// An answer is owed: where no call failed at all, no read and no write, and memory sufficed, a run that keeps its
-/// promises has the status of an answer, and of no error, for each input that the command can answer: `agree` for a
-/// question, `recheck` for a valid certificate of either kind, `synth` for tables, `improve` for a netlist, `equiv` for
-/// two netlists of one interface, and `gen` always.
+/// Commands have to answer: if no call failed, no read and no write, and memory didn't run out, a run that keeps
+/// its promises has the status of an answer, not of an error, for each input that has an answer: `agree` for
+/// tables and a chain, `recheck` for a valid certificate of either kind, `synth` for tables, `improve` for a
+/// netlist, `equiv` for two netlists with the same interface, and `gen` always.
 pub fn answers_are_owed()
     ensures agree { (r : Run) → KeepsPromises r → Owes (AsksWell Agree HasQuestion) IsAgreeStatus r }
     ensures recheck { (r : Run) → KeepsPromises r → Owes (AsksWell Recheck IsValid) (λ s. s ≡ Done) r }
@@ -44,7 +44,7 @@ pub fn answers_are_owed()
         Owes (AsksWell (Equiv budget) CanBeCompared) IsAnswerStatus r }
     ensures generated { (r : Run) (blocks : ℕ) (deed : Deed) → KeepsPromises r →
         Owes (λ x. AsksFor x.words (Gen blocks deed)) (λ s. s ≡ Done) r }
-    // So it is for every command and all input without a fault.
+    // The same for every command and every input without a fault.
     ensures each { (r : Run) (command : Command) (input : List ℕ) → KeepsPromises r →
         AsksFor r.words command →
         HasInput (task_of command).reads r.source.bytes input →

@@ -1,12 +1,13 @@
-//! The program: the commands under one call, from the words and the bytes in to the answer out.
+//! The program as one function, from the command line and the input to the answer.
 //!
-//! `run` reads the words and the source, writes the answer on the output, a report and an error line on the notes, and
-//! returns a status. Its theorem, for every source and every sink, is one record (`specs/KeepsPromises`): the run has
-//! an ending (`specs/Ending`), which fits the bytes that the source held, and from which the status and all that was
-//! written follow; it keeps what every run and every command keeps (`specs/RunPromise`, which takes what `frame_core`
-//! promises of a command); and each command keeps what it promises besides, in the record of its name, which stands
-//! with the command (`cmd_agree`, `cmd_recheck`, `cmd_synth`, `cmd_improve`, `cmd_equiv`, `cmd_gen`). The rest of the
-//! frame stands in `frame_core`, and the words in `command_line`.
+//! `run` parses the arguments, reads the source, writes the answer to the output, a report and an error line to
+//! the notes, and returns a status. Its contract, for every source and every sink, is one record
+//! (`specs/KeepsPromises`). The run has an ending (`specs/Ending`), which fits the bytes of the source and
+//! determines the status and everything that was written. It keeps the promise of every run and of every command
+//! (`specs/RunPromise`, with the promise of `frame_core`). And each command keeps a promise of its own, the
+//! record with its name in the command's crate (`cmd_agree`, `cmd_recheck`, `cmd_synth`, `cmd_improve`,
+//! `cmd_equiv`, `cmd_gen`). The frame of commands is in `frame_core`, and the parser of arguments in
+//! `command_line`.
 //!
 //! ```text
 //! let status = run(alloc, &words, &mut source, &mut out, &mut note);

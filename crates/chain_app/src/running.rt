@@ -1,4 +1,4 @@
-//! The top call.
+//! The top-level function.
 ghost use Rattle.std.specs.Prelude.{ℕ, List};
 ghost use Rattle.command_line.specs.CommandLine.{spelled, IsAskable};
 ghost use Rattle.frame_core.specs.Run.{Outcome, IsRun, run_of, before_after};
@@ -67,8 +67,8 @@ fn obey<S: Source, O: Sink, N: Sink>(
     }
 }
 
-/// Does what the words ask: reads `source`, writes the answer on `out`, and on `note` a report where the
-/// command has one, and one error line where there is no answer.
+/// Runs the command that the arguments ask for: reads `source`, writes the answer to `out`, and to `note` a
+/// report if the command makes one, and one error line if there is no answer.
 pub fn run<S: Source, O: Sink, N: Sink>(
     alloc: Global,
     words: &Vec<String>,

@@ -1,4 +1,4 @@
--- What `agree` answers to bytes.
+-- The result of `agree` for an input.
 use Rattle.std.specs.Prelude.{◌≡◌, ℕ, ◌≤◌, List, length}
 use Rattle.std.proofs.Common.{refl}
 use Rattle.std.proofs.lemmas.Grind.{common_steps}
@@ -11,14 +11,14 @@ use Rattle.cmd_agree.specs.AgreeReport.{agree_reply, agree_task}
 use Rattle.frame_core.specs.Told.{Reply}
 use Rattle.frame_core.specs.Task.{Tells}
 
--- What the readers answer within the limit is the cause of their error.
+-- Within the limit, an error of the readers is a cause.
 pub cause_of : (bytes : List ℕ) (error : AgreeError) → length bytes ≤ most_of_tables → Fails error (question_of bytes) → IsCause bytes error
 cause_of bytes (errors.Tables e) within fails = record { within = within; fault = fails }
 cause_of bytes (errors.Chained e) within fails = record { within = within; fault = fails }
 cause_of bytes (errors.BadEnd line) within fails = record { within = within; fault = fails }
 cause_of bytes errors.Memory within fails = tt
 
--- A cause within the limit that isn't want of memory is a fault.
+-- Within the limit, a cause that isn't running out of memory is a fault.
 pub fault_of : (bytes : List ℕ) (error : AgreeError) → length bytes ≤ most_of_tables → IsCause bytes error → (error ≡ errors.Memory → ⊥) → HasFault bytes error
 fault_of bytes (errors.Tables e) within cause other = cause
 fault_of bytes (errors.Chained e) within cause other = cause

@@ -1,4 +1,4 @@
--- What asks a question is spelled so, and what is spelled so asks it.
+-- Round trips: a text that is read as a question is its spelling, and the spelling of a question is read as it.
 use Rattle.std.proofs.Common.{◌≡◌, ℕ, ◌+◌, ◌*◌, ◌≤◌, Bool, true, false, cond, List, [], ◌∷◌, ◌++◌, length, Result, Ok, Err, refl, sym, ap, ◌∙◌, arith, subst}
 use Rattle.std.specs.Prelude.{codes, ◌&&◌}
 use Rattle.std.specs.Str.{bytes_eq}
@@ -30,11 +30,11 @@ use Rattle.cmd_agree.proofs.TablesRead.{tables_whole}
 abbrev done : {A : Type 0} → A → Result A AgreeError
 done x = Ok x
 
--- what two equal answers without a fault hold is equal
+-- two equal results without a fault have equal values
 ok_is : {A : Type 0} (x y : A) → done x ≡ done y → x ≡ y
 ok_is x y e = cc
 
--- a test before what was read without a fault is true
+-- if the whole was read without a fault, the test before it is true
 test_ok : {A : Type 0} (b : Bool) (r : Result A AgreeError) (d : AgreeError) (y : A) → cond b r (Err d) ≡ Ok y → (b ≡ true) × (r ≡ Ok y)
 test_ok true r d y e = (refl, e)
 test_ok false r d y e = absurd cc
@@ -107,7 +107,7 @@ chain_spells read c e =
     } in
     subst (λ (x : Chain). SpellsChain read.words.n (length read.words.on) read.rest x) same here
 
--- a chain that is spelled so is read, and the end after it
+-- the spelling of a chain and the end after it are read as that chain
 chain_back : (w : Words) (c : Chain) (ls : List Line) → IsSpec w → SpellsChain w.n (length w.on) ls c → chain_behind (record { words = w; rest = ls }) ≡ Ok c
 unfolding chain_behind
 chain_back w c ls spec spells =
@@ -126,7 +126,7 @@ chain_back w c ls spec spells =
 abbrev question_as : Specification → Chain → Question
 question_as tables chain = record { tables = tables; chain = chain }
 
--- What asks a question is spelled so.
+-- A text that is read as a question is its spelling.
 pub question_spelled : (bytes : List ℕ) (question : Question) → question_of bytes ≡ Ok question → AsksQuestion bytes question
 unfolding question_in
 question_spelled bytes question e =
@@ -151,7 +151,7 @@ question_spelled bytes question e =
     } in
     subst (λ (q : Question). AsksQuestion bytes q) same here
 
--- What is spelled so asks it.
+-- The spelling of a question is read as that question.
 words_back : (bytes : List ℕ) (w : Words) (c : Chain) (behind : List Line) → IsSpec w → SpellsTables (specification w) (lines_of bytes) behind → SpellsChain w.n (length w.on) behind c → question_of bytes ≡ Ok (record { tables = specification w; chain = c })
 unfolding question_in
 words_back bytes w c behind spec tables chain =

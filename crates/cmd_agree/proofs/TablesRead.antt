@@ -1,4 +1,4 @@
--- What tables say that are read is a specification.
+-- Tables that are read are a specification.
 use Rattle.std.specs.Prelude.{◌≡◌, ℕ, ◌+◌, ◌<◌, ◌≤◌, ◌^◌, ◌==◌, ◌&&◌, Bool, true, false, cond, List, [], ◌∷◌, ◌++◌, length, Option, Some, None, Result, Ok, Err, nat_lt, not}
 use Rattle.std.specs.List.{list_all}
 use Rattle.std.proofs.Common.{refl, ap, subst, arith}
@@ -18,7 +18,7 @@ read_so x = Ok x
 ok_words : (a b : Read) → read_so a ≡ read_so b → a.words ≡ b.words
 ok_words a b e = let same : a ≡ b = cc in ap (λ (x : Read). x.words) same
 
--- what stood before an end is what was read
+-- what came before the end is what was read
 at_end : (none : Bool) (w : Words) (rest : List Line) (r : Read) → cond none (Err NoOutput) (Ok (record { words = w; rest = rest })) ≡ Ok r → w ≡ r.words
 at_end true w rest r e = absurd cc
 at_end false w rest r e = ok_words (record { words = w; rest = rest }) r e
@@ -33,7 +33,7 @@ none_or : (fault : Option SpecError) (read : Result Read SpecError) (r : Read) �
 none_or None read r e = (refl, e)
 none_or (Some fault) read r e = absurd cc
 
--- one line more, or the end
+-- one more line, or the end
 row_step : (lower full : Bool) (w : Words) (l : Line) (ls : List Line) (r : Read) → (length w.on == 8) ≡ full → IsSpec w → (IsSpec (with_row w l.text) → rows_of (with_row w l.text) ls ≡ Ok r → IsSpec r.words) → cond lower (end_of w (l ∷ ls)) (cond full (Err TooManyOutputs) (unless_fault (row_fault w.n (2 + length w.on) l) (rows_of (with_row w l.text) ls))) ≡ Ok r → IsSpec r.words
 row_step true full w l ls r is spec next e = subst (λ (x : Words). IsSpec x) (at_end (length w.on == 0) w (l ∷ ls) r e) spec
 row_step false true w l ls r is spec next e = absurd cc
@@ -51,7 +51,7 @@ rows_whole w [] r spec e = subst (λ (x : Words). IsSpec x) (at_end (length w.on
 rows_whole w (l ∷ ls) r spec e =
     row_step (begins_lower l.text) (length w.on == 8) w l ls r refl spec (λ next more. rows_whole (with_row w l.text) ls r next more) e
 
--- no row at all is a specification
+-- the specification without outputs
 nothing_whole : (n : ℕ) → n ≤ 6 → IsSpec (record { n = n; on = []; care = [] })
 nothing_whole n low = record {
   inputs = low;

@@ -1,4 +1,4 @@
--- What `agree` is asked, and what it answers.
+-- The inputs of `agree`, and its answers.
 use Rattle.std.specs.Prelude.{◌≡◌, ℕ, ◌+◌, ◌*◌, ◌&&◌, List, [], ◌∷◌, length, codes, Result, Ok, Err, ◌≤◌, if◌then◌else◌}
 use Rattle.std.specs.Str.{bytes_eq}
 use Rattle.chain_theory.specs.Specification.{Specification}
@@ -17,7 +17,7 @@ use Rattle.cmd_agree.specs.declared.agree.AgreeError.{AgreeError}
 use Rattle.cmd_agree.specs.declared.agree.AgreeError.TheVariants.{Tables, Chained, BadEnd, Memory}
 use Rattle.cmd_lines.specs.TableLines.{most_of_tables}
 
--- whether a chain agrees with tables
+-- an input of `agree`: tables and a chain; the question is whether the chain implements them
 pub record Question : Type 0 where
   pub tables : Specification
   pub chain : Chain
@@ -35,7 +35,7 @@ abbrev pub chain_in : Result block.Read ChainError → Result block.Read AgreeEr
 chain_in (Ok read) = Ok read
 chain_in (Err fault) = Err (Chained fault)
 
--- no line more
+-- no further line
 abbrev pub nothing_in : ℕ → List Line → Result Unit AgreeError
 nothing_in number [] = Ok tt
 nothing_in number (l ∷ ls) = Err (BadEnd number)
@@ -45,7 +45,7 @@ unfoldable pub end_in : ℕ → List Line → Result Unit AgreeError
 end_in number [] = Err (BadEnd number)
 end_in number (l ∷ ls) = if l.ended && bytes_eq l.text (codes "end") then nothing_in (number + 1) ls else Err (BadEnd number)
 
--- the chain block after the tables, and the end after it
+-- the chain block after the tables, followed by the line `end`
 unfoldable pub chain_behind : tables.Read → Result Chain AgreeError
 chain_behind read = do
   found ← chain_in (block.chain_of (2 + length read.words.on) read.words.n (length read.words.on) read.rest)
@@ -59,41 +59,41 @@ question_in ls = do
   chain ← chain_behind read
   Ok (record { tables = specification read.words; chain = chain })
 
--- what the bytes ask
+-- the tables and the chain of the input
 abbrev pub question_of : List ℕ → Result Question AgreeError
 question_of bytes = question_in (lines_of bytes)
 
--- The bytes ask this question.
+-- The bytes, no more than are read, are the spelling of this question.
 pub record IsQuestion (bytes : List ℕ) (question : Question) : Type 0 where
   pub within : length bytes ≤ most_of_tables
   pub read : question_of bytes ≡ Ok question
 
--- The bytes have this fault, though they are no more than are read.
+-- The bytes, no more than are read, have this fault.
 pub record HasFault (bytes : List ℕ) (error : AgreeError) : Type 0 where
   pub within : length bytes ≤ most_of_tables
   pub fault : question_of bytes ≡ Err error
 
--- the cause of an error; want of memory has none
+-- the cause of an error; running out of memory has none
 abbrev pub IsCause : List ℕ → AgreeError → Type 0
 IsCause bytes Memory = Unit {0}
 IsCause bytes error = HasFault bytes error
 
--- An error of the readers is the first fault of what was read, and want of memory may come anywhere.
+-- An error of a reader is the first fault of the input; memory may run out at any time.
 abbrev pub Fails : {Y : Type 0} → AgreeError → Result Y AgreeError → Type 0
 Fails Memory read = Unit {0}
 Fails error read = read ≡ Err error
 
--- What a function returned, seen by view, is what was read.
+-- The result of a reader, seen through `view`, is the one of the definition.
 abbrev pub Gives : {X Y : Type 0} → (X → Y) → Result X AgreeError → Result Y AgreeError → Type 0
 Gives view (Ok x) read = read ≡ Ok (view x)
 Gives view (Err e) read = Fails e read
 
--- the answer to a question: agreement, or the first difference
+-- the answer to a question: the chain implements the tables, or the first difference
 abbrev pub IsAnswer : Question → Answer → Type 0
 IsAnswer question Agrees = agreement.Agrees question.chain question.tables
 IsAnswer question (Differs output row) = IsFirstDifference question.chain question.tables output row
 
--- The bytes ask a question that has this answer.
+-- The bytes are a question with this answer.
 pub record HasAnswer (bytes : List ℕ) (answer : Answer) : Type 0 where
   pub question : Question
   pub asked : IsQuestion bytes question

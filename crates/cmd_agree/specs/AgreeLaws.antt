@@ -1,4 +1,4 @@
--- `agree` is a task, and a run of it keeps what it promises.
+-- The task of `agree` is well formed, and its runs keep the promise of `agree`.
 use Rattle.std.specs.Prelude.{◌≡◌, ℕ, ◌⊎◌, List, Option, Some, None}
 use Rattle.std.proofs.Common.{ap, refl, inl, inr, arith, sym, ◌∙◌, subst}
 use Rattle.tt_core.specs.declared.error.SpecError.TheVariants as tables
@@ -29,15 +29,15 @@ use Rattle.cmd_lines.specs.TableLineLaws.{not_refused as tables_apart}
 
 -- ---- `agree` is a command
 
--- bytes ask one question
+-- bytes are the spelling of at most one question
 pub one_question : (input : List ℕ) (p q : Question) → IsQuestion input p → IsQuestion input q → p ≡ q
 one_question input p q is_p is_q = cc
 
--- and no question where they have a fault
+-- bytes with a fault aren't the spelling of a question
 pub no_question : {A : Type 0} (input : List ℕ) (question : Question) (error : AgreeError) → IsQuestion input question → HasFault input error → A
 no_question input question error is bad = absurd cc
 
--- they have one fault
+-- bytes have at most one fault
 one_fault : (input : List ℕ) (d e : AgreeError) → HasFault input d → HasFault input e → d ≡ e
 one_fault input d e is_d is_e = cc
 
@@ -45,7 +45,7 @@ answer_statuses : (a : Answer) → IsAnswerStatus (answer_status a)
 answer_statuses Agrees = inl refl
 answer_statuses (Differs h t) = inr (inr refl)
 
--- an error has the status of a refusal, or is want of memory
+-- an error has the status of a refusal, or memory ran out
 IsStatus : AgreeError → Type 0
 IsStatus e = IsRefusalStatus (error_status e) ⊎ (agree_refusal e ≡ memory_refusal)
 
@@ -103,7 +103,7 @@ one_answer : (question : Question) (a b : Answer) → IsAnswer question a → Is
 one_answer question a b p q =
     answer_from a b (one_comparison question.chain question.tables (difference_of a) (difference_of b) (comparison_of question a p) (comparison_of question b q))
 
--- ---- what is read off
+-- ---- what follows from the promise of every command
 
 -- a question has no fault
 answerable : (input : List ℕ) (question : Question) → IsQuestion input question → IsAnswerable agree_task input
@@ -169,7 +169,7 @@ undecided r promise is =
     let got = promise.undecided_only is in
     decided_by got.holds.answer (sym got.holds.stands.status_is ∙ is)
 
--- All that `agree` promises besides.
+-- The promise of `agree`.
 pub agree_promised : (r : Run) → (AsksFor r.words Agree → CommandPromise agree_task r) → AgreePromise r
 agree_promised r keeps = record {
   complete = λ input question run is held. complete r input question (keeps run.asks) run.told is held;

@@ -1,4 +1,4 @@
--- What `agree` promises besides, in its own words.
+-- The promise of `agree`, besides that of every command.
 use Rattle.std.specs.Prelude.{◌≡◌, ℕ, List}
 use Rattle.command_line.specs.declared.command.Command.TheVariants.{Agree}
 use Rattle.command_line.specs.CommandLine.{AsksFor}
@@ -12,7 +12,7 @@ use Rattle.frame_core.specs.Run.{Run}
 use Rattle.cmd_lines.specs.Runs.{Runs}
 use Rattle.frame_core.specs.Promise.{InputHeld, OutputHeld, Stands, TellsError, Replies}
 
--- The first difference stands on the output.
+-- The first difference was written to the output.
 pub record TellsDifference (r : Run) (input : List ℕ) : Type 0 where
   pub output : ℕ
   pub row : ℕ
@@ -20,21 +20,21 @@ pub record TellsDifference (r : Run) (input : List ℕ) : Type 0 where
   pub stands : Stands r (agree_reply (Differs output row))
 
 pub record AgreePromise (r : Run) : Type 0 where
-  -- Every question is answered,
+  -- Every question is answered.
   pub complete : (input : List ℕ) (question : Question)
       → Runs Agree r input
       → IsQuestion input question
       → OutputHeld r
       → Replies agree_task r input
-  -- with `agrees` and the status 0 where the chain has every specified value, else with the least output
-  -- and for it the least row at which it doesn't, and the status 8.
+  -- The answer is `agrees` with the status 0 if the chain has every specified value; else the least output with a
+  -- difference and its least such row, with the status 8.
   pub answers : (input : List ℕ) (question : Question) (answer : Answer)
       → Runs Agree r input
       → IsQuestion input question
       → IsAnswer question answer
       → OutputHeld r
       → Stands r (agree_reply answer)
-  -- These statuses come for no other cause, and 4 never.
+  -- These statuses have no other cause, and the status 4 never occurs.
   pub agrees_only : (input : List ℕ)
       → Runs Agree r input
       → r.status ≡ Done
@@ -44,7 +44,7 @@ pub record AgreePromise (r : Run) : Type 0 where
       → r.status ≡ Refused
       → TellsDifference r input
   pub decided : AsksFor r.words Agree → r.status ≡ Undecided → ⊥
-  -- For bytes that ask nothing their first fault is reported.
+  -- For any other input its first fault is reported.
   pub refused : (input : List ℕ) (error : AgreeError)
       → Runs Agree r input
       → HasFault input error

@@ -1,4 +1,4 @@
--- What `agree` reports: its reply to an answer, its refusal of an error, and its task.
+-- The task of `agree`: the reply for each answer, and the refusal for each error.
 use Rattle.std.specs.Prelude.{ℕ, List, ◌++◌, None, codes, decimal}
 use Rattle.chain_core.specs.declared.error.ChainError.{ChainError}
 use Rattle.chain_core.specs.declared.error.ChainError.TheVariants as chains
@@ -13,7 +13,7 @@ use Rattle.cmd_lines.specs.TableLines.{most_of_tables, spec_status, named_spec}
 use Rattle.frame_core.specs.Told.{Reply, Field, Refusal, at, memory}
 use Rattle.frame_core.specs.Task.{Task, at_once}
 
--- An answer that the chain differs is a refusal.
+-- A chain that differs has the status `Refused`.
 abbrev pub answer_status : Answer → Status
 answer_status Agrees = Done
 answer_status (Differs output row) = Refused
@@ -32,7 +32,7 @@ error_status (errors.Chained error) = chain_status error
 error_status (errors.BadEnd line) = Malformed
 error_status errors.Memory = Memory
 
--- what goes out: `agrees`, or `differs H T`
+-- the output: `agrees`, or `differs H T` (output, row)
 unfoldable pub answer_text : Answer → List ℕ
 answer_text Agrees = codes "agrees\n"
 answer_text (Differs output row) = codes "differs " ++ decimal output ++ codes " " ++ decimal row ++ codes "\n"

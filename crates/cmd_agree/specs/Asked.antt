@@ -1,4 +1,4 @@
--- How a question is spelled, line by line.
+-- The spelling of a question, line by line.
 use Rattle.std.specs.Prelude.{◌≡◌, ℕ, ◌≤◌, true, List, [], ◌∷◌, ◌++◌, length, codes}
 use Rattle.text_core.specs.Lines.{Line, lines_of}
 use Rattle.tt_core.specs.Words.{Words, IsSpec, specification}
@@ -11,9 +11,8 @@ use Rattle.cmd_agree.specs.Agree.{Question}
 abbrev pub end_line : Line
 end_line = record { text = codes "end"; ended = true }
 
--- The lines of the bytes are the tables, then the chain's block and the line `end`, with nothing
--- after it. The tables are a specification in words; the chain has their inputs and outputs, and at most 16
--- steps. Example:
+-- The lines are the tables, then the chain's block and the line `end`, with nothing after it. The chain has the
+-- inputs and outputs of the tables, and at most 16 steps. Example:
 --
 --     inputs 2
 --     0110

@@ -1,4 +1,4 @@
--- `agree` owes an answer to each question.
+-- `agree` has to answer every question.
 use Rattle.std.specs.Prelude.{◌≡◌, ℕ, ◌⊎◌, List}
 use Rattle.std.proofs.Common.{sym, subst, refl, inl, inr}
 use Rattle.command_line.specs.declared.command.Command.TheVariants.{Agree}
@@ -12,7 +12,7 @@ use Rattle.cmd_agree.specs.Agree.{Question, IsQuestion}
 use Rattle.cmd_agree.specs.AgreeReport.{answer_status}
 use Rattle.cmd_agree.specs.AgreePromise.{AgreePromise}
 
--- The bytes ask a question.
+-- The bytes are the spelling of a question.
 abbrev pub HasQuestion : List ℕ → Type 0
 HasQuestion bytes = (question : Question) × IsQuestion bytes question
 

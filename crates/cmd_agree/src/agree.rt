@@ -1,4 +1,4 @@
-//! The command `agree`: whether a chain agrees with tables.
+//! The command `agree`: whether a chain implements tables.
 ghost use Rattle.std.specs.Prelude.{◌≡◌, IfOk};
 ghost use Rattle.cmd_agree.specs.AgreeReport.{answer_text, answer_status, error_status, chain_status as chain_status_of, named_chain, named_error, agree_reply, agree_refusal, agree_task};
 ghost use Rattle.frame_core.specs.Views.{line_value, reply_value, refusal_value};
@@ -11,25 +11,25 @@ use std::alloc::{AllocError, Global};
 use text_core::push_number;
 use tt_core::SpecError;
 
-/// What a chain is to the tables that it was given with.
+/// The result of comparing a chain with tables.
 #[derive(Clone, Copy, Debug)]
 pub(crate) enum Answer {
-    /// It meets every specified cell.
+    /// The chain has the value of every specified cell.
     Agrees,
-    /// It misses a cell: the least output, from 1 on, that has one, and the least row of that output.
+    /// The chain differs in a specified cell: the least output with a difference, from 1 on, and its least row.
     Differs { output: u32, row: u32 },
 }
 
-/// Why `agree` has no answer, though its input could be read.
+/// Why an input of `agree` has no answer.
 #[derive(Clone, Copy)]
 pub(crate) enum AgreeError {
-    /// The tables are at fault. Their want of memory is `Memory`.
+    /// The tables have a fault. (Running out of memory is `Memory`.)
     Tables(SpecError),
-    /// The chain block is at fault. Its want of memory is `Memory`.
+    /// The chain block has a fault. (Running out of memory is `Memory`.)
     Chained(ChainError),
-    /// This line isn't `end`, or comes after it.
+    /// This line should be `end` and isn't, or comes after `end`.
     BadEnd(u32),
-    /// Want of memory.
+    /// Out of memory.
     Memory,
 }
 
@@ -73,7 +73,7 @@ fn chain_status(error: ChainError) -> Status
     }
 }
 
-/// What the error line of a chain block names.
+/// The error line of a fault of a chain block.
 #[tactic(auto, unfolding(crate::specs::AgreeReport::named_chain, frame_core::specs::Told::memory))]
 fn name_chain(error: ChainError) -> ErrorLine
     ensures { line_value result ≡ named_chain error }
@@ -88,7 +88,7 @@ fn name_chain(error: ChainError) -> ErrorLine
     }
 }
 
-/// What an error's line names.
+/// The error line of an error.
 #[tactic(auto, unfolding(crate::specs::AgreeReport::named_error, frame_core::specs::Told::memory))]
 fn name_error(error: AgreeError) -> ErrorLine
     ensures { line_value result ≡ named_error error }
@@ -141,7 +141,7 @@ fn reply_of(alloc: Global, answer: Answer) -> Result<Reply, AllocError>
     })
 }
 
-/// Whether a chain agrees with the tables that it is given with.
+/// The command: whether a chain implements the tables before it.
 #[derive(Drop)]
 pub struct Agree;
 

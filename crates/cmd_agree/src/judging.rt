@@ -1,4 +1,4 @@
-//! The question that bytes ask, and its answer.
+//! Reading the tables and the chain of an input, and comparing them.
 ghost use Rattle.std.specs.Prelude.{◌≡◌, ◌+◌, ◌*◌, ◌^◌, ◌<◌, ◌≤◌, length, drop, IfOk, IfErr};
 ghost use Rattle.text_core.specs.Lines.{lines_of};
 ghost use Rattle.tt_core.specs.Words.{specification, IsSpec};
@@ -13,7 +13,7 @@ use std::alloc::Global;
 use text_core::next_line;
 use tt_core::{Spec, SpecError, Tables, read_tables};
 
-/// The tables with which `bytes` begin.
+/// The tables at the start of `bytes`.
 fn tables_at(alloc: Global, bytes: &[u8]) -> Result<Tables, AgreeError>
     requires { length bytes.now < 2 ^ 31 }
     ensures exact { Gives (λ x. record { words = x.spec; rest = lines_of (drop x.used bytes.now) }) result (tables_in (tables_of (lines_of bytes.now))) }
@@ -27,7 +27,7 @@ fn tables_at(alloc: Global, bytes: &[u8]) -> Result<Tables, AgreeError>
     }
 }
 
-/// The line `end`, of the number `line`, and nothing after it.
+/// Checks that line `line` is `end`, and that nothing follows it.
 #[tactic(auto, unfolding(crate::specs::Agree::end_in))]
 fn end_at(bytes: &[u8], line: u32) -> Result<(), AgreeError>
     requires { line < 2 ^ 31 }
@@ -45,7 +45,7 @@ fn end_at(bytes: &[u8], line: u32) -> Result<(), AgreeError>
     }
 }
 
-/// The chain block with which `bytes` begin.
+/// The chain block at the start of `bytes`.
 fn chain_at(
     alloc: Global,
     bytes: &[u8],
@@ -69,7 +69,7 @@ fn chain_at(
     }
 }
 
-/// The chain block for `spec`, and the end after it.
+/// The chain block for `spec`, followed by the line `end`.
 #[tactic(auto, unfolding(crate::specs::Agree::chain_behind))]
 fn chain_after(alloc: Global, spec: &Spec, bytes: &[u8]) -> Result<Chain, AgreeError>
     requires length { length bytes.now < 2 ^ 31 }
@@ -86,7 +86,7 @@ fn chain_after(alloc: Global, spec: &Spec, bytes: &[u8]) -> Result<Chain, AgreeE
     Ok(chain)
 }
 
-/// The tables and the chain that are compared.
+/// The tables and the chain of an input.
 #[tactic(auto, unfolding(crate::specs::Agree::question_in))]
 fn question(alloc: Global, bytes: &[u8]) -> Result<(Spec, Chain), AgreeError>
     requires { length bytes.now < 2 ^ 31 }
@@ -100,7 +100,7 @@ fn question(alloc: Global, bytes: &[u8]) -> Result<(Spec, Chain), AgreeError>
     Ok((tables.spec, chain))
 }
 
-/// Whether the chain agrees with the tables, or where it first doesn't.
+/// Whether the chain implements the tables, or the first difference.
 fn compare(spec: &Spec, chain: &Chain) -> Answer
     requires inputs { chain.now.n ≡ spec.now.n }
     requires outputs { length chain.now.outs ≡ length spec.now.on }
@@ -112,7 +112,7 @@ fn compare(spec: &Spec, chain: &Chain) -> Answer
     }
 }
 
-/// The answer to the question that the bytes ask.
+/// The answer to an input.
 #[tactic(auto, using(crate::proofs::Agreeing::cause_of))]
 pub(crate) fn judge(alloc: Global, bytes: &[u8]) -> Result<Answer, AgreeError>
     requires { length bytes.now ≤ most_of_tables }

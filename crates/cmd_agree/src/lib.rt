@@ -1,7 +1,7 @@
-//! The command `agree`: whether a chain agrees with the tables that it is given with.
+//! The command `agree`: whether a chain implements the tables that come before it in the input.
 //!
-//! `Agree` is the command for `frame_core`: `specs/AgreeReport` has its task, `specs/AgreePromise` what a run of it
-//! promises, and `specs/AgreeLaws` that a run of the task keeps the promise.
+//! `Agree` is the command for `frame_core`. `specs/AgreeReport` has its task, `specs/AgreePromise` the promise of
+//! its runs, and `specs/AgreeLaws` the proof that every run of the task keeps the promise.
 #![tactic(auto)]
 
 mod agree;

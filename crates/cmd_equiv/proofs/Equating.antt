@@ -1,4 +1,4 @@
--- What `equiv` answers to bytes.
+-- The result of `equiv` for an input.
 use Rattle.std.specs.Prelude.{◌≡◌, ℕ, ◌≤◌, List, length}
 use Rattle.std.proofs.lemmas.Grind.{common_steps}
 use Rattle.equiv_run.specs.declared.answer.Standing.{Standing}
@@ -10,7 +10,7 @@ use Rattle.frame_core.specs.Told.{Reply, Refusal}
 use Rattle.frame_core.specs.Task.{Tells, Refuses}
 use Rattle.cmd_equiv.specs.EquivReport.{equiv_reply, equiv_refusal, equiv_task}
 
--- ---- what is answered
+-- ---- its answers
 
 pub tells : (budget : ℕ) (bytes text : List ℕ) (standing : Standing) (reply : Reply) → length bytes ≤ most_of_two → IsAnswer budget bytes text standing → reply ≡ equiv_reply (record { text = text; standing = standing }) → Tells (equiv_task budget) bytes reply
 tells budget bytes text standing reply within answer is = record {

@@ -1,4 +1,4 @@
--- `equiv` is a task, and a run of it keeps what it promises.
+-- The task of `equiv` is well formed, and its runs keep the promise.
 use Rattle.std.specs.Prelude.{◌≡◌, ℕ, ◌≤◌, ◌⊎◌, List, length, take, drop, Option, Some, None, Result, Ok}
 use Rattle.std.proofs.Common.{arith, sym, ◌∙◌, ap, subst, refl, inl, inr}
 use Rattle.std.proofs.Math.Logic.{⊎_elim}
@@ -54,9 +54,9 @@ equiv_is_task budget =
     (λ bytes c has. has.within)
     (λ bytes error fault. fault.within)
 
--- ---- what it promises besides
+-- ---- its promise
 
--- a text is split at one place, and lists one document
+-- a text is split at one position, and is the spelling of one document
 place_one : (r : Option ℕ) (p q : ℕ) → r ≡ Some p → r ≡ Some q → p ≡ q
 place_one r p q x y = cc
 
@@ -76,7 +76,7 @@ same_interface bytes d e d' e' x y share =
     let second : e ≡ e' = document_one (drop y.place bytes) e e' (subst (λ (p : ℕ). Lists (drop p bytes) e) place x.second) y.second in
     subst (λ (z : Document). ShareInterface d' z) second (subst (λ (z : Document). ShareInterface z e) first share)
 
--- what can be compared has no fault
+-- an input that can be compared has no fault
 no_place : (r : Option ℕ) (p : ℕ) → r ≡ None → r ≡ Some p → ⊥
 no_place r p x y = let e : None ≡ Some p = sym x ∙ y in cc
 
@@ -101,7 +101,7 @@ complete : (budget : ℕ) (r : Run) (input : List ℕ) → CommandPromise (equiv
 complete budget r input promise told within are held =
     gets (equiv_task budget) r input (λ answer. refl) promise told (answerable budget input within are) held
 
--- a reply of the status of `standing` reports `standing`
+-- a reply with the status of `standing` reports `standing`
 stood : (budget : ℕ) (r : Run) (input : List ℕ) (standing : Standing) (got : Replies (equiv_task budget) r input) → got.answer.standing ≡ standing → TellsStanding budget standing r input
 stood budget r input standing got is = subst (λ (s : Standing). TellsStanding budget s r input) is (record {
   text = got.answer.text;
@@ -134,7 +134,7 @@ undecided_only budget r input promise told is =
     let got : Replies (equiv_task budget) r input = of_input (equiv_task budget) r (Replies (equiv_task budget) r) input (promise.undecided_only is) told in
     stood budget r input standings.Undecided got (undecided_is got.answer.standing (sym got.stands.status_is ∙ is))
 
--- the one fault with the status of a difference
+-- the only fault with the status `Refused`
 interface_told : (r : Run) (input : List ℕ) (e : CompareError) → HasComparedFault input e → TellsError r (equiv_refusal e) → pair_status e ≡ statuses.Refused → TellsInterface r input
 interface_told r input NoSecond meets told is = absurd cc
 interface_told r input (First e) meets told is = absurd (not_refused e is)
@@ -149,7 +149,7 @@ differ_only budget r input promise told is =
     (λ (none : Faults (equiv_task budget) r input). inr (interface_told r input none.fault none.meets none.told (sym none.told.status_is ∙ is)))
     (of_input (equiv_task budget) r (λ bytes. Replies (equiv_task budget) r bytes ⊎ Faults (equiv_task budget) r bytes) input (promise.refused_only is) told)
 
--- All that `equiv` promises besides.
+-- The promise of `equiv`.
 pub equiv_promised : (r : Run) → ((budget : ℕ) → AsksFor r.words (Equiv budget) → CommandPromise (equiv_task budget) r) → EquivPromise r
 equiv_promised r keeps = record {
   complete = λ budget input run within are held. complete budget r input (keeps budget run.asks) run.told within are held;

@@ -1,4 +1,4 @@
--- What `equiv` promises besides, in its own words.
+-- The promise of `equiv`, besides that of every command.
 use Rattle.std.specs.Prelude.{◌≡◌, ℕ, ◌≤◌, ◌⊎◌, List, length}
 use Rattle.net_theory.specs.Document.{Document}
 use Rattle.equiv_run.specs.declared.answer.Standing.{Standing}
@@ -13,48 +13,48 @@ use Rattle.frame_core.specs.Promise.{InputHeld, OutputHeld, Stands, TellsError, 
 use Rattle.cmd_equiv.specs.EquivReport.{equiv_reply, equiv_refusal, HasComparedFault, equiv_task}
 use Rattle.cmd_lines.specs.Runs.{Runs}
 
--- The bytes are two netlists of one interface.
+-- The bytes are two netlists with the same interface.
 pub record AreComparable (bytes : List ℕ) : Type 0 where
   pub first : Document
   pub second : Document
   pub two : AreTwo bytes first second
   pub interface : ShareInterface first second
 
--- A text stands on the output which reports `standing`, and proves it.
+-- The output reports `standing`, and proves it.
 pub record TellsStanding (budget : ℕ) (standing : Standing) (r : Run) (input : List ℕ) : Type 0 where
   pub text : List ℕ
   pub told : IsAnswer budget input text standing
   pub stands : Stands r (equiv_reply (record { text = text; standing = standing }))
 
--- The netlists have different interfaces, which is reported.
+-- The netlists have different interfaces, and this is reported.
 pub record TellsInterface (r : Run) (input : List ℕ) : Type 0 where
   pub other : HasOtherInterface input
   pub told : TellsError r (equiv_refusal DifferentInterface)
 
 pub record EquivPromise (r : Run) : Type 0 where
-  -- Two netlists of one interface are compared.
+  -- Two netlists with the same interface are compared.
   pub complete : (budget : ℕ) (input : List ℕ)
       → Runs (Equiv budget) r input
       → length input ≤ most_of_two
       → AreComparable input
       → OutputHeld r
       → Replies (equiv_task budget) r input
-  -- The status 0 comes where they do the same alone, with a log that refutes that they differ,
+  -- The status 0 occurs only if they are equivalent, with a log that refutes the miter.
   pub equal_only : (budget : ℕ) (input : List ℕ)
       → Runs (Equiv budget) r input
       → r.status ≡ Done
       → TellsStanding budget standings.Equal r input
-  -- 4 with a log that has spent the budget,
+  -- The status 4 occurs only with a log that reaches the budget.
   pub undecided_only : (budget : ℕ) (input : List ℕ)
       → Runs (Equiv budget) r input
       → r.status ≡ Undecided
       → TellsStanding budget standings.Undecided r input
-  -- and 8 where they differ as is reported, or have different interfaces.
+  -- The status 8 occurs only if they differ as reported, or have different interfaces.
   pub differ_only : (budget : ℕ) (input : List ℕ)
       → Runs (Equiv budget) r input
       → r.status ≡ Refused
       → TellsStanding budget standings.Differ r input ⊎ TellsInterface r input
-  -- For bytes that can't be compared their first fault is reported.
+  -- For an input that can't be compared its first fault is reported.
   pub refused : (budget : ℕ) (input : List ℕ) (error : CompareError)
       → Runs (Equiv budget) r input
       → HasComparedFault input error

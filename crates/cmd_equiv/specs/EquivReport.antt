@@ -1,4 +1,4 @@
--- What `equiv` reports: its reply to a comparison, its refusal of a fault, and its task.
+-- The task of `equiv`: the reply of a comparison, and the refusal for each fault.
 use Rattle.std.specs.Prelude.{ℕ, ◌≤◌, List, ◌∷◌, length, None, codes}
 use Rattle.equiv_run.specs.declared.answer.Standing.{Standing}
 use Rattle.equiv_run.specs.declared.answer.Standing.TheVariants as standings
@@ -11,13 +11,13 @@ use Rattle.frame_core.specs.Told.{Reply, Field, Word, Refusal, plain, memory}
 use Rattle.frame_core.specs.Task.{Task, at_once}
 use Rattle.cmd_lines.specs.NetLines.{net_status, named_net}
 
--- Where they do the same that is an answer; where they differ what was claimed is refused.
+-- Equivalent netlists have the status `Done`, netlists that differ have `Refused`.
 abbrev pub standing_status : Standing → Status
 standing_status standings.Equal = statuses.Done
 standing_status standings.Differ = statuses.Refused
 standing_status standings.Undecided = statuses.Undecided
 
--- a fault of one of the two has that netlist's status
+-- a fault of one of the two has the status of that netlist's fault
 abbrev pub pair_status : CompareError → Status
 pair_status NoSecond = statuses.Malformed
 pair_status (First e) = net_status e
@@ -33,24 +33,24 @@ named_pair (Second e) = Word (codes "Second") ∷ named_net e
 named_pair DifferentInterface = plain (codes "DifferentInterface")
 named_pair Memory = memory
 
--- a text, and how the two compare
+-- the output, and the result of the comparison
 pub record Comparison : Type 0 where
   pub text : List ℕ
   pub standing : Standing
 
--- that as a reply, and a fault as a refusal
+-- the reply of a comparison, and the refusal of a fault
 abbrev pub equiv_reply : Comparison → Reply
 equiv_reply c = record { text = c.text; report = None; status = standing_status c.standing }
 
 abbrev pub equiv_refusal : CompareError → Refusal
 equiv_refusal error = record { status = pair_status error; named = named_pair error }
 
--- The bytes are two netlists of one interface, and the text reports and proves how they compare.
+-- The bytes are two netlists with the same interface, and the text reports and proves the result.
 pub record IsComparison (budget : ℕ) (bytes : List ℕ) (c : Comparison) : Type 0 where
   pub within : length bytes ≤ most_of_two
   pub answer : IsAnswer budget bytes c.text c.standing
 
--- The bytes aren't that, and this is their first fault.
+-- The bytes aren't two such netlists, and this is their first fault.
 pub record HasComparedFault (bytes : List ℕ) (error : CompareError) : Type 0 where
   pub within : length bytes ≤ most_of_two
   pub fault : HasPairFault bytes error

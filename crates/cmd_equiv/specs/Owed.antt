@@ -1,4 +1,4 @@
--- `equiv` owes an answer to any two netlists of one interface.
+-- `equiv` has to answer for any two netlists with the same interface.
 use Rattle.std.specs.Prelude.{ℕ, ◌≤◌, List, length}
 use Rattle.std.proofs.Common.{sym, subst, refl, inl, inr}
 use Rattle.equiv_run.specs.declared.answer.Standing.{Standing}
@@ -11,7 +11,7 @@ use Rattle.cmd_lines.specs.Owing.{AsksWell, Owes}
 use Rattle.cmd_equiv.specs.EquivReport.{standing_status, Comparison}
 use Rattle.cmd_equiv.specs.EquivPromise.{AreComparable, EquivPromise}
 
--- The bytes, no more of them than are read, are two netlists of one interface.
+-- The bytes, no more than are read, are two netlists with the same interface.
 abbrev pub CanBeCompared : List ℕ → Type 0
 CanBeCompared bytes = (length bytes ≤ most_of_two) × AreComparable bytes
 

@@ -14,10 +14,10 @@ use sat_solve::Solver;
 use std::alloc::Global;
 use std::marker::PhantomData;
 
-/// The most bytes that `equiv` reads.
+/// The most bytes that `equiv` reads: 32 MiB, for two netlists.
 const MOST_BYTES: usize = 33_554_432;
 
-/// The status of how two netlists compare.
+/// The status of the result of a comparison.
 fn standing_status(standing: Standing) -> Status
     ensures { result ≡ standing_status_of standing }
 {
@@ -28,7 +28,7 @@ fn standing_status(standing: Standing) -> Status
     }
 }
 
-/// A comparison as a reply.
+/// The reply of a comparison.
 fn reply_of(compared: Compared) -> Reply
     ensures { reply_value result ≡ equiv_reply (record { text = compared.text.items; standing = compared.standing }) }
 {
@@ -39,7 +39,7 @@ fn reply_of(compared: Compared) -> Reply
     }
 }
 
-/// A fault of one of the two as a refusal.
+/// The refusal of a fault of one of the two netlists.
 #[tactic(auto, unfolding(frame_core::specs::Views::shown))]
 fn fault_of(netlist: &'static [u8], error: NetError) -> Refusal
     ensures { refusal_value result ≡ record { status = net_status_of error; named = Word netlist.now ∷ named_net error } }
@@ -61,7 +61,7 @@ fn plainly(status: Status, name: &'static [u8]) -> Refusal
     }
 }
 
-/// Why two netlists weren't compared as a refusal.
+/// The refusal if two netlists can't be compared.
 #[tactic(auto, unfolding(crate::specs::EquivReport::named_pair, frame_core::specs::Told::memory))]
 fn refusal_of(error: CompareError) -> Refusal
     ensures { refusal_value result ≡ equiv_refusal error }
@@ -75,11 +75,11 @@ fn refusal_of(error: CompareError) -> Refusal
     }
 }
 
-/// Whether two netlists have the same outputs and next states, decided with the solver `S`.
+/// The command: whether two netlists have the same outputs and next states, decided with the solver `S`.
 #[derive(Drop)]
 pub struct Equiv<S> {
-    /// The budget, after which the two stay undecided: for each pair or sink that is given up its limit counts, and then
-    /// the clauses that the last search learns.
+    /// The budget of conflicts, after which the two stay undecided. Each pair or output that is given up costs
+    /// its limit, and the last search costs the clauses that it learns.
     pub budget: u32,
     /// The solver.
     pub solver: PhantomData<S>,

@@ -1,7 +1,7 @@
 //! The command `equiv`: whether two netlists have the same outputs and next states.
 //!
-//! `Equiv` is the command for `frame_core`: `specs/EquivReport` has its task, `specs/EquivPromise` what a run of it
-//! promises, and `specs/EquivLaws` that a run of the task keeps the promise.
+//! `Equiv` is the command for `frame_core`. `specs/EquivReport` has its task, `specs/EquivPromise` the promise
+//! of its runs, and `specs/EquivLaws` the proof that every run of the task keeps the promise.
 #![tactic(auto)]
 
 mod equiv;

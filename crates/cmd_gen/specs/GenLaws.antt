@@ -1,4 +1,4 @@
--- `gen` is a task, and a run of it keeps what it promises.
+-- The task of `gen` is well formed, and its runs keep the promise.
 use Rattle.std.specs.Prelude.{◌≡◌, ℕ, ◌⊎◌, List, []}
 use Rattle.std.proofs.Common.{◌∙◌, ap, refl, inl, inr}
 use Rattle.std.proofs.Math.Logic.{⊎_elim}
@@ -22,7 +22,7 @@ pub gen_is_task : (blocks : ℕ) (deed : Deed) → IsTask (gen_task blocks deed)
 gen_is_task blocks Write = from_nothing_task (Unit {0}) (λ (u : Unit {0}). Unit {0}) (λ (u : Unit {0}). gen_reply blocks) (λ u. inl refl)
 gen_is_task blocks Improve = from_nothing_task Improvement (IsImprovedNetlist blocks) improve_reply (λ i. inl refl)
 
--- nothing has no fault
+-- the empty input has no fault
 answerable : (blocks : ℕ) (deed : Deed) → IsAnswerable (gen_task blocks deed) []
 answerable blocks Write = record { within = λ beyond. beyond; sound = λ fault meets. meets }
 answerable blocks Improve = record { within = λ beyond. beyond; sound = λ fault meets. meets }
@@ -33,7 +33,7 @@ complete blocks r promise held = (gets (gen_task blocks Write) r [] (λ answer. 
 done_only : (blocks : ℕ) (r : Run) → CommandPromise (gen_task blocks Write) r → r.status ≡ statuses.Done → Stands r (gen_reply blocks)
 done_only blocks r promise is = (promise.done_only is).holds.stands
 
--- ---- where it is improved
+-- ---- if the netlist is improved
 
 improves : (blocks : ℕ) (r : Run) (input : List ℕ) → Replies (gen_task blocks Improve) r input → ImprovesNetlist blocks r
 improves blocks r input got = record { improvement = got.answer; is = got.has; stands = got.stands }
@@ -48,9 +48,9 @@ answered blocks r promise held =
 improved_only : (blocks : ℕ) (r : Run) → CommandPromise (gen_task blocks Improve) r → r.status ≡ statuses.Done → ImprovesNetlist blocks r
 improved_only blocks r promise is = let of = promise.done_only is in improves blocks r of.bytes of.holds
 
--- ---- the statuses that it has
+-- ---- its statuses
 
--- this is one of them
+-- the status is one of them
 abbrev IsOne : Status → Type 0
 IsOne s = (s ≡ statuses.Done) ⊎ ((s ≡ statuses.WriteFault) ⊎ (s ≡ statuses.Memory))
 
@@ -76,7 +76,7 @@ untouched : (blocks : ℕ) (deed : Deed) (r : Run) → CommandPromise (gen_task 
 untouched blocks Write r promise = promise.untouched refl
 untouched blocks Improve r promise = promise.untouched refl
 
--- All that `gen` promises besides.
+-- The promise of `gen`.
 pub gen_promised : (r : Run) → ((blocks : ℕ) (deed : Deed) → AsksFor r.words (Gen blocks deed) → CommandPromise (gen_task blocks deed) r) → ((blocks : ℕ) (deed : Deed) → AsksFor r.words (Gen blocks deed) → (o : Outcome) × IsRun (gen_task blocks deed) r o) → GenPromise r
 gen_promised r keeps ran = record {
   complete = λ blocks asks held. complete blocks r (keeps blocks Write asks) held;

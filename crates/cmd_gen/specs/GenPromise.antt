@@ -1,4 +1,4 @@
--- What `gen` promises besides, in its own words.
+-- The promise of `gen`, besides that of every command.
 use Rattle.std.specs.Prelude.{◌≡◌, ℕ, [], ◌⊎◌}
 use Rattle.command_line.specs.declared.command.Deed.{Deed}
 use Rattle.command_line.specs.declared.command.Deed.TheVariants.{Write, Improve}
@@ -10,39 +10,39 @@ use Rattle.frame_core.specs.Promise.{OutputHeld, AllSteady, Stands, ReportCut}
 use Rattle.cmd_improve.specs.ImproveReport.{Improvement, improve_reply}
 use Rattle.cmd_gen.specs.GenReport.{gen_reply, IsImprovedNetlist, gen_task}
 
--- What `improve` answers to the netlist stands outside.
+-- The answer of `improve` for the netlist was written.
 pub record ImprovesNetlist (blocks : ℕ) (r : Run) : Type 0 where
   pub improvement : Improvement
   pub is : IsImprovedNetlist blocks improvement
   pub stands : Stands r (improve_reply improvement)
 
 pub record GenPromise (r : Run) : Type 0 where
-  -- The netlist of `blocks` blocks stands on the output,
+  -- The netlist of `blocks` blocks is written to the output.
   pub complete : (blocks : ℕ)
       → AsksFor r.words (Gen blocks Write)
       → OutputHeld r
       → Stands r (gen_reply blocks)
-  -- and the status 0 comes with it alone.
+  -- The status 0 occurs only with that.
   pub done_only : (blocks : ℕ)
       → AsksFor r.words (Gen blocks Write)
       → r.status ≡ Done
       → Stands r (gen_reply blocks)
-  -- Where it is improved, what `improve` answers to that netlist by its defaults stands there, with the report,
+  -- If it is improved, the answer of `improve` for that netlist with its defaults is written, with the report.
   pub improved : (blocks : ℕ)
       → AsksFor r.words (Gen blocks Improve)
       → AllSteady r
       → ImprovesNetlist blocks r
-  -- or the notes failed in the report,
+  -- If no call failed but maybe of the notes, the same holds, or the notes failed while the report was written.
   pub answered : (blocks : ℕ)
       → AsksFor r.words (Gen blocks Improve)
       → OutputHeld r
       → ImprovesNetlist blocks r ⊎ ReportCut (gen_task blocks Improve) r []
-  -- and the status 0 comes with it alone.
+  -- The status 0 occurs only with that.
   pub improved_only : (blocks : ℕ)
       → AsksFor r.words (Gen blocks Improve)
       → r.status ≡ Done
       → ImprovesNetlist blocks r
-  -- No call is made on the source, and there is no other answer but of a fault in writing and of want of memory.
+  -- The source is never called. Otherwise the run ends with a write fault, or because memory ran out.
   pub untouched : (blocks : ℕ) (deed : Deed) → AsksFor r.words (Gen blocks deed) → r.source' ≡ r.source
   pub others : (blocks : ℕ) (deed : Deed)
       → AsksFor r.words (Gen blocks deed)

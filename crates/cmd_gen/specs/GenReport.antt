@@ -1,4 +1,4 @@
--- What `gen` reports: its replies, and its task.
+-- The task of `gen`, and its replies.
 use Rattle.std.specs.Prelude.{ℕ, None}
 use Rattle.gen_core.specs.Generated.{generated_text}
 use Rattle.improve_settings.specs.Improve.{usual}
@@ -14,11 +14,12 @@ use Rattle.cmd_improve.specs.ImproveReport.{Improvement, improve_reply, IsImprov
 abbrev pub gen_reply : ℕ → Reply
 gen_reply blocks = record { text = generated_text blocks; report = None; status = Done }
 
--- What `improve` answers to that netlist where nothing is named.
+-- The answer of `improve` for that netlist, with the defaults of all options.
 abbrev pub IsImprovedNetlist : ℕ → Improvement → Type 0
 IsImprovedNetlist blocks i = IsImprovement Blif usual (generated_text blocks) i
 
--- It reads nothing. Written, the netlist is the one answer; improved, it has those of `improve`.
+-- It reads nothing. If the netlist is written, it is the only answer; if it is improved, the answers are those of
+-- `improve`.
 abbrev pub gen_task : ℕ → Deed → Task
 gen_task blocks Write = from_nothing (Unit {0}) (λ (u : Unit {0}). Unit {0}) (λ (u : Unit {0}). gen_reply blocks)
 gen_task blocks Improve = from_nothing Improvement (IsImprovedNetlist blocks) improve_reply

@@ -1,4 +1,4 @@
--- `gen` owes an answer to everyone.
+-- `gen` always has to answer.
 use Rattle.std.specs.Prelude.{◌≡◌, ℕ}
 use Rattle.command_line.specs.declared.command.Deed.{Deed}
 use Rattle.command_line.specs.declared.command.Deed.TheVariants.{Write, Improve}

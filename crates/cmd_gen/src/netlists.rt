@@ -26,7 +26,7 @@ fn text_of(alloc: Global, blocks: u32) -> Result<Vec<u8>, AllocError>
     Ok(text)
 }
 
-/// The netlist of `blocks` blocks as a reply.
+/// The reply with the netlist of `blocks` blocks.
 fn reply_of(alloc: Global, blocks: u32) -> Result<Reply, AllocError>
     ensures { IfOk result (λ reply. reply_value reply ≡ gen_reply blocks) }
 {
@@ -37,7 +37,7 @@ fn reply_of(alloc: Global, blocks: u32) -> Result<Reply, AllocError>
     })
 }
 
-/// The reply of `gen` where the netlist is written.
+/// The reply of `gen` if the netlist is written.
 #[tactic(auto, using(crate::proofs::Generating::telling))]
 fn written(alloc: Global, blocks: u32) -> Result<Reply, Stop>
     ensures { (bytes : List ℕ) → Judges (gen_task blocks Write) bytes result }
@@ -48,7 +48,7 @@ fn written(alloc: Global, blocks: u32) -> Result<Reply, Stop>
     }
 }
 
-/// The reply of `gen` where the netlist is improved.
+/// The reply of `gen` if the netlist is improved.
 #[tactic(auto, using(crate::proofs::Generating::telling))]
 fn improved<S: Solver>(alloc: Global, blocks: u32) -> Result<Reply, Stop>
     requires { blocks ≤ most_blocks }
@@ -66,12 +66,12 @@ fn improved<S: Solver>(alloc: Global, blocks: u32) -> Result<Reply, Stop>
     }
 }
 
-/// A generated netlist of `blocks` blocks, written or improved with the solver `S`.
+/// The command: a generated netlist of `blocks` blocks, written, or improved with the solver `S`.
 #[derive(Drop)]
 pub struct Gen<S> {
     /// The number of blocks.
     pub blocks: u32,
-    /// Whether the netlist is written as it stands or improved.
+    /// Whether the netlist is written as generated, or improved.
     pub deed: Deed,
     /// The solver.
     pub solver: PhantomData<S>,

@@ -1,4 +1,4 @@
--- What `improve` answers to bytes.
+-- The result of `improve` for an input.
 use Rattle.std.specs.Prelude.{◌≡◌, ℕ, ◌≤◌, List, length}
 use Rattle.std.proofs.lemmas.Grind.{common_steps}
 use Rattle.net_core.specs.declared.error.NetError.{NetError}
@@ -15,7 +15,7 @@ use Rattle.cmd_improve.specs.ImproveReport.{FormatAsked, format_of, most_of_netl
 use Rattle.frame_core.specs.Told.{Reply, Refusal}
 use Rattle.frame_core.specs.Task.{Tells, Refuses}
 
--- ---- what is answered
+-- ---- its answers
 
 pub tells : (format : FormatAsked) (asked : ImproveSettings) (bytes text report : List ℕ) (reply : Reply) → length bytes ≤ most_of_netlist → IsReported (format_of format) asked bytes text report → reply ≡ improve_reply (record { text = text; report = report }) → Tells (improve_task format asked) bytes reply
 tells format asked bytes text report reply within reported is = record {

@@ -1,4 +1,4 @@
--- `improve` is a task, and a run of it keeps what it promises.
+-- The task of `improve` is well formed, and its runs keep the promise.
 use Rattle.std.specs.Prelude.{◌≡◌, ℕ, ◌≤◌, ◌⊎◌, List, length}
 use Rattle.std.proofs.Common.{arith, ap, refl, inl, inr}
 use Rattle.net_core.specs.declared.error.NetError.{NetError}
@@ -51,7 +51,7 @@ statuses_of : (e : NetError) → IsRefusalStatus (net_status e) ⊎ (improve_ref
 unfolding IsStatus
 statuses_of e = statuses e
 
--- what was improved is a netlist
+-- an input that was improved is a netlist
 reported_netlist : (format : FormatAsked) (asked : ImproveSettings) (bytes text report : List ℕ) → IsReported (format_of format) asked bytes text report → IsNetlist (format_of format) bytes
 reported_netlist format asked bytes text report is = record { listed = is.improved.read; said = is.improved.said; well = is.improved.well }
 
@@ -65,7 +65,7 @@ improve_is_task format asked =
     (λ bytes i has. has.within)
     (λ bytes error fault. fault.within)
 
--- ---- what it promises besides
+-- ---- its promise
 
 -- a netlist has no fault
 answerable : (format : FormatAsked) (asked : ImproveSettings) (input : List ℕ) → length input ≤ most_of_netlist → IsNetlist (format_of format) input → IsAnswerable (improve_task format asked) input
@@ -74,7 +74,7 @@ answerable format asked input within netlist = record {
   sound = λ error fault. fault_never (format_of format) input error (lists_well format) netlist fault.fault;
 }
 
--- All that `improve` promises besides.
+-- The promise of `improve`.
 pub improve_promised : (r : Run) → ((format : FormatAsked) (asked : ImproveSettings) → AsksFor r.words (Improve format asked) → CommandPromise (improve_task format asked) r) → ImprovePromise r
 improve_promised r keeps = record {
   complete = λ format asked input run within netlist steady. (keeps format asked run.asks).complete input run.told (answerable format asked input within netlist) steady;

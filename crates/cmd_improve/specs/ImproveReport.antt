@@ -1,4 +1,4 @@
--- What `improve` reports: its reply, its refusal of a fault, and its task.
+-- The task of `improve`: its reply, and the refusal for each fault.
 use Rattle.std.specs.Prelude.{ℕ, ◌≤◌, List, length, Some}
 use Rattle.net_core.specs.declared.error.NetError.{NetError}
 use Rattle.net_document.specs.Format.{Format, HasNetFault}
@@ -17,7 +17,7 @@ use Rattle.cmd_lines.specs.NetLines.{net_status, named_net}
 abbrev pub most_of_netlist : ℕ
 most_of_netlist = 16777216
 
--- the format that was asked for
+-- the format of the command line
 abbrev pub FormatAsked : Type 0
 FormatAsked = asked_format.Format
 
@@ -30,21 +30,21 @@ pub record Improvement : Type 0 where
   pub text : List ℕ
   pub report : List ℕ
 
--- that as a reply, and a fault as a refusal
+-- the reply of an improvement, and the refusal of a fault
 abbrev pub improve_reply : Improvement → Reply
 improve_reply i = record { text = i.text; report = Some i.report; status = Done }
 
 abbrev pub improve_refusal : NetError → Refusal
 improve_refusal error = record { status = net_status error; named = named_net error }
 
--- The bytes are a netlist, and the text is one that does the same with no more gates, as the settings leave it.
--- The report says what both cost, which windows are undecided, each with a certificate, and whether all others
--- are settled.
+-- The bytes are a netlist, and the text is an equivalent netlist with no more gates, within the settings. The
+-- report has the cost of both, the windows that are undecided, each with a certificate, and whether all other
+-- windows are settled (no window can be improved any more).
 pub record IsImprovement (format : FormatAsked) (asked : ImproveSettings) (bytes : List ℕ) (i : Improvement) : Type 0 where
   pub within : length bytes ≤ most_of_netlist
   pub reported : IsReported (format_of format) asked bytes i.text i.report
 
--- The bytes are no netlist, and this is their first fault.
+-- The bytes aren't a netlist, and this is their first fault.
 pub record HasNetlistFault (format : FormatAsked) (bytes : List ℕ) (error : NetError) : Type 0 where
   pub within : length bytes ≤ most_of_netlist
   pub fault : HasNetFault (format_of format) bytes error

@@ -1,4 +1,4 @@
--- `improve` owes an answer to each netlist.
+-- `improve` has to answer every netlist.
 use Rattle.std.specs.Prelude.{◌≡◌, ℕ, ◌≤◌, List, length}
 use Rattle.net_document.specs.Format.{IsNetlist}
 use Rattle.improve_settings.specs.declared.improve.ImproveSettings.{ImproveSettings}
@@ -10,7 +10,7 @@ use Rattle.cmd_lines.specs.Owing.{AsksWell, Owes}
 use Rattle.cmd_improve.specs.ImproveReport.{FormatAsked, format_of, most_of_netlist}
 use Rattle.cmd_improve.specs.ImprovePromise.{ImprovePromise}
 
--- The bytes, no more of them than are read, are a netlist of the format.
+-- The bytes, no more than are read, are a netlist of the format.
 abbrev pub IsImprovable : FormatAsked → List ℕ → Type 0
 IsImprovable format bytes = (length bytes ≤ most_of_netlist) × IsNetlist (format_of format) bytes
 

@@ -1,4 +1,4 @@
-//! The command `improve`: a netlist with no more gates.
+//! The command `improve`: an equivalent netlist with no more gates.
 ghost use Rattle.std.specs.Prelude.{◌≡◌, ◌≤◌, length, IfOk, IfErr};
 ghost use Rattle.net_document.specs.Format.{IsRefusedText};
 ghost use Rattle.improve_windows.specs.Improving.{IsReported};
@@ -16,7 +16,7 @@ use sat_solve::Solver;
 use std::alloc::Global;
 use std::marker::PhantomData;
 
-/// The most bytes that `improve` reads.
+/// The most bytes that `improve` reads: 16 MiB.
 const MOST_BYTES: usize = 16_777_216;
 
 /// A fault of a netlist as a refusal.
@@ -31,7 +31,7 @@ fn refusal_of(error: NetError) -> Refusal
     }
 }
 
-/// A netlist that was improved as a reply.
+/// The reply of an improved netlist.
 pub fn reply_of(improved: ImprovedText) -> Reply
     ensures { reply_value result ≡ improve_reply (record { text = improved.text.items; report = improved.report.items }) }
 {
@@ -42,7 +42,7 @@ pub fn reply_of(improved: ImprovedText) -> Reply
     }
 }
 
-/// A netlist of a format improved.
+/// Improves a netlist of a format.
 #[tactic(auto, using(crate::proofs::Improving::telling))]
 fn improve_text<S: Solver>(
     alloc: Global,
@@ -61,12 +61,12 @@ fn improve_text<S: Solver>(
     }
 }
 
-/// A netlist with no more gates, and a report; windows are searched with the solver `S`.
+/// The command: an equivalent netlist with no more gates, and a report. Windows are searched with the solver `S`.
 #[derive(Drop)]
 pub struct Improve<S> {
     /// The format of the netlist.
     pub format: Format,
-    /// What the windows are tried with.
+    /// The settings of the passes over the netlist.
     pub settings: ImproveSettings,
     /// The solver.
     pub solver: PhantomData<S>,

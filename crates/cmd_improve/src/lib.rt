@@ -1,7 +1,7 @@
-//! The command `improve`: a netlist that does the same with no more gates, and a report on it.
+//! The command `improve`: an equivalent netlist with no more gates, and a report on it.
 //!
-//! `Improve` is the command for `frame_core`: `specs/ImproveReport` has its task, `specs/ImprovePromise` what a run of
-//! it promises, and `specs/ImproveLaws` that a run of the task keeps the promise.
+//! `Improve` is the command for `frame_core`. `specs/ImproveReport` has its task, `specs/ImprovePromise` the
+//! promise of its runs, and `specs/ImproveLaws` the proof that every run of the task keeps the promise.
 #![tactic(auto)]
 
 mod improve;

@@ -1,4 +1,4 @@
--- What the statuses of faults of netlists are.
+-- Lemmas on the statuses of faults of netlists.
 use Rattle.std.specs.Prelude.{◌≡◌}
 use Rattle.std.proofs.Common.{refl, inl, inr}
 use Rattle.net_core.specs.declared.error.NetError.{NetError}
@@ -7,7 +7,7 @@ use Rattle.frame_core.specs.declared.status.Status.TheVariants.{Refused}
 use Rattle.cmd_lines.specs.NetLines.{net_status}
 use Rattle.frame_core.specs.Task.{IsRefusalStatus}
 
--- what isn't want of memory has the status of a refusal
+-- every fault but running out of memory has the status of a refusal
 pub status_kind : (e : NetError) → (e ≡ nets.Memory → ⊥) → IsRefusalStatus (net_status e)
 status_kind (nets.Syntax line) other = inl refl
 status_kind (nets.NotSupported line name) other = inl refl

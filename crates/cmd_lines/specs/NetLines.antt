@@ -1,4 +1,4 @@
--- How faults of netlists are reported.
+-- The statuses and error lines of faults of netlists.
 use Rattle.std.specs.Prelude.{ℕ, List, [], ◌∷◌, codes}
 use Rattle.net_core.specs.declared.error.NetError.{NetError}
 use Rattle.net_core.specs.declared.error.NetError.TheVariants as nets
@@ -6,7 +6,7 @@ use Rattle.frame_core.specs.declared.status.Status.{Status}
 use Rattle.frame_core.specs.declared.status.Status.TheVariants.{Malformed, Limit, Memory}
 use Rattle.frame_core.specs.Told.{Field, Word, Number, at, memory}
 
--- Faults of form are malformed, and what is beyond a limit has the status `Limit`.
+-- Faults of form have the status `Malformed`, and what exceeds a limit has the status `Limit`.
 abbrev pub net_status : NetError → Status
 net_status (nets.Syntax line) = Malformed
 net_status (nets.NotSupported line name) = Malformed
@@ -21,14 +21,14 @@ net_status (nets.TooManyRows line) = Limit
 net_status (nets.NameTooLong line) = Limit
 net_status nets.Memory = Memory
 
--- a variant with a name of the netlist, and one with a line and a name
+-- a variant with a name from the netlist, and one with a line and a name
 abbrev pub of_name : List ℕ → List ℕ → List Field
 of_name variant name = Word variant ∷ Word name ∷ []
 
 abbrev pub at_name : List ℕ → ℕ → List ℕ → List Field
 at_name variant line name = Word variant ∷ Number line ∷ Word name ∷ []
 
--- the name of a fault, and its line, count or name where it has one
+-- the name of a fault, and its line, count or name if it has one
 unfoldable pub named_net : NetError → List Field
 named_net (nets.Syntax line) = at (codes "Syntax") line
 named_net (nets.NotSupported line name) = at_name (codes "NotSupported") line name

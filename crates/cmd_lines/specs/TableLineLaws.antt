@@ -1,4 +1,4 @@
--- What the statuses of tables are.
+-- Lemmas on the statuses of faults of tables.
 use Rattle.std.specs.Prelude.{◌≡◌}
 use Rattle.tt_core.specs.declared.error.SpecError.{SpecError}
 use Rattle.tt_core.specs.declared.error.SpecError.TheVariants as tables

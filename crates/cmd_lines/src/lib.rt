@@ -1,5 +1,5 @@
-//! What several commands share: how faults of tables and of netlists are reported, as statuses and error lines, and
-//! what it is that a command runs on bytes (`specs/Runs`).
+//! Shared by several commands: the statuses and error lines of faults of tables and of netlists, and the
+//! definition of a run of a command on an input (`specs/Runs`).
 #![tactic(auto)]
 
 mod nets;

@@ -1,4 +1,4 @@
-//! Faults of netlists as statuses and error lines, for each command that reads netlists.
+//! The statuses and error lines of faults of netlists.
 ghost use Rattle.std.specs.Prelude.{◌≡◌, ◌++◌, ◌∷◌, []};
 ghost use Rattle.frame_core.specs.Told.{at as at_of};
 ghost use Rattle.frame_core.specs.Views.{shown, line_value};
@@ -22,7 +22,7 @@ pub fn net_status(error: &NetError) -> Status
     }
 }
 
-/// A variant with a number, after the word `lead` where it is one.
+/// A variant with a number, after the word `lead` unless that is `Nothing`.
 #[tactic(auto, unfolding(frame_core::specs::Views::shown))]
 fn counted(lead: Field, variant: &'static [u8], count: u32) -> ErrorLine
     ensures { line_value result ≡ shown (lead ∷ []) ++ at_of variant.now count }
@@ -30,7 +30,7 @@ fn counted(lead: Field, variant: &'static [u8], count: u32) -> ErrorLine
     ErrorLine::led(lead, variant, Field::Count(count), Field::Nothing)
 }
 
-/// A variant with a name of the netlist.
+/// A variant with a name from the netlist.
 #[tactic(auto, unfolding(frame_core::specs::Views::shown))]
 fn of_name(lead: Field, variant: &'static [u8], name: Name) -> ErrorLine
     ensures { line_value result ≡ shown (lead ∷ []) ++ of_name_text variant.now name }
@@ -56,7 +56,7 @@ fn at_name(lead: Field, variant: &'static [u8], line: u32, name: Name) -> ErrorL
     )
 }
 
-/// What the error line of a fault of a netlist names, after the word `lead` where it is one.
+/// The error line of a fault of a netlist, after the word `lead` unless that is `Nothing`.
 #[tactic(auto, unfolding(crate::specs::NetLines::named_net, frame_core::specs::Told::memory, frame_core::specs::Views::shown))]
 pub fn name_net(lead: Field, error: NetError) -> ErrorLine
     ensures { line_value result ≡ shown (lead ∷ []) ++ named_net error }

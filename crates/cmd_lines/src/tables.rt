@@ -1,4 +1,4 @@
-//! Faults of tables as statuses and error lines, for each command that reads tables.
+//! The statuses and error lines of faults of tables.
 ghost use Rattle.std.specs.Prelude.{◌≡◌};
 ghost use Rattle.frame_core.specs.Views.{line_value};
 ghost use Rattle.cmd_lines.specs.TableLines.{spec_status as spec_status_of, named_spec};
@@ -6,7 +6,7 @@ ghost use Rattle.cmd_lines.specs.TableLines.{spec_status as spec_status_of, name
 use frame_core::{ErrorLine, Status};
 use tt_core::SpecError;
 
-/// The most bytes that a command reads of tables.
+/// The most bytes of tables that a command reads: 64 KiB.
 pub const MOST_BYTES_OF_TABLES: usize = 65_536;
 
 /// The status of a fault of tables.
@@ -22,7 +22,7 @@ pub fn spec_status(error: SpecError) -> Status
     }
 }
 
-/// What the error line of tables names.
+/// The error line of a fault of tables.
 #[tactic(auto, unfolding(crate::specs::TableLines::named_spec, frame_core::specs::Told::memory))]
 pub fn name_spec(error: SpecError) -> ErrorLine
     ensures { line_value result ≡ named_spec error }

@@ -1,4 +1,4 @@
--- What is kept of a certificate, with more bytes and at its end.
+-- The state of reading a certificate, after more bytes and at its end.
 use Rattle.std.specs.Prelude.{◌≡◌, ℕ, ◌≤◌, List, [], ◌++◌, length, Option, Some}
 use Rattle.std.proofs.Common.{subst, append-nil}
 use Rattle.text_core.specs.Lines.{Line}
@@ -10,15 +10,15 @@ use Rattle.cmd_recheck.specs.declared.job.Reading.{Reading}
 use Rattle.cmd_recheck.specs.declared.job.Reading.TheVariants.{Refused}
 use Rattle.cmd_recheck.specs.Keeping.{Keeps}
 
--- bytes are refused so, no more of them than are read
+-- bytes, no more than are read, are refused with this
 abbrev pub IsRefusedSo : Task → Refusal → List ℕ → Type 0
 IsRefusedSo task refusal bytes = length bytes ≤ most_of_bundle → Refuses task bytes (refusal_value refusal)
 
--- a fault that was kept is that of all bytes that go on so
+-- a fault that was kept is that of every text that begins so
 still : {S : Type 0} (task : Task) (stands : S → ℕ → List Line → List Line → Type 0) (kept : Reading S) (refusal : Refusal) (bytes : List ℕ) → kept ≡ Refused refusal → Keeps task stands kept bytes → (rest : List ℕ) → IsRefusedSo task refusal (bytes ++ rest)
 still {S} task stands kept refusal bytes same keeps = subst (λ (k : Reading S). Keeps task stands k bytes) same keeps
 
--- it is that of the bytes.
+-- At the end it is the fault of the bytes.
 pub refused_at_last : {S : Type 0} (task : Task) (stands : S → ℕ → List Line → List Line → Type 0) (kept : Reading S) (refusal : Refusal) (bytes : List ℕ) → kept ≡ Refused refusal → Keeps task stands kept bytes → IsRefusedSo task refusal bytes
 refused_at_last {S} task stands kept refusal bytes same keeps = subst (IsRefusedSo task refusal) (append-nil bytes) (still task stands kept refusal bytes same keeps [])
 

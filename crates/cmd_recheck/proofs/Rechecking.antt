@@ -1,4 +1,4 @@
--- What `recheck` answers to bytes.
+-- The result of `recheck` for an input.
 use Rattle.std.specs.Prelude.{◌≡◌, ℕ, ◌≤◌, List, length, None, Result, Ok, Err, Vec, IfOk}
 use Rattle.std.specs.Global.{Global}
 use Rattle.std.proofs.Common.{refl, ap}
@@ -17,7 +17,7 @@ use Rattle.frame_core.specs.Told.{Reply, Refusal}
 use Rattle.frame_core.specs.Task.{Tells, Refuses}
 use Rattle.cmd_verdicts.specs.VerdictLaws.{is_verdict}
 
--- ---- what the judge of bundles answers
+-- ---- the result of judging a certificate
 
 no_verdict : (read : Result Verdict BundleError) (e : BundleError) (w : Verdict) → read ≡ Err e → read ≡ Ok w → ⊥
 no_verdict read e w is other = cc
@@ -34,7 +34,7 @@ told_fault (bundles.NotNew line) read fails other = fails
 told_fault (bundles.WrongVerdict line) read fails other = fails
 told_fault bundles.Memory read fails other = absurd (other refl)
 
--- So an answer is a verdict that the bytes have, or a fault.
+-- The result is a verdict of the bytes, or a fault.
 pub tells : (bytes : List ℕ) (v : Verdict) (reply : Reply) → length bytes ≤ most_of_bundle → bundle_of (lines_of bytes) ≡ Ok v → reply ≡ recheck_reply v → Tells recheck_task bytes reply
 tells bytes v reply within read is = record { answer = v; has = record { within = within; read = read; is_verdict = is_verdict bytes v read }; is = is }
 

@@ -1,4 +1,4 @@
--- What `recheck --depth yes` answers to bytes.
+-- The result of `recheck --depth yes` for an input.
 use Rattle.std.specs.Prelude.{◌≡◌, ℕ, ◌≤◌, List, ◌∷◌, length, codes, None, Result, Ok, Err, Vec, IfOk}
 use Rattle.std.specs.Global.{Global}
 use Rattle.std.proofs.Common.{sym, ◌∙◌, refl, ap}
@@ -44,9 +44,9 @@ named_as_inside e line other is = is ∙ sym (inside_by e other)
 
 pub ruleset inside = (common_steps, named_as_inside)
 
--- ---- what the judge of depth bundles answers
+-- ---- the result of judging a depth certificate
 
--- an error that isn't want of memory is that of the definition
+-- an error that isn't running out of memory is that of the definition
 told_fault : (e : DepthError) (answer : Answer) → (e ≡ depths.Memory → ⊥) → Fails e answer → Err e ≡ answer
 told_fault (depths.Bundle d) answer other fails = sym fails
 told_fault depths.NotLeastForm answer other fails = sym fails
@@ -65,14 +65,14 @@ judged_fault e lines other judged = record {
   behind = λ b valid output same. told_fault e _ other (judged.behind b valid output same);
 }
 
--- what is judged as a fault is no depth bundle
+-- a text that is judged to have a fault isn't a depth certificate
 no_bundle : (bytes : List ℕ) (e : DepthError) (b : DepthBundle) → IsJudged (lines_of bytes) (Err e) → IsDepthText bytes b → ⊥
 no_bundle bytes e b judged is = let bad : Err e ≡ Ok b.verdict = judged_again bytes b (Err e) is judged in cc
 
 one_verdict : (answer : Answer) (v w : DepthVerdict) → answer ≡ Ok v → answer ≡ Ok w → v ≡ w
 one_verdict answer v w is other = cc
 
--- So an answer is a verdict that the bytes have, or a fault.
+-- The result is a verdict of the bytes, or a fault.
 pub tells : (bytes : List ℕ) (v : DepthVerdict) (reply : Reply) → length bytes ≤ most_of_bundle → HasDepth bytes v → ((b : DepthBundle) → IsDepthText bytes b → Gives (λ (x : DepthVerdict). x) (Ok v) (Ok b.verdict))
     → ((b : DepthBundle) (is : IsDepthText bytes b) → Means (specification b.bundle.heading.spec) (members b.bundle.heading.basis) (length is.is_depth.chain.steps) v) → reply ≡ depth_reply v → Tells depth_task bytes reply
 tells bytes v reply within has accepted means is = record {

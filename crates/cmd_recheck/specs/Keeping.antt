@@ -1,4 +1,4 @@
--- What `recheck` keeps of the bytes that it has read, for certificates of either kind.
+-- The state of `recheck` after the bytes read so far, for both kinds of certificates.
 use Rattle.std.specs.Prelude.{ℕ, ◌≤◌, List, ◌++◌, length}
 use Rattle.text_core.specs.Lines.{Line}
 use Rattle.line_reader.specs.Reader.{IsReader, StandsFor}
@@ -9,12 +9,12 @@ use Rattle.cmd_verdicts.specs.Verdicts.{most_of_bundle}
 use Rattle.cmd_recheck.specs.declared.job.Reading.{Reading}
 use Rattle.cmd_recheck.specs.declared.job.Reading.TheVariants.{Good, Refused}
 
--- a reader that stands for them, or why a line is at fault: whatever comes after it, the whole is refused so
+-- the reader represents the bytes, or a line has a fault: whatever follows, the text is refused with it
 abbrev pub Keeps : {S : Type 0} → Task → (S → ℕ → List Line → List Line → Type 0) → Reading S → List ℕ → Type 0
 Keeps task stands (Good reader) bytes = StandsFor stands (seen reader) bytes
 Keeps task stands (Refused refusal) bytes = (rest : List ℕ) → length (bytes ++ rest) ≤ most_of_bundle → Refuses task (bytes ++ rest) (refusal_value refusal)
 
--- a reader is one
+-- the invariant of the reader holds
 abbrev pub IsWhole : {S : Type 0} → (S → ℕ → Type 0) → (S → ℕ) → Reading S → Type 0
 IsWhole whole held (Good reader) = IsReader whole held (seen reader)
 IsWhole whole held (Refused refusal) = Unit {0}

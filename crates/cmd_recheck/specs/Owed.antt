@@ -1,4 +1,4 @@
--- `recheck` owes an answer to each valid certificate, of either kind.
+-- `recheck` has to answer every valid certificate, of both kinds.
 use Rattle.std.specs.Prelude.{◌≡◌, ℕ, ◌≤◌, List, length}
 use Rattle.cert_theory.specs.Bundle.{Bundle}
 use Rattle.cert_theory.specs.Spelling.{IsBundle}
@@ -13,13 +13,13 @@ use Rattle.cmd_verdicts.specs.Verdicts.{most_of_bundle}
 use Rattle.cmd_recheck.specs.RecheckPromise.{RecheckPromise}
 use Rattle.cmd_recheck.specs.RecheckDepthPromise.{RecheckDepthPromise}
 
--- The bytes, no more of them than are read, are the text of a valid certificate of the fewest steps.
+-- The bytes, no more than are read, are the text of a valid certificate of the fewest steps.
 pub record IsValid (bytes : List ℕ) : Type 0 where
   pub within : length bytes ≤ most_of_bundle
   pub bundle : Bundle
   pub is_bundle : IsBundle bytes bundle
 
--- They are that of one of the fewest levels.
+-- The bytes, no more than are read, are the text of a valid certificate of the fewest levels.
 pub record IsValidDepth (bytes : List ℕ) : Type 0 where
   pub within : length bytes ≤ most_of_bundle
   pub bundle : DepthBundle

@@ -1,4 +1,4 @@
--- What a certificate of the fewest levels asks, and what its verdict answers.
+-- The tables and basis of a certificate of the fewest levels, and what its verdict says about them.
 use Rattle.std.proofs.Common.{◌≡◌, ℕ, List, [], ◌∷◌, ◌++◌, ap, ◌∙◌, subst, append_assoc}
 use Rattle.std.specs.List.{flat_map}
 use Rattle.text_core.specs.Lines.{Line, lines_of}
@@ -15,7 +15,7 @@ use Rattle.depth_theory.specs.DepthSpelling.{depth_line, levels_of, flat_lines, 
 use Rattle.depth_theory.specs.DepthAgain.{depth_lines_again}
 use Rattle.depth_theory.specs.DepthMeaning.{Means}
 
--- it asks for its tables and its basis
+-- the certificate spells its tables and its basis
 pub depth_asks : (bytes : List ℕ) (b : DepthBundle) → IsDepthText bytes b → HasQuestion bytes b.bundle.heading.spec b.bundle.heading.basis
 depth_asks bytes b is =
     let h = b.bundle.heading in
@@ -39,7 +39,7 @@ means_as : (w u : Words) (a b steps : ℕ) (v : DepthVerdict) → w ≡ u → a 
 means_as w u a b steps v same_words same_basis means =
     subst (λ (n : ℕ). Means (specification u) (members n) steps v) same_basis (subst (λ (x : Words). Means (specification x) (members a) steps v) same_words means)
 
--- What its verdict says is true of the tables and the basis that the lines spell.
+-- What its verdict says is true for the tables and the basis that the lines spell.
 pub levels_answer : (bytes : List ℕ) (b : DepthBundle) (v : DepthVerdict) (steps : ℕ) (w : Words) (basis : ℕ) → IsDepthText bytes b → Means (specification b.bundle.heading.spec) (members b.bundle.heading.basis) steps v → HasQuestion bytes w basis → Means (specification w) (members basis) steps v
 levels_answer bytes b v steps w basis is means asked =
     let same = one_question bytes b.bundle.heading.spec w b.bundle.heading.basis basis (depth_asks bytes b is) asked in

@@ -1,4 +1,4 @@
--- `recheck --depth yes` is a task, and a run of it keeps what it promises.
+-- The task of `recheck --depth yes` is well formed, and its runs keep the promise.
 use Rattle.std.specs.Prelude.{◌≡◌, ℕ, ◌⊎◌, List, length, Err}
 use Rattle.std.proofs.Common.{◌∙◌, ap, refl, inl, inr}
 use Rattle.std.proofs.Math.Logic.{⊎_elim}
@@ -68,9 +68,9 @@ depth_is_task =
     (λ bytes verdict gives. gives.within)
     (λ bytes error fault. fault.within)
 
--- ---- what it promises besides
+-- ---- its promise
 
--- What has a verdict spells its question, which the verdict answers.
+-- A text with a verdict spells tables and a basis, and the verdict is true for them.
 tells_levels : (r : Run) (input : List ℕ) (verdict : DepthVerdict) → GivesLevels input verdict → Stands r (depth_reply verdict) → TellsLevels r input
 tells_levels r input verdict gives stands =
     let b : DepthBundle = gives.has.bundle in
@@ -96,6 +96,6 @@ is_rechecking = record {
   tells = tells_levels;
 }
 
--- All that `recheck --depth yes` promises besides.
+-- The promise of `recheck --depth yes`.
 pub depth_promised : (r : Run) → (AsksFor r.words RecheckDepth → CommandPromise depth_task r) → RecheckDepthPromise r
 depth_promised = rechecks RecheckDepth depth_task IsDepthText (λ (b : DepthBundle). b.verdict) TellsLevels is_rechecking

@@ -1,4 +1,4 @@
--- What `recheck --depth yes` promises besides, in its own words.
+-- The promise of `recheck --depth yes`, besides that of every command.
 use Rattle.std.specs.Prelude.{◌≡◌, ℕ, List}
 use Rattle.command_line.specs.declared.command.Command.TheVariants.{RecheckDepth}
 use Rattle.tt_core.specs.Words.{Words, specification}
@@ -16,10 +16,10 @@ use Rattle.cmd_verdicts.specs.Verdicts.{GivesLevels}
 use Rattle.frame_core.specs.Run.{Run}
 use Rattle.frame_core.specs.Promise.{Stands}
 
--- The verdict that the bytes have stands on the output. After their first line they spell tables and a basis. For
--- whatever tables and basis they spell there, `steps` steps are the fewest, some chain of `steps` steps has the levels
--- of the verdict, and none has fewer levels, or fewer than the lower number where the verdict has two; in the bytes the
--- log of a fence of the lower number of levels is spent then.
+-- The verdict of the bytes was written to the output. After their first line the bytes spell tables and a basis.
+-- For whatever tables and basis they spell there: `steps` is the least number of steps; some chain of `steps`
+-- steps has the levels of the verdict; and none has fewer levels, or fewer than the lower number if the verdict
+-- has two. In that case the bytes have a log of a fence with the lower number of levels that reaches the budget.
 pub record TellsLevels (r : Run) (input : List ℕ) : Type 0 where
   pub verdict : DepthVerdict
   pub has : GivesLevels input verdict
@@ -33,6 +33,6 @@ pub record TellsLevels (r : Run) (input : List ℕ) : Type 0 where
       → verdict ≡ Bounded low d
       → IsLeftOpen input has.has.bundle.bundle.heading steps low
 
--- What is promised of certificates of the fewest levels.
+-- The promise for certificates of the fewest levels.
 abbrev pub RecheckDepthPromise : Run → Type 0
 RecheckDepthPromise r = Rechecks RecheckDepth depth_task IsDepthText (λ (b : DepthBundle). b.verdict) TellsLevels r

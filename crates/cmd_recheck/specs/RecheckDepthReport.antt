@@ -1,4 +1,4 @@
--- What `recheck --depth yes` reports: its reply to a verdict, its refusal of a fault, and its task.
+-- The task of `recheck --depth yes`: the reply for each verdict, and the refusal for each fault.
 use Rattle.std.specs.Prelude.{ℕ, ◌≤◌, List, ◌∷◌, ◌++◌, length, None, codes, Err}
 use Rattle.text_core.specs.Lines.{lines_of}
 use Rattle.cert_theory.specs.declared.data.BundleError.{BundleError}
@@ -16,11 +16,12 @@ use Rattle.frame_core.specs.Task.{Task, at_once}
 use Rattle.cmd_verdicts.specs.Verdicts.{most_of_bundle, GivesLevels}
 use Rattle.cmd_recheck.specs.RecheckReport.{bundle_status, named_step, named_bundle}
 
--- what goes out: the line of the levels
+-- the output: the line of the levels
 unfoldable pub levels_text : DepthVerdict → List ℕ
 levels_text verdict = levels_line verdict ++ codes "\n"
 
--- What isn't of the form of a depth bundle is malformed, and what is and isn't valid is refused.
+-- A text that isn't of the form of a depth certificate is `Malformed`; one of that form that isn't valid is
+-- `Refused`.
 abbrev pub depth_status : DepthError → Status
 depth_status (depths.Bundle e) = bundle_status e
 depth_status depths.NotLeastForm = Refused
@@ -33,7 +34,7 @@ depth_status (depths.OpenTooShort line) = Refused
 depth_status (depths.WrongLevels line) = Refused
 depth_status depths.Memory = Memory
 
--- A fault of the bundle comes after the word `Bundle`; want of memory comes alone.
+-- A fault in the certificate of the fewest steps has the word "Bundle" before it; running out of memory hasn't.
 -- Example: Bundle StepRefused 13 NotUnit 22.
 abbrev pub named_inside : BundleError → List Field
 named_inside bundles.Memory = memory
@@ -58,7 +59,7 @@ depth_reply verdict = record { text = levels_text verdict; report = None; status
 abbrev pub depth_refusal : DepthError → Refusal
 depth_refusal error = record { status = depth_status error; named = named_depth error }
 
--- The bytes aren't the spelling of a depth bundle, and this is their first fault.
+-- The bytes aren't the spelling of a valid depth certificate, and this is their first fault.
 pub record HasDepthFault (bytes : List ℕ) (error : DepthError) : Type 0 where
   pub within : length bytes ≤ most_of_bundle
   pub none : (b : DepthBundle) → IsDepthText bytes b → ⊥

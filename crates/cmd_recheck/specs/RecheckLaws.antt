@@ -1,4 +1,4 @@
--- `recheck` is a task, and a run of it keeps what it promises.
+-- The task of `recheck` is well formed, and its runs keep the promise.
 use Rattle.std.specs.Prelude.{◌≡◌, ℕ, ◌⊎◌, List, Result, Ok, Err}
 use Rattle.std.proofs.Common.{◌∙◌, ap, refl, inl, inr}
 use Rattle.std.proofs.Math.Logic.{⊎_elim}
@@ -25,7 +25,7 @@ use Rattle.frame_core.specs.TaskLaws.{at_once_task}
 
 -- ---- `recheck` is a command
 
--- what isn't want of memory is malformed or refused
+-- every fault but running out of memory is `Malformed` or `Refused`
 pub status_kind : (e : BundleError) → ((bundle_status e ≡ Malformed) ⊎ (bundle_status e ≡ Refused)) ⊎ (e ≡ bundles.Memory)
 status_kind (bundles.Syntax line) = inl (inl refl)
 status_kind (bundles.SizeOutOfOrder line) = inl (inr refl)
@@ -65,9 +65,9 @@ recheck_is_task =
     (λ bytes verdict gives. gives.within)
     (λ bytes error fault. fault.within)
 
--- ---- what it promises besides
+-- ---- its promise
 
--- What has a verdict spells its question, which the verdict answers.
+-- A text with a verdict spells tables and a basis, and the verdict is true for them.
 tells_verdict : (r : Run) (input : List ℕ) (verdict : Verdict) → GivesVerdict input verdict → Stands r (recheck_reply verdict) → TellsVerdict r input
 tells_verdict r input verdict gives stands =
     let b : Bundle = gives.is_verdict.has.bundle in
@@ -90,6 +90,6 @@ is_rechecking = record {
   tells = tells_verdict;
 }
 
--- All that `recheck` promises besides.
+-- The promise of `recheck`.
 pub recheck_promised : (r : Run) → (AsksFor r.words Recheck → CommandPromise recheck_task r) → RecheckPromise r
 recheck_promised = rechecks Recheck recheck_task IsBundle (λ (b : Bundle). b.verdict) TellsVerdict is_rechecking

@@ -1,4 +1,4 @@
--- What `recheck` promises besides, in its own words.
+-- The promise of `recheck`, besides that of every command.
 use Rattle.std.specs.Prelude.{ℕ, List}
 use Rattle.command_line.specs.declared.command.Command.TheVariants.{Recheck}
 use Rattle.tt_core.specs.Words.{Words, specification}
@@ -14,8 +14,8 @@ use Rattle.cmd_recheck.specs.Rechecks.{Rechecks}
 use Rattle.frame_core.specs.Run.{Run}
 use Rattle.frame_core.specs.Promise.{Stands}
 
--- The verdict that the bytes have stands on the output. After their first line they spell tables and a
--- basis, and what it says of all chains is true of whatever tables and basis they spell there.
+-- The verdict of the bytes was written to the output. After their first line the bytes spell tables and a basis,
+-- and what the verdict says about all chains is true for whatever tables and basis they spell there.
 pub record TellsVerdict (r : Run) (input : List ℕ) : Type 0 where
   pub verdict : Verdict
   pub has : GivesVerdict input verdict
@@ -25,6 +25,6 @@ pub record TellsVerdict (r : Run) (input : List ℕ) : Type 0 where
       → HasQuestion input tables basis
       → Means (specification tables) (members basis) verdict
 
--- What is promised of certificates of the fewest steps.
+-- The promise for certificates of the fewest steps.
 abbrev pub RecheckPromise : Run → Type 0
 RecheckPromise r = Rechecks Recheck recheck_task IsBundle (λ (b : Bundle). b.verdict) TellsVerdict r

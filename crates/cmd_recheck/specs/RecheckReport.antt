@@ -1,4 +1,4 @@
--- What `recheck` reports: its reply to a verdict, its refusal of a fault, and its task.
+-- The task of `recheck`: the reply for each verdict, and the refusal for each fault.
 use Rattle.std.specs.Prelude.{◌≡◌, ℕ, ◌≤◌, List, [], ◌∷◌, ◌++◌, length, None, codes, Err}
 use Rattle.text_core.specs.Lines.{lines_of}
 use Rattle.lrat_check.specs.declared.error.CheckError.{CheckError}
@@ -15,11 +15,11 @@ use Rattle.frame_core.specs.Told.{Reply, Field, Word, Number, Refusal, at, memor
 use Rattle.frame_core.specs.Task.{Task, at_once}
 use Rattle.cmd_verdicts.specs.Verdicts.{most_of_bundle, GivesVerdict}
 
--- what goes out: the verdict line
+-- the output: the verdict line
 unfoldable pub verdict_text : Verdict → List ℕ
 verdict_text verdict = verdict_line verdict ++ codes "\n"
 
--- What isn't of the form of a bundle is malformed, and what is and isn't valid is refused.
+-- A text that isn't of the form of a certificate is `Malformed`; one of that form that isn't valid is `Refused`.
 abbrev pub bundle_status : BundleError → Status
 bundle_status (bundles.Syntax line) = Malformed
 bundle_status (bundles.SizeOutOfOrder line) = Refused
@@ -32,7 +32,7 @@ bundle_status (bundles.NotNew line) = Refused
 bundle_status (bundles.WrongVerdict line) = Refused
 bundle_status bundles.Memory = Memory
 
--- a refused step: its line, the name of its fault, and what the fault speaks of
+-- a refused log line: its number, the name of its fault, and the id or variable of the fault
 abbrev pub refused_step : ℕ → List ℕ → List Field → List Field
 refused_step line word of = Word (codes "StepRefused") ∷ Number line ∷ Word word ∷ of
 
@@ -68,7 +68,7 @@ recheck_reply verdict = record { text = verdict_text verdict; report = None; sta
 abbrev pub recheck_refusal : BundleError → Refusal
 recheck_refusal error = record { status = bundle_status error; named = named_bundle error }
 
--- The bytes aren't the spelling of a valid bundle, and this is their first fault.
+-- The bytes aren't the spelling of a valid certificate, and this is their first fault.
 pub record HasBundleFault (bytes : List ℕ) (error : BundleError) : Type 0 where
   pub within : length bytes ≤ most_of_bundle
   pub none : (b : Bundle) → IsBundle bytes b → ⊥

@@ -1,4 +1,4 @@
--- What `recheck` promises besides, in its own words, of certificates of either kind.
+-- The promise of `recheck` for both kinds of certificates.
 use Rattle.std.specs.Prelude.{◌≡◌, ℕ, ◌<◌, ◌≤◌, List, length}
 use Rattle.command_line.specs.declared.command.Command.{Command}
 use Rattle.command_line.specs.CommandLine.{AsksFor}
@@ -9,40 +9,40 @@ use Rattle.frame_core.specs.Promise.{InputHeld, OutputHeld, Stands, TellsError, 
 use Rattle.cmd_lines.specs.Runs.{Runs}
 use Rattle.cmd_verdicts.specs.Verdicts.{most_of_bundle}
 
--- `command` runs `task`. `Spells` says which bytes are the text of a valid certificate, `verdict` what verdict it has, and
--- `Tells` what a run has told of bytes with a verdict.
+-- `command` has the task `task`. `Spells` says which bytes are the text of a valid certificate, `verdict` is its
+-- verdict, and the predicate on runs says what the reported verdict means.
 pub record Rechecks {Certificate : Type 0} (command : Command) (task : Task) (Spells : List ℕ → Certificate → Type 0) (verdict : Certificate → task.Answer) (Tells : Run → List ℕ → Type 0) (r : Run) : Type 0 where
-  -- A valid certificate gets an answer,
+  -- A valid certificate gets an answer.
   pub complete : (input : List ℕ) (b : Certificate)
       → Runs command r input
       → length input ≤ most_of_bundle
       → Spells input b
       → OutputHeld r
       → Replies task r input
-  -- which is the line of its verdict, and the status is 0.
+  -- The answer is the line of its verdict, with the status 0.
   pub accepted : (input : List ℕ) (b : Certificate)
       → Runs command r input
       → length input ≤ most_of_bundle
       → Spells input b
       → OutputHeld r
       → Stands r (task.reply (verdict b))
-  -- Such a line comes for no other bytes, and what it says is true.
+  -- No other input gets such a line, and what it says is true.
   pub accepted_only : (input : List ℕ)
       → Runs command r input
       → r.status ≡ Done
       → Replies task r input
-  -- It is true of the tables and the basis that the bytes spell, each in lines of its own.
+  -- It is true for the tables and the basis that the bytes spell.
   pub answers : (input : List ℕ)
       → Runs command r input
       → r.status ≡ Done
       → Tells r input
-  -- For other bytes their first fault is reported.
+  -- For any other input its first fault is reported.
   pub refused : (input : List ℕ) (fault : task.Fault)
       → Runs command r input
       → task.Meets input fault
       → InputHeld r
       → TellsError r (task.refusal fault)
-  -- The statuses 8 and 3 come for faults and for the length alone, and 4 never.
+  -- The status 8 occurs only for faults, 3 only for an input that is too long, and 4 never.
   pub refused_only : (input : List ℕ)
       → Runs command r input
       → r.status ≡ Refused

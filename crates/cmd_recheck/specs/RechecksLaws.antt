@@ -1,4 +1,4 @@
--- A run of a task keeps what `recheck` promises of certificates of a kind.
+-- The runs of a task keep the promise of `recheck` for a kind of certificates.
 use Rattle.std.specs.Prelude.{◌≡◌, ℕ, ◌⊎◌, ◌<◌, ◌≤◌, List, length, Option, Some}
 use Rattle.std.proofs.Common.{arith, sym, ap, ◌∙◌, subst, inl, inr}
 use Rattle.command_line.specs.declared.command.Command.{Command}
@@ -14,24 +14,25 @@ use Rattle.cmd_lines.specs.Runs.{Runs}
 use Rattle.cmd_verdicts.specs.Verdicts.{most_of_bundle}
 use Rattle.cmd_recheck.specs.Rechecks.{Rechecks}
 
--- Bytes with a fault are malformed, or refused; or memory ran out.
+-- The refusal of a fault has the status `Malformed` or `Refused`, or memory ran out.
 abbrev pub IsFaultRefusal : Refusal → Type 0
 IsFaultRefusal refusal = ((refusal.status ≡ Malformed) ⊎ (refusal.status ≡ Refused)) ⊎ (refusal ≡ memory_refusal)
 
--- Such a refusal is one of a task,
+-- Such a refusal is allowed in a task.
 pub fault_status : (refusal : Refusal) → IsFaultRefusal refusal → IsRefusalStatus refusal.status ⊎ (refusal ≡ memory_refusal)
 fault_status refusal (inl (inl malformed)) = inl (inl malformed)
 fault_status refusal (inl (inr refused)) = inl (inr (inr refused))
 fault_status refusal (inr memory) = inr memory
 
--- and none of a limit.
+-- Its status is never `Limit`.
 never_limit : (refusal : Refusal) → IsFaultRefusal refusal → refusal.status ≡ Limit → ⊥
 never_limit refusal (inl (inl malformed)) is = let bad : Malformed ≡ Limit = sym malformed ∙ is in cc
 never_limit refusal (inl (inr refused)) is = let bad : Refused ≡ Limit = sym refused ∙ is in cc
 never_limit refusal (inr memory) is = let bad : Memory ≡ Limit = sym (ap (λ (r : Refusal). r.status) memory) ∙ is in cc
 
--- What that takes of the task: how much it reads, that a verdict has the status 0 and no report, and how faults are
--- refused; that a certificate's text has no fault, and no verdict but its own; and that a verdict that stands is told so.
+-- What the task has to fulfil: how much it reads; a verdict has the status 0 and no report; how faults are
+-- refused; the text of a certificate has no fault, and no verdict but its own; and a verdict that was written is
+-- true.
 pub record IsRechecking {Certificate : Type 0} (task : Task) (Spells : List ℕ → Certificate → Type 0) (verdict : Certificate → task.Answer) (Tells : Run → List ℕ → Type 0) : Type 0 where
   pub reads : task.reads ≡ Some most_of_bundle
   pub done : (answer : task.Answer) → (task.reply answer).status ≡ Done
@@ -41,18 +42,18 @@ pub record IsRechecking {Certificate : Type 0} (task : Task) (Spells : List ℕ 
   pub only : (input : List ℕ) (b : Certificate) (answer : task.Answer) → Spells input b → task.Has input answer → verdict b ≡ answer
   pub tells : (r : Run) (input : List ℕ) (answer : task.Answer) → task.Has input answer → Stands r (task.reply answer) → Tells r input
 
--- beyond what is read
+-- longer than what is read
 beyond : (reads : Option ℕ) (input : List ℕ) → reads ≡ Some most_of_bundle → IsBeyond reads input → most_of_bundle < length input
 beyond reads input is long = subst (λ (most : Option ℕ). IsBeyond most input) is long
 
--- no more than that, without a fault
+-- no longer, and without a fault
 answerable : (task : Task) (input : List ℕ) → task.reads ≡ Some most_of_bundle → length input ≤ most_of_bundle → ((fault : task.Fault) → task.Meets input fault → ⊥) → IsAnswerable task input
 answerable task input reads within sound = record {
   within = λ long. let far : most_of_bundle < length input = beyond task.reads input reads long in omega (arith, far, within);
   sound = sound;
 }
 
--- Then a run of the task keeps the promise.
+-- Then the runs of the task keep the promise.
 pub rechecks : {Certificate : Type 0} (command : Command) (task : Task) (Spells : List ℕ → Certificate → Type 0) (verdict : Certificate → task.Answer) (Tells : Run → List ℕ → Type 0) → IsRechecking task Spells verdict Tells
     → (r : Run) → (AsksFor r.words command → CommandPromise task r) → Rechecks command task Spells verdict Tells r
 rechecks {Certificate} command task Spells verdict Tells is r keeps =

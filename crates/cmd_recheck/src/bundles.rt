@@ -1,4 +1,4 @@
-//! Faults of certificates as statuses and error lines, for both kinds of certificates.
+//! The statuses and error lines of faults of certificates, for both kinds of certificates.
 ghost use Rattle.std.specs.Prelude.{◌≡◌, ◌++◌, ◌∷◌, []};
 ghost use Rattle.frame_core.specs.Told.{at as at_of};
 ghost use Rattle.frame_core.specs.Views.{shown, line_value};
@@ -26,7 +26,7 @@ pub(crate) fn bundle_status(error: BundleError) -> Status
     }
 }
 
-/// A refused step: its line, the name of its fault, and the identifier or variable that the fault names.
+/// A refused log line: its number, the name of its fault, and the id or variable of the fault.
 #[tactic(auto, unfolding(frame_core::specs::Views::shown))]
 fn step(lead: Field, line: u32, word: &'static [u8], of: Field) -> ErrorLine
     ensures { line_value result ≡ shown (lead ∷ []) ++ refused_step line word.now (shown (of ∷ [])) }
@@ -40,7 +40,7 @@ fn step(lead: Field, line: u32, word: &'static [u8], of: Field) -> ErrorLine
     )
 }
 
-/// What the error line of a refused step names, after the word `lead` where it is one.
+/// The error line of a refused log line, after the word `lead` unless that is `Nothing`.
 #[tactic(auto, unfolding(crate::specs::RecheckReport::named_step, frame_core::specs::Views::shown))]
 pub(crate) fn name_step(lead: Field, line: u32, error: CheckError) -> ErrorLine
     ensures { line_value result ≡ shown (lead ∷ []) ++ named_step line error }
@@ -77,7 +77,7 @@ fn at(lead: Field, name: &'static [u8], number: u32) -> ErrorLine
     ErrorLine::led(lead, name, Field::Count(number), Field::Nothing)
 }
 
-/// What a fault's error line names, after the word `lead` where it is one.
+/// The error line of a fault, after the word `lead` unless that is `Nothing`.
 #[tactic(auto, unfolding(crate::specs::RecheckReport::named_bundle, frame_core::specs::Told::memory, frame_core::specs::Views::shown))]
 pub(crate) fn name_bundle(lead: Field, error: BundleError) -> ErrorLine
     ensures { line_value result ≡ shown (lead ∷ []) ++ named_bundle error }

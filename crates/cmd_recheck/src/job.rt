@@ -1,4 +1,5 @@
-//! The job of `recheck`, for certificates of either kind: they are read piece by piece, and told of at their end.
+//! The job of `recheck`, for both kinds of certificates: they are read piece by piece, and the verdict is
+//! reported at the end.
 ghost use Rattle.std.specs.Prelude.{◌≡◌, ℕ, ◌+◌, ◌^◌, ◌<◌, ◌≤◌, List, ◌++◌, Some, None, Ok, Err, IfOk, length};
 ghost use Rattle.line_reader.specs.Reader.{IsReader, StandsFor};
 ghost use Rattle.line_reader.specs.Seen.{seen};
@@ -13,30 +14,30 @@ use line_reader::{LineStage, PieceReader};
 use port_io::Sink;
 use std::alloc::{AllocError, Global};
 
-/// The most bytes that `recheck` reads.
+/// The most bytes that `recheck` reads: 256 MiB.
 const MOST_BYTES: usize = 268_435_456;
 
-/// What is kept of a certificate whose lines an `S` takes.
+/// The state of reading a certificate whose lines the stage `S` takes.
 #[derive(Drop)]
 pub enum Reading<S> {
-    /// What was read of it.
+    /// The reader of the lines so far.
     Good(PieceReader<S>),
-    /// Why it has no verdict: a line is at fault. What comes after it is read, and dropped.
+    /// Why it has no verdict: a line has a fault. The rest of the input is read and ignored.
     Refused(Refusal),
 }
 
-/// A kind of certificates: what takes their lines, and what is told of them.
+/// A kind of certificates: the stage that takes their lines, and the texts that report their verdicts.
 pub trait Kind {
-    /// What takes their lines.
+    /// The stage that takes their lines.
     type Lines: LineStage;
 
-    /// What `recheck` is for the kind.
+    /// The task of `recheck` for this kind.
     ghost task: { Self → Task };
 
-    /// How many bytes are read at most.
+    /// The most bytes that are read.
     ghost reads: { (kind : Self) → (task kind).reads ≡ Some most_of_bundle };
 
-    /// The text that goes out for what a certificate comes to.
+    /// The output for the result of a certificate.
     fn text_of(
         &self,
         alloc: Global,
@@ -45,13 +46,13 @@ pub trait Kind {
         ensures { (bytes : List ℕ) → length bytes ≤ most_of_bundle → Self.Lines.gives (Ok end) bytes →
             IfOk result (λ text. Tells (task self.now) bytes (record { text = text.items; report = None; status = Done })) };
 
-    /// Why a text with this fault has no verdict.
+    /// The refusal of a text with this fault.
     fn stop(&self, fault: <Self::Lines as LineStage>::Fault) -> Stop
         ensures { (bytes : List ℕ) → length bytes ≤ most_of_bundle → Self.Lines.gives (Err fault) bytes →
             Judges (task self.now) bytes (Err result) };
 }
 
-/// Reads the next piece. A refusal is that of every text that goes on so.
+/// Reads the next piece. A refusal holds for every text that begins with what was read.
 fn read_on<K: Kind>(
     kind: &K,
     reader: PieceReader<K::Lines>,
@@ -73,7 +74,7 @@ fn read_on<K: Kind>(
     }
 }
 
-/// The reply to what a certificate comes to.
+/// The reply for the result of a certificate.
 fn reply_to<K: Kind>(
     alloc: Global,
     kind: &K,
@@ -91,7 +92,7 @@ fn reply_to<K: Kind>(
     }
 }
 
-/// The reply to what was kept of a certificate that was read to its end.
+/// The reply at the end of a certificate.
 fn tell<K: Kind>(alloc: Global, kind: &K, kept: Reading<K::Lines>) -> Result<Reply, Stop>
     requires { IsWhole K.Lines.whole K.Lines.held kept }
     ensures { (bytes : List ℕ) → Keeps (K.task kind.now) K.Lines.stands kept bytes → length bytes ≤ most_of_bundle →
@@ -106,7 +107,7 @@ fn tell<K: Kind>(alloc: Global, kind: &K, kept: Reading<K::Lines>) -> Result<Rep
     }
 }
 
-/// The verdict of a certificate of a kind, by its lines alone.
+/// The command: the verdict of a certificate of a kind, from the text alone.
 #[derive(Drop)]
 pub struct Recheck<K>(pub K);
 

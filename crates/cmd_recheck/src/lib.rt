@@ -1,10 +1,11 @@
-//! The command `recheck`: the verdict of a certificate, by its lines alone.
+//! The command `recheck`: the verdict of a certificate, from its text alone.
 //!
-//! `Recheck` is the command for `frame_core`, in pieces: `Recheck(Steps)` that for certificates of the fewest steps,
-//! `Recheck(Levels)` that for certificates of the fewest levels. A `Kind` of certificates says what takes their lines and
-//! what is told of them. `specs/RecheckReport` and `specs/RecheckDepthReport` have the two tasks, `specs/Rechecks` what
-//! a run of such a task promises, `specs/RecheckPromise` and `specs/RecheckDepthPromise` what each tells, and
-//! `specs/RecheckLaws` and `specs/RecheckDepthLaws` that a run of the task keeps the promise.
+//! `Recheck` is the command for `frame_core`, which takes its input in pieces: `Recheck(Steps)` for certificates
+//! of the fewest steps, `Recheck(Levels)` for certificates of the fewest levels. The trait `Kind` has what
+//! differs between them. `specs/RecheckReport` and `specs/RecheckDepthReport` have the two tasks,
+//! `specs/Rechecks` the promise that both share, `specs/RecheckPromise` and `specs/RecheckDepthPromise` what
+//! each reports, and `specs/RecheckLaws` and `specs/RecheckDepthLaws` the proofs that every run keeps its
+//! promise.
 #![tactic(auto)]
 
 mod bundles;

@@ -29,7 +29,7 @@ fn depth_status(error: DepthError) -> Status
     }
 }
 
-/// What the error line of a fault of the bundle names.
+/// The error line of a fault in the certificate of the fewest steps.
 #[tactic(auto, unfolding(frame_core::specs::Told::memory, frame_core::specs::Views::shown), using(crate::proofs::RecheckingDepth::inside))]
 fn name_inside(error: BundleError) -> ErrorLine
     ensures { line_value result ≡ named_inside error }
@@ -40,7 +40,7 @@ fn name_inside(error: BundleError) -> ErrorLine
     }
 }
 
-/// What a fault's error line names.
+/// The error line of a fault.
 #[tactic(auto, unfolding(crate::specs::RecheckDepthReport::named_depth, frame_core::specs::Told::memory, frame_core::specs::Views::shown))]
 fn name_depth(error: DepthError) -> ErrorLine
     ensures { line_value result ≡ named_depth error }

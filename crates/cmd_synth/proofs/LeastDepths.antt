@@ -1,4 +1,4 @@
--- What `synth --least-depth yes` answers to bytes.
+-- The result of `synth --least-depth yes` for an input.
 use Rattle.std.specs.Prelude.{◌≡◌, ℕ, ◌≤◌, List, length, Ok}
 use Rattle.std.proofs.Common.{sym, subst, refl}
 use Rattle.std.proofs.lemmas.Grind.{common_steps}
@@ -38,7 +38,7 @@ found_means : (asked : SynthSettings) (bytes text : List ℕ) (f : Found) → Is
 found_means asked bytes text (Least v) c w are = least_means asked bytes text v c w are
 found_means asked bytes text (Other v) c w are = its_meaning asked bytes text v c.certificate w are.are are.spelled
 
--- Who judges the text again has the same verdict ..
+-- Judging the text gives the same verdict.
 found_judged : (asked : SynthSettings) (bytes text : List ℕ) (f : Found) → IsCertificate bytes asked text f → IsJudgedSo text f
 found_judged asked bytes text (Least v) c = subst (λ (x : DepthVerdict). IsJudged (lines_of text) (Ok x)) c.verdict_is (text_judged text c.bundle c.is_text)
 found_judged asked bytes text (Other v) c = its_verdict asked bytes text v c.certificate
@@ -57,12 +57,12 @@ levels_given asked bytes text v c within =
       means = λ b is. subst (λ (x : DepthVerdict). depths.Means (specification b.bundle.heading.spec) (members b.bundle.heading.basis) (length is.is_depth.chain.steps) x) (only b is) (depth_means b is.is_depth);
     }
 
--- .. and so has `recheck`
+-- `recheck` reports the same verdict.
 found_accepted : (asked : SynthSettings) (bytes text : List ℕ) (f : Found) → IsCertificate bytes asked text f → length text ≤ most_of_bundle → IsAcceptedSo text f
 found_accepted asked bytes text (Least v) c within = levels_given asked bytes text v c within
 found_accepted asked bytes text (Other v) c within = its_recheck asked bytes text v c.certificate within
 
--- ---- what the search answers
+-- ---- the result of the search
 
 pub tells : (asked : SynthSettings) (bytes text : List ℕ) (found : Found) (reply : Reply) → length bytes ≤ most_of_tables → IsCertificate bytes asked text found → reply ≡ least_depth_reply (record { text = text; found = found }) → Tells (least_depth_task asked) bytes reply
 tells asked bytes text found reply within certificate is = record {

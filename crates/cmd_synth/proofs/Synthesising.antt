@@ -1,4 +1,4 @@
--- Why `synth` refuses bytes.
+-- Why `synth` refuses an input.
 use Rattle.std.specs.Prelude.{◌≡◌, ℕ, ◌≤◌, List, length, Result, Err}
 use Rattle.std.proofs.Common.{refl}
 use Rattle.std.proofs.lemmas.Grind.{common_steps}
@@ -14,7 +14,7 @@ use Rattle.cmd_synth.specs.SynthReport.{synth_refusal, synth_task}
 use Rattle.frame_core.specs.Told.{Refusal}
 use Rattle.frame_core.specs.Task.{Refuses}
 
--- ---- what the search answers
+-- ---- the result of the search
 
 pub told_fault : (e : SpecError) (read : Result Words SpecError) → Fails e read → (e ≡ tables.Memory → ⊥) → read ≡ Err e
 told_fault (tables.BadHeader line) read fails other = fails

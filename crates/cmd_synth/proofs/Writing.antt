@@ -1,4 +1,4 @@
--- A certificate that goes out in pieces.
+-- A certificate that is written in pieces.
 use Rattle.std.specs.Prelude.{◌≡◌, ℕ, ◌≤◌, List, ◌++◌, length, Vec}
 use Rattle.std.proofs.Common.{sym, ◌∙◌, subst, refl}
 use Rattle.std.specs.Global.{Global}
@@ -30,11 +30,11 @@ use Rattle.cmd_synth.specs.CertifiedLaws.{certified}
 
 -- ---- what was written
 
--- a call that failed after quiet ones
+-- a call that failed after calls that didn't
 rose_since : (first now new : Side) → IsQuiet first now → Rose now.faults new.faults → Rose first.faults new.faults
 rose_since first now new quiet rose = subst (λ (n : ℕ). Rose n new.faults) quiet rose
 
--- the text that a search has written begins a certificate
+-- the text that a search has written is the beginning of a certificate
 begins : (asked : SynthSettings) (bytes text : List ℕ) (s : State) → length bytes ≤ most_of_tables → IsUnderWay bytes asked s text → BeginsCertificate asked bytes text
 begins asked bytes text s within under = record {
   tables = s.heading.spec;
@@ -47,7 +47,7 @@ begins asked bytes text s within under = record {
 pub out_first : (asked : SynthSettings) (bytes text : List ℕ) (s : State) (first now : Side) → IsUnderWay bytes asked s text → Appends first.bytes now.bytes text → IsQuiet first now → IsOut asked bytes first now s
 out_first asked bytes text s first now under whole quiet = record { text = text; under_way = under; on_out = whole; quiet = quiet }
 
--- a section more
+-- one more section
 pub out_more : (asked : SynthSettings) (bytes piece : List ℕ) (s next : State) (first now new : Side) → (out : IsOut asked bytes first now s) → IsUnderWay bytes asked next (out.text ++ piece) → Appends now.bytes new.bytes piece → IsQuiet now new → IsOut asked bytes first new next
 out_more asked bytes piece s next first now new out under whole quiet = record {
   text = out.text ++ piece;
@@ -56,7 +56,7 @@ out_more asked bytes piece s next first now new out under whole quiet = record {
   quiet = quiet ∙ out.quiet;
 }
 
--- what the search says of its step
+-- the contract of one step of the search
 abbrev pub Steps : State → Piece → Type 0
 Steps s piece = (bytes : List ℕ) (asked : SynthSettings) (before : List ℕ) → IsUnderWay bytes asked s before → GoesOn bytes asked before piece
 
@@ -76,7 +76,7 @@ starved_left asked bytes s first now within out =
 pub out_starved : (asked : SynthSettings) (bytes : List ℕ) (s : State) (first now : Side) → length bytes ≤ most_of_tables → IsOut asked bytes first now s → GoesOut asked bytes ended.Starved first now
 out_starved asked bytes s first now within out = (starved_left asked bytes s first now within out, out.quiet)
 
--- the output failed in the heading
+-- the output failed in the header
 pub heading_cut : (asked : SynthSettings) (bytes text : List ℕ) (s : State) (first new : Side) → length bytes ≤ most_of_tables → IsUnderWay bytes asked s text → AppendsFront first.bytes new.bytes text → Rose first.faults new.faults → GoesOut asked bytes ended.CutShort first new
 heading_cut asked bytes text s first new within under front rose =
     (begun_left_of (synth_task asked) bytes text first new (begins asked bytes text s within under) front, rose)
@@ -95,14 +95,14 @@ its_reply asked bytes text verdict within certificate = record {
   is = refl;
 }
 
--- in the ending
+-- in the trailer
 pub ending_cut : (asked : SynthSettings) (bytes piece : List ℕ) (s : State) (verdict : Verdict) (first now new : Side) → length bytes ≤ most_of_tables → (out : IsOut asked bytes first now s) → IsCertificate bytes asked (out.text ++ piece) verdict → AppendsFront now.bytes new.bytes piece → Rose now.faults new.faults → GoesOut asked bytes ended.CutShort first new
 ending_cut asked bytes piece s verdict first now new within out certificate front rose = (
   left_of (synth_task asked) bytes (synth_reply (record { text = out.text ++ piece; verdict = verdict })) first new (its_reply asked bytes (out.text ++ piece) verdict within certificate) (front_two first.bytes now.bytes new.bytes out.text piece out.on_out front),
   rose_since first now new out.quiet rose,
 )
 
--- all has gone out
+-- all was written
 pub all_out : (asked : SynthSettings) (bytes piece : List ℕ) (s : State) (verdict : Verdict) (status : Status) (first now new : Side) → length bytes ≤ most_of_tables → (out : IsOut asked bytes first now s) → IsCertificate bytes asked (out.text ++ piece) verdict → status ≡ verdict_status verdict → Appends now.bytes new.bytes piece → IsQuiet now new → GoesOut asked bytes (ended.Answered status) first new
 all_out asked bytes piece s verdict status first now new within out certificate is whole quiet = record {
   reply = synth_reply (record { text = out.text ++ piece; verdict = verdict });

@@ -1,4 +1,4 @@
--- What a certificate comes to: its verdict is true, and is found again.
+-- What a certificate guarantees: its verdict is true, and `recheck` reports the same verdict.
 use Rattle.std.specs.Prelude.{◌≡◌, ℕ, ◌≤◌, List, [], length, Result, Ok}
 use Rattle.std.proofs.Common.{ap, subst}
 use Rattle.text_core.specs.Lines.{lines_of}
@@ -24,7 +24,7 @@ use Rattle.cmd_lines.specs.TableLines.{most_of_tables}
 use Rattle.cmd_synth.specs.SynthReport.{Certified, IsCertified}
 use Rattle.cmd_verdicts.specs.VerdictLaws.{is_verdict}
 
--- the verdict of a valid bundle is true
+-- the verdict of a valid certificate is true
 bundle_means : (b : Bundle) (bytes : List ℕ) → IsBundle bytes b → Means (specification b.heading.spec) (members b.heading.basis) b.verdict
 bundle_means b bytes is = verdict_means b (method_is_coding b.heading.method) is.valid
 
@@ -37,7 +37,7 @@ means_as w x a b u v same_words same_basis same_verdict means =
 same_tables : (read : Result Words SpecError) (a b : Words) → read ≡ Ok a → read ≡ Ok b → a ≡ b
 same_tables read a b is other = cc
 
--- the tables that bytes spell are one
+-- bytes are the spelling of at most one specification
 pub tables_are : (a b : Words) (bytes : List ℕ) → IsSpec a → IsSpec b → SpellsTables (specification a) (lines_of bytes) [] → SpellsTables (specification b) (lines_of bytes) [] → a ≡ b
 tables_are a b bytes spec other spelled again =
     same_tables (tables_alone (lines_of bytes)) a b (ap words_alone (tables_again a (lines_of bytes) [] spec spelled)) (ap words_alone (tables_again b (lines_of bytes) [] other again))
@@ -63,7 +63,7 @@ its_recheck asked bytes text verdict c within = record {
   is_verdict = is_verdict text verdict (its_verdict asked bytes text verdict c);
 }
 
--- All that a certificate comes to.
+-- Everything that a certificate guarantees.
 pub certified : (asked : SynthSettings) (bytes : List ℕ) (c : Certified) → length bytes ≤ most_of_tables → IsCertificate bytes asked c.text c.verdict → IsCertified asked bytes c
 certified asked bytes c within certificate = record {
   within = within;

@@ -1,4 +1,4 @@
--- `synth --least-depth yes` is a task, and a run of it keeps what it promises.
+-- The task of `synth --least-depth yes` is well formed, and its runs keep the promise.
 use Rattle.std.specs.Prelude.{◌≡◌, ℕ, ◌⊎◌, List, length, Option, Some, None, Err}
 use Rattle.std.proofs.Common.{arith, sym, ◌∙◌, ap, subst, refl, inl, inr}
 use Rattle.text_core.specs.Lines.{lines_of}
@@ -38,7 +38,7 @@ use Rattle.cmd_synth.specs.CertifiedLaws.{tables_are}
 use Rattle.cmd_lines.specs.TableLineLaws.{not_refused}
 use Rattle.cmd_synth.specs.SynthLaws.{answer_statuses, statuses_of, no_fault, one_error, not_refused_by}
 
--- ---- what a certificate comes to
+-- ---- what a certificate guarantees
 
 means_as : (w x : Words) (a b steps : ℕ) (u v : DepthVerdict) → w ≡ x → a ≡ b → u ≡ v → depths.Means (specification w) (members a) steps u → depths.Means (specification x) (members b) steps v
 means_as w x a b steps u v same_words same_basis same_verdict means =
@@ -56,7 +56,7 @@ least_levels asked bytes text v c w are =
     c.verdict_is
     (depth_means c.bundle is)
 
--- the log of a fence of the lower number of levels is spent
+-- the log of a fence with the lower number of levels reaches the budget
 own_heading : (asked : SynthSettings) (bytes text : List ℕ) (v : DepthVerdict) → (c : IsLeast bytes asked text v) → (w : Words) → AreTables bytes w → c.bundle.bundle.heading ≡ heading_of w asked
 own_heading asked bytes text v c w are =
     c.heading_is ∙ ap (λ (x : Words). heading_of x asked) (tables_are c.bundle.bundle.heading.spec w bytes c.is_text.is_depth.valid.heading.tables are.are c.tables are.spelled)
@@ -73,7 +73,7 @@ found_statuses (Least (Levels d)) = inl refl
 found_statuses (Least (Bounded low d)) = inr (inl refl)
 found_statuses (Other v) = answer_statuses v
 
--- the tables of a certificate are ones, and have no fault
+-- tables with a certificate have no fault
 sound : {A : Type 0} (asked : SynthSettings) (bytes text : List ℕ) (f : Found) (e : SpecError) → IsCertificate bytes asked text f → tables_alone (lines_of bytes) ≡ Err e → A
 sound asked bytes text (Least v) e c bad = no_fault c.bundle.bundle.heading.spec (lines_of bytes) e c.is_text.is_depth.valid.heading.tables c.tables bad
 sound asked bytes text (Other v) e c bad = no_fault c.certificate.bundle.heading.spec (lines_of bytes) e c.certificate.is_bundle.valid.heading.tables c.certificate.tables bad
@@ -88,7 +88,7 @@ least_depth_is_task asked =
     (λ bytes c has. has.within)
     (λ bytes error fault. fault.within)
 
--- ---- what it promises besides
+-- ---- its promise
 
 complete : (r : Run) (asked : SynthSettings) (input : List ℕ) (w : Words) → CommandPromise (least_depth_task asked) r → r.source.bytes ≡ Some input → AreTables input w → OutputHeld r → Replies (least_depth_task asked) r input
 complete r asked input w promise told are held =
@@ -106,9 +106,9 @@ not_refused_found (Other v) is = not_refused_by v is
 never_refused : (r : Run) (asked : SynthSettings) → CommandPromise (least_depth_task asked) r → r.status ≡ Refused → ⊥
 never_refused r asked promise is = refused_never (least_depth_task asked) r (λ c. not_refused_found c.found) not_refused promise is
 
--- ---- what its statuses tell
+-- ---- what its statuses mean
 
--- a verdict that no chain of at most `x` steps agrees is about the greatest size that was asked for
+-- in a verdict that no chain of at most `x` steps implements the tables, `x` is the `max` of the settings
 none_to : (h : Heading) (count x : ℕ) (low : Option ℕ) (c : Option Chain) → IsEnding h count low c (sizes.NoChain x) → x ≡ h.max
 none_to h count x None None ending = let e = ending.1 in cc
 none_to h count x (Some l) None ending = let e = ending.1 in absurd cc
@@ -123,7 +123,7 @@ none_to_max asked bytes text x other =
     (subst (λ (v : Verdict). IsEnding b.heading (length b.sections) (first_open b.sections) b.chain v) c.verdict_is c.is_bundle.valid.ending)
     ∙ ap (λ (h : Heading). h.max) c.heading_is
 
--- this stands outside
+-- a certificate was written
 abbrev StandsCertified : Run → SynthSettings → List ℕ → List ℕ → Found → Type 0
 StandsCertified r asked input text f = IsCertified asked input (record { text = text; found = f }) × Stands r (least_depth_reply (record { text = text; found = f }))
 
@@ -167,7 +167,7 @@ least r asked input w are is got = tells_least r asked input got.answer.text w g
 bounded : (r : Run) (asked : SynthSettings) (input : List ℕ) (w : Words) → AreTables input w → r.status ≡ Undecided → Replies (least_depth_task asked) r input → FindsBounds asked w r input ⊎ LeavesSteps asked w r input
 bounded r asked input w are is got = tells_bounds r asked input got.answer.text w got.answer.found are (got.has, got.stands) (sym got.stands.status_is ∙ is)
 
--- All that `synth --least-depth yes` promises besides.
+-- The promise of `synth --least-depth yes`.
 pub least_depth_promised : (r : Run) → ((asked : SynthSettings) → AsksFor r.words (LeastDepth asked) → CommandPromise (least_depth_task asked) r) → LeastDepthPromise r
 least_depth_promised r keeps = record {
   complete = λ asked input w run are held. complete r asked input w (keeps asked run.asks) run.told are held;

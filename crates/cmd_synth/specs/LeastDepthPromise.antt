@@ -1,4 +1,4 @@
--- What `synth --least-depth yes` promises besides, in its own words.
+-- The promise of `synth --least-depth yes`, besides that of every command.
 use Rattle.std.specs.Prelude.{◌≡◌, ℕ, ◌≤◌, ◌⊎◌, List}
 use Rattle.chain_theory.specs.Agreement.{HasChain}
 use Rattle.cert_theory.specs.declared.data.Verdict.{Verdict}
@@ -22,8 +22,8 @@ use Rattle.frame_core.specs.Run.{Run}
 use Rattle.cmd_lines.specs.Runs.{Runs}
 use Rattle.frame_core.specs.Promise.{InputHeld, OutputHeld, Stands, TellsError, Replies}
 
--- A depth bundle stands on the output. `steps` steps are the fewest, some chain of `steps` steps has `levels` levels, and
--- none has fewer.
+-- A depth certificate was written. `steps` is the least number of steps, some chain of `steps` steps has `levels`
+-- levels, and none has fewer.
 pub record FindsLeast (asked : SynthSettings) (tables : Words) (r : Run) (input : List ℕ) : Type 0 where
   pub text : List ℕ
   pub levels : ℕ
@@ -32,15 +32,16 @@ pub record FindsLeast (asked : SynthSettings) (tables : Words) (r : Run) (input 
   pub steps : ℕ
   pub least : IsLeastDepth (specification tables) (members asked.basis) steps levels
 
--- A certificate of the fewest steps stands there. No chain of at most `max` steps agrees.
+-- A certificate of the fewest steps was written. No chain of at most `max` steps implements the tables.
 pub record FindsNone (asked : SynthSettings) (tables : Words) (r : Run) (input : List ℕ) : Type 0 where
   pub text : List ℕ
   pub certified : IsCertified asked input (record { text = text; found = Other (NoChain asked.max) })
   pub stands : Stands r (least_depth_reply (record { text = text; found = Other (NoChain asked.max) }))
   pub none : (steps : ℕ) → steps ≤ asked.max → HasChain (specification tables) (members asked.basis) steps → ⊥
 
--- A depth bundle stands there. `steps` steps are the fewest, some chain of `steps` steps has `levels` levels, and none has
--- fewer than `low`; in the text the log of a fence of `low` levels is spent.
+-- A depth certificate was written. `steps` is the least number of steps, some chain of `steps` steps has
+-- `levels` levels, and none has fewer than `low`; in the text a log of a fence with `low` levels reaches the
+-- budget.
 pub record FindsBounds (asked : SynthSettings) (tables : Words) (r : Run) (input : List ℕ) : Type 0 where
   pub text : List ℕ
   pub low : ℕ
@@ -51,7 +52,7 @@ pub record FindsBounds (asked : SynthSettings) (tables : Words) (r : Run) (input
   pub bounded : IsBoundedDepth (specification tables) (members asked.basis) steps low levels
   pub spent : IsLeftOpen text (heading_of tables asked) steps low
 
--- A certificate of the fewest steps stands there, which leaves them open: what its verdict says is true.
+-- A certificate was written that leaves the fewest steps open; what its verdict says is true.
 pub record LeavesSteps (asked : SynthSettings) (tables : Words) (r : Run) (input : List ℕ) : Type 0 where
   pub text : List ℕ
   pub verdict : Verdict
@@ -61,32 +62,33 @@ pub record LeavesSteps (asked : SynthSettings) (tables : Words) (r : Run) (input
   pub means : Means (specification tables) (members asked.basis) verdict
 
 pub record LeastDepthPromise (r : Run) : Type 0 where
-  -- Tables get a certificate, and the status of what was found.
+  -- Tables get a certificate, with the status of what was found.
   pub complete : (asked : SynthSettings) (input : List ℕ) (tables : Words)
       → Runs (LeastDepth asked) r input
       → AreTables input tables
       → OutputHeld r
       → Replies (least_depth_task asked) r input
-  -- The statuses 0 and 4 come with a certificate alone, and 8 never.
+  -- The statuses 0 and 4 occur only with a certificate, and 8 never.
   pub answer_only : (asked : SynthSettings) (input : List ℕ)
       → Runs (LeastDepth asked) r input
       → (r.status ≡ Done) ⊎ (r.status ≡ Undecided)
       → Replies (least_depth_task asked) r input
   pub never_refused : (asked : SynthSettings) → AsksFor r.words (LeastDepth asked) → r.status ≡ Refused → ⊥
-  -- The status 0 tells the fewest levels of a chain of the fewest steps, or that no chain of at most `max` steps agrees.
+  -- The status 0 means: the output has the fewest levels of a chain of the fewest steps, or no chain of at most
+  -- `max` steps implements the tables.
   pub least : (asked : SynthSettings) (input : List ℕ) (tables : Words)
       → Runs (LeastDepth asked) r input
       → AreTables input tables
       → r.status ≡ Done
       → FindsLeast asked tables r input ⊎ FindsNone asked tables r input
-  -- The status 4 tells the fewest steps and bounds of the levels, with a log that has spent its budget, or a bound of the
-  -- steps.
+  -- The status 4 means: the output has the fewest steps and bounds of the levels, with a log that reaches the
+  -- budget, or a bound of the steps.
   pub bounded : (asked : SynthSettings) (input : List ℕ) (tables : Words)
       → Runs (LeastDepth asked) r input
       → AreTables input tables
       → r.status ≡ Undecided
       → FindsBounds asked tables r input ⊎ LeavesSteps asked tables r input
-  -- For other bytes their first fault is reported.
+  -- For any other input its first fault is reported.
   pub refused : (asked : SynthSettings) (input : List ℕ) (error : SpecError)
       → Runs (LeastDepth asked) r input
       → HasTablesFault input error

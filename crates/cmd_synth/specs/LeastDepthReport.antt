@@ -1,4 +1,4 @@
--- What `synth --least-depth yes` reports: its reply, its refusal of a fault, and its task.
+-- The task of `synth --least-depth yes`: its reply, and the refusal for each fault.
 use Rattle.std.specs.Prelude.{◌≡◌, ℕ, ◌≤◌, List, length, None, Ok}
 use Rattle.text_core.specs.Lines.{lines_of}
 use Rattle.chain_theory.specs.Operator.{Basis}
@@ -24,8 +24,8 @@ use Rattle.cmd_verdicts.specs.Verdicts.{most_of_bundle, GivesVerdict}
 use Rattle.cmd_verdicts.specs.Verdicts.{GivesLevels}
 use Rattle.cmd_synth.specs.SynthReport.{verdict_status, synth_refusal, AreTables, HasTablesFault}
 
--- Where the fewest levels are known, that is an answer; a budget that was spent before leaves them undecided.
--- Without a minimum the status is that of the verdict.
+-- If the fewest levels are known, the status is `Done`; if a budget was reached before, it is `Undecided`.
+-- Without the fewest steps the status is that of the verdict on steps.
 abbrev pub found_status : Found → Status
 found_status (Least (Levels d)) = Done
 found_status (Least (Bounded low d)) = Undecided
@@ -39,24 +39,24 @@ pub record Certified : Type 0 where
 abbrev pub least_depth_reply : Certified → Reply
 least_depth_reply c = record { text = c.text; report = None; status = found_status c.found }
 
--- what was found says this of chains; `steps` steps are the fewest
+-- what the result says about chains; `steps` is the least number of steps
 abbrev pub Means : Specification → Basis → Found → Type 0
 Means s basis (Least verdict) = (steps : ℕ) × depths.Means s basis steps verdict
 Means s basis (Other verdict) = sizes.Means s basis verdict
 
--- Who judges the text has this verdict: as a depth bundle, or as a certificate of the fewest steps.
+-- Judging the text gives this verdict: as a depth certificate, or as a certificate of the fewest steps.
 abbrev pub IsJudgedSo : List ℕ → Found → Type 0
 IsJudgedSo text (Least verdict) = IsJudged (lines_of text) (Ok verdict)
 IsJudgedSo text (Other verdict) = bundle_of (lines_of text) ≡ Ok verdict
 
--- `recheck --depth yes` has it, or `recheck`.
+-- `recheck --depth yes` reports this verdict, or `recheck` does.
 abbrev pub IsAcceptedSo : List ℕ → Found → Type 0
 IsAcceptedSo text (Least verdict) = GivesLevels text verdict
 IsAcceptedSo text (Other verdict) = GivesVerdict text verdict
 
--- The text is that of a depth bundle for the tables in the bytes and for what is asked, or that of a certificate of
--- the fewest steps whose verdict is no minimum. What it says of chains is true. Who judges the text again has the same
--- verdict; so has `recheck --depth yes`, or `recheck`, of a text within its limit.
+-- The text is a depth certificate for the tables in the bytes and for the settings, or a certificate of the
+-- fewest steps whose verdict isn't a minimum. What it says about chains is true. Judging the text gives the same
+-- verdict, and so does `recheck --depth yes`, or `recheck`, if the text is within its limit.
 pub record IsCertified (asked : SynthSettings) (bytes : List ℕ) (c : Certified) : Type 0 where
   pub within : length bytes ≤ most_of_tables
   pub certificate : IsCertificate bytes asked c.text c.found

@@ -1,4 +1,4 @@
--- `synth` owes an answer to all tables, with and without their fewest levels.
+-- `synth` has to answer all tables, with and without the fewest levels.
 use Rattle.std.specs.Prelude.{◌≡◌, ℕ, ◌⊎◌, List}
 use Rattle.std.proofs.Common.{sym, subst, refl, inl, inr}
 use Rattle.tt_core.specs.Words.{Words}
@@ -19,11 +19,11 @@ use Rattle.cmd_synth.specs.LeastDepthReport.{found_status}
 use Rattle.cmd_synth.specs.SynthPromise.{SynthPromise}
 use Rattle.cmd_synth.specs.LeastDepthPromise.{LeastDepthPromise}
 
--- The bytes are those of tables.
+-- The bytes are the spelling of tables.
 abbrev pub HasTables : List ℕ → Type 0
 HasTables bytes = (tables : Words) × AreTables bytes tables
 
--- the fewest are known, or a budget was spent before
+-- the fewest are known, or a budget was reached before
 abbrev pub IsSynthStatus : Status → Type 0
 IsSynthStatus s = (s ≡ Done) ⊎ (s ≡ Undecided)
 

@@ -1,4 +1,4 @@
--- `synth` is a task, and a run of it keeps what it promises.
+-- The task of `synth` is well formed, and its runs keep the promise.
 use Rattle.std.specs.Prelude.{◌≡◌, ℕ, ◌<◌, ◌≤◌, ◌⊎◌, List, [], length, Some, Result, Ok, Err}
 use Rattle.std.proofs.Common.{arith, ap, refl, inl, inr}
 use Rattle.std.proofs.Math.Logic.{⊎_elim}
@@ -57,14 +57,14 @@ statuses_of e = statuses e
 ok_or_fault : {A : Type 0} (read : Result Words SpecError) (w : Words) (e : SpecError) → read ≡ Ok w → read ≡ Err e → A
 ok_or_fault read w e good bad = absurd cc
 
--- tables alone have no fault
+-- tables with nothing after them have no fault
 pub no_fault : {A : Type 0} (w : Words) (ls : List Line) (e : SpecError) → IsSpec w → SpellsTables (specification w) ls [] → tables_alone ls ≡ Err e → A
 no_fault w ls e spec spelled bad = ok_or_fault (tables_alone ls) w e (ap words_alone (tables_again w ls [] spec spelled)) bad
 
 pub one_error : (read : Result Words SpecError) (d e : SpecError) → read ≡ Err d → read ≡ Err e → d ≡ e
 one_error read d e is other = cc
 
--- the tables of a certificate are ones
+-- the input of a certificate is the spelling of its tables
 its_tables : (asked : SynthSettings) (bytes text : List ℕ) (verdict : Verdict) (c : IsCertificate bytes asked text verdict) → IsSpec c.bundle.heading.spec
 its_tables asked bytes text verdict c = c.is_bundle.valid.heading.tables
 
@@ -83,7 +83,7 @@ synth_is_task asked =
     (λ bytes text error begins fault. no_fault begins.tables (lines_of bytes) error begins.are.are begins.are.spelled fault.fault)
     (λ bytes text begins long. not_beyond bytes begins.are.within long)
 
--- ---- what it promises besides
+-- ---- its promise
 
 complete : (r : Run) (asked : SynthSettings) (input : List ℕ) (w : Words) → CommandPromise (synth_task asked) r → r.source.bytes ≡ Some input → AreTables input w → OutputHeld r → Replies (synth_task asked) r input
 complete r asked input w promise told tables held =
@@ -102,7 +102,7 @@ not_refused_by (verdicts.Open low) is = cc
 never_refused : (r : Run) (asked : SynthSettings) → CommandPromise (synth_task asked) r → r.status ≡ Refused → ⊥
 never_refused r asked promise is = refused_never (synth_task asked) r (λ c. not_refused_by c.verdict) not_refused promise is
 
--- what may stand on the output where a certificate was cut
+-- the truncated certificates that are allowed on the output
 front_left : (r : Run) (asked : SynthSettings) (input front : List ℕ) → MayStand (synth_task asked) input front → Appends r.out.bytes r.out'.bytes front → LeavesFront r asked input
 front_left r asked input front stands on_out =
     ⊎_elim
@@ -144,7 +144,7 @@ starved r asked input promise told is =
     inr (front_left r asked input left.front left.leaves left.on_out))
     (promise.memory_only is)
 
--- All that `synth` promises besides.
+-- The promise of `synth`.
 pub synth_promised : (r : Run) → ((asked : SynthSettings) → AsksFor r.words (Synth asked) → CommandPromise (synth_task asked) r) → SynthPromise r
 synth_promised r keeps = record {
   complete = λ asked input w run tables held. complete r asked input w (keeps asked run.asks) run.told tables held;

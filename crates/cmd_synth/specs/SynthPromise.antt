@@ -1,4 +1,4 @@
--- What `synth` promises besides, in its own words.
+-- The promise of `synth`, besides that of every command.
 use Rattle.std.specs.Prelude.{◌≡◌, ℕ, ◌⊎◌, List}
 use Rattle.tt_core.specs.Words.{Words}
 use Rattle.tt_core.specs.declared.error.SpecError.{SpecError}
@@ -15,8 +15,8 @@ use Rattle.frame_core.specs.Run.{Run}
 use Rattle.cmd_lines.specs.Runs.{Runs}
 use Rattle.frame_core.specs.Promise.{InputHeld, OutputHeld, TellsError, Replies}
 
--- What stands on the output is the beginning of a certificate for the tables in the bytes and for what is asked,
--- or of its heading and of whole sections after it.
+-- A prefix was written: of a certificate for the tables in the bytes and for the settings, or of the header of a
+-- certificate and whole sections after it.
 pub record LeavesFront (r : Run) (asked : SynthSettings) (input : List ℕ) : Type 0 where
   pub tables : Words
   pub are : AreTables input tables
@@ -27,25 +27,26 @@ pub record LeavesFront (r : Run) (asked : SynthSettings) (input : List ℕ) : Ty
   pub on_out : Appends r.out.bytes r.out'.bytes written
 
 pub record SynthPromise (r : Run) : Type 0 where
-  -- Tables get a certificate, and the status of its verdict.
+  -- Tables get a certificate, with the status of its verdict.
   pub complete : (asked : SynthSettings) (input : List ℕ) (tables : Words)
       → Runs (Synth asked) r input
       → AreTables input tables
       → OutputHeld r
       → Replies (synth_task asked) r input
-  -- The statuses 0 and 4 come with a certificate alone, and 8 never.
+  -- The statuses 0 and 4 occur only with a certificate, and 8 never.
   pub answer_only : (asked : SynthSettings) (input : List ℕ)
       → Runs (Synth asked) r input
       → (r.status ≡ Done) ⊎ (r.status ≡ Undecided)
       → Replies (synth_task asked) r input
   pub never_refused : (asked : SynthSettings) → AsksFor r.words (Synth asked) → r.status ≡ Refused → ⊥
-  -- For other bytes their first fault is reported.
+  -- For any other input its first fault is reported.
   pub refused : (asked : SynthSettings) (input : List ℕ) (error : SpecError)
       → Runs (Synth asked) r input
       → HasTablesFault input error
       → InputHeld r
       → TellsError r (synth_refusal error)
-  -- Where the output failed a prefix stands there, and nothing else; and where memory ran out, a prefix or nothing.
+  -- If the output failed, a prefix of a certificate was written, and nothing else; if memory ran out, a prefix or
+  -- nothing.
   pub cut : (asked : SynthSettings) (input : List ℕ)
       → Runs (Synth asked) r input
       → r.status ≡ WriteFault

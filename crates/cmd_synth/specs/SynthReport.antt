@@ -1,4 +1,4 @@
--- What `synth` reports: its reply, its refusal of a fault, and its task.
+-- The task of `synth`: its reply, and the refusal for each fault.
 use Rattle.std.specs.Prelude.{◌≡◌, ℕ, ◌≤◌, List, [], length, Some, None, Ok, Err}
 use Rattle.text_core.specs.Lines.{lines_of}
 use Rattle.tt_core.specs.Words.{Words, IsSpec, specification}
@@ -23,35 +23,35 @@ use Rattle.cmd_verdicts.specs.Verdicts.{most_of_bundle, GivesVerdict}
 use Rattle.frame_core.specs.Told.{Reply, Refusal}
 use Rattle.frame_core.specs.Task.{Task, in_pieces}
 
--- Where the fewest steps are known, or no chain is within the limit, that is an answer; a budget that
--- was spent before leaves it undecided.
+-- If the fewest steps are known, or no chain is within the limit, the status is `Done`; if a budget was reached
+-- before, it is `Undecided`.
 abbrev pub verdict_status : Verdict → Status
 verdict_status (verdicts.Minimum r) = Done
 verdict_status (verdicts.NoChain x) = Done
 verdict_status (verdicts.Bounded low r) = Undecided
 verdict_status (verdicts.Open low) = Undecided
 
--- a text, and the verdict that stands at its end
+-- a certificate's text, and the verdict at its end
 pub record Certified : Type 0 where
   pub text : List ℕ
   pub verdict : Verdict
 
--- a certificate as a reply, and a fault of the tables as a refusal
+-- the reply of a certificate, and the refusal of a fault of the tables
 abbrev pub synth_reply : Certified → Reply
 synth_reply c = record { text = c.text; report = None; status = verdict_status c.verdict }
 
 abbrev pub synth_refusal : SpecError → Refusal
 synth_refusal error = record { status = spec_status error; named = named_spec error }
 
--- The bytes are those of tables with nothing after them, and no more than are read.
+-- The bytes, no more than are read, are the spelling of tables, with nothing after them.
 pub record AreTables (bytes : List ℕ) (tables : Words) : Type 0 where
   pub within : length bytes ≤ most_of_tables
   pub are : IsSpec tables
   pub spelled : SpellsTables (specification tables) (lines_of bytes) []
 
--- The text is that of a valid certificate for the tables in the bytes, and for what is asked. What its
--- verdict says of chains is true, by whatever method. Who judges the text again has the same verdict; so
--- has `recheck`, of a text within its limit.
+-- The text is a valid certificate for the tables in the bytes and for the settings. What its verdict says about
+-- chains is true, whatever the method. Judging the text gives the same verdict, and so does `recheck` if the
+-- text is within its limit.
 pub record IsCertified (asked : SynthSettings) (bytes : List ℕ) (c : Certified) : Type 0 where
   pub within : length bytes ≤ most_of_tables
   pub certificate : IsCertificate bytes asked c.text c.verdict
@@ -61,19 +61,19 @@ pub record IsCertified (asked : SynthSettings) (bytes : List ℕ) (c : Certified
   pub judged : bundle_of (lines_of c.text) ≡ Ok c.verdict
   pub rechecked : length c.text ≤ most_of_bundle → GivesVerdict c.text c.verdict
 
--- The bytes aren't tables alone, and this is their first fault.
+-- The bytes aren't just tables, and this is their first fault.
 pub record HasTablesFault (bytes : List ℕ) (error : SpecError) : Type 0 where
   pub within : length bytes ≤ most_of_tables
   pub fault : tables_alone (lines_of bytes) ≡ Err error
 
--- The text is that of the heading of a certificate for the tables in the bytes and for what is asked, and of
--- whole sections after it: those of the sizes 0, 1, 2 and so on.
+-- The text is the header of a certificate for the tables in the bytes and for the settings, and whole sections
+-- after it: those of the sizes 0, 1, 2 and so on.
 pub record BeginsCertificate (asked : SynthSettings) (bytes text : List ℕ) : Type 0 where
   pub tables : Words
   pub are : AreTables bytes tables
   pub sections : List Section
   pub begun : IsBegun (heading_of tables asked) sections text
 
--- It goes out a section at a time.
+-- Its text is written section by section.
 abbrev pub synth_task : SynthSettings → Task
 synth_task asked = in_pieces (Some most_of_tables) Certified (IsCertified asked) synth_reply SpecError HasTablesFault synth_refusal (BeginsCertificate asked)

@@ -37,10 +37,10 @@ fn reply_of(certificate: DepthCertificate) -> Reply
     }
 }
 
-/// A certificate of the fewest steps and levels for tables, searched with the solver `S`.
+/// The command: a certificate of the fewest steps and levels for tables, searched with the solver `S`.
 #[derive(Drop)]
 pub struct LeastDepth<S> {
-    /// What the search is asked with.
+    /// The settings of the search.
     pub settings: SynthSettings,
     /// The solver.
     pub solver: PhantomData<S>,

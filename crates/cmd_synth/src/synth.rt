@@ -1,4 +1,5 @@
-//! The command `synth`: a certificate that goes out while it is searched. What was written is dropped.
+//! The command `synth`: a certificate that is written during the search. What has been written isn't kept in
+//! memory.
 ghost use Rattle.std.specs.Prelude.{◌≡◌, ℕ, ◌≤◌, List, length, Err};
 ghost use Rattle.text_core.specs.Lines.{lines_of};
 ghost use Rattle.tt_core.specs.Gives.{Fails};
@@ -42,16 +43,16 @@ pub(crate) fn refusal_of(error: SpecError) -> Refusal
     }
 }
 
-/// What one piece more of a certificate came to.
+/// The result of writing one more piece of a certificate.
 #[derive(Drop)]
 pub(crate) enum Next {
     /// The search goes on.
     On(Search),
-    /// The command has ended so.
+    /// The command has ended.
     End(Ended),
 }
 
-/// Searches the next size, and writes what it adds to the certificate.
+/// Searches the next size, and writes its section of the certificate.
 #[tactic(auto, using(crate::proofs::Writing::writing))]
 fn write_next<S: Solver, O: Sink>(alloc: Global, search: Search, out: &mut O) -> Next
     ensures comes { (asked : SynthSettings) (bytes : List ℕ) (first : Side) → length bytes ≤ most_of_tables →
@@ -74,7 +75,7 @@ fn write_next<S: Solver, O: Sink>(alloc: Global, search: Search, out: &mut O) ->
     }
 }
 
-/// Writes the sections of a search and the ending, each as soon as it stands.
+/// Writes the sections of a search and the trailer, each as soon as it is found.
 #[tactic(auto, using(crate::proofs::Writing::writing))]
 fn write_sections<S: Solver, O: Sink>(alloc: Global, search: Search, out: &mut O) -> Ended
     ensures { (asked : SynthSettings) (bytes : List ℕ) (first : Side) → length bytes ≤ most_of_tables →
@@ -90,7 +91,7 @@ fn write_sections<S: Solver, O: Sink>(alloc: Global, search: Search, out: &mut O
     }
 }
 
-/// Writes a certificate from its heading on.
+/// Writes a certificate, from its header on.
 #[tactic(auto, using(crate::proofs::Writing::writing))]
 fn write_certificate<S: Solver, O: Sink>(alloc: Global, begun: Begun, out: &mut O) -> Ended
     ensures { (asked : SynthSettings) (bytes : List ℕ) → length bytes ≤ most_of_tables →
@@ -115,10 +116,10 @@ fn stop_of(error: SpecError) -> Stop
     }
 }
 
-/// A certificate of the fewest steps for tables, searched with the solver `S`.
+/// The command: a certificate of the fewest steps for tables, searched with the solver `S`.
 #[derive(Drop)]
 pub struct Synth<S> {
-    /// What the search is asked with.
+    /// The settings of the search.
     pub settings: SynthSettings,
     /// The solver.
     pub solver: PhantomData<S>,

@@ -1,4 +1,4 @@
--- What bytes that are judged to have a verdict spell.
+-- A text that is judged to have a verdict is the spelling of a certificate with it.
 use Rattle.std.specs.Prelude.{◌≡◌, ℕ, List, Result, Ok}
 use Rattle.std.proofs.Common.{subst}
 use Rattle.text_core.specs.Lines.{lines_of}

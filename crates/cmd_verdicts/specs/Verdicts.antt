@@ -1,4 +1,4 @@
--- What `recheck` answers to certificates: the verdicts that bytes have.
+-- The verdicts of certificates, as `recheck` reports them.
 use Rattle.std.specs.Prelude.{◌≡◌, ℕ, ◌≤◌, List, length, Ok}
 use Rattle.text_core.specs.Lines.{lines_of}
 use Rattle.tt_core.specs.Words.{specification}
@@ -13,24 +13,24 @@ use Rattle.cert_theory.specs.Meaning.{Means}
 use Rattle.cert_theory.specs.Spelling.{IsBundle, HasVerdict}
 use Rattle.cert_theory.specs.Judging.{bundle_of}
 
--- the most bytes of a bundle that are read
+-- the most bytes of a certificate that are read
 abbrev pub most_of_bundle : ℕ
 most_of_bundle = 268435456
 
--- The bytes are the spelling of a valid bundle of this verdict, which is true, and of no other verdict.
+-- The bytes are the spelling of a valid certificate with this verdict and no other, and the verdict is true.
 pub record IsVerdict (bytes : List ℕ) (verdict : Verdict) : Type 0 where
   pub has : HasVerdict bytes verdict
   pub only : (b : Bundle) → IsBundle bytes b → b.verdict ≡ verdict
   pub means : (b : Bundle) → IsBundle bytes b → Means (specification b.heading.spec) (members b.heading.basis) verdict
 
--- They are judged to have this verdict, no more of them than are read.
+-- The bytes, no more than are read, are judged to have this verdict.
 pub record GivesVerdict (bytes : List ℕ) (verdict : Verdict) : Type 0 where
   pub within : length bytes ≤ most_of_bundle
   pub read : bundle_of (lines_of bytes) ≡ Ok verdict
   pub is_verdict : IsVerdict bytes verdict
 
--- The bytes, no more of them than are read, are the spelling of a depth bundle of this verdict, which is true, and of
--- no other verdict.
+-- The bytes, no more than are read, are the spelling of a depth certificate with this verdict and no other, and
+-- the verdict is true.
 pub record GivesLevels (bytes : List ℕ) (verdict : DepthVerdict) : Type 0 where
   pub within : length bytes ≤ most_of_bundle
   pub has : HasDepth bytes verdict

@@ -1,3 +1,4 @@
-//! What `recheck` answers to certificates, as `synth` promises it of those that it writes: `specs/Verdicts` has the
-//! verdicts of bytes, of sizes and of levels, and `specs/VerdictLaws` that what is judged to have one has it.
+//! The verdicts that `recheck` reports; `synth` promises them for the certificates that it writes.
+//! `specs/Verdicts` defines the verdict of a text, for the fewest steps and for the fewest levels, and
+//! `specs/VerdictLaws` proves that a text that is judged to have a verdict has it.
 #![tactic(auto)]

@@ -1,4 +1,4 @@
--- What a command is asked with is in its ranges.
+-- The settings of a command are in their ranges.
 use Rattle.std.specs.Prelude.{◌≡◌, ℕ, ◌<◌, ◌≤◌, ◌^◌, List, [], ◌∷◌, Bool, true, false, cond, nat_lt, Option, Some, None, Result, Ok, Err}
 use Rattle.std.proofs.Common.{arith, sym, ◌∙◌, ap, subst, refl}
 use Rattle.std.proofs.lemmas.Bool.Decides.{nat_tests}
@@ -27,12 +27,12 @@ use Rattle.command_line.specs.CommandLine.{word_behind, are_options, value_in, v
 pub some_is : {A : Type 0} (a b : A) → Some a ≡ Some b → a ≡ b
 some_is a b e = cc
 
--- what a test lets through
+-- what passes a test
 pub passed : {A : Type 0} (t : Bool) (o : Option A) (x : A) → cond t o None ≡ Some x → (t ≡ true) × (o ≡ Some x)
 passed true o x e = (refl, e)
 passed false o x e = absurd cc
 
--- ---- what words read as
+-- ---- what words spell
 
 from_by : (t : Bool) (low m n : ℕ) → nat_lt m low ≡ t → cond t None (Some m) ≡ Some n → (m ≡ n) × (low ≤ n)
 from_by true low m n is e = absurd cc
@@ -55,7 +55,7 @@ basis_ok (Err e') b e = absurd cc
 basis_range : (word : List ℕ) (b : ℕ) → basis_in word ≡ Some b → 0 < b
 basis_range word b e = basis_some word b (basis_ok (basis_of word) b e)
 
--- what holds of each word's reading and of the default holds of an option's value
+-- what holds for whatever a word spells and for the default holds for the value of the option
 pub in_row : {A : Type 0} (row : Row A) (P : A → Type 0) → ((word : List ℕ) (x : A) → row.read word ≡ Some x → P x) → ((x : A) → row.default ≡ Some x → P x) → (o : Option (List ℕ)) (x : A) → value_in row o ≡ Some x → P x
 in_row row P reads default None x e = default x e
 in_row row P reads default (Some word) x e = reads word x e
@@ -90,12 +90,12 @@ asked_back basis method max conflicts s are = rw (are.basis_is, are.method_is, a
 abbrev pub AreAskedIn : List (List ℕ) → SynthSettings → Type 0
 AreAskedIn words s = AreAsked (value basis_row words) (value method_row words) (value max_row words) (value conflicts_row words) s
 
--- what `synth` is with settings and a flag; the fewest levels are sought by fences alone
+-- the command of `synth` with settings and the flag; the method for the fewest levels is always `fence`
 abbrev pub IsSynth : SynthSettings → Bool → Command → Type 0
 IsSynth s false c = commands.Synth s ≡ c
 IsSynth s true c = (commands.LeastDepth s ≡ c) × (s.method ≡ Fence)
 
--- words ask `synth` with settings, and with a flag
+-- words ask for `synth` with settings and the flag
 pub record IsSynthIn (words : List (List ℕ)) (c : Command) : Type 0 where
   pub s : SynthSettings
   pub flag : Bool
@@ -121,7 +121,7 @@ synth_made words None flag c is flag_is e = absurd cc
 pub synth_in_made : (words : List (List ℕ)) (c : Command) → command_with Synth words ≡ Some c → IsSynthIn words c
 synth_in_made words c e = synth_made words (asked_in words) (value least_depth_row words) c refl refl e
 
--- what `recheck` is with a flag
+-- the command of `recheck` with the flag
 abbrev pub rechecks : Bool → Command
 rechecks false = commands.Recheck
 rechecks true = commands.RecheckDepth
@@ -250,7 +250,7 @@ bases_range words n e =
     (λ (x : ℕ) at. let same = some_is 65535 x at in omega (arith, same))
     (word_behind basis_row.name words) n e
 
--- a basis that BENCH takes
+-- a basis of BENCH gates
 gates_by : (o : Option ℕ) (x : ℕ) → if_of_gates o ≡ Some x → (o ≡ Some x) × (is_within x bench_set ≡ true)
 gates_by None x e = absurd cc
 gates_by (Some b) x e =

@@ -1,4 +1,4 @@
--- Words ask for a command exactly where they are its name and pairs.
+-- Words ask for a command if and only if they are its name and pairs.
 use Rattle.std.specs.Prelude.{◌≡◌, ℕ, List, [], ◌∷◌, Bool, true, false, not, ◌&&◌, ◌||◌, cond, Option, Some, None, is_some, All}
 use Rattle.std.proofs.Common.{sym, ◌∙◌, ap, subst, refl}
 use Rattle.std.specs.List.{IsDistinct, AllByRecursion, list_any}
@@ -73,7 +73,7 @@ behind_is name (p ∷ pairs) = ap (word_behind name) (flat_map-cons both p pairs
 named_is : (name : List ℕ) (pairs : List Pair) → is_named name (flat pairs) ≡ list_any (is_word name) (keys_of pairs)
 named_is name pairs = ap is_some (behind_is name pairs) ∙ is_some-lookup (is_word name) pairs
 
--- what the words of options are
+-- the words of options are pairs
 pub paired : (names : List (List ℕ)) (words : List (List ℕ)) → are_options names words ≡ true → (pairs : List Pair) × (words ≡ flat pairs)
 unfolding are_options
 paired names [] e = ([], refl)
@@ -149,7 +149,7 @@ gives_again row pairs other x moved g = record {
 
 -- ---- commands
 
--- what a command of this kind is, with these pairs
+-- the command of this kind with these pairs
 abbrev IsMade : Kind → List Pair → Command → Type 0
 IsMade kind pairs c = (kind_of c ≡ kind) × GivesAll pairs c
 

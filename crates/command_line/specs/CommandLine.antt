@@ -1,4 +1,4 @@
--- The command lines that the program takes. Any other list of words is none.
+-- The command lines that the program accepts.
 use Rattle.std.specs.Prelude.{◌≡◌, ℕ, ◌≤◌, List, [], ◌∷◌, map, Bool, true, false, not, ◌&&◌, Option, Some, None, is_some, Result, Ok, Err, Vec, String, if◌then◌else◌}
 use Rattle.std.specs.Global.{Global}
 use Rattle.std.specs.String.{string_bytes}
@@ -24,7 +24,7 @@ use Rattle.command_line.specs.Options.{Row, is_word, is_among, is_within, basis_
 abbrev pub spelled : Vec (String Global) Global → List (List ℕ)
 spelled words = map string_bytes words.items
 
--- ---- options, as names and values by turns
+-- ---- options: names and values alternate
 
 -- the word after a name
 unfoldable pub word_behind : List ℕ → List (List ℕ) → Option (List ℕ)
@@ -35,13 +35,13 @@ word_behind name (found ∷ word ∷ words) = if is_word name found then Some wo
 abbrev pub is_named : List ℕ → List (List ℕ) → Bool
 is_named name words = is_some (word_behind name words)
 
--- Each name is one of these, and none comes twice.
+-- Each name is one of these, and none occurs twice.
 unfoldable pub are_options : List (List ℕ) → List (List ℕ) → Bool
 are_options names [] = true
 are_options names (name ∷ []) = false
 are_options names (name ∷ word ∷ words) = is_among name names && not (is_named name words) && are_options names words
 
--- the value of an option, where its word is one or it has a default
+-- the value of an option: what its word spells, or the default if the option isn't named
 abbrev pub value_in : {A : Type 0} → Row A → Option (List ℕ) → Option A
 value_in row None = row.default
 value_in row (Some word) = row.read word
@@ -59,7 +59,7 @@ asked_from basis method max conflicts = None
 abbrev pub asked_in : List (List ℕ) → Option SynthSettings
 asked_in words = asked_from (value basis_row words) (value method_row words) (value max_row words) (value conflicts_row words)
 
--- the fewest levels are sought by fences alone
+-- the method of the search for the fewest levels is always `fence`
 abbrev pub least_depth_by : Method → SynthSettings → Option Command
 least_depth_by Fence asked = Some (commands.LeastDepth asked)
 least_depth_by method asked = None
@@ -128,7 +128,7 @@ command_in None words = None
 command_in (Some kind) words = if are_options (options_of kind) words then command_with kind words else None
 
 -- The command that words ask for, if they ask for one.
--- Example: synth --max 3 --basis nand asks for NAND alone, at most 3 steps, by the method ssv, with a
+-- Example: synth --max 3 --basis nand asks for NAND as the only operator, at most 3 steps, the method ssv, and a
 -- budget of 100,000.
 unfoldable pub command_of : List (List ℕ) → Option Command
 command_of [] = None
@@ -149,12 +149,12 @@ AsksFor words command = command_of words ≡ Some command
 abbrev pub IsBudget : ℕ → Type 0
 IsBudget conflicts = (1 ≤ conflicts) × (conflicts ≤ most_conflicts)
 
--- what holds where the format alone is named
+-- the defaults if only the format is named
 abbrev pub usual_for : Format → ImproveSettings
 usual_for Blif = improver.usual
 usual_for Bench = record improver.usual { basis = bench_set }
 
--- The basis has operators of the format's gates alone. In BLIF a gate may have any.
+-- The basis has only operators of the format's gates. In BLIF a gate may have any operator.
 abbrev pub HasGatesOf : Format → ℕ → Type 0
 HasGatesOf Blif basis = Unit {0}
 HasGatesOf Bench basis = is_within basis bench_set ≡ true
@@ -163,7 +163,7 @@ pub record IsAsked (format : Format) (settings : ImproveSettings) : Type 0 where
   pub range : improver.IsInRange settings
   pub basis : HasGatesOf format settings.basis
 
--- what a command is asked with is in its ranges
+-- the settings of a command are in their ranges
 abbrev pub IsAskable : Command → Type 0
 IsAskable commands.Agree = Unit {0}
 IsAskable commands.Recheck = Unit {0}

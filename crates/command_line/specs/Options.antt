@@ -1,4 +1,4 @@
--- The one table of options: how each is named and read, and which command takes it.
+-- The table of options: the name of each, how its value is read, its default, and which commands take it.
 use Rattle.std.specs.Prelude.{ℕ, List, [], ◌∷◌, codes, nat_eq, nat_lt, ◌==◌, bit_and, Bool, true, false, Option, Some, None, Result, Ok, Err, if◌then◌else◌}
 use Rattle.std.specs.List.{list_any}
 use Rattle.std.specs.Cmp.Lexicographic.{pointwise}
@@ -22,14 +22,14 @@ is_word = pointwise nat_eq
 abbrev pub is_among : List ℕ → List (List ℕ) → Bool
 is_among name names = list_any (is_word name) names
 
--- An option: its name, how the word after it is read, and what holds where it isn't named. An option
--- without a default has to be named.
+-- An option: its name, how the word after it is read, and its default. An option without a default has to be
+-- named.
 pub record Row (A : Type 0) : Type 0 where
   pub name : List ℕ
   pub read : List ℕ → Option A
   pub default : Option A
 
--- ---- how words are read
+-- ---- how values are read
 
 abbrev pub from_on : ℕ → Option ℕ → Option ℕ
 from_on low None = None
@@ -67,7 +67,7 @@ deed_in word = if is_word word (codes "write") then Some deeds.Write else (if is
 abbrev pub flag_in : List ℕ → Option Bool
 flag_in word = if is_word word (codes "yes") then Some true else (if is_word word (codes "no") then Some false else None)
 
--- `no` where it isn't named
+-- a flag, with the default `no`
 abbrev pub flag_row : List ℕ → Row Bool
 flag_row name = record { name = name; read = flag_in; default = Some false }
 
@@ -76,7 +76,7 @@ flag_row name = record { name = name; read = flag_in; default = Some false }
 abbrev pub basis_row : Row ℕ
 basis_row = record { name = codes "--basis"; read = basis_in; default = Some usual.basis }
 
--- In BENCH it names operators of gates alone, and all of these where it isn't named.
+-- In BENCH the basis has only operators of gates, and the default is all of these.
 abbrev pub gates_row : Row ℕ
 gates_row = record { name = codes "--basis"; read = λ word. if_of_gates (basis_in word); default = Some bench_set }
 
@@ -87,11 +87,11 @@ format_basis_row Bench = gates_row
 abbrev pub method_row : Row Method
 method_row = record { name = codes "--method"; read = method_named; default = Some usual.method }
 
--- the greatest size that is tried
+-- the greatest number of steps that is tried
 abbrev pub max_row : Row ℕ
 max_row = number_row (codes "--max") 0 most_steps (Some usual.max)
 
--- the budget of a formula
+-- the conflict budget of a formula
 abbrev pub conflicts_row : Row ℕ
 conflicts_row = number_row (codes "--conflicts") 1 most_conflicts (Some usual.conflicts)
 
@@ -99,41 +99,41 @@ conflicts_row = number_row (codes "--conflicts") 1 most_conflicts (Some usual.co
 abbrev pub cap_row : Row ℕ
 cap_row = number_row (codes "--cap") 0 improver.most_gates_of_window (Some improver.usual.cap)
 
--- how many rounds may change something
+-- the most rounds over all windows that may change the netlist
 abbrev pub rounds_row : Row ℕ
 rounds_row = number_row (codes "--rounds") 1 improver.most_rounds (Some improver.usual.rounds)
 
 abbrev pub format_row : Row Format
 format_row = record { name = codes "--format"; read = format_in; default = Some Blif }
 
--- whether a window may do anything on the rows that nobody sees
+-- whether observability don't-cares (ODC) of windows are used
 abbrev pub observe_row : Row Bool
 observe_row = flag_row (codes "--observe")
 
--- how many rounds of moves keep the size
+-- how many rounds of moves that keep the size
 abbrev pub effort_row : Row ℕ
 effort_row = number_row (codes "--effort") 0 improver.most_effort (Some improver.usual.effort)
 
--- how many blocks are generated; the number has to be named
+-- how many blocks are generated; this option has no default
 abbrev pub most_blocks : ℕ
 most_blocks = 10000
 
 abbrev pub blocks_row : Row ℕ
 blocks_row = number_row (codes "--blocks") 1 most_blocks None
 
--- what is done with them
+-- what is done with the netlist
 abbrev pub run_row : Row Deed
 run_row = record { name = codes "--run"; read = deed_in; default = Some deeds.Write }
 
--- whether a chain of the fewest levels is sought, among those of the fewest steps
+-- whether a chain of the fewest levels among those of the fewest steps is searched for
 abbrev pub least_depth_row : Row Bool
 least_depth_row = flag_row (codes "--least-depth")
 
--- whether certificates of that are judged
+-- whether the certificate to check is one of the fewest levels
 abbrev pub depth_row : Row Bool
 depth_row = flag_row (codes "--depth")
 
--- ---- which command takes which
+-- ---- which command takes which options
 
 abbrev pub kind_text : Kind → List ℕ
 kind_text Agree = codes "agree"
@@ -143,7 +143,7 @@ kind_text Improve = codes "improve"
 kind_text Equiv = codes "equiv"
 kind_text Gen = codes "gen"
 
--- the command of a name
+-- the command with a name
 abbrev pub kind_named : List ℕ → Option Kind
 kind_named name =
     if is_word name (kind_text Agree) then Some Agree

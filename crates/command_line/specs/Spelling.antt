@@ -1,4 +1,4 @@
--- How a command line is spelled: a name, and pairs of a name and a value in any order.
+-- The spelling of a command line: a command's name, and pairs of an option's name and a value, in any order.
 use Rattle.std.specs.Prelude.{◌≡◌, ℕ, List, [], ◌∷◌, Bool, true, false, Some, All, Contains}
 use Rattle.std.specs.List.{IsDistinct, flat_map}
 use Rattle.std.specs.Map.{keys_of}
@@ -24,8 +24,7 @@ both p = p.0 ∷ p.1 ∷ []
 abbrev pub flat : List Pair → List (List ℕ)
 flat pairs = flat_map both pairs
 
--- Pairs give an option this value: what the word after its name reads as, and its default where the
--- name isn't there.
+-- Pairs give an option this value: what the word after its name spells, or its default if the name doesn't occur.
 pub record Gives {A : Type 0} (row : Row A) (pairs : List Pair) (x : A) : Type 0 where
   pub named : (word : List ℕ) → Contains pairs (row.name, word) → row.read word ≡ Some x
   pub unnamed : ((word : List ℕ) → Contains pairs (row.name, word) → ⊥) → row.default ≡ Some x
@@ -37,7 +36,7 @@ pub record GivesSynth (pairs : List Pair) (s : SynthSettings) (least_depth : Boo
   pub conflicts : Gives conflicts_row pairs s.conflicts
   pub flag : Gives least_depth_row pairs least_depth
 
--- which basis they may give goes by the format
+-- the settings of `improve`; the possible bases depend on the format
 pub record GivesImprove (pairs : List Pair) (format : Format) (s : ImproveSettings) : Type 0 where
   pub format_is : Gives format_row pairs format
   pub basis : Gives (format_basis_row format) pairs s.basis
@@ -52,7 +51,7 @@ pub record GivesGen (pairs : List Pair) (count : ℕ) (deed : Deed) : Type 0 whe
   pub blocks : Gives blocks_row pairs count
   pub run : Gives run_row pairs deed
 
--- Pairs give what a command is asked with. The fewest levels are sought by fences alone.
+-- Pairs give the settings of a command. The method of the search for the fewest levels is always `fence`.
 abbrev pub GivesAll : List Pair → Command → Type 0
 GivesAll pairs commands.Agree = Unit {0}
 GivesAll pairs commands.Recheck = Gives depth_row pairs false
@@ -73,8 +72,8 @@ kind_of (commands.Improve format settings) = kinds.Improve
 kind_of (commands.Equiv budget) = kinds.Equiv
 kind_of (commands.Gen blocks deed) = kinds.Gen
 
--- Words are a command's name and then pairs. Each pair's name is that of an option which the command
--- takes, no name comes twice, and the pairs give what the command is asked with.
+-- Words are a command's name and then pairs. The command takes each option that is named, no name occurs twice,
+-- and the pairs give the settings of the command.
 pub record Spells (words : List (List ℕ)) (command : Command) : Type 0 where
   pub pairs : List Pair
   pub are : words ≡ kind_text (kind_of command) ∷ flat pairs

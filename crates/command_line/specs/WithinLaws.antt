@@ -1,4 +1,4 @@
--- A set is within another exactly where each of its operators is one of the other.
+-- A set is a subset of another if and only if each of its operators is one of the other.
 use Rattle.std.specs.Prelude.{◌≡◌, ℕ, zero, suc, ◌<◌, ◌==◌, true, bit_and, min, refl}
 use Rattle.std.proofs.Common.{arith, sym, ◌∙◌, ap, eqb-true, eq-eqb}
 use Rattle.std.proofs.lemmas.Nat.Bits.{bit_at_and, bit_at-lt, same_from_bits}

@@ -1,4 +1,4 @@
-//! What words can ask for.
+//! The commands that a command line can ask for.
 
 use improve_settings::ImproveSettings;
 use settings::SynthSettings;
@@ -10,44 +10,44 @@ pub enum Format {
     Bench,
 }
 
-/// What is done with a netlist that was generated.
+/// What `gen` does with the netlist.
 #[derive(Clone, Copy, PartialEq, Eq)]
 pub enum Deed {
-    /// It is written.
+    /// Write it.
     Write,
-    /// It is written as `improve` leaves it.
+    /// Improve it, as `improve` does, and write the result.
     Improve,
 }
 
-/// What the program is asked to do.
+/// A command with its settings.
 #[derive(Clone, Copy, PartialEq, Eq)]
 pub enum Command {
-    /// Say whether a chain meets its tables, or where it first doesn't.
+    /// Report whether a chain implements its tables, or the first difference.
     Agree,
-    /// Say whether a certificate is valid, and its verdict.
+    /// Report whether a certificate is valid, and its verdict.
     Recheck,
-    /// Say the same of a certificate that the chain has the fewest levels too.
+    /// Report the same for a certificate that the chain has the fewest levels too.
     RecheckDepth,
     /// Find a chain with the fewest steps, and write the certificate.
     Synth(SynthSettings),
-    /// Find a chain with the fewest steps, and of all that have as few one with the fewest levels, by fences.
+    /// Find a chain with the fewest steps, and among those one with the fewest levels, by fences.
     LeastDepth(SynthSettings),
-    /// Write a netlist of a format again that does the same with no more gates, by its windows.
+    /// Write an equivalent netlist with no more gates, found by resynthesis of windows.
     Improve {
         format: Format,
         settings: ImproveSettings,
     },
-    /// Decide whether two netlists are equivalent, within a budget of conflicts: for each pair or
-    /// sink that is given up its limit counts, and then the clauses that the last search learns.
+    /// Decide whether two netlists are equivalent, within a budget of conflicts. Each pair or output that is
+    /// given up costs its limit, and the last search costs the clauses that it learns.
     Equiv(u32),
-    /// Generate a netlist of `blocks` blocks, 1 to 10,000, and write it or improve it.
+    /// Generate a netlist of `blocks` blocks, 1 to 10,000, and write or improve it.
     Gen {
         blocks: u32,
         deed: Deed,
     },
 }
 
-/// Why words aren't a command.
+/// Why the arguments aren't a command.
 #[derive(Clone, Copy, PartialEq, Eq)]
 pub enum WordsError {
     /// They aren't a command line.

@@ -1,4 +1,4 @@
-//! What the definitions come to. Each law is the contract of a function that does nothing.
+//! Consequences of the definitions. Each law is the contract of a function with an empty body.
 ghost use Rattle.std.specs.Prelude.{◌≡◌, ◌↔◌, ◌≤◌, true, ℕ, List, [], ◌∷◌, codes};
 ghost use Rattle.std.specs.List.Sorted.{IsPermutation};
 ghost use Rattle.settings.specs.declared.methods.Method.TheVariants.{Fence};
@@ -16,21 +16,22 @@ ghost use Rattle.command_line.specs.Options.{is_within, most_blocks};
 ghost use Rattle.command_line.specs.Spelling.{Pair, flat, Spells};
 ghost use Rattle.command_line.specs.WithinLaws.{AreWithin};
 
-/// Words ask for a command exactly where they are its name and pairs of a name and a value: each name
-/// that of an option which the command takes, and no name twice. The value of an option that is named
-/// is what its word reads as, and of one that isn't named its default.
+/// Words ask for a command if and only if they are its name and then pairs of an option's name and a value: the
+/// command takes each option, and no option occurs twice. An option that is named has the value that its word
+/// spells, and any other option has its default.
 pub fn words_are_a_name_and_pairs()
     ensures { (words : List (List ℕ)) (command : Command) → AsksFor words command ↔ Spells words command }
 {}
 
-/// In which order the pairs stand is all the same.
+/// The order of the pairs doesn't matter.
 pub fn order_of_options_is_free()
     ensures { (name : List ℕ) (pairs other : List Pair) (command : Command) → IsPermutation pairs other →
         AsksFor (name ∷ flat pairs) command → AsksFor (name ∷ flat other) command }
 {}
 
-/// What `synth` and `improve` are asked with is in their ranges, the basis of a format with it, and so are the budget
-/// of `equiv` and the number of blocks of `gen`. The fewest levels are sought by fences alone.
+/// The settings of `synth` and `improve` are in their ranges, and so are the budget of `equiv` and the number of
+/// blocks of `gen`. The basis of `improve` fits the format. The method of the search for the fewest levels is
+/// always `fence`.
 pub fn settings_are_in_range()
     ensures synth { (words : List (List ℕ)) (settings : SynthSettings) → AsksFor words (Synth settings) → IsInRange settings }
     ensures least_depth { (words : List (List ℕ)) (settings : SynthSettings) → AsksFor words (LeastDepth settings) → IsInRange settings × (settings.method ≡ Fence) }
@@ -39,14 +40,14 @@ pub fn settings_are_in_range()
     ensures blocks { (words : List (List ℕ)) (blocks : ℕ) (deed : Deed) → AsksFor words (Gen blocks deed) → (1 ≤ blocks) × (blocks ≤ most_blocks) }
 {}
 
-/// `synth` and `improve` alone ask with what is usual, and so does `improve` with the format alone.
+/// Without options `synth` and `improve` have their default settings, and so has `improve` with only a format.
 pub fn names_alone_ask_for_what_is_usual()
     ensures synth { AsksFor (codes "synth" ∷ []) (Synth usual) }
     ensures improve { AsksFor (codes "improve" ∷ []) (Improve Blif improver.usual) }
     ensures bench { AsksFor (codes "improve" ∷ codes "--format" ∷ codes "bench" ∷ []) (Improve Bench (usual_for Bench)) }
 {}
 
-/// A basis is within another exactly where each of its operators is one of the other.
+/// A basis is a subset of another if and only if each of its operators is one of the other.
 pub fn bases_within_have_their_operators()
     ensures { (set all : ℕ) → (is_within set all ≡ true) ↔ AreWithin set all }
 {}

@@ -1,15 +1,13 @@
-//! The words of the command line, read strictly: a command and then its options, each as two words,
-//! `--name` and value, each at most once, in any order. Every other list of words is no command line.
-//! It stands on `settings` for what a command is asked with, on `op_basis` for the values of `--basis`
-//! and on `text_core` for numbers.
+//! The parser of the command line. It is strict: the words are a command and then its options, each as two words,
+//! `--name` and a value, each at most once, in any order. Any other list of words is a usage error. The crate uses
+//! `settings` for the settings of commands, `op_basis` for the values of `--basis` and `text_core` for numbers.
 //!
-//! `specs/Options.antt` is the one table of options: a row for each has its name, how its value is
-//! read and what holds where it isn't named; beside it stands which command takes which. A list of
-//! words asks for one command at most (`command_of` of `specs/CommandLine.antt`), and `read_words`
-//! answers it. A flag (`--least-depth`, `--depth`) has the value `yes` or `no`, and makes a command of
-//! its own: the fewest levels are another search than the fewest steps, and have other certificates.
-//! `laws` says the same without the program: words are a command exactly where they are its name and
-//! pairs of a name and a value, and the order of the pairs is free.
+//! `specs/Options.antt` is the table of options: each row has the name, how the value is read, and the default.
+//! Below it is the table of the options that each command takes. A list of words asks for at most one command
+//! (`command_of` in `specs/CommandLine.antt`), and `read_words` returns it. A flag (`--least-depth`, `--depth`)
+//! has the value `yes` or `no`, and `yes` selects a command of its own, since the search for the fewest levels is
+//! another one, with other certificates. `laws` says the same without the program: words are a command if and
+//! only if they are its name and pairs of a name and a value, and the order of the pairs doesn't matter.
 //!
 //! ```text
 //! let command = read_words(&words)?;   // of synth --max 3 --basis nand

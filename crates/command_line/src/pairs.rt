@@ -1,4 +1,4 @@
-//! Names and values by turns, as the words after a command.
+//! The words after a command: names and values alternate.
 ghost use Rattle.std.specs.Prelude.{◌≡◌, ℕ, List, map};
 ghost use Rattle.std.specs.Borrow.{Bor};
 ghost use Rattle.std.specs.Option.{option_map};
@@ -15,7 +15,7 @@ pub(crate) fn is_word(word: &[u8], name: &[u8]) -> bool
     word == name
 }
 
-/// The word after a name; None where it isn't named.
+/// The word after a name; None if the name doesn't occur.
 #[tactic(auto, unfolding(crate::specs::CommandLine::word_behind))]
 pub(crate) fn word_behind<'a>(name: &[u8], words: &'a [String]) -> Option<&'a [u8]>
     ensures { option_map (λ (x : Bor (List ℕ)). x.now) result ≡ spec.word_behind name.now (map string_bytes words.now) }
@@ -33,15 +33,14 @@ pub(crate) fn word_behind<'a>(name: &[u8], words: &'a [String]) -> Option<&'a [u
     None
 }
 
-/// Whether a name is named among pairs.
+/// Whether a name occurs among pairs.
 fn is_named(name: &[u8], words: &[String]) -> bool
     ensures { result ≡ spec.is_named name.now (map string_bytes words.now) }
 {
     word_behind(name, words).is_some()
 }
 
-/// Whether words are names and values by turns, each name that of an option which the command takes,
-/// and none twice.
+/// Whether names and values alternate, the command takes each option that is named, and none occurs twice.
 #[tactic(auto, unfolding(crate::specs::CommandLine::are_options))]
 pub(crate) fn are_options(kind: Kind, words: &[String]) -> bool
     ensures { result ≡ spec.are_options (options_of kind) (map string_bytes words.now) }

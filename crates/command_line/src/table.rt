@@ -1,5 +1,5 @@
-//! The one table of options: how each is named and read, what holds where it isn't named, and which
-//! command takes it. `specs/Options.antt` is the same table. Which values `--basis` has goes by the format.
+//! The table of options: the name of each, how its value is read, its default, and which commands take it.
+//! `specs/Options.antt` is the same table. The values of `--basis` depend on the format.
 ghost use Rattle.std.specs.Prelude.{◌≡◌, map};
 ghost use Rattle.std.specs.String.{string_bytes};
 ghost use Rattle.op_basis.specs.Text.{bench_set};
@@ -13,7 +13,7 @@ use op_basis::{BENCH, Basis, read_basis};
 use settings::{MOST_CONFLICTS, MOST_STEPS, Method, SynthSettings, method_named};
 use text_core::number_up_to;
 
-/// The names of the options, by what each sets.
+/// The names of the options.
 const BASIS: &[u8] = b"--basis";
 
 const METHOD: &[u8] = b"--method";
@@ -40,10 +40,10 @@ const LEAST_DEPTH: &[u8] = b"--least-depth";
 
 const DEPTH: &[u8] = b"--depth";
 
-/// The most blocks of a netlist that is generated.
+/// The most blocks of a generated netlist.
 const MOST_BLOCKS: u32 = 10_000;
 
-/// A command by its name.
+/// The commands that have names of their own.
 #[derive(Clone, Copy)]
 pub(crate) enum Kind {
     Agree,
@@ -54,7 +54,7 @@ pub(crate) enum Kind {
     Gen,
 }
 
-/// The command of a name.
+/// The command with a name.
 pub(crate) fn kind_named(name: &[u8]) -> Option<Kind>
     ensures { result ≡ spec.kind_named name.now }
 {
@@ -79,7 +79,7 @@ pub(crate) fn kind_named(name: &[u8]) -> Option<Kind>
     None
 }
 
-/// Whether a command takes the option of a name.
+/// Whether a command takes the option with a name.
 pub(crate) fn takes(kind: Kind, name: &[u8]) -> bool
     ensures { result ≡ spec.is_among name.now (spec.options_of kind) }
 {
@@ -128,7 +128,7 @@ fn number(name: &[u8], low: u32, high: u32, usual: Option<u32>, words: &[String]
     }
 }
 
-/// The value of an option that is `yes` or `no`, and `no` where it isn't named.
+/// The value of an option that is `yes` or `no`, with the default `no`.
 fn flag(name: &[u8], words: &[String]) -> Option<bool>
     ensures { result ≡ value (spec.flag_row name.now) (map string_bytes words.now) }
 {
@@ -153,14 +153,14 @@ pub(crate) fn given_basis(words: &[String]) -> Option<Basis>
     }
 }
 
-/// Whether each operator of a set is one of gates in BENCH.
+/// Whether all operators of a set are gates of BENCH.
 fn is_of_gates(basis: Basis) -> bool
     ensures { result ≡ spec.is_within basis bench_set }
 {
     basis.get() & BENCH == basis.get()
 }
 
-/// The value of `--basis` where the format is BENCH.
+/// The value of `--basis` for the format BENCH.
 fn given_gates(words: &[String]) -> Option<Basis>
     ensures { result ≡ value spec.gates_row (map string_bytes words.now) }
 {
@@ -251,7 +251,7 @@ pub(crate) fn given_effort(words: &[String]) -> Option<u32>
     number(EFFORT, 0, MOST_EFFORT, Some(usual), words)
 }
 
-/// The value of `--blocks`, which has to be named.
+/// The value of `--blocks`, which has no default.
 pub(crate) fn given_blocks(words: &[String]) -> Option<u32>
     ensures { result ≡ value spec.blocks_row (map string_bytes words.now) }
 {

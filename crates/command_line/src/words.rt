@@ -1,4 +1,4 @@
-//! From words to the command that they ask for.
+//! The command that words ask for.
 ghost use Rattle.std.specs.Prelude.{◌≡◌, map, IfOk};
 ghost use Rattle.std.specs.String.{string_bytes};
 ghost use Rattle.command_line.specs.CommandLine as spec;
@@ -33,7 +33,7 @@ fn asked_in(words: &[String]) -> Option<SynthSettings>
     }
 }
 
-/// The search for the fewest levels, which goes by fences alone.
+/// The search for the fewest levels, whose method is always `fence`.
 fn least_depth_by(asked: SynthSettings) -> Option<Command>
     ensures { result ≡ spec.least_depth_by asked.method asked }
 {
@@ -130,7 +130,7 @@ fn command_with(kind: Kind, words: &[String]) -> Option<Command>
     }
 }
 
-/// The command of words.
+/// The command that words ask for; None if they ask for none.
 #[tactic(auto, unfolding(crate::specs::CommandLine::command_of))]
 fn command_of(words: &[String]) -> Option<Command>
     ensures { result ≡ spec.command_of (map string_bytes words.now) }
@@ -147,9 +147,8 @@ fn command_of(words: &[String]) -> Option<Command>
     command_with(kind, options)
 }
 
-/// The command that the words ask for, the program's own name left out: `agree`, `recheck`, `synth`,
-/// `improve`, `equiv` or `gen`, each with its options. Every other list of words, the empty one among them, is
-/// `Usage`.
+/// The command that the words after the program's name ask for: `agree`, `recheck`, `synth`, `improve`, `equiv` or
+/// `gen`, each with its options. Any other list of words, also the empty one, is the error `Usage`.
 #[tactic(auto, using(crate::proofs::Ranges::reading))]
 pub fn read_words(words: &Vec<String>) -> Result<Command, WordsError>
     ensures exact { result ≡ spec.read (spec.spelled words.now) }

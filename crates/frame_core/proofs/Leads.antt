@@ -1,4 +1,4 @@
--- A word in front of a line's fields.
+-- A word before the fields of a line.
 use Rattle.std.specs.Prelude.{◌≡◌, List, [], ◌∷◌, ◌++◌}
 use Rattle.std.proofs.Common.{refl}
 use Rattle.std.proofs.lemmas.Grind.{common_steps}

@@ -15,20 +15,20 @@ use Rattle.frame_core.specs.Views.{shown, parts_text, line_in}
 use Rattle.frame_core.specs.Outside.{Side, Writes}
 use Rattle.frame_core.specs.PerformingLaws.{named_as}
 
--- No field is nothing.
+-- Without fields the text is empty.
 parts-none : (fields : List Field) → length fields ≡ 0 → parts_text fields ≡ []
 unfolding parts_text
 parts-none [] e = refl
 parts-none (f ∷ fs) e = absurd (omega arith)
 
--- So without fields nothing has to be written.
+-- So nothing has to be written.
 pub all_of_none : (old : Option (List ℕ)) (fields : List Field) → length fields ≡ 0 → Appends old old (parts_text fields)
 all_of_none old fields e = sym (ap (λ (text : List ℕ). appended old text) (parts-none fields e) ∙ appended-none old)
 
 pub front_of_none : (old : Option (List ℕ)) (fields : List Field) → length fields ≡ 0 → AppendsFront old old (parts_text fields)
 front_of_none old fields e = front_whole old old (parts_text fields) (all_of_none old fields e)
 
--- An attempt to write a text has written it, all of it where no call failed.
+-- An attempt to write a text wrote a prefix of it, and all of it if no call failed.
 written : (old new : Side) (text : List ℕ) (result : Result Unit WriteFault) → AppendsFront old.bytes new.bytes text → OnOk result (Appends old.bytes new.bytes text) → OnErr result (Rose old.faults new.faults) → Writes old new text
 written old new text (Ok x) front all cause = record { front = front; whole = λ quiet. all }
 written old new text (Err e) front all cause = record { front = front; whole = λ quiet. absurd (quiet cause) }
@@ -46,12 +46,12 @@ line_is : (fields : List Field) → codes "error:" ++ (parts_text fields ++ code
 unfolding error_line
 line_is fields = ap (λ (xs : List ℕ). codes "error:" ++ (xs ++ codes "\n")) (parts_are fields)
 
--- An attempt to write a line has written it.
+-- The same for an error line.
 pub told_line : (old new : Side) (fields : List Field) (result : Result Unit WriteFault) → AppendsFront old.bytes new.bytes (codes "error:" ++ (parts_text fields ++ codes "\n")) → OnOk result (Appends old.bytes new.bytes (codes "error:" ++ (parts_text fields ++ codes "\n"))) → OnErr result (Rose old.faults new.faults) → Writes old new (error_line (shown fields))
 told_line old new fields result front all cause =
     subst (λ (t : List ℕ). Writes old new t) (line_is fields) (written old new (codes "error:" ++ (parts_text fields ++ codes "\n")) result front all cause)
 
--- The error line of a run is that of its ending.
+-- The error line of a run is determined by how the run ended.
 pub told_as : (old new : Side) (e d : Ended) (a b : List told.Field) → e ≡ d → line_in d ≡ Some b → a ≡ b → Writes old new (error_line a) → LineAfter old new (line_in e)
 told_as old new e d a b is line same writes =
     subst (λ (x : Ended). LineAfter old new (line_in x)) (sym is)

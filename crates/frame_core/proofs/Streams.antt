@@ -1,11 +1,11 @@
--- Input that comes in pieces, with one piece more.
+-- An input that comes in pieces, after one more piece.
 use Rattle.std.proofs.Common.{◌≡◌, ℕ, ◌+◌, ◌-◌, ◌≤◌, ◌<◌, List, [], ◌++◌, length, Option, Some, sym, ap, ◌∙◌, arith, length-append}
 use Rattle.port_io.specs.Bytes.{Consumes, IsAtEnd, prepended}
 use Rattle.port_io.specs.TextLaws.{prepended-none, prepended-twice, all_taken, none_left, length_taken}
 use Rattle.frame_core.specs.Run.{IsWhole}
 use Rattle.frame_core.specs.Streaming.{WereTaken}
 
--- `bytes` were taken, `Holds` holds of them, and there is room for `room` more.
+-- `bytes` were consumed, `Holds` holds for them, and there is room for `room` more.
 pub record IsTaking (most room : ℕ) (old now : Option (List ℕ)) (Holds : List ℕ → Type 0) : Type 0 where
   pub bytes : List ℕ
   pub consumes : Consumes old now bytes
@@ -26,7 +26,7 @@ taking_more most room count old now new piece Holds Next then long fits more tak
   holds = more taking.bytes taking.holds;
 }
 
--- where nothing more is left, all was taken
+-- if nothing more is left, all was consumed
 pub taking_all : (most room : ℕ) (old now new : Option (List ℕ)) (Holds : List ℕ → Type 0) → Consumes now new [] → IsAtEnd new → IsTaking most room old now Holds → WereTaken most old new Holds
 taking_all most room old now new Holds then end taking = record {
   bytes = taking.bytes;
@@ -36,14 +36,14 @@ taking_all most room old now new Holds then end taking = record {
   holds = taking.holds;
 }
 
--- and with more than there is room for, what was left is too long
+-- if there is more than there is room for, the input is too long
 pub taking_long : (most room : ℕ) (old now new : Option (List ℕ)) (piece input : List ℕ) (Holds : List ℕ → Type 0) → Consumes now new piece → room < length piece → IsTaking most room old now Holds → old ≡ Some input → most < length input
 taking_long most room old now new piece input Holds then beyond taking told =
     let least = length_taken old new (taking.bytes ++ piece) input (joined old now new taking.bytes piece taking.consumes then) told in
     let count = length-append taking.bytes piece in
     omega (arith, count, least, taking.room_is, beyond)
 
--- what was taken is what the source held, and it was read to its end
+-- what was consumed is what the source held, and it was read to its end
 pub taken_whole : (most : ℕ) (old new : Option (List ℕ)) (Holds : List ℕ → Type 0) → (taken : WereTaken most old new Holds) → IsWhole old taken.bytes
 taken_whole most old new Holds taken = λ input told. all_taken old new taken.bytes input taken.consumes taken.end told
 

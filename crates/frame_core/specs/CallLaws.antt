@@ -1,4 +1,4 @@
--- What a run's outcome says of the calls that were made: which failed, and that the input was read to its end.
+-- What the outcome of a run says about its calls: which failed, and that the input was read to its end.
 use Rattle.std.specs.Prelude.{◌≡◌, ◌≢◌, ℕ, ◌<◌, List, [], length, Option, Some, None}
 use Rattle.std.proofs.Common.{refl, sym, ◌∙◌, ap, subst, arith}
 use Rattle.frame_core.specs.declared.status.Status.TheVariants as statuses
@@ -8,7 +8,7 @@ use Rattle.frame_core.specs.Run.{Outcome, ReadFault, TooLong, Memory, Answered, 
 
 -- ---- the source
 
--- what wrote read to the end
+-- a run that wrote had read to the end
 unread_by : (o : Outcome) (task : Task) (bytes : List ℕ) (source source' out out' : Side) (input : List ℕ) → SourceRead source source' o → OutAfter task bytes out out' o → source.bytes ≡ Some input → (source'.bytes ≡ Some [] → ⊥) → out' ≡ out
 unread_by ReadFault task bytes source source' out out' input read after told left = after
 unread_by TooLong task bytes source source' out out' input read after told left = after
@@ -23,7 +23,7 @@ pub unread : (task : Task) (r : Run) (o : Outcome) (most : ℕ) (input : List �
 unread task r o most input run reads told left =
     unread_by o task run.bytes r.source r.source' r.out r.out' input (subst (λ (m : Option ℕ). SourceAfter m r.source r.source' o) reads run.on_source) run.on_out told left
 
--- what was judged was read to its end
+-- an input that was judged was read to its end
 read_by : (o : Outcome) (most : ℕ) (source source' : Side) (input : List ℕ) → SourceRead source source' o → (o ≡ TooLong → most < length input) → source.bytes ≡ Some input → (status_of o ≡ statuses.Limit → most < length input → ⊥) → (status_of o ≡ statuses.ReadFault → ⊥) → (status_of o ≡ statuses.Memory → ⊥) → source'.bytes ≡ Some []
 read_by ReadFault most source source' input read long told a b c = absurd (b refl)
 read_by TooLong most source source' input read long told a b c = absurd (a refl (long refl))
@@ -34,7 +34,7 @@ read_by Starved most source source' input read long told a b c = read.end input 
 read_by (ReportCut reply) most source source' input read long told a b c = read.end input told
 read_by (NoAnswer refusal) most source source' input read long told a b c = read.end input told
 
--- and what is reported as too long is
+-- an input that is reported as too long is too long
 too_long_is : (task : Task) (r : Run) (o : Outcome) (most : ℕ) (input : List ℕ) → IsRun task r o → task.reads ≡ Some most → r.source.bytes ≡ Some input → o ≡ TooLong → most < length input
 too_long_is task r TooLong most input run reads told is =
     subst (λ (m : Option ℕ). IsBeyond m input) reads (run.judged input (subst (λ (m : Option ℕ). HasInput m r.source.bytes input) (sym reads) told))
@@ -65,7 +65,7 @@ untouched task r o run reads = left_alone o r.source r.source' (subst (λ (m : O
 
 -- ---- calls that failed
 
--- a side that is as before counted no call that failed
+-- if a port is as before, no call on it failed
 same_quiet : {A : Type 0} (old new : Side) → new ≡ old → old.faults < new.faults → A
 same_quiet old new same more =
     let counts : new.faults ≡ old.faults = ap (λ (s : Side). s.faults) same in
@@ -74,7 +74,7 @@ same_quiet old new same more =
 quiet_none : {A : Type 0} (old new : Side) → IsQuiet old new → old.faults < new.faults → A
 quiet_none old new quiet more = absurd (omega (arith, quiet, more))
 
--- one on the source is a read fault
+-- a failed call of the source gives the status of a read fault
 failed_read : (old new : Side) (o : Outcome) → SourceRead old new o → old.faults < new.faults → status_of o ≡ statuses.ReadFault
 failed_read old new ReadFault after more = refl
 failed_read old new TooLong after more = quiet_none old new after more
@@ -92,7 +92,7 @@ failed_source (Some most) old new o after more = failed_read old new o after mor
 pub read_failed : (task : Task) (r : Run) (o : Outcome) → IsRun task r o → r.source.faults < r.source'.faults → r.status ≡ statuses.ReadFault
 read_failed task r o run more = run.status_is ∙ failed_source task.reads r.source r.source' o run.on_source more
 
--- and one on the output a write fault
+-- a failed call of the output gives the status of a write fault
 failed_write : (task : Task) (bytes : List ℕ) (old new : Side) (o : Outcome) → OutAfter task bytes old new o → old.faults < new.faults → status_of o ≡ statuses.WriteFault
 failed_write task bytes old new ReadFault after more = same_quiet old new after more
 failed_write task bytes old new TooLong after more = same_quiet old new after more

@@ -1,4 +1,4 @@
--- What the outcome of a command's run says to its caller.
+-- Every run with an outcome keeps the promise of all commands.
 use Rattle.std.specs.Prelude.{◌≡◌, ◌≢◌, ℕ, ◌≤◌, ◌⊎◌, Bool, true, false, List, Option, Some, None}
 use Rattle.std.proofs.Common.{sym, ◌∙◌, ap, subst, inl, inr}
 use Rattle.std.proofs.Math.Logic.{⊎_elim}
@@ -16,22 +16,22 @@ use Rattle.frame_core.specs.Promise.{InputHeld, OutputHeld, AllSteady, Stands, T
 
 -- ---- the input
 
--- what was judged is the input
+-- the bytes that were judged are the input
 pub input_is : (reads : Option ℕ) (left : Option (List ℕ)) (bytes input : List ℕ) → IsInput reads left bytes → HasInput reads left input → bytes ≡ input
 input_is None left bytes input are told = are ∙ sym told
 input_is (Some most) left bytes input are told = are input told
 
--- what holds of it holds of the input
+-- what holds for them holds for the input
 pub of_input : (task : Task) (r : Run) (Holds : List ℕ → Type 0) (input : List ℕ) → OfInput task r Holds → HasInput task.reads r.source.bytes input → Holds input
 of_input task r Holds input of told = subst Holds (input_is task.reads r.source.bytes of.bytes input of.are told) of.holds
 
 -- ---- each outcome
 
--- what went to the notes where no report did
+-- what was written to the notes if no report was
 line_alone : (old between new : Side) (text : List ℕ) → between ≡ old → Writes between new text → Writes old new text
 line_alone old between new text same writes = subst (λ (s : Side). Writes s new text) same writes
 
--- what stands where the bytes have an answer
+-- the whole reply was written if the input has an answer
 replies : (task : Task) (r : Run) (reply : Reply) → IsRun task r (Answered reply) → OfInput task r (Replies task r)
 replies task r reply run =
     let tells : Tells task run.bytes reply = run.judged.1 in
@@ -75,7 +75,7 @@ starved task r run = record {
   };
 }
 
--- a report that was cut met a fault of the notes
+-- if a report is truncated, the notes failed
 report_rose : (old between new : Side) (report : Option (List ℕ)) → old.faults ≤ between.faults → ReportsFront old between report → between.faults ≤ new.faults → Rose old.faults new.faults
 report_rose old between new None first front then = absurd front
 report_rose old between new (Some text) first front then = rose_later old.faults between.faults new.faults first front.1 then
@@ -122,7 +122,7 @@ fault_told task r run = record { status_is = run.status_is; on_out = run.on_out;
 memory_told : (task : Task) (r : Run) → IsRun task r Memory → TellsError r memory_refusal
 memory_told task r run = record { status_is = run.status_is; on_out = run.on_out; on_note = line_alone r.note run.on_note.between r.note' (error_line memory) run.on_note.report run.on_note.line }
 
--- a read fault is one of the source
+-- a read fault is a failed call of the source
 source_rose : (reads : Option ℕ) (old new : Side) → SourceAfter reads old new ReadFault → Rose old.faults new.faults
 source_rose None old new after = absurd after
 source_rose (Some most) old new after = after
@@ -148,12 +148,12 @@ complete task r o input run told may steady =
     (λ (cut : CutReport task r input). absurd (steady.note cut.rose))
     (answered task r o input run told may steady.output)
 
--- an answer that the bytes judged have is one that the input has
+-- an answer of the bytes that were judged is an answer of the input
 has_answer : {A : Type 0} (task : Task) (r : Run) (bytes input : List ℕ) (reply : Reply) → IsInput task.reads r.source.bytes bytes → HasInput task.reads r.source.bytes input → Tells task bytes reply → ((answer : task.Answer) → task.Has input answer → ⊥) → A
 has_answer task r bytes input reply are told tells none =
     absurd (none tells.answer (subst (λ (bs : List ℕ). task.Has bs tells.answer) (input_is task.reads r.source.bytes bytes input are told) tells.has))
 
--- what may stand on the output is no fault's, and no input's that is too long
+-- a truncated text is never that of an input with a fault, or of one that is too long
 no_fault_stands : {A : Type 0} (task : Task) (input front : List ℕ) (fault : task.Fault) → IsTask task → MayStand task input front → task.Meets input fault → A
 no_fault_stands task input front fault is stands meets =
     ⊎_elim
@@ -198,11 +198,11 @@ too_long_told task r (NoAnswer refusal) input is run told long held =
 
 -- ---- what a status says
 
--- a status that an outcome does not have
+-- an outcome doesn't have a status that isn't its own
 apart : {A : Type 0} (task : Task) (r : Run) (o : Outcome) (s : Status) → IsRun task r o → r.status ≡ s → (status_of o ≡ s → ⊥) → A
 apart task r o s run is other = absurd (other (sym run.status_is ∙ is))
 
--- nor a reply, nor a refusal
+-- nor does a reply or a refusal
 no_reply : {A : Type 0} (task : Task) (r : Run) (reply : Reply) (s : Status) → IsTask task → IsRun task r (Answered reply) → r.status ≡ s → (statuses.Done ≡ s → ⊥) → (statuses.Undecided ≡ s → ⊥) → (statuses.Refused ≡ s → ⊥) → A
 no_reply task r reply s is_task run is a b c =
     let tells : Tells task run.bytes reply = run.judged.1 in
@@ -292,7 +292,7 @@ write_rose task r o is_task run is =
     (λ (cut : CutReport task r of.bytes). inr cut.rose)
     of.holds
 
--- where there is no report, of the output alone
+-- without a report a write fault is a failed call of the output
 cut_rose : (task : Task) (r : Run) (input : List ℕ) → HasNoReport task → ReplyCut task r input ⊎ CutReport task r input → Rose r.out.faults r.out'.faults
 cut_rose task r input none cut =
     ⊎_elim
@@ -315,7 +315,7 @@ read_fault_only task r Starved is_task run is = apart task r Starved statuses.Re
 read_fault_only task r (ReportCut reply) is_task run is = apart task r (ReportCut reply) statuses.ReadFault run is (λ e. cc)
 read_fault_only task r (NoAnswer refusal) is_task run is = no_refusal task r refusal statuses.ReadFault is_task run is (λ e. cc) (λ e. cc) (λ e. cc) (λ e. cc)
 
--- a refusal for want of memory is that
+-- a refusal with the status of memory is the one for running out of memory
 memory_refused : (task : Task) (r : Run) (refusal : Refusal) → IsTask task → IsRun task r (NoAnswer refusal) → r.status ≡ statuses.Memory → TellsError r memory_refusal
 memory_refused task r refusal is_task run is =
     let refuses : Refuses task run.bytes refusal = run.judged.1 in
@@ -341,7 +341,7 @@ memory_only task r Starved is_task run is = inr (starved task r run)
 memory_only task r (ReportCut reply) is_task run is = apart task r (ReportCut reply) statuses.Memory run is (λ e. cc)
 memory_only task r (NoAnswer refusal) is_task run is = inl (memory_refused task r refusal is_task run is)
 
--- no command is reported as none
+-- no command ends with the status of a usage error
 pub not_usage : {A : Type 0} (task : Task) (r : Run) (o : Outcome) → IsTask task → IsRun task r o → r.status ≡ statuses.Usage → A
 not_usage task r ReadFault is_task run is = apart task r ReadFault statuses.Usage run is (λ e. cc)
 not_usage task r TooLong is_task run is = apart task r TooLong statuses.Usage run is (λ e. cc)
@@ -354,7 +354,7 @@ not_usage task r (NoAnswer refusal) is_task run is = no_refusal task r refusal s
 
 -- ---- the source
 
--- a source that isn't read has no fault
+-- if the source isn't read, it has no failed call
 no_fault : (reads : Option ℕ) (old new : Side) → reads ≡ None → SourceAfter reads old new ReadFault → ⊥
 no_fault None old new none after = after
 no_fault (Some most) old new none after = absurd cc
@@ -392,7 +392,7 @@ unchanged task r (NoAnswer refusal) is_task run a b c d whole = run.on_out
 
 -- ---- the promise
 
--- All that is promised follows from a run's having an outcome.
+-- A run with an outcome keeps the whole promise.
 pub promised : (task : Task) (r : Run) (o : Outcome) → IsTask task → IsRun task r o → CommandPromise task r
 promised task r o is_task run = record {
   complete = λ input told may steady. complete task r o input run told may steady;

@@ -1,10 +1,10 @@
--- What a run leaves outside.
+-- The state of sources and sinks, and what a run writes.
 use Rattle.std.specs.Prelude.{◌≡◌, ℕ, List, Option}
 use Rattle.port_io.specs.Bytes.{Appends, AppendsFront}
 use Rattle.port_io.specs.Faults.{Rose}
 
--- a source or a sink at a moment: the bytes that it has left or that were written to it, where
--- they are known, and its count of faults
+-- the state of a source or a sink: the bytes that are left in it or were written to it, if they are known, and its
+-- count of faults
 pub record Side : Type 0 where
   pub bytes : Option (List ℕ)
   pub faults : ℕ
@@ -12,11 +12,11 @@ pub record Side : Type 0 where
 abbrev pub side : {T : Type 0} → (T → Option (List ℕ)) → (T → ℕ) → T → Side
 side bytes faults x = record { bytes = bytes x; faults = faults x }
 
--- No call on it failed: the count is as before.
+-- No call on it failed: its count of faults is as before.
 abbrev pub IsQuiet : Side → Side → Type 0
 IsQuiet old new = new.faults ≡ old.faults
 
--- A text was written: a prefix of it, and all of it where no call failed.
+-- A text was written: a prefix of it, and all of it if no call failed.
 pub record Writes (old new : Side) (text : List ℕ) : Type 0 where
   pub front : AppendsFront old.bytes new.bytes text
   pub whole : (Rose old.faults new.faults → ⊥) → Appends old.bytes new.bytes text

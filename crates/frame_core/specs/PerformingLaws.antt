@@ -1,4 +1,4 @@
--- From what a command did with bytes to what performing it comes to.
+-- From what a command does with its input to what running it does.
 use Rattle.std.specs.Prelude.{◌≡◌, ℕ, ◌≤◌, true, List, [], Option, Some, None, take, drop, Result, Ok, Err}
 use Rattle.std.proofs.Common.{sym, ◌∙◌, ap, subst, refl, arith, inl, inr}
 use Rattle.std.proofs.lemmas.Grind.{common_steps}
@@ -59,7 +59,7 @@ source_by : (reads : Option ℕ) (task : Task) (bytes : List ℕ) (old new : Sid
 source_by None task bytes old new o read judged = source_left task bytes old new o read judged
 source_by (Some most) task bytes old new o read judged = source_read task bytes old new o read judged
 
--- What was read was answered.
+-- The input was read, and answered.
 pub performed : (task : Task) (reads : Option ℕ) (bytes : List ℕ) (e : Ended) (source out note : Side × Side) → reads ≡ task.reads → IsInput reads source.0.bytes bytes → WasRead reads source.0 source.1 → Answers task bytes e out note → Performs task e source out note
 performed task reads bytes e source out note same are read answers = record {
   outcome = answers.outcome;
@@ -72,7 +72,7 @@ performed task reads bytes e source out note same are read answers = record {
   never_falls = answers.never_falls;
 }
 
--- Reading failed, gave too many bytes, or lacked memory.
+-- Reading failed, returned too many bytes, or ran out of memory.
 pub fault_read : (task : Task) (most : ℕ) (source out note : Side × Side) → Some most ≡ task.reads → Rose source.0.faults source.1.faults → out.1 ≡ out.0 → note.1 ≡ note.0 → Performs task ended.ReadFault source out note
 fault_read task most source out note same rose on_out on_note = record {
   outcome = ReadFault;
@@ -109,9 +109,9 @@ want_read task most source out note same quiet on_out on_note = record {
   never_falls = let counts : note.1.faults ≡ note.0.faults = ap (λ (s : Side). s.faults) on_note in omega arith;
 }
 
--- ---- replies that are sent at once
+-- ---- replies that are written at once
 
--- A prefix of an answer's text may be left of it.
+-- A prefix of an answer's text may be on the output.
 pub left_of : (task : Task) (bytes : List ℕ) (reply : told.Reply) (old new : Side) → Tells task bytes reply → AppendsFront old.bytes new.bytes reply.text → IsLeft task bytes old new
 left_of task bytes reply old new tells front =
     let text : List ℕ = (task.reply tells.answer).text in
@@ -122,7 +122,7 @@ left_of task bytes reply old new tells front =
       on_out = subst (λ (t : List ℕ). Appends old.bytes new.bytes (take front.count t)) same front.appends;
     }
 
--- And so may one of a text that has gone out before the answer was known.
+-- So may a prefix of a text that is written before the answer is known.
 pub begun_left_of : (task : Task) (bytes text : List ℕ) (old new : Side) → task.Begins bytes text → AppendsFront old.bytes new.bytes text → IsLeft task bytes old new
 begun_left_of task bytes text old new begins front = record {
   front = take front.count text;
@@ -150,7 +150,7 @@ sent_out task bytes reply Starved old new tells is out = absurd is
 sent_out task bytes reply (ReportCut x) old new tells is out = (subst (λ (y : told.Reply). Appends old.bytes new.bytes y.text) (sym is) out.0, out.1)
 sent_out task bytes reply (NoAnswer refusal) old new tells is out = absurd is
 
--- What judged the bytes rightly, and was sent out, answers them.
+-- A correct result that was written answers the input.
 pub answered : (task : Task) (bytes : List ℕ) (x : Result Reply Stop) (e : Ended) (out note : Side × Side) → Judges task bytes x → Finishes x e out note → Answers task bytes e out note
 answered task bytes (Ok reply) e out note judges sent = record {
   outcome = sent.outcome;
@@ -179,7 +179,7 @@ answered task bytes (Err (stops.NoAnswer refusal)) e out note judges held = reco
 
 -- ---- with the error line after it
 
--- What was performed, and whose error line was written, is a run.
+-- A command that ran, and whose error line was written, is a run.
 pub is_run : (task : Task) (words : List (List ℕ)) (e : Ended) (status : Status) (source out : Side × Side) (note between note' : Side) → Performs task e source out (note, between) → status ≡ status_in e → LineAfter between note' (line_in e) → between.faults ≤ note'.faults → (outcome : Outcome) × IsRun task (run_of words source out (note, note') status) outcome
 is_run task words e status source out note between note' performs same line then = (
   performs.outcome,
@@ -199,9 +199,9 @@ is_run task words e status source out note between note' performs same line then
   },
 )
 
--- ---- how a reply is sent
+-- ---- how a reply is written
 
--- Its text was cut.
+-- Its text is truncated.
 pub text_cut : (reply : told.Reply) (text : List ℕ) (out note : Side × Side) → text ≡ reply.text → AppendsFront out.0.bytes out.1.bytes text → Rose out.0.faults out.1.faults → note.1 ≡ note.0 → Sent reply ended.CutShort out note
 text_cut reply text out note same front rose on_note = record {
   outcome = CutShort;
@@ -212,7 +212,7 @@ text_cut reply text out note same front rose on_note = record {
   never_falls = let counts : note.1.faults ≡ note.0.faults = ap (λ (s : Side). s.faults) on_note in omega arith;
 }
 
--- It stands whole, and so does its report.
+-- It was written whole, and so was its report.
 pub all_sent : (reply : told.Reply) (text : List ℕ) (out note : Side × Side) → text ≡ reply.text → Appends out.0.bytes out.1.bytes text → IsQuiet out.0 out.1 → Reports note.0 note.1 reply.report → IsQuiet note.0 note.1 → Sent reply (ended.Answered reply.status) out note
 all_sent reply text out note same on_out out_quiet reports note_quiet = record {
   outcome = Answered reply;
@@ -223,7 +223,7 @@ all_sent reply text out note same on_out out_quiet reports note_quiet = record {
   never_falls = omega (arith, note_quiet);
 }
 
--- Its report was cut.
+-- Its report is truncated.
 pub report_cut : (reply : told.Reply) (text : List ℕ) (out note : Side × Side) → text ≡ reply.text → Appends out.0.bytes out.1.bytes text → IsQuiet out.0 out.1 → ReportsFront note.0 note.1 reply.report → note.0.faults ≤ note.1.faults → Sent reply ended.ReportCut out note
 report_cut reply text out note same on_out out_quiet front never = record {
   outcome = ReportCut reply;
@@ -234,9 +234,9 @@ report_cut reply text out note same on_out out_quiet front never = record {
   never_falls = never;
 }
 
--- ---- how a text goes out in pieces
+-- ---- how a text is written in pieces
 
--- All of it did.
+-- All of it was written.
 pub pieces_sent : (task : Task) (bytes : List ℕ) (reply : told.Reply) (out note : Side × Side) → Tells task bytes reply → reply.report ≡ None → Appends out.0.bytes out.1.bytes reply.text → IsQuiet out.0 out.1 → note.1 ≡ note.0 → Answers task bytes (ended.Answered reply.status) out note
 pieces_sent task bytes reply out note tells none on_out quiet on_note = record {
   outcome = Answered reply;
@@ -247,7 +247,7 @@ pieces_sent task bytes reply out note tells none on_out quiet on_note = record {
   never_falls = let counts : note.1.faults ≡ note.0.faults = ap (λ (s : Side). s.faults) on_note in omega arith;
 }
 
--- The output failed in it.
+-- The output failed while it was written.
 pub pieces_cut : (task : Task) (bytes : List ℕ) (out note : Side × Side) → IsLeft task bytes out.0 out.1 → Rose out.0.faults out.1.faults → note.1 ≡ note.0 → Answers task bytes ended.CutShort out note
 pieces_cut task bytes out note left rose on_note = record {
   outcome = CutShort;
@@ -258,7 +258,7 @@ pieces_cut task bytes out note left rose on_note = record {
   never_falls = let counts : note.1.faults ≡ note.0.faults = ap (λ (s : Side). s.faults) on_note in omega arith;
 }
 
--- Memory ran out in it.
+-- Memory ran out while it was written.
 pub pieces_starved : (task : Task) (bytes : List ℕ) (out note : Side × Side) → task.in_pieces ≡ true → IsLeft task bytes out.0 out.1 → IsQuiet out.0 out.1 → note.1 ≡ note.0 → Answers task bytes ended.Starved out note
 pieces_starved task bytes out note pieces left quiet on_note = record {
   outcome = Starved;
@@ -271,6 +271,6 @@ pieces_starved task bytes out note pieces left quiet on_note = record {
 
 -- ---- lines
 
--- Fields by another name are written as they are.
+-- Equal fields give the same error line.
 pub named_as : (old new : Side) (a b : List told.Field) → a ≡ b → Writes old new (error_line a) → Writes old new (error_line b)
 named_as old new a b same writes = subst (λ (n : List told.Field). Writes old new (error_line n)) same writes

@@ -1,4 +1,4 @@
--- Texts that go out in pieces, one after the other.
+-- Texts that are written one after the other.
 use Rattle.std.proofs.Common.{◌≡◌, ℕ, List, [], ◌∷◌, length, Option, sym, subst, arith}
 use Rattle.std.proofs.lemmas.Grind.{common_steps}
 use Rattle.port_io.specs.Bytes.{Appends, AppendsFront}
@@ -6,7 +6,7 @@ use Rattle.port_io.specs.TextLaws.{appended-none, front_none, front_whole, front
 use Rattle.port_io.specs.CountLaws.{counts}
 use Rattle.frame_core.specs.Told.{joined}
 
--- Of texts that were to be written after `first` these are left, whatever comes of them.
+-- Of the texts to be written after `first`, `left` remain to be written.
 pub record IsWriting (first now : Option (List ℕ)) (texts left : List (List ℕ)) : Type 0 where
   pub whole : (later : Option (List ℕ)) → Appends now later (joined left) → Appends first later (joined texts)
   pub front : (later : Option (List ℕ)) → AppendsFront now later (joined left) → AppendsFront first later (joined texts)
@@ -22,13 +22,13 @@ one_written first now next texts left rest text are writing more = record {
   front = λ later front. writing.front later (subst (λ (ts : List (List ℕ)). AppendsFront now later (joined ts)) (sym are) (front_two now next later text (joined rest) more front));
 }
 
--- One was cut.
+-- One is truncated.
 pub one_cut : (first now next : Option (List ℕ)) (texts left rest : List (List ℕ)) (text : List ℕ) → left ≡ text ∷ rest → IsWriting first now texts left → AppendsFront now next text → AppendsFront first next (joined texts)
 unfolding joined
 one_cut first now next texts left rest text are writing cut =
     writing.front next (subst (λ (ts : List (List ℕ)). AppendsFront now next (joined ts)) (sym are) (front_one now next text (joined rest) cut))
 
--- None of those that are left was.
+-- None of the remaining texts was written.
 pub some_left : (first now : Option (List ℕ)) (texts left : List (List ℕ)) → IsWriting first now texts left → AppendsFront first now (joined texts)
 some_left first now texts left writing = writing.front now (front_none now (joined left))
 

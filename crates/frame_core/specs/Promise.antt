@@ -1,4 +1,4 @@
--- What every command promises, for every source and every sink.
+-- The promise of every command, for every source and every sink.
 use Rattle.std.specs.Prelude.{◌≡◌, ◌≢◌, ℕ, ◌<◌, ◌≤◌, ◌⊎◌, List, [], length, true, false, Some, None}
 use Rattle.port_io.specs.Bytes.{Appends}
 use Rattle.port_io.specs.Faults.{Rose}
@@ -14,24 +14,24 @@ use Rattle.frame_core.specs.Run.{Run, IsInput, HasInput, Reports, ReportsFront}
 abbrev pub IsSteady : Side → Side → Type 0
 IsSteady old new = Rose old.faults new.faults → ⊥
 
--- No call on the source failed, and memory sufficed.
+-- No call of the source failed, and memory didn't run out.
 pub record InputHeld (r : Run) : Type 0 where
   pub source : IsSteady r.source r.source'
   pub memory : r.status ≢ Memory
 
--- Nor did a call on the output.
+-- Nor did a call of the output fail.
 pub record OutputHeld (r : Run) : Type 0 where
   pub input : InputHeld r
   pub out : IsSteady r.out r.out'
 
--- Nor did one on the notes: no call failed at all.
+-- Nor did a call of the notes fail: no call failed at all.
 pub record AllSteady (r : Run) : Type 0 where
   pub output : OutputHeld r
   pub note : IsSteady r.note r.note'
 
 -- ---- what a caller sees
 
--- The reply stands outside, whole and alone, and no call on the sinks failed.
+-- The whole reply was written and nothing else, and no call of the sinks failed.
 pub record Stands (r : Run) (reply : Reply) : Type 0 where
   pub status_is : r.status ≡ reply.status
   pub on_out : Appends r.out.bytes r.out'.bytes reply.text
@@ -45,19 +45,19 @@ pub record TellsError (r : Run) (refusal : Refusal) : Type 0 where
   pub on_out : r.out' ≡ r.out
   pub on_note : Writes r.note r.note' (error_line refusal.named)
 
--- The input has an answer, and it stands outside.
+-- The input has an answer, which was written whole.
 pub record Replies (task : Task) (r : Run) (input : List ℕ) : Type 0 where
   pub answer : task.Answer
   pub has : task.Has input answer
   pub stands : Stands r (task.reply answer)
 
--- It has a fault, which is reported.
+-- The input has a fault, which is reported.
 pub record Faults (task : Task) (r : Run) (input : List ℕ) : Type 0 where
   pub fault : task.Fault
   pub meets : task.Meets input fault
   pub told : TellsError r (task.refusal fault)
 
--- The output failed in the text of an answer: a prefix of it stands there, and the fault is reported.
+-- The output failed while the text of an answer was written: a prefix of it is there, and the failure is reported.
 pub record ReplyCut (task : Task) (r : Run) (input : List ℕ) : Type 0 where
   pub front : List ℕ
   pub leaves : MayStand task input front
@@ -65,8 +65,8 @@ pub record ReplyCut (task : Task) (r : Run) (input : List ℕ) : Type 0 where
   pub rose : Rose r.out.faults r.out'.faults
   pub on_note : Writes r.note r.note' (error_line write_fault)
 
--- The notes failed in the report of an answer: its text stands on the output, whole, a prefix of its report
--- on the notes, and then the fault is reported.
+-- The notes failed while the report of an answer was written: its whole text is on the output, a prefix of the
+-- report is on the notes, and then the failure is reported.
 pub record ReportCut (task : Task) (r : Run) (input : List ℕ) : Type 0 where
   pub answer : task.Answer
   pub has : task.Has input answer
@@ -80,8 +80,7 @@ pub record ReportCut (task : Task) (r : Run) (input : List ℕ) : Type 0 where
   pub first : r.note.faults ≤ between.faults
   pub then : between.faults ≤ r.note'.faults
 
--- Memory ran out while the text of an answer went out in pieces: a prefix of it stands there, and the want
--- is reported.
+-- Memory ran out while the text of an answer was written in pieces: a prefix of it is there, and this is reported.
 pub record ReplyStarved (task : Task) (r : Run) (input : List ℕ) : Type 0 where
   pub in_pieces : task.in_pieces ≡ true
   pub front : List ℕ
@@ -90,13 +89,13 @@ pub record ReplyStarved (task : Task) (r : Run) (input : List ℕ) : Type 0 wher
   pub out_quiet : IsQuiet r.out r.out'
   pub on_note : Writes r.note r.note' (error_line memory)
 
--- `Holds` holds of what the command judged: of all that the source held, where its bytes are known.
+-- `Holds` holds for the bytes that the command judged: all bytes of the source, if they are known.
 pub record OfInput (task : Task) (r : Run) (Holds : List ℕ → Type 0) : Type 0 where
   pub bytes : List ℕ
   pub are : IsInput task.reads r.source.bytes bytes
   pub holds : Holds bytes
 
--- The input was longer than the command reads, which is reported.
+-- The input is longer than the command reads, and this is reported.
 pub record IsTooLong (task : Task) (r : Run) : Type 0 where
   pub beyond : (input : List ℕ) → HasInput task.reads r.source.bytes input → IsBeyond task.reads input
   pub told : TellsError r too_long_refusal
@@ -104,19 +103,20 @@ pub record IsTooLong (task : Task) (r : Run) : Type 0 where
 -- ---- the promise
 
 pub record CommandPromise (task : Task) (r : Run) : Type 0 where
-  -- Where no call failed at all, input without a fault gets an answer.
+  -- If no call failed at all, an input without a fault gets its answer.
   pub complete : (input : List ℕ)
       → HasInput task.reads r.source.bytes input
       → IsAnswerable task input
       → AllSteady r
       → Replies task r input
-  -- Where the notes may have failed, it does, or they failed in its report.
+  -- If no call failed but maybe of the notes, it gets its answer, or the notes failed while its report was
+  -- written.
   pub answered : (input : List ℕ)
       → HasInput task.reads r.source.bytes input
       → IsAnswerable task input
       → OutputHeld r
       → Replies task r input ⊎ ReportCut task r input
-  -- The fault of input that has one is reported, and so is input that is too long.
+  -- The fault of an input is reported, and so is an input that is too long.
   pub refused : (input : List ℕ) (fault : task.Fault)
       → HasInput task.reads r.source.bytes input
       → task.Meets input fault
@@ -127,7 +127,7 @@ pub record CommandPromise (task : Task) (r : Run) : Type 0 where
       → IsBeyond task.reads input
       → InputHeld r
       → TellsError r too_long_refusal
-  -- Each status comes for its cause alone.
+  -- Each status has its own cause.
   pub done_only : r.status ≡ Done → OfInput task r (Replies task r)
   pub undecided_only : r.status ≡ Undecided → OfInput task r (Replies task r)
   pub refused_only : r.status ≡ Refused → OfInput task r (λ input. Replies task r input ⊎ Faults task r input)
@@ -137,11 +137,11 @@ pub record CommandPromise (task : Task) (r : Run) : Type 0 where
   pub write_fault_only : r.status ≡ WriteFault → OfInput task r (λ input. ReplyCut task r input ⊎ ReportCut task r input)
   pub write_rose : r.status ≡ WriteFault → Rose r.out.faults r.out'.faults ⊎ Rose r.note.faults r.note'.faults
   pub memory_only : r.status ≡ Memory → TellsError r memory_refusal ⊎ OfInput task r (ReplyStarved task r)
-  -- Where a call on the source or on the output failed, that is reported and nothing else. One on the notes that fails
-  -- in a report is reported too: without it the reply wouldn't stand.
+  -- If a call of the source or of the output failed, that is reported and nothing else. A call of the notes that
+  -- fails in a report is reported too, since the reply isn't whole without its report.
   pub read_failed : r.source.faults < r.source'.faults → r.status ≡ ReadFault
   pub write_failed : r.out.faults < r.out'.faults → r.status ≡ WriteFault
-  -- A command without a report never ends with a fault of the notes.
+  -- A command without a report never ends with a failure of the notes.
   pub out_rose : HasNoReport task → r.status ≡ WriteFault → Rose r.out.faults r.out'.faults
   -- Without an answer the output is as before.
   pub unchanged : r.status ≢ Done
@@ -150,7 +150,7 @@ pub record CommandPromise (task : Task) (r : Run) : Type 0 where
       → r.status ≢ WriteFault
       → (r.status ≡ Memory → task.in_pieces ≡ false)
       → r.out' ≡ r.out
-  -- What was judged was read to its end, whatever is reported of it: all but input that is too long.
+  -- The input was read to its end, whatever is reported, unless it is too long.
   pub read_to_end : (most : ℕ) (input : List ℕ)
       → task.reads ≡ Some most
       → r.source.bytes ≡ Some input
@@ -158,12 +158,12 @@ pub record CommandPromise (task : Task) (r : Run) : Type 0 where
       → r.status ≢ ReadFault
       → r.status ≢ Memory
       → r.source'.bytes ≡ Some []
-  -- Nothing goes out before that.
+  -- Nothing is written before the input was read to its end.
   pub unread : (most : ℕ) (input : List ℕ)
       → task.reads ≡ Some most
       → r.source.bytes ≡ Some input
       → (r.source'.bytes ≡ Some [] → ⊥)
       → r.out' ≡ r.out
-  -- A command that reads nothing makes no call on its source, and reports no fault of it.
+  -- A command that reads nothing never calls its source, and never reports a read fault.
   pub untouched : task.reads ≡ None → r.source' ≡ r.source
   pub never_read : task.reads ≡ None → r.status ≢ ReadFault

@@ -1,4 +1,4 @@
--- A command's own promise is read off what every command promises.
+-- Lemmas that derive a command's own promise from the promise of every command.
 use Rattle.std.specs.Prelude.{◌≡◌, ℕ, ◌⊎◌, List, Option, None}
 use Rattle.std.proofs.Common.{sym, ◌∙◌, subst}
 use Rattle.std.proofs.Math.Logic.{⊎_elim}
@@ -10,11 +10,11 @@ use Rattle.frame_core.specs.Run.{Run, HasInput, ReportsFront}
 use Rattle.frame_core.specs.Promise.{OutputHeld, Stands, Replies, Faults, ReportCut, OfInput, IsTooLong, CommandPromise}
 use Rattle.frame_core.specs.KeepingLaws.{of_input}
 
--- a command without a report has none that could be cut
+-- a command without a report has none that could be truncated
 pub no_report : {A : Type 0} (task : Task) (r : Run) (input : List ℕ) → ((answer : task.Answer) → (task.reply answer).report ≡ None) → ReportCut task r input → A
 no_report task r input none cut = absurd (subst (λ (report : Option (List ℕ)). ReportsFront r.note cut.between report) (none cut.answer) cut.front)
 
--- so it answers whatever the notes do
+-- so it answers even if the notes fail
 pub gets : (task : Task) (r : Run) (input : List ℕ) → ((answer : task.Answer) → (task.reply answer).report ≡ None) → CommandPromise task r → HasInput task.reads r.source.bytes input → IsAnswerable task input → OutputHeld r → Replies task r input
 gets task r input none promise told may held =
     ⊎_elim
@@ -22,11 +22,11 @@ gets task r input none promise told may held =
     (λ (cut : ReportCut task r input). no_report task r input none cut)
     (promise.answered input told may held)
 
--- The status 0 comes with an answer.
+-- With the status 0 the input has its answer.
 pub done_replies : (task : Task) (r : Run) (input : List ℕ) → CommandPromise task r → HasInput task.reads r.source.bytes input → r.status ≡ Done → Replies task r input
 done_replies task r input promise told is = of_input task r (Replies task r) input (promise.done_only is) told
 
--- So where an open answer counts.
+-- The same with the status of an undecided answer.
 pub answer_replies : (task : Task) (r : Run) (input : List ℕ) → CommandPromise task r → HasInput task.reads r.source.bytes input → (r.status ≡ Done) ⊎ (r.status ≡ Undecided) → Replies task r input
 answer_replies task r input promise told is =
     ⊎_elim
@@ -34,7 +34,7 @@ answer_replies task r input promise told is =
     (λ (left : r.status ≡ Undecided). of_input task r (Replies task r) input (promise.undecided_only left) told)
     is
 
--- No run has the status `Refused` where neither an answer has it nor a fault.
+-- No run has the status `Refused` if neither an answer nor a fault has it.
 pub refused_never : (task : Task) (r : Run) → ((answer : task.Answer) → (task.reply answer).status ≡ Refused → ⊥) → ((fault : task.Fault) → (task.refusal fault).status ≡ Refused → ⊥) → CommandPromise task r → r.status ≡ Refused → ⊥
 refused_never task r no_answer no_fault promise is =
     let of = promise.refused_only is in
@@ -43,7 +43,7 @@ refused_never task r no_answer no_fault promise is =
     (λ (none : Faults task r of.bytes). no_fault none.fault (sym none.told.status_is ∙ is))
     of.holds
 
--- Where no fault has the status of a limit, that status says that the input is too long.
+-- If no fault has the status of a limit, that status means that the input is too long.
 pub limit_beyond : (task : Task) (r : Run) (input : List ℕ) → ((fault : task.Fault) → (task.refusal fault).status ≡ Limit → ⊥) → CommandPromise task r → HasInput task.reads r.source.bytes input → r.status ≡ Limit → IsBeyond task.reads input
 limit_beyond task r input never promise told is =
     ⊎_elim
@@ -56,7 +56,7 @@ limit_beyond task r input never promise told is =
 not_done : {A : Type 0} (r : Run) (reply : Reply) (s : Status) → reply.status ≡ Done → Stands r reply → r.status ≡ s → (Done ≡ s → ⊥) → A
 not_done r reply s done stands is other = absurd (other (sym done ∙ sym stands.status_is ∙ is))
 
--- `Refused` comes with a fault,
+-- With the status `Refused` the input has a fault.
 pub refused_faults : (task : Task) (r : Run) → ((answer : task.Answer) → (task.reply answer).status ≡ Done) → CommandPromise task r → r.status ≡ Refused → OfInput task r (Faults task r)
 refused_faults task r done promise is =
     let of = promise.refused_only is in
@@ -69,7 +69,7 @@ refused_faults task r done promise is =
           of.holds;
     }
 
--- and `Undecided` never.
+-- The status `Undecided` never occurs.
 pub never_undecided : (task : Task) (r : Run) → ((answer : task.Answer) → (task.reply answer).status ≡ Done) → CommandPromise task r → r.status ≡ Undecided → ⊥
 never_undecided task r done promise is =
     let got = promise.undecided_only is in

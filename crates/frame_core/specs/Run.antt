@@ -1,4 +1,4 @@
--- What a run comes to, for every command.
+-- The outcomes of runs, for every command, and what a caller sees of them.
 use Rattle.std.specs.Prelude.{◌≡◌, ℕ, ◌≤◌, true, List, [], Option, Some, None}
 use Rattle.port_io.specs.Bytes.{Appends, AppendsFront}
 use Rattle.port_io.specs.Faults.{Rose}
@@ -8,9 +8,9 @@ use Rattle.frame_core.specs.Outside.{Side, side, IsQuiet, Writes}
 use Rattle.frame_core.specs.Told.{Reply, Field, Refusal, error_line, read_fault, write_fault, too_long, memory}
 use Rattle.frame_core.specs.Task.{Task, MayStand, Tells, Refuses, IsBeyond}
 
--- How the run of a command ends: the source failed; it had more bytes than are read; want of memory
--- before anything went out; the reply stands outside, whole; the output failed in its text; want of memory
--- while the text went out in pieces; the notes failed in its report; there is no answer.
+-- How the run of a command ends: the source failed; it had more bytes than are read; memory ran out before
+-- anything was written; the reply was written whole; the output failed while its text was written; memory ran
+-- out while the text was written in pieces; the notes failed while its report was written; there is no answer.
 pub data Outcome : Type 0 where
   ReadFault : Outcome
   TooLong : Outcome
@@ -31,7 +31,7 @@ status_of Starved = statuses.Memory
 status_of (ReportCut reply) = statuses.WriteFault
 status_of (NoAnswer refusal) = refusal.status
 
--- what the error line names, nothing where the reply stands
+-- the content of the error line; None if the reply was written whole
 abbrev pub line_of : Outcome → Option (List Field)
 line_of ReadFault = Some read_fault
 line_of TooLong = Some too_long
@@ -42,27 +42,27 @@ line_of Starved = Some memory
 line_of (ReportCut reply) = Some write_fault
 line_of (NoAnswer refusal) = Some refusal.named
 
--- where the bytes of the source are known, these are all of them
+-- if the bytes of the source are known, `bytes` are all of them
 abbrev pub IsWhole : Option (List ℕ) → List ℕ → Type 0
 IsWhole left bytes = (input : List ℕ) → left ≡ Some input → bytes ≡ input
 
--- the bytes that a command judged: what was read, and nothing where it reads nothing
+-- the bytes that a command judged: what was read, and the empty list if it reads nothing
 abbrev pub IsInput : Option ℕ → Option (List ℕ) → List ℕ → Type 0
 IsInput None left bytes = bytes ≡ []
 IsInput (Some most) left bytes = IsWhole left bytes
 
--- The input is known to be this: the source held it, or the command reads nothing.
+-- The input is known: the source held it, or the command reads nothing and it is empty.
 abbrev pub HasInput : Option ℕ → Option (List ℕ) → List ℕ → Type 0
 HasInput None left input = input ≡ []
 HasInput (Some most) left input = left ≡ Some input
 
--- What may stand on the output where a text was cut does.
+-- A truncated text was written, one that is allowed for these bytes.
 pub record IsLeft (task : Task) (bytes : List ℕ) (old new : Side) : Type 0 where
   pub front : List ℕ
   pub leaves : MayStand task bytes front
   pub on_out : Appends old.bytes new.bytes front
 
--- The outcome is that of the bytes which were judged.
+-- The outcome fits the bytes that were judged.
 abbrev pub IsOutcome : Task → Option (List ℕ) → List ℕ → Outcome → Type 0
 IsOutcome task left bytes ReadFault = Unit {0}
 IsOutcome task left bytes TooLong = (input : List ℕ) → HasInput task.reads left input → IsBeyond task.reads input
@@ -73,12 +73,12 @@ IsOutcome task left bytes Starved = IsInput task.reads left bytes × (task.in_pi
 IsOutcome task left bytes (ReportCut reply) = IsInput task.reads left bytes × Tells task bytes reply
 IsOutcome task left bytes (NoAnswer refusal) = IsInput task.reads left bytes × Refuses task bytes refusal
 
--- What was known to be left was read to its end, and no call failed.
+-- The source was read to its end, and no call failed.
 pub record IsReadToEnd (old new : Side) : Type 0 where
   pub end : (input : List ℕ) → old.bytes ≡ Some input → new.bytes ≡ Some []
   pub quiet : IsQuiet old new
 
--- Bytes that are judged were read to their end. Where a call failed, that is the outcome.
+-- An input that is judged was read to its end. If a call failed, that is the outcome.
 abbrev pub SourceRead : Side → Side → Outcome → Type 0
 SourceRead old new ReadFault = Rose old.faults new.faults
 SourceRead old new TooLong = IsQuiet old new
@@ -99,8 +99,8 @@ abbrev pub SourceAfter : Option ℕ → Side → Side → Outcome → Type 0
 SourceAfter None old new outcome = SourceLeft old new outcome
 SourceAfter (Some most) old new outcome = SourceRead old new outcome
 
--- The reply's text stands on the output whole, and a prefix of one where the output failed, or memory ran
--- out. With every other outcome the output is as before. Where a call failed, that is the outcome.
+-- The reply's text was written whole, or a prefix of one if the output failed or memory ran out. With every other
+-- outcome the output is as before. If a call failed, that is the outcome.
 abbrev pub OutAfter : Task → List ℕ → Side → Side → Outcome → Type 0
 OutAfter task bytes old new ReadFault = new ≡ old
 OutAfter task bytes old new TooLong = new ≡ old
@@ -111,7 +111,8 @@ OutAfter task bytes old new Starved = IsLeft task bytes old new × IsQuiet old n
 OutAfter task bytes old new (ReportCut reply) = Appends old.bytes new.bytes reply.text × IsQuiet old new
 OutAfter task bytes old new (NoAnswer refusal) = new ≡ old
 
--- A report went to the notes whole, or a prefix of it. Without one they are as before.
+-- A whole report was written to the notes (`Reports`), or a prefix of it (`ReportsFront`). Without a report they
+-- are as before.
 abbrev pub Reports : Side → Side → Option (List ℕ) → Type 0
 Reports old new None = new ≡ old
 Reports old new (Some text) = Appends old.bytes new.bytes text
@@ -125,13 +126,12 @@ ReportAfter old new (Answered reply) = Reports old new reply.report × IsQuiet o
 ReportAfter old new (ReportCut reply) = ReportsFront old new reply.report
 ReportAfter old new outcome = new ≡ old
 
--- the error line after it, where there is one
+-- the error line after the report, if there is one
 abbrev pub LineAfter : Side → Side → Option (List Field) → Type 0
 LineAfter old new None = new ≡ old
 LineAfter old new (Some fields) = Writes old new (error_line fields)
 
--- The report, and then the error line. The count of faults between them is between the counts before and
--- after.
+-- The report, and then the error line. The count of faults never falls.
 pub record NoteAfter (old new : Side) (outcome : Outcome) : Type 0 where
   pub between : Side
   pub report : ReportAfter old between outcome
@@ -141,7 +141,7 @@ pub record NoteAfter (old new : Side) (outcome : Outcome) : Type 0 where
 
 -- ---- runs
 
--- what a caller sees of a run: the words, and each side before and after it
+-- what a caller sees of a run: the arguments, the status, and each source and sink before and after it
 pub record Run : Type 0 where
   pub words : List (List ℕ)
   pub source : Side
@@ -156,11 +156,11 @@ pub record Run : Type 0 where
 abbrev pub before_after : {T : Type 0} → (T → Option (List ℕ)) → (T → ℕ) → T → T → Side × Side
 before_after bytes faults old new = (side bytes faults old, side bytes faults new)
 
--- a run of these words
+-- a run with these arguments
 abbrev pub run_of : List (List ℕ) → Side × Side → Side × Side → Side × Side → Status → Run
 run_of words source out note status = record { words = words; source = source.0; source' = source.1; out = out.0; out' = out.1; note = note.0; note' = note.1; status = status }
 
--- A run of a command had an outcome, and what its caller sees follows from it.
+-- A run of a command had this outcome, which determines what its caller sees.
 pub record IsRun (task : Task) (r : Run) (outcome : Outcome) : Type 0 where
   pub bytes : List ℕ
   pub judged : IsOutcome task r.source.bytes bytes outcome

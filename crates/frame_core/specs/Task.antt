@@ -1,52 +1,52 @@
--- What a command is.
+-- The specification of a command: its task.
 use Rattle.std.specs.Prelude.{◌≡◌, ℕ, ◌<◌, ◌≤◌, ◌⊎◌, ◌++◌, Bool, true, false, List, [], length, Option, Some, None}
 use Rattle.frame_core.specs.declared.status.Status.{Status}
 use Rattle.frame_core.specs.declared.status.Status.TheVariants.{Done, Malformed, Limit, Undecided, Refused}
 use Rattle.frame_core.specs.Told.{Reply, Refusal, memory_refusal}
 
 pub record Task : Type 1 where
-  -- the most bytes that it reads; one without a number makes no call on its source
+  -- the most bytes that it reads; None if it never calls its source
   pub reads : Option ℕ
-  -- its answers, the bytes that have them, and how it reports them
+  -- its answers, which inputs have which answer, and the reply to each
   pub Answer : Type 0
   pub Has : List ℕ → Answer → Type 0
   pub reply : Answer → Reply
-  -- the faults of bytes without an answer, the bytes that have them, and how it reports them
+  -- its faults, which inputs have which fault, and the refusal of each
   pub Fault : Type 0
   pub Meets : List ℕ → Fault → Type 0
   pub refusal : Fault → Refusal
-  -- whether the text goes out in pieces, while more of it is made. Else it goes out at once, when nothing
-  -- takes memory any more.
+  -- whether the text is written in pieces, while the rest of it is still computed; if not, it is written at
+  -- once, when no more memory is needed
   pub in_pieces : Bool
-  -- the texts that may have gone out for bytes whose answer isn't known yet
+  -- the texts that may be written for an input before its answer is known
   pub Begins : List ℕ → List ℕ → Type 0
 
--- `front` is a prefix of the text.
+-- The first list is a prefix of `text`.
 pub record IsFront (front text : List ℕ) : Type 0 where
   pub rest : List ℕ
   pub is : text ≡ front ++ rest
 
--- It is one of the text of an answer that the bytes have.
+-- It is a prefix of the text of an answer that the input has.
 pub record IsAnswerFront (task : Task) (bytes front : List ℕ) : Type 0 where
   pub answer : task.Answer
   pub has : task.Has bytes answer
   pub is_front : IsFront front (task.reply answer).text
 
--- It is one of a text that may have gone out before the answer is known.
+-- It is a prefix of a text that may be written before the answer is known.
 pub record IsBegunFront (task : Task) (bytes front : List ℕ) : Type 0 where
   pub text : List ℕ
   pub begins : task.Begins bytes text
   pub is_front : IsFront front text
 
--- Nothing else may stand on the output where a text was cut, also where it goes out in pieces.
+-- The truncated texts that are allowed on the output.
 abbrev pub MayStand : Task → List ℕ → List ℕ → Type 0
 MayStand task bytes front = IsAnswerFront task bytes front ⊎ IsBegunFront task bytes front
 
--- no text goes out before the answer is known
+-- no text is written before the answer is known
 abbrev pub begins_none : List ℕ → List ℕ → Type 0
 begins_none bytes text = ⊥
 
--- A command that reads, and whose text goes out at once.
+-- A command that reads, and whose text is written at once.
 abbrev pub at_once : ℕ → (Answer : Type 0) → (List ℕ → Answer → Type 0) → (Answer → Reply) → (Fault : Type 0) → (List ℕ → Fault → Type 0) → (Fault → Refusal) → Task
 at_once most Answer Has reply Fault Meets refusal = record {
   reads = Some most;
@@ -60,7 +60,7 @@ at_once most Answer Has reply Fault Meets refusal = record {
   Begins = begins_none;
 }
 
--- A command whose text goes out in pieces, the first of them maybe before its answer is known.
+-- A command whose text is written in pieces, maybe some before its answer is known.
 abbrev pub in_pieces : Option ℕ → (Answer : Type 0) → (List ℕ → Answer → Type 0) → (Answer → Reply) → (Fault : Type 0) → (List ℕ → Fault → Type 0) → (Fault → Refusal) → (List ℕ → List ℕ → Type 0) → Task
 in_pieces reads Answer Has reply Fault Meets refusal Begins = record {
   reads = reads;
@@ -74,7 +74,7 @@ in_pieces reads Answer Has reply Fault Meets refusal Begins = record {
   Begins = Begins;
 }
 
--- A command that reads nothing, has no faults, and whose text goes out at once.
+-- A command that reads nothing, has no faults, and whose text is written at once.
 abbrev pub from_nothing : (Answer : Type 0) → (Answer → Type 0) → (Answer → Reply) → Task
 from_nothing Answer Is reply = record {
   reads = None;
@@ -88,13 +88,13 @@ from_nothing Answer Is reply = record {
   Begins = begins_none;
 }
 
--- The bytes have an answer that this reply reports.
+-- The input has an answer whose reply is this one.
 pub record Tells (task : Task) (bytes : List ℕ) (reply : Reply) : Type 0 where
   pub answer : task.Answer
   pub has : task.Has bytes answer
   pub is : reply ≡ task.reply answer
 
--- They have a fault that this refusal reports.
+-- The input has a fault whose refusal is this one.
 pub record Refuses (task : Task) (bytes : List ℕ) (refusal : Refusal) : Type 0 where
   pub fault : task.Fault
   pub meets : task.Meets bytes fault
@@ -105,7 +105,7 @@ abbrev pub IsBeyond : Option ℕ → List ℕ → Type 0
 IsBeyond None bytes = ⊥
 IsBeyond (Some most) bytes = most < length bytes
 
--- no more bytes than are read, and none where nothing is
+-- no more bytes than are read, and none if nothing is read
 abbrev pub IsWithin : Option ℕ → List ℕ → Type 0
 IsWithin None bytes = bytes ≡ []
 IsWithin (Some most) bytes = length bytes ≤ most
@@ -115,11 +115,11 @@ pub record IsAnswerable (task : Task) (bytes : List ℕ) : Type 0 where
   pub within : IsBeyond task.reads bytes → ⊥
   pub sound : (fault : task.Fault) → task.Meets bytes fault → ⊥
 
--- It has no report.
+-- No answer has a report.
 abbrev pub HasNoReport : Task → Type 0
 HasNoReport task = (answer : task.Answer) → (task.reply answer).report ≡ None
 
--- ---- what a task has to be
+-- ---- well-formed tasks
 
 abbrev pub IsAnswerStatus : Status → Type 0
 IsAnswerStatus s = (s ≡ Done) ⊎ ((s ≡ Undecided) ⊎ (s ≡ Refused))
@@ -127,8 +127,8 @@ IsAnswerStatus s = (s ≡ Done) ⊎ ((s ≡ Undecided) ⊎ (s ≡ Refused))
 abbrev pub IsRefusalStatus : Status → Type 0
 IsRefusalStatus s = (s ≡ Malformed) ⊎ ((s ≡ Limit) ⊎ (s ≡ Refused))
 
--- Bytes have answers or one refusal at most, never both, and beyond the limit neither. A text that may have gone
--- out before the answer is known is none of a fault's, nor one beyond the limit.
+-- An input has answers or at most one refusal, never both, and neither if it is too long. A text that may be
+-- written before the answer is known isn't that of an input with a fault, or of one that is too long.
 pub record IsTask (task : Task) : Type 0 where
   pub replies : (answer : task.Answer) → IsAnswerStatus (task.reply answer).status
   pub refusals : (bytes : List ℕ) (fault : task.Fault)

@@ -1,4 +1,4 @@
--- When a command is a task.
+-- Lemmas that tasks are well formed.
 use Rattle.std.specs.Prelude.{◌≡◌, ℕ, ◌<◌, ◌≤◌, ◌⊎◌, List, length, Option}
 use Rattle.std.proofs.Common.{arith}
 use Rattle.frame_core.specs.Told.{Reply, Refusal, memory_refusal}
@@ -7,7 +7,7 @@ use Rattle.frame_core.specs.Task.{at_once, in_pieces, from_nothing, IsBeyond, Is
 not_beyond : (most : ℕ) (bytes : List ℕ) → length bytes ≤ most → most < length bytes → ⊥
 not_beyond most bytes within long = omega arith
 
--- one whose text goes out at once
+-- a task whose text is written at once
 pub at_once_task : (most : ℕ) (Answer : Type 0) (Has : List ℕ → Answer → Type 0) (reply : Answer → Reply) (Fault : Type 0) (Meets : List ℕ → Fault → Type 0) (refusal : Fault → Refusal)
     → ((answer : Answer) → IsAnswerStatus (reply answer).status)
     → ((bytes : List ℕ) (fault : Fault) → Meets bytes fault → IsRefusalStatus (refusal fault).status ⊎ (refusal fault ≡ memory_refusal))
@@ -27,7 +27,7 @@ at_once_task most Answer Has reply Fault Meets refusal replies refusals apart on
   begins_within = λ bytes text begins long. begins;
 }
 
--- one whose text goes out in pieces
+-- a task whose text is written in pieces
 pub in_pieces_task : (reads : Option ℕ) (Answer : Type 0) (Has : List ℕ → Answer → Type 0) (reply : Answer → Reply) (Fault : Type 0) (Meets : List ℕ → Fault → Type 0) (refusal : Fault → Refusal) (Begins : List ℕ → List ℕ → Type 0)
     → ((answer : Answer) → IsAnswerStatus (reply answer).status)
     → ((bytes : List ℕ) (fault : Fault) → Meets bytes fault → IsRefusalStatus (refusal fault).status ⊎ (refusal fault ≡ memory_refusal))
@@ -49,7 +49,7 @@ in_pieces_task reads Answer Has reply Fault Meets refusal Begins replies refusal
   begins_within = begins_within;
 }
 
--- one that reads nothing
+-- a task that reads nothing
 pub from_nothing_task : (Answer : Type 0) (Is : Answer → Type 0) (reply : Answer → Reply)
     → ((answer : Answer) → IsAnswerStatus (reply answer).status)
     → IsTask (from_nothing Answer Is reply)

@@ -1,20 +1,20 @@
--- What a command reports: a reply or a refusal.
+-- What a command reports: a reply or a refusal, and the text of the error line.
 use Rattle.std.specs.Prelude.{ℕ, List, [], ◌∷◌, ◌++◌, Option, codes, decimal}
 use Rattle.frame_core.specs.declared.status.Status.{Status}
 use Rattle.frame_core.specs.declared.status.Status.TheVariants as statuses
 
--- An answer: its text for the output, a report for the notes where the command has one, and the status.
+-- An answer: its text for the output, a report for the notes if the command makes one, and the status.
 pub record Reply : Type 0 where
   pub text : List ℕ
   pub report : Option (List ℕ)
   pub status : Status
 
--- texts, one after the other
+-- the concatenation of texts
 unfoldable pub joined : List (List ℕ) → List ℕ
 joined [] = []
 joined (text ∷ texts) = text ++ joined texts
 
--- A report in parts: what comes first, the parts, and what comes last.
+-- A report in parts: the first, those between, and the last.
 abbrev pub parted : List ℕ → List (List ℕ) → List ℕ → List ℕ
 parted first parts last = first ++ (joined parts ++ last)
 
@@ -23,7 +23,7 @@ pub data Field : Type 0 where
   Word : (word : List ℕ) → Field
   Number : (number : ℕ) → Field
 
--- no answer: the status, and what the error line names
+-- no answer: the status, and the fields of the error line
 pub record Refusal : Type 0 where
   pub status : Status
   pub named : List Field
@@ -48,7 +48,7 @@ fields_text (f ∷ fs) = (32 ∷ field_text f) ++ fields_text fs
 unfoldable pub error_line : List Field → List ℕ
 error_line fields = codes "error:" ++ (fields_text fields ++ codes "\n")
 
--- what the error lines name that all commands have
+-- the fields of the error lines that all commands have
 unfoldable pub usage : List Field
 usage = plain (codes "Usage")
 
@@ -64,7 +64,7 @@ too_long = plain (codes "TooLong")
 unfoldable pub memory : List Field
 memory = plain (codes "Memory")
 
--- what every command may report that has no answer: its input is too long, reading failed, want of memory
+-- the refusals that every command may end with: the input is too long, reading failed, memory ran out
 abbrev pub too_long_refusal : Refusal
 too_long_refusal = record { status = statuses.Limit; named = too_long }
 

@@ -1,4 +1,4 @@
--- What the program's values mean.
+-- The program's values, as contracts see them.
 use Rattle.std.specs.Prelude.{◌≡◌, ℕ, List, [], ◌∷◌, ◌++◌, map, decimal, Option, Some, None, Result, Ok, Err, Vec}
 use Rattle.std.specs.Global.{Global}
 use Rattle.std.specs.Option.{option_map}
@@ -19,7 +19,7 @@ use Rattle.frame_core.specs.Told.{Word, Number, parted, read_fault, write_fault,
 use Rattle.frame_core.specs.Task.{Task, Tells, Refuses}
 use Rattle.frame_core.specs.Run.{Outcome, status_of, line_of}
 
--- the fields that there are
+-- the fields that aren't `Nothing`
 unfoldable pub shown : List Field → List told.Field
 shown [] = []
 shown (Nothing ∷ fs) = shown fs
@@ -41,7 +41,7 @@ unfoldable pub parts_text : List Field → List ℕ
 parts_text [] = []
 parts_text (f ∷ fs) = part_text f ++ parts_text fs
 
--- texts, each by its bytes
+-- the bytes of each text
 abbrev pub texts_of : List (Vec ℕ Global) → List (List ℕ)
 texts_of texts = map (λ (text : Vec ℕ Global). text.items) texts
 
@@ -54,7 +54,7 @@ reply_value reply = record { text = reply.text.items; report = option_map report
 abbrev pub refusal_value : Refusal → told.Refusal
 refusal_value refusal = record { status = refusal.status; named = line_value refusal.line }
 
--- the status of an ending, and what its error line names
+-- the status of a run that ended so, and the content of its error line
 abbrev pub status_in : Ended → Status
 status_in ended.ReadFault = statuses.ReadFault
 status_in ended.TooLong = statuses.Limit
@@ -75,12 +75,12 @@ line_in ended.Starved = Some memory
 line_in ended.ReportCut = Some write_fault
 line_in (ended.NoAnswer refusal) = Some (line_value refusal.line)
 
--- An ending has the status of `outcome`, and its error line.
+-- The program's record of how a run ended has the status and the error line of `outcome`.
 pub record Ends (e : Ended) (outcome : Outcome) : Type 0 where
   pub status_is : status_in e ≡ status_of outcome
   pub line_is : line_in e ≡ line_of outcome
 
--- What a command answers of bytes is right; want of memory may come anywhere.
+-- The result of a command for these bytes is correct; memory may run out at any time.
 abbrev pub Judges : Task → List ℕ → Result Reply Stop → Type 0
 Judges task bytes (Ok reply) = Tells task bytes (reply_value reply)
 Judges task bytes (Err NoMemory) = Unit {0}

@@ -1,4 +1,4 @@
-//! Commands that find their reply before anything goes out, as jobs.
+//! Jobs of commands that compute their whole reply before anything is written.
 ghost use Rattle.std.specs.Prelude.{◌≡◌};
 ghost use Rattle.frame_core.specs.Task.{Task, IsWithin};
 ghost use Rattle.frame_core.specs.Views.{Judges};
@@ -9,26 +9,26 @@ use crate::sending::finish;
 use port_io::Sink;
 use std::alloc::Global;
 
-/// A command that finds its reply before anything goes out.
+/// A command that computes its whole reply before anything is written.
 pub trait Replier {
-    /// What it is to its caller.
+    /// Its specification: the task.
     ghost task: { Self → Task };
 
-    /// What has to hold of what it is asked with.
+    /// The precondition on its arguments.
     ghost ready: { Self → Type 0 };
 
-    /// The most bytes that it reads; None where it makes no call on its source.
+    /// The most bytes that it reads; None if it never calls its source.
     fn reads(&self) -> Option<usize>
         ensures { result ≡ (task self.now).reads };
 
-    /// The reply to bytes, no more than it reads, or why they have none.
+    /// The reply to an input, or why there is none. The input has at most `reads` bytes.
     fn reply(&self, alloc: Global, bytes: &[u8]) -> Result<Reply, Stop>
         requires within { IsWithin (task self.now).reads bytes.now }
         requires ready { ready self.now }
         ensures { Judges (task self.now) bytes.now result };
 }
 
-/// The job of a command that finds its reply before anything goes out.
+/// The job of a command that computes its whole reply before anything is written.
 #[derive(Drop)]
 pub struct AtOnce<R>(pub R);
 

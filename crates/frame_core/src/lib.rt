@@ -1,15 +1,14 @@
-//! The frame of commands: reading the input, sending what a command reports, and the error line.
+//! The frame that all commands share: reading the input, writing the reply, and the error line.
 //!
-//! For a program of several commands, each of which reads an input or none, and writes an answer at once
-//! or in pieces. A command is a `Job`, which says how much it reads, and what it does with bytes; or a `Replier`,
-//! which finds its reply or refusal before anything goes out, and is performed as the job `AtOnce` of it; or a
-//! `StreamJob`, which takes its input in pieces. The crate stands on `port_io` for sources and sinks.
+//! A program has several commands. Each reads one input or none, and writes its answer at once or in pieces.
+//! A command is one of three traits: a `Job` says how much it reads and what it does with the bytes; a `Replier`
+//! computes its reply or refusal before anything is written, and runs as the job `AtOnce` of it; a `StreamJob`
+//! takes its input in pieces. The crate uses `port_io` for sources and sinks.
 //!
-//! What a command is to its caller is a value (`specs/Task`): the bytes that have answers and faults, and
-//! how each is reported. The theorem, for every command, every source and every sink: what `perform` does is a
-//! run with an outcome that fits the bytes (`specs/Run`), and where that value is a task (`IsTask`) the run
-//! keeps what every command promises (`specs/Promise`). One whose text goes out in pieces finds the
-//! laws of that in `specs/PiecesLaws`.
+//! The specification of a command is a value, its task (`specs/Task`): which inputs have which answers and faults,
+//! and how each is reported. What is proved, for every command, every source and every sink: `perform` makes a run
+//! whose outcome fits the input (`specs/Run`), and if the task is well formed (`IsTask`), the run keeps what
+//! every command promises (`specs/Promise`). `specs/PiecesLaws` has the lemmas for text that is written in pieces.
 //!
 //! ```text
 //! let status = perform(alloc, &job, &mut source, &mut out, &mut note);

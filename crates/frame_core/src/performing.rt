@@ -1,4 +1,4 @@
-//! Commands, and what performing one comes to.
+//! Commands, and the function that runs one.
 ghost use Rattle.std.specs.Prelude.{◌≡◌};
 ghost use Rattle.frame_core.specs.Task.{Task, IsWithin};
 ghost use Rattle.frame_core.specs.Run.{before_after};
@@ -14,18 +14,18 @@ use std::alloc::Global;
 
 /// A command.
 pub trait Job {
-    /// What it is to its caller.
+    /// Its specification: the task.
     ghost task: { Self → Task };
 
-    /// What has to hold of what it is asked with.
+    /// The precondition on its arguments.
     ghost ready: { Self → Type 0 };
 
-    /// The most bytes that it reads; None where it makes no call on its source.
+    /// The most bytes that it reads; None if it never calls its source.
     fn reads(&self) -> Option<usize>
         ensures { result ≡ (task self.now).reads };
 
-    /// Answers bytes, no more than it reads: writes the text of an answer on `out`, at once or in pieces,
-    /// and its report on `note`, or has no answer.
+    /// Answers an input of at most `reads` bytes: writes the answer's text to `out`, at once or in pieces, and
+    /// its report to `note`; or has no answer, and then writes nothing.
     fn answer<O: Sink, N: Sink>(
         &self,
         alloc: Global,
@@ -40,7 +40,7 @@ pub trait Job {
             (before_after N.written N.faults note.old note.new) };
 }
 
-/// Does what a command asks, up to the error line: reads `source` where it reads, and answers what was read.
+/// Runs a command up to the error line: reads `source` if the command reads, and answers the input.
 fn attempt<J: StreamJob, S: Source, O: Sink, N: Sink>(
     alloc: Global,
     job: &J,
@@ -67,8 +67,8 @@ fn attempt<J: StreamJob, S: Source, O: Sink, N: Sink>(
     job.answer(alloc, kept, out, note)
 }
 
-/// Does what a command asks that takes its input in pieces, and reports how that ended: it is a run with an outcome,
-/// whatever words asked for it, and keeps what every command promises.
+/// Runs a command that takes its input in pieces, and writes the error line if it has no answer. The run has an
+/// outcome, whatever the arguments were, and keeps what every command promises.
 pub fn perform_stream<J: StreamJob, S: Source, O: Sink, N: Sink>(
     alloc: Global,
     job: &J,
@@ -88,9 +88,9 @@ pub fn perform_stream<J: StreamJob, S: Source, O: Sink, N: Sink>(
     ended.status()
 }
 
-/// Does what a command asks, and reports how that ended: reads `source` where the command reads, writes its
-/// answer on `out`, and on `note` its report, and one error line where there is no answer. It is a run with an outcome,
-/// whatever words asked for it, and keeps what every command promises.
+/// Runs a command: reads `source` if the command reads, writes its answer to `out` and its report to `note`, and
+/// one error line to `note` if there is no answer. The run has an outcome, whatever the arguments were, and
+/// keeps what every command promises.
 pub fn perform<J: Job, S: Source, O: Sink, N: Sink>(
     alloc: Global,
     job: &J,

@@ -1,4 +1,4 @@
-//! What a command reports: a reply or a refusal, and how its run ended.
+//! Replies and refusals of commands, and how a run ended.
 ghost use Rattle.std.specs.Prelude.{◌≡◌, ◌++◌, ◌∷◌, []};
 ghost use Rattle.frame_core.specs.Told.{Word, plain as plain_of, at as at_of};
 ghost use Rattle.frame_core.specs.Views.{shown, line_value, report_text, status_in};
@@ -8,18 +8,18 @@ use crate::status::Status;
 /// A field of an error line.
 #[derive(Drop)]
 pub enum Field {
-    /// There is none.
+    /// No field.
     Nothing,
-    /// One of the program's own words.
+    /// A word of the program.
     Known(&'static [u8]),
     /// A number.
     Count(u32),
-    /// A name of the input, by its bytes.
+    /// A name from the input, as bytes.
     Name(Vec<u8>),
 }
 
-/// What an error line names: a variant, and its fields. There are as many as the longest line has, of
-/// which those that a line hasn't are `Nothing`, so that a line takes no memory.
+/// The content of an error line: the name of a variant, and its fields. The array has the size of the longest
+/// line, and unused fields are `Nothing`, so that a line allocates nothing.
 #[derive(Drop)]
 pub struct ErrorLine {
     /// The fields, the variant's name first.
@@ -43,7 +43,7 @@ impl ErrorLine {
         ErrorLine::of(name, Field::Count(number), Field::Nothing, Field::Nothing)
     }
 
-    /// A variant with at most two fields, after the word `lead` where it is one.
+    /// A variant with at most two fields, after the word `lead` unless that is `Nothing`.
     #[tactic(auto, unfolding(crate::specs::Views::shown), using(crate::proofs::Leads::leading))]
     pub fn led(lead: Field, name: &'static [u8], first: Field, second: Field) -> ErrorLine
         ensures { line_value result ≡ shown (lead ∷ []) ++ (Word name.now ∷ shown (first ∷ second ∷ [])) }
@@ -63,7 +63,7 @@ impl ErrorLine {
         }
     }
 
-    /// A variant with at most three fields, after the word `lead` where it is one.
+    /// A variant with at most three fields, after the word `lead` unless that is `Nothing`.
     #[tactic(auto, unfolding(crate::specs::Views::shown), using(crate::proofs::Leads::leading))]
     pub fn behind(
         lead: Field,
@@ -80,19 +80,19 @@ impl ErrorLine {
     }
 }
 
-/// A report in parts, which go to the notes one after the other.
+/// A report in parts, which are written to the notes one after the other.
 #[derive(Drop)]
 pub struct Report {
-    /// What comes first.
+    /// The first part.
     pub first: Vec<u8>,
-    /// The parts after it.
+    /// The parts between the first and the last.
     pub parts: Vec<Vec<u8>>,
-    /// What comes last.
+    /// The last part.
     pub last: Vec<u8>,
 }
 
 impl Report {
-    /// A report of one part. It takes no memory.
+    /// A report of one part. It allocates nothing.
     #[tactic(auto, unfolding(crate::specs::Told::joined))]
     pub fn whole(text: Vec<u8>) -> Report
         ensures { report_text result ≡ text.items }
@@ -106,58 +106,58 @@ impl Report {
     }
 }
 
-/// An answer: its text, a report where the command has one, and the status.
+/// An answer: its text, its report if the command makes one, and its status.
 #[derive(Drop)]
 pub struct Reply {
-    /// What goes to the output.
+    /// What is written to the output.
     pub text: Vec<u8>,
-    /// What goes to the notes, where the command reports.
+    /// What is written to the notes, if the command reports.
     pub report: Option<Report>,
-    /// The status, that of an answer.
+    /// The status: one of those that answers have.
     pub status: Status,
 }
 
-/// No answer: the status, and what the error line names.
+/// No answer: the status, and the content of the error line.
 #[derive(Drop)]
 pub struct Refusal {
-    /// The status, that of a fault.
+    /// The status: one of those that faults have.
     pub status: Status,
-    /// What the error line names.
+    /// The content of the error line.
     pub line: ErrorLine,
 }
 
 /// Why a command has no reply.
 #[derive(Drop)]
 pub enum Stop {
-    /// Want of memory.
+    /// Out of memory.
     NoMemory,
-    /// The bytes have no answer.
+    /// The input has no answer.
     NoAnswer(Refusal),
 }
 
-/// How the run of a command ended. The status and the error line follow from it.
+/// How the run of a command ended. It determines the status and the error line.
 #[derive(Drop)]
 pub enum Ended {
-    /// The source failed.
+    /// A call of the source failed.
     ReadFault,
-    /// It had more bytes than the command reads.
+    /// The source had more bytes than the command reads.
     TooLong,
-    /// Want of memory, before anything went out.
+    /// Out of memory before anything was written.
     Memory,
-    /// A reply of this status stands outside, whole.
+    /// A reply with this status was written whole.
     Answered(Status),
-    /// The output failed while the reply's text was written.
+    /// The output failed while the reply's text was written: the text is truncated.
     CutShort,
-    /// Want of memory, while the reply's text went out in pieces.
+    /// Out of memory while the reply's text was written in pieces: the text is truncated.
     Starved,
-    /// The notes failed while the reply's report was written.
+    /// The notes failed while the reply's report was written: the report is truncated.
     ReportCut,
-    /// There is no answer.
+    /// The input has no answer.
     NoAnswer(Refusal),
 }
 
 impl Ended {
-    /// The status of the ending.
+    /// The status of a run that ended so.
     pub fn status(&self) -> Status
         ensures { result ≡ status_in self.now }
     {

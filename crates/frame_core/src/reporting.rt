@@ -23,7 +23,7 @@ fn write_two<N: Sink>(note: &mut N, first: &[u8], second: &[u8]) -> Result<(), W
     write_all(note, second)
 }
 
-/// Writes a blank and a field, and nothing where there is none.
+/// Writes a blank and a field; nothing for `Nothing`.
 fn write_field<N: Sink>(note: &mut N, field: &Field) -> Result<(), WriteFault>
     ensures all { OnOk result (Appends (N.written note.old) (N.written note.new) (part_text field.now)) }
     ensures front { AppendsFront (N.written note.old) (N.written note.new) (part_text field.now) }
@@ -128,8 +128,8 @@ pub(crate) fn write_report<N: Sink>(note: &mut N, report: &Report) -> Result<(),
     write_to_last(note, &report.parts, &report.last)
 }
 
-/// Writes an error line. It takes no memory, so that it also reports want of memory. A fault in writing it is
-/// let pass: the run's status has been decided.
+/// Writes an error line. It allocates nothing, so it can report that memory ran out. If writing it fails, that is
+/// ignored: the status of the run is already decided.
 pub fn tell_error<N: Sink>(note: &mut N, line: &ErrorLine)
     ensures line { Writes (side N.written N.faults note.old) (side N.written N.faults note.new) (error_line (line_value line.now)) }
     ensures never_falls { N.faults note.old ≤ N.faults note.new }
@@ -137,7 +137,7 @@ pub fn tell_error<N: Sink>(note: &mut N, line: &ErrorLine)
     let _ = write_line(note, b"error:", &line.fields, b"\n");
 }
 
-/// Writes the error line of a run that has one.
+/// Writes the error line of a run, if it has one.
 #[tactic(auto, unfolding(crate::specs::Told::too_long, crate::specs::Told::memory))]
 pub(crate) fn tell<N: Sink>(note: &mut N, ended: &Ended)
     ensures line { LineAfter (side N.written N.faults note.old) (side N.written N.faults note.new) (line_in ended.now) }

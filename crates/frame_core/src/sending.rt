@@ -1,4 +1,4 @@
-//! The reply of a command, sent out.
+//! Writing the reply of a command.
 ghost use Rattle.frame_core.specs.Run.{before_after};
 ghost use Rattle.frame_core.specs.Performing.{Sent, Finishes};
 ghost use Rattle.frame_core.specs.Views.{reply_value};
@@ -7,7 +7,7 @@ use crate::replies::{Ended, Reply, Stop};
 use crate::reporting::write_report;
 use port_io::{Sink, WriteFault, write_all};
 
-/// Sends a reply out: its text, and then its report where it has one.
+/// Writes a reply: its text, and then its report if it has one.
 fn send<O: Sink, N: Sink>(out: &mut O, note: &mut N, reply: &Reply) -> Ended
     ensures { Sent (reply_value reply.now) result
         (before_after O.written O.faults out.old out.new)
@@ -25,7 +25,7 @@ fn send<O: Sink, N: Sink>(out: &mut O, note: &mut N, reply: &Reply) -> Ended
     }
 }
 
-/// Ends a command by its reply: sends it out, and writes nothing where there is none.
+/// Ends a command with its reply: writes it, or writes nothing if there is none.
 pub fn finish<O: Sink, N: Sink>(told: Result<Reply, Stop>, out: &mut O, note: &mut N) -> Ended
     ensures { Finishes told result
         (before_after O.written O.faults out.old out.new)

@@ -1,27 +1,27 @@
-//! The status with which the program ends.
+//! The exit status of the program.
 ghost use Rattle.std.specs.Prelude.{◌≡◌};
 ghost use Rattle.frame_core.specs.Statuses.{number_of};
 
-/// How a run ended, for its caller.
+/// The exit status of a run.
 #[derive(Clone, Copy)]
 pub enum Status {
-    /// The answer stands on the output.
+    /// The answer was written to the output.
     Done,
-    /// The words aren't a command line.
+    /// The arguments aren't a command line.
     Usage,
-    /// The input isn't of its form.
+    /// The input is malformed.
     Malformed,
-    /// The input is beyond a limit.
+    /// The input exceeds a limit.
     Limit,
-    /// A budget was spent before the question was decided.
+    /// A budget was reached before the question was decided.
     Undecided,
-    /// Reading failed.
+    /// Reading the input failed.
     ReadFault,
-    /// Writing failed.
+    /// Writing the answer failed.
     WriteFault,
-    /// Want of memory.
+    /// Out of memory.
     Memory,
-    /// The input is of its form, and what it claims doesn't hold.
+    /// The input is well formed, but what it claims doesn't hold.
     Refused,
 }
 

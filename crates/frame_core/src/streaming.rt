@@ -1,4 +1,4 @@
-//! Commands that take their input in pieces, and reading for them.
+//! Commands that take their input in pieces, and the loop that reads for them.
 ghost use Rattle.std.specs.Prelude.{◌≡◌, ℕ, ◌+◌, ◌<◌, ◌≤◌, List, [], ◌++◌, Some, length, IfOk, IsErrOf};
 ghost use Rattle.port_io.specs.Faults.{Rose};
 ghost use Rattle.frame_core.specs.Task.{Task, IsWithin};
@@ -11,38 +11,39 @@ use crate::replies::Ended;
 use port_io::{PIECE, ReadError, Sink, Source, read_piece};
 use std::alloc::{AllocError, Global};
 
-/// A command that takes its input in pieces, and keeps of it what it needs.
+/// A command that takes its input in pieces, and keeps only what it needs of them.
 pub trait StreamJob {
-    /// What it is to its caller.
+    /// Its specification: the task.
     ghost task: { Self → Task };
 
-    /// What has to hold of what it is asked with.
+    /// The precondition on its arguments.
     ghost ready: { Self → Type 0 };
 
-    /// What it keeps of its input.
+    /// The state that it keeps of its input.
     type Kept: Drop;
 
-    /// What it keeps of bytes that it was given.
+    /// The state represents these bytes: all that it was given.
     ghost holds: { Self → Self.Kept → List ℕ → Type 0 };
 
-    /// What has to hold of what it keeps.
+    /// The invariant of the state.
     ghost whole: { Self → Self.Kept → Type 0 };
 
-    /// How many bytes were taken, as far as it counts them.
+    /// How many bytes the state has counted.
     ghost count: { Self → Self.Kept → ℕ };
 
-    /// The most bytes that it reads; None where it makes no call on its source.
+    /// The most bytes that it reads; None if it never calls its source.
     fn reads(&self) -> Option<usize>
         ensures { result ≡ (task self.now).reads };
 
-    /// Nothing was taken yet.
+    /// The state before the first piece.
     fn begin(&self, alloc: Global) -> Self::Kept
         requires { ready self.now }
         ensures whole { whole self.now result }
         ensures holds { holds self.now result [] }
         ensures count { count self.now result ≡ 0 };
 
-    /// Takes the next bytes. Want of memory ends the run; any other fault waits for the end of the input.
+    /// Takes the next piece. Running out of memory ends the run at once; any other fault is reported at the end
+    /// of the input.
     fn take(&self, alloc: Global, kept: Self::Kept, piece: &[u8]) -> Result<Self::Kept, AllocError>
         requires ready { ready self.now }
         requires whole { whole self.now kept }
@@ -52,8 +53,8 @@ pub trait StreamJob {
             IfOk result (λ next. holds self.now next (bytes ++ piece.now)) }
         ensures count { IfOk result (λ next. count self.now next ≤ count self.now kept + length piece.now) };
 
-    /// Answers the bytes that were taken: writes the text of an answer on `out`, at once or in pieces, and its
-    /// report on `note`, or has no answer.
+    /// Answers the input: writes the answer's text to `out`, at once or in pieces, and its report to `note`; or
+    /// has no answer, and then writes nothing.
     fn answer<O: Sink, N: Sink>(
         &self,
         alloc: Global,
@@ -70,7 +71,7 @@ pub trait StreamJob {
             (before_after N.written N.faults note.old note.new) };
 }
 
-/// A command that reads all at once, as one that collects its pieces.
+/// A `Job` as a `StreamJob` that collects the pieces.
 #[derive(Drop)]
 pub(crate) struct Collecting<'a, J>(pub(crate) &'a J);
 
@@ -112,7 +113,7 @@ impl<'a, J: Job> StreamJob for Collecting<'a, J> {
     }
 }
 
-/// Reads a source to its end, piece by piece. No more calls are made on it than `most` and two.
+/// Reads a source to its end, piece by piece, with at most `most` + 2 calls.
 pub(crate) fn read_pieces<J: StreamJob, S: Source>(
     alloc: Global,
     job: &J,
@@ -133,7 +134,7 @@ pub(crate) fn read_pieces<J: StreamJob, S: Source>(
     let mut kept = job.begin(alloc);
     let mut room = most;
     let mut buf = [0u8; PIECE];
-    // Each turn but the last takes a byte at least.
+    // Every iteration but the last takes at least one byte.
     for _turn in 0..=most {
         let piece = read_piece(source, &mut buf, room)?;
         if piece.is_empty() {

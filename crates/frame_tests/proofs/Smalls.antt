@@ -1,4 +1,4 @@
--- The small commands are what their tasks say.
+-- The small commands implement their tasks.
 use Rattle.std.specs.Prelude.{◌≡◌, ℕ, ◌≤◌, List, length}
 use Rattle.std.proofs.Common.{refl, sym, subst}
 use Rattle.std.proofs.lemmas.Grind.{common_steps}

@@ -9,14 +9,14 @@ use Rattle.frame_core.specs.Outside.{Side, IsQuiet}
 use Rattle.frame_core.specs.Told.{Reply, joined, parted}
 use Rattle.frame_core.specs.Task.{Task, from_nothing, in_pieces, begins_none}
 
--- It reads nothing, greets, and reports in parts.
+-- A command that reads nothing, writes a greeting, and reports in parts.
 abbrev pub greeting : Unit {0} → Reply
 greeting u = record { text = codes "hello\n"; report = Some (parted (codes "2 parts\n") (codes "one\n" ∷ codes "two\n" ∷ []) (codes "done\n")); status = Done }
 
 abbrev pub greeting_task : Task
 greeting_task = from_nothing (Unit {0}) (λ (u : Unit {0}). Unit {0}) greeting
 
--- It writes each byte of at most three on a line of its own, a line at a time.
+-- A command that writes each of at most three bytes on a line of its own, line by line.
 abbrev pub line_of : ℕ → List ℕ
 line_of byte = byte ∷ 10 ∷ []
 
@@ -26,7 +26,7 @@ lines_text bytes = joined (map line_of bytes)
 abbrev pub lines_reply : List ℕ → Reply
 lines_reply bytes = record { text = lines_text bytes; report = None; status = Done }
 
--- These are the bytes, and no more than three.
+-- The answer is the input, which has at most three bytes.
 pub record AreBytes (bytes answer : List ℕ) : Type 0 where
   pub are : answer ≡ bytes
   pub within : length bytes ≤ 3
@@ -34,7 +34,7 @@ pub record AreBytes (bytes answer : List ℕ) : Type 0 where
 abbrev pub lines_task : Task
 lines_task = in_pieces (Some 3) (List ℕ) AreBytes lines_reply ⊥ (λ (bytes : List ℕ) (fault : ⊥). ⊥) (λ (fault : ⊥). absurd fault) begins_none
 
--- What the writer of lines leaves on the output.
+-- What the command of lines writes to the output.
 abbrev pub WritesLines : List ℕ → Ended → Side → Side → Type 0
 WritesLines bytes (ended.Answered status) old new = (status ≡ Done) × (Appends old.bytes new.bytes (lines_text bytes) × IsQuiet old new)
 WritesLines bytes ended.CutShort old new = AppendsFront old.bytes new.bytes (lines_text bytes) × Rose old.faults new.faults

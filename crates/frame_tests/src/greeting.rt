@@ -6,10 +6,10 @@ ghost use Rattle.frame_tests.specs.Small.{greeting, greeting_task};
 use frame_core::{Replier, Reply, Report, Status, Stop};
 use std::alloc::{AllocError, Global};
 
-/// A command that reads nothing, greets, and reports in parts.
+/// A command that reads nothing, writes a greeting, and reports in parts.
 pub struct Greeting;
 
-/// The text of the report's parts.
+/// The parts of the report.
 fn parts_of(alloc: Global) -> Result<Vec<Vec<u8>>, AllocError>
     ensures { IfOk result (λ parts. texts_of parts.items ≡ codes "one\n" ∷ codes "two\n" ∷ []) }
 {

@@ -1,6 +1,6 @@
-//! Two small commands for tests of `frame_core`: one that reads nothing and reports in parts, and one whose
-//! text goes out in pieces. Each is proved to be what its task says (`specs/Small`), so what the frame
-//! promises of every command holds of them; the tests run them on memory, with calls that fail.
+//! Two small commands for tests of `frame_core`: one reads nothing and reports in parts, the other writes its
+//! text in pieces. Each is proved to implement its task (`specs/Small`), so the promise of every command holds
+//! for them. The tests run them in memory, with fault injection.
 #![tactic(auto)]
 
 mod greeting;

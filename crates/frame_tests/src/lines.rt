@@ -1,4 +1,4 @@
-//! A command whose text goes out in pieces.
+//! A command whose text is written in pieces.
 ghost use Rattle.std.specs.Prelude.{◌≡◌, IfOk};
 ghost use Rattle.frame_core.specs.Outside.{side};
 ghost use Rattle.frame_tests.specs.Small.{line_of as line_text, lines_task, WritesLines};
@@ -7,11 +7,11 @@ use frame_core::{Ended, Job, Status};
 use port_io::{Sink, WriteFault, write_all};
 use std::alloc::{AllocError, Global};
 
-/// A command that writes each byte of its input, three at most, on a line of its own. For the line of a `!` it
-/// says that memory is wanting.
+/// A command that writes each byte of its input, at most three, on a line of its own. At a `!` it pretends that
+/// memory ran out.
 pub struct Lines;
 
-/// A byte's line, but for that of a `!`.
+/// The line of a byte; out of memory for `!`.
 fn line_of(alloc: Global, byte: u8) -> Result<Vec<u8>, AllocError>
     ensures { IfOk result (λ line. line.items ≡ line_text byte) }
 {

@@ -1,15 +1,15 @@
-//! Runs of the small commands on memory, as tables: which calls fail, the status, and what stands outside.
+//! Runs of the small commands in memory, as tables: which calls fail, the status, and what is written.
 
 use crate::{Greeting, Lines};
 use frame_core::{AtOnce, perform};
 use port_io::{MemorySink, MemorySource};
 use std::alloc::{AllocError, Global};
 
-/// The numbers of the calls that are to fail.
+/// The numbers of the calls that fail.
 type Fails = &'static [u64];
 
-/// The input, what fails of reads, of writes and of notes, the status, how many reads failed, and what stands on the
-/// output and on the notes.
+/// The input, which reads, writes and calls of the notes fail, the status, how many reads failed, the output and
+/// the notes.
 type Run = (
     &'static [u8],
     (Fails, Fails, Fails),
@@ -19,7 +19,7 @@ type Run = (
     &'static [u8],
 );
 
-/// What a run stands on.
+/// The source and the sinks of a run.
 #[derive(Drop)]
 struct Outside {
     source: MemorySource,
@@ -38,7 +38,7 @@ fn sink(alloc: Global, fails: Fails) -> Result<MemorySink, AllocError> {
     Ok(MemorySink::new(alloc, Vec::from_slice(alloc, fails)?))
 }
 
-/// The memory of a run.
+/// The source and the sinks before a run.
 fn ports(alloc: Global, run: &Run) -> Result<Outside, AllocError> {
     let source = source(alloc, run.0, run.1.0)?;
     let out = sink(alloc, run.1.1)?;
@@ -46,7 +46,7 @@ fn ports(alloc: Global, run: &Run) -> Result<Outside, AllocError> {
     Ok(Outside { source, out, note })
 }
 
-/// The status of the greeting or of lines.
+/// Runs the greeting or the lines, and returns the status.
 fn performed(alloc: Global, greets: bool, ports: &mut Outside) -> u8 {
     let (source, out, note) = (&mut ports.source, &mut ports.out, &mut ports.note);
     if greets {
@@ -55,7 +55,7 @@ fn performed(alloc: Global, greets: bool, ports: &mut Outside) -> u8 {
     perform(alloc, &Lines, source, out, note).number()
 }
 
-/// Whether a run of the greeting or of lines comes to what is wanted.
+/// Whether a run of the greeting or of the lines has the expected results.
 fn is_run(alloc: Global, greets: bool, run: &Run) -> bool {
     let Ok(mut ports) = ports(alloc, run) else {
         return false;
@@ -64,7 +64,7 @@ fn is_run(alloc: Global, greets: bool, run: &Run) -> bool {
     told && ports.out.written() == run.4 && ports.note.written() == run.5
 }
 
-/// Lines.
+/// Runs of the lines.
 const LINES: &[Run] = &[
     (b"", (&[], &[], &[]), 0, 0, b"", b""),
     (b"abc", (&[], &[], &[]), 0, 0, b"a\nb\nc\n", b""),
@@ -100,7 +100,7 @@ fn a_text_goes_out_in_pieces(rt: HostRuntime) {
     }
 }
 
-/// Greetings. The first call on the source would fail, and none is made.
+/// Runs of the greeting. The first call of the source would fail, but none is made.
 const GREETINGS: &[Run] = &[
     (
         b"unread",

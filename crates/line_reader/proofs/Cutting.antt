@@ -1,4 +1,4 @@
--- A reader and the text that it stands for, with one piece more.
+-- A reader and the text that it represents, after one more piece.
 use Rattle.std.proofs.Common.{◌≡◌, ℕ, ◌+◌, true, List, [], ◌∷◌, ◌++◌, length, Result, Ok, Err, refl, sym, ap, subst, ◌∙◌, arith, append_assoc, append-nil, length-append}
 use Rattle.std.specs.Result.{IsErrAnd}
 use Rattle.std.specs.List.{flat_map}
@@ -37,7 +37,7 @@ stands_part {S} stands stage number fed unfinished longer before text free same 
 
 -- ---- a whole line
 
--- what a stage came to with a whole line
+-- the stage after a whole line
 abbrev pub WasTaken : {S F : Type 0} → Standing S → (F → List Line → Type 0) → S → ℕ → List ℕ → Result S F → Type 0
 WasTaken stands refuses stage number line result = (lines ls all : List Line) → HasNoEnd line → IsPlace number lines all → stands stage number lines all → lines ≡ record { text = line; ended = true } ∷ ls → Judged stands refuses result (number + 1) ls all
 
@@ -63,14 +63,14 @@ pub refused_line : {S F : Type 0} (stands : Standing S) (refuses : F → List Li
 refused_line {S} {F} stands refuses stage number fed unfinished before text line e free same taken is = λ rest.
     judged_line stands refuses stage number fed unfinished before text line rest (Err e) free same taken is
 
--- a refusal that is handed on
+-- a refusal that is passed on
 pub has_err : {R S F : Type 0} (view : R → Reader S) (stands : Standing S) (refuses : F → List Line → Type 0) (r : Result R F) (e : F) (text : List ℕ) → IsErrAnd r (λ d. d ≡ e) → IsRefused refuses e text → HasRead view stands refuses r text
 has_err {R} {S} {F} view stands refuses (Ok reader) e text is refused = absurd is
 has_err {R} {S} {F} view stands refuses (Err d) e text is refused = subst (λ (x : F). IsRefused refuses x text) (sym is) refused
 
 -- ---- pieces
 
--- A reader stands for a text that what is left completes.
+-- The text that a reader represents, followed by what is left, is the whole text.
 pub record IsBefore {S : Type 0} (are_lines : Standing S) (r : Reader S) (left all : List ℕ) : Type 0 where
   pub text : List ℕ
   pub stands : StandsFor are_lines r text
@@ -84,7 +84,7 @@ before_all {S} stands r left all none before =
 regrouped : {S : Type 0} (stands : Standing S) (r : Reader S) (left rest all : List ℕ) (l : Line) → lines_of left ≡ l ∷ lines_of rest → (before : IsBefore stands r left all) → (before.text ++ line_bytes l) ++ rest ≡ all
 regrouped {S} stands r left rest all l cut before = append_assoc before.text (line_bytes l) rest ∙ ap (λ (xs : List ℕ). before.text ++ xs) (sym (bytes_are left rest l cut)) ∙ before.is
 
--- what was come to with one line more
+-- the state after one more line
 abbrev pub Goes : {R S F : Type 0} → (R → Reader S) → Standing S → (F → List Line → Type 0) → Reader S → Line → Result R F → Type 0
 Goes view stands refuses r l result = (before : List ℕ) → HasNoEnd l.text → StandsFor stands r before → HasRead view stands refuses result (before ++ line_bytes l)
 

@@ -1,4 +1,4 @@
--- Texts that are cut into lines, the last of which may be unfinished.
+-- A text split into lines, the last of which may be unfinished.
 use Rattle.std.specs.Prelude.{◌≡◌, ℕ, ◌+◌, true, List, [], ◌∷◌, ◌++◌, length, All}
 use Rattle.std.specs.List.{flat_map}
 use Rattle.text_core.specs.Lines.{Line}
@@ -11,8 +11,8 @@ HasNoEnd text = is_free 10 text ≡ true
 abbrev pub with_end : List ℕ → List ℕ
 with_end text = text ++ 10 ∷ []
 
--- A text is that of some lines, each with its LF, and of an unfinished one after them, which would be the
--- line of this number.
+-- The text consists of whole lines, each with its LF, and the bytes of an unfinished line after them, whose
+-- number is `number`.
 pub record IsCut (text : List ℕ) (number : ℕ) (unfinished : List ℕ) : Type 0 where
   pub lines : List (List ℕ)
   pub are_lines : All HasNoEnd lines
@@ -20,7 +20,7 @@ pub record IsCut (text : List ℕ) (number : ℕ) (unfinished : List ℕ) : Type
   pub text_is : text ≡ flat_map with_end lines ++ unfinished
   pub number_is : number ≡ length lines + 1
 
--- these lines stand at the end of all, and the first of them has this number
+-- `lines` is a suffix of all lines, and its first line has this number
 pub record IsPlace (number : ℕ) (lines all : List Line) : Type 0 where
   pub front : List Line
   pub all_is : all ≡ front ++ lines

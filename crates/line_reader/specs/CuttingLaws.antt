@@ -1,4 +1,4 @@
--- Texts that are cut into pieces: lines that are fed in parts, and the text that a reader was fed.
+-- Texts that are fed in pieces: lines that come in parts, and the text that a reader was fed.
 use Rattle.std.proofs.Common.{◌≡◌, ℕ, ◌+◌, ◌<◌, true, false, List, [], ◌∷◌, ◌++◌, length, map, refl, sym, ap, subst, ◌∙◌, arith, append_assoc, append-nil, length-append}
 use Rattle.std.specs.List.{flat_map, AllByRecursion}
 use Rattle.std.proofs.lemmas.Grind.{common_steps, flat_map-append}
@@ -11,7 +11,7 @@ use Rattle.line_reader.specs.Cuts.{HasNoEnd, with_end, IsCut, IsPlace}
 
 -- ---- lines
 
--- what stands before a text without an LF joins it
+-- a text without an LF joins the line that was begun before it
 pub lines_on : (front text rest : List ℕ) → HasNoEnd text → lines_from front (text ++ rest) ≡ lines_from (front ++ text) rest
 unfolding lines_from is_free
 lines_on front [] rest free = grind (arith, common_steps)
@@ -22,7 +22,7 @@ pub line_on : (front text rest : List ℕ) → HasNoEnd text → lines_from fron
 unfolding lines_from
 line_on front text rest free = ap (lines_from front) (append_assoc text (10 ∷ []) rest) ∙ lines_on front text (10 ∷ rest) free
 
--- a line that was cut off has no LF
+-- the text of a line has no LF
 first_free : (front bytes : List ℕ) (l : Line) (ls : List Line) → HasNoEnd front → lines_from front bytes ≡ l ∷ ls → HasNoEnd l.text
 unfolding lines_from is_free
 first_free [] [] l ls free e = absurd cc
@@ -33,12 +33,12 @@ pub line_free : (bytes : List ℕ) (l : Line) (ls : List Line) → lines_of byte
 unfolding is_free
 line_free bytes l ls e = first_free [] bytes l ls refl e
 
--- and stands in front of what is left
+-- a line, with its LF, is followed by the rest of the bytes
 pub bytes_are : (bytes rest : List ℕ) (l : Line) → lines_of bytes ≡ l ∷ lines_of rest → bytes ≡ line_bytes l ++ rest
 bytes_are bytes rest l e =
     sym (lines_spell bytes) ∙ ap (flat_map line_bytes) e ∙ ap (λ (xs : List ℕ). line_bytes l ++ xs) (lines_spell rest)
 
--- ---- cuts
+-- ---- splitting
 
 pub cut_none : IsCut [] 1 []
 unfolding is_free
@@ -70,7 +70,7 @@ cut_line before text unfinished number cut free =
       number_is = let count = length-append cut.lines (line ∷ []) in omega (arith, count, cut.number_is);
     }
 
--- ---- the number of a line is its place among all lines
+-- ---- the number of a line is its position among all lines
 
 abbrev whole_line : List ℕ → Line
 whole_line text = record { text = text; ended = true }

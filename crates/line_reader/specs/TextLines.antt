@@ -1,4 +1,4 @@
--- Lines as they walk through the stages.
+-- The lines that stages are handed, as contracts see them.
 use Rattle.text_core.specs.Lines.{Line}
 use Rattle.line_reader.specs.declared.line.TextLine.{TextLine}
 

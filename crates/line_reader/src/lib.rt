@@ -1,15 +1,16 @@
-//! Texts that are read line by line and come in pieces, wherever they are cut. It stands on `text_core` for the
-//! lines of a text.
+//! An incremental line reader: it is fed a text in pieces, which may end anywhere, and hands whole lines to a
+//! state machine. It uses `text_core` for the lines of a text.
 //!
-//! What takes the lines is a `LineStage`: it says of which texts it stands, given the lines that come next
-//! (`stands`), which faults refuse a text (`refuses`), and what a text comes to (`gives`). `PieceReader` is the one
-//! reader of pieces for all stages. It keeps the stage that the whole lines have come to and the unfinished line
-//! after them; so what is fed decides what it is, and not where the pieces end. Its promise, in the words of the
-//! stage: a reader stands for the text that it was fed (`StandsFor`); a refusal is that of every text that goes on
-//! so; and at the end it gives what the lines come to.
+//! The state machine is a `LineStage`. Three predicates of the trait say what it means: `stands` (this state is
+//! the one after the lines so far, given the lines that come next), `refuses` (a text with these lines has this
+//! fault) and `gives` (the result of a whole text). `PieceReader` is the one reader for all stages. It keeps the
+//! state after the whole lines so far, and the unfinished line after them; so its state depends on the bytes
+//! fed, not on where the pieces end. What is proved: a reader represents the text that it was fed (`StandsFor`);
+//! a refusal holds for every text that begins with what was fed; and at the end the reader returns the result of
+//! the whole text.
 //!
-//! - `specs/Cuts.antt`: texts that are cut into lines.
-//! - `specs/Reader.antt`: what a reader says of the text that it was fed.
+//! - `specs/Cuts.antt`: a text split into whole lines and an unfinished one.
+//! - `specs/Reader.antt`: what a reader promises about the text that it was fed.
 //!
 //! ```text
 //! let reader: PieceReader<Stage> = PieceReader::new(alloc).feed(b"inp")?.feed(b"uts 3\n")?;

@@ -1,4 +1,4 @@
-//! Lines as they are handed to a stage.
+//! The lines that a stage is handed.
 
 /// A line of a text.
 #[derive(Clone, Copy)]
@@ -7,6 +7,6 @@ pub struct TextLine<'a> {
     pub text: &'a [u8],
     /// Whether an LF ends it.
     pub ended: bool,
-    /// Which line of the text it is, from 1 on.
+    /// The number of the line in the text, from 1 on.
     pub number: u32,
 }

@@ -1,4 +1,4 @@
-//! A text that comes in pieces, wherever it is cut.
+//! The reader of a text that comes in pieces, which may end anywhere.
 ghost use Rattle.std.specs.Prelude.{◌≡◌, ◌+◌, ◌^◌, ◌<◌, ◌≤◌, List, ℕ, [], ◌∷◌, ◌++◌, true, length, IfOk};
 ghost use Rattle.text_core.specs.Lines.{Line, lines_of, last_line, line_bytes};
 ghost use Rattle.line_reader.specs.Cuts.{HasNoEnd, IsPlace, with_end};
@@ -11,30 +11,30 @@ use crate::stage::LineStage;
 use std::alloc::Global;
 use text_core::next_line;
 
-/// A text, as far as it was read. It keeps what its stage keeps, and the unfinished line; nothing of the lines
-/// before.
+/// The state of a text that was read in part. It keeps the stage and the bytes of the unfinished line; of the
+/// lines before it keeps only what the stage keeps.
 #[derive(Drop)]
 pub struct PieceReader<S> {
-    /// What the whole lines have come to.
+    /// The stage after the whole lines so far.
     pub stage: S,
-    /// Which line of the text the next one is, from 1 on.
+    /// The number of the next line, from 1 on.
     pub number: u32,
-    /// What was fed of the next line.
+    /// The bytes of the next line that were fed so far.
     pub unfinished: Vec<u8>,
-    /// How many bytes were fed.
+    /// How many bytes were fed in all.
     pub fed: usize,
 }
 
-/// What the lines of a text have come to, none of which is left.
+/// The state after all lines of a text.
 #[derive(Drop)]
 pub struct Closed<S> {
-    /// What they have come to.
+    /// The stage after all lines.
     pub stage: S,
-    /// Which line of the text the next one would be, from 1 on.
+    /// The number that the next line would have, from 1 on.
     pub number: u32,
 }
 
-/// Takes a whole line, which an LF ends.
+/// Hands a whole line, ended by an LF, to the stage.
 fn take_text<S: LineStage>(alloc: Global, stage: S, number: u32, text: &[u8]) -> Result<S, S::Fault>
     requires whole { S.whole stage number }
     requires number { number < 2 ^ 31 }
@@ -52,7 +52,7 @@ fn take_text<S: LineStage>(alloc: Global, stage: S, number: u32, text: &[u8]) ->
     stage.take(alloc, &line)
 }
 
-/// Takes what no LF ends, where something stands there.
+/// Hands the last line, which no LF ends, to the stage, unless it is empty.
 fn close<S: LineStage>(stage: S, number: u32, unfinished: &Vec<u8>) -> Result<Closed<S>, S::Fault>
     requires whole { S.whole stage number }
     requires number { number + length unfinished.now.items ≤ 2 ^ 31 }
@@ -79,7 +79,7 @@ fn close<S: LineStage>(stage: S, number: u32, unfinished: &Vec<u8>) -> Result<Cl
 }
 
 impl<S: LineStage> PieceReader<S> {
-    /// Nothing was fed yet. It takes no memory but what its stage takes.
+    /// Nothing was fed yet. The reader itself allocates nothing; its stage may.
     #[tactic(auto, using(crate::proofs::Cutting::readers))]
     pub fn new(alloc: Global) -> PieceReader<S>
         ensures whole { IsReader S.whole S.held (seen result) }
@@ -94,7 +94,7 @@ impl<S: LineStage> PieceReader<S> {
         }
     }
 
-    /// Takes the next piece of the text. A refusal is that of every text that goes on so.
+    /// Feeds the next piece of the text. A refusal holds for every text that begins with what was fed.
     pub fn feed(self, piece: &[u8]) -> Result<PieceReader<S>, S::Fault>
         requires whole { IsReader S.whole S.held (seen self) }
         requires room { self.fed + length piece.now < 2 ^ 31 }
@@ -111,7 +111,7 @@ impl<S: LineStage> PieceReader<S> {
         Ok(reader)
     }
 
-    /// Takes a text without an LF, and then the LF where one ends it.
+    /// Feeds a text without an LF, and then an LF if `ended`.
     pub fn feed_line(self, text: &[u8], ended: bool) -> Result<PieceReader<S>, S::Fault>
         requires whole { IsReader S.whole S.held (seen self) }
         requires room { self.fed + length (line_bytes (record { text = text.now; ended = ended })) < 2 ^ 31 }
@@ -131,7 +131,7 @@ impl<S: LineStage> PieceReader<S> {
         } = self;
         let mut unfinished = unfinished;
         if unfinished.extend_from_slice(text).is_err() {
-            // dropped here at once: left to the exit, each of its fields would be
+            // dropped here as a whole: at the exit of the function each of its fields would be dropped on its own
             drop(stage);
             return Err(S::no_memory());
         }
@@ -143,7 +143,7 @@ impl<S: LineStage> PieceReader<S> {
         })
     }
 
-    /// Takes the end of a line, and the LF after it. A line that stands in one piece isn't copied.
+    /// Feeds the rest of a line and its LF. A line that lies in one piece isn't copied.
     fn end_line(self, text: &[u8]) -> Result<PieceReader<S>, S::Fault>
         requires whole { IsReader S.whole S.held (seen self) }
         requires room { self.fed + length text.now + 1 < 2 ^ 31 }
@@ -170,7 +170,7 @@ impl<S: LineStage> PieceReader<S> {
         }
         let mut line = unfinished;
         if line.extend_from_slice(text).is_err() {
-            // dropped here at once: left to the exit, each of its fields would be
+            // dropped here as a whole: at the exit of the function each of its fields would be dropped on its own
             drop(stage);
             return Err(S::no_memory());
         }
@@ -184,7 +184,7 @@ impl<S: LineStage> PieceReader<S> {
         })
     }
 
-    /// What the lines of the text have come to, which ends here.
+    /// Ends the text: the state after all its lines.
     pub fn closed(self) -> Result<Closed<S>, S::Fault>
         requires { IsReader S.whole S.held (seen self) }
         ensures whole { IfOk result (λ closed. S.whole closed.stage closed.number) }
@@ -199,7 +199,7 @@ impl<S: LineStage> PieceReader<S> {
         close(stage, number, &unfinished)
     }
 
-    /// What the text comes to, which ends here.
+    /// Ends the text: its result.
     pub fn finish(self) -> Result<S::End, S::Fault>
         requires { IsReader S.whole S.held (seen self) }
         ensures { (text : List ℕ) → StandsFor S.stands (seen self) text → S.gives result text }

@@ -1,4 +1,4 @@
--- What was appended to a row, piece by piece.
+-- What was appended to the array, piece by piece.
 use Rattle.std.proofs.Common.{◌≡◌, ℕ, ℤ, List, [], ◌∷◌, ◌++◌, refl}
 use Rattle.std.proofs.lemmas.Grind.{common_steps}
 use Rattle.cnf_core.specs.Codes.{code_of}

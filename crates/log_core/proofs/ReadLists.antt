@@ -1,4 +1,4 @@
--- What was written of a list is read again.
+-- A list that was written is read again.
 use Rattle.std.proofs.Common.{Fits, w32, get_or, ◌≡◌, ℕ, suc, ◌+◌, ◌-◌, ◌*◌, ◌/◌, ◌%◌, ◌<◌, ◌≤◌, ◌^◌, min, true, false, ℤ, pos, negsuc, List, [], ◌∷◌, length, refl, ap, sym, ◌∙◌, subst, arith, eq-eqb}
 use Rattle.std.specs.Prelude.{All}
 use Rattle.std.proofs.Math.Logic.{⊎_elim}
@@ -28,7 +28,7 @@ stepped-down : (last n : ℕ) → (n % 2 ≡ 0 → ⊥) → stepped last n ≡ l
 unfolding stepped
 stepped-down last n odd = rw (ne_eqb (n % 2) 0 odd) refl
 
--- a step leads back to where it was taken
+-- decoding the difference gives the id back
 pub stepped-step : (last id : ℕ) → id ≤ 4294967295 → stepped last (step last id) ≡ id
 stepped-step last id low = ⊎_elim
     (λ (down : id < last). rw (step-down last id down) (stepped-down last (2 * (last - id) - 1) (omega arith) ∙ (let back : last - ((2 * (last - id) - 1) / 2 + 1) ≡ id = omega arith in back)))
@@ -68,7 +68,7 @@ variable_at-same : (n v : ℕ) → n ≡ v → 0 < v → v < 2 ^ 31 → variable
 unfolding variable_at
 variable_at-same n v same some small = omega arith
 
--- a literal is that of its number
+-- decoding the number of a literal gives the literal back
 pub literal_at-code_of : (l : ℤ) → IsLit l → literal_at (code_of l) ≡ l
 literal_at-code_of (pos a) is =
     let some : 0 < a = is.some in

@@ -1,4 +1,4 @@
--- Rows of lines: one line appended, and the first one taken off.
+-- Byte arrays of lines: one line appended, and the first one taken off.
 use Rattle.std.proofs.Common.{◌≡◌, ℕ, suc, ◌-◌, ◌≤◌, ℤ, List, [], ◌∷◌, ◌++◌, length, take, drop, refl, ap, sym, ◌∙◌, arith, append_assoc, length-append, length-drop}
 use Rattle.std.specs.Prelude.{All, Result, Ok, Err, IfOk, IsOkAnd}
 use Rattle.std.proofs.Math.Seq.{take-append_seam, drop-append_seam, take-length}
@@ -11,12 +11,12 @@ use Rattle.log_core.specs.Lists.{ids_written, literals_written}
 use Rattle.log_core.specs.Rows.{size_of, line_in, lines_in, sizes_of, IsCut, BeginsAs, IsPacked}
 use Rattle.log_core.proofs.ReadLists.{AreIds, ids_read, literals_read}
 
--- what was written of an addition is that addition
+-- an addition that was written is read again
 pub addition_read : (id : ℕ) (lits : List ℤ) (hints : List ℕ) → All IsLit lits → AreIds hints → line_in (Add id (length (literals_written lits)) (length (ids_written 0 hints))) (literals_written lits ++ ids_written 0 hints) ≡ theory.Add id lits hints
 addition_read id lits hints are_lits are_ids =
     rw (take-append_seam (literals_written lits) (ids_written 0 hints), drop-append_seam (literals_written lits) (ids_written 0 hints), literals_read lits are_lits, ids_read 0 hints (omega arith) are_ids) refl
 
--- and of a deletion
+-- a deletion that was written is read again
 pub deletion_read : (id : ℕ) (ids : List ℕ) → AreIds ids → line_in (Delete id (length (ids_written 0 ids))) (ids_written 0 ids) ≡ theory.Delete id ids
 deletion_read id ids are = rw (ids_read 0 ids (omega arith) are) refl
 
@@ -65,7 +65,7 @@ pub cut-first : (h : Head) (heads : List Head) (bytes : List ℕ) → IsCut (h �
 unfolding sizes_of
 cut-first h heads bytes cut = rw length-drop (omega (arith, cut))
 
--- what begins as another
+-- an array is a prefix of itself
 pub begins-same : (old : List ℕ) → BeginsAs old old
 begins-same old = take-length old
 
@@ -77,7 +77,7 @@ begins-on old middle new first second =
     let low : length old ≤ length middle = omega (arith, ap length first, length-take (length old) middle) in
     sym (take-take (length old) (length middle) new low) ∙ ap (take (length old)) second ∙ first
 
--- an addition that was packed, by the lengths of the row before, between its lists and at the end
+-- an addition that was packed, by the length of the array before it, between its lists and at its end
 pub addition_packed : (old middle new : List ℕ) (id n m start between end : ℕ) (lits : List ℤ) (hints : List ℕ) → middle ≡ old ++ literals_written lits → new ≡ middle ++ ids_written 0 hints → start ≡ length old → between ≡ length middle → end ≡ length new → n ≡ between - start → m ≡ end - between → All IsLit lits → AreIds hints → IsPacked old new (theory.Add id lits hints) (Add id n m)
 addition_packed old middle new id n m start between end lits hints first second at_start at_between at_end is_n is_m are_lits are_ids =
     let lit_bytes : List ℕ = literals_written lits in

@@ -1,4 +1,4 @@
--- What a log shows of its heads and bytes.
+-- What contracts see of the heads and bytes of a log.
 use Rattle.std.proofs.Common.{◌≡◌, ℕ, List, [], length, take, refl, ap, ◌∙◌}
 use Rattle.std.proofs.lemmas.Grind.{common_steps}
 use Rattle.log_core.specs.Rows.{IsCut, sizes_of, BeginsAs}
@@ -8,7 +8,7 @@ pub cut-none : IsCut [] []
 unfolding sizes_of
 cut-none = refl
 
--- a row that is cut back to where it began
+-- an array that is truncated to what it was
 pub cut_back : (old new back : List ℕ) (start : ℕ) → start ≡ length old → BeginsAs old new → back ≡ take start new → back ≡ old
 cut_back old new back start at begins is = is ∙ ap (λ (n : ℕ). take n new) at ∙ begins
 

@@ -1,4 +1,4 @@
--- A line as its writer puts it together, from the bytes of its lists.
+-- A line as its writer builds it, from the bytes of its lists.
 use Rattle.std.proofs.Common.{◌≡◌, ℕ, ℤ, List, [], ◌∷◌, ◌++◌, map, refl, ap, ◌∙◌, append_assoc}
 use Rattle.std.specs.Prelude.{decimal, codes}
 use Rattle.std.specs.Fmt.{signed_decimal}

@@ -1,4 +1,4 @@
--- What was read of a row, byte by byte.
+-- What was read of an array, byte by byte.
 use Rattle.std.proofs.Common.{◌≡◌, ℕ, List, [], ◌∷◌, refl}
 use Rattle.std.proofs.lemmas.Grind.{common_steps}
 use Rattle.log_core.proofs.ReadNumbers.{numbers_from-last, numbers_from-more, numbers_from-none}

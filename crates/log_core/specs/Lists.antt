@@ -5,7 +5,7 @@ use Rattle.sat_theory.specs.Formula.{signed}
 use Rattle.cnf_core.specs.Codes.{code_of}
 use Rattle.log_core.specs.Numbers.{numbers_from, written}
 
--- the step from one id to the next as a number: one up by d is 2 d, one down by d is 2 d - 1
+-- the zigzag encoding of the difference between consecutive ids: up by d is 2 d, down by d is 2 d - 1
 unfoldable pub step : ℕ → ℕ → ℕ
 step last id = if nat_le last id then 2 * (id - last) else 2 * (last - id) - 1
 
@@ -28,7 +28,7 @@ ids_from last (n ∷ ns) = stepped last n ∷ ids_from (stepped last n) ns
 abbrev pub ids_of : List ℕ → List ℕ
 ids_of bytes = ids_from 0 (numbers_from 0 bytes)
 
--- n clamped to a variable, from 1 to 2147483647
+-- n clamped to the variables 1 to 2147483647
 unfoldable pub variable_at : ℕ → ℕ
 variable_at n = max 1 (min n 2147483647)
 

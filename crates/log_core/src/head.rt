@@ -1,9 +1,8 @@
-//! Heads of lines.
+//! Heads of packed lines.
 ghost use Rattle.std.specs.Prelude.{◌≡◌, ◌<◌, ◌^◌};
 ghost use Rattle.log_core.specs.Rows.{size_of};
 
-/// What the log keeps of a line outside its row of bytes: kind, id, and the number of bytes that
-/// each list takes.
+/// What the log keeps of a line outside its byte array: kind, id, and the number of bytes of each list.
 #[derive(Clone, Copy)]
 pub(crate) enum Head {
     /// An addition: its literals are followed by its hints.
@@ -13,7 +12,7 @@ pub(crate) enum Head {
 }
 
 impl Head {
-    /// How many bytes of the row the line takes.
+    /// How many bytes of the byte array the line takes.
     pub(crate) fn size(self) -> usize
         ensures is { result ≡ size_of self }
         ensures few { result < 2 ^ 33 }

@@ -1,5 +1,5 @@
-//! Ids as items of a text, each followed by a blank. Room for the digits is reserved before, once for all items of a
-//! line; they are appended two by two, with no row of characters in between.
+//! Ids as items of a text, each followed by a blank. Room is reserved before, once for all items of a line. Digits
+//! are appended two by two, without a temporary buffer.
 ghost use Rattle.std.specs.Prelude.{◌≡◌, ◌+◌, ◌/◌, ◌%◌, ◌<◌, ◌≤◌, [], ◌∷◌, ◌++◌, decimal, vec_len};
 ghost use Rattle.std.specs.Vec.{vec_capacity};
 ghost use Rattle.lrat_text.specs.Spelling.{id_item};
@@ -60,7 +60,7 @@ fn put_four(out: &mut Vec<u8>, number: u32)
     }
 }
 
-/// Appends a number of at most six digits, of which mostly two are asked for.
+/// Appends a number of at most six digits; mostly it has two.
 #[tactic(auto, using(crate::proofs::Digits::digits))]
 fn put_six(out: &mut Vec<u8>, number: u32)
     requires few { number < 1000000 }
@@ -77,8 +77,8 @@ fn put_six(out: &mut Vec<u8>, number: u32)
     }
 }
 
-/// Appends a number of any size. The first test parts those of four digits from those of five, as most hints are. It
-/// is to be part of `put_id`.
+/// Appends a number of any size. The first test separates four digits from five, since most hints have four or
+/// five. It is meant to be inlined into `put_id`.
 #[inline(always)]
 #[tactic(auto, using(crate::proofs::Digits::halves))]
 fn put_digits(out: &mut Vec<u8>, number: u32)
@@ -96,7 +96,8 @@ fn put_digits(out: &mut Vec<u8>, number: u32)
     }
 }
 
-/// Appends an id, followed by a blank. It is to be part of its callers' loops, which hold the text by value.
+/// Appends an id, followed by a blank. It is meant to be inlined into its callers' loops, which hold the text by
+/// value.
 #[inline(always)]
 pub(crate) fn put_id(out: &mut Vec<u8>, id: u32)
     requires room { vec_len out.old + 11 ≤ vec_capacity out.old }

@@ -1,6 +1,6 @@
-//! Logs: heads of lines, and one row with the bytes of all lines. That the lengths in the heads add
-//! up to the length of the row is the whole invariant, enough to append a line and to take the
-//! first one off; the bytes are arbitrary.
+//! Logs: the heads of the lines, and one array with the bytes of all lines. The only invariant is that the
+//! lengths in the heads add up to the length of the array. That suffices to append a line and to take off the
+//! first one; the bytes themselves are arbitrary.
 ghost use Rattle.std.specs.Prelude.{◌≡◌, [], ◌∷◌, ◌++◌, length, take, OnOk, OnErr, IsOkAnd, IfOk, IfSome, IfNone};
 ghost use Rattle.sat_theory.specs.Line as theory;
 ghost use Rattle.lrat_text.specs.Values.{line_value};
@@ -14,8 +14,7 @@ use lrat_text::Line;
 use std::alloc::{AllocError, Global};
 use std::marker::Model;
 
-/// A log. A line takes 16 bytes and about two for each literal and hint, and no allocation of its
-/// own.
+/// A log. A line takes 16 bytes and about two more for each literal and hint, without an allocation of its own.
 #[derive(Drop)]
 pub struct Log {
     heads: Vec<Head>,
@@ -62,7 +61,7 @@ fn push_head(heads: &mut Vec<Head>, packed: Result<Head, AllocError>) -> Result<
     Ok(())
 }
 
-/// As `push_head`; where memory runs out, the row of bytes is cut back to where the line began.
+/// As `push_head`; if memory runs out, the byte array is truncated to where the line began.
 fn push_or_cut(
     heads: &mut Vec<Head>,
     bytes: &mut Vec<u8>,
@@ -83,7 +82,7 @@ fn push_or_cut(
 
 #[tactic(auto, using(crate::proofs::Shown::shown))]
 impl Log {
-    /// A log without a line.
+    /// The empty log.
     pub fn new(alloc: Global) -> Log
         ensures { result ≡ [] }
     {
@@ -100,8 +99,8 @@ impl Log {
         self.heads.len()
     }
 
-    /// Appends an addition. Literals or hints that take more than 4,294,967,295 bytes count as
-    /// running out of memory.
+    /// Appends an addition. Literals or hints that take more than 4,294,967,295 bytes count as running out of
+    /// memory (a head keeps lengths as u32).
     pub fn add(&mut self, id: u32, lits: &[Lit], hints: &[u32]) -> Result<(), AllocError>
         ensures ok { OnOk result (self.new ≡ self.old ++ theory.Add id lits.now hints.now ∷ []) }
         ensures err { OnErr result (self.new ≡ self.old) }
@@ -112,8 +111,7 @@ impl Log {
         Ok(())
     }
 
-    /// Appends a deletion. Ids that take more than 4,294,967,295 bytes count as running out of
-    /// memory.
+    /// Appends a deletion. Ids that take more than 4,294,967,295 bytes count as running out of memory.
     pub fn delete(&mut self, id: u32, ids: &[u32]) -> Result<(), AllocError>
         ensures ok { OnOk result (self.new ≡ self.old ++ theory.Delete id ids.now ∷ []) }
         ensures err { OnErr result (self.new ≡ self.old) }
@@ -124,7 +122,7 @@ impl Log {
         Ok(())
     }
 
-    /// The heads of its lines, and the row of bytes that they divide.
+    /// The heads of its lines, and the byte array that they divide.
     pub(crate) fn parts(&self) -> (&[Head], &[u8])
         ensures lines { lines_in result.0.now result.1.now ≡ self.now }
         ensures cut { IsCut result.0.now result.1.now }
@@ -132,7 +130,7 @@ impl Log {
         (&self.heads, &self.bytes)
     }
 
-    /// All its lines, to be read from the first on.
+    /// An iterator over its lines, in order.
     pub fn lines(&self) -> Lines<'_>
         ensures { result ≡ self.now }
     {
@@ -145,7 +143,7 @@ impl Log {
 
 #[tactic(auto, using(crate::proofs::Shown::left))]
 impl<'a> Lines<'a> {
-    /// The next line. Where memory runs out, it is still to be read.
+    /// The next line; None at the end. If memory runs out, the line isn't skipped.
     pub fn next(&mut self, alloc: Global) -> Result<Option<Line>, AllocError>
         ensures none { IfOk result (λ found. IfNone found (self.old ≡ [])) }
         ensures end { IfOk result (λ found. IfNone found (self.new ≡ [])) }

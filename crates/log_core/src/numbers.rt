@@ -1,6 +1,5 @@
-//! Numbers as bytes, one byte for each digit to the base 128: appended to a row, and read from its
-//! start. Room for the digits is reserved before, once for all numbers of a line, so no byte that is
-//! appended asks for it.
+//! Numbers as bytes, one byte for each digit in base 128: appended to an array, and read from its start. Room for
+//! the digits is reserved once for all numbers of a line before, so appending a byte doesn't check it.
 ghost use Rattle.std.specs.Prelude.{◌≡◌, ◌+◌, [], ◌∷◌, ◌++◌, ◌<◌, ◌≤◌, length, vec_len, IfSome, IfNone};
 ghost use Rattle.std.specs.Vec.{vec_capacity};
 ghost use Rattle.log_core.specs.Numbers as spec;
@@ -9,7 +8,7 @@ ghost use Rattle.log_core.specs.Numbers.{leading, far, written, numbers_from};
 /// The most digits of a number.
 pub(crate) const MOST_DIGITS: usize = 5;
 
-/// Appends the last digit of a number, marked as not the last one of the whole; nothing for 0.
+/// Appends the last digit of a number, with the continuation bit; nothing for 0.
 #[tactic(auto, using(crate::proofs::Behind::behind), unfolding(crate::specs::Numbers::leading))]
 fn put_leading(bytes: &mut Vec<u8>, number: u64)
     requires room { vec_len bytes.old < vec_capacity bytes.old }
@@ -23,8 +22,7 @@ fn put_leading(bytes: &mut Vec<u8>, number: u64)
     bytes.push_reserved((number % 128) as u8 + 128);
 }
 
-/// Appends the last three digits of a number, all marked as not the last one of the whole. Few
-/// numbers have them.
+/// Appends the last three digits of a number, all with the continuation bit. Few numbers need this.
 #[tactic(auto, using(crate::proofs::Behind::behind), unfolding(crate::specs::Numbers::far))]
 fn put_far(bytes: &mut Vec<u8>, number: u64)
     requires room { vec_len bytes.old + 3 ≤ vec_capacity bytes.old }
@@ -82,8 +80,8 @@ fn put_three(bytes: &mut Vec<u8>, number: u64)
     bytes.push_reserved((number % 128) as u8);
 }
 
-/// Appends a number, for whose digits there is room. The first three tests are those of nearly all
-/// numbers. It is to be part of its callers' loops, which hold the row by value.
+/// Appends a number, for whose digits there is room. The first three tests suffice for nearly all numbers. It is
+/// meant to be inlined into its callers' loops, which hold the array by value.
 #[inline(always)]
 #[tactic(auto, using(crate::proofs::Behind::numbers))]
 pub(crate) fn put_number(bytes: &mut Vec<u8>, number: u64)
@@ -107,8 +105,8 @@ pub(crate) fn put_number(bytes: &mut Vec<u8>, number: u64)
     put_long(bytes, number);
 }
 
-/// A number with one digit more, read from a byte from 128 on. Before its last digit no number
-/// grows above 2^34.
+/// A number with one more digit, read from a byte with the continuation bit. Before its last digit the number is
+/// clamped to 2^34.
 #[tactic(auto, unfolding(crate::specs::Numbers::grown))]
 fn grown(number: u64, byte: u8) -> u64
     requires number { number ≤ 17179869184 }
@@ -119,7 +117,7 @@ fn grown(number: u64, byte: u8) -> u64
     (number * 128 + u64::from(byte - 128)).min(17_179_869_184)
 }
 
-/// The first number that bytes spell after the digits of a number, and what follows it.
+/// The first number that bytes spell, after the digits `n` have been read, and the bytes after it.
 #[tactic(auto, using(crate::proofs::Taken::taken))]
 fn number_after(digits: u64, bytes: &[u8]) -> Option<(u64, &[u8])>
     requires { digits ≤ 17179869184 }
@@ -139,9 +137,9 @@ fn number_after(digits: u64, bytes: &[u8]) -> Option<(u64, &[u8])>
     None
 }
 
-/// The first number that bytes spell, and what follows it; None where none is left. Any bytes spell
-/// numbers; digits without a last one spell none. Nearly all numbers have at most three digits, which
-/// are asked for one by one; it is to be part of its callers' loops.
+/// The first number that bytes spell, and the bytes after it; None if none is left. Any bytes spell numbers;
+/// digits without a last one are ignored. Nearly all numbers have at most three digits, which are tested one by
+/// one; it is meant to be inlined into its callers' loops.
 #[inline(always)]
 #[tactic(auto, using(crate::proofs::Taken::taken))]
 pub(crate) fn next_number(bytes: &[u8]) -> Option<(u64, &[u8])>

@@ -1,4 +1,4 @@
-//! Lists appended to a row of bytes, number by number, with no temporary list.
+//! Lists of numbers appended to the byte array, number by number, without a temporary list.
 ghost use Rattle.std.specs.Prelude.{◌≡◌, ◌+◌, ◌-◌, ◌*◌, ◌≤◌, ◌++◌, length, vec_len, OnOk, IfOk, All};
 ghost use Rattle.std.specs.Vec.{vec_capacity};
 ghost use Rattle.sat_theory.specs.Line as theory;
@@ -14,7 +14,8 @@ use crate::steps::step;
 use cnf_core::Lit;
 use std::alloc::AllocError;
 
-/// More numbers in a line count as running out of memory: each takes a byte.
+/// The most numbers of a line, twice (2^32 - 1): each takes at least one byte. More count as running out of
+/// memory.
 const MOST_NUMBERS: usize = 8_589_934_590;
 
 /// Reserves the bytes of some numbers.
@@ -29,7 +30,7 @@ fn reserve(bytes: &mut Vec<u8>, numbers: usize) -> Result<(), AllocError>
     Ok(())
 }
 
-/// A row and ids behind it, each as the step from the one before. There is room for them.
+/// Appends ids, each as the step from the one before. There is room for them.
 #[tactic(auto, using(crate::proofs::Behind::packed))]
 fn with_ids(mut row: Vec<u8>, ids: &[u32]) -> Vec<u8>
     requires room { vec_len row + MOST_DIGITS * length ids.now ≤ vec_capacity row }
@@ -57,7 +58,7 @@ fn number_of(lit: Lit) -> u64
     ensures value { result ≡ code_of lit }
     ensures whole { IsLit lit }
 {
-    // for the prover: `variable` brings in the invariant of the literal, which `code` doesn't
+    // for the prover: `variable` gives the invariant of the literal, which `code` doesn't
     let _variable = lit.variable();
     lit.code() as u64
 }
@@ -76,7 +77,7 @@ fn put_literals(bytes: &mut Vec<u8>, lits: &[Lit])
     }
 }
 
-/// The length of a part of a row. One above 4,294,967,295 counts as running out of memory.
+/// The length of a part of the array. A length above 4,294,967,295 counts as running out of memory.
 fn size(start: usize, end: usize) -> Result<u32, AllocError>
     requires { start ≤ end }
     ensures { IfOk result (λ size. size ≡ end - start) }
@@ -87,7 +88,7 @@ fn size(start: usize, end: usize) -> Result<u32, AllocError>
     Ok((end - start) as u32)
 }
 
-/// Appends the bytes of an addition, and makes its head.
+/// Appends the bytes of an addition, and returns its head.
 #[tactic(auto, using(crate::proofs::Behind::behind))]
 pub(crate) fn pack_addition(
     bytes: &mut Vec<u8>,
@@ -108,7 +109,7 @@ pub(crate) fn pack_addition(
     Ok(Head::Add { id, lits, hints })
 }
 
-/// Appends the bytes of a deletion, and makes its head.
+/// Appends the bytes of a deletion, and returns its head.
 #[tactic(auto, using(crate::proofs::Behind::behind))]
 pub(crate) fn pack_deletion(bytes: &mut Vec<u8>, id: u32, ids: &[u32]) -> Result<Head, AllocError>
     ensures packed { IfOk result (IsPacked bytes.old.items bytes.new.items (theory.Delete id ids.now)) }

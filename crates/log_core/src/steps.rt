@@ -1,5 +1,5 @@
-//! Steps from one id to the next, as numbers (zigzag differences): hints are mostly close to each
-//! other, so most steps take two bytes.
+//! Differences between consecutive ids as numbers (zigzag encoding). Hints are mostly close to each other, so most
+//! differences take two bytes.
 ghost use Rattle.std.specs.Prelude.{◌≡◌};
 ghost use Rattle.log_core.specs.Lists as spec;
 

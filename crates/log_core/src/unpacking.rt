@@ -1,4 +1,4 @@
-//! Lists read from bytes. Any bytes spell a list, so reading needs no invariant of the row.
+//! Lists read from bytes. Any bytes spell a list, so reading needs no invariant of the array.
 ghost use Rattle.std.specs.Prelude.{◌≡◌, length, IfOk};
 ghost use Rattle.log_core.specs.Lists as spec;
 ghost use Rattle.log_core.specs.Rows.{size_of, line_in};
@@ -27,7 +27,7 @@ fn ids_of(alloc: Global, bytes: &[u8]) -> Result<Vec<u32>, AllocError>
     Ok(ids)
 }
 
-/// The literal that a number encodes, its variable clamped to 1 to 2147483647.
+/// The literal that a number encodes, with its variable clamped to 1 to 2147483647.
 #[tactic(auto, unfolding(crate::specs::Lists::literal_at, crate::specs::Lists::variable_at))]
 pub(crate) fn literal_at(number: u64) -> Lit
     ensures { result ≡ spec.literal_at number }

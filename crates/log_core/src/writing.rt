@@ -1,6 +1,6 @@
-//! Logs as texts: their lines one after another, as the grammar spells them. Each number is spelled
-//! as it is read, with no line built in between. Room is reserved once for all items of a line. Where memory
-//! runs out, a text has what it had as a prefix, and is cut back once.
+//! Logs as LRAT texts: the spellings of the lines, one after another. Each number is written as soon as it is
+//! read, without building the line first. Room is reserved once for all items of a line. If memory runs out, the
+//! text is truncated to what it was before.
 ghost use Rattle.std.specs.Prelude.{◌≡◌, ◌+◌, ◌*◌, ◌^◌, ◌<◌, ◌≤◌, [], ◌∷◌, ◌++◌, length, vec_len, OnOk, OnErr};
 ghost use Rattle.std.specs.Vec.{vec_capacity};
 ghost use Rattle.std.specs.List.{flat_map};
@@ -19,8 +19,8 @@ use crate::unpacking::literal_at;
 use cnf_core::Lit;
 use std::alloc::AllocError;
 
-/// Reserves the items of a line whose lists take some bytes, each of which spells a number at most, and the rest
-/// of that line, which takes no more than two items.
+/// Reserves room for the items of a line whose lists take `bytes` bytes, each of which spells at most one
+/// number, and for the rest of that line, which takes at most two items.
 fn reserve(out: &mut Vec<u8>, bytes: usize) -> Result<(), AllocError>
     requires few { bytes < 2 ^ 33 }
     ensures same { out.new.items ≡ out.old.items }
@@ -55,7 +55,7 @@ fn put_lit(out: &mut Vec<u8>, lit: Lit)
     put_id(out, lit.variable());
 }
 
-/// A text and the ids that bytes spell behind it. There is room for them.
+/// Appends the ids that bytes spell to a text. There is room for them.
 #[tactic(auto, using(crate::proofs::Spelled::spelled))]
 fn with_ids(mut text: Vec<u8>, bytes: &[u8]) -> Vec<u8>
     requires room { vec_len text + MOST_CHARACTERS * length bytes.now ≤ vec_capacity text }
@@ -84,7 +84,7 @@ fn put_ids(out: &mut Vec<u8>, bytes: &[u8])
     *out = with_ids(text, bytes);
 }
 
-/// A text and the literals that bytes spell behind it. There is room for them.
+/// Appends the literals that bytes spell to a text. There is room for them.
 #[tactic(auto, using(crate::proofs::Spelled::spelled))]
 fn with_lits(mut text: Vec<u8>, bytes: &[u8]) -> Vec<u8>
     requires room { vec_len text + MOST_CHARACTERS * length bytes.now ≤ vec_capacity text }
@@ -163,8 +163,7 @@ fn push_line(out: &mut Vec<u8>, head: Head, bytes: &[u8]) -> Result<(), AllocErr
     Ok(())
 }
 
-/// Appends the lines of a row one after another. Where memory runs out, the first ones may be
-/// appended.
+/// Appends the lines of a byte array one after another. If memory runs out, some of them may have been appended.
 #[tactic(auto, using(crate::proofs::Spelled::lines))]
 fn push_lines(out: &mut Vec<u8>, heads: &[Head], bytes: &[u8]) -> Result<(), AllocError>
     requires { IsCut heads.now bytes.now }
@@ -182,7 +181,7 @@ fn push_lines(out: &mut Vec<u8>, heads: &[Head], bytes: &[u8]) -> Result<(), All
     Ok(())
 }
 
-/// Appends the spelling of each line of a log. On an error nothing is appended.
+/// Appends the spelling of each line of a log. After an error the text is as before.
 pub fn write_log(log: &Log, out: &mut Vec<u8>) -> Result<(), AllocError>
     ensures ok { OnOk result (out.new.items ≡ out.old.items ++ flat_map line_text log.now) }
     ensures err { OnErr result (out.new.items ≡ out.old.items) }

@@ -1,4 +1,4 @@
--- Where no variable is above vars, all are within the formula's.
+-- If no variable is above vars, all are variables of the formula.
 use Rattle.std.proofs.Common.{◌≡◌, ℕ, ◌≤◌, ℤ, true, false, nat_lt, List, [], ◌∷◌, Some, None, cond}
 use Rattle.std.proofs.Math.Logic.{⊎_elim}
 use Rattle.std.proofs.lemmas.Grind.{common_steps}

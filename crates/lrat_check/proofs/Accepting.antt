@@ -1,4 +1,4 @@
--- What an answer of the checker says of the line, and of the log.
+-- What the checker's result says about the line and the log.
 use Rattle.std.proofs.Common.{◌≡◌, zero, suc, ◌<◌, ◌||◌, ◌⊎◌, Bool, true, false, List, [], ◌∷◌, ◌++◌, length, Any, Option, None, Result, Ok, Err, OnOk, IsOkUnless, refl, sym, ap, ◌∙◌, subst, inl, inr, arith}
 use Rattle.std.proofs.Math.Logic.{⊎_elim}
 use Rattle.std.proofs.lemmas.Bool.{or_cases}
@@ -18,12 +18,12 @@ use Rattle.lrat_check.specs.FaultLaws.{line_holds, line_without_fault}
 use Rattle.lrat_check.specs.Checked.{Checked, state_of, is_empty, adds_empty, HasAccepted}
 use Rattle.lrat_check.proofs.Starting.{empty_is}
 
--- a line that is taken holds
+-- a line that is accepted holds
 pub taken_holds : (r : Result (Unit {0}) CheckError) (s : State) (line : Line) → Judges r (line_fault s line) → OnOk r (Holds s line)
 taken_holds (Ok done) s line judged = line_holds s line judged
 taken_holds (Err e) s line judged = tt
 
--- and one that holds is taken, unless memory runs out
+-- a line that holds is accepted, unless memory runs out
 only_memory : (e : CheckError) (fault : Option CheckError) → fault ≡ None → Refuses e fault → e ≡ Memory
 only_memory (UnknownId id) fault none is = absurd (cc)
 only_memory (NotUnit id) fault none is = absurd (cc)
@@ -75,7 +75,7 @@ or_right : (a b : Bool) → b ≡ true → (a || b) ≡ true
 or_right true b is = refl
 or_right false b is = is
 
--- So what the checker has accepted so far, and the line, is accepted.
+-- The lines accepted so far and this line are accepted.
 pub accepted_more : (f : Formula) (lines : List Line) (line : Line) (old new : Checked) → HasAccepted f lines old → IsLine line → Holds (state_of old) line → state_of new ≡ next (state_of old) line → new.refuted ≡ (old.refuted || adds_empty line) → HasAccepted f (lines ++ line ∷ []) new
 accepted_more f lines line old new before is_line holds next_is refuted_is = record {
   formula = before.formula;

@@ -28,14 +28,14 @@ or_false : (b : Bool) → (b || false) ≡ b
 or_false true = refl
 or_false false = refl
 
--- a clause was put under an id
+-- a clause was inserted with an id
 pub live-insert : {S : Type 0} (old new : HashMap ℕ (List ℤ) S) (id : ℕ) (clause : List ℤ) → ((q : ℕ) → get nat_eq new q ≡ cond (nat_eq id q) (Some clause) (get nat_eq old q)) → live_at (map.from_entries new.entries) ≡ with_clause (live_at (map.from_entries old.entries)) id clause
 live-insert old new id clause each = λ i k. at k i
   where
     at : (k : ℕ) → live_at (map.from_entries new.entries) k ≡ with_clause (live_at (map.from_entries old.entries)) id clause k
     at k = live_get new k ∙ each k ∙ ap (λ (o : Option (List ℤ)). cond (id == k) (Some clause) o) (sym (live_get old k)) ∙ ap (λ (b : Bool). cond b (Some clause) (live_at (map.from_entries old.entries) k)) (turned id k)
 
--- the clause of an id was taken out
+-- the clause with an id was removed
 pub live-remove : {S : Type 0} (old new : HashMap ℕ (List ℤ) S) (id : ℕ) → ((q : ℕ) → get nat_eq new q ≡ cond (nat_eq id q) None (get nat_eq old q)) → live_at (map.from_entries new.entries) ≡ without (live_at (map.from_entries old.entries)) (id ∷ [])
 live-remove old new id each = λ i k. at k i
   where
@@ -46,7 +46,7 @@ live-remove old new id each = λ i k. at k i
 pub indexed_view : {S : Type 0} (m : HashMap ℕ (List ℤ) S) (index : Lists) → IsIndexed (get nat_eq m) index → IsIndexed (live_at (map.from_entries m.entries)) index
 indexed_view m index indexed = record { each = λ id clause is. indexed.each id clause (sym (live_get m id) ∙ is) }
 
--- In an empty map nothing has to be found, so any index will do.
+-- In an empty map nothing has to be found, so any index fits it.
 pub empty_view : {S : Type 0} (m : HashMap ℕ (List ℤ) S) → m.entries ≡ [] → map.from_entries {R = nat_cmp} m.entries ≡ map.empty
 empty_view m none = rw none refl
 

@@ -22,7 +22,7 @@ zeros n k =
     (λ (past : n ≤ k). let none : slice_index_or zs k 0 ≡ 0 = grind (arith, common_steps) in none)
     (cases_lt k n)
 
--- The slots of an empty list,
+-- The slots of an empty list.
 pub none_filled : AreSlots (replicate 1024 0) []
 none_filled = record {
   each = λ l there. absurd (let within : there.0 < 0 = there.1 in omega arith);
@@ -42,7 +42,7 @@ fresh_entry slot code none = rw (eq-eqb slot 0 none) refl
 used_entry : (slot code : ℕ) → (slot ≡ 0 → ⊥) → cond (slot == 0) (code + 2) 1 ≡ 1
 used_entry slot code some = rw (ne_eqb slot 0 some) refl
 
--- and of a list with one literal more.
+-- The slots of a list with one more literal.
 pub filled : (slots : List ℕ) (lits : List ℤ) (l : ℤ) → AreSlots slots lits → AreSlots (with_slot slots l) (lits ++ l ∷ [])
 filled slots lits l are = record {
   each = λ m there.

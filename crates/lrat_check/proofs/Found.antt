@@ -1,4 +1,4 @@
--- Finding clauses by their literals, with one more entry in a list.
+-- Clauses are found by their literals after one more entry was added to a list.
 use Rattle.std.proofs.Common.{◌≡◌, ℕ, ◌<◌, ℤ, Bool, true, false, ◌||◌, ◌==◌, List, [], ◌∷◌, ◌++◌, length, Any, Contains, slice_index_or, refl, sym, subst, inl, inr, arith}
 use Rattle.std.proofs.Math.Logic.{⊎_elim}
 use Rattle.std.proofs.lemmas.Bool.{cases_eq, eq-eqb}
@@ -9,7 +9,7 @@ use Rattle.cnf_core.specs.Codes.{code_of}
 use Rattle.lrat_check.specs.declared.index.Entry.{Entry}
 use Rattle.lrat_check.specs.Index.{with_entry, IsEntryOf, IsListed, IsFound, KeepsFound}
 
--- an id that is pushed is listed, and those before it still are
+-- an id that is appended is listed, and those before it still are
 listed_last : (ids : List ℕ) (id : ℕ) → is_listed (ids ++ id ∷ []) id ≡ true
 listed_last [] id = rw (eq-eqb id id refl) refl
 listed_last (k ∷ ks) id = rw (listed_last ks id) (or_true (id == k))
@@ -44,7 +44,7 @@ grown heads place id code clause e within is =
     (λ (apart : code ≡ place → ⊥). subst (λ (es : List Entry). Any (IsEntryOf id clause) es) (sym (at_other heads place code e within apart)) is)
     (cases_eq code place)
 
--- what was found is still found with one entry more in a literal's list,
+-- what was found is still found with one more entry in a literal's list
 pub kept_at_head : (heads : List (List Entry)) (others : List ℕ) (place : ℕ) (e : Entry) → place < length heads → KeepsFound (record { heads = heads; others = others }) (record { heads = with_entry heads place e; others = others })
 unfolding IsFound
 kept_at_head heads others place e within = record {
@@ -55,7 +55,7 @@ kept_at_head heads others place e within = record {
       found;
 }
 
--- and with one id more in the list of the others
+-- and with one more id among the others
 pub kept_in_others : (heads : List (List Entry)) (others : List ℕ) (id : ℕ) → KeepsFound (record { heads = heads; others = others }) (record { heads = heads; others = others ++ id ∷ [] })
 unfolding IsFound
 kept_in_others heads others id = record {

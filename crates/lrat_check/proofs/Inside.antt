@@ -1,4 +1,4 @@
--- Clauses inside a list of literals, and new clauses.
+-- Live clauses inside a list of literals, and unsubsumed clauses.
 use Rattle.std.proofs.Common.{◌≡◌, ℕ, ◌==◌, ℤ, true, List, Any, Contains, All, Option, subst, sym}
 use Rattle.std.proofs.Math.Logic.{⊎_elim}
 use Rattle.std.proofs.lemmas.Bool.{eqb-true}
@@ -9,7 +9,7 @@ use Rattle.sat_theory.specs.Log.{IsNew}
 use Rattle.lrat_check.specs.declared.index.Entry.{Entry}
 use Rattle.lrat_check.specs.Index.{Lists, entries_of, IsListed, IsFound, IsIndexed, HasLiteral, IsInside, NamesInside, IsInsideBy, EntersInside}
 
--- a live clause inside a list shows that the list is no new clause
+-- a live clause inside a list subsumes it
 pub inside_is_old : (live : ℕ → Option (List ℤ)) (lits : List ℤ) (ids : List ℕ) → NamesInside live lits ids → IsNew live lits → ⊥
 unfolding NamesInside HasLiteral
 inside_is_old live lits ids some new = new some.1 some.4.clause some.4.is_live some.4.inside
@@ -26,8 +26,7 @@ listed_enters live lits entries id clause (k, e, within, at, is) all inside =
     let by : IsInsideBy live lits e = record { other = All-contains (Contains lits) clause e.other all is.its; named = subst (λ (i : ℕ). IsInside live lits i) (sym is.own) inside } in
     (k, e, within, at, by)
 
--- and where neither the lists of its literals nor that of the others have a clause inside, it is
--- new
+-- if neither the lists of its literals nor the others have a clause inside, it is unsubsumed
 pub none_is_new : (live : ℕ → Option (List ℤ)) (index : Lists) (lits : List ℤ) → IsIndexed live index → (NamesInside live lits index.others → ⊥) → (Any (λ (l : ℤ). EntersInside live lits (entries_of index l)) lits → ⊥) → IsNew live lits
 unfolding IsFound HasLiteral
 none_is_new live index lits indexed no_other no_head id clause is all =

@@ -1,4 +1,4 @@
--- Clauses that are put in from the last to the first.
+-- Clauses that are inserted from the last to the first.
 use Rattle.std.proofs.Common.{◌≡◌, ℕ, ◌<◌, ◌+◌, ◌-◌, ◌==◌, nat_le, if◌then◌else◌, ℤ, true, false, List, [], ◌∷◌, ◌++◌, length, length-append, append_assoc, suc, get_or, take, drop, Option, Some, None, slice_get, refl, sym, ap, ◌∙◌, arith}
 use Rattle.std.proofs.Math.Logic.{⊎_elim}
 use Rattle.std.specs.FinMap as map
@@ -12,11 +12,11 @@ use Rattle.std.specs.Ordering.{nat_cmp}
 use Rattle.sat_theory.specs.State.{by_id, with_clause}
 use Rattle.lrat_check.specs.Live.{live_at}
 
--- the clauses of a list, by ids above a number
+-- the clauses of a list with ids above a number
 unfoldable pub live_behind : ℕ → List (List ℤ) → ℕ → Option (List ℤ)
 live_behind n clauses id = if nat_le id n then None else by_id clauses id
 
--- above the whole list there is none,
+-- above the length of the list there is none
 behind_last : (clauses : List (List ℤ)) (id : ℕ) → None ≡ live_behind (length clauses) clauses id
 unfolding live_behind
 behind_last clauses id =
@@ -31,7 +31,7 @@ behind_last clauses id =
 pub live_behind-last : (clauses : List (List ℤ)) → live_at map.empty ≡ live_behind (length clauses) clauses
 live_behind-last clauses = λ i id. (map.get-empty nat_cmp id ∙ behind_last clauses id) i
 
--- above 0 there are all,
+-- above 0 there are all
 behind_first : (clauses : List (List ℤ)) (id : ℕ) → live_behind 0 clauses id ≡ by_id clauses id
 unfolding live_behind
 behind_first clauses id =
@@ -43,7 +43,7 @@ behind_first clauses id =
 pub live_behind-0 : (clauses : List (List ℤ)) → live_behind 0 clauses ≡ by_id clauses
 live_behind-0 clauses = λ i id. behind_first clauses id i
 
--- and above a number there is one more than above the next
+-- above a number there is one more than above the next number
 behind_next : (n : ℕ) (clauses front : List (List ℤ)) (clause : List ℤ) (id : ℕ) → slice_get clauses n ≡ Some clause → with_clause (live_behind (n + 1) clauses) (n + 1) clause id ≡ live_behind n clauses id
 unfolding live_behind
 behind_next n clauses front clause id at =
@@ -64,7 +64,7 @@ behind_next n clauses front clause id at =
 pub live_behind-next : (n : ℕ) (clauses : List (List ℤ)) (clause : List ℤ) → slice_get clauses n ≡ Some clause → with_clause (live_behind (n + 1) clauses) (n + 1) clause ≡ live_behind n clauses
 live_behind-next n clauses clause at = λ i id. behind_next n clauses [] clause id at i
 
--- taking the last of the first clauses of a list
+-- taking the last clause of a prefix of a list
 pub record IsLast (list new : List (List ℤ)) (clause : List ℤ) : Type 0 where
   pub at : slice_get list (length new) ≡ Some clause
   pub front : new ≡ take (length new) list

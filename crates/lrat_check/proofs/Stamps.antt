@@ -1,4 +1,4 @@
--- Stamps that are set, and stamps that have passed.
+-- Stamps that are current, and stamps of the past.
 use Rattle.std.proofs.Common.{◌≡◌, ℕ, ◌+◌, ◌<◌, ◌≤◌, ℤ, true, false, ◌||◌, ◌==◌, List, length, slice_index_or, slice_set, replicate, refl, ap, arith}
 use Rattle.std.specs.Ordering.{int_eq}
 use Rattle.std.proofs.Math.Logic.{⊎_elim}
@@ -23,12 +23,12 @@ stamp_set stamps time l m room =
     (λ (apart : code_of m ≡ code_of l → ⊥). let e : int_eq m l ≡ false = other_literal m l (λ same. apart (ap code_of same)) in rw e (grind (arith, common_steps)))
     (cases_eq (code_of m) (code_of l))
 
--- Setting the stamp of a literal puts it into the set.
+-- Setting the stamp of a literal adds it to the set.
 pub marked-set : (stamps : List ℕ) (time : ℕ) (l : ℤ) → code_of l < length stamps → marked (record { stamps = slice_set stamps (code_of l) time; time = time }) ≡ with_literal (marked (record { stamps = stamps; time = time })) l
 unfolding marked
 marked-set stamps time l room = λ i m. stamp_set stamps time l m room i
 
--- At the next time the set is empty,
+-- At the next time the set is empty.
 pub marked-next : (stamps : List ℕ) (time : ℕ) (l : ℤ) → AreStamps (record { stamps = stamps; time = time }) → marked (record { stamps = stamps; time = time + 1 }) l ≡ false
 unfolding marked
 marked-next stamps time l are =
@@ -37,7 +37,7 @@ marked-next stamps time l are =
     (λ (past : length stamps ≤ code_of l). let none : slice_index_or stamps (code_of l) 0 ≡ 0 = grind (arith, common_steps) in rw none (ne_eqb 0 (time + 1) (λ e. omega (arith, e))))
     (cases_lt (code_of l) (length stamps))
 
--- and it is empty where all stamps are 0.
+-- It is empty if all stamps are 0.
 pub marked-fresh : (n : ℕ) (l : ℤ) → marked (record { stamps = replicate n 0; time = 1 }) l ≡ false
 unfolding marked
 marked-fresh n l =

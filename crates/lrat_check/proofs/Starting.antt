@@ -1,4 +1,4 @@
--- A checker at its beginning.
+-- A checker before the first line.
 use Rattle.std.proofs.Common.{◌≡◌, ℕ, ◌↔◌, ℤ, Bool, true, List, [], ◌∷◌, Any, Contains, Option, Some, refl, sym, ap, inl, ◌∙◌, ◌<◌, arith}
 use Rattle.std.proofs.lemmas.Bool.Decides.{nat_tests}
 use Rattle.std.proofs.Math.Logic.{⊎_elim}

@@ -69,7 +69,7 @@ entry_kept : (gone id : ℕ) (clause : List ℤ) (entries : List Entry) → (id 
 unfolding IsListed
 entry_kept gone id clause entries apart listed = any_kept (IsEntryOf id clause) (has_other_id gone) entries (passes_other gone id clause apart) listed
 
--- Dropping the entries of an id in no list, and in one list more.
+-- Removing the entries with an id from no list, and from one more list.
 pub dropped_none : (gone : ℕ) (lists : List (List Entry)) → DropsEntries gone lists lists
 dropped_none gone lists = record { each = λ place id clause apart is. is; whole = refl }
 
@@ -92,7 +92,7 @@ dropped_one gone first lists at before within = record {
   whole = let same : length (slice_set lists at (filter (has_other_id gone) (slice_index_or lists at []))) ≡ length lists = grind (arith, common_steps) in same ∙ before.whole;
 }
 
--- Live clauses are still found after the entries of a removed id went,
+-- Live clauses are still found after the entries of a removed id were removed.
 alive_apart : (live : ℕ → Option (List ℤ)) (gone id : ℕ) → is_live live gone ≡ false → is_live live id ≡ true → id ≡ gone → ⊥
 alive_apart live gone id dead alive same = not_both (is_live live gone) (ap (is_live live) (sym same) ∙ alive) dead
 
@@ -109,7 +109,7 @@ kept_dropped live gone heads dropped others dead drops = record {
       found;
 }
 
--- and after the list of the others was swept.
+-- They are still found after removed ids were deleted from the others.
 pub kept_swept : (live : ℕ → Option (List ℤ)) (gone : ℕ) (heads dropped : List (List Entry)) (others : List ℕ) → is_live live gone ≡ false → DropsEntries gone heads dropped → KeepsLive live (lists_of heads others) (lists_of dropped (filter (is_live live) others))
 unfolding IsFound
 kept_swept live gone heads dropped others dead drops = record {

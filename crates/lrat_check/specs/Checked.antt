@@ -1,4 +1,4 @@
--- What contracts see of a checker.
+-- A checker, as contracts see it.
 use Rattle.std.specs.Prelude.{◌≡◌, ℕ, ℤ, Bool, true, false, ◌==◌, ◌↔◌, length, refl, List}
 use Rattle.std.specs.Coded.{Coded, code_by, coded×, coded_ℕ, coded_bool}
 use Rattle.sat_theory.specs.Formula.{Formula, IsFormula}
@@ -7,8 +7,8 @@ use Rattle.sat_theory.specs.State.{State, start}
 use Rattle.sat_theory.specs.Log.{after, LogHolds, HasEmpty}
 use Rattle.lrat_check.specs.Live.{Live, live_code, live_at}
 
--- The live clauses by their ids, the formula's number of variables, the greatest id so far, and whether
--- the empty clause was in the formula or was added.
+-- The live clauses by their ids, the formula's number of variables, the greatest id so far, and whether the empty
+-- clause is in the formula or was added.
 pub record Checked : Type 0 where
   pub live : Live
   pub vars : ℕ

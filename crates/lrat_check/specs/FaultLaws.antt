@@ -1,4 +1,4 @@
--- A line has no fault exactly where it holds.
+-- A line has no fault if and only if it holds.
 use Rattle.std.specs.Prelude.{◌≡◌, ◌≢◌, ℕ, zero, suc, ◌<◌, ◌≤◌, ◌⊎◌, ◌==◌, ◌||◌, ℤ, Bool, true, false, cond, nat_le, nat_lt, List, [], ◌∷◌, length, Contains, All, AllPairs, IsSome, is_none, Option, Some, None, refl, get_or}
 use Rattle.std.proofs.Common.{ap, sym, ◌∙◌, arith, inl, inr}
 use Rattle.std.proofs.Math.Logic.{⊎_elim}
@@ -61,7 +61,7 @@ unit_outside set (x ∷ xs) l one =
 abbrev AreDifferent : List ℤ → Type 0
 AreDifferent clause = AllPairs (λ a b. variable a ≢ variable b) clause
 
--- a member that isn't the first is among the others
+-- a member that isn't the first element is among the others
 in_others : (x l : ℤ) (xs : List ℤ) → (x ≡ l → ⊥) → Contains (x ∷ xs) l → Contains xs l
 in_others x l xs apart (zero, within, at) = absurd (apart at)
 in_others x l xs apart (suc k, within, at) = (k, (let h : suc k < suc (length xs) = within in omega arith), at)
@@ -95,8 +95,8 @@ one_outside set (x ∷ xs) l differ unit =
 abbrev Next : Type 0
 Next = (ℤ → Bool) → Option CheckError
 
--- Without a fault, the clause of a hint has nothing outside and the hint is the last, or it has one
--- literal outside and the other hints go on.
+-- Without a fault, the clause of a hint has no literal outside and the hint is the last; or it has one literal
+-- outside, and the other hints have no fault.
 record NoFault (set : ℤ → Bool) (hint : ℕ) (hs : List ℕ) (next : Next) (clause : List ℤ) : Type 0 where
   cases : ((hs ≡ []) × All (λ m. set m ≡ true) clause) ⊎ ((l : ℤ) × IsUnitOutside set clause l × (next (with_literal set (opposite l)) ≡ None))
 
@@ -106,7 +106,7 @@ no_fault set hint (h ∷ hs) next clause [] is none = absurd cc
 no_fault set hint hs next clause (l ∷ []) is none = record { cases = inr (l, unit_outside set clause l is, none) }
 no_fault set hint hs next clause (l ∷ m ∷ ls) is none = absurd cc
 
--- the clause that a hint names
+-- the clause of a hint
 named : (hint : ℕ) (hs : List ℕ) (set : ℤ → Bool) (next : Next) (found : Option (List ℤ)) → fault_in hint hs set next found ≡ None → (clause : List ℤ) × (found ≡ Some clause) × NoFault set hint hs next clause
 named hint hs set next None none = absurd cc
 named hint hs set next (Some clause) none = (clause, refl, no_fault set hint hs next clause (outside set clause) refl none)
@@ -121,7 +121,7 @@ unfolding HintsHold
 ends live set hint [] clause is last all = (clause, is, all)
 ends live set hint (h ∷ hs) clause is last all = absurd cc
 
--- Hints without a fault hold,
+-- Hints without a fault hold.
 pub hints_hold : (live : ℕ → Option (List ℤ)) (hints : List ℕ) (set : ℤ → Bool) → hints_fault live set hints ≡ None → HintsHold live set hints
 unfolding hints_fault
 hints_hold live [] set none = absurd cc
@@ -133,7 +133,7 @@ hints_hold live (hint ∷ hs) set none =
     goes_on live set hint hs found.0 more.0 found.1 more.1 (hints_hold live hs (with_literal set (opposite more.0)) more.2))
     found.2.cases
 
--- and hints that hold have none.
+-- Hints that hold have no fault.
 pub hints_without_fault : (live : ℕ → Option (List ℤ)) (hints : List ℕ) (set : ℤ → Bool) → AreClauses live → HintsHold live set hints → hints_fault live set hints ≡ None
 unfolding hints_fault HintsHold
 hints_without_fault live [] set clauses holds = absurd holds
@@ -248,12 +248,12 @@ fresh_without_fault live (id ∷ ids) seen fresh =
 
 -- ---- lines
 
--- A line without a fault holds,
+-- A line without a fault holds.
 pub line_holds : (s : State) (line : Line) → line_fault s line ≡ None → Holds s line
 line_holds s (Add id lits hints) none = addition_holds s id lits hints none
 line_holds s (Delete id ids) none = (deletion_fresh s.live ids no_ids none).holds
 
--- and a line that holds has none.
+-- A line that holds has no fault.
 pub line_without_fault : (s : State) (line : Line) → AreClauses s.live → Holds s line → line_fault s line ≡ None
 line_without_fault s (Add id lits hints) clauses holds = addition_without_fault s id lits hints clauses holds
 line_without_fault s (Delete id ids) clauses holds = fresh_without_fault s.live ids no_ids (record { holds = holds; unseen = λ k d within. refl })

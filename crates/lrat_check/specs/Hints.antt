@@ -1,4 +1,4 @@
--- What is wrong with hints: the first fault, judged one by one.
+-- The first fault of hints, which are checked one by one.
 use Rattle.std.specs.Prelude.{ℕ, ℤ, Bool, not, List, [], ◌∷◌, filter, Option, Some, None, Result, Ok, Err}
 use Rattle.sat_theory.specs.Formula.{opposite}
 use Rattle.sat_theory.specs.Holding.{with_literal}
@@ -9,12 +9,12 @@ use Rattle.lrat_check.specs.declared.error.CheckError.TheVariants.{UnknownId, No
 abbrev pub outside : (ℤ → Bool) → List ℤ → List ℤ
 outside set clause = filter (λ l. not (set l)) clause
 
--- a clause with nothing outside is a conflict, so its hint has to be the last
+-- a clause with no literal outside is a conflict, so its hint has to be the last
 abbrev pub fault_at_conflict : ℕ → List ℕ → Option CheckError
 fault_at_conflict hint [] = None
 fault_at_conflict hint (h ∷ hs) = Some (NotUnit hint)
 
--- by the literals outside: the opposite of a single one joins the set, and two are a fault
+-- by the number of literals outside: the opposite of a single one joins the set, and two are a fault
 abbrev pub fault_at : ℕ → List ℕ → (ℤ → Bool) → ((ℤ → Bool) → Option CheckError) → List ℤ → Option CheckError
 fault_at hint hints set next [] = fault_at_conflict hint hints
 fault_at hint hints set next (l ∷ []) = next (with_literal set (opposite l))
@@ -24,13 +24,13 @@ abbrev pub fault_in : ℕ → List ℕ → (ℤ → Bool) → ((ℤ → Bool) �
 fault_in hint hints set next None = Some (UnknownId hint)
 fault_in hint hints set next (Some clause) = fault_at hint hints set next (outside set clause)
 
--- The first fault: a hint names no live clause, or its clause isn't unit, or the last one leaves no
--- conflict.
+-- The first fault: a hint isn't the id of a live clause, or its clause isn't unit, or there is no conflict after
+-- the last hint.
 unfoldable pub hints_fault : (ℕ → Option (List ℤ)) → (ℤ → Bool) → List ℕ → Option CheckError
 hints_fault live set [] = Some NoConflict
 hints_fault live set (hint ∷ hints) = fault_in hint hints set (λ s. hints_fault live s hints) (live hint)
 
--- the fault that a judgement reports
+-- the fault that a check reports
 abbrev pub told : Result (Unit {0}) CheckError → Option CheckError
 told (Ok done) = None
 told (Err e) = Some e

@@ -1,4 +1,4 @@
--- What is wrong with a line: the first fault, None where it holds.
+-- The first fault of a line; None if it holds.
 use Rattle.std.specs.Prelude.{ℕ, ℤ, Bool, false, ◌||◌, ◌==◌, nat_lt, nat_le, is_none, if◌then◌else◌, List, [], ◌∷◌, map, Option, Some, None}
 use Rattle.std.specs.List.{find}
 use Rattle.sat_theory.specs.Formula.{variable}
@@ -17,7 +17,7 @@ abbrev pub variables_then : Option ℕ → Option CheckError → Option CheckErr
 variables_then None next = next
 variables_then (Some v) next = Some (UnknownVariable v)
 
--- The id is judged first, then the variables, then the hints.
+-- The id is checked first, then the variables, then the hints.
 abbrev pub addition_fault : State → ℕ → List ℤ → List ℕ → Option CheckError
 addition_fault s id lits hints = if nat_le id s.greatest then Some (IdNotGreater id) else variables_then (first_above s.vars lits) (hints_fault s.live (among lits) hints)
 

@@ -11,7 +11,7 @@ Live = map.FinMap nat_cmp (List ℤ)
 abbrev pub live_code : Coded Live
 live_code = map.code coded_ℕ (coded_list coded_ℤ)
 
--- the clause of an id
+-- the clause with an id
 abbrev pub live_at : Live → ℕ → Option (List ℤ)
 live_at live id = map.get live id
 
@@ -19,6 +19,6 @@ live_at live id = map.get live id
 pub record AreWithin (vars : ℕ) (live : ℕ → Option (List ℤ)) : Type 0 where
   pub each : (id : ℕ) (clause : List ℤ) → live id ≡ Some clause → IsWithin vars clause
 
--- all clauses are clauses
+-- all live clauses are clauses: each has different variables
 pub record AreClauses (live : ℕ → Option (List ℤ)) : Type 0 where
   pub each : (id : ℕ) (clause : List ℤ) → live id ≡ Some clause → IsClause clause

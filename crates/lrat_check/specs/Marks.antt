@@ -1,5 +1,4 @@
--- A set of literals, kept as a stamp for each literal: a literal is in the set where its stamp is
--- the current one.
+-- A set of literals as a time stamp for each literal: a literal is in the set if its stamp is the current one.
 use Rattle.std.specs.Prelude.{◌≡◌, ℕ, ◌+◌, ◌*◌, ◌≤◌, ◌<◌, ◌==◌, ℤ, Bool, List, length, slice_index_or, All}
 use Rattle.cnf_core.specs.Codes.{code_of}
 
@@ -7,7 +6,7 @@ pub record Stamped : Type 0 where
   pub stamps : List ℕ
   pub time : ℕ
 
--- no stamp is later than the current one, which isn't the default stamp 0
+-- no stamp is greater than the current one, which isn't 0, the stamp of literals that were never added
 pub record AreStamps (m : Stamped) : Type 0 where
   pub past : All (λ s. s ≤ m.time) m.stamps
   pub begun : 0 < m.time

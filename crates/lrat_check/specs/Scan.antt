@@ -10,7 +10,7 @@ pub record AreMany (out : List ℤ) : Type 0 where
   pub others : List ℤ
   pub is : out ≡ first ∷ second ∷ others
 
--- the one literal outside, alone
+-- the only literal outside
 abbrev pub Finds : List ℤ → List ℤ → Scan → Type 0
 Finds clause out scans.Conflict = out ≡ []
 Finds clause out (scans.Unit l) = (out ≡ l ∷ []) × Contains clause l

@@ -12,7 +12,7 @@ Numbers = HashSet ℕ (BuildHasherDefault FoldHasher)
 unfoldable pub seen_in : Numbers → ℕ → Bool
 seen_in seen id = contains nat_eq seen id
 
--- a refusal is the first fault, or memory ran out, which may happen anywhere
+-- a refusal is the first fault, or memory ran out, which may happen at any time
 abbrev pub Refuses : CheckError → Option CheckError → Type 0
 Refuses Memory fault = Unit {0}
 Refuses e fault = fault ≡ Some e

@@ -9,8 +9,7 @@ slot_of l = code_of l % 1024
 abbrev pub slot_at : List ℕ → ℤ → ℕ
 slot_at slots l = slice_index_or slots (slot_of l) 0
 
--- one literal more: a slot is 0 where no literal has it, 1 where several may have it, and else 2 +
--- the code of the only one
+-- one more literal: a slot is 0 if no literal has it, 1 if several may have it, else 2 + the code of the only one
 abbrev pub with_slot : List ℕ → ℤ → List ℕ
 with_slot slots l = slice_set slots (slot_of l) (if slot_at slots l == 0 then code_of l + 2 else 1)
 

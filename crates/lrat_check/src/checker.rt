@@ -1,5 +1,5 @@
-//! The checker: the state of the log so far, whether the empty clause was reached, and scratch
-//! marks. A line is judged first and taken only where it holds, so a refusal changes nothing.
+//! The checker: the state after the lines so far, whether the empty clause was reached, and scratch marks. A
+//! line is checked first and applied only if it holds, so a refusal changes nothing.
 ghost use Rattle.std.specs.Prelude.{◌≡◌, ◌↔◌, ◌||◌, ◌++◌, ◌∷◌, [], List, IsTrue, IfOk, OnOk, OnErr, IsOkUnless};
 ghost use Rattle.sat_theory.specs.Formula.{Formula, IsClause};
 ghost use Rattle.sat_theory.specs.Line as theory;
@@ -23,7 +23,7 @@ use lrat_text::Line;
 use std::alloc::{AllocError, Global};
 use std::marker::Model;
 
-/// A checker of refutation logs, over one formula. Contracts see the live clauses with their ids, the
+/// A checker of refutation logs of one formula. Contracts see the live clauses with their ids, the number of the
 /// formula's variables, the greatest id so far, and whether the empty clause was reached.
 #[derive(Drop)]
 pub struct Checker {
@@ -48,8 +48,8 @@ impl Model for Checker {
 }
 
 impl Checker {
-    /// A checker of a formula, whose clauses are live under the ids 1, 2 and so on. It finds clauses by
-    /// hashing their ids with a fixed seed.
+    /// A checker of a formula, whose clauses are live with the ids 1, 2 and so on. It finds clauses by hashing
+    /// their ids with a fixed seed.
     pub fn new(alloc: Global, cnf: Cnf) -> Result<Checker, AllocError>
         ensures state { IfOk result (λ c. state_of c ≡ start cnf) }
         ensures accepted { IfOk result (HasAccepted cnf []) }
@@ -57,9 +57,9 @@ impl Checker {
         Checker::over(alloc, cnf, Index::new(alloc))
     }
 
-    /// As `new`, with lists of clauses by their literals (an occurrence index), so that `is_new` is
-    /// fast. They take memory for each literal; an addition takes one step more for each of its
-    /// literals, and a deletion one for each clause in the lists of its clauses' literals.
+    /// As `new`, with occurrence lists (clauses by their literals), so that `is_new` is fast. They take memory
+    /// for each literal; an addition takes one more step for each of its literals, and a deletion one for each
+    /// clause in the lists of its clauses' literals.
     pub fn indexed(alloc: Global, cnf: Cnf) -> Result<Checker, AllocError>
         ensures state { IfOk result (λ c. state_of c ≡ start cnf) }
         ensures accepted { IfOk result (HasAccepted cnf []) }
@@ -86,29 +86,28 @@ impl Checker {
         })
     }
 
-    /// Takes a line of the log, and does what it says. It takes time linear in the length of the
-    /// line and of the clauses that its hints name, and no memory for a hint. Its condition holds
-    /// of each line that was read from a text.
+    /// Checks a line of the log, and applies it. The time is linear in the length of the line and of the clauses
+    /// of its hints; hints take no memory. The precondition holds for each line that was read from a text.
     pub fn feed(&mut self, line: Line) -> Result<(), CheckError>
         requires { HasClause (line_value line) }
-        // It is taken exactly where it holds.
+        // A line is accepted only if it holds.
         ensures holds { OnOk result (Holds (state_of self.old) (line_value line)) }
         ensures accepts { Holds (state_of self.old) (line_value line) → IsOkUnless result CheckError.Memory }
         ensures next { OnOk result (state_of self.new ≡ next (state_of self.old) (line_value line)) }
         ensures refuted { OnOk result (self.new.refuted ≡ (self.old.refuted || adds_empty (line_value line))) }
 
-        // A refusal is the first fault, and nothing changes.
+        // A refusal is the first fault, and changes nothing.
         ensures exact { Judges result (line_fault (state_of self.old) (line_value line)) }
         ensures unchanged { OnErr result (self.new ≡ self.old) }
 
-        // So the checker knows about whole logs: what was accepted is a log that holds.
+        // For whole logs: the accepted lines and this one are a log that holds.
         ensures accepted { (f : Formula) (lines : List theory.Line) → HasAccepted f lines self.old → IsLine (line_value line) →
             OnOk result (HasAccepted f (lines ++ line_value line ∷ []) self.new) }
     {
         self.take(line)
     }
 
-    /// Whether the empty clause is in the formula or was added.
+    /// Whether the empty clause is in the formula or was added: the formula is refuted.
     pub fn refuted(&self) -> bool
         ensures value { result ≡ self.now.refuted }
         ensures log { (f : Formula) (lines : List theory.Line) → HasAccepted f lines self.now → (IsTrue result ↔ HasEmpty f lines) }
@@ -116,10 +115,10 @@ impl Checker {
         self.refuted
     }
 
-    /// Whether a clause is new: no live clause has all its literals among `lits` (subsumes it).
-    /// Without an index each live clause is compared; with one, only those in the lists of `lits`:
-    /// each clause is in one list, that of the literal whose list was shortest when it was added,
-    /// beside a second literal of it, and is compared only where that one is among `lits` too.
+    /// Whether a clause is unsubsumed: no live clause has all its literals among `lits`. Without an index every
+    /// live clause is compared. With an index only those in the lists of `lits` are: each clause is in one list,
+    /// that of the literal whose list was shortest when it was added. The entry also has a second literal of the
+    /// clause, and the clause is compared only if that literal is among `lits` too.
     pub fn is_new(&self, lits: &[Lit]) -> bool
         ensures { IsTrue result ↔ IsNew (live_at self.now.live) lits.now }
     {
@@ -134,7 +133,7 @@ impl Checker {
         ensures refuted { OnOk result (self.new.refuted ≡ (self.old.refuted || adds_empty (line_value line))) }
         ensures unchanged { OnErr result (self.new ≡ self.old) }
     {
-        let _clauses = &self.clauses;
+        let _clauses = &self.clauses; // for the prover: brings in their invariant
         match line {
             Line::Add { id, lits, hints } => self.add(id, lits, &hints),
             Line::Delete { ids, .. } => self.delete(&ids),
@@ -176,7 +175,7 @@ impl Checker {
     }
 }
 
-/// Removes the clauses of `ids`.
+/// Removes the clauses with these ids.
 fn remove_all(clauses: &mut Clauses, ids: &[u32])
     ensures { live_at clauses.new ≡ without (live_at clauses.old) ids.now }
 {

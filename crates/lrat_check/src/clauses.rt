@@ -1,6 +1,6 @@
-//! The live clauses by their ids, in a hash map, with an index by literals. Contracts see the map
-//! alone; that each live clause is in one list of the index, so that a search of its literals'
-//! lists finds it, is the invariant of the type.
+//! The live clauses by their ids, in a hash map, with an occurrence index. Contracts see only the map. The
+//! invariant of the type is that each live clause is in one list of the index, so that a search in the lists of
+//! its literals finds it.
 ghost use Rattle.std.specs.Prelude.{◌≡◌, ◌<◌, ◌-◌, ◌^◌, ◌↔◌, length, true, false, [], ◌∷◌, IfOk, OnOk, OnErr, IsTrue, All, Any, ℤ};
 ghost use Rattle.std.specs.Option.{option_copied};
 ghost use Rattle.std.specs.FinMap as map;
@@ -17,7 +17,7 @@ use std::alloc::{AllocError, Global};
 use std::collections::HashMap;
 use std::marker::Model;
 
-/// Clauses by their ids. Ids are hashed with a fixed seed: who chooses them can make look-ups slow.
+/// Clauses by their ids. Ids are hashed with a fixed seed, so the author of a log can make look-ups slow.
 #[derive(Drop)]
 pub(crate) struct Clauses {
     live: HashMap<u32, Clause>,
@@ -41,7 +41,7 @@ impl Model for Clauses {
 }
 
 impl Clauses {
-    /// No clauses, and room for `count`.
+    /// No clauses, with room for `count`.
     pub(crate) fn new(alloc: Global, index: Index, count: usize) -> Result<Clauses, AllocError>
         ensures { IfOk result (λ s. s ≡ map.empty) }
     {
@@ -51,7 +51,7 @@ impl Clauses {
         })
     }
 
-    /// The clauses of a list under the ids 1, 2 and so on.
+    /// The clauses of a list, with the ids 1, 2 and so on.
     #[tactic(auto, using(crate::proofs::Loaded::loaded))]
     pub(crate) fn of(alloc: Global, index: Index, list: Vec<Clause>) -> Result<Clauses, AllocError>
         requires { length list.items < 2 ^ 32 - 1 }
@@ -65,14 +65,14 @@ impl Clauses {
         Ok(clauses)
     }
 
-    /// The clause of an id, in expected constant time.
+    /// The clause with an id, in expected constant time.
     pub(crate) fn get(&self, id: u32) -> Option<&Clause>
         ensures { option_copied result ≡ live_at self.now id }
     {
         self.live.get(&id)
     }
 
-    /// Puts a clause under an id.
+    /// Inserts a clause with an id.
     pub(crate) fn insert(&mut self, id: u32, clause: Clause) -> Result<(), AllocError>
         ensures ok { OnOk result (live_at self.new ≡ with_clause (live_at self.old) id clause) }
         ensures err { OnErr result (self.new ≡ self.old) }
@@ -82,7 +82,7 @@ impl Clauses {
         Ok(())
     }
 
-    /// Removes the clause of an id.
+    /// Removes the clause with an id.
     pub(crate) fn remove(&mut self, id: u32)
         ensures { live_at self.new ≡ without (live_at self.old) (id ∷ []) }
     {
@@ -92,9 +92,8 @@ impl Clauses {
         self.index.forget(id, clause.lits(), &self.live);
     }
 
-    /// Whether no live clause has all its literals among `lits`. With an index it looks at the
-    /// clauses in the lists of `lits` alone, since each live clause is in the list of one of its
-    /// own literals; otherwise at all.
+    /// Whether no live clause has all its literals among `lits`. With an index only the clauses in the lists of
+    /// `lits` are compared, since each live clause is in the list of one of its own literals; otherwise all are.
     pub(crate) fn is_new(&self, lits: &[Lit]) -> bool
         ensures new { result ≡ true → IsNew (live_at self.now) lits.now }
         ensures old { result ≡ false → IsNew (live_at self.now) lits.now → ⊥ }
@@ -103,8 +102,7 @@ impl Clauses {
         !self.has_inside(self.index.others(), &among) && !self.is_headed(&self.index, &among)
     }
 
-    /// Whether the list of one of the literals of `among` has an entry of a live clause inside
-    /// `among`.
+    /// Whether the list of one of the literals of `among` has an entry of a live clause inside `among`.
     fn is_headed(&self, index: &Index, among: &Among) -> bool
         requires { AreSlots among.now.slots among.now.lits.now }
         ensures { IsTrue result ↔ Any (λ (l : ℤ). EntersInside (live_at self.now) among.now.lits.now (entries_of index.now l)) among.now.lits.now }
@@ -124,8 +122,8 @@ impl Clauses {
         entries.iter().any(|entry| self.is_inside_by(entry, among))
     }
 
-    /// Whether `entry` is of a live clause inside `among`. Its second literal is tested first, so
-    /// that few clauses are read.
+    /// Whether `entry` is of a live clause inside `among`. Its second literal is tested first, so that few
+    /// clauses are read.
     fn is_inside_by(&self, entry: &Entry, among: &Among) -> bool
         requires { AreSlots among.now.slots among.now.lits.now }
         ensures { IsTrue result ↔ IsInsideBy (live_at self.now) among.now.lits.now entry.now }

@@ -1,22 +1,21 @@
-//! Why a line doesn't hold.
+//! The faults of a line that doesn't hold.
 use std::alloc::{AllocError, AllocFailed};
 
 /// Why a line is refused.
 #[derive(Clone, Copy, Debug, PartialEq, Eq)]
 pub enum CheckError {
-    /// This hint names no live clause.
+    /// This hint isn't the id of a live clause.
     UnknownId(u32),
-    /// The clause of this hint has two or more literals outside the falsified set (it isn't unit);
-    /// or it has none, and the hint isn't the last.
+    /// The clause of this hint isn't unit: two or more of its literals aren't falsified; or all are, and
+    /// the hint isn't the last.
     NotUnit(u32),
-    /// There is no hint, or the clause of the last one has one literal outside: the propagation
-    /// ends without a conflict.
+    /// Propagation ends without a conflict: there is no hint, or the clause of the last hint is unit.
     NoConflict,
     /// This id of a deletion isn't live, or occurs twice in the line.
     UnknownDelete(u32),
-    /// The id of an addition isn't greater than all ids before.
+    /// This id of an addition isn't greater than all ids before.
     IdNotGreater(u32),
-    /// This variable of an addition is above the formula's.
+    /// This variable of an addition isn't one of the formula.
     UnknownVariable(u32),
     /// Memory ran out.
     Memory,

@@ -1,6 +1,6 @@
-//! Unit propagation along the hints, from the left. The falsified set is a mark for each literal,
-//! and a hint is judged by how many literals of its clause are outside: the loop follows the
-//! definition `hints_fault` step by step, so its answer is exact.
+//! Unit propagation along the hints, from the left. The falsified literals are marked, and a hint is checked by
+//! how many literals of its clause aren't. The loop follows the definition `hints_fault` step by step, so its
+//! result is exact.
 ghost use Rattle.std.specs.Prelude.{◌≡◌};
 ghost use Rattle.lrat_check.specs.Live.{live_at, AreWithin};
 ghost use Rattle.lrat_check.specs.Marks.{marked, HasRoom};
@@ -12,12 +12,12 @@ use crate::clauses::Clauses;
 use crate::marks::Marks;
 use cnf_core::Lit;
 
-/// How many literals of a clause are outside the falsified set.
+/// How many literals of a clause aren't falsified.
 #[derive(Clone, Copy)]
 pub(crate) enum Scan {
     /// None.
     Conflict,
-    /// This one alone.
+    /// Only this one.
     Unit(Lit),
     /// Two or more.
     Many,
@@ -43,7 +43,7 @@ fn scan_clause(marks: &Marks, clause: &[Lit]) -> Scan
     }
 }
 
-/// Propagates along `hints` from the set of the marked literals, and marks what joins it.
+/// Propagates along `hints` from the set of the marked literals, and marks the literals that join it.
 #[tactic(auto, unfolding(crate::specs::Hints::hints_fault))]
 pub(crate) fn check_hints(
     clauses: &Clauses,

@@ -1,9 +1,8 @@
-//! Lists of clauses by their literals (occurrence lists), for the question whether a clause is new.
-//! A clause that is contained in another one is in the list of one of that one's literals,
-//! whichever list it was put in; an entry has a second literal of its clause beside the id, so that
-//! most clauses that aren't contained are passed over unread. A clause that is removed takes its
-//! entry with it. Ids in no literal's list are swept from time to time, at an amortised constant
-//! cost.
+//! Occurrence lists (clauses by their literals), to find out whether a clause is subsumed. Each clause is in the
+//! list of one of its literals (one-watch subsumption), so a clause that subsumes another one is in a list of
+//! that one's literals. An entry has a second literal of its clause beside the id, so that most clauses that
+//! don't subsume are skipped without being read. The entry of a clause is removed with the clause. Ids that are
+//! in no literal's list are cleaned up from time to time, at an amortised constant cost.
 ghost use Rattle.std.specs.Prelude.{◌≡◌, ◌+◌, ◌*◌, ◌<◌, ℤ, [], ◌∷◌, ◌++◌, false, length, filter, slice_set, slice_index_or, nat_eq, OnOk, OnErr, IfSome, Any, Contains};
 ghost use Rattle.std.specs.HashMap.{get};
 ghost use Rattle.cnf_core.specs.Codes.{code_of};
@@ -65,7 +64,7 @@ impl Entries {
         &self.entries
     }
 
-    /// Removes the entries of an id.
+    /// Removes the entries with an id.
     fn drop_id(&mut self, id: u32)
         ensures { self.new ≡ filter (has_other_id id) self.old }
     {
@@ -118,9 +117,8 @@ impl Ids {
     }
 }
 
-/// Where clauses are looked up by their literals: each clause has an entry in the list of one of
-/// its literals, the one whose list was shortest. Without lists for literals each has its id in
-/// `others`.
+/// The occurrence index: each clause has an entry in the list of one of its literals, the one whose list was
+/// shortest when the clause was added. In an index without lists, the id of each clause is in `others`.
 #[derive(Drop)]
 pub(crate) struct Index {
     heads: Vec<Entries>,
@@ -137,7 +135,7 @@ impl Model for Index {
 }
 
 impl Index {
-    /// No ids, and no lists for literals.
+    /// An empty index without lists for literals.
     pub(crate) fn new(alloc: Global) -> Index {
         Index {
             heads: Vec::new(alloc),
@@ -146,7 +144,7 @@ impl Index {
         }
     }
 
-    /// No ids, and lists for the literals of the variables 1 to `vars`.
+    /// An empty index with lists for the literals of the variables 1 to `vars`.
     pub(crate) fn by_literals(alloc: Global, vars: u32) -> Result<Index, AllocError> {
         let codes = 2 * vars as usize + 2;
         let mut index = Index::new(alloc);
@@ -167,14 +165,14 @@ impl Index {
         }
     }
 
-    /// The ids in no literal's list.
+    /// The ids that are in no literal's list.
     pub(crate) fn others(&self) -> &[u32]
         ensures { result.now ≡ self.now.others }
     {
         self.others.get()
     }
 
-    /// Puts a clause's entry into a list. It takes one step for each of its literals.
+    /// Adds the entry of a clause to a list, in one step for each of its literals.
     #[tactic(auto, using(crate::proofs::Found::finding))]
     pub(crate) fn add(&mut self, id: u32, lits: &[Lit]) -> Result<(), AllocError>
         ensures found { OnOk result (IsFound self.new id lits.now) }
@@ -190,9 +188,9 @@ impl Index {
         push_at(&mut self.heads, place, Entry { id, other })
     }
 
-    /// Removes the entry of a clause that was removed, in one step for each entry in the lists of
-    /// its literals. Where more have been removed than are live, their ids are removed from
-    /// `others`, in one step for each of those.
+    /// Removes the entry of a clause that was removed, in one step for each entry in the lists of its literals.
+    /// If more clauses have been removed than are live, the removed ids are deleted from `others`, in one step
+    /// for each.
     pub(crate) fn forget(&mut self, id: u32, lits: &[Lit], live: &HashMap<u32, Clause>)
         requires { is_live (get nat_eq live.now) id ≡ false }
         ensures { KeepsLive (get nat_eq live.now) self.old self.new }
@@ -228,7 +226,7 @@ impl Index {
     }
 }
 
-/// The last of `lits`; where its list is the one at `place`, the first.
+/// The last of `lits`, or the first one if the list at `place` is that of the last.
 fn other_than(lits: &[Lit], place: usize) -> Option<Lit>
     ensures { IfSome result (λ l. Contains lits.now l) }
 {
@@ -240,7 +238,7 @@ fn other_than(lits: &[Lit], place: usize) -> Option<Lit>
     Some(*last)
 }
 
-/// Removes an id's entries from the lists of literals.
+/// Removes the entries with an id from the lists of literals.
 #[tactic(auto, using(crate::proofs::Swept::sweeping))]
 fn drop_entries(lists: &mut Vec<Entries>, id: u32, lits: &[Lit])
     ensures { DropsEntries id lists.old.items lists.new.items }
@@ -254,7 +252,7 @@ fn drop_entries(lists: &mut Vec<Entries>, id: u32, lits: &[Lit])
     }
 }
 
-/// Removes an id's entries from the list at `place`.
+/// Removes the entries with an id from the list at `place`.
 fn drop_at(lists: &mut Vec<Entries>, place: usize, id: u32)
     requires { place < length lists.old.items }
     ensures { lists.new.items ≡ slice_set lists.old.items place (filter (has_other_id id) (slice_index_or lists.old.items place [])) }
@@ -263,7 +261,7 @@ fn drop_at(lists: &mut Vec<Entries>, place: usize, id: u32)
     entries.drop_id(id);
 }
 
-/// Puts an entry into the list at `place`.
+/// Adds an entry to the list at `place`.
 fn push_at(heads: &mut Vec<Entries>, place: usize, entry: Entry) -> Result<(), AllocError>
     requires { place < length heads.old.items }
     ensures ok { OnOk result (heads.new.items ≡ with_entry heads.old.items place entry) }

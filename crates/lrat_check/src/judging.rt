@@ -1,5 +1,5 @@
-//! Whether a line holds, and its fault where it doesn't: the definitions of `Judging`, with marks
-//! for the set of literals.
+//! Whether a line holds, and its fault if it doesn't: the definitions of `specs/Judging`, with marks for the set
+//! of literals.
 ghost use Rattle.std.specs.Prelude.{◌≡◌, ℤ, false, OnOk, IfOk};
 ghost use Rattle.sat_theory.specs.Formula.{IsWithin};
 ghost use Rattle.sat_theory.specs.Holding.{among};
@@ -17,7 +17,7 @@ use cnf_core::Lit;
 use std::alloc::{AllocError, Global};
 use std::collections::HashSet;
 
-/// Whether an addition holds. The marks are cleared first, so their earlier state doesn't matter.
+/// Checks an addition. The marks are cleared first, so their state before doesn't matter.
 #[tactic(auto, using(crate::proofs::Above::above))]
 pub(crate) fn judge_addition(
     clauses: &Clauses,
@@ -53,7 +53,7 @@ fn first_above(vars: u32, lits: &[Lit]) -> Option<u32>
         .find(|variable| *variable > vars)
 }
 
-/// Puts literals into the empty set.
+/// Marks literals, in an empty set.
 #[tactic(auto, using(crate::proofs::Marking::marking))]
 fn mark_all(marks: &mut Marks, vars: u32, lits: &[Lit])
     requires empty { (l : ℤ) → marked marks.old l ≡ false }
@@ -67,7 +67,7 @@ fn mark_all(marks: &mut Marks, vars: u32, lits: &[Lit])
     }
 }
 
-/// Whether a deletion holds.
+/// Checks a deletion.
 #[tactic(auto, unfolding(crate::specs::Judging::deletion_fault), using(crate::proofs::SeenIds::seeing))]
 pub(crate) fn judge_deletion(
     alloc: Global,
@@ -87,7 +87,7 @@ pub(crate) fn judge_deletion(
     Ok(())
 }
 
-/// Whether an id was seen; from now on it is.
+/// Whether an id was seen before; it is recorded.
 fn comes_again(seen: &mut HashSet<u32>, id: u32) -> Result<bool, AllocError>
     ensures again { IfOk result (λ yes. yes ≡ seen_in seen.old id) }
     ensures seen { OnOk result (seen_in seen.new ≡ spec.with_id (seen_in seen.old) id) }

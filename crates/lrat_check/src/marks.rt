@@ -1,5 +1,5 @@
-//! A set of literals that is emptied in constant time: a literal is in it where its stamp is the
-//! current one, so a new stamp empties it. When stamps run out, all are set to 0.
+//! A set of literals that is cleared in constant time: a literal is in the set if its time stamp is the current
+//! one, so a new time stamp clears it. When stamps run out, all are set to 0.
 ghost use Rattle.std.specs.Prelude.{◌≡◌, ◌<◌, ℤ, false, length, IfOk};
 ghost use Rattle.sat_theory.specs.Holding.{with_literal};
 ghost use Rattle.cnf_core.specs.Codes.{code_of};
@@ -9,8 +9,7 @@ use cnf_core::Lit;
 use std::alloc::{AllocError, Global};
 use std::marker::Model;
 
-/// A set of literals that is emptied at once: each literal has a stamp, and is in the set where
-/// that is the current one.
+/// A set of literals: each literal has a time stamp, and is in the set if that is the current one.
 #[derive(Drop)]
 pub(crate) struct Marks {
     stamps: Vec<u32>,
@@ -37,7 +36,7 @@ impl Marks {
         Ok(Marks { stamps, time: 1 })
     }
 
-    /// Empties the set. Once in four billion calls it takes one step for each literal.
+    /// Clears the set. Once in 2^32 calls it takes one step for each literal.
     pub(crate) fn clear(&mut self)
         ensures none { (l : ℤ) → marked self.new l ≡ false }
         ensures room { length self.new.stamps ≡ length self.old.stamps }
@@ -50,7 +49,7 @@ impl Marks {
         self.time = 1;
     }
 
-    /// Puts a literal into the set.
+    /// Adds a literal to the set.
     pub(crate) fn add(&mut self, lit: Lit)
         requires { code_of lit < length self.old.stamps }
         ensures set { marked self.new ≡ with_literal (marked self.old) lit }

@@ -1,20 +1,19 @@
-//! Membership in a list of literals, mostly in one step: a table is indexed by the remainder of the
-//! literal's code, and only where several literals of the list share a remainder is the list
-//! searched.
+//! Membership in a list of literals, mostly in one step: a table is indexed by the literal's code modulo its size,
+//! and the list is searched only if several of its literals share a slot.
 ghost use Rattle.std.specs.Prelude.{◌≡◌, ◌↔◌, length, IsTrue};
 ghost use Rattle.lrat_check.specs.Index.{HasLiteral};
 ghost use Rattle.lrat_check.specs.Slots.{AreSlots, with_slot};
 
 use cnf_core::Lit;
 
-/// The number of entries of the table.
+/// The number of slots of the table.
 const SLOTS: usize = 1024;
 
-/// A list of literals, with a table of their codes by remainders.
+/// A list of literals, with the table of their codes.
 #[derive(Drop)]
 pub(crate) struct Among<'a> {
     pub(crate) lits: &'a [Lit],
-    /// 0: no literal has the remainder; 1: several may have it; else 2 + the code of the only one.
+    /// 0: no literal has this slot; 1: several may have it; else 2 + the code of the only one.
     pub(crate) slots: [usize; SLOTS],
 }
 
@@ -45,7 +44,7 @@ impl<'a> Among<'a> {
     }
 }
 
-/// Enters one literal more.
+/// Enters one more literal.
 fn put(slots: &mut [usize], lit: Lit)
     requires { length slots.old ≡ 1024 }
     ensures { slots.new ≡ with_slot slots.old lit }

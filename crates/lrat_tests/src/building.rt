@@ -1,9 +1,9 @@
-//! Formulas that the tests are given.
+//! Formulas for the tests.
 use cnf_core::{Clause, Cnf};
 use lrat_text::{Line, read_line};
 use std::alloc::{AllocError, Global};
 
-/// The clause of an addition that a text spells; the empty one where it spells none.
+/// The clause of the addition that a text spells; the empty clause if it spells none.
 pub fn clause(alloc: Global, text: &[u8]) -> Clause {
     match read_line(alloc, text) {
         Ok(Line::Add { lits, .. }) => Clause::new(lits),
@@ -11,7 +11,7 @@ pub fn clause(alloc: Global, text: &[u8]) -> Clause {
     }
 }
 
-/// Adds a clause whose variables are the formula's.
+/// Adds a clause over the formula's variables.
 pub fn push_within(cnf: &mut Cnf, clause: Clause) -> Result<(), AllocError> {
     if clause.is_within(cnf.vars()) && cnf.clauses().len() < 9999 {
         cnf.push(clause)?;

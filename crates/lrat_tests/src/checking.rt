@@ -1,10 +1,10 @@
-//! The checker: which lines it takes, and which fault it reports.
+//! Tests of the checker: which lines it accepts, and which fault it reports.
 use crate::building::{clause, formula};
 use lrat_check::{CheckError, Checker};
 use lrat_text::read_line;
 use std::alloc::{AllocError, Global};
 
-/// A checker of some clauses, with an index by literals or without one.
+/// A checker of some clauses, with or without an occurrence index.
 fn checker(
     alloc: Global,
     indexed: bool,
@@ -22,7 +22,7 @@ fn checker(
 /// The variables 1 and 2, and all four clauses over both.
 const CONTRADICTION: [&[u8]; 4] = [b"1 1 2 0 0", b"2 -1 2 0 0", b"3 1 -2 0 0", b"4 -1 -2 0 0"];
 
-/// Whether a new checker of the contradiction gives the answer `expected` to a line.
+/// Whether a checker of the contradiction returns `expected` for its first line.
 fn is_answer_of(
     alloc: Global,
     indexed: bool,
@@ -45,7 +45,7 @@ fn is_answer(
     Ok(is_answer_of(alloc, false, text, expected)? && is_answer_of(alloc, true, text, expected)?)
 }
 
-/// Lines that the checker of the contradiction takes.
+/// Lines that the checker of the contradiction accepts.
 const HOLDING: &[&[u8]] = &[
     b"5 2 0 1 2 0",
     b"5 2 0 2 1 0",
@@ -75,7 +75,7 @@ const FAULTS: &[(&[u8], CheckError)] = &[
     (b"5 3 0 1 2 0", CheckError::UnknownVariable(3)),
     (b"5 d 7 0", CheckError::UnknownDelete(7)),
     (b"5 d 1 1 0", CheckError::UnknownDelete(1)),
-    // no hint, one too many, one twice, and the line's own id
+    // no hint, one too many, a repeated one, and the line's own id
     (b"5 2 0 0", CheckError::NoConflict),
     (b"5 0 0", CheckError::NoConflict),
     (b"5 2 0 1 2 3 0", CheckError::NotUnit(2)),
@@ -103,8 +103,8 @@ fn faults_are_told(rt: HostRuntime) -> Result<(), AllocError> {
     Ok(())
 }
 
-/// Whether a checker of the contradiction answers the lines of a log, one after another, as the
-/// rows say, and is refuted after exactly those where they say so.
+/// Whether a checker of the contradiction returns the expected result for each line of a log, and is refuted after
+/// exactly the lines that are marked so.
 fn is_log(
     alloc: Global,
     indexed: bool,
@@ -134,7 +134,7 @@ const REFUTATION: [(&[u8], Result<(), CheckError>, bool); 8] = [
     (b"8 0 7 0", Ok(()), true),
 ];
 
-/// A deleted clause is no hint, and can't be deleted again.
+/// A deleted clause can't be a hint, and can't be deleted again.
 const DELETION: [(&[u8], Result<(), CheckError>, bool); 5] = [
     (b"5 d 1 0", Ok(()), false),
     (b"5 2 0 1 2 0", Err(CheckError::UnknownId(1)), false),
@@ -157,7 +157,7 @@ fn logs_go_on(rt: HostRuntime) -> Result<(), AllocError> {
     Ok(())
 }
 
-/// Whether a new checker of some clauses is refuted, and the empty clause is new to it where it isn't.
+/// Whether a checker of some clauses is refuted at once; if it isn't, the empty clause is unsubsumed.
 fn is_refuted(
     alloc: Global,
     indexed: bool,
@@ -182,12 +182,12 @@ fn formulas_have_the_empty_clause(rt: HostRuntime) -> Result<(), AllocError> {
     Ok(())
 }
 
-/// Whether clauses are new to a checker, as the rows say.
+/// Whether clauses are unsubsumed in a checker as the rows say.
 fn are_so_new(alloc: Global, checker: &Checker, rows: &[(&[u8], bool)]) -> bool {
     rows.iter().all(|(text, new)| checker.is_new(clause(alloc, text).lits()) == *new)
 }
 
-/// Whether clauses are new to `1 2` and `-1 3`.
+/// Clauses, and whether they are unsubsumed by `1 2` and `-1 3`.
 const NEW: [(&[u8], bool); 8] = [
     (b"1 1 2 0 0", false),
     (b"1 2 1 3 0 0", false),
@@ -213,8 +213,7 @@ const NEW_AGAIN: [(&[u8], bool); 3] = [
     (b"1 3 2 -1 0 0", false),
 ];
 
-/// Feeds a line to a checker, and answers whether it was taken and clauses are then as new as the
-/// rows say.
+/// Feeds a line to a checker, and returns whether it was accepted and clauses are then unsubsumed as the rows say.
 fn goes_on(alloc: Global, checker: &mut Checker, line: &[u8], rows: &[(&[u8], bool)]) -> bool {
     match read_line(alloc, line) {
         Ok(line) => checker.feed(line).is_ok() && are_so_new(alloc, checker, rows),
@@ -222,7 +221,7 @@ fn goes_on(alloc: Global, checker: &mut Checker, line: &[u8], rows: &[(&[u8], bo
     }
 }
 
-/// Whether clauses are new, no longer new and new again, as the rows say.
+/// Whether clauses are unsubsumed, then subsumed, and then unsubsumed again, as the rows say.
 fn are_new(alloc: Global, indexed: bool) -> Result<bool, AllocError> {
     let mut checker = checker(alloc, indexed, 3, &[b"1 1 2 0 0", b"2 -1 3 0 0"])?;
     if !are_so_new(alloc, &checker, &NEW) {

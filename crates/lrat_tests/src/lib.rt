@@ -1,5 +1,5 @@
-//! Tests of `sat_theory`, `lrat_text` and `lrat_check`: lines of logs as texts, the checker, and
-//! `plain`, which computes the definitions. Formulas for tests are made in `building`.
+//! Tests of `sat_theory`, `lrat_text` and `lrat_check`: the text format of logs, the checker, and `plain`, which
+//! computes the definitions. `building` makes formulas for tests.
 #![tactic(auto)]
 
 pub mod building;

@@ -1,8 +1,8 @@
-//! Lines of logs as texts: what is read and written, and which fault is reported.
+//! Tests of the text format of logs: which lines are read and written, and which fault is reported.
 use lrat_text::{LineError, read_line, write_line};
 use std::alloc::{AllocError, Global};
 
-/// Whether a line, whose text ends with an LF, is read, and is appended again to a text.
+/// Whether a line, whose text ends with an LF, is read, and is written as the same text.
 fn is_written_again(alloc: Global, text: &[u8]) -> Result<bool, AllocError> {
     let Some((_, body)) = text.split_last() else {
         return Ok(false);
@@ -16,7 +16,7 @@ fn is_written_again(alloc: Global, text: &[u8]) -> Result<bool, AllocError> {
     Ok(written == text)
 }
 
-/// Lines with their ends.
+/// Lines, with their LFs.
 const LINES: &[&[u8]] = &[
     b"5 2 0 1 2 0\n",
     b"6 0 5 3 4 0\n",
@@ -38,12 +38,12 @@ fn lines_are_read_and_written(rt: HostRuntime) -> Result<(), AllocError> {
     Ok(())
 }
 
-/// Why a text is no line; None where it is one.
+/// Why a text isn't a line; None if it is one.
 fn fault_of(alloc: Global, text: &[u8]) -> Option<LineError> {
     read_line(alloc, text).err()
 }
 
-/// Texts that are no line, and why.
+/// Texts that aren't lines, and why.
 const FAULTS: &[(&[u8], LineError)] = &[
     (b"5 2 -2 0 1 0", LineError::RepeatedVariable),
     (b"5 2 0 -1 0", LineError::RatHint),

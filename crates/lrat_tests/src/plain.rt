@@ -1,11 +1,11 @@
-//! Formulas and lines of logs, judged by `plain`, which computes the definitions.
+//! Tests of `plain`, which computes the definitions, on formulas and lines of logs.
 ghost use Rattle.std.specs.Prelude.{◌-◌, ◌^◌, IfOk};
 ghost use Rattle.sat_theory.specs.Formula.{IsWithin};
 
 use sat_theory::plain::{PlainClause, PlainState, literal_value, satisfies};
 use std::alloc::{AllocError, Global};
 
-/// A list of literals as a vector, where they are above the least number.
+/// A list of literals as a vector; none of them is -2^31.
 fn vector(alloc: Global, lits: &[i32]) -> Result<Vec<i32>, AllocError>
     ensures { IfOk result (λ v. IsWithin (2 ^ 31 - 1) v.items) }
 {

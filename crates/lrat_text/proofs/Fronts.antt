@@ -7,7 +7,7 @@ use Rattle.text_core.specs.Items.{split_from, items_of}
 use Rattle.text_core.specs.Numbers.{number_from, number_up_to}
 use Rattle.lrat_text.specs.Numerals.{first_of, behind_first}
 
--- what was read already is the start of the first item
+-- what was already read is a prefix of the first item
 first_front : (front bs : List ℕ) → (split_from front bs).first ≡ front ++ first_of bs
 unfolding split_from
 first_front front [] = grind (arith, common_steps)
@@ -18,7 +18,7 @@ unfolding split_from
 more_front front [] = refl
 more_front front (b ∷ bs) = grind (arith, common_steps, more_front (front ++ b ∷ []) bs, more_front (b ∷ []) bs)
 
--- A text without a byte has one empty item.
+-- The empty text has one item, which is empty.
 pub first_of-nil : first_of [] ≡ []
 unfolding split_from
 first_of-nil = refl
@@ -27,7 +27,7 @@ pub behind_first-nil : behind_first [] ≡ []
 unfolding split_from
 behind_first-nil = refl
 
--- A blank ends the first item,
+-- A blank ends the first item.
 pub first_of-blank : (b : ℕ) (bs : List ℕ) → b ≡ 32 → first_of (b ∷ bs) ≡ []
 unfolding split_from
 first_of-blank b bs is = grind (arith, common_steps, is)
@@ -36,7 +36,7 @@ pub behind_first-blank : (b : ℕ) (bs : List ℕ) → b ≡ 32 → behind_first
 unfolding split_from
 behind_first-blank b bs is = grind (arith, common_steps, is)
 
--- and another byte is part of it.
+-- Any other byte is part of it.
 pub first_of-byte : (b : ℕ) (bs : List ℕ) → (b ≡ 32 → ⊥) → first_of (b ∷ bs) ≡ b ∷ first_of bs
 unfolding split_from
 first_of-byte b bs isnt = grind (arith, common_steps, isnt, first_front (b ∷ []) bs)
@@ -45,7 +45,7 @@ pub behind_first-byte : (b : ℕ) (bs : List ℕ) → (b ≡ 32 → ⊥) → beh
 unfolding split_from
 behind_first-byte b bs isnt = grind (arith, common_steps, isnt, more_front (b ∷ []) bs)
 
--- The digits are all of an item that begins with no 0,
+-- An item that doesn't begin with 0 is read as digits.
 up_to_from : (limit b : ℕ) (bs : List ℕ) → (b ≡ 48 → ⊥) → number_up_to limit (b ∷ bs) ≡ number_from limit 0 (b ∷ bs)
 up_to_from limit b [] isnt = refl
 up_to_from limit b (c ∷ bs) isnt = rw (ne_eqb b 48 isnt) refl
@@ -55,7 +55,7 @@ number_of_digits limit b text bs split no_blank no_zero =
     let whole : first_of text ≡ b ∷ first_of bs = ap first_of split ∙ first_of-byte b bs no_blank in
     ap (number_up_to limit) whole ∙ up_to_from limit b (first_of bs) no_zero ∙ ap (number_from limit 0) (sym whole)
 
--- an item that begins with 0 is 0, or no number,
+-- An item that begins with 0 is the number 0, or isn't a number.
 zero_spelled : (limit : ℕ) → number_up_to limit (48 ∷ []) ≡ Some 0
 unfolding number_from
 zero_spelled limit = grind (arith, common_steps)
@@ -75,11 +75,11 @@ rest_of_zero b text bs split is = ap behind_first split ∙ ap (λ (x : ℕ). be
 pub long_zero : (limit b : ℕ) (text bs : List ℕ) → text ≡ b ∷ bs → (b ≡ 32 → ⊥) → number_up_to limit (48 ∷ first_of text) ≡ None
 long_zero limit b text bs split isnt = ap (λ (ds : List ℕ). number_up_to limit (48 ∷ ds)) (ap first_of split ∙ first_of-byte b bs isnt)
 
--- and an empty one is none.
+-- An empty item isn't a number.
 pub number_of_blank : (limit b : ℕ) (text bs : List ℕ) → text ≡ b ∷ bs → b ≡ 32 → number_up_to limit (first_of text) ≡ None
 number_of_blank limit b text bs split is = ap (number_up_to limit) (ap first_of split ∙ first_of-blank b bs is)
 
--- Digits, where those before are worth a number and some text is left.
+-- Digits, after those before gave a number, with some text left.
 pub digits_blank : (limit value b : ℕ) (text left bs : List ℕ) → left ≡ b ∷ bs → b ≡ 32 → number_from limit value (first_of left) ≡ number_from limit 0 (first_of text) → number_from limit 0 (first_of text) ≡ Some value
 unfolding number_from
 digits_blank limit value b text left bs split is so_far = sym so_far ∙ ap (number_from limit value) (ap first_of split ∙ first_of-blank b bs is)

@@ -1,4 +1,4 @@
--- Marks of variables that are set one after the other.
+-- Marks of variables, set one after the other.
 use Rattle.std.proofs.Common.{◌≡◌, ℕ, ◌+◌, ◌%◌, ◌<◌, ◌⊎◌, ◌==◌, ◌||◌, ◌++◌, ◌∷◌, [], ℤ, Bool, true, false, List, length, slice_index_or, slice_set, refl, sym, ◌∙◌, subst, arith, inl, inr}
 use Rattle.std.proofs.Math.Logic.{⊎_elim}
 use Rattle.std.proofs.lemmas.Bool.{cases_Bool, cases_eq, or_cases, eqb-true}
@@ -13,7 +13,7 @@ or_none : (b : Bool) → (b || false) ≡ b
 or_none true = refl
 or_none false = refl
 
--- a variable of one literal more
+-- the variables of a list with one more literal
 variable_cases : (lits : List ℤ) (l : ℤ) (v : ℕ) → has_variable (lits ++ l ∷ []) v ≡ true → (has_variable lits v ≡ true) ⊎ (variable l ≡ v)
 variable_cases lits l v is =
     let parts : (has_variable lits v || ((variable l == v) || false)) ≡ true = sym (list_any-append (λ (m : ℤ). variable m == v) lits (l ∷ [])) ∙ is in
@@ -29,7 +29,7 @@ not_both b is_true is_false = cc
 abbrev mark_in : List Bool → ℕ → Bool
 mark_in marks k = slice_index_or marks k false
 
--- Where a variable's mark isn't set it is new,
+-- A variable whose mark isn't set hasn't occurred.
 pub unmarked : (marks : List Bool) (lits : List ℤ) (l : ℤ) → AreMarked marks lits → slice_index_or marks (variable l % 1024) false ≡ false → is_repeated lits l ≡ false
 unmarked marks lits l are clear =
     ⊎_elim
@@ -37,7 +37,7 @@ unmarked marks lits l are clear =
     (λ (none : has_variable lits (variable l) ≡ false). none)
     (cases_Bool (has_variable lits (variable l)))
 
--- and where it is set, all is as it has to be with one literal more.
+-- If its mark is set already, the marks are those of the list with one more literal.
 pub still_marked : (marks : List Bool) (lits : List ℤ) (l : ℤ) → AreMarked marks lits → slice_index_or marks (variable l % 1024) false ≡ true → AreMarked marks (lits ++ l ∷ [])
 still_marked marks lits l are set = record {
   each = λ v there.

@@ -4,8 +4,7 @@ use Rattle.text_core.specs.Numbers.{number_up_to}
 use Rattle.text_core.specs.Items.{split_from}
 use Rattle.sat_theory.specs.Formula.{opposite}
 
--- None where an item is no number of its range; else Some of the number, or Some None for the 0
--- that ends a list
+-- None if an item isn't a number in its range; else Some of the number, or Some None for the 0 that ends a list
 abbrev pub or_end : Option ℕ → Option (Option ℕ)
 or_end None = None
 or_end (Some n) = Some (if n == 0 then None else Some n)
@@ -23,7 +22,7 @@ abbrev pub negative : Option ℕ → Option (Option ℤ)
 negative None = None
 negative (Some n) = if n == 0 then None else Some (Some (opposite (pos n)))
 
--- a literal, from -2147483647 to 2147483647, with a minus sign (byte 45) for the opposite of a variable
+-- a literal, from -2147483647 to 2147483647, with a minus sign (byte 45) for a negated variable
 abbrev pub literal_in : List ℕ → Option (Option ℤ)
 literal_in [] = None
 literal_in (b ∷ bs) = if b == 45 then negative (number_up_to 2147483647 bs) else positive (number_up_to 2147483647 (b ∷ bs))

@@ -1,4 +1,4 @@
--- What is read was spelled so, and what is spelled is read.
+-- Round trips: what is read was written that way, and what was written is read.
 use Rattle.std.specs.Prelude.{◌≡◌, ◌≢◌, ℕ, zero, suc, ◌-◌, ◌<◌, ◌≤◌, ◌^◌, ◌⊎◌, ◌==◌, ℤ, pos, negsuc, Bool, true, false, if◌then◌else◌, List, [], ◌∷◌, ◌++◌, map, All, Option, Some, None, Result, Ok, Err, decimal, codes, refl, length, get_or}
 use Rattle.std.specs.Fmt.{signed_decimal}
 use Rattle.std.proofs.Common.{ap, sym, ◌∙◌, subst, arith, inl, inr, append_assoc, append-nil}
@@ -205,7 +205,7 @@ end_ok line l (w ∷ ws) is = absurd cc
 abbrev pub hint_items : List ℕ → List (List ℕ)
 hint_items hs = map decimal hs ++ nought ∷ []
 
--- the line l was read from the items ws, with these hints before them
+-- the line l was read from the items ws, after these hints had been read
 pub record SpellsHints (id : ℕ) (lits : List ℤ) (hints : List ℕ) (ws : List (List ℕ)) (l : Line) : Type 0 where
   pub more : List ℕ
   pub line : l ≡ Add id lits (hints ++ more)
@@ -287,7 +287,7 @@ ids_back id ids (k ∷ ks) are =
     ∙ ids_back id (ids ++ k ∷ []) ks (All-tail IsId k ks are)
     ∙ ap (λ (js : List ℕ). Ok (Delete id js)) (append_assoc ids (k ∷ []) ks)
 
--- a literal of another variable may join a clause
+-- a literal of another variable can be appended to a clause
 clause_pushed : (lits : List ℤ) (l : ℤ) → IsClause lits → is_repeated lits l ≡ false → 0 < variable l → IsClause (lits ++ l ∷ [])
 clause_pushed lits l clause new some = record {
   literals = All-push (λ (m : ℤ). 0 < variable m) lits l clause.literals some;
@@ -297,7 +297,7 @@ clause_pushed lits l clause new some = record {
     not_both : is_repeated lits l ≡ true → is_repeated lits l ≡ false → ⊥
     not_both again_ new_ = cc
 
--- in a clause no literal repeats the variable of one before it
+-- in a clause no literal repeats the variable of an earlier one
 clause_new : (lits : List ℤ) (m : ℤ) (ms : List ℤ) → IsClause (lits ++ m ∷ ms) → is_repeated lits m ≡ false
 clause_new lits m ms clause =
     list_any_none (λ (x : ℤ). variable x == variable m) lits (λ k d within.

@@ -1,4 +1,4 @@
--- The grammar of a line, judged from the left.
+-- The grammar of a line, read from the left.
 use Rattle.std.specs.Prelude.{ℕ, ℤ, Bool, ◌==◌, if◌then◌else◌, List, [], ◌∷◌, ◌++◌, Option, Some, None, Result, Ok, Err}
 use Rattle.std.specs.List.{list_any}
 use Rattle.text_core.specs.Items.{items_of}
@@ -8,7 +8,7 @@ use Rattle.lrat_text.specs.declared.error.LineError.{LineError}
 use Rattle.lrat_text.specs.declared.error.LineError.TheVariants.{BadNumber, NoEnd, RatHint, RepeatedVariable}
 use Rattle.lrat_text.specs.Numerals.{id_in, literal_in, begins_minus, is_letter_d}
 
--- the continuation after an item of a list: it is no number, it ends the list, or it is one more
+-- the continuation after an item of a list: it isn't a number, it ends the list, or it is one more element
 abbrev pub item_then : {X : Type 0} → Option (Option X) → Result Line LineError → (X → Result Line LineError) → Result Line LineError
 item_then None end next = Err BadNumber
 item_then (Some None) end next = end
@@ -26,22 +26,22 @@ has_variable lits v = list_any (λ m. variable m == v) lits
 abbrev pub is_repeated : List ℤ → ℤ → Bool
 is_repeated lits l = has_variable lits (variable l)
 
--- the hints of an addition, after those in the list were read
+-- the hints of an addition, after those in the list have been read
 unfoldable pub hints_of : ℕ → List ℤ → List ℕ → List (List ℕ) → Result Line LineError
 hints_of id lits hints [] = Err NoEnd
 hints_of id lits hints (w ∷ ws) = if begins_minus w then Err RatHint else item_then (id_in w) (end_of (Add id lits hints) ws) (λ h. hints_of id lits (hints ++ h ∷ []) ws)
 
--- the literals of an addition, after those in the list were read, and its hints
+-- the literals of an addition, after those in the list have been read, and then its hints
 unfoldable pub lits_of : ℕ → List ℤ → List (List ℕ) → Result Line LineError
 lits_of id lits [] = Err NoEnd
 lits_of id lits (w ∷ ws) = item_then (literal_in w) (hints_of id lits [] ws) (λ l. if is_repeated lits l then Err RepeatedVariable else lits_of id (lits ++ l ∷ []) ws)
 
--- the ids of a deletion, after those in the list were read
+-- the ids of a deletion, after those in the list have been read
 unfoldable pub ids_of : ℕ → List ℕ → List (List ℕ) → Result Line LineError
 ids_of id ids [] = Err NoEnd
 ids_of id ids (w ∷ ws) = item_then (id_in w) (end_of (Delete id ids) ws) (λ k. ids_of id (ids ++ k ∷ []) ws)
 
--- what follows a line's own id
+-- the items after the line's own id
 abbrev pub behind_id : ℕ → List (List ℕ) → Result Line LineError
 behind_id id [] = Err NoEnd
 behind_id id (w ∷ ws) = if is_letter_d w then ids_of id [] ws else lits_of id [] (w ∷ ws)

@@ -12,13 +12,12 @@ Numbers = HashSet ℕ (BuildHasherDefault FoldHasher)
 pub record HasVariables (seen : Numbers) (lits : List ℤ) : Type 0 where
   pub each : (v : ℕ) → contains nat_eq seen v ≡ has_variable lits v
 
--- the set is kept for more than 256 literals, and is empty for fewer
+-- the set has the variables if there are more than 256 literals, and is empty otherwise
 pub record IsSeen (seen : Numbers) (lits : List ℤ) : Type 0 where
   pub none : length lits ≤ 256 → seen.keys ≡ []
   pub all : 256 < length lits → HasVariables seen lits
 
--- there are 1024 marks, and the mark of each variable of the literals is set; others may be set,
--- too
+-- there are 1024 marks, and the mark of each variable of the literals is set; other marks may be set too
 pub record AreMarked (marks : List Bool) (lits : List ℤ) : Type 0 where
   pub each : (v : ℕ) → has_variable lits v ≡ true → slice_index_or marks (v % 1024) false ≡ true
   pub room : length marks ≡ 1024

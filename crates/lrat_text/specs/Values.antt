@@ -1,4 +1,4 @@
--- What the program's lines mean.
+-- The program's lines as lines of the definitions.
 use Rattle.sat_theory.specs.Line as theory
 use Rattle.lrat_text.specs.declared.line.Line.{Line}
 use Rattle.lrat_text.specs.declared.line.Line.TheVariants.{Add, Delete}

@@ -1,4 +1,4 @@
--- Whole lines: what is read was spelled so, and what is spelled is read.
+-- Round trips of whole lines: what is read was written that way, and what was written is read.
 use Rattle.std.specs.Prelude.{◌≡◌, ◌≢◌, ℕ, suc, ◌-◌, ◌<◌, ◌≤◌, ◌^◌, ℤ, pos, negsuc, Bool, true, false, if◌then◌else◌, List, [], ◌∷◌, ◌++◌, map, All, Option, Some, None, Ok, Err, decimal, codes, refl}
 use Rattle.std.specs.Fmt.{signed_decimal}
 use Rattle.std.specs.List.{join_with_byte}
@@ -63,7 +63,7 @@ items_spelled (w ∷ ws) l is =
     behind_spells found.0 w ws l spelled.0 spelled.1 found.2)
     (item_ok (id_in w) (Err BadNumber) (λ id. behind_id id ws) l is)
 
--- what is read can be written, and was written so
+-- a line that is read can be written, and the text is its spelling
 pub line_spells : (text : List ℕ) (l : Line) → line_in text ≡ Ok l → IsLine l × (text ≡ line_body l)
 line_spells text l is =
     let found = items_spelled (items_of text) l is in
@@ -138,7 +138,7 @@ items_back (Delete id ids) is =
     ap (λ (o : Option (Option ℕ)). item_then o (Err BadNumber) (λ k. behind_id k (codes "d" ∷ hint_items ids))) (id_back id is.own_id)
     ∙ ids_back id [] ids is.deleted_ids
 
--- What can be written is read again.
+-- A line that can be written is read again.
 pub line_back : (l : Line) → IsLine l → line_in (line_body l) ≡ Ok l
 line_back (Add id lits hints) is =
     ap line_in_items (joined_back (decimal id) (addition_items lits hints) (free_line 32 (Add id lits hints) (omega arith) is)) ∙ items_back (Add id lits hints) is

@@ -1,18 +1,17 @@
-//! What can be wrong with a line by the grammar; and running out of memory, which the grammar
-//! doesn't know.
+//! The faults of a line by the grammar, and running out of memory, which the grammar doesn't know.
 use std::alloc::{AllocError, AllocFailed};
 
-/// Why a line is refused. Its items are judged from the left, and the first fault is reported.
+/// Why a line is refused. Items are read from the left, and the first fault is reported.
 #[derive(Clone, Copy, Debug, PartialEq, Eq)]
 pub enum LineError {
-    /// An item isn't a number of its range: ids and hints are from 1 to 4294967295, literals from
-    /// -2147483647 to 2147483647 without 0. An empty item is no number.
+    /// An item isn't a number in its range: ids and hints are 1 to 4294967295, literals are -2147483647 to
+    /// 2147483647 without 0. An empty item isn't a number.
     BadNumber,
-    /// The line ends before a 0 that is due, or goes on after the last one.
+    /// The line ends before the 0 that ends a list, or goes on after the last 0.
     NoEnd,
-    /// A hint begins with `-`: the line is a RAT step, which this format leaves out.
+    /// A hint begins with `-`: the line is a RAT step, which isn't supported.
     RatHint,
-    /// A literal's variable occurs earlier in the clause.
+    /// The variable of a literal occurs earlier in the clause.
     RepeatedVariable,
     /// Memory ran out.
     Memory,

@@ -1,11 +1,11 @@
-//! A law of the definitions, the contract of a function that does nothing.
+//! A law of the definitions: the contract of a function with an empty body.
 ghost use Rattle.std.specs.Prelude.{◌≡◌, ℕ, true, List, ◌∷◌, ◌++◌, Ok};
 ghost use Rattle.text_core.specs.Lines.{lines_of};
 ghost use Rattle.sat_theory.specs.Line.{Line, IsLine};
 ghost use Rattle.lrat_text.specs.Reading.{line_in};
 ghost use Rattle.lrat_text.specs.Spelling.{line_body, line_text};
 
-/// What can be written is read again, and in a text it is one line, whatever follows.
+/// A line that can be written is read again, and in a text it is one line, whatever follows it.
 pub fn laws_of_lines()
     ensures read { (l : Line) → IsLine l → line_in (line_body l) ≡ Ok l }
     ensures whole { (l : Line) (rest : List ℕ) → IsLine l →

@@ -1,11 +1,11 @@
-//! The number at the start of a text: its digits and the blank after them are read in one pass. The
-//! definitions first cut off the item and then read its number, with the same result.
+//! The number at the start of a text: its digits and the blank after them are read in one pass. The definitions
+//! first split off the item and then read its number, with the same result.
 ghost use Rattle.std.specs.Prelude.{◌≡◌, ℕ, ◌+◌, ◌<◌, ◌≤◌, [], ◌∷◌, length, Some, None, IfNone, IfSome};
 ghost use Rattle.text_core.specs.Items.{items_left, size_left};
 ghost use Rattle.text_core.specs.Numbers.{number_from, number_up_to};
 ghost use Rattle.lrat_text.specs.Numerals.{first_of, behind_first};
 
-/// The number whose digits end at the next blank, and what follows the blank.
+/// The number whose digits end at the next blank, and the text after the blank.
 #[tactic(auto, using(crate::proofs::Fronts::fronts))]
 fn digits(limit: u32, text: &[u8]) -> Option<(u32, Option<&[u8]>)>
     ensures none { IfNone result (number_from limit 0 (first_of text.now) ≡ None) }
@@ -33,7 +33,7 @@ fn digits(limit: u32, text: &[u8]) -> Option<(u32, Option<&[u8]>)>
     Some((value, None))
 }
 
-/// What follows the item 0, where its 0 was read; None where the item goes on.
+/// The text after the item 0, whose digit was read already; None if the item goes on.
 #[tactic(auto, using(crate::proofs::Fronts::fronts))]
 fn behind_zero(text: &[u8]) -> Option<Option<&[u8]>>
     ensures none { IfNone result ((limit : ℕ) → number_up_to limit (48 ∷ first_of text.now) ≡ None) }
@@ -50,8 +50,8 @@ fn behind_zero(text: &[u8]) -> Option<Option<&[u8]>>
     None
 }
 
-/// The number that the first item of a text spells, where it is at most `limit`, and what follows
-/// the item's blank.
+/// The number that the first item of a text spells, if it is at most `limit`, and the text after the item's
+/// blank.
 #[tactic(auto, using(crate::proofs::Fronts::fronts))]
 pub(crate) fn next_number(limit: u32, text: &[u8]) -> Option<(u32, Option<&[u8]>)>
     ensures none { IfNone result (number_up_to limit (first_of text.now) ≡ None) }

@@ -1,4 +1,4 @@
-//! Numbers within a range, at the start of a text: no sign, no leading 0, not too many digits.
+//! Numbers within a range at the start of a text: no plus sign, no leading 0, not too many digits.
 ghost use Rattle.std.specs.Prelude.{◌≡◌, ◌+◌, ◌<◌, length, None, Some, IfNone, IfSome};
 ghost use Rattle.text_core.specs.Items.{items_left, size_left};
 ghost use Rattle.text_core.specs.Numbers.{number_up_to as number_up_to_of};
@@ -8,8 +8,8 @@ ghost use Rattle.lrat_text.specs.Numerals.{first_of, behind_first};
 use crate::numbers::next_number;
 use cnf_core::Lit;
 
-/// The id that the first item of a text spells, None for the 0 that ends a list, and what follows
-/// the item's blank; None where the item is no number of the range.
+/// The id that the first item of a text spells, or None for the 0 that ends a list, and the text after the
+/// item's blank; None as a whole if the item isn't a number in the range.
 #[tactic(auto, using(crate::proofs::Entries::entries))]
 pub(crate) fn next_id(text: &[u8]) -> Option<(Option<u32>, Option<&[u8]>)>
     ensures none { IfNone result (spec.id_in (first_of text.now) ≡ None) }
@@ -26,7 +26,7 @@ pub(crate) fn next_id(text: &[u8]) -> Option<(Option<u32>, Option<&[u8]>)>
     Some((Some(id), rest))
 }
 
-/// The digits of a literal that begins with a minus sign, and what follows them.
+/// The number after the minus sign of a literal, and the text after it.
 #[tactic(auto, using(crate::proofs::Entries::entries))]
 fn behind_minus(text: &[u8]) -> Option<&[u8]>
     ensures none { IfNone result (spec.literal_in (first_of text.now) ≡ spec.positive (number_up_to_of 2147483647 (first_of text.now))) }
@@ -41,7 +41,7 @@ fn behind_minus(text: &[u8]) -> Option<&[u8]>
     Some(digits)
 }
 
-/// The literal that the first item spells, as `next_id` reads an id.
+/// The literal that the first item of a text spells, with the same results as `next_id`.
 #[tactic(auto, using(crate::proofs::Entries::entries))]
 pub(crate) fn next_literal(text: &[u8]) -> Option<(Option<Lit>, Option<&[u8]>)>
     ensures none { IfNone result (spec.literal_in (first_of text.now) ≡ None) }

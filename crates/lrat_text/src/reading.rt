@@ -1,5 +1,5 @@
-//! Lines are read by the grammar, a definition with the same parts as this code: each function
-//! answers what the definition of its name does, so the first fault from the left is reported.
+//! The reader of lines. It has the same parts as the grammar: each function returns what the definition of the
+//! same name says, so the first fault from the left is reported.
 ghost use Rattle.std.specs.Prelude.{◌≡◌, [], Ok, IfOk};
 ghost use Rattle.text_core.specs.Items.{items_of, items_left};
 ghost use Rattle.sat_theory.specs.Line as theory;
@@ -17,7 +17,7 @@ use std::alloc::{AllocError, Global};
 use std::collections::HashSet;
 use text_core::next_item;
 
-/// The line, where nothing follows its last 0.
+/// The line, if nothing follows its last 0.
 fn finish(line: Line, rest: Option<&[u8]>) -> Result<Line, LineError>
     ensures { Gives result (spec.end_of (line_value line) (items_left rest.entry)) }
 {
@@ -27,8 +27,8 @@ fn finish(line: Line, rest: Option<&[u8]>) -> Result<Line, LineError>
     Ok(line)
 }
 
-/// An empty list with room for the hints of a text: most hints take four bytes and more there, so
-/// few lines make it grow.
+/// An empty list with room for the hints of a text. Most hints take four bytes or more in a text, so the list
+/// seldom has to grow.
 fn room(alloc: Global, text: Option<&[u8]>) -> Result<Vec<u32>, AllocError>
     ensures { IfOk result (λ hints. hints.items ≡ []) }
 {
@@ -106,7 +106,7 @@ fn ids_of(alloc: Global, id: u32, text: Option<&[u8]>) -> Result<Line, LineError
     Err(LineError::NoEnd)
 }
 
-/// Reads what follows a line's own id.
+/// Reads the text after the line's own id.
 fn behind_id(alloc: Global, id: u32, left: Option<&[u8]>) -> Result<Line, LineError>
     ensures { Gives result (spec.behind_id id (items_left left.entry)) }
 {
@@ -120,7 +120,7 @@ fn behind_id(alloc: Global, id: u32, left: Option<&[u8]>) -> Result<Line, LineEr
     lits_of(alloc, id, text)
 }
 
-/// Reads a line as the grammar says.
+/// Reads a line by the grammar.
 fn read(alloc: Global, text: &[u8]) -> Result<Line, LineError>
     ensures { Gives result (spec.line_in text.now) }
 {
@@ -133,13 +133,13 @@ fn read(alloc: Global, text: &[u8]) -> Result<Line, LineError>
 /// Reads one line, without its LF. An addition is `ID literals 0 hints 0`, a deletion is `ID d ids
 /// 0`; items are separated by one blank.
 pub fn read_line(alloc: Global, line: &[u8]) -> Result<Line, LineError>
-    // What is read is a line that can be written, and is spelled so.
+    // A line that is read can be written, and the text is its spelling.
     ensures is_line { IfOk result (λ l. IsLine (line_value l)) }
     ensures clause { IfOk result (λ l. HasClause (line_value l)) }
     ensures spelled { IfOk result (λ l. line.now ≡ line_body (line_value l)) }
-    // What is spelled so is read.
+    // The spelling of a line is read as that line.
     ensures read { (l : theory.Line) → IsLine l → line.now ≡ line_body l → Gives result (Ok l) }
-    // It is refused exactly where the grammar has a fault, with the first fault from the left.
+    // The text is refused if and only if the grammar has a fault, with the first fault from the left.
     ensures exact { Gives result (spec.line_in line.now) }
 {
     read(alloc, line)

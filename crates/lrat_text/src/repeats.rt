@@ -1,6 +1,6 @@
-//! Whether a variable occurs again among the literals of a line. Mostly a table of marks, indexed
-//! by remainders, shows at once that it doesn't; where two variables share a mark, a short clause
-//! is searched, and a long one has a set. All compute one test, the definition's.
+//! Whether a variable repeats among the literals of a line. In most cases a table of marks, indexed by the
+//! variable modulo its size, shows at once that it doesn't. If the mark is already set, a short clause is
+//! searched, and a long one has a hash set of its variables. All of these compute the test of the definition.
 ghost use Rattle.std.specs.Prelude.{◌≡◌, ℤ, true, false, List, [], ◌∷◌, ◌++◌, length, IfOk, OnOk};
 ghost use Rattle.lrat_text.specs.Reading as spec;
 ghost use Rattle.lrat_text.specs.Seen.{IsSeen, HasVariables, AreMarked};
@@ -9,14 +9,14 @@ use cnf_core::Lit;
 use std::alloc::AllocError;
 use std::collections::HashSet;
 
-/// The number of marks; a variable has the mark of its remainder.
+/// The number of marks. Variable v has the mark v modulo this number; 1024 marks are 1 KiB.
 pub(crate) const MARKS: usize = 1024;
 
-/// The length up to which a clause is searched where its mark is set; a longer one has its
-/// variables in a set, so the time for a literal is bounded.
+/// The length up to which a clause is searched if a mark is set. A longer clause has its variables in a hash set,
+/// so the time for a literal is bounded.
 const FEW: usize = 256;
 
-/// Whether a literal's variable came before; it has from now on.
+/// Whether a literal's variable occurred before; the variable is recorded.
 pub(crate) fn comes_again(
     marks: &mut [bool],
     seen: &mut HashSet<u32>,
@@ -42,7 +42,7 @@ pub(crate) fn comes_again(
     Ok(!seen.insert(lit.variable())?)
 }
 
-/// Sets the mark of a literal's variable, and answers whether it was unset.
+/// Sets the mark of a literal's variable, and returns whether it was unset.
 #[tactic(auto, using(crate::proofs::Marked::marking))]
 fn mark(marks: &mut [bool], lit: Lit) -> bool
     requires { length marks.old ≡ 1024 }

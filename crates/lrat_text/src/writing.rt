@@ -1,5 +1,5 @@
-//! Lines are written as the grammar spells them. A line is built in a buffer of its own and
-//! appended at once, so the text is unchanged where memory runs out.
+//! The writer of lines, in the spelling of the grammar. A line is built in a buffer of its own and appended as a
+//! whole, so the text is unchanged if memory runs out.
 ghost use Rattle.std.specs.Prelude.{◌≡◌, ◌++◌, OnOk, OnErr};
 ghost use Rattle.std.specs.List.{flat_map};
 ghost use Rattle.sat_theory.specs.Line as theory;
@@ -70,8 +70,8 @@ fn push_line(text: &mut Vec<u8>, line: &Line) -> Result<(), AllocError>
     }
 }
 
-/// Room for a line whose numbers have at most seven characters: eight bytes for each with its
-/// blank, and 32 for the id and the ends of the lists. For a longer line the text grows.
+/// The room for a line whose numbers have at most seven characters: eight bytes for each number with its blank,
+/// and 32 bytes for the id and the ends of the lists. For a longer line the buffer grows.
 fn room(line: &Line) -> usize {
     let numbers = match line {
         Line::Add { lits, hints, .. } => lits.len().saturating_add(hints.len()),
@@ -80,8 +80,8 @@ fn room(line: &Line) -> usize {
     numbers.saturating_add(4).saturating_mul(8)
 }
 
-/// Appends the one spelling of a line, with its LF. `read_line` reads it again where the ids, literals
-/// and hints are in their ranges and no variable comes twice.
+/// Appends the spelling of a line, with its LF. `read_line` reads it again if the ids, literals and hints are in
+/// their ranges and no variable occurs twice.
 pub fn write_line(line: &Line, out: &mut Vec<u8>) -> Result<(), AllocError>
     ensures ok { OnOk result (out.new.items ≡ out.old.items ++ line_text (line_value line.now)) }
     ensures err { OnErr result (out.new.items ≡ out.old.items) }

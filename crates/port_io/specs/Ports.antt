@@ -1,9 +1,9 @@
--- What a contract sees of the ports.
+-- What contracts see of the ports.
 use Rattle.std.specs.Prelude.{ℕ}
 use Rattle.port_io.specs.declared.ports.InputPort.{InputPort}
 use Rattle.port_io.specs.declared.ports.OutputPort.{OutputPort}
 
--- the reader behind a port
+-- the reader that a port wraps
 abbrev pub reader_of : {R : Type 0} → InputPort R → R
 reader_of p = p.reader
 
@@ -11,7 +11,7 @@ reader_of p = p.reader
 abbrev pub input_faults : {R : Type 0} → InputPort R → ℕ
 input_faults p = p.faults
 
--- the writer behind a port
+-- the writer that a port wraps
 abbrev pub writer_of : {W : Type 0} → OutputPort W → W
 writer_of p = p.writer
 

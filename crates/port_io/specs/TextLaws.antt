@@ -1,11 +1,11 @@
--- Texts after and before known bytes.
+-- Lemmas on texts that are appended to known bytes, or prepended to them.
 use Rattle.std.proofs.Common.{◌≡◌, ℕ, ◌+◌, ◌≤◌, List, [], ◌++◌, Option, None, Some, is_some, take, drop, length, refl, ap, sym, ◌∙◌, append_assoc, length-append, arith}
 use Rattle.std.proofs.Math.Seq.{take-add, take-append-add}
 use Rattle.std.proofs.lemmas.List.{take_all, take-append-le}
 use Rattle.std.proofs.lemmas.Grind.{common_steps}
 use Rattle.port_io.specs.Bytes.{appended, prepended, Consumes, Appends, AppendsFront, IsAtEnd, TakesFront}
 
--- Appending a text and then another one appends both joined.
+-- Appending one text and then another appends their concatenation.
 pub appended-twice : (old : Option (List ℕ)) (a b : List ℕ) → appended (appended old a) b ≡ appended old (a ++ b)
 unfolding appended
 appended-twice None a b = refl
@@ -17,11 +17,11 @@ unfolding appended
 appended-none None = refl
 appended-none (Some before) = grind (arith, common_steps)
 
--- One piece more of the text has gone out.
+-- One more piece of the text was written.
 pub appends_more : (old mid new : Option (List ℕ)) (text : List ℕ) (at count : ℕ) → Appends old mid (take at text) → Appends mid new (take count (drop at text)) → Appends old new (take (at + count) text)
 appends_more old mid new text at count a b = b ∙ ap (λ x. appended x (take count (drop at text))) a ∙ appended-twice old _ _ ∙ ap (λ x. appended old x) (sym (take-add at count text))
 
--- Prepending a text to another one that was prepended prepends both joined.
+-- Prepending one text and then another prepends their concatenation.
 pub prepended-twice : (a b : List ℕ) (new : Option (List ℕ)) → prepended a (prepended b new) ≡ prepended (a ++ b) new
 unfolding prepended
 prepended-twice a b None = refl
@@ -33,39 +33,39 @@ unfolding prepended
 prepended-none None = refl
 prepended-none (Some after) = refl
 
--- Bytes with a text before them are known exactly where the bytes were.
+-- Prepending a text doesn't change whether the bytes are known.
 pub is_some-prepended : (text : List ℕ) (new : Option (List ℕ)) → is_some (prepended text new) ≡ is_some new
 unfolding prepended
 is_some-prepended text None = refl
 is_some-prepended text (Some after) = refl
 
--- Where nothing is left after a text, the text was all.
+-- If nothing is left after a text was consumed, the text was the whole input.
 pub all_taken : (old new : Option (List ℕ)) (text input : List ℕ) → Consumes old new text → IsAtEnd new → old ≡ Some input → text ≡ input
 unfolding prepended
 all_taken old None text input taken end told = cc
 all_taken old (Some rest) text input taken end told = let e = end rest refl in grind (arith, common_steps)
 
--- Where all was taken, nothing is left.
+-- If the source is at its end after a text was consumed, nothing is left.
 pub none_left : (old new : Option (List ℕ)) (text input : List ℕ) → Consumes old new text → IsAtEnd new → old ≡ Some input → new ≡ Some []
 unfolding prepended
 none_left old None text input taken end told = cc
 none_left old (Some rest) text input taken end told = ap (λ x. Some x) (end rest refl)
 
--- A text that was taken is a prefix of what was left.
+-- A text that was consumed is a prefix of what was left.
 pub takes_front : (old new : Option (List ℕ)) (text : List ℕ) → Consumes old new text → TakesFront old new
 takes_front old new text taken = record { taken = text; consumes = taken }
 
--- What was taken is no longer than what was left.
+-- What was consumed is no longer than what was left.
 pub length_taken : (old new : Option (List ℕ)) (text input : List ℕ) → Consumes old new text → old ≡ Some input → length text ≤ length input
 unfolding prepended
 length_taken old None text input taken told = cc
 length_taken old (Some rest) text input taken told = grind (arith, common_steps)
 
--- Texts that go out one after the other are both joined.
+-- Two texts that are written one after the other: their concatenation was written.
 pub appends_two : (old mid new : Option (List ℕ)) (a b : List ℕ) → Appends old mid a → Appends mid new b → Appends old new (a ++ b)
 appends_two old mid new a b first second = second ∙ ap (λ x. appended x b) first ∙ appended-twice old a b
 
--- Where nothing has gone out, that is a prefix of any text.
+-- If nothing was written, that is a prefix of any text.
 pub front_none : (old : Option (List ℕ)) (text : List ℕ) → AppendsFront old old text
 front_none old text = record { count = 0; within = omega arith; appends = sym (appended-none old) }
 
@@ -73,7 +73,7 @@ front_none old text = record { count = 0; within = omega arith; appends = sym (a
 pub front_whole : (old new : Option (List ℕ)) (text : List ℕ) → Appends old new text → AppendsFront old new text
 front_whole old new text whole = record { count = length text; within = omega arith; appends = whole ∙ ap (λ x. appended old x) (sym (take_all (length text) text (omega arith))) }
 
--- A prefix of a text is a prefix of the text with another one after it.
+-- A prefix of a text is a prefix of its concatenation with another text.
 pub front_one : (old new : Option (List ℕ)) (a b : List ℕ) → AppendsFront old new a → AppendsFront old new (a ++ b)
 front_one old new a b front = record {
   count = front.count;
@@ -81,7 +81,7 @@ front_one old new a b front = record {
   appends = front.appends ∙ ap (λ x. appended old x) (sym (take-append-le front.count a b front.within));
 }
 
--- A text and then a prefix of another one are a prefix of both joined.
+-- A text and then a prefix of another text are a prefix of their concatenation.
 pub front_two : (old mid new : Option (List ℕ)) (a b : List ℕ) → Appends old mid a → AppendsFront mid new b → AppendsFront old new (a ++ b)
 front_two old mid new a b whole front = record {
   count = length a + front.count;
@@ -93,5 +93,5 @@ pub ruleset taking = (common_steps, prepended-twice, prepended-none, is_some-pre
 
 pub ruleset writing = (common_steps, appended-none, appends_more)
 
--- what goes out in several texts
+-- lemmas on output that is written as several texts
 pub ruleset texts = (common_steps, appends_two, front_one, front_two)

@@ -1,4 +1,4 @@
-//! The calls of a source or sink in memory: counted, and failing where their numbers are listed.
+//! Counts the calls of a source or sink in memory, and fails those whose numbers are on a list.
 ghost use Rattle.std.specs.Prelude.{◌≡◌, ◌≤◌, if◌then◌else◌};
 ghost use Rattle.port_io.specs.Faults.{next_count};
 ghost use Rattle.port_io.specs.Memory.{first_schedule, is_to_fail, after_success, after_failure};
@@ -22,7 +22,7 @@ impl Model for Calls {
 }
 
 impl Calls {
-    /// No call has come yet. The first has the number 1.
+    /// No call has been made yet. `failing` lists the numbers of the calls that fail, counted from 1.
     pub fn new(failing: Vec<u64>) -> Self
         ensures { result ≡ first_schedule failing.items }
     {
@@ -40,7 +40,7 @@ impl Calls {
         self.faults
     }
 
-    /// Counts a call, and answers whether it is to fail. A call that is to fail is a fault.
+    /// Counts a call, and returns whether it has to fail. A call that has to fail counts as a fault.
     #[tactic(auto, unfolding(crate::specs::Memory::is_to_fail))]
     pub fn begin(&mut self) -> bool
         ensures answer { result ≡ is_to_fail self.old }

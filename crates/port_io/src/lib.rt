@@ -1,17 +1,17 @@
-//! Where bytes come from and where they go.
+//! Input and output: the traits `Source` and `Sink`, and reading and writing over them.
 //!
-//! For each crate that reads an input or writes an answer; of the libraries it needs the standard
-//! one alone. A `Source` gives bytes and a `Sink` takes them, some at a call. A call may fail, and
-//! the count of faults then rises. Sources and sinks in memory show their bytes to contracts, so a
-//! contract over all sources and sinks says which bytes come and go wherever they are known. The
-//! ports over the standard library's readers and writers show none.
+//! Every crate that reads an input or writes an answer uses these traits; they need the standard
+//! library alone. A call of a `Source` or a `Sink` may transfer fewer bytes than asked for, and may fail;
+//! a failed call increments the count of faults. Contracts see the bytes of sources and sinks in memory,
+//! so a contract that is generic in both says exactly which bytes are read and written wherever they are
+//! known. The ports over the standard library's readers and writers show no bytes.
 //!
-//! The theorem, in two halves: `read_all` answers all bytes that were left; it answers that they
-//! are too many only where they are, and that a call failed only where the count rose. `read_piece`
-//! makes one call, for readers that keep less than all. `write_all` writes all of a text; where the
-//! count rose, it may have written a prefix of it, and reports that.
+//! What is proved: `read_all` returns all bytes that were left; it reports that there are too many only
+//! if there are, and that a call failed only if the count rose. `read_piece` makes one call, for readers
+//! that don't keep the whole input. `write_all` writes a whole text; if a call fails, it reports that, and a
+//! prefix of the text may have been written.
 //!
-//! A call: `let input = read_all(alloc, &mut InputPort::new(rt.stdin()), 65536)?;`
+//! Example: `let input = read_all(alloc, &mut InputPort::new(rt.stdin()), 65536)?;`
 #![tactic(auto)]
 
 mod calls;

@@ -1,4 +1,4 @@
-//! Sources and sinks in memory, whose bytes contracts see.
+//! Sources and sinks in memory. Contracts see their bytes.
 ghost use Rattle.std.specs.Prelude.{◌≡◌, ℕ, List, [], Some, Ok, IfOk, OnOk, OnErr, is_err, IsTrue, IsErr};
 ghost use Rattle.std.specs.Prelude.{length, take, drop, min, ◌<◌, ◌≤◌};
 ghost use Rattle.port_io.specs.Bytes.{Appends, Consumes, IsAtEnd};
@@ -10,7 +10,7 @@ use crate::outside::{Failed, Sink, Source};
 use std::alloc::Global;
 use std::marker::Model;
 
-/// Copies a prefix of `rest` into `buf`, as long as there is room, and answers its length.
+/// Copies the longest prefix of `rest` that fits into `buf`, and returns its length.
 fn copy_front(rest: &[u8], buf: &mut [u8]) -> usize
     ensures count { result ≡ min (length buf.old) (length rest.now) }
     ensures front { take result buf.new ≡ take result rest.now }
@@ -20,7 +20,7 @@ fn copy_front(rest: &[u8], buf: &mut [u8]) -> usize
     count
 }
 
-/// Bytes in memory, whose calls never fail.
+/// A source of bytes in memory. Its calls never fail.
 #[derive(Drop)]
 pub struct SteadySource {
     bytes: Vec<u8>,
@@ -73,7 +73,7 @@ impl Source for SteadySource {
     }
 }
 
-/// Bytes in memory, whose calls fail where their numbers are on a list.
+/// A source of bytes in memory. The calls whose numbers are on a list fail.
 #[derive(Drop)]
 pub struct MemorySource {
     source: SteadySource,
@@ -89,8 +89,8 @@ impl Model for MemorySource {
 }
 
 impl MemorySource {
-    /// All of `bytes` are left. `failing` lists the numbers of the calls of `read` that are to fail,
-    /// counted from 1. From call 2^64 - 1 on each call has that number.
+    /// All of `bytes` are left. `failing` lists the numbers of the calls of `read` that fail, counted
+    /// from 1. The number saturates: from call 2^64 - 1 on every call has that number.
     pub fn new(bytes: Vec<u8>, failing: Vec<u64>) -> Self
         ensures { result ≡ record { left = bytes.items; schedule = first_schedule failing.items } }
     {
@@ -115,7 +115,7 @@ impl Source for MemorySource {
 
     #[tactic(auto, unfolding(crate::specs::Bytes::prepended))]
     fn read(&mut self, buf: &mut [u8]) -> Result<usize, Failed>
-        // It fails exactly where the call's number is on the list.
+        // The call fails if and only if its number is on the list.
         ensures fails { is_err result ≡ is_to_fail self.old.schedule }
         ensures count { IfOk result (λ count. count ≡ min (length buf.old) (length self.old.left)) }
         ensures ok { OnOk result (self.new.schedule ≡ after_success self.old.schedule) }
@@ -136,8 +136,8 @@ impl Source for MemorySource {
     }
 }
 
-/// Keeps in memory what is written. Its calls fail where their numbers are on a list, and where
-/// memory runs out.
+/// A sink that keeps in memory what is written. A call fails if its number is on a list, or if memory
+/// runs out.
 #[derive(Drop)]
 pub struct MemorySink {
     written: Vec<u8>,
@@ -153,8 +153,8 @@ impl Model for MemorySink {
 }
 
 impl MemorySink {
-    /// Nothing is written yet. `failing` lists the numbers of the calls of `write` that are to fail,
-    /// counted from 1. From call 2^64 - 1 on each call has that number.
+    /// Nothing is written yet. `failing` lists the numbers of the calls of `write` that fail, counted
+    /// from 1. The number saturates: from call 2^64 - 1 on every call has that number.
     pub fn new(alloc: Global, failing: Vec<u64>) -> Self
         ensures { result ≡ record { written = []; schedule = first_schedule failing.items } }
     {
@@ -186,8 +186,7 @@ impl Sink for MemorySink {
 
     #[tactic(auto, unfolding(crate::specs::Bytes::appended))]
     fn write(&mut self, piece: &[u8]) -> Result<usize, Failed>
-        // It fails where the call's number is on the list, and otherwise only where memory runs
-        // out.
+        // The call fails if its number is on the list, and otherwise only if memory runs out.
         ensures fails { IsTrue (is_to_fail self.old.schedule) → IsErr result }
         ensures whole { IfOk result (λ count. count ≡ length piece.now) }
         ensures ok { OnOk result (self.new.schedule ≡ after_success self.old.schedule) }

@@ -1,24 +1,23 @@
-//! The world outside the program: where bytes come from, and where they go.
+//! The program's environment: sources, which bytes are read from, and sinks, which they are written to.
 ghost use Rattle.std.specs.Prelude.{◌≡◌, ℕ, ◌<◌, ◌≤◌, List, Option, Ok, IfOk, OnOk, OnErr, length, take};
 ghost use Rattle.port_io.specs.Bytes.{Appends, Consumes, IsAtEnd};
 ghost use Rattle.port_io.specs.Faults.{Rose};
 
-/// A call of a source or sink failed. Where bytes are known, it took and wrote none.
+/// A call of a source or sink failed. If the bytes are known, the call read or wrote none.
 #[derive(Clone, Copy)]
 pub struct Failed;
 
-/// Where bytes come from.
+/// A source of bytes: an input.
 pub trait Source {
-    /// The bytes that are left, in their order, where the source's bytes are known. Whether they
-    /// are known never changes.
+    /// The bytes that are left, in order, or None if this source's bytes aren't known to contracts. Whether
+    /// they are known never changes.
     ghost left: { Self → Option (List ℕ) };
 
-    /// How many calls have failed, up to the last value of a u64. A call that succeeds leaves the count.
+    /// How many calls have failed, saturating at 2^64 - 1. A call that succeeds leaves the count as it is.
     ghost faults: { Self → ℕ };
 
-    /// Takes the next bytes into the start of `buf`, and answers how many. What the rest of `buf`
-    /// then holds is unspecified. An answer of 0 for a `buf` with room means that the input has
-    /// ended.
+    /// Reads the next bytes into the start of `buf`, and returns how many. The rest of `buf` is
+    /// unspecified. A count of 0 for a `buf` that isn't empty means that the input has ended.
     fn read(&mut self, buf: &mut [u8]) -> Result<usize, Failed>
         ensures within { IfOk result (λ count. count ≤ length buf.new) }
         ensures taken { IfOk result
@@ -30,16 +29,16 @@ pub trait Source {
         ensures never_falls { faults self.old ≤ faults self.new };
 }
 
-/// Where bytes go.
+/// A sink of bytes: an output.
 pub trait Sink {
-    /// The bytes that were written, in their order, where the sink's bytes are known. Whether they
-    /// are known never changes.
+    /// The bytes written so far, in order, or None if this sink's bytes aren't known to contracts. Whether
+    /// they are known never changes.
     ghost written: { Self → Option (List ℕ) };
 
-    /// How many calls have failed, up to the last value of a u64. A call that succeeds leaves the count.
+    /// How many calls have failed, saturating at 2^64 - 1. A call that succeeds leaves the count as it is.
     ghost faults: { Self → ℕ };
 
-    /// Writes a prefix of `piece`, and answers its length.
+    /// Writes a prefix of `piece`, and returns its length, which is at least 1 for a `piece` that isn't empty.
     fn write(&mut self, piece: &[u8]) -> Result<usize, Failed>
         ensures within { IfOk result (λ count. count ≤ length piece.now) }
         ensures some { IfOk result (λ count. 0 < length piece.now → 0 < count) }

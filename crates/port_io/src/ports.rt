@@ -1,5 +1,4 @@
-//! The standard library's readers and writers as sources and sinks, whose bytes contracts don't
-//! know.
+//! The standard library's readers and writers as sources and sinks. Contracts don't know their bytes.
 ghost use Rattle.std.specs.Io.KnownBytes.{ReadConsumes, WriteAppends};
 ghost use Rattle.std.specs.Prelude.{◌≡◌, ◌<◌, ◌≤◌, None, IfOk, OnErr, is_ok, if◌then◌else◌, length, take};
 ghost use Rattle.port_io.specs.Bytes.{Appends, Consumes};
@@ -25,7 +24,7 @@ impl<R: Read> InputPort<R> {
         InputPort { reader, faults: 0 }
     }
 
-    /// How many reads have failed. The count saturates at the last value of a u64.
+    /// How many reads have failed. The count saturates at 2^64 - 1.
     pub fn faults(&self) -> u64
         ensures { result ≡ input_faults self.now }
     {
@@ -40,7 +39,7 @@ impl<R: Read> Source for InputPort<R> {
 
     #[tactic(auto, unfolding(crate::specs::Bytes::prepended))]
     fn read(&mut self, buf: &mut [u8]) -> Result<usize, Failed>
-        // The answer is the reader's. The count rises exactly where the reader fails.
+        // The result is the reader's. The count rises if and only if the reader fails.
         ensures answer { ReadConsumes (R.remaining (reader_of self.old)) (R.remaining (reader_of self.new))
             result buf.new }
         ensures counted { input_faults self.new ≡
@@ -77,8 +76,8 @@ impl<W: Write> OutputPort<W> {
         OutputPort { writer, faults: 0 }
     }
 
-    /// How many writes have failed, or have taken nothing of a piece. The count saturates at the
-    /// last value of a u64.
+    /// How many writes have failed, or have written nothing of a piece that isn't empty. The count saturates
+    /// at 2^64 - 1.
     pub fn faults(&self) -> u64
         ensures { result ≡ output_faults self.now }
     {
@@ -93,7 +92,7 @@ impl<W: Write> Sink for OutputPort<W> {
 
     #[tactic(auto, unfolding(crate::specs::Bytes::appended))]
     fn write(&mut self, piece: &[u8]) -> Result<usize, Failed>
-        // The answer is the writer's, except that taking nothing of a piece is a fault.
+        // The result is the writer's, except that writing nothing of a piece that isn't empty is a fault.
         ensures answer { WriteAppends (W.contents (writer_of self.old)) (W.contents (writer_of self.new))
             result piece.now }
         ensures counted { output_faults self.new ≡

@@ -1,4 +1,4 @@
-//! Reading a source, by a call or to its end.
+//! Reading a source: one call, or to its end.
 ghost use Rattle.std.specs.Prelude.{◌≡◌, ℕ, ◌<◌, ◌≤◌, List, [], Some, IfOk, OnOk, IsErrOf, is_some, length, vec_len};
 ghost use Rattle.port_io.specs.Bytes.{Consumes, IsAtEnd, TakesBeyond, TakesFront};
 ghost use Rattle.port_io.specs.Faults.{Rose};
@@ -6,7 +6,7 @@ ghost use Rattle.port_io.specs.Faults.{Rose};
 use crate::outside::{Failed, Source};
 use std::alloc::{AllocError, Global};
 
-/// Why the bytes of a source weren't read.
+/// Why a source couldn't be read.
 #[derive(Clone, Copy, PartialEq, Eq)]
 pub enum ReadError {
     /// A call of the source failed.
@@ -27,11 +27,11 @@ impl From<AllocError> for ReadError {
     }
 }
 
-/// How many bytes are asked for at a call.
+/// The size of the buffer of a call: how many bytes `read_all` asks for at once.
 pub const PIECE: usize = 4096;
 
-/// Reads the next bytes of a source by one call, `room` at most: none where the input has ended. Where more come they
-/// are `TooLong`; they are lost then.
+/// Reads the next bytes of a source by one call into `buf`. The piece is empty if the input has ended. If the call
+/// returns more than `room` bytes, they are lost, and the error is `TooLong`.
 #[tactic(auto, using(crate::specs::TextLaws::taking))]
 pub fn read_piece<'a, S: Source>(
     source: &mut S,
@@ -59,8 +59,8 @@ pub fn read_piece<'a, S: Source>(
     }
 }
 
-/// Reads all bytes to the end of the input. After an error the bytes read so far are lost, and the
-/// rest is left in the source.
+/// Reads all bytes to the end of the input, at most `limit`. After an error the bytes read so far are lost,
+/// and the rest is left in the source.
 #[tactic(auto, using(crate::specs::TextLaws::taking))]
 pub fn read_all<S: Source>(
     alloc: Global,
@@ -85,7 +85,7 @@ pub fn read_all<S: Source>(
 {
     let mut all = Vec::new(alloc);
     let mut buf = [0u8; PIECE];
-    // Each turn but the last takes at least one byte.
+    // Every iteration but the last reads at least one byte.
     for _turn in 0..=limit {
         let piece = read_piece(source, &mut buf, limit - all.len())?;
         if piece.is_empty() {

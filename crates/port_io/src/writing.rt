@@ -1,4 +1,4 @@
-//! Writing a text whole.
+//! Writing a whole text.
 ghost use Rattle.std.specs.Prelude.{◌≡◌, ◌≤◌, OnOk, OnErr};
 ghost use Rattle.port_io.specs.Bytes.{Appends, AppendsFront};
 ghost use Rattle.port_io.specs.Faults.{Rose};
@@ -12,8 +12,8 @@ pub enum WriteFault {
     WriteFault,
 }
 
-/// Writes all of `bytes`, in as many calls as the sink needs. After an error a prefix of them may
-/// be written.
+/// Writes all of `bytes`, in as many calls as the sink needs. After an error a prefix of them may have
+/// been written.
 #[tactic(auto, using(crate::specs::TextLaws::writing))]
 pub fn write_all<O: Sink>(sink: &mut O, bytes: &[u8]) -> Result<(), WriteFault>
     ensures all { OnOk result (Appends (O.written sink.old) (O.written sink.new) bytes.now) }

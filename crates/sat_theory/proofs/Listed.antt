@@ -1,4 +1,4 @@
--- The clauses of the plain program, as a map from ids.
+-- The clauses of `plain`, as a map from ids.
 use Rattle.std.proofs.Common.{◌≡◌, ℕ, ℤ, Bool, true, false, List, [], ◌∷◌, Option, None, ◌==◌, ◌<◌, ◌↔◌, IsSome, Any, get_or, arith, suc, ◌≢◌, if◌then◌else◌, refl, ap, ◌∙◌, sym}
 use Rattle.std.proofs.lemmas.Bool.{eqb-true, eq-eqb}
 use Rattle.std.proofs.lemmas.List.Folds.{Any-from_list_any, list_any_at}
@@ -31,7 +31,7 @@ without_one ids c cs k false true listed same rest =
     rw (listed, same, too) refl
 without_one ids c cs k false false listed other rest = rw (listed, other) rest
 
--- With some clauses removed, the others are found as before.
+-- After some clauses were removed, the others are found as before.
 pub live_in-not_listed : (ids : List ℕ) (cs : List Numbered) (k : ℕ) → live_in (not_listed ids cs) k ≡ without (live_in cs) ids k
 unfolding live_in
 live_in-not_listed ids [] k = sym (same_either_way (is_listed ids k) None)
@@ -40,13 +40,13 @@ live_in-not_listed ids (c ∷ cs) k = without_one ids c cs k (is_listed ids c.id
 pub live_in-without : (ids : List ℕ) (cs : List Numbered) → live_in (not_listed ids cs) ≡ without (live_in cs) ids
 live_in-without ids cs = λ i k. live_in-not_listed ids cs k i
 
--- one clause more at the head
+-- one more clause at the head
 pub live_in-more : (id : ℕ) (lits : List ℤ) (cs : List Numbered) → live_in (record { id = id; lits = lits } ∷ cs) ≡ with_clause (live_in cs) id lits
 unfolding live_in
 live_in-more id lits cs = refl
 
--- whether all of a list's ids are live and different, by cases: the list is empty, its first id is
--- fine, or that isn't live or comes again
+-- Whether all ids of a list are live and different, by cases: the list is empty; its first id is live and doesn't
+-- occur again; or it isn't live or occurs again.
 pub deletion_none : (live : ℕ → Option (List ℤ)) → DeletionHolds live []
 deletion_none live = record { all_live = λ k d (within : k < 0). absurd (omega arith); differ = λ i j d (low : i < j) (within : j < 0). absurd (omega arith) }
 

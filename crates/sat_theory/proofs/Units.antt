@@ -4,12 +4,12 @@ use Rattle.sat_theory.specs.Formula.{opposite}
 use Rattle.sat_theory.specs.HoldingLaws.{one_unit}
 use Rattle.sat_theory.specs.Holding.{with_literal, IsUnitOutside, HintsHold}
 
--- the first i literals are in the set, but for the one that was found
+-- the first i literals are in the set, except the one that was found
 abbrev pub HasSeen : (ℤ → Bool) → List ℤ → ℕ → Option ℤ → Type 0
 HasSeen set lits i None = (k : ℕ) (d : ℤ) → k < i → set (slice_index_or lits k d) ≡ true
 HasSeen set lits i (Some l) = Contains lits l × (set l ≡ false) × ((k : ℕ) (d : ℤ) → k < i → (slice_index_or lits k d ≡ l) ⊎ (set (slice_index_or lits k d) ≡ true))
 
--- A hint before the last, whose clause has one literal outside, is taken, and the other hints
+-- The clause of a hint before the last has one literal outside: the opposite joins the set, and the other hints
 -- decide.
 hint_goes : (live : ℕ → Option (List ℤ)) (set grown : ℤ → Bool) (hint h : ℕ) (hs : List ℕ) (clause : List ℤ) (l : ℤ) → live hint ≡ Some clause → IsUnitOutside set clause l → grown ≡ with_literal set (opposite l) → HintsHold live grown (h ∷ hs) → HintsHold live set (hint ∷ h ∷ hs)
 unfolding HintsHold

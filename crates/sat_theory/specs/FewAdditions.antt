@@ -1,6 +1,5 @@
--- How many additions of a log can be live: fewer than 3 ^ vars, where each is of a new clause and
--- none of the empty one. No live addition is contained in a later one, so all live additions are
--- different clauses.
+-- How many additions of a log can be live: fewer than 3 ^ vars, if each is of an unsubsumed clause and none is of
+-- the empty clause. No live addition is a subset of a later one, so all live additions are different clauses.
 use Rattle.std.specs.Prelude.{◌≡◌, ◌≢◌, ℕ, suc, ◌+◌, ◌*◌, ◌^◌, ◌<◌, ◌≤◌, ◌==◌, if◌then◌else◌, ℤ, Bool, true, false, List, [], ◌∷◌, length, slice_index_or, Contains, All, Any, AllPairs, count_by, cond, Option, Some, None, is_some}
 use Rattle.std.proofs.Common.{sym, subst, ap, ◌∙◌, arith, inr, refl}
 use Rattle.std.proofs.lemmas.Bool.{ne_eqb, eq-eqb}
@@ -25,17 +24,17 @@ some_or_empty (Add id [] hints) none = absurd (none refl)
 some_or_empty (Add id (x ∷ xs) hints) none = (let h : 0 < suc (length xs) = omega arith in h)
 some_or_empty (Delete id ids) none = tt
 
--- where no line adds the empty clause, each addition has a literal
+-- if no line adds the empty clause, each addition has a literal
 pub adds_some : (lines : List Line) → (Any AddsEmpty lines → ⊥) → All AddsSome lines
 adds_some lines none = λ k d low. some_or_empty (slice_index_or lines k d) (λ is. (let x = Contains-get_or lines k d low in none (x.0, slice_index_or lines k d, x.1, x.2, is)))
 
--- a clause that was added: over the variables 1 to vars, and not empty
+-- a clause that was added: its variables are 1 to vars, and it isn't empty
 record IsAdded (vars : ℕ) (clause : List ℤ) : Type 0 where
   is_clause : IsClause clause
   within : IsWithin vars clause
   some : 0 < length clause
 
--- The clause of the earlier id isn't contained in that of the later one, where both are live.
+-- If both are live, the clause of the earlier id doesn't subsume that of the later one.
 abbrev IsApart : State → ℕ → ℕ → Type 0
 IsApart s later earlier = (c e : List ℤ) → s.live later ≡ Some c → s.live earlier ≡ Some e → All (Contains c) e → ⊥
 
@@ -49,12 +48,12 @@ abbrev with_code : ℕ → Option (List ℤ) → List ℕ → List ℕ
 with_code v None ns = ns
 with_code v (Some clause) ns = code (among clause) v ∷ ns
 
--- the base 3 numbers of the live clauses of ids
+-- the base-3 numbers of the live clauses with these ids
 unfoldable codes : State → List ℕ → List ℕ
 codes s [] = []
 codes s (id ∷ ids) = with_code s.vars (s.live id) (codes s ids)
 
--- n is the base 3 number of a live clause of one of ids
+-- n is the base-3 number of the live clause with one of these ids
 record IsCode (s : State) (ids : List ℕ) (n : ℕ) : Type 0 where
   id : ℕ
   there : Contains ids id
@@ -86,7 +85,7 @@ unfolding codes
 codes_are s [] = λ k d (low : k < 0). absurd (omega arith)
 codes_are s (id ∷ ids) = codes_cons s id ids (codes s ids) (s.live id) refl (codes_are s ids)
 
--- the number of a clause differs from those of earlier clauses that aren't contained in it
+-- the number of a clause differs from those of earlier clauses that don't subsume it
 code_differs : (s : State) (id : ℕ) (ids : List ℕ) (clause : List ℤ) (n : ℕ) → s.live id ≡ Some clause → AreApart s (id ∷ ids) → IsCode s ids n → code (among clause) s.vars ≡ n → ⊥
 code_differs s id ids clause n is_live all found same =
     let at : slice_index_or ids found.there.0 found.id ≡ found.id = found.there.2 in
@@ -133,7 +132,7 @@ codes_long s (id ∷ ids) =
     let more : count_by (is_live_in s) (id ∷ ids) ≡ cond {A = ℕ} (is_some (s.live id)) 1 0 + count_by (is_live_in s) ids = count_cons (is_live_in s) id ids in
     omega arith
 
--- so fewer than 3 ^ vars are live
+-- fewer than 3 ^ vars clauses are live
 live_few : (s : State) (ids : List ℕ) → AreApart s ids → count_by (is_live_in s) ids < 3 ^ s.vars
 live_few s ids all =
     let room : 0 < 3 ^ s.vars = (let h : code (among []) s.vars < 3 ^ s.vars = code_low (among []) s.vars in omega arith) in
@@ -163,7 +162,7 @@ apart_deleted s id gone ids all = record {
       (still_live (is_listed gone (slice_index_or ids j d)) (s.live (slice_index_or ids j d)) e is_e);
 }
 
--- an id that was given before keeps its clause
+-- an id that is already in use keeps its clause
 before_added : (s : State) (id : ℕ) (lits : List ℤ) (hints : List ℕ) (k : ℕ) → s.greatest < id → k ≤ s.greatest → (next s (Add id lits hints)).live k ≡ s.live k
 before_added s id lits hints k greater given = (let other : (k == id) ≡ false = ne_eqb k id (λ e. omega arith) in rw other refl)
 
@@ -190,7 +189,7 @@ apart_added s id lits hints ids greater known new all = record {
     same : (k d : ℕ) → k < length ids → after_it.live (slice_index_or ids k d) ≡ s.live (slice_index_or ids k d)
     same k d low = before_added s id lits hints (slice_index_or ids k d) greater (all.given k d low)
 
--- the live additions of a log, together with those that were live before it
+-- the live additions of a log, together with the clauses that were live before it
 live_added : (s : State) (lines : List Line) (ids : List ℕ) → EachLine IsStep s lines → EachLine IsFresh s lines → All AddsSome lines → AreApart s ids → count_by (is_live_in (after s lines)) ids + count_by (is_live_in (after s lines)) (added_ids lines) < 3 ^ s.vars
 unfolding EachLine after added_ids
 live_added s [] ids steps fresh some all = (let few : count_by (is_live_in s) ids < 3 ^ s.vars = live_few s ids all in let none : count_by (is_live_in s) [] ≡ 0 = refl in omega arith)
@@ -211,7 +210,7 @@ none_apart s = record {
   apart = λ i j d order (within : j < 0). absurd (omega arith);
 }
 
--- A log of new clauses that doesn't add the empty one has fewer than 3 ^ vars live additions.
+-- A log of unsubsumed additions that doesn't add the empty clause has fewer than 3 ^ vars live additions.
 pub few_live : (f : Formula) (lines : List Line) → EachLine IsStep (start f) lines → EachLine IsFresh (start f) lines → All AddsSome lines → live_additions (after (start f) lines) lines < 3 ^ f.vars
 few_live f lines steps fresh some =
     let few : count_by (is_live_in (after (start f) lines)) [] + live_additions (after (start f) lines) lines < 3 ^ f.vars = live_added (start f) lines [] steps fresh some (none_apart (start f)) in
@@ -228,7 +227,7 @@ count_all p (x ∷ xs) all =
     let long : length (x ∷ xs) ≡ suc (length xs) = refl in
     omega arith
 
--- the id was given and is live
+-- the id is in use and live
 abbrev IsThere : State → ℕ → Type 0
 IsThere s id = (id ≤ s.greatest) × (is_some (s.live id) ≡ true)
 
@@ -251,7 +250,7 @@ all_added s (Add id lits hints ∷ lines) ids steps adding there =
     let longer : length (id ∷ added_ids lines) ≡ suc (length (added_ids lines)) = refl in
     omega arith
 
--- Where nothing is deleted, all additions are live.
+-- If nothing is deleted, all additions are live.
 pub all_live : (f : Formula) (lines : List Line) → EachLine IsStep (start f) lines → DeletesNothing lines → live_additions (after (start f) lines) lines ≡ additions lines
 all_live f lines steps adding =
     let all : count_by (is_live_in (after (start f) lines)) [] + live_additions (after (start f) lines) lines ≡ length {A = ℕ} [] + additions lines = all_added (start f) lines [] steps adding (λ k d (low : k < 0). absurd (omega arith)) in
@@ -259,7 +258,7 @@ all_live f lines steps adding =
     let zero_ : length {A = ℕ} [] ≡ 0 = refl in
     omega arith
 
--- A budget that a log with half of its additions live has spent is below 2 * 3 ^ vars,
+-- If a log reaches a budget with at least half of its additions live, the budget is below 2 * 3 ^ vars.
 pub budget_kept : (f : Formula) (lines : List Line) (budget : ℕ) → IsSpent f lines budget → IsKept f lines → budget < 2 * 3 ^ f.vars
 budget_kept f lines budget spent kept =
     let few : live_additions (after (start f) lines) lines < 3 ^ f.vars = few_live f lines spent.holds spent.fresh (adds_some lines (λ there. spent.open_yet (inr there))) in
@@ -267,7 +266,7 @@ budget_kept f lines budget spent kept =
     let enough : budget ≤ additions lines = spent.enough in
     omega arith
 
--- and one that a log without deletions has spent is below 3 ^ vars.
+-- If a log reaches a budget without deletions, the budget is below 3 ^ vars.
 pub budget_undeleted : (f : Formula) (lines : List Line) (budget : ℕ) → IsSpent f lines budget → DeletesNothing lines → budget < 3 ^ f.vars
 budget_undeleted f lines budget spent adding =
     let few : live_additions (after (start f) lines) lines < 3 ^ f.vars = few_live f lines spent.holds spent.fresh (adds_some lines (λ there. spent.open_yet (inr there))) in

@@ -14,8 +14,8 @@ opposite l = neg_ℤ l
 abbrev pub signed : ℕ → Bool → ℤ
 signed v positive = if positive then pos v else neg_ℤ (pos v)
 
--- A clause is a list of literals of different variables, and says that one of them at least is true.
--- Example: 1, -2 is a clause. 1, -1 is none, and neither is 1, 0.
+-- A clause is a list of literals of different variables; it says that at least one of them is true.
+-- Example: 1, -2 is a clause; 1, -1 and 1, 0 aren't.
 pub record IsClause (lits : List ℤ) : Type 0 where
   pub literals : All (λ l. 0 < variable l) lits
   pub differ : AllPairs (λ l m. variable l ≢ variable m) lits
@@ -24,7 +24,7 @@ pub record IsClause (lits : List ℤ) : Type 0 where
 abbrev pub IsWithin : ℕ → List ℤ → Type 0
 IsWithin vars lits = All (λ l. variable l ≤ vars) lits
 
--- A formula has the variables 1 to vars, and says that each of its clauses is true (CNF).
+-- A formula (CNF) over the variables 1 to vars: it says that all its clauses are true.
 -- Example: over the variables 1 and 2 the clauses 1, 2 and -1, 2 and 1, -2 and -1, -2 are
 -- unsatisfiable, and any three of them are satisfiable.
 pub record Formula : Type 0 where
@@ -47,7 +47,7 @@ abbrev pub literal_value : Assignment → ℤ → Bool
 literal_value v (pos n) = v n
 literal_value v (negsuc n) = not (v (suc n))
 
--- a clause is true where one of its literals is, so the empty clause is never true
+-- a clause is true if one of its literals is, so the empty clause is never true
 unfoldable pub IsTrueClause : Assignment → List ℤ → Type 0
 IsTrueClause v lits = Any (λ l. literal_value v l ≡ true) lits
 

@@ -1,4 +1,4 @@
--- When a line of a log holds: additions by reverse unit propagation (RUP) along their hints.
+-- When a line of a log holds. Additions are checked by reverse unit propagation (RUP) along their hints.
 use Rattle.std.specs.Prelude.{◌≡◌, ◌≢◌, ℕ, ◌<◌, ◌⊎◌, ℤ, Bool, true, false, ◌||◌, List, [], ◌∷◌, Contains, All, AllPairs, Option, Some, IsSome}
 use Rattle.std.specs.List.{list_any}
 use Rattle.std.specs.Ordering.{int_eq}
@@ -6,38 +6,38 @@ use Rattle.sat_theory.specs.Formula.{opposite, IsWithin}
 use Rattle.sat_theory.specs.Line.{Line, Add, Delete}
 use Rattle.sat_theory.specs.State.{State}
 
--- A set of literals is its membership test: that of a list, and that of a set with one literal
--- more.
+-- A set of literals is given by its membership test: here for the literals of a list, and for a set with one more
+-- literal.
 abbrev pub among : List ℤ → ℤ → Bool
 among lits l = list_any (λ m. int_eq l m) lits
 
 abbrev pub with_literal : (ℤ → Bool) → ℤ → ℤ → Bool
 with_literal set l m = int_eq m l || set m
 
--- the clause is unit outside the set, with the literal l
+-- l is the only literal of the clause outside the set
 pub record IsUnitOutside (set : ℤ → Bool) (clause : List ℤ) (l : ℤ) : Type 0 where
   pub there : Contains clause l
   pub outside : set l ≡ false
   pub others : All (λ m. (m ≡ l) ⊎ (set m ≡ true)) clause
 
--- The set has literals that are taken to be false. Each hint but the last names a live clause that
--- is unit: its one literal outside the set must be true, so the opposite of that joins the set. The
--- last hint names a live clause with no literal outside, which is a conflict.
+-- `set` is the set of falsified literals. Each hint but the last is the id of a live clause that is unit: its
+-- only literal outside the set has to be true, so the opposite of that literal joins the set. The last hint is
+-- the id of a live clause with no literal outside the set: a conflict.
 -- Example: of the clauses 1: 1, 2 and 2: -1, 2, the hints 1, 2 hold from the set of the literal 2.
--- Clause 1 has 1 outside, so -1 joins, and clause 2 has nothing outside.
+-- Clause 1 has the literal 1 outside, so -1 joins the set, and clause 2 has no literal outside.
 unfoldable pub HintsHold : (ℕ → Option (List ℤ)) → (ℤ → Bool) → List ℕ → Type 0
 HintsHold live set [] = ⊥
 HintsHold live set (hint ∷ []) = (clause : List ℤ) × (live hint ≡ Some clause) × All (λ m. set m ≡ true) clause
 HintsHold live set (hint ∷ more ∷ hints) = (clause : List ℤ) × (l : ℤ) × (live hint ≡ Some clause) × IsUnitOutside set clause l × HintsHold live (with_literal set (opposite l)) (more ∷ hints)
 
--- An addition holds where its id is greater than all before, its variables are the formula's, and
--- its hints hold from the set of its own literals.
+-- An addition holds if its id is greater than all ids before, its variables are variables of the formula, and its
+-- hints hold from the set of its own literals.
 pub record AdditionHolds (s : State) (id : ℕ) (lits : List ℤ) (hints : List ℕ) : Type 0 where
   pub greater : s.greatest < id
   pub variables : IsWithin s.vars lits
   pub hints_hold : HintsHold s.live (among lits) hints
 
--- a deletion holds where its ids are live and different
+-- a deletion holds if its ids are live and different
 pub record DeletionHolds (live : ℕ → Option (List ℤ)) (ids : List ℕ) : Type 0 where
   pub all_live : All (λ id. IsSome (live id)) ids
   pub differ : AllPairs (λ a b. a ≢ b) ids

@@ -17,11 +17,11 @@ or_last : (p : ℤ → Bool) (lits : List ℤ) (x : ℤ) → list_any p (lits ++
 or_last p [] x = refl
 or_last p (y ∷ ys) x = rw (or_last p ys x) (swap_or (p y) (p x) (list_any p ys))
 
--- the set of a list with one literal more at its end
+-- the set of a list with one more literal at its end
 pub among-push : (lits : List ℤ) (x : ℤ) → among (lits ++ x ∷ []) ≡ with_literal (among lits) x
 among-push lits x = λ i l. or_last (λ (m : ℤ). int_eq l m) lits x i
 
--- a clause has one literal outside a set at most
+-- a unit clause has only one literal outside the set
 pub one_unit : (set : ℤ → Bool) (clause : List ℤ) (l m : ℤ) → IsUnitOutside set clause l → IsUnitOutside set clause m → l ≡ m
 one_unit set clause l m at_l at_m =
     let P : ℤ → Type 0 = λ x. (x ≡ l) ⊎ (set x ≡ true) in

@@ -2,14 +2,14 @@
 use Rattle.std.specs.Prelude.{ℕ, ◌<◌, ◌^◌, ◌-◌, ℤ, List, All}
 use Rattle.sat_theory.specs.Formula.{IsClause, IsWithin}
 
--- Clauses are named by numbers, their ids. An addition adds the clause of its literals under its
--- id; its hints are the ids of the clauses by which unit propagation shows it. A deletion removes
--- the clauses of its ids; its own id has no meaning.
+-- Clauses have numbers, their ids. An addition adds the clause of its literals with its id; its hints (LRAT's
+-- antecedents) are the ids of the clauses by which unit propagation derives it. A deletion removes the clauses of
+-- its ids; its own id has no meaning.
 pub data Line : Type 0 where
   Add : (id : ℕ) (lits : List ℤ) (hints : List ℕ) → Line
   Delete : (id : ℕ) (ids : List ℕ) → Line
 
--- the ids that a line may have
+-- the range of ids
 abbrev pub IsId : ℕ → Type 0
 IsId id = (0 < id) × (id < 2 ^ 32)
 
@@ -23,7 +23,7 @@ pub record IsDeletion (id : ℕ) (ids : List ℕ) : Type 0 where
   pub own_id : IsId id
   pub deleted_ids : All IsId ids
 
--- a line that can be written
+-- a line that can be written: its ids and literals are in range
 abbrev pub IsLine : Line → Type 0
 IsLine (Add id lits hints) = IsAddition id lits hints
 IsLine (Delete id ids) = IsDeletion id ids

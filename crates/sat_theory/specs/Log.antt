@@ -1,4 +1,4 @@
--- Whole logs: what they refute, and what they leave open.
+-- Whole logs: when a log refutes a formula, and when it has reached a budget without a refutation.
 use Rattle.std.specs.Prelude.{◌≡◌, ℕ, ◌+◌, ◌*◌, ◌<◌, ◌≤◌, ◌⊎◌, ℤ, List, [], ◌∷◌, length, Contains, All, Any, count_by, is_some, Option, Some}
 use Rattle.sat_theory.specs.Formula.{Formula}
 use Rattle.sat_theory.specs.Line.{Line, Add, Delete, IsLine, IsAdding}
@@ -9,7 +9,7 @@ unfoldable pub after : State → List Line → State
 after s [] = s
 after s (l ∷ ls) = after (next s l) ls
 
--- P holds of each line and the state before it
+-- P holds for each line and the state before it
 unfoldable pub EachLine : (State → Line → Type 0) → State → List Line → Type 0
 EachLine P s [] = Unit {0}
 EachLine P s (l ∷ ls) = P s l × EachLine P (next s l) ls
@@ -18,7 +18,7 @@ pub record IsStep (s : State) (line : Line) : Type 0 where
   pub is_line : IsLine line
   pub holds : Holds s line
 
--- Each line is one that can be written, and holds in the state that the lines before it leave.
+-- Each line can be written, and holds in the state after the lines before it.
 abbrev pub LogHolds : Formula → List Line → Type 0
 LogHolds f lines = EachLine IsStep (start f) lines
 
@@ -30,20 +30,19 @@ AddsEmpty (Delete id ids) = ⊥
 abbrev pub HasEmpty : Formula → List Line → Type 0
 HasEmpty f lines = Contains f.clauses [] ⊎ Any AddsEmpty lines
 
--- A log refutes a formula where it holds and reaches the empty clause.
+-- A log refutes a formula if all its lines hold and it reaches the empty clause.
 -- Example: the lines 5: 2 by 1, 2 and 6: (empty) by 5, 3, 4 refute the clauses 1: 1, 2 and 2: -1, 2
 -- and 3: 1, -2 and 4: -1, -2.
 pub record Refutes (f : Formula) (lines : List Line) : Type 0 where
   pub holds : LogHolds f lines
   pub reaches : HasEmpty f lines
 
--- A clause is new where no live clause subsumes it (has all its literals among those of the
--- clause).
--- Example: with the one live clause 1, 2 the clause 1, 3 is new, and 1, 2, 3 is not.
+-- A clause is unsubsumed if no live clause subsumes it, that is, has all its literals in the clause.
+-- Example: if the only live clause is 1, 2, then 1, 3 is unsubsumed, and 1, 2, 3 is not.
 abbrev pub IsNew : (ℕ → Option (List ℤ)) → List ℤ → Type 0
 IsNew live lits = (id : ℕ) (clause : List ℤ) → live id ≡ Some clause → All (Contains lits) clause → ⊥
 
--- an addition is of a new clause
+-- if the line is an addition, its clause is unsubsumed
 abbrev pub IsFresh : State → Line → Type 0
 IsFresh s (Add id lits hints) = IsNew s.live lits
 IsFresh s (Delete id ids) = Unit {0}
@@ -62,25 +61,25 @@ additions lines = length (added_ids lines)
 abbrev pub live_additions : State → List Line → ℕ
 live_additions s lines = count_by (λ id. is_some (s.live id)) (added_ids lines)
 
--- A log has spent a budget on a formula where it holds, doesn't reach the empty clause, and has at
--- least `budget` additions, each of a new clause.
+-- A log reaches a budget on a formula if its lines hold, it doesn't reach the empty clause, and it has at least
+-- `budget` additions, each of an unsubsumed clause.
 pub record IsSpent (f : Formula) (lines : List Line) (budget : ℕ) : Type 0 where
   pub holds : LogHolds f lines
   pub open_yet : HasEmpty f lines → ⊥
   pub enough : budget ≤ additions lines
   pub fresh : EachLine IsFresh (start f) lines
 
--- At the end of the log at least half of its additions are live.
+-- At the end of the log, at least half of its additions are live.
 abbrev pub IsKept : Formula → List Line → Type 0
 IsKept f lines = additions lines ≤ 2 * live_additions (after (start f) lines) lines
 
--- no deletion names a clause of the formula (those have the ids 1 to the number of clauses)
+-- a deletion has no id of a clause of the formula (those are 1 to the number of clauses)
 abbrev pub SparesFormula : Formula → Line → Type 0
 SparesFormula f (Add id lits hints) = Unit {0}
 SparesFormula f (Delete id ids) = All (λ k. length f.clauses < k) ids
 
--- A log is thinned where it deletes additions alone, and at its end at most about three quarters of
--- its additions are live.
+-- A log deletes a quarter if it deletes nothing but its own additions, and at its end at most about three quarters
+-- of them are live: 3/4 of the additions, and vars + 2000 more.
 pub record IsThinned (f : Formula) (lines : List Line) : Type 0 where
   pub spares : All (SparesFormula f) lines
   pub few : 4 * live_additions (after (start f) lines) lines ≤ 3 * additions lines + 4 * f.vars + 8000

@@ -1,4 +1,4 @@
--- One more line at the end of a log.
+-- A log with one more line at its end.
 use Rattle.std.specs.Prelude.{◌≡◌, ℕ, ℤ, List, [], ◌∷◌, ◌++◌, refl}
 use Rattle.std.proofs.Common.{ap}
 use Rattle.sat_theory.specs.Line.{Line, Add, Delete}
@@ -11,7 +11,7 @@ unfolding after
 after-push s [] l = refl
 after-push s (m ∷ ls) l = after-push (next s m) ls l
 
--- what holds of each line before, and of the last one, holds of each
+-- what holds for each line before, and for the last one, holds for each
 pub EachLine-push : (P : State → Line → Type 0) (s : State) (ls : List Line) (l : Line) → EachLine P s ls → P (after s ls) l → EachLine P s (ls ++ l ∷ [])
 unfolding after EachLine
 EachLine-push P s [] l each last = (last, tt)

@@ -1,4 +1,4 @@
--- Different numbers below n are at most n.
+-- The pigeonhole principle: there are at most n different numbers below n.
 use Rattle.std.specs.Prelude.{◌≡◌, ◌≢◌, ℕ, suc, ◌+◌, ◌<◌, ◌≤◌, ◌==◌, true, List, [], ◌∷◌, length, slice_index_or, slice_set, replicate, All, AllPairs, count_by, cond}
 use Rattle.std.proofs.Common.{sym, ◌∙◌, arith, refl}
 use Rattle.std.proofs.lemmas.Bool.{eq-eqb}
@@ -16,7 +16,7 @@ zeros_less table i room was =
     let one : cond {A = ℕ} (slice_index_or table i 0 == 0) 1 0 ≡ 1 = rw before refl in
     omega arith
 
--- different numbers whose entries are 0 are at most as many as the table has zeros
+-- there are at most as many different indices of zeros as the table has zeros
 at_most_zeros : (xs table : List ℕ) → All (λ x. (x < length table) × (slice_index_or table x 0 ≡ 0)) xs → AllPairs (λ a b. a ≢ b) xs → length xs ≤ zeros table
 at_most_zeros [] table free differ = omega arith
 at_most_zeros (x ∷ xs) table free differ =
@@ -29,7 +29,7 @@ at_most_zeros (x ∷ xs) table free differ =
     (λ i j d order within. differ (suc i) (suc j) d (omega arith) (omega arith)) in
     omega arith
 
--- So there are at most n different numbers below n.
+-- There are at most n different numbers below n.
 pub different_below : (n : ℕ) (xs : List ℕ) → All (λ x. x < n) xs → AllPairs (λ a b. a ≢ b) xs → length xs ≤ n
 different_below n xs below differ =
     let long : length (replicate {A = ℕ} n 0) ≡ n = length-replicate n 0 in

@@ -1,4 +1,4 @@
--- How `plain` holds its data.
+-- The data of `plain`, as contracts see them.
 use Rattle.std.specs.Prelude.{ℕ, ◌==◌, if◌then◌else◌, ℤ, List, [], ◌∷◌, not, filter, Option, Some, None}
 use Rattle.sat_theory.specs.State.{State, is_listed}
 
@@ -7,7 +7,7 @@ pub record Numbered : Type 0 where
   pub id : ℕ
   pub lits : List ℤ
 
--- the first clause with an id
+-- the first clause with this id
 unfoldable pub live_in : List Numbered → ℕ → Option (List ℤ)
 live_in [] id = None
 live_in (c ∷ cs) id = if id == c.id then Some c.lits else live_in cs id

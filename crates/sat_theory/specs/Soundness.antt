@@ -1,4 +1,4 @@
--- A log that refutes a formula leaves no assignment that satisfies it.
+-- Soundness: if a log refutes a formula, no assignment satisfies the formula.
 use Rattle.std.specs.Prelude.{◌≡◌, ℕ, zero, suc, ◌-◌, ◌<◌, ◌⊎◌, ◌==◌, ℤ, pos, negsuc, Bool, true, false, if◌then◌else◌, List, [], ◌∷◌, length, Contains, Any, slice_get, Option, Some, None, refl}
 use Rattle.std.specs.List.{list_any}
 use Rattle.std.specs.Ordering.{int_eq}
@@ -24,27 +24,27 @@ opposite_value v (negsuc n) one is = not-true (v (suc n)) is
 abbrev IsFalseSet : Assignment → (ℤ → Bool) → Type 0
 IsFalseSet v set = (l : ℤ) → set l ≡ true → literal_value v l ≡ false
 
--- a member of the set with one literal more is that literal, or is in the set
+-- a member of the set with one more literal is that literal, or is in the set
 with_literal_cases : (set : ℤ → Bool) (l m : ℤ) → with_literal set l m ≡ true → (m ≡ l) ⊎ (set m ≡ true)
 with_literal_cases set l m is =
     ⊎_elim (λ (same : int_eq m l ≡ true). inl ((signed_Decides m l).0 same)) (λ (member : set m ≡ true). inr member) (or_cases (int_eq m l) (set m) is)
 
--- a bit isn't both
+-- a bit isn't both true and false
 not_both : {A : Type 0} (b : Bool) → b ≡ true → b ≡ false → A
 not_both b is_true is_false = cc
 
--- where all but one literal of a true clause are false, that one is true
+-- if all literals of a true clause but one are false, that one is true
 unit_value : (v : Assignment) (set : ℤ → Bool) (clause : List ℤ) (l : ℤ) → IsFalseSet v set → IsTrueClause v clause → IsUnitOutside set clause l → literal_value v l ≡ true
 unfolding IsTrueClause
 unit_value v set clause l false_set (k, m, within, at, value) unit =
     let P : ℤ → Type 0 = λ x. (x ≡ l) ⊎ (set x ≡ true) in
     ⊎_elim (λ (same : m ≡ l). subst (λ (x : ℤ). literal_value v x ≡ true) same value) (λ (member : set m ≡ true). not_both (literal_value v m) value (false_set m member)) (All-contains P clause m unit.others (k, within, at))
 
--- live clauses are clauses, and are true
+-- all live clauses are clauses, and are true
 abbrev Models : Assignment → (ℕ → Option (List ℤ)) → Type 0
 Models v live = (id : ℕ) (clause : List ℤ) → live id ≡ Some clause → IsClause clause × IsTrueClause v clause
 
--- Where hints hold from a set, not all literals of the set are false.
+-- If hints hold from a set, not all literals of the set are false.
 hints_contradict : (v : Assignment) (live : ℕ → Option (List ℤ)) (hints : List ℕ) (set : ℤ → Bool) → Models v live → HintsHold live set hints → IsFalseSet v set → ⊥
 unfolding HintsHold IsTrueClause
 hints_contradict v live [] set models hold false_set = hold
@@ -72,23 +72,23 @@ pub among-from_Contains : (lits : List ℤ) (l : ℤ) → Contains lits l → am
 among-from_Contains lits l (k, within, at) =
     list_any-from_Any (λ (m : ℤ). int_eq l m) lits (k, l, within, at, (signed_Decides l l).1 refl)
 
--- where a clause has no true literal, its literals are a set of false ones
+-- if a clause has no true literal, all its literals are false
 false_clause : (v : Assignment) (lits : List ℤ) → list_any (literal_value v) lits ≡ false → IsFalseSet v (among lits)
 false_clause v lits none l member =
     ⊎_elim (λ (value : literal_value v l ≡ true). let there : Contains lits l = Contains-from_among lits l member in not_both (list_any (literal_value v) lits) (list_any-from_Any (literal_value v) lits (there.0, l, there.1, there.2, value)) none) (λ (value : literal_value v l ≡ false). value) (cases_Bool (literal_value v l))
 
--- RUP is sound: an addition that holds is true wherever all live clauses are.
+-- RUP is sound: an addition that holds is true under every assignment under which all live clauses are.
 addition_true : (v : Assignment) (s : State) (id : ℕ) (lits : List ℤ) (hints : List ℕ) → Models v s.live → AdditionHolds s id lits hints → IsTrueClause v lits
 unfolding IsTrueClause
 addition_true v s id lits hints models holds =
     ⊎_elim (λ (some : list_any (literal_value v) lits ≡ true). Any-from_list_any (literal_value v) lits some) (λ (none : list_any (literal_value v) lits ≡ false). absurd (hints_contradict v s.live hints (among lits) models holds.hints_hold (false_clause v lits none))) (cases_Bool (list_any (literal_value v) lits))
 
--- a clause under one of two ids
+-- the clause of one of two ids
 chosen : {A : Type 0} (b : Bool) (x y z : A) → (if b then x else y) ≡ z → (x ≡ z) ⊎ (y ≡ z)
 chosen true x y z is = inl is
 chosen false x y z is = inr is
 
--- So the clauses stay true under a line that holds.
+-- The live clauses stay true after a line that holds.
 models_next : (v : Assignment) (s : State) (line : Line) → IsStep s line → Models v s.live → Models v (next s line).live
 models_next v s (Add id lits hints) step models k clause is =
     ⊎_elim
@@ -105,7 +105,7 @@ empty_is_false : (v : Assignment) → IsTrueClause v [] → ⊥
 unfolding IsTrueClause
 empty_is_false v found = let within : found.0 < 0 = found.2 in omega arith
 
--- one of a list is the first, or one of the others
+-- an element of a list is the first, or one of the others
 Any-cons : {X : Type 0} (P : X → Type 0) (x : X) (xs : List X) → Any P (x ∷ xs) → P x ⊎ Any P xs
 Any-cons P x xs (zero, y, within, at, holds) = inl (subst P (sym at) holds)
 Any-cons P x xs (suc k, y, within, at, holds) = inr (k, y, (let h : suc k < suc (length xs) = within in omega arith), at, holds)
@@ -124,7 +124,7 @@ no_empty v s (Delete id ids ∷ ls) each models some =
     (λ (later : Any AddsEmpty ls). no_empty v (next s (Delete id ids)) ls each.1 (models_next v s (Delete id ids) each.0 models) later)
     (Any-cons AddsEmpty (Delete id ids) ls some)
 
--- by_id finds clauses of the formula alone
+-- by_id finds only clauses of the formula
 pub by_id-Contains : (clauses : List (List ℤ)) (id : ℕ) (clause : List ℤ) → by_id clauses id ≡ Some clause → Contains clauses clause
 by_id-Contains clauses id clause is =
     ⊎_elim
@@ -132,7 +132,7 @@ by_id-Contains clauses id clause is =
     (λ (at : slice_get clauses (id - 1) ≡ Some clause). (id - 1, slice_get_within clauses (id - 1) clause at, get_or_from_slice_get clauses (id - 1) clause clause at))
     (chosen (id == 0) None (slice_get clauses (id - 1)) (Some clause) is)
 
--- The law of soundness.
+-- Soundness of whole logs.
 pub no_assignment : (f : Formula) (lines : List Line) (v : Assignment) → IsFormula f → Refutes f lines → Satisfies v f → ⊥
 no_assignment f lines v is_formula refutes satisfies =
     ⊎_elim

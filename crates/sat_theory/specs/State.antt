@@ -1,4 +1,4 @@
--- The state of a log: what is live after some of its lines.
+-- The state of a log after some of its lines.
 use Rattle.std.specs.Prelude.{ℕ, ◌-◌, ◌==◌, Bool, if◌then◌else◌, ℤ, List, length, slice_get, Option, Some, None}
 use Rattle.std.specs.List.{list_any}
 use Rattle.sat_theory.specs.Formula.{Formula}
@@ -10,7 +10,7 @@ pub record State : Type 0 where
   pub vars : ℕ
   pub greatest : ℕ
 
--- the clauses of a list under the ids 1, 2 and so on
+-- the clauses of a list, with the ids 1, 2 and so on
 abbrev pub by_id : List (List ℤ) → ℕ → Option (List ℤ)
 by_id clauses id = if id == 0 then None else slice_get clauses (id - 1)
 

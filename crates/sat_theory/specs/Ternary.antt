@@ -1,4 +1,4 @@
--- Clauses as numbers in base 3, of which different clauses have different ones.
+-- Clauses as numbers in base 3. Different clauses have different numbers.
 use Rattle.std.specs.Prelude.{◌≡◌, ◌≢◌, ℕ, zero, suc, ◌+◌, ◌*◌, ◌^◌, ◌<◌, ◌≤◌, ◌⊎◌, if◌then◌else◌, ℤ, pos, negsuc, Bool, true, false, List, [], length, slice_index_or, Contains, All}
 use Rattle.std.proofs.Common.{sym, ap, ◌∙◌, arith, refl}
 use Rattle.std.proofs.Math.Logic.{⊎_elim}
@@ -10,8 +10,7 @@ use Rattle.sat_theory.specs.Formula.{variable, IsClause, IsWithin}
 use Rattle.sat_theory.specs.Holding.{among}
 use Rattle.sat_theory.specs.Soundness.{Contains-from_among, among-from_Contains}
 
--- the digit of variable suc n: 1 where its positive literal is in the set, 2 where its negative one
--- is, else 0
+-- the digit of variable suc n: 1 if its positive literal is in the set, 2 if its negative literal is, else 0
 abbrev value : Bool → Bool → ℕ
 value a b = if a then 1 else (if b then 2 else 0)
 
@@ -117,7 +116,7 @@ unfolding code
 code_none zero = refl
 code_none (suc n) = let ih : code (among []) n ≡ 0 = code_none n in rw ih refl
 
--- the empty clause alone has the number 0
+-- only the empty clause has the number 0
 pub some_code : (lits : List ℤ) (n : ℕ) → IsClause lits → IsWithin n lits → 0 < length lits → code (among lits) n ≡ 0 → ⊥
 some_code lits n clause within some e =
     let none : All (Contains []) lits = inside lits [] n clause within (e ∙ sym (code_none n)) in

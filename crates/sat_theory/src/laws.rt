@@ -1,22 +1,22 @@
-//! What follows from the definitions. Each law is the contract of a function that does nothing.
+//! Consequences of the definitions. Each law is the contract of a function with an empty body.
 ghost use Rattle.std.specs.Prelude.{ℕ, ◌*◌, ◌^◌, ◌<◌, List};
 ghost use Rattle.sat_theory.specs.Formula.{Formula, IsFormula, Assignment, Satisfies};
 ghost use Rattle.sat_theory.specs.Line.{Line};
 ghost use Rattle.sat_theory.specs.Log.{Refutes, IsSpent, IsKept, DeletesNothing};
 
-/// A log that refutes a formula leaves no assignment that satisfies it, whoever wrote the log.
+/// Soundness: if a log refutes a formula, no assignment satisfies the formula.
 pub fn refuted_is_unsatisfiable()
     ensures { (f : Formula) (lines : List Line) (v : Assignment) → IsFormula f → Refutes f lines → Satisfies v f → ⊥ }
 {}
 
-/// A log of new clauses that leaves a formula of v variables open, and keeps half of its additions,
-/// has spent a `budget` below 2 * 3^v: the live additions are different clauses, of which there are
-/// 3^v, the empty one included.
+/// If a log reaches a `budget` of unsubsumed additions on a formula of v variables and keeps half of its additions
+/// live, the budget is below 2 * 3^v: the live additions are different clauses, and there are 3^v clauses over v
+/// variables, the empty one included.
 pub fn kept_logs_are_short()
     ensures { (f : Formula) (lines : List Line) (budget : ℕ) → IsSpent f lines budget → IsKept f lines → budget < 2 * 3 ^ f.vars }
 {}
 
-/// A log that deletes nothing has spent a `budget` below 3^v.
+/// If a log reaches a `budget` and deletes nothing, the budget is below 3^v.
 pub fn logs_without_deletions_are_short()
     ensures { (f : Formula) (lines : List Line) (budget : ℕ) → IsSpent f lines budget → DeletesNothing lines → budget < 3 ^ f.vars }
 {}

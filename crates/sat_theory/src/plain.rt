@@ -1,5 +1,5 @@
-//! The definitions, computed literally: every clause is searched for from the first on, and a set
-//! of literals is a list. For reading, and for testing faster checkers against it.
+//! The definitions, computed literally: clauses are looked up by linear search, and a set of literals is a list.
+//! It is there to be read, and to test faster checkers against.
 ghost use Rattle.std.specs.Prelude.{◌≡◌, ℕ, ◌-◌, ◌^◌, ◌<◌, ◌↔◌, [], ℤ, IsTrue, IfOk, OnOk, OnErr, IfSome, IfNone, Some, None, All, List};
 ghost use Rattle.std.specs.Option.{option_map};
 ghost use Rattle.sat_theory.specs.Formula.{bits_of, variable, IsWithin, IsTrueClause, literal_value as literal_value_of, opposite as opposite_of};
@@ -11,7 +11,7 @@ ghost use Rattle.sat_theory.specs.Holding.{among, IsUnitOutside, HintsHold, Addi
 use std::alloc::{AllocError, Global};
 use std::marker::Model;
 
-/// A clause with its id, its literals as in DIMACS.
+/// A clause with its id. Literals are numbers as in DIMACS.
 #[derive(Drop)]
 pub struct PlainClause {
     id: u32,
@@ -31,7 +31,7 @@ impl Model for PlainClause {
 }
 
 impl PlainClause {
-    /// A clause under an id; its literals are above the least number of 32 bits.
+    /// A clause with an id. No literal is -2^31, whose opposite isn't a number of 32 bits.
     pub fn new(id: u32, lits: Vec<i32>) -> PlainClause
         requires { IsWithin (2 ^ 31 - 1) lits.items }
         ensures { result ≡ record { id = id; lits = lits.items } }
@@ -55,7 +55,7 @@ impl PlainClause {
     }
 }
 
-/// The bit of a literal, where bit v - 1 is that of variable v.
+/// The value of a literal, where bit v - 1 is the value of variable v.
 pub fn literal_value(bits: &[bool], lit: i32) -> bool
     ensures { result ≡ literal_value_of (bits_of bits.now) lit }
 {
@@ -84,7 +84,7 @@ pub fn satisfies(bits: &[bool], clauses: &[PlainClause]) -> bool
     clauses.iter().all(|clause| is_true(bits, clause.lits()))
 }
 
-/// The literals of the first clause with an id.
+/// The literals of the first clause with this id.
 #[tactic(auto, unfolding(crate::specs::Plain::live_in))]
 fn find(clauses: &[PlainClause], id: u32) -> Option<&PlainClause>
     ensures lits { option_map (λ c. c.now.lits) result ≡ live_in clauses.now id }
@@ -114,7 +114,7 @@ fn opposite(lit: i32) -> i32
     -lit
 }
 
-/// The one literal of a clause that isn't in `set`, if there is exactly one.
+/// The only literal of a clause that isn't in `set`, if there is exactly one.
 fn unit_outside(set: &[i32], lits: &[i32]) -> Option<i32>
     ensures found { IfSome result (IsUnitOutside (among set.now) lits.now) }
     ensures none { IfNone result ((l : ℤ) → IsUnitOutside (among set.now) lits.now l → ⊥) }
@@ -135,8 +135,8 @@ fn unit_outside(set: &[i32], lits: &[i32]) -> Option<i32>
     found
 }
 
-/// Whether `hints` hold from `set`: each hint but the last is unit and its literal's opposite joins
-/// the set, the last one is a conflict.
+/// Whether `hints` hold from `set`, the set of falsified literals: the clause of each hint but the last is unit,
+/// and the opposite of its literal joins the set; the clause of the last hint is a conflict.
 #[tactic(auto, unfolding(crate::specs::Holding::HintsHold))]
 fn hints_hold(
     clauses: &[PlainClause],
@@ -176,7 +176,7 @@ fn take_out(clauses: &mut Vec<PlainClause>, ids: &[u32])
     clauses.retain(|clause| !is_listed(ids, clause.id()));
 }
 
-/// A state of a log: its live clauses, the newest first.
+/// The state of a log after some lines: its live clauses, the newest first.
 #[derive(Drop)]
 pub struct PlainState {
     clauses: Vec<PlainClause>,
@@ -205,7 +205,7 @@ impl PlainState {
         }
     }
 
-    /// Adds a clause, of the formula or of a line. Whether it holds isn't judged.
+    /// Adds a clause of the formula or of a line, without checking that it holds.
     pub fn add(&mut self, id: u32, lits: Vec<i32>) -> Result<(), AllocError>
         requires { IsWithin (2 ^ 31 - 1) lits.items }
         ensures ok { OnOk result ((hints : List ℕ) → state_of self.new ≡ next (state_of self.old) (Add id lits.items hints)) }
@@ -216,14 +216,14 @@ impl PlainState {
         Ok(())
     }
 
-    /// Removes the clauses of `ids`; an id that isn't live is passed over.
+    /// Removes the clauses with these ids; an id that isn't live is ignored.
     pub fn remove(&mut self, ids: &[u32])
         ensures { (id : ℕ) → state_of self.new ≡ next (state_of self.old) (Delete id ids.now) }
     {
         take_out(&mut self.clauses, ids);
     }
 
-    /// Whether an addition holds. The state stays as it is.
+    /// Whether an addition holds. The state doesn't change.
     pub fn addition_holds(
         &self,
         alloc: Global,
@@ -240,7 +240,7 @@ impl PlainState {
         hints_hold(&self.clauses, &mut set, hints)
     }
 
-    /// Whether a deletion holds. The state stays as it is.
+    /// Whether a deletion holds. The state doesn't change.
     pub fn deletion_holds(&self, ids: &[u32]) -> bool
         ensures { IsTrue result ↔ DeletionHolds (live_in self.now.clauses) ids.now }
     {

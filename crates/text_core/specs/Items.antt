@@ -7,7 +7,7 @@ pub record Split : Type 0 where
   pub first : List ℕ
   pub more : List (List ℕ)
 
--- the items of front ++ text, where front has no blank (byte 32)
+-- the items of an unfinished item, which has no blank (byte 32), followed by a text
 unfoldable pub split_from : List ℕ → List ℕ → Split
 split_from front [] = record { first = front; more = [] }
 split_from front (b ∷ bs) = if b == 32 then record { first = front; more = (split_from [] bs).first ∷ (split_from [] bs).more } else split_from (front ++ b ∷ []) bs
@@ -17,13 +17,12 @@ split_from front (b ∷ bs) = if b == 32 then record { first = front; more = (sp
 abbrev pub items_of : List ℕ → List (List ℕ)
 items_of text = (split_from [] text).first ∷ (split_from [] text).more
 
--- the items of what is left after an item, none where the text ended with it
+-- the items of the text after an item; there are none if the text ended with that item
 abbrev pub items_left : Option (Bor (List ℕ)) → List (List ℕ)
 items_left None = []
 items_left (Some text) = items_of text.now
 
--- the termination measure of reading items: 0 where the text ended, and each item takes at least
--- one byte
+-- the termination measure of reading items: 0 at the end of the text; each item takes at least one byte
 abbrev pub size_left : Option (Bor (List ℕ)) → ℕ
 size_left None = 0
 size_left (Some text) = length text.now + 1

@@ -6,12 +6,12 @@ pub record Line : Type 0 where
   pub text : List ℕ
   pub ended : Bool
 
--- what follows the last LF: a line that no LF ends, unless it is empty
+-- the line after the last LF, which no LF ends; there is none if nothing follows the LF
 abbrev pub last_line : List ℕ → List Line
 last_line [] = []
 last_line (b ∷ bs) = record { text = b ∷ bs; ended = false } ∷ []
 
--- the lines of front ++ bytes, where front has no LF
+-- the lines of an unfinished line, which has no LF, followed by bytes
 unfoldable pub lines_from : List ℕ → List ℕ → List Line
 lines_from front [] = last_line front
 lines_from front (b ∷ bs) = if b == 10 then record { text = front; ended = true } ∷ lines_from [] bs else lines_from (front ++ b ∷ []) bs

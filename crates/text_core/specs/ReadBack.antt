@@ -1,4 +1,4 @@
--- Round trips: what is spelled is read again, whatever follows; and what is read was spelled so.
+-- Round trips: what was written is read again, whatever follows it; and what is read was written that way.
 use Rattle.std.specs.Prelude.{◌≡◌, ℕ, ◌+◌, ◌*◌, ◌/◌, ◌%◌, ◌^◌, ◌<◌, ◌≤◌, true, false, List, [], ◌∷◌, ◌++◌, length, Some, decimal, refl}
 use Rattle.std.specs.List.{flat_map, join_with_byte}
 use Rattle.std.proofs.Common.{◌-◌, ◌≢◌, ap, ◌∙◌, sym, subst, arith, get_or, ◌⊎◌, inl, inr}
@@ -42,7 +42,7 @@ unfolding lines_from
 lines_from_spell front [] = grind (arith, common_steps, last_spells front)
 lines_from_spell front (b ∷ bytes) = grind (arith, common_steps, lines_from_spell [] bytes, lines_from_spell (front ++ b ∷ []) bytes)
 
--- the lines, one after the other, are the text
+-- the concatenation of the lines is the text
 pub lines_spell : (bytes : List ℕ) → flat_map line_bytes (lines_of bytes) ≡ bytes
 lines_spell bytes = lines_from_spell [] bytes
 
@@ -77,13 +77,13 @@ last_item_back item free = grind (arith, common_steps, last_item_from_back [] it
 
 -- ---- words
 
--- what follows a word is what was written after it
+-- `after` returns the text written after the word
 pub word_back : (word rest : List ℕ) → after word (word ++ rest) ≡ Some rest
 unfolding after
 word_back [] rest = refl
 word_back (w ∷ word) rest = grind (arith, common_steps, word_back word rest)
 
--- where `after` finds a word, it was written there
+-- if `after` finds a word, the text begins with it
 pub word_spells : (word text rest : List ℕ) → after word text ≡ Some rest → text ≡ word ++ rest
 unfolding after
 word_spells [] text rest e = cc
@@ -98,7 +98,7 @@ unfolding number_from
 number_push limit v m d [] e low fits = grind (arith, common_steps)
 number_push limit v m d (b ∷ ds) e low fits = grind (arith, common_steps, number_push limit (v * 10 + (b - 48)) m d ds)
 
--- a number that is written, digit by digit
+-- a number that was written is read, digit by digit
 number_from_back : (limit n : ℕ) → n < 2 ^ 64 → n ≤ limit → number_from limit 0 (decimal n) ≡ Some n
 unfolding number_from
 number_from_back limit n narrow =
@@ -119,7 +119,7 @@ unfolding number_from
 number_back_by limit n narrow fits (inl e) = rw (← e, decimal_digit 0 (omega arith)) (grind (arith, common_steps))
 number_back_by limit n narrow fits (inr more) = no_needless limit (decimal n) (first_decimal n more narrow) ∙ number_from_back limit n narrow fits
 
--- a number that is written in decimal digits is read
+-- a number that was written in decimal digits is read
 pub number_back : (limit n : ℕ) → n < 2 ^ 64 → n ≤ limit → number_up_to limit (decimal n) ≡ Some n
 number_back limit n narrow fits = number_back_by limit n narrow fits (elim (cases_lt 0 n) [ inl lt ↦ inr lt | inr le ↦ inl (omega arith) ])
 
@@ -133,7 +133,7 @@ digits_fold = record { empty = λ n. refl; more = λ n c cs d. refl }
 digits_are : IsNumeralModel (λ ds. all_ascii_digits ds ≡ true) (read_on 0)
 digits_are = numerals_by_fold _ tells_all_ascii_digits read_on digits_fold
 
--- what number_from found: the digits' value, within the limit
+-- the result of number_from: the value of the digits, within the limit
 record Found (limit v n : ℕ) (ds : List ℕ) : Type 0 where
   digits : all_ascii_digits ds ≡ true
   value : read_on v ds ≡ n
@@ -166,7 +166,7 @@ number_spells limit n (b ∷ c ∷ text) narrow e =
 
 -- ---- bytes that aren't in a text
 
--- nor in two texts joined
+-- a byte that is in neither of two texts isn't in their concatenation
 pub free_both : (byte : ℕ) (xs ys : List ℕ) → is_free byte xs ≡ true → is_free byte ys ≡ true → is_free byte (xs ++ ys) ≡ true
 unfolding is_free
 free_both byte [] ys one two = two

@@ -1,19 +1,19 @@
--- What is left of a text after what was read of it.
+-- The rest of a text, after what was read of it.
 use Rattle.std.specs.Prelude.{◌≡◌, ℕ, ◌+◌, ◌-◌, ◌≤◌, List, length, refl}
 use Rattle.std.proofs.Common.{drop, ap, ◌∙◌, arith}
 use Rattle.std.proofs.lemmas.List.{drop-drop}
 use Rattle.std.proofs.lemmas.Grind.{common_steps}
 
--- rest is the suffix of bytes whose length it has
+-- `rest` is a suffix of `bytes`
 pub record IsRest (bytes rest : List ℕ) : Type 0 where
   pub shorter : length rest ≤ length bytes
   pub place : rest ≡ drop (length bytes - length rest) bytes
 
--- the whole is a rest of itself
+-- a text is a suffix of itself
 pub whole_rest : (bytes : List ℕ) → IsRest bytes bytes
 whole_rest bytes = record { shorter = omega arith; place = grind (arith, common_steps) }
 
--- a rest of a rest is a rest
+-- a suffix of a suffix is a suffix
 pub rest_of_rest : (a b c : List ℕ) → IsRest a b → IsRest b c → IsRest a c
 rest_of_rest a b c ab bc =
     let sum : (length a - length b) + (length b - length c) ≡ length a - length c = omega (arith, ab.shorter, bc.shorter) in

@@ -2,7 +2,7 @@
 use Rattle.std.specs.Prelude.{ℕ, Bool, true, false, List, [], ◌∷◌, Option, Some, None, ◌==◌, if◌then◌else◌}
 use Rattle.std.specs.Char.{is_ascii_lowercase}
 
--- what follows a word, None where the text doesn't begin with it
+-- the text after a word, None if the text doesn't begin with that word
 unfoldable pub after : List ℕ → List ℕ → Option (List ℕ)
 after [] text = Some text
 after (w ∷ ws) [] = None

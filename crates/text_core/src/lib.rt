@@ -1,12 +1,11 @@
-//! Lines, items, words and numbers of texts: what the readers of tables, chains, logs and
-//! certificates are built from.
+//! Lines, items, words and numbers of texts: the building blocks of the readers of tables, chains, logs and
+//! certificates.
 //!
-//! A text is a list of lines, a line a list of items parted by single blanks, and a number its
-//! decimal digits. Each of these is a definition on lists (`lines_of`, `items_of`, `after`,
-//! `number_up_to`), and the reader of the same name walks the bytes in place, takes no memory and is
-//! proved to answer what the definition says. The laws in `laws` say that the definitions are the
-//! right ones: lines and items put together give the text back, and a number is read exactly where
-//! its decimal digits are written.
+//! A text is a list of lines, a line is a list of items separated by single blanks, and a number is its
+//! decimal digits. Each of these is a definition on lists (`lines_of`, `items_of`, `after`, `number_up_to`).
+//! The reader of the same name walks the bytes in place, allocates nothing, and is proved to return what the
+//! definition says. The laws in `laws` show that the definitions are the right ones: joining the lines or the
+//! items gives the text back, and a number is read if and only if the text is its decimal digits.
 //!
 //! ```text
 //! let (text, ended, rest) = next_line(b"inputs 3\n01").unwrap(); // b"inputs 3", true, b"01"

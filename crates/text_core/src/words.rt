@@ -3,7 +3,7 @@ ghost use Rattle.std.specs.Prelude.{◌≡◌};
 ghost use Rattle.std.specs.Option.{option_copied};
 ghost use Rattle.text_core.specs.Words as spec;
 
-/// What follows `word` where the text begins with it; else None.
+/// The text after `word` if the text begins with `word`; else None.
 #[tactic(auto, unfolding(crate::specs::Words::after))]
 pub fn after<'a>(word: &[u8], text: &'a [u8]) -> Option<&'a [u8]>
     ensures { option_copied result ≡ spec.after word.now text.now }

@@ -2,7 +2,7 @@ use Rattle.command_line.specs.declared.command.Command.TheVariants.{Agree, Reche
 use Rattle.chain_app.proofs.Obeying.{obeyed}
 use Rattle.chain_app.proofs.running.obey.Goals as goal
 
--- each command is performed as what it is
+-- each command is run as its task
 pub returns-in-Agree : goal.returns-in-Agree
 returns-in-Agree g c = obeyed c.args.command Agree _ c.in-Agree.is c.perform.ensures.run
 

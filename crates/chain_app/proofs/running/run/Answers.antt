@@ -7,7 +7,7 @@ use Rattle.chain_app.specs.Ending.{Idle, Ran}
 use Rattle.chain_app.proofs.Ends.{asked, not_asked, kept}
 use Rattle.chain_app.proofs.running.run.Goals as goal
 
--- words that ask for nothing
+-- words that ask for no command
 pub returns-in_default : goal.returns-in_default
 unfolding usage
 returns-in_default g c =

@@ -1,4 +1,4 @@
--- A reader gives what the bytes come to, and a fault that was kept is theirs.
+-- The reader returns the result of the bytes, and a fault that was kept is theirs.
 use Rattle.cmd_recheck.proofs.Keeping.{refused_at_last}
 use Rattle.cmd_recheck.proofs.job.tell.Goals as goal
 

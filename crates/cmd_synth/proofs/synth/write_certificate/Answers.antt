@@ -1,4 +1,4 @@
--- The output failed in the heading.
+-- The output failed in the header.
 use Rattle.std.proofs.Common.{List, ℕ, subst}
 use Rattle.port_io.specs.Bytes.{AppendsFront}
 use Rattle.frame_core.specs.Outside.{Side, side}

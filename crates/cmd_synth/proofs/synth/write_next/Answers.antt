@@ -1,4 +1,4 @@
--- One piece more of a certificate that goes out.
+-- One more piece of a certificate is written.
 use Rattle.std.proofs.Common.{List, ℕ, subst}
 use Rattle.port_io.specs.Bytes.{Appends, AppendsFront}
 use Rattle.frame_core.specs.Outside.{Side, side}

@@ -1,4 +1,4 @@
--- One section more, and what it comes to.
+-- One more section, and its result.
 use Rattle.cmd_synth.proofs.synth.write_sections.Goals as goal
 
 pub loop-next-preserved : goal.loop-next-preserved

@@ -1,4 +1,4 @@
--- What stands on the output is what was written of the search's certificate.
+-- What was written to the output is the part of the certificate that the search has found.
 use Rattle.std.proofs.Common.{ℕ, List, ◌+◌, ◌-◌, ◌≤◌, length}
 use Rattle.settings.specs.declared.synth.SynthSettings.{SynthSettings}
 use Rattle.frame_core.specs.Outside.{Side, side}

@@ -3,7 +3,7 @@ use Rattle.frame_core.specs.Views.{texts_of}
 use Rattle.frame_core.specs.PiecesLaws.{IsWriting}
 use Rattle.frame_core.proofs.reporting.write_parts.Given as goal
 
--- What has gone out in this call is the front of the texts.
+-- What this call has written is a prefix of the texts.
 abbrev pub invariant-loop-part : goal.invariant-loop-part
 invariant-loop-part g l = record {
   writing : IsWriting (g.N.Sink.written l.initial.note) (g.N.Sink.written l.note) (texts_of l.parts) (texts_of l.left);

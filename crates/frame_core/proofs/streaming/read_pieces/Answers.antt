@@ -1,4 +1,4 @@
--- With each turn a piece more was taken, and with the last none is left.
+-- Each iteration consumes one more piece, and after the last nothing is left.
 use Rattle.std.proofs.Common.{◌≡◌, ℕ, ◌≤◌, List, [], ◌∷◌, Result, Ok, Err, IsErrAnd, IsErrOf, refl, length, rules, subst, sym, arith, ap, ◌∙◌}
 use Rattle.port_io.specs.Bytes.{Consumes}
 use Rattle.port_io.specs.declared.reading.ReadError.TheVariants.{TooLong}
@@ -13,7 +13,7 @@ some : (xs : List ℕ) → (length xs ≡ 0 → ⊥) → 1 ≤ length xs
 some [] full = absurd (full refl)
 some (x ∷ xs) full = omega arith
 
--- the error that is handed on
+-- the error that is passed on
 error_is : {A E : Type 0} (r : Result A E) (e f : E) → IsErrAnd r (λ d. d ≡ e) → IsErrOf r f → e ≡ f
 error_is (Ok x) e f is of = absurd is
 error_is (Err d) e f is of = let same : d ≡ f = cc in sym is ∙ same

@@ -2,7 +2,7 @@ use Rattle.std.proofs.Common.{◌≡◌, ◌+◌, ◌≤◌}
 use Rattle.frame_core.proofs.Streams.{IsTaking}
 use Rattle.frame_core.proofs.streaming.read_pieces.Given as goal
 
--- What was taken in this call is what has been kept, and each turn took a byte at least.
+-- What this call consumed is what it has kept, and every iteration consumed at least one byte.
 abbrev pub invariant-loop-turn : goal.invariant-loop-turn
 invariant-loop-turn g l =
     record {

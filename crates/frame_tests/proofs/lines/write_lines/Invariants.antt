@@ -4,7 +4,7 @@ use Rattle.frame_core.specs.PiecesLaws.{IsWriting}
 use Rattle.frame_tests.specs.Small.{line_of}
 use Rattle.frame_tests.proofs.lines.write_lines.Given as goal
 
--- What has gone out in this call is the front of the lines.
+-- What this call has written is a prefix of the lines.
 abbrev pub invariant-loop-byte : goal.invariant-loop-byte
 invariant-loop-byte g l = record {
   writing : IsWriting (g.O.Sink.written l.initial.out) (g.O.Sink.written l.out) (map line_of l.bytes) (map line_of l.left);

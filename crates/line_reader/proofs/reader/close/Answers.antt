@@ -1,4 +1,4 @@
--- What is left: nothing, or one line that no LF ends.
+-- Nothing is left, or one line without an LF.
 use Rattle.std.proofs.Common.{false, List, [], subst, sym, rules}
 use Rattle.std.proofs.lemmas.Grind.{common_steps}
 use Rattle.text_core.specs.Lines.{Line, last_line}

@@ -4,7 +4,7 @@ use Rattle.port_io.specs.TextLaws.{all_taken, none_left, length_taken, prepended
 use Rattle.port_io.specs.declared.reading.ReadError.TheVariants.{TooLong}
 use Rattle.port_io.proofs.reading.read_all.Goals as goal
 
--- with more than there was room for, what was left is too long
+-- if more bytes came than there was room for, the input is too long
 beyond : (old mid new : Option (List ℕ)) (text input : List ℕ) (room limit : ℕ) → Consumes old mid text → TakesBeyond room mid new → limit ≤ length text + room → old ≡ Some input → limit < length input
 beyond old mid new text input room limit taken more full told =
     let both : Consumes old new (text ++ more.taken) = taken ∙ ap (prepended text) more.consumes ∙ prepended-twice text more.taken new in

@@ -2,7 +2,7 @@ use Rattle.std.proofs.Common.{◌≡◌, ◌≤◌, vec_len}
 use Rattle.port_io.specs.Bytes.{Consumes}
 use Rattle.port_io.proofs.reading.read_all.Given as goal
 
--- What was taken in this call is what has been kept, and each turn took a byte at least.
+-- What this call consumed is what it has kept, and every iteration consumed at least one byte.
 abbrev pub invariant-loop-turn : goal.invariant-loop-turn
 invariant-loop-turn g l =
     record {

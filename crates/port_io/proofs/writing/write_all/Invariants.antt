@@ -2,7 +2,7 @@ use Rattle.std.proofs.Common.{◌≡◌, ◌-◌, ◌≤◌, length, take}
 use Rattle.port_io.specs.Bytes.{Appends}
 use Rattle.port_io.proofs.writing.write_all.Given as goal
 
--- What has gone out in this call is a prefix of the bytes.
+-- What this call has written is a prefix of the bytes.
 abbrev pub invariant-loop-at : goal.invariant-loop-at
 invariant-loop-at g l = record {
   within : l.at ≤ length l.bytes;

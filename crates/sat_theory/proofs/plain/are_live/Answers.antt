@@ -6,14 +6,14 @@ use Rattle.sat_theory.specs.Holding.{DeletionHolds}
 use Rattle.sat_theory.proofs.Listed.{deletion_more, deletion_again}
 use Rattle.sat_theory.proofs.plain.are_live.Goals as goal
 
--- the id comes again
+-- the id occurs again
 pub returns-then-is_listed : goal.returns-then-is_listed
 returns-then-is_listed c =
     let live = live_in c.args.clauses.now in
     let again : is_listed c.in-Some.more.now c.in-Some.id.now ≡ true = sym c.if-is_listed.ensures in
     (λ no_. absurd (cc), λ holds. absurd (deletion_again live c.in-Some.id.now c.in-Some.more.now again (subst (λ (ids : List ℕ). DeletionHolds live ids) c.in-Some.ensures.cases.0 (c.loop-id.invariant.1 holds))))
 
--- the id is live and new, and the others decide
+-- the id is live and doesn't occur again, and the others decide
 pub loop-id-preserved : goal.loop-id-preserved
 loop-id-preserved c =
     let live = live_in c.args.clauses.now in

@@ -2,7 +2,7 @@ use Rattle.frame_core.specs.PerformingLaws.{answered}
 use Rattle.cmd_recheck.proofs.Keeping.{is_within}
 use Rattle.cmd_recheck.proofs.job.RecheckStreamJob.answer.Goals as goal
 
--- What was found of bytes, sent out, answers them.
+-- Writing the result answers the input.
 pub returns : goal.returns
 returns g c bytes keeps within =
     answered (g.K.Kind.task c.args.self.now.0) bytes c.tell.result c.finish.result _ _ (c.tell.ensures bytes keeps (is_within (g.K.Kind.task c.args.self.now.0).reads bytes (g.K.Kind.reads c.args.self.now.0) within)) c.finish.ensures

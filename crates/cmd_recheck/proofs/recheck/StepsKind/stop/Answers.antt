@@ -1,4 +1,4 @@
--- A fault that isn't want of memory is that of the definition.
+-- A fault that isn't running out of memory is that of the definition.
 use Rattle.frame_core.specs.Views.{refusal_value}
 use Rattle.cmd_recheck.proofs.Rechecking.{stops}
 use Rattle.cmd_recheck.proofs.recheck.StepsKind.stop.Goals as goal

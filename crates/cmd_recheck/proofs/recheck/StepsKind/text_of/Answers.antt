@@ -1,4 +1,4 @@
--- The text tells the verdict of the bytes.
+-- The text reports the verdict of the bytes.
 use Rattle.cmd_recheck.proofs.Rechecking.{tells_text}
 use Rattle.cmd_recheck.proofs.recheck.StepsKind.text_of.Goals as goal
 

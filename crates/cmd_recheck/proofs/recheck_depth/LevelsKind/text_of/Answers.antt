@@ -1,4 +1,4 @@
--- The text tells the verdict of the bytes.
+-- The text reports the verdict of the bytes.
 use Rattle.cmd_recheck.proofs.RecheckingDepth.{tells_text}
 use Rattle.cmd_recheck.proofs.recheck_depth.LevelsKind.text_of.Goals as goal
 

@@ -1,4 +1,4 @@
--- A certificate goes out, or there is none.
+-- A certificate is written, or there is none.
 use Rattle.std.proofs.Common.{Err, refl}
 use Rattle.settings.specs.declared.synth.SynthSettings.{SynthSettings}
 use Rattle.frame_core.specs.PerformingLaws.{answered}

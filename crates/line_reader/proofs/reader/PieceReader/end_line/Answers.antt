@@ -1,4 +1,4 @@
--- The line joins what was fed of it.
+-- The piece joins what was already fed of the line.
 use Rattle.std.proofs.Common.{◌≡◌, [], ◌++◌, refl, rules}
 use Rattle.std.proofs.lemmas.Grind.{common_steps}
 use Rattle.line_reader.specs.Cuts.{with_end}

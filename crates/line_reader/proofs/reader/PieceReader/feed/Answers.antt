@@ -1,4 +1,4 @@
--- Line after line, and at the end nothing is left.
+-- The loop takes line after line, until nothing is left.
 use Rattle.std.proofs.Common.{◌≡◌, [], ◌++◌, arith, rules}
 use Rattle.std.proofs.lemmas.Grind.{common_steps}
 use Rattle.text_core.specs.Lines.{lines_of}

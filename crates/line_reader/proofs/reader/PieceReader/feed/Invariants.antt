@@ -1,4 +1,4 @@
--- What is left completes the text that the reader stands for.
+-- The text that the reader represents, followed by what is left, is the whole text.
 use Rattle.std.proofs.Common.{◌≡◌, ◌+◌, List, ℕ, ◌++◌, length}
 use Rattle.line_reader.specs.Reader.{IsReader, StandsFor}
 use Rattle.line_reader.specs.Seen.{seen}

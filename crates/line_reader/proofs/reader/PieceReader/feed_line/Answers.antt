@@ -1,4 +1,4 @@
--- What no LF ends joins what was fed of the line.
+-- A text without an LF joins what was already fed of the line.
 use Rattle.std.proofs.Common.{◌≡◌, ◌+◌, Bool, ◌++◌, length, sym, subst, rules}
 use Rattle.std.proofs.lemmas.Grind.{common_steps}
 use Rattle.text_core.specs.Lines.{line_bytes}

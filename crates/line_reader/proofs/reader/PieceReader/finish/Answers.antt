@@ -1,4 +1,4 @@
--- What the lines have come to, or their fault.
+-- The state after all lines, or their fault.
 use Rattle.line_reader.proofs.reader.PieceReader.finish.Goals as goal
 
 pub returns-in-Ok : goal.returns-in-Ok

@@ -1,4 +1,4 @@
--- The stage stands for all lines, where nothing was fed.
+-- Before anything was fed, the stage represents the empty text.
 use Rattle.line_reader.proofs.Cutting.{stands_new}
 use Rattle.line_reader.proofs.reader.PieceReader.new.Goals as goal
 
