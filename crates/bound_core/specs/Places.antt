@@ -87,7 +87,7 @@ without_keeps p q (x ∷ xs) apart e = elim (cases_eq p x) [
   ]
 ]
 
--- no place is added
+-- each place that stays was in the list, and isn't the removed one
 pub without_from : (p q : ℕ) (xs : List ℕ) → has q (without p xs) ≡ true → (q ≢ p) × (has q xs ≡ true)
 unfolding without
 without_from p q [] e = absurd (has_none q e)

@@ -45,7 +45,7 @@ same_fits s basis r d b fits step is = record {
       ∙ fits.cells h t from low row;
 }
 
--- A step may be replaced by another one with the same value whose level isn't higher;
+-- A step may be replaced by another one with the same value whose operands' heights are lower;
 pub replaced : (s : Specification) (basis : Basis) (r d : ℕ) (b : Body) (fits : Fits s basis r d b) (i : ℕ) → i < r → (u : Step) → IsStepAt (s.inputs + 1 + i) u → basis u.op ≡ true → fits.height u.j < fits.height (s.inputs + 1 + i) → fits.height u.k < fits.height (s.inputs + 1 + i) → ((t : ℕ) → step_value (bits_of s.inputs r b.step t) u ≡ step_value (bits_of s.inputs r b.step t) (b.step i)) → Fits s basis r d (record { step = with_own b.step i u; outs = b.outs })
 replaced s basis r d b fits i low u below over j_lower k_lower same =
     let n : ℕ = s.inputs in

@@ -23,7 +23,7 @@
 //! which number isn't promised, only that the chain implements the specification and has few steps.
 //!
 //! ```text
-//! few_steps(alloc, &spec, basis, 4)? // Some(chain): a least chain, of at most four steps; None: there is none
+//! least_chain(alloc, &spec, basis, 4)? // Some(chain): a least chain, of at most four steps; None: there is none
 //! ```
 #![tactic(auto)]
 

@@ -18,7 +18,7 @@
 //! let cell = row(&tables.spec, 1, 3);                          // Cell::Zero
 //! let same = symmetric(&tables.spec, 1, 2);                    // false: the second table's rows 1, 2
 //! let out = trivial(&tables.spec, 2);                          // Some(Out::Place(1))
-//! let live = live_part(alloc, &tables.spec)?;                  // XOR alone
+//! let live = live_spec(alloc, &tables.spec)?;                  // XOR alone
 //! ```
 #![tactic(auto)]
 
