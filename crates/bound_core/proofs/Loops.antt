@@ -16,7 +16,7 @@ pub some_none : (test : ℕ → Bool) → some_below test 0 ≡ false
 unfolding some_below
 some_none test = refl
 
--- one number more that doesn't pass
+-- one more number that doesn't pass
 pub some_more : (test : ℕ → Bool) (k : ℕ) → some_below test k ≡ false → test k ≡ false → some_below test (k + 1) ≡ false
 unfolding some_below
 some_more test k before here = rw (add-one, before, here) refl

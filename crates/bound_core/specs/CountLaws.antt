@@ -1,5 +1,5 @@
--- What the counts mean: the inputs and the outputs that are counted are used and differ, so no
--- chain of fewer steps agrees.
+-- What the counts mean: the inputs that are counted are used, and the outputs that are counted
+-- differ; so no chain of fewer steps agrees.
 use Rattle.std.proofs.Common.{◌≡◌, ◌≢◌, ◌⊎◌, ℕ, zero, suc, ◌+◌, ◌-◌, ◌*◌, ◌<◌, ◌≤◌, ◌^◌, ◌==◌, Bool, true, false, ◌&&◌, ◌||◌, not, List, [], ◌∷◌, length, Contains, All, refl, sym, ap, ◌∙◌, subst, arith, inl, inr}
 use Rattle.std.specs.Prelude.{if◌then◌else◌, AllPairs, slice_index_or, bit_or, max}
 use Rattle.std.specs.Int.{bit_at}
@@ -89,7 +89,7 @@ added_cases true x y xs c = first c.0 c.1 c.2
     first (suc i) low e = inl (i, omega arith, e)
 added_cases false x y xs c = inl c
 
--- each of its numbers is from 1 to k, and 1 less passes
+-- each number of the list is from 1 to k, and the number less 1 passes
 pub those_have : (test : ℕ → Bool) (k x : ℕ) → Contains (those test k) x → (1 ≤ x) × (x ≤ k) × (test (x - 1) ≡ true)
 unfolding those
 those_have test zero x c = absurd (omega (arith, c.1))
@@ -100,7 +100,7 @@ those_have test (suc k) x c = elim (added_cases (test k) x (suc k) (those test k
       (omega (arith, first.1), omega (arith, first.1), ap test same ∙ first.0)
 ]
 
--- and each number that passes is there, with 1 added
+-- the list contains each number that passes, plus 1
 pub those_has : (test : ℕ → Bool) (k i : ℕ) → i < k → test i ≡ true → Contains (those test k) (i + 1)
 unfolding those
 those_has test zero i low passes = absurd (omega arith)
@@ -116,7 +116,7 @@ those_has test (suc k) i low passes = elim (cases_lt i k) [
     keeps true c = Contains-append_right (suc k ∷ []) (those test k) (i + 1) c
     keeps false c = c
 
--- a relation that holds between numbers that pass holds between each two in the list
+-- a relation between each two numbers that pass holds between each two numbers of the list
 pub those_pairs : (R : ℕ → ℕ → Type 0) (test : ℕ → Bool) (k : ℕ) → ((h g : ℕ) → 1 ≤ g → g < h → h ≤ k → test (h - 1) ≡ true → test (g - 1) ≡ true → R h g) → AllPairs R (those test k)
 unfolding those
 those_pairs R test zero each = λ i j d less within. absurd (omega arith)
@@ -150,13 +150,13 @@ raised_other t k i none apart =
     let rest : max (bit_at t i) (bit_at (2 ^ k) i) ≡ bit_at t i = omega (arith, bit_at-pow_other k i apart) in
     ap (λ (x : ℕ). digit x i) (raised_or t k none) ∙ ap (λ (x : ℕ). x == 1) (bit_at_or t (2 ^ k) i ∙ rest)
 
--- and it is one of the rows
+-- and the number is one of the rows
 pub raised_low : (n j t : ℕ) → 1 ≤ j → j ≤ n → t < 2 ^ n → input n t j ≡ false → t + 2 ^ (n - j) < 2 ^ n
 raised_low n j t some low inside none = rw (raised_or t (n - j) none) (or_lt n t (2 ^ (n - j)) inside (less_power (n - j) n (omega arith)))
 
 -- ---- inputs in use
 
--- an output that uses an input by the test uses it
+-- where the test `uses` passes, the output uses the input
 pub uses_is : (s : Specification) (h j : ℕ) → 1 ≤ j → j ≤ s.inputs → uses s h j ≡ true → IsUsed s j h
 unfolding uses turns_on
 uses_is s h j some low e =
@@ -257,7 +257,7 @@ apart_new s = record {
 
 -- ---- the bound
 
--- where a number bounds all, it bounds the greatest
+-- a bound of all numbers is a bound of the greatest
 greatest_least : (f : ℕ → ℕ) (k d : ℕ) → ((i : ℕ) → i < k → f i ≤ d) → greatest f k ≤ d
 unfolding greatest
 greatest_least f zero d each = omega arith

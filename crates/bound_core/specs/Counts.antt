@@ -1,5 +1,5 @@
--- A lower bound for the number of steps, by counts of the inputs that are used and of the outputs
--- that differ.
+-- A lower bound for the number of steps, from the inputs that outputs use and the outputs that
+-- differ.
 use Rattle.std.specs.Prelude.{ℕ, zero, suc, ◌+◌, ◌-◌, ◌^◌, Bool, false, ◌&&◌, ◌||◌, not, max, if◌then◌else◌}
 use Rattle.chain_theory.specs.Specification.{Specification, input}
 use Rattle.chain_theory.specs.Levels.{greatest}
@@ -16,13 +16,13 @@ unfoldable pub count_below : (ℕ → Bool) → ℕ → ℕ
 count_below test zero = 0
 count_below test (suc k) = count_below test k + (if test k then 1 else 0)
 
--- Row t gives input j the bit 0, and output h has the cells 0 and 1, in either order, on it and on
--- the row with input j flipped.
+-- Output h is sensitive to input j on row t: the row gives input j the bit 0, and output h has the
+-- cells 0 and 1, in either order, on this row and on the row with input j flipped.
 -- Example: of three inputs, row 1 (001) and row 5 (101) are such a pair of rows for x1.
 unfoldable pub turns_on : Specification → ℕ → ℕ → ℕ → Bool
 turns_on s h j t = are_opposite (s.cell h t) (s.cell h (t + 2 ^ (s.inputs - j))) && not (input s.inputs t j)
 
--- output h uses input j
+-- output h uses input j: it is in the support of the output
 -- Example: 0011 uses x1 and not x2.
 unfoldable pub uses : Specification → ℕ → ℕ → Bool
 uses s h j = some_below (turns_on s h j) (2 ^ s.inputs)
@@ -31,7 +31,7 @@ uses s h j = some_below (turns_on s h j) (2 ^ s.inputs)
 unfoldable pub uses_next : Specification → ℕ → ℕ → Bool
 uses_next s h i = uses s h (i + 1)
 
--- how many inputs output h uses
+-- how many inputs output h uses: its support size
 abbrev pub inputs_of : Specification → ℕ → ℕ
 inputs_of s h = count_below (uses_next s h) s.inputs
 
@@ -63,14 +63,14 @@ live_like s h i = not (differ s (i + 1) h) && is_live s (i + 1)
 unfoldable pub is_new : Specification → ℕ → Bool
 is_new s i = not (some_below (live_like s (i + 1)) i) && is_live s (i + 1)
 
--- the inputs that output i + 1 uses, less 1
+-- the support size of output i + 1, less 1
 unfoldable pub single : Specification → ℕ → ℕ
 single s i = inputs_of s (i + 1) - 1
 
--- The greatest of: the number of live outputs that differ from those before them; for each output
--- the number of inputs that it uses, less 1; the number of inputs that live outputs use, less that
--- of live outputs.
--- Example: the exclusive or of four inputs needs at least 3 steps. Of the tables 0110 and 0001 of
--- two inputs both are live and differ, which makes 2.
+-- The greatest of: the number of live outputs that differ from the live ones before them; the support
+-- size of each output, less 1; the number of inputs that live outputs use, less the number of live
+-- outputs.
+-- Example: it is 3 for the exclusive or of four inputs, and 2 for the tables 0110 and 0001 of two
+-- inputs, since both outputs are live and they differ.
 abbrev pub fewest : Specification → ℕ
 fewest s = max (count_below (is_new s) s.outputs) (max (greatest (single s) s.outputs) (count_below (is_in_use s) s.inputs - count_below (live_next s) s.outputs))

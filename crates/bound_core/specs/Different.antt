@@ -1,6 +1,6 @@
--- A chain has at least as many steps as there are live outputs that differ: each of them is the
--- value of a step of its own, since a live output is no constant and no input, and two that differ
--- aren't at one place.
+-- A chain has at least as many steps as there are live outputs that differ pairwise: a live output is
+-- neither a constant nor an input, so it is at a step's place, and outputs that differ are at
+-- different places.
 use Rattle.std.proofs.Common.{◌≡◌, ℕ, zero, suc, ◌+◌, ◌-◌, ◌<◌, ◌≤◌, ◌^◌, true, false, List, [], ◌∷◌, length, Contains, Option, Some, None, refl, sym, ap, ◌∙◌, arith, inl, inr}
 use Rattle.std.specs.Prelude.{slice_index_or, AllPairs}
 use Rattle.std.proofs.lemmas.List.Elements.{Contains-get_or}
@@ -76,7 +76,7 @@ places_apart s c g h a b differ met_g met_h is_a is_b e =
 abbrev out_of : Chain → ℕ → Out
 out_of c h = slice_index_or c.outs (h - 1) kinds.Zero
 
--- Live outputs that differ are at most as many as the steps.
+-- There are at most as many live outputs that differ pairwise as there are steps.
 pub outputs_few : (s : Specification) (basis : Basis) (r : ℕ) (outputs : List ℕ) → AreLiveApart s outputs → HasChain s basis r → length outputs ≤ r
 outputs_few s basis r outputs live chain =
     let c : Chain = chain.chain in

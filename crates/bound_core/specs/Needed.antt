@@ -1,7 +1,7 @@
--- A chain has at least as many steps as a list of outputs uses inputs, less the number of those
--- outputs: from the last step to the first, each step's place is replaced by its two operands,
--- which makes a list of places longer by at most one; inputs alone are left, and the outs depend on
--- nothing else.
+-- A chain has at least as many steps as a list of outputs uses inputs, less the number of these
+-- outputs. Go from the last step to the first, and replace the step's place in the list of the outs'
+-- places by its two operands. Each step makes the list longer by at most one. At the end the list has
+-- inputs alone, and the outs depend on no other input.
 use Rattle.std.proofs.Common.{◌≡◌, ℕ, zero, suc, ◌+◌, ◌-◌, ◌<◌, ◌≤◌, Bool, true, false, List, [], ◌∷◌, length, Contains, Some, refl, sym, ap, ap₂, ◌∙◌, subst, arith, inl, inr}
 use Rattle.std.specs.Prelude.{slice_get, slice_index_or}
 use Rattle.std.proofs.lemmas.Bool.{cases_Bool, cases_eq}
@@ -40,7 +40,7 @@ step_there [] i low = absurd (omega arith)
 step_there (s ∷ steps) zero low = (s, refl)
 step_there (s ∷ steps) (suc i) low = step_there steps i (omega arith)
 
--- places with a step's place replaced by its operands
+-- a list of places with a step's place replaced by its two operands
 abbrev exchanged : ℕ → Step → List ℕ → List ℕ
 exchanged place s places = s.j ∷ s.k ∷ without place places
 
@@ -122,7 +122,7 @@ with_place (kinds.Place p) places = p ∷ places
 abbrev out_of : List Out → ℕ → Out
 out_of outs h = slice_index_or outs (h - 1) kinds.Zero
 
--- the places among the outs of these outputs
+-- the places that are outs of these outputs
 out_places : List Out → List ℕ → List ℕ
 out_places outs [] = []
 out_places outs (h ∷ hs) = with_place (out_of outs h) (out_places outs hs)
@@ -152,7 +152,7 @@ unfolding out_places
 places_low last outs [] names = λ p h. absurd (has_none p h)
 places_low last outs (g ∷ hs) names = with_low last (out_of outs g) (out_places outs hs) (names g (0, omega arith, refl)) (places_low last outs hs (λ h c. names h (Contains-append_right (g ∷ []) hs h c)))
 
--- an out has the same value on two rows on which its place has
+-- an out has equal values on two rows on which its place has
 with_first : (c : Chain) (out : Out) (places : List ℕ) (t u : ℕ) → AreSame c (with_place out places) t u → out_value c t out ≡ out_value c u out
 unfolding with_place
 with_first c kinds.Zero places t u same = refl
@@ -173,7 +173,7 @@ outs_same c outs (h ∷ hs) t u same (suc k) low = outs_same c outs hs t u (with
 
 -- ---- inputs in use
 
--- opposite cells aren't met by one value
+-- no value meets both of two opposite cells
 pub opposite_met : (a b : Cell) (x y : Bool) → are_opposite a b ≡ true → is_met a x ≡ true → is_met b y ≡ true → x ≡ y → ⊥
 opposite_met Zero Zero x y o m n e = absurd cc
 opposite_met Zero One true y o m n e = absurd cc
@@ -208,8 +208,8 @@ is_needed s basis r chain outputs rest j h within c used = elim (cases_Bool (has
     same_out free =
         subst (λ (g : ℕ). out_value chain.chain used.row (out_of chain.chain.outs g) ≡ out_value chain.chain used.other (out_of chain.chain.outs g)) (get_or_default outputs c.0 0 h c.1 ∙ c.2) (outs_same chain.chain chain.chain.outs outputs used.row used.other (rest.follow used.row used.other (same_base free)) c.0 c.1)
 
--- The inputs that a list of outputs uses are at most as many as the outputs of the list and the
--- steps together.
+-- A list of outputs uses at most as many inputs as there are outputs in the list and steps in the chain
+-- together.
 pub inputs_few : (s : Specification) (basis : Basis) (r : ℕ) (inputs outputs : List ℕ) → AreUsed s inputs outputs → HasChain s basis r → length inputs ≤ length outputs + r
 inputs_few s basis r inputs outputs used chain =
     let c : Chain = chain.chain in

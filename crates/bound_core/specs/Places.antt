@@ -1,5 +1,5 @@
--- Lists of places: membership, removal, and that no list of different places inside another is
--- longer.
+-- Lists of places: membership, removal, and that a list of different places isn't longer than a list
+-- that contains them.
 use Rattle.std.proofs.Common.{◌≡◌, ◌≢◌, ◌⊎◌, ℕ, suc, ◌<◌, ◌≤◌, ◌==◌, Bool, true, false, ◌||◌, List, [], ◌∷◌, length, Contains, refl, sym, ap, ◌∙◌, arith, inl, inr}
 use Rattle.std.specs.Prelude.{if◌then◌else◌, AllPairs}
 use Rattle.std.proofs.lemmas.Grind.{common_steps}
@@ -62,7 +62,7 @@ without_short p (x ∷ xs) = elim (cases_eq p x) [
   | inr other ↦ omega (arith, without_short p xs, ap length (without_other p x xs other))
 ]
 
--- and shorter where the list had the place
+-- removal of a place makes a list that has it shorter
 pub without_less : (p : ℕ) (xs : List ℕ) → has p xs ≡ true → length (without p xs) < length xs
 without_less p [] e = absurd (has_none p e)
 without_less p (x ∷ xs) e = elim (cases_eq p x) [
@@ -87,7 +87,7 @@ without_keeps p q (x ∷ xs) apart e = elim (cases_eq p x) [
   ]
 ]
 
--- and nothing comes in
+-- each place that stays was in the list, and isn't the removed one
 pub without_from : (p q : ℕ) (xs : List ℕ) → has q (without p xs) ≡ true → (q ≢ p) × (has q xs ≡ true)
 unfolding without
 without_from p q [] e = absurd (has_none q e)

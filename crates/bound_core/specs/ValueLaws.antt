@@ -1,4 +1,5 @@
--- Whether two outputs differ, and whether a word has all specified values of an output, by words of all rows.
+-- The tests on words of all rows: whether two outputs differ, and whether a word has all specified values of an
+-- output.
 use Rattle.std.proofs.Common.{◌≡◌, ℕ, zero, suc, ◌+◌, ◌-◌, ◌^◌, ◌<◌, ◌≤◌, ◌==◌, Bool, true, false, ◌&&◌, ◌||◌, not, refl, sym, ap, ◌∙◌, arith, inl, inr}
 use Rattle.std.specs.Prelude.{if◌then◌else◌, slice_index, bit_and, bit_xor, Option, Some, None}
 use Rattle.std.proofs.lemmas.Bool.{cases_lt, cases_Bool}

@@ -1,5 +1,5 @@
--- Whether an output uses an input, by the words of its values and of its care set: rows t and t + 2
--- ^ k are compared all at once, by a word and the same word shifted.
+-- Whether an output uses an input, by the words of its values and its care set. The rows t and
+-- t + 2 ^ k are compared for all t at once, by a word and the same word shifted.
 use Rattle.std.proofs.Common.{◌≡◌, ℕ, zero, suc, ◌+◌, ◌-◌, ◌/◌, ◌%◌, ◌^◌, ◌<◌, ◌≤◌, ◌==◌, Bool, true, false, ◌&&◌, not, refl, sym, ap, ap₂, ◌∙◌, arith, w64, inl, inr}
 use Rattle.std.specs.Prelude.{if◌then◌else◌, slice_index, bit_and, bit_xor}
 use Rattle.std.specs.Int.{bit_at, bit_not}
@@ -68,7 +68,7 @@ low_is (suc (suc (suc (suc (suc (suc k)))))) low = absurd (omega arith)
 
 -- ---- rows on which the value changes with the input
 
--- the rows t whose digit of 2 ^ k is 0, where rows t and t + 2 ^ k are specified and have different values
+-- the rows t whose digit of weight 2 ^ k is 0, where rows t and t + 2 ^ k are specified and have different values
 abbrev pub turning_rows : ℕ → ℕ → ℕ → ℕ
 turning_rows on care k = bit_and (bit_and (bit_and care (care / 2 ^ 2 ^ k)) (bit_xor on (on / 2 ^ 2 ^ k))) (low_rows k)
 

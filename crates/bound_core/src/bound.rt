@@ -1,5 +1,5 @@
-//! The counts, by loops over inputs and outputs; each function computes its definition. What they ask of single outputs is
-//! decided for all rows at once (`words`).
+//! The three counts, by loops over inputs and outputs; each function computes its definition. The tests of
+//! single outputs and pairs work on all rows at once (`words`).
 ghost use Rattle.std.specs.Prelude.{◌≡◌, ℕ, ◌+◌, ◌<◌, ◌≤◌, length};
 ghost use Rattle.chain_theory.specs.Operator.{Basis};
 ghost use Rattle.chain_theory.specs.Levels.{greatest};
@@ -12,7 +12,7 @@ ghost use Rattle.bound_core.specs.Counts.{live_next, is_new as is_new_of, single
 use crate::words::{differ, is_live, uses};
 use tt_core::Spec;
 
-/// How many inputs output `h` uses.
+/// The support size of output `h`: how many inputs it uses.
 #[tactic(auto, using(crate::proofs::Loops::counting), unfolding(crate::specs::Counts::uses_next))]
 fn inputs_of_output(spec: &Spec, h: u32) -> u32
     requires { (1 ≤ h) × (h ≤ length spec.now.on) }
@@ -54,7 +54,7 @@ fn is_in_use(spec: &Spec, before: u32) -> bool
     false
 }
 
-/// How many inputs live outputs use.
+/// How many inputs are used by live outputs.
 #[tactic(auto, using(crate::proofs::Loops::counting))]
 fn inputs_in_use(spec: &Spec) -> u32
     ensures count { result ≡ count_below (is_in_use_of (specification spec.now)) spec.now.n }
@@ -95,7 +95,7 @@ fn new_outputs(spec: &Spec) -> u32
     count
 }
 
-/// The most inputs that one output uses, less 1.
+/// The greatest support size of an output, less 1; 0 where no output uses an input.
 #[tactic(auto, using(crate::proofs::Loops::greatest), unfolding(crate::specs::Counts::single))]
 fn most_of_one(spec: &Spec) -> u32
     ensures { result ≡ greatest (single (specification spec.now)) (length spec.now.on) }
@@ -108,9 +108,10 @@ fn most_of_one(spec: &Spec) -> u32
     most
 }
 
-/// A lower bound for the number of steps of every chain that agrees, over any basis: the greatest
-/// of the number of live outputs that differ, the support size of one output less 1, and the number
-/// of inputs that live outputs use less that of live outputs.
+/// A lower bound for the number of steps of every chain that implements the specification, over any
+/// basis. It is the greatest of: the number of live outputs that differ from the live ones before
+/// them; the greatest support size of an output, less 1; and the number of inputs that live outputs
+/// use, less the number of live outputs.
 #[tactic(auto)]
 pub fn lower_bound(spec: &Spec) -> u32
     ensures none_below { (basis : Basis) (q : ℕ) → q < result → HasChain (specification spec.now) basis q → ⊥ }

@@ -1,5 +1,5 @@
-//! The laws of counting, and what its tests mean. Each law is the contract of a function that does
-//! nothing.
+//! The laws of the lower bound, and what its tests mean. Each law is the contract of a function that
+//! does nothing.
 ghost use Rattle.std.specs.Prelude.{◌≡◌, ◌↔◌, true, ℕ, ◌+◌, ◌≤◌, List, length};
 ghost use Rattle.chain_theory.specs.Operator.{Basis};
 ghost use Rattle.chain_theory.specs.Specification.{Specification};
@@ -7,8 +7,8 @@ ghost use Rattle.chain_theory.specs.Agreement.{HasChain};
 ghost use Rattle.bound_core.specs.Counts.{uses, differ};
 ghost use Rattle.bound_core.specs.Used.{IsUsed, AreUsed, Differ, AreLiveApart};
 
-/// A chain has at least as many steps as a list of outputs uses inputs, less the number of those
-/// outputs.
+/// Let a list of outputs use a number of inputs together. A chain has at least as many steps as that
+/// number, less the number of the outputs.
 pub fn inputs_in_use_ask_for_steps()
     ensures { (s : Specification) (basis : Basis) (r : ℕ) (inputs outputs : List ℕ) →
         AreUsed s inputs outputs →
@@ -24,9 +24,8 @@ pub fn live_outputs_ask_for_steps()
         length outputs ≤ r }
 {}
 
-/// An output uses an input by the test of the counts exactly where two rows that differ in that
-/// input alone have the cells 0 and 1, and outputs differ by their test exactly where they do on
-/// some row.
+/// The test `uses` passes exactly where two rows that differ in that input alone have the cells 0
+/// and 1. The test `differ` passes exactly where the two outputs have the cells 0 and 1 on some row.
 pub fn tests_are_rows()
     ensures uses { (s : Specification) (h j : ℕ) →
         1 ≤ j →

@@ -1,4 +1,4 @@
--- One more step's level.
+-- The level of one more step.
 use Rattle.std.proofs.Common.{◌≡◌, ℕ, ◌+◌, ◌-◌, ◌<◌, ◌≤◌, List, [], ◌∷◌, length, replicate, map, ◌++◌, refl, sym, ap, ◌∙◌, arith, ⊎_elim}
 use Rattle.std.specs.Prelude.{slice_index_or, slice_set}
 use Rattle.std.proofs.lemmas.Grind.{common_steps}
@@ -12,7 +12,7 @@ use Rattle.chain_theory.specs.Levels.{placed, step_level, levels_after, level_in
 use Rattle.chain_theory.specs.LevelLaws.{placed-same, placed-other}
 use Rattle.chain_core.specs.Heights.{heights}
 
--- a level that is written is that of its place
+-- a level that is written to the slice is that of its place
 height_at : (levels : List ℕ) (place own p : ℕ) → place < length levels → heights (slice_set levels place own) p ≡ placed (heights levels) place own p
 unfolding heights
 height_at levels place own p inside = ⊎_elim
@@ -23,7 +23,7 @@ height_at levels place own p inside = ⊎_elim
 pub written_height : (levels : List ℕ) (place own : ℕ) → place < length levels → heights (slice_set levels place own) ≡ placed (heights levels) place own
 written_height levels place own inside = λ i p. height_at levels place own p inside i
 
--- a level that is written keeps all of them low
+-- a level that is written keeps the bound on all levels
 low_at : (levels : List ℕ) (place own bound p : ℕ) → place < length levels → heights levels p ≤ bound → own ≤ bound + 1 → heights (slice_set levels place own) p ≤ bound + 1
 low_at levels place own bound p inside low few = ⊎_elim
     (λ (same : p ≡ place). omega (arith, few, height_at levels place own p inside, placed-same (heights levels) place p own same))
@@ -49,7 +49,7 @@ nothing_at p = ⊎_elim (λ (low : p < 23). get_or-replicate 23 p 0 0 low) (λ (
 pub none_is_high : (n p : ℕ) → heights no_levels p ≤ n
 none_is_high n p = omega (arith, nothing_at p)
 
--- the levels that a run gives where none is there are those of the places
+-- a run that starts without levels gives the levels of the places
 pub levels_are : (written : List ℕ) (n : ℕ) (steps : List Step) → heights written ≡ levels_after (heights no_levels) (n + 1) steps → heights written ≡ level_in n steps
 levels_are written n steps e = e ∙ ap (λ (given : ℕ → ℕ). levels_after given (n + 1) steps) (λ i p. nothing_at p i)
 

@@ -1,4 +1,4 @@
--- Values of places, kept in a list and carried along the steps.
+-- Values of places, in a list that the steps write.
 use Rattle.std.proofs.Common.{◌≡◌, ℕ, ◌+◌, ◌≤◌, ◌<◌, Bool, false, List, [], ◌∷◌, length, set, refl, ap, ◌∙◌, arith}
 use Rattle.std.proofs.lemmas.Grind.{common_steps}
 use Rattle.chain_theory.specs.Chain.{Step, IsStepAt, AreSteps}
@@ -43,7 +43,7 @@ pub values_after-set : (values : List Bool) (last : ℕ) (s : Step) (ss : List S
 unfolding values_after
 values_after-set values last s ss bit inside e = rw (bits-set values (last + 1) bit inside, e) refl
 
--- the value of a place is in the list after the inputs' bits and the steps' values were put there
+-- the list has the value of each place after the inputs' bits and the steps' values were written
 pub value_is : (values inputs : List Bool) (n t : ℕ) (steps : List Step) (place : ℕ) → bits values ≡ values_after (bits inputs) (n + 1) steps → ((p : ℕ) → 1 ≤ p → p ≤ n → bits inputs p ≡ input n t p) → AreSteps n steps → 1 ≤ place → place ≤ n + length steps → slice_index_or values place false ≡ values_on n t steps place
 unfolding bits
 value_is values inputs n t steps place ran put are from to =

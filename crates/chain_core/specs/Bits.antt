@@ -1,6 +1,6 @@
--- The bits of the places, kept in a list.
+-- The bits of places, as a list.
 use Rattle.std.specs.Prelude.{ℕ, Bool, false, List, slice_index_or}
 
--- Place p has the entry p of the list.
+-- The bit of place p is the entry p of the list; after the list it is 0.
 unfoldable pub bits : List Bool → ℕ → Bool
 bits values p = slice_index_or values p false

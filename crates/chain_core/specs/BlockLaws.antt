@@ -11,13 +11,13 @@ use Rattle.chain_core.specs.StepLaws.{steps_push}
 
 pub ruleset resting = (common_steps, whole_rest, rest_of_rest)
 
--- enough steps were read: the rest stays as it is
+-- enough steps were read: no further line is read
 pub steps_done : (f : Frame) (steps : List chain.Step) (ls : List Line) → length steps ≡ f.steps → steps_from f steps ls ≡ Ok (steps, ls)
 unfolding steps_from
 steps_done f steps [] e = grind (arith, common_steps)
 steps_done f steps (l ∷ ls) e = grind (arith, common_steps)
 
--- enough outs were read: the rest stays as it is
+-- enough outs were read: no further line is read
 pub outs_done : (f : Frame) (os : List Out) (ls : List Line) → length os ≡ f.outputs → outs_from f os ls ≡ Ok (os, ls)
 unfolding outs_from
 outs_done f os [] e = grind (arith, common_steps)

@@ -4,11 +4,11 @@ use Rattle.std.specs.List.{range_with_len}
 use Rattle.chain_theory.specs.Chain.{Chain}
 use Rattle.chain_theory.specs.Levels.{level}
 
--- the levels of places in a slice, that of place p at index p; after it they are 0
+-- the levels of places as a slice holds them, that of place p at index p; after the slice they are 0
 unfoldable pub heights : List ℕ → ℕ → ℕ
 heights levels place = slice_index_or levels place 0
 
 -- the level of each step, in the order of their places
--- Example: of x4 = x1 AND x2, x5 = x3 XOR x4 the levels are 1 and 2.
+-- Example: the levels of x4 = x1 AND x2, x5 = x3 XOR x4 are 1 and 2.
 unfoldable pub levels_of : Chain → List ℕ
 levels_of c = map (level c) (range_with_len (c.n + 1) (length c.steps))

@@ -15,12 +15,12 @@ pub record IsFirstOutside (basis : Basis) (c : Chain) (place : ℕ) : Type 0 whe
   pub inside : All (λ (s : Step). basis s.op ≡ true) front
   pub outside : basis step.op ≡ false
 
--- None where the chain is over the basis, else the place of the first step that is outside
+-- None: the chain is over the basis; Some: the place of the first step outside it
 abbrev pub IsJudged : Basis → Chain → Option ℕ → Type 0
 IsJudged basis c None = IsOver basis c
 IsJudged basis c (Some place) = IsFirstOutside basis c place
 
--- the first place outside the basis among the steps from a place on
+-- the first place outside the basis, among steps of which the first is at the given place
 unfoldable pub outside_from : Basis → ℕ → List Step → Option ℕ
 outside_from basis place [] = None
 outside_from basis place (s ∷ ss) = if basis s.op then outside_from basis (place + 1) ss else Some place

@@ -1,4 +1,4 @@
--- What a search along the steps says of a chain.
+-- The search along the steps for an operator outside the basis.
 use Rattle.std.proofs.Common.{◌≡◌, ℕ, ◌+◌, Bool, true, false, List, [], ◌∷◌, ◌++◌, length, Option, Some, None, refl, ap, arith}
 use Rattle.std.specs.Prelude.{if◌then◌else◌}
 use Rattle.std.specs.List.{AllByRecursion}
@@ -8,7 +8,7 @@ use Rattle.chain_theory.specs.Operator.{Basis}
 use Rattle.chain_theory.specs.Chain.{Step, Chain}
 use Rattle.chain_core.specs.Outside.{IsJudged, outside_from}
 
--- a step is in the basis
+-- a step's operator is in the basis
 abbrev IsInside : Basis → Step → Type 0
 IsInside basis s = basis s.op ≡ true
 
@@ -46,7 +46,7 @@ found_behind basis place found s ss in' more = record {
   outside = more.outside;
 }
 
--- where neither a step nor the search after it finds a place, the step and all after it are inside
+-- where neither the step nor the search after it finds a place, all these steps are inside
 none_by : (basis : Basis) (s : Step) (ss : List Step) (test : Bool) (place : ℕ) (more : Option ℕ) → basis s.op ≡ test → (more ≡ None → AllByRecursion (IsInside basis) ss) → (if test then more else Some place) ≡ None → AllByRecursion (IsInside basis) (s ∷ ss)
 none_by basis s ss true place more is onward e = (is, onward e)
 none_by basis s ss false place more is onward e = absurd cc
@@ -57,11 +57,11 @@ unfolding outside_from
 none_outside basis place [] e = tt
 none_outside basis place (s ∷ ss) e = none_by basis s ss (basis s.op) place (outside_from basis (place + 1) ss) refl (none_outside basis (place + 1) ss) e
 
--- two places that are found are the same
+-- the place that is found is unique
 same_place : (x y : ℕ) → Some x ≡ Some y → x ≡ y
 same_place x y e = cc
 
--- where a step or the search after it finds a place, that is of the first step outside
+-- a place that the step or the search after it finds is that of the first step outside
 some_by : (basis : Basis) (s : Step) (ss : List Step) (test : Bool) (place found : ℕ) (more : Option ℕ) → basis s.op ≡ test → (more ≡ Some found → Found basis (place + 1) ss found) → (if test then more else Some place) ≡ Some found → Found basis place (s ∷ ss) found
 some_by basis s ss true place found more is onward e = found_behind basis place found s ss is (onward e)
 some_by basis s ss false place found more is onward e = found_here basis place found s ss is (same_place place found e)
@@ -72,7 +72,7 @@ unfolding outside_from
 some_outside basis place [] found e = absurd cc
 some_outside basis place (s ∷ ss) found e = some_by basis s ss (basis s.op) place found (outside_from basis (place + 1) ss) refl (some_outside basis (place + 1) ss found) e
 
--- the search along all steps judges the chain
+-- the search along all steps checks the chain against the basis
 pub judged : (basis : Basis) (c : Chain) (x : Option ℕ) → outside_from basis (c.n + 1) c.steps ≡ x → IsJudged basis c x
 judged basis c None e = All-from_recursion (IsInside basis) c.steps (none_outside basis (c.n + 1) c.steps e)
 judged basis c (Some place) e =

@@ -8,7 +8,7 @@ use Rattle.chain_theory.specs.Agreement.{is_met, output_value}
 abbrev pub AreMetBelow : Chain → Specification → ℕ → ℕ → Type 0
 AreMetBelow c s h t = (u : ℕ) → u < t → is_met (s.cell h u) (output_value c h u) ≡ true
 
--- None where no row misses the output, else the least that does
+-- None: no row misses the output; Some: the least row that does
 abbrev pub IsFirstRow : Chain → Specification → ℕ → Option ℕ → Type 0
 IsFirstRow c s h None = AreMetBelow c s h (2 ^ s.inputs)
 IsFirstRow c s h (Some t) = (t < 2 ^ s.inputs) × (is_met (s.cell h t) (output_value c h t) ≡ false) × AreMetBelow c s h t

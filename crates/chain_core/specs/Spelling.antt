@@ -1,4 +1,4 @@
--- How a chain block is written. Example: the XOR chain is
+-- The spelling of a chain block. Example: the XOR chain is
 --
 --     chain 1
 --     x3 x1 x2 0110
@@ -19,11 +19,11 @@ line text = record { text = text; ended = true }
 abbrev pub place_text : ℕ → List ℕ
 place_text place = codes "x" ++ decimal place
 
--- the step at a place, with a blank between each two items
+-- the text of the step at a place: four items with blanks between them
 unfoldable pub step_text : ℕ → Step → List ℕ
 step_text place s = join_with_byte 32 (place_text place ∷ place_text s.j ∷ place_text s.k ∷ word_text s.op ∷ [])
 
--- steps from a place on, one line for each
+-- the lines of steps, the first of them at the given place
 unfoldable pub step_lines : ℕ → List Step → List Line
 step_lines place [] = []
 step_lines place (s ∷ ss) = line (step_text place s) ∷ step_lines (place + 1) ss
@@ -50,8 +50,8 @@ chain_lines c = line (count_text (length c.steps)) ∷ (step_lines (c.n + 1) c.s
 abbrev pub chain_text : Chain → List ℕ
 chain_text c = flat_map line_bytes (chain_lines c)
 
--- What was read from the start of the bytes: a chain of n inputs, m outputs and at most 16 steps.
--- The bytes are its block followed by the lines after it, each byte of them.
+-- The bytes spell a chain of n inputs, m outputs and at most 16 steps: they are exactly its block
+-- followed by the lines after it.
 pub record Spells (n m : ℕ) (bytes : List ℕ) (x : Read) : Type 0 where
   pub chain : IsChain x.chain
   pub inputs : x.chain.n ≡ n

@@ -1,4 +1,4 @@
--- A spelled block is read, and what is read as a block was spelled so, byte for byte.
+-- A spelled block is read, and a block that is read is the spelling of its chain, byte for byte.
 use Rattle.std.proofs.Common.{◌≡◌, ℕ, ◌+◌, ◌≤◌, ◌<◌, true, List, [], ◌∷◌, ◌++◌, length, map, Option, Some, None, Ok, refl, sym, ap, ◌∙◌, arith, subst, append_assoc}
 use Rattle.std.specs.Prelude.{option_and_then, codes}
 use Rattle.std.specs.List.{flat_map, AllByRecursion}
@@ -25,12 +25,12 @@ pub count_at_back : (first r : ℕ) → r ≤ 16 → count_at first (line (count
 unfolding count_at
 count_at_back first r few = rw (count_back r few) (grind (arith, common_steps))
 
--- a number of steps that passes was read, and is at most 16
+-- a number of steps without an error is at most 16
 counted_spells : (first : ℕ) (x : Option ℕ) (r : ℕ) → counted first x ≡ Ok r → (x ≡ Some r) × (r ≤ 16)
 counted_spells first None r e = absurd cc
 counted_spells first (Some s) r e = grind (arith, common_steps)
 
--- what is read as a first line was written so
+-- a first line that is read is the spelling of its number
 count_at_spells : (first : ℕ) (l : Line) (r : ℕ) → count_at first l ≡ Ok r → (l ≡ line (count_text r)) × (r ≤ 16)
 unfolding count_at
 count_at_spells first l r e =
@@ -60,7 +60,7 @@ pub lines_read : (first : ℕ) (c : Chain) (rest : List Line) → IsSmallChain c
 unfolding chain_of
 lines_read first c rest small = rw (count_at_back first (length c.steps) small.steps) (body_back first c rest small)
 
--- what the lines of a block are read as
+-- the chain that the lines of a block are read as
 pub record ReadLines (n m : ℕ) (ls : List Line) (x : Read) : Type 0 where
   pub chain : IsChain x.chain
   pub inputs : x.chain.n ≡ n
@@ -68,7 +68,7 @@ pub record ReadLines (n m : ℕ) (ls : List Line) (x : Read) : Type 0 where
   pub steps : length x.chain.steps ≤ 16
   pub lines : ls ≡ chain_lines x.chain ++ x.rest
 
--- what is read after a spelled first line was spelled so, too
+-- lines that are read after the first line are the spelling of their chain
 body_spells : (f : Frame) (l : Line) (ls : List Line) (x : Read) → l ≡ line (count_text f.steps) → f.steps ≤ 16 → body_from f ls ≡ Ok x → ReadLines f.n f.outputs (l ∷ ls) x
 unfolding body_from
 body_spells f l ls x first few e =
@@ -89,7 +89,7 @@ body_spells f l ls x first few e =
     } in
     subst (λ (y : Read). ReadLines f.n f.outputs (l ∷ ls) y) (sym same) here
 
--- what is read as a block was written so
+-- a block that is read is the spelling of its chain
 pub lines_spelled : (first n m : ℕ) (ls : List Line) (x : Read) → chain_of first n m ls ≡ Ok x → ReadLines n m ls x
 unfolding chain_of
 lines_spelled first n m [] x e = absurd cc
@@ -114,7 +114,7 @@ lines_back (l ∷ ls) rest written =
     let whole : line l.text ≡ l = sym (line_is l l.text written.0.ended refl) in
     ap lines_of bytes ∙ line_back l.text behind written.0.free ∙ (λ i. whole i ∷ lines_back ls rest written.1 i)
 
--- two lists of such lines, one after the other
+-- written lines followed by written lines
 pub both_written : (ls more : List Line) → AllByRecursion IsWritten ls → AllByRecursion IsWritten more → AllByRecursion IsWritten (ls ++ more)
 both_written [] more one two = two
 both_written (l ∷ ls) more one two = (one.0, both_written ls more one.1 two)
@@ -139,11 +139,11 @@ block_written c small =
     let os = outs_written (c.n + length c.steps) c.outs (recursion_from_All _ c.outs small.chain.outs) (omega arith) in
     (record { ended = refl; free = free_count (length c.steps) few }, both_written (step_lines (c.n + 1) c.steps) (map out_line c.outs) steps os)
 
--- A block that is written is read, whatever follows.
+-- A block that is written is read as its chain, whatever text follows.
 pub block_back : (first : ℕ) (c : Chain) (rest : List ℕ) → IsSmallChain c → chain_of first c.n (length c.outs) (lines_of (chain_text c ++ rest)) ≡ Ok (record { chain = c; rest = lines_of rest })
 block_back first c rest small = ap (λ (ls : List Line). chain_of first c.n (length c.outs) ls) (lines_back (chain_lines c) rest (block_written c small)) ∙ lines_read first c (lines_of rest) small
 
--- What is read was written so, byte for byte.
+-- A block that is read is the spelling of its chain, byte for byte.
 pub block_spells : (first n m : ℕ) (bytes : List ℕ) (x : Read) → chain_of first n m (lines_of bytes) ≡ Ok x → Spells n m bytes x
 block_spells first n m bytes x e =
     let read = lines_spelled first n m (lines_of bytes) x e in

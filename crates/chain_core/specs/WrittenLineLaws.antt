@@ -1,4 +1,4 @@
--- How a line of a block is spelled, and what is read of it.
+-- The lines of a block: each spelling is read, and each line that is read is a spelling.
 use Rattle.std.proofs.Common.{◌≡◌, ℕ, ◌≤◌, ◌<◌, Bool, true, false, List, [], ◌∷◌, ◌++◌, Option, Some, None, refl, sym, ap, ◌∙◌, arith, subst}
 use Rattle.std.specs.Prelude.{codes, decimal, option_and_then, ◌&&◌, if◌then◌else◌}
 use Rattle.std.specs.Option.{option_map}
@@ -20,12 +20,12 @@ use Rattle.chain_core.specs.Spelling.{place_text, step_text, named_text, out_tex
 
 -- ---- places
 
--- a place that is written is read
+-- the spelling of a place is read
 pub place_back : (p : ℕ) → p < 1000000000 → place_in (place_text p) ≡ Some p
 unfolding place_in
 place_back p fits = rw (word_back (codes "x") (decimal p)) (number_back 999999999 p (omega arith) (omega arith))
 
--- what reads as a place was written
+-- an item that is read as a place is its spelling
 pub place_spells : (item : List ℕ) (p : ℕ) → place_in item ≡ Some p → (p < 1000000000) × (item ≡ place_text p)
 unfolding place_in
 place_spells item p e =
@@ -33,7 +33,7 @@ place_spells item p e =
     let parts = number_spells 999999999 p digits (omega arith) is in
     (omega (arith, parts.0), word_spells (codes "x") item digits behind ∙ ap (λ (ds : List ℕ). codes "x" ++ ds) parts.1))
 
--- nothing below the digits is in the word before a place
+-- the letter before a place isn't below the digits
 free_x : (byte : ℕ) → byte < 48 → is_free byte (codes "x") ≡ true
 unfolding is_free
 free_x byte low = grind (arith, common_steps)
@@ -50,7 +50,7 @@ both_true true true e = (refl, refl)
 both_true true false e = absurd cc
 both_true false b e = absurd cc
 
--- what reads as an operator was written
+-- an item that is read as an operator is its word
 pub operator_spells : (item : List ℕ) (op : ℕ) → operator_in item ≡ Some op → (op < 16) × (item ≡ word_text op)
 operator_spells item op e = let is = item_spelled item op e in (is.low, is.word)
 
@@ -83,7 +83,7 @@ step_in_four : (i j k o : List ℕ) (place : ℕ) (s : Step) → place_in i ≡ 
 unfolding step_in
 step_in_four i j k o place s ei ej ek eo = rw (ei, ej, ek, eo) refl
 
--- a step that is written is read
+-- the spelling of a step is read
 pub step_back : (place : ℕ) (s : Step) → place < 1000000000 → IsStepAt place s → step_in (items_of (step_text place s)) ≡ Some (place, s)
 unfolding step_text
 step_back place s fits at =
@@ -101,18 +101,18 @@ free_step place s fits at =
     let low : 10 < 48 = omega arith in
     four_free (place_text place) (place_text s.j) (place_text s.k) (word_text s.op) (free_place 10 place low fits) (free_place 10 s.j low j) (free_place 10 s.k low k) (free_operator 10 s.op low)
 
--- what the items of a step name
+-- the places and the operator of the items of a step
 record Names (i j k o : Option ℕ) (place : ℕ) (s : Step) : Type 0 where
   own : i ≡ Some place
   first : j ≡ Some s.j
   second : k ≡ Some s.k
   operator : o ≡ Some s.op
 
--- equal answers have equal contents
+-- equal results have equal contents
 pub some_is : {A : Type 0} (x y : A) → Some x ≡ Some y → x ≡ y
 some_is x y e = cc
 
--- where a step was read, each of its items was
+-- where a step is read, each of its items is read
 step_from_some : (i j k o : Option ℕ) (place : ℕ) (s : Step) → step_from i j k o ≡ Some (place, s) → Names i j k o place s
 step_from_some (Some i) (Some j) (Some k) (Some o) place s e =
     let same = some_is _ _ e in
@@ -127,7 +127,7 @@ step_from_some (Some i) None k o place s e = absurd cc
 step_from_some (Some i) (Some j) None o place s e = absurd cc
 step_from_some (Some i) (Some j) (Some k) None place s e = absurd cc
 
--- items that read as a step's were written so
+-- items that are read as a step are its spelling
 step_items : (items : List (List ℕ)) (place : ℕ) (s : Step) → step_in items ≡ Some (place, s) → (s.op < 16) × (items ≡ place_text place ∷ place_text s.j ∷ place_text s.k ∷ word_text s.op ∷ [])
 unfolding step_in
 step_items [] place s e = absurd cc
@@ -140,7 +140,7 @@ step_items (i ∷ j ∷ k ∷ o ∷ []) place s e =
     (operator.0, rw ((place_spells i place names.own).1, (place_spells j s.j names.first).1, (place_spells k s.k names.second).1, operator.1) refl)
 step_items (i ∷ j ∷ k ∷ o ∷ other ∷ items) place s e = absurd cc
 
--- what reads as a step was written
+-- a text that is read as a step is its spelling
 pub step_spells : (text : List ℕ) (place : ℕ) (s : Step) → step_in (items_of text) ≡ Some (place, s) → (s.op < 16) × (text ≡ step_text place s)
 unfolding step_text
 step_spells text place s e =
@@ -149,7 +149,7 @@ step_spells text place s e =
 
 -- ---- outs
 
--- an item that begins with x is no constant
+-- an item that begins with x isn't a constant
 is_byte_x : (byte : ℕ) (text : List ℕ) → byte < 120 → is_byte byte (120 ∷ text) ≡ false
 is_byte_x byte [] low = grind (arith, common_steps)
 is_byte_x byte (b ∷ text) low = refl
@@ -160,7 +160,7 @@ is_byte_spells byte [] e = absurd cc
 is_byte_spells byte (b ∷ []) e = ap (λ (c : ℕ). c ∷ []) (eqb-true b byte e)
 is_byte_spells byte (b ∷ c ∷ item) e = absurd cc
 
--- what an out's line names is read
+-- the spelling of what an out's line names is read
 named_back : (o : Out) (last : ℕ) → last < 1000000000 → NamesPlace last o → named_in (named_text o) ≡ Some o
 unfolding named_in
 named_back outs.Zero last fits named = refl
@@ -169,12 +169,12 @@ named_back (outs.Place p) last fits named =
     let no_constant = is_byte_x 48 (decimal p) (omega arith) in
     rw (no_constant, place_back p (omega (arith, named.1))) refl
 
--- an out that is written is read
+-- the spelling of an out is read
 pub out_back : (o : Out) (last : ℕ) → last < 1000000000 → NamesPlace last o → out_in (out_text o) ≡ Some o
 unfolding out_in out_text
 out_back o last fits named = rw (word_back (codes "out ") (named_text o)) (named_back o last fits named)
 
--- where a place was named, one was read
+-- an out that is a place was read as a place
 place_named : (x : Option ℕ) (o : Out) → option_map (λ p. outs.Place p) x ≡ Some o → (p : ℕ) × (x ≡ Some p) × (outs.Place p ≡ o)
 place_named None o e = absurd cc
 place_named (Some p) o e = (p, refl, some_is _ _ e)
@@ -187,12 +187,12 @@ named_by false false item o is_zero is_one e =
     let found = place_named (place_in item) o e in
     subst (λ (x : Out). item ≡ named_text x) found.2 (place_spells item found.0 found.1).1
 
--- what reads as named by an out was written so
+-- an item that is read as an out is its spelling
 named_spells : (item : List ℕ) (o : Out) → named_in item ≡ Some o → item ≡ named_text o
 unfolding named_in
 named_spells item o e = named_by (is_byte 48 item) (is_byte 49 item) item o refl refl e
 
--- what reads as an out was written
+-- a text that is read as an out is its spelling
 pub out_spells : (text : List ℕ) (o : Out) → out_in text ≡ Some o → text ≡ out_text o
 unfolding out_in out_text
 out_spells text o e =
@@ -218,12 +218,12 @@ free_out o last fits named = free_both 10 (codes "out ") (named_text o) free_out
 
 -- ---- the first line
 
--- a number of steps that is written is read
+-- the spelling of a number of steps is read
 pub count_back : (r : ℕ) → r ≤ 16 → option_and_then number_in (after (codes "chain ") (count_text r)) ≡ Some r
 unfolding count_text
 count_back r few = rw (word_back (codes "chain ") (decimal r)) (number_back 999999999 r (omega arith) (omega arith))
 
--- what reads as a number of steps was written
+-- a text that is read as a number of steps is its spelling
 pub count_spells : (text : List ℕ) (r : ℕ) → option_and_then number_in (after (codes "chain ") text) ≡ Some r → text ≡ count_text r
 unfolding count_text
 count_spells text r e =

@@ -1,4 +1,4 @@
--- The lines of a spelled block are read, and what is read was spelled so.
+-- Lists of lines: each spelling is read, and lines that are read are a spelling.
 use Rattle.std.proofs.Common.{◌≡◌, ℕ, ◌+◌, ◌≤◌, ◌<◌, Bool, true, false, List, [], ◌∷◌, ◌++◌, length, map, Option, Some, None, Result, Ok, Err, refl, sym, ap, ◌∙◌, arith, subst, append_assoc, length-append, ◌⊎◌, inl, inr}
 use Rattle.std.specs.Prelude.{◌&&◌, ◌==◌, nat_lt, nat_le, if◌then◌else◌}
 use Rattle.std.specs.List.{AllByRecursion}
@@ -24,44 +24,44 @@ use Rattle.chain_core.specs.WrittenLineLaws.{both_true, step_back, step_spells, 
 abbrev read_as : {A : Type 0} → A → List Line → Result (A × List Line) ChainError
 read_as x ls = Ok (x, ls)
 
--- what was read without a fault
+-- the value that was read, where there is no error
 abbrev pub done : {A : Type 0} → A → Result A ChainError
 done x = Ok x
 
--- equal answers without a fault have equal contents
+-- equal results without an error have equal contents
 pub ok_is : {A : Type 0} (x y : A) → done x ≡ done y → x ≡ y
 ok_is x y e = cc
 
--- where an answer has no fault, the test before it is true
+-- where there is no error, the test before it is true
 pub test_ok : {A : Type 0} (b : Bool) (r : Result A ChainError) (d : ChainError) (y : A) → (if b then r else Err d) ≡ Ok y → (b ≡ true) × (r ≡ Ok y)
 test_ok true r d y e = (refl, e)
 test_ok false r d y e = absurd cc
 
--- where two parts were read without a fault, the first one was
+-- where two parts are read without an error, the first one is
 pub bind_ok : {A B : Type 0} (r : Result A ChainError) (f : A → Result B ChainError) (y : B) → (r >>= f) ≡ Ok y → (x : A) × (r ≡ Ok x) × (f x ≡ Ok y)
 bind_ok (Ok x) f y e = (x, refl, e)
 bind_ok (Err d) f y e = absurd cc
 
--- which way a test went
+-- the two cases of a test
 chosen : {A : Type 0} (b : Bool) (x y z : A) → (if b then x else y) ≡ z → ((b ≡ true) × (x ≡ z)) ⊎ ((b ≡ false) × (y ≡ z))
 chosen true x y z e = inl (refl, e)
 chosen false x y z e = inr (refl, e)
 
--- a line that an LF ends is given by its text
+-- a line with an LF is determined by its text
 pub line_is : (l : Line) (text : List ℕ) → l.ended ≡ true → l.text ≡ text → l ≡ line text
 line_is l text ended same = λ i. record { text = same i; ended = ended i }
 
--- fewer is not as many
+-- a smaller number isn't equal
 not_yet : (m n : ℕ) → m < n → (m == n) ≡ false
 not_yet m n less = grind (arith, common_steps)
 
 -- ---- one step
 
--- a step at its place passes
+-- a step at its place has no error
 judged_back : (place number : ℕ) (s : Step) → IsStepAt place s → judged_step place number (Some (place, s)) ≡ Ok s
 judged_back place number s at = grind (arith, common_steps)
 
--- what a judged step is
+-- a step that was checked without an error
 record Judged (place : ℕ) (x : Option (ℕ × Step)) (s : Step) : Type 0 where
   found : x ≡ Some (place, s)
   j_from : 1 ≤ s.j
@@ -69,7 +69,7 @@ record Judged (place : ℕ) (x : Option (ℕ × Step)) (s : Step) : Type 0 where
   k_from : 1 ≤ s.k
   k_below : s.k < place
 
--- a step that passes names its own place and lower places
+-- a step without an error names its own place and lower places
 judged_spells : (place number : ℕ) (x : Option (ℕ × Step)) (s : Step) → judged_step place number x ≡ Ok s → Judged place x s
 judged_spells place number None s e = absurd cc
 judged_spells place number (Some x) s e =
@@ -92,7 +92,7 @@ step_at_back : (f : Frame) (old : ℕ) (s : Step) → f.n + 1 + old < 1000000000
 unfolding step_at
 step_at_back f old s fits at = rw (step_back (f.n + 1 + old) s fits at) (judged_back (f.n + 1 + old) (f.first_line + 1 + old) s at)
 
--- what is read as a step's line was written so
+-- a line that is read as a step's is its spelling
 step_at_spells : (f : Frame) (old : ℕ) (l : Line) (s : Step) → step_at f old l ≡ Ok s → (l ≡ line (step_text (f.n + 1 + old) s)) × IsStepAt (f.n + 1 + old) s
 unfolding step_at
 step_at_spells f old l s e =
@@ -113,7 +113,7 @@ steps_back f n old (s ∷ ss) rest place are count fits =
     let onward = steps_back f (n + 1) (old ++ s ∷ []) ss rest (rw length-append (omega arith)) (other_steps n s ss are) (rw length-append (omega arith)) fits in
     rw (not_yet (length old) f.steps (omega arith), read) (onward ∙ ap (λ (xs : List Step). read_as xs rest) (append_assoc old (s ∷ []) ss))
 
--- the steps that were read after the old ones, from the place n + 1 on
+-- the old steps followed by those that were read, the first of all at the place n + 1
 pub record ReadSteps (f : Frame) (n : ℕ) (old : List Step) (ls : List Line) (y : List Step × List Line) : Type 0 where
   pub steps : List Step
   pub are : AreSteps n steps
@@ -121,7 +121,7 @@ pub record ReadSteps (f : Frame) (n : ℕ) (old : List Step) (ls : List Line) (y
   pub count : length old + length steps ≡ f.steps
   pub lines : ls ≡ step_lines (n + 1) steps ++ y.1
 
--- enough steps were read already
+-- enough steps were read before
 no_more_steps : (f : Frame) (n : ℕ) (old : List Step) (ls : List Line) (y : List Step × List Line) → (length old == f.steps) ≡ true → read_as old ls ≡ Ok y → ReadSteps f n old ls y
 unfolding step_lines
 no_more_steps f n old ls y enough e =
@@ -134,7 +134,7 @@ no_more_steps f n old ls y enough e =
       lines = ap (λ (x : List Step × List Line). x.1) same;
     }
 
--- one more step was read, and then the others
+-- one more step is read, and then the others
 one_more_step : (f : Frame) (n : ℕ) (old : List Step) (s : Step) (l : Line) (ls : List Line) (y : List Step × List Line) → IsStepAt (n + 1) s → l ≡ line (step_text (n + 1) s) → ReadSteps f (n + 1) (old ++ s ∷ []) ls y → ReadSteps f n old (l ∷ ls) y
 unfolding step_lines
 one_more_step f n old s l ls y at written more = record {
@@ -145,7 +145,7 @@ one_more_step f n old s l ls y at written more = record {
   lines = λ i. written i ∷ more.lines i;
 }
 
--- what is read as the lines of steps was written so
+-- lines that are read as steps are their spelling
 pub steps_spell : (f : Frame) (ls : List Line) (n : ℕ) (old : List Step) (y : List Step × List Line) → n ≡ f.n + length old → steps_from f old ls ≡ Ok y → ReadSteps f n old ls y
 unfolding steps_from
 steps_spell f [] n old y place e =
@@ -163,19 +163,19 @@ steps_spell f (l ∷ ls) n old y place e =
 
 -- ---- outs
 
--- an out that names a constant or a place passes
+-- an out that is a constant or a place of the chain has no error
 judged_out_back : (last number : ℕ) (o : Out) → NamesPlace last o → judged_out last number (Some o) ≡ Ok o
 judged_out_back last number outs.Zero named = refl
 judged_out_back last number outs.One named = refl
 judged_out_back last number (outs.Place p) named = grind (arith, common_steps, named.0, named.1)
 
--- an out that passes the test names a constant or a place
+-- an out that passes the test is a constant or a place of the chain
 is_named_spells : (last : ℕ) (o : Out) → is_named last o ≡ true → NamesPlace last o
 is_named_spells last outs.Zero e = tt
 is_named_spells last outs.One e = tt
 is_named_spells last (outs.Place p) e = let parts = both_true (nat_lt 0 p) (nat_le p last) e in (ltb-true 0 p parts.0, leb-true p last parts.1)
 
--- an out that passes was read, and names a constant or a place
+-- an out without an error was read, and is a constant or a place of the chain
 judged_out_spells : (last number : ℕ) (x : Option Out) (o : Out) → judged_out last number x ≡ Ok o → (x ≡ Some o) × NamesPlace last o
 judged_out_spells last number None o e = absurd cc
 judged_out_spells last number (Some x) o e =
@@ -188,7 +188,7 @@ out_at_back : (f : Frame) (old : ℕ) (o : Out) → f.n + f.steps < 1000000000 �
 unfolding out_at
 out_at_back f old o fits named = rw (out_back o (f.n + f.steps) fits named) (judged_out_back (f.n + f.steps) (f.first_line + 1 + f.steps + old) o named)
 
--- what is read as an out's line was written so
+-- a line that is read as an out's is its spelling
 out_at_spells : (f : Frame) (old : ℕ) (l : Line) (o : Out) → out_at f old l ≡ Ok o → (l ≡ out_line o) × NamesPlace (f.n + f.steps) o
 unfolding out_at
 out_at_spells f old l o e =
@@ -204,7 +204,7 @@ outs_back f old (o ∷ os) rest named count fits =
     let onward = outs_back f (old ++ o ∷ []) os rest named.1 (rw length-append (omega arith)) fits in
     rw (not_yet (length old) f.outputs (omega arith), out_at_back f (length old) o fits named.0) (onward ∙ ap (λ (xs : List Out). read_as xs rest) (append_assoc old (o ∷ []) os))
 
--- the outs that were read after the old ones
+-- the old outs followed by those that were read
 pub record ReadOuts (f : Frame) (old : List Out) (ls : List Line) (y : List Out × List Line) : Type 0 where
   pub outs : List Out
   pub named : AllByRecursion (NamesPlace (f.n + f.steps)) outs
@@ -212,7 +212,7 @@ pub record ReadOuts (f : Frame) (old : List Out) (ls : List Line) (y : List Out 
   pub count : length old + length outs ≡ f.outputs
   pub lines : ls ≡ map out_line outs ++ y.1
 
--- enough outs were read already
+-- enough outs were read before
 no_more_outs : (f : Frame) (old : List Out) (ls : List Line) (y : List Out × List Line) → (length old == f.outputs) ≡ true → read_as old ls ≡ Ok y → ReadOuts f old ls y
 no_more_outs f old ls y enough e =
     let same : (old, ls) ≡ y = ok_is (old, ls) y e in
@@ -224,7 +224,7 @@ no_more_outs f old ls y enough e =
       lines = ap (λ (x : List Out × List Line). x.1) same;
     }
 
--- one more out was read, and then the others
+-- one more out is read, and then the others
 one_more_out : (f : Frame) (old : List Out) (o : Out) (l : Line) (ls : List Line) (y : List Out × List Line) → NamesPlace (f.n + f.steps) o → l ≡ out_line o → ReadOuts f (old ++ o ∷ []) ls y → ReadOuts f old (l ∷ ls) y
 one_more_out f old o l ls y named written more = record {
   outs = o ∷ more.outs;
@@ -234,7 +234,7 @@ one_more_out f old o l ls y named written more = record {
   lines = λ i. written i ∷ more.lines i;
 }
 
--- what is read as the lines of outs was written so
+-- lines that are read as outs are their spelling
 pub outs_spell : (f : Frame) (ls : List Line) (old : List Out) (y : List Out × List Line) → outs_from f old ls ≡ Ok y → ReadOuts f old ls y
 unfolding outs_from
 outs_spell f [] old y e =

@@ -1,4 +1,4 @@
-//! A chain of bounded size. Contracts see it as the chain of the definitions.
+//! A chain of bounded size. Contracts see it as a chain of `chain_theory`.
 ghost use Rattle.std.specs.Prelude.{◌≡◌};
 ghost use Rattle.chain_core.specs.Steps.{steps_of, IsSmallChain};
 
@@ -26,7 +26,7 @@ impl Model for Chain {
 }
 
 impl Chain {
-    /// The chain of `n` inputs with these steps, the first at the place `n + 1`, and these outs.
+    /// The chain with `n` inputs, these steps, the first of them at the place `n + 1`, and these outs.
     pub fn new(n: u32, steps: Vec<Step>, outs: Vec<Out>) -> Chain
         requires { IsSmallChain (record { n = n; steps = steps_of steps.items; outs = outs.items }) }
         ensures { result ≡ record { n = n; steps = steps_of steps.items; outs = outs.items } }
@@ -50,7 +50,7 @@ impl Chain {
         &self.steps
     }
 
-    /// What the outputs are, in order.
+    /// The outs, one for each output, in order.
     pub fn outs(&self) -> &[Out]
         ensures outs { result.now ≡ self.now.outs }
         ensures small { IsSmallChain self.now }

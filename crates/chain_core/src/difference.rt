@@ -1,4 +1,4 @@
-//! A chain against a specification.
+//! Comparison of a chain with a specification.
 
 ghost use Rattle.std.specs.Prelude.{◌≡◌, ◌≤◌, length};
 ghost use Rattle.tt_core.specs.Words.{specification};
@@ -11,7 +11,7 @@ use crate::values::out_value;
 use chain_theory::Cell;
 use tt_core::{Spec, row};
 
-/// Whether a cell is met by a value.
+/// Whether a value meets a cell: the cell is free or equal to the value.
 fn meets(cell: Cell, bit: bool) -> bool
     ensures { result ≡ is_met cell bit }
 {
@@ -22,7 +22,7 @@ fn meets(cell: Cell, bit: bool) -> bool
     }
 }
 
-/// The first row on which an output misses its cell.
+/// The first row on which an output misses its cell; None where there is none.
 fn first_row(chain: &Chain, spec: &Spec, h: u32) -> Option<u32>
     requires inputs { chain.now.n ≡ spec.now.n }
     requires from { 1 ≤ h }
@@ -38,8 +38,9 @@ fn first_row(chain: &Chain, spec: &Spec, h: u32) -> Option<u32>
     None
 }
 
-/// Where a chain first misses a specification: the least output, numbered from 1, and for it the
-/// least row. None where the chain agrees. Both have the same number of inputs and of outputs.
+/// Where a chain first misses a specification: the least output that does, numbered from 1, and its
+/// least row. None where the chain agrees. The chain and the specification have the same numbers of
+/// inputs and of outputs.
 pub fn first_difference(chain: &Chain, spec: &Spec) -> Option<(u32, u32)>
     requires inputs { chain.now.n ≡ spec.now.n }
     requires outputs { length chain.now.outs ≡ length spec.now.on }

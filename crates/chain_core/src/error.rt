@@ -1,25 +1,24 @@
-//! Why no chain was read.
+//! Why a chain block is refused.
 ghost use Rattle.std.specs.Prelude.{◌≡◌};
 ghost use Rattle.chain_core.specs.declared.error.ChainError.TheVariants.{Memory};
 
 use std::alloc::{AllocError, AllocFailed};
 
-/// Why no chain was read. Each fault of a text has the number of its line; where the lines end too
-/// early, that of the line that would come next.
+/// Why a chain block is refused. Each error of a text has the number of its line; at the end of the
+/// text it is that of the line that would come next.
 #[derive(Clone, Copy, PartialEq, Eq)]
 pub enum ChainError {
-    /// There is no line for a step, or it has no LF, or it isn't a step line (a number of more than
-    /// nine digits makes it none), or it doesn't name the step's own place, or has the operand 0.
+    /// A step's line is missing, has no LF, isn't of the form of a step (a number has at most nine
+    /// digits), doesn't begin with the step's own place, or has the operand 0.
     BadStep(u32),
-    /// The line of a step is good except for an operand that isn't a place before the step.
+    /// A step's line is well-formed, but an operand isn't a place before the step.
     ForwardPlace(u32),
-    /// There is no line for an output, or it has no LF, or it isn't an output line (a number of more
-    /// than nine digits makes it none), or it names no place of the chain.
+    /// An output's line is missing, has no LF, isn't of the form of an output (a number has at most
+    /// nine digits), or names a place that the chain doesn't have.
     BadOut(u32),
-    /// The first line says more than 16 steps.
+    /// The first line names more than 16 steps.
     TooManySteps(u32),
-    /// There is no first line, or it has no LF, or it doesn't say the number of steps in at most
-    /// nine digits.
+    /// The first line is missing, has no LF, or isn't `chain ` and a number of at most nine digits.
     BadCount(u32),
     /// Memory ran out.
     Memory,

@@ -1,7 +1,7 @@
-//! What the lines of a chain block are judged by.
+//! What the reader of a chain block has to know to check one line.
 
-/// What a chain block's lines are judged by: the number of its first line in the text, the numbers
-/// of inputs and outputs, and the number of steps that the first line says.
+/// What the lines of a chain block are checked against: the number of the block's first line in the
+/// text, from 1, the numbers of inputs and outputs, and the number of steps that the first line names.
 #[derive(Clone, Copy)]
 pub struct Frame {
     pub first_line: u32,

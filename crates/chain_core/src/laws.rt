@@ -7,8 +7,8 @@ ghost use Rattle.chain_core.specs.Steps.{IsSmallChain};
 ghost use Rattle.chain_core.specs.Block.{Read, chain_of};
 ghost use Rattle.chain_core.specs.Spelling.{chain_text, Spells};
 
-/// A chain block is read exactly where it is the spelling of a chain, byte for byte. A spelled
-/// chain is read again, whatever follows it.
+/// A chain block is read exactly where it is the spelling of a chain, byte for byte. The chain that
+/// is read is the one that was spelled, whatever text follows.
 pub fn laws_of_blocks()
     ensures back { (first : ℕ) (c : Chain) (rest : List ℕ) →
         IsSmallChain c →

@@ -1,6 +1,6 @@
-//! The lines of a chain block, one by one. A line is judged in three layers, each equal to the
-//! definition of its name: the words of its items, the step or out that they spell, and whether
-//! that is allowed there.
+//! The lines of a chain block, one by one. A line is checked in three layers, each equal to the
+//! definition of its name: the text of an item, the step or out that the items spell, and whether
+//! this step or out may come here.
 
 ghost use Rattle.std.specs.Prelude.{◌≡◌, ◌+◌, ◌-◌, ◌<◌, ◌≤◌, ◌^◌, IfSome, IfOk};
 ghost use Rattle.std.specs.Option.{option_map};
@@ -20,7 +20,7 @@ use text_core::{after, next_item, number_up_to};
 /// The greatest number of nine digits.
 const GREATEST: u32 = 999_999_999;
 
-/// The place that an item names.
+/// The place that an item names, as in `x12`; None where it names none.
 #[tactic(auto, unfolding(crate::specs::Block::place_in))]
 fn place_in(item: &[u8]) -> Option<u32>
     ensures { result ≡ block.place_in item.now }
@@ -28,7 +28,7 @@ fn place_in(item: &[u8]) -> Option<u32>
     number_up_to(GREATEST, after(b"x", item)?)
 }
 
-/// The place that a step's line names for the step, and the step.
+/// The place at the beginning of a step's line, and the step; None where the line isn't of the form of a step.
 #[tactic(auto, unfolding(crate::specs::Block::step_in))]
 fn step_in(text: &[u8]) -> Option<(u32, Step)>
     ensures line { option_map (λ x. (x.0, step_of x.1)) result ≡ block.step_in (items_of text.now) }
@@ -55,7 +55,7 @@ fn step_in(text: &[u8]) -> Option<(u32, Step)>
     Some((place, step))
 }
 
-/// What the line of an output names.
+/// The out of an output's line; None where the line isn't of the form of an output.
 #[tactic(auto, unfolding(crate::specs::Block::out_in, crate::specs::Block::named_in))]
 fn out_in(text: &[u8]) -> Option<Out>
     ensures { result ≡ block.out_in text.now }
@@ -67,7 +67,8 @@ fn out_in(text: &[u8]) -> Option<Out>
     }
 }
 
-/// The number of steps that the first line of a block says.
+/// The number of steps in the first line of a block, `text` without its LF. `ended` tells whether it
+/// has one, and `first_line` is its number in errors.
 #[tactic(auto, unfolding(crate::specs::Block::count_at))]
 pub fn count_at(first_line: u32, text: &[u8], ended: bool) -> Result<u32, ChainError>
     ensures exact { Gives (λ r. r) result (block.count_at first_line (record { text = text.now; ended = ended })) }
@@ -86,7 +87,8 @@ pub fn count_at(first_line: u32, text: &[u8], ended: bool) -> Result<u32, ChainE
     }
 }
 
-/// The step of a line, where `done` steps came before it.
+/// The step of a line, `text` without its LF, after `done` other steps. `ended` tells whether the line
+/// has an LF.
 #[tactic(auto, unfolding(crate::specs::Block::step_at))]
 pub fn step_at(frame: &Frame, done: u32, text: &[u8], ended: bool) -> Result<Step, ChainError>
     requires place { frame.now.n + 1 + done < 2 ^ 32 }
@@ -111,7 +113,8 @@ pub fn step_at(frame: &Frame, done: u32, text: &[u8], ended: bool) -> Result<Ste
     Ok(step)
 }
 
-/// The out of a line, where `done` outs came before it.
+/// The out of a line, `text` without its LF, after `done` other outs. `ended` tells whether the line
+/// has an LF.
 #[tactic(auto, unfolding(crate::specs::Block::out_at))]
 pub fn out_at(frame: &Frame, done: u32, text: &[u8], ended: bool) -> Result<Out, ChainError>
     requires place { frame.now.n + frame.now.steps < 2 ^ 32 }

@@ -1,4 +1,4 @@
-//! A chain against a basis.
+//! Comparison of a chain with a basis.
 
 ghost use Rattle.std.specs.Prelude.{◌≡◌, ◌+◌, ◌^◌, ◌<◌, length};
 ghost use Rattle.op_basis.specs.Basis.{members};
@@ -9,7 +9,7 @@ use crate::chain::Chain;
 use crate::step::Step;
 use op_basis::Basis;
 
-/// The first place outside a basis among steps from `place` on.
+/// The first place with an operator outside a basis, among steps of which the first is at `first`.
 #[tactic(auto, unfolding(crate::specs::Outside::outside_from))]
 fn outside_from(first: u32, steps: &[Step], basis: Basis) -> Option<u32>
     requires { first + length steps.now < 2 ^ 32 }
@@ -27,7 +27,7 @@ fn outside_from(first: u32, steps: &[Step], basis: Basis) -> Option<u32>
     None
 }
 
-/// The first place whose operator isn't in a basis. None where the chain is over the basis.
+/// The first place whose operator isn't in a basis; None where the chain is over the basis.
 #[tactic(auto, using(crate::specs::OutsideLaws::judging))]
 pub fn first_outside(chain: &Chain, basis: Basis) -> Option<u32>
     ensures { IsJudged (members basis) chain.now result }

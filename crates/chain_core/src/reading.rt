@@ -1,5 +1,6 @@
-//! Chain blocks, line by line. Each loop keeps one equation: the definition of what is left, given
-//! what was read, is the definition of the whole; so its fault is the first one.
+//! Chain blocks, line by line. The invariant of each loop is an equation: the grammar of the lines
+//! that are left, given what was read, is the grammar of the whole block. So each refusal is the
+//! first error of the grammar.
 
 ghost use Rattle.std.specs.Prelude.{◌≡◌, ℕ, ◌+◌, ◌^◌, ◌<◌, ◌≤◌, [], ◌∷◌, ◌++◌, length, drop, All, OnOk, OnErr, IfOk};
 ghost use Rattle.text_core.specs.Lines.{lines_of};
@@ -18,8 +19,7 @@ use chain_theory::Out;
 use std::alloc::{AllocError, Global};
 use text_core::next_line;
 
-/// Adds a step at the next place to the steps before it. An error means that memory ran out, and
-/// nothing was added.
+/// Appends a step, at the next place. An error means that memory ran out; then nothing is appended.
 #[tactic(auto, using(crate::specs::BlockLaws::more_steps))]
 pub fn add_step(steps: &mut Vec<Step>, step: Step) -> Result<(), AllocError>
     ensures added { OnOk result (steps.new.items ≡ steps.old.items ++ step ∷ []) }
@@ -31,7 +31,7 @@ pub fn add_step(steps: &mut Vec<Step>, step: Step) -> Result<(), AllocError>
     Ok(())
 }
 
-/// The steps of the lines, and what follows them.
+/// The steps of the next lines, as many as the first line names, and the text after them.
 #[tactic(auto, using(crate::specs::BlockLaws::steps_loop), unfolding(crate::specs::Block::steps_from))]
 fn steps_from<'a>(
     alloc: Global,
@@ -59,7 +59,7 @@ fn steps_from<'a>(
     Ok((steps, left))
 }
 
-/// The outs of the lines, and what follows them.
+/// The outs of the next lines, one for each output, and the text after them.
 #[tactic(auto, using(crate::specs::BlockLaws::outs_loop), unfolding(crate::specs::Block::outs_from))]
 fn outs_from<'a>(
     alloc: Global,
@@ -88,7 +88,7 @@ fn outs_from<'a>(
     Ok((outs, left))
 }
 
-/// The chain of all lines but the first, and what follows them.
+/// The chain of the lines after the first, and the text after them.
 #[tactic(auto, using(crate::specs::BlockLaws::resting), unfolding(crate::specs::Block::body_from))]
 fn body_from<'a>(
     alloc: Global,
@@ -111,10 +111,10 @@ fn body_from<'a>(
 }
 
 /// Reads a chain block from the start of a text: the chain of `n` inputs and `outputs` outputs, and
-/// how many bytes its lines take. What follows them isn't judged. `first_line` is the number of the
-/// block's first line in the whole text.
+/// how many bytes its lines have. The text after them isn't checked. `first_line` is the number of
+/// the block's first line in the whole text.
 ///
-/// Lines are judged in their order, and the first fault is reported with its line.
+/// Lines are checked in order, and the first error is reported with its line.
 #[tactic(auto, using(crate::specs::BlockLaws::resting), unfolding(crate::specs::Block::chain_of))]
 pub fn read_chain(
     alloc: Global,

@@ -1,4 +1,4 @@
-//! The levels of a chain's steps, and how many levels it has.
+//! The levels of a chain's steps, and its depth.
 ghost use Rattle.std.specs.Prelude.{◌≡◌, ℕ, ◌+◌, ◌<◌, ◌≤◌, length, IfOk};
 ghost use Rattle.chain_theory.specs.Chain.{AreSteps};
 ghost use Rattle.chain_theory.specs.Levels.{levels_after, depth};
@@ -9,7 +9,7 @@ use crate::chain::Chain;
 use crate::step::Step;
 use std::alloc::{AllocError, Global};
 
-/// The levels of the places of the steps, each from those of its operands. Place p stands at index p.
+/// Writes the level of each step, from the levels of its operands. Place p is at index p; index 0 is unused.
 #[tactic(auto, using(crate::specs::StepLaws::standing), unfolding(chain_theory::specs::Levels::levels_after))]
 fn levels_into(levels: &mut [u32], n: u32, steps: &[Step])
     requires steps { AreSteps n (steps_of steps.now) }
@@ -29,11 +29,12 @@ fn levels_into(levels: &mut [u32], n: u32, steps: &[Step])
 }
 
 /// The level of each step, in the order of their places: one more than the larger level of its
-/// operands, where inputs have the level 0.
+/// operands, where inputs have the level 0. An error means that memory ran out.
 #[tactic(auto, unfolding(crate::specs::Heights::levels_of))]
 pub fn levels(alloc: Global, chain: &Chain) -> Result<Vec<u32>, AllocError>
     ensures { IfOk result (λ levels. levels.items ≡ levels_of chain.now) }
 {
+    // 1 + 6 inputs + 16 steps: index 0 is unused
     let mut of_places = [0; 23];
     let n = chain.n();
     let steps = chain.steps();
@@ -45,7 +46,8 @@ pub fn levels(alloc: Global, chain: &Chain) -> Result<Vec<u32>, AllocError>
     Ok(levels)
 }
 
-/// The depth of a chain: the greatest level of its steps, 0 where it has none.
+/// The depth of a chain: the greatest level of its steps, 0 where it has none. An error means that
+/// memory ran out.
 #[tactic(auto, using(crate::proofs::Depths::depths))]
 pub fn depth_of(alloc: Global, chain: &Chain) -> Result<u32, AllocError>
     ensures { IfOk result (λ d. d ≡ depth chain.now) }

@@ -1,6 +1,6 @@
-//! Values of places on a row (simulation). The steps are computed once, in order, each writing the
-//! bit of its own place into an array; the definition's run over the steps gives the same bits at
-//! each turn, which is the loop's one equation.
+//! Values of places on a row (simulation). The steps are computed once, in order, and each writes its
+//! bit into an array at the index of its place. The loop invariant is an equation: the definition,
+//! applied to the array and the steps that are left, gives the same bits.
 ghost use Rattle.std.specs.Prelude.{◌≡◌, ℕ, ◌+◌, ◌^◌, ◌<◌, ◌≤◌, length};
 ghost use Rattle.chain_theory.specs.Chain.{AreSteps};
 ghost use Rattle.chain_theory.specs.Specification.{input};
@@ -13,7 +13,7 @@ use crate::chain::Chain;
 use crate::step::Step;
 use chain_theory::Out;
 
-/// The bits that a row gives the inputs' places. Place p is at index p; index 0 is unused.
+/// Writes the bits of the inputs on a row. Place p is at index p; index 0 is unused.
 #[tactic(auto, unfolding(crate::specs::Bits::bits))]
 fn inputs_into(values: &mut [bool], n: u32, row: u32)
     requires few { n ≤ 6 }
@@ -25,7 +25,7 @@ fn inputs_into(values: &mut [bool], n: u32, row: u32)
     }
 }
 
-/// The values of the steps' places, each from those before it.
+/// Writes the values of the steps, each from the bits at its operands' places.
 #[tactic(auto, using(crate::specs::StepLaws::standing), unfolding(chain_theory::specs::Value::values_after))]
 fn steps_into(values: &mut [bool], n: u32, steps: &[Step])
     requires steps { AreSteps n (steps_of steps.now) }
@@ -43,14 +43,15 @@ fn steps_into(values: &mut [bool], n: u32, steps: &[Step])
     }
 }
 
-/// The value of a place on a row, by all steps in their order. A row is below 2^n; its most
-/// significant bit is that of place 1.
+/// The value of a place on a row. Places are numbered from 1: first the inputs, then the steps. A row
+/// is below 2^n, and its most significant bit is that of place 1.
 pub fn value(chain: &Chain, row: u32, place: u32) -> bool
     requires row { row < 2 ^ chain.now.n }
     requires from { 1 ≤ place }
     requires to { place ≤ chain.now.n + length chain.now.steps }
     ensures { result ≡ value_of chain.now row place }
 {
+    // 1 + 6 inputs + 16 steps: index 0 is unused
     let mut values = [false; 23];
     let n = chain.n();
     inputs_into(&mut values, n, row);

@@ -1,5 +1,5 @@
-//! Chain blocks are written into a buffer of their own, which is appended whole at the end, so that
-//! the text is unchanged where memory runs out.
+//! Chain blocks are written into a buffer of their own, which is appended at the end, so that the
+//! text is unchanged if memory runs out.
 
 ghost use Rattle.std.specs.Prelude.{◌≡◌, ◌+◌, ◌^◌, ◌<◌, ◌++◌, length, map, OnOk, OnErr};
 ghost use Rattle.std.specs.List.{flat_map};
@@ -14,7 +14,7 @@ use op_basis::write_operator;
 use std::alloc::AllocError;
 use text_core::push_number;
 
-/// Appends the name of a place.
+/// Appends the name of a place, as in `x12`.
 fn push_place(text: &mut Vec<u8>, place: u32) -> Result<(), AllocError>
     ensures { OnOk result (text.new.items ≡ text.old.items ++ spelling.place_text place) }
 {
@@ -37,7 +37,7 @@ fn push_step(text: &mut Vec<u8>, place: u32, step: Step) -> Result<(), AllocErro
     text.extend_from_slice(b"\n")
 }
 
-/// Appends the lines of steps from a place on.
+/// Appends the lines of steps, the first of them at the place `first`.
 #[tactic(auto, unfolding(crate::specs::Spelling::step_lines))]
 fn push_steps(text: &mut Vec<u8>, first: u32, steps: &[Step]) -> Result<(), AllocError>
     requires { first + length steps.now < 2 ^ 32 }
@@ -79,8 +79,8 @@ fn push_outs(text: &mut Vec<u8>, outs: &[Out]) -> Result<(), AllocError>
     Ok(())
 }
 
-/// Appends a chain's block. It has one spelling, and `read_chain` reads the chain from it, whatever
-/// follows. On an error nothing was appended.
+/// Appends a chain's block, its one spelling; `read_chain` reads the chain back from it, whatever text
+/// follows. An error means that memory ran out; then nothing is appended.
 #[tactic(auto, unfolding(crate::specs::Spelling::count_text))]
 pub fn write_chain(chain: &Chain, out: &mut Vec<u8>) -> Result<(), AllocError>
     ensures ok { OnOk result (out.new.items ≡ out.old.items ++ spelling.chain_text chain.now) }

@@ -1,4 +1,4 @@
--- Chains of a fixed number of steps, whose steps are a function of their index.
+-- Chains of a fixed number of steps, given as a function of the step's index.
 use Rattle.std.proofs.Common.{◌≡◌, ℕ, ◌+◌, ◌-◌, ◌≤◌, ◌<◌, ◌^◌, Bool, true, false, List, length, refl, sym, ap, ◌∙◌, arith, ⊎_elim, subst}
 use Rattle.std.specs.Prelude.{slice_index_or}
 use Rattle.std.specs.List.{All}
@@ -20,7 +20,7 @@ pub record Body : Type 0 where
   pub step : ℕ → Step
   pub outs : List Out
 
--- its first r steps over n inputs, as a chain
+-- the first r steps over n inputs, as a chain
 abbrev pub chain_of : ℕ → ℕ → Body → Chain
 chain_of n r b = record { n = n; steps = rebuilt b.step r; outs = b.outs }
 
@@ -38,8 +38,8 @@ out_bit bits (Place p) = bits p
 abbrev pub AreBelow : ℕ → ℕ → (ℕ → Step) → Type 0
 AreBelow n r step = (i : ℕ) → i < r → IsStepAt (n + 1 + i) (step i)
 
--- A chain of r steps over the basis that agrees with the specification; the height of each step's
--- place is above those of its operands, and none is above d.
+-- A chain of r steps over the basis that agrees with the specification, with a number (height) for each
+-- place: a step's height is above those of its operands, and at most d.
 pub record Fits (s : Specification) (basis : Basis) (r d : ℕ) (b : Body) : Type 0 where
   pub below : AreBelow s.inputs r b.step
   pub over : (i : ℕ) → i < r → basis (b.step i).op ≡ true
@@ -63,7 +63,7 @@ input_bit n r step t p low = input_value n t p (rebuilt step r) (omega arith)
 pub step_bit : (n r : ℕ) (step : ℕ → Step) → AreBelow n r step → (t i : ℕ) → i < r → bits_of n r step t (n + 1 + i) ≡ step_value (bits_of n r step t) (step i)
 step_bit n r step below t i low = step_is n t (rebuilt step r) (are_steps n r step below) i (step i) (rebuilt_get step r i low)
 
--- Bits that have the inputs' bits and follow each step are the values.
+-- Bits that agree with the inputs, and follow each step, are the values.
 pub bits_are : (n r : ℕ) (step : ℕ → Step) → AreBelow n r step → (t : ℕ) (bits : ℕ → Bool) → ((p : ℕ) → 1 ≤ p → p ≤ n → bits p ≡ input n t p) → ((i : ℕ) → i < r → bits (n + 1 + i) ≡ step_value bits (step i)) → (p : ℕ) → 1 ≤ p → p < n + 1 + r → bits_of n r step t p ≡ bits p
 bits_are n r step below t bits inputs follow p from low =
     values_are n t bits (rebuilt step r) (are_steps n r step below) inputs
@@ -78,7 +78,7 @@ front_bits n r step below k less t p from low =
     (λ i inside. step_bit n r step below t i (omega arith))
     p from low
 
--- an out is the same where the places have the same bits
+-- an out has the same value where the places have the same bits
 pub same_out : (last : ℕ) (f g : ℕ → Bool) → ((p : ℕ) → 1 ≤ p → p ≤ last → f p ≡ g p) → (o : Out) → NamesPlace last o → out_bit f o ≡ out_bit g o
 same_out last f g same Zero names = refl
 same_out last f g same One names = refl

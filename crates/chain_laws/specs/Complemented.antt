@@ -1,4 +1,4 @@
--- Some steps complemented, and the operators of the steps that read them.
+-- Some steps are complemented, and the operators of the steps that read them are adapted.
 use Rattle.std.proofs.Common.{◌≡◌, ℕ, ◌+◌, ◌-◌, ◌≤◌, ◌<◌, Bool, true, false, not, ◌&&◌, length, refl, sym, ap, ◌∙◌, arith, inl, inr, ⊎_elim, ◌⊎◌}
 use Rattle.std.specs.Prelude.{slice_index_or, if◌then◌else◌}
 use Rattle.std.proofs.lemmas.Bool.{and_parts}
@@ -63,7 +63,7 @@ unfolding complement
 own_member basis closed f op is false = is
 own_member basis closed f op is true = (operator_low (λ a b. not (apply op a b)), (members_of basis closed op is.0 is.1).0, λ a b. operator_values (λ x y. not (apply op x y)) a b ∙ ap not (is.2 a b))
 
--- Over a basis closed under complements it is a member.
+-- Over a basis closed under complements the adapted operator is a member.
 flipped_member : (basis : Basis) → polarity_closed basis ≡ true → (op : ℕ) → op < 16 → basis op ≡ true → (first second own : Bool) → IsMember basis (λ a b. flip own (apply op (flip first a) (flip second b))) (flipped first second own op)
 unfolding flipped
 flipped_member basis closed op low member first second own =
@@ -110,7 +110,7 @@ kept_out on bits Zero off = refl
 kept_out on bits One off = refl
 kept_out on bits (Place p) off = ap (λ (x : Bool). flip x (bits p)) (off p refl)
 
--- A chain with some steps complemented that aren't outs agrees too.
+-- A chain agrees too when some steps that aren't outs are complemented.
 pub complemented_fits : (s : Specification) (basis : Basis) (r d : ℕ) (b : Body) → Fits s basis r d b → polarity_closed basis ≡ true → (on : ℕ → Bool) → ((p : ℕ) → p ≤ s.inputs → on p ≡ false) → ((h p : ℕ) → h < length b.outs → slice_index_or b.outs h Zero ≡ Place p → on p ≡ false) → Fits s basis r d (complemented_body s.inputs on b)
 complemented_fits s basis r d b fits closed on inputs off =
     let n : ℕ = s.inputs in
@@ -147,7 +147,7 @@ unflipped basis closed op low member first second own u v =
     ∙ ap (λ (x : Bool). apply op x (flip second (flip second v))) (flip_twice first u)
     ∙ ap (λ (x : Bool). apply op u x) (flip_twice second v))
 
--- what is a negation after complementing was a negation or a copy
+-- an operator that is a negation after complementing was a negation or a copy before
 flipped_negation : (basis : Basis) → polarity_closed basis ≡ true → (op : ℕ) → op < 16 → basis op ≡ true → (first second own : Bool) → IsNegation (flipped first second own op) → IsCopy op ⊎ IsNegation op
 flipped_negation basis closed op low member first second own negation =
     let before : (u v : Bool) → apply op u v ≡ flip own (apply (flipped first second own op) (flip first u) (flip second v)) = unflipped basis closed op low member first second own in
@@ -167,7 +167,7 @@ flipped_negation basis closed op low member first second own negation =
     (twice_negated second own))
     negation
 
--- Complementing keeps what the descent of keys has settled.
+-- Complementing keeps the rules that the descent of keys has established.
 pub complemented_settled : (s : Specification) (basis : Basis) (r d : ℕ) (b : Body) → Fits s basis r d b → (HasFewer s basis r → ⊥) → polarity_closed basis ≡ true → (on : ℕ → Bool) → IsSettled s basis r b.step → IsSettled s basis r (λ k. complemented on (s.inputs + 1 + k) (b.step k))
 complemented_settled s basis r d b fits none closed on settled = record {
   paired = paired_same s basis r b.step (λ k. complemented on (s.inputs + 1 + k) (b.step k)) (λ k. inl (refl, refl)) settled.paired;

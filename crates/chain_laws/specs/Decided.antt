@@ -1,8 +1,8 @@
--- Searches below a bound, and descents along a measure.
+-- Decidable properties: search below a bound, and descent along a measure.
 use Rattle.std.proofs.Common.{◌≡◌, ℕ, zero, suc, ◌+◌, ◌≤◌, ◌<◌, Bool, true, false, arith, inl, inr, ⊎_elim, ◌⊎◌, subst}
 use Rattle.std.proofs.lemmas.Bool.{cases_lt, cases_Bool, both_ways}
 
--- P holds, or it doesn't
+-- P is decidable: it holds or it doesn't
 abbrev pub IsDecided : Type 0 → Type 0
 IsDecided P = P ⊎ (P → ⊥)
 
@@ -66,7 +66,7 @@ decided_everywhere P decided bound = ⊎_elim
     (λ (none : (i : ℕ) → i < bound → (P i → ⊥) → ⊥). inl (λ i low. ⊎_elim (λ (here : P i). here) (λ (not_here : P i → ⊥). absurd (none i low not_here)) (decided i)))
     (search (λ i. P i → ⊥) (λ i. decided_not (P i) (decided i)) bound)
 
--- an element with both properties is reached
+-- some element has both properties
 pub record IsReached {A : Type 0} (P R : A → Type 0) : Type 0 where
   pub at : A
   pub kept : P at
@@ -84,6 +84,6 @@ descend_below P R size next (suc bound) a low p = ⊎_elim
     (λ (further : IsLower P size a). descend_below P R size next bound further.at (omega (arith, further.lower)) further.kept)
     (next a p)
 
--- Where each element without R leads to one of smaller size, one with R is reached.
+-- If each element with P and without R leads to a smaller one with P, then some element has P and R.
 pub descend : {A : Type 0} (P R : A → Type 0) (size : A → ℕ) → ((a : A) → P a → R a ⊎ IsLower P size a) → (a : A) → P a → IsReached P R
 descend P R size next a p = descend_below P R size next (size a + 1) a (omega arith) p

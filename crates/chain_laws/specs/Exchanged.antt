@@ -1,4 +1,4 @@
--- Two neighbouring steps exchanged.
+-- Two neighbouring steps are exchanged.
 use Rattle.std.proofs.Common.{◌≡◌, ℕ, ◌+◌, ◌-◌, ◌≤◌, ◌<◌, refl, sym, ap, ◌∙◌, arith, inl, inr, ⊎_elim, subst}
 use Rattle.std.proofs.lemmas.Bool.{cases_lt}
 use Rattle.chain_theory.specs.Operator.{Basis}
@@ -68,7 +68,7 @@ exchange_moves s basis r d b fits i low unread =
       below = exchange_below n r b.step fits.below i low unread;
     }
 
--- Where a step's pair comes before that of the step below it, neither reads the other and they can
+-- If a step's pair comes before that of the preceding step, neither step reads the other, and they can
 -- be exchanged; the keys decrease.
 pub exchanged_lower : (s : Specification) (basis : Basis) (r d : ℕ) (b : Body) → Fits s basis r d b → (i : ℕ) → i + 1 < r → ComesBefore (b.step (i + 1)) (b.step i) → IsLower (Fits s basis r d) (λ x. rank (s.inputs + r + 1) r x.step) b
 exchanged_lower s basis r d b fits i low before =

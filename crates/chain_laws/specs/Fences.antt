@@ -1,6 +1,6 @@
 -- Fences: the number of steps on each level, from the lowest (Haaswijk, Soeken, Mishchenko and De
--- Micheli, "SAT-Based Exact Synthesis", 2020). A reduced chain stands in its own: its steps are
--- ordered by levels.
+-- Micheli, "SAT-Based Exact Synthesis", 2020). The steps of a chain in normal form are ordered by
+-- level, so the chain has a fence.
 use Rattle.std.proofs.Common.{◌≡◌, ℕ, zero, suc, ◌+◌, ◌-◌, ◌≤◌, ◌<◌, ◌==◌, true, List, [], ◌∷◌, map, length, ltb, leb, sum, refl, sym, ap, ◌∙◌, arith, inl, inr, ⊎_elim, subst}
 use Rattle.std.specs.Prelude.{if◌then◌else◌}
 use Rattle.std.specs.List.{All, range_with_len}
@@ -26,27 +26,27 @@ use Rattle.chain_laws.specs.Users.{width, AreUsed, level_counts}
 
 -- ---- definitions
 
--- the level of the step of index i, where the steps are ordered by levels with the list's numbers
+-- the level of the step of index i, where steps are ordered by level, with the list's numbers of steps
 -- on each
--- Example: with 2, 1 the steps of the indices 0, 1 and 2 have the levels 1, 1 and 2.
+-- Example: in the fence 2, 1 the steps of the indices 0, 1 and 2 have the levels 1, 1 and 2.
 unfoldable pub level_by : List ℕ → ℕ → ℕ
 level_by [] i = 0
 level_by (q ∷ qs) i = if ltb i q then 1 else 1 + level_by qs (i - q)
 
--- The chain's steps are ordered by levels, with the fence's numbers on each, at least one.
+-- The chain has the fence: its steps are ordered by level, with the fence's number of steps on each.
 pub record StandsIn (c : Chain) (fence : List ℕ) : Type 0 where
   pub whole : sum fence ≡ length c.steps
   pub filled : IsFence fence
   pub levels : (i : ℕ) → i < length c.steps → level c (c.n + 1 + i) ≡ level_by fence i
 
--- the fence of a chain in level order: how many of its steps have the levels 1, 2, and so on, up to
--- the level of its last place
+-- the fence of a chain whose steps are ordered by level: how many steps have the levels 1, 2 and so
+-- on, up to the level of the last place
 unfoldable pub fence_of : Chain → List ℕ
 fence_of c = map (width c) (range_with_len 1 (level c (c.n + length c.steps)))
 
--- ---- numbers that rise along their indices
+-- ---- numbers that increase along their indices
 
--- the numbers f 0 to f (r - 1) rise from 1 to top, and each number between is one of them
+-- the numbers f 0 to f (r - 1) increase from 1 to top, and each number between is one of them
 record Climbs (f : ℕ → ℕ) (r top : ℕ) : Type 0 where
   rise : (i k : ℕ) → i ≤ k → k < r → f i ≤ f k
   from : (i : ℕ) → i < r → 1 ≤ f i
@@ -210,7 +210,7 @@ count_at : (c : Chain) → IsChain c → AreUsed c → (l : ℕ) → at (λ i. l
 unfolding at over
 count_at c is used l = level_counts c is used l
 
--- A chain whose keys don't decrease stands in its fence,
+-- A chain whose keys don't decrease has its fence;
 pub stands_in_fence : (c : Chain) → IsChain c → KeysRise c → StandsIn c (fence_of c)
 stands_in_fence c is keys =
     let f : ℕ → ℕ = λ i. level c (c.n + 1 + i) in
@@ -227,7 +227,7 @@ stands_in_fence c is keys =
           omega (arith, there, ap (level_by (counts f r 0 top)) (let e : i - upto f r 0 ≡ i = omega (arith, start) in e));
     })
 
--- which is listed, where each step is an out or is read,
+-- the fence is listed, where each step is an out or is read;
 pub fence_is_listed : (c : Chain) → IsChain c → KeysRise c → AreUsed c → IsListed (length c.outs) (fence_of c)
 fence_is_listed c is keys used =
     let f : ℕ → ℕ = λ i. level c (c.n + 1 + i) in
@@ -235,7 +235,7 @@ fence_is_listed c is keys used =
     let top : ℕ = level c (c.n + r) in
     subst (IsListed (length c.outs)) (sym (fence_is c)) (counts_listed f r top (length c.outs) (climbs c is keys) (count_at c is used) 0 top (omega arith))
 
--- and has no more levels than the chain.
+-- and it has no more levels than the chain.
 pub fence_is_low : (c : Chain) → IsChain c → (d : ℕ) → HasLevels d c → length (fence_of c) ≤ d
 unfolding fence_of
 fence_is_low c is d levels =
@@ -246,7 +246,7 @@ fence_is_low c is d levels =
     (λ (none : last ≤ 0). omega (arith, count, input_level c.n last c.steps (omega arith)))
     (cases_lt 0 last)
 
--- a reduced chain of r steps and at most d levels in a listed fence of at most d levels
+-- a chain in normal form of r steps and at most d levels, with a listed fence of at most d levels
 pub record HasFencedChain (s : Specification) (basis : Basis) (r d : ℕ) : Type 0 where
   pub reduced : HasReducedChain s basis r d
   pub fence : List ℕ
@@ -254,8 +254,8 @@ pub record HasFencedChain (s : Specification) (basis : Basis) (r d : ℕ) : Type
   pub listed : IsListed s.outputs fence
   pub low : length fence ≤ d
 
--- Where a chain of r steps and at most d levels agrees, and none of fewer steps does, a reduced one
--- in a listed fence of at most d levels does.
+-- If a chain of r steps and at most d levels agrees, and none of fewer steps does, a chain in normal
+-- form with a listed fence of at most d levels agrees.
 pub least_in_fence : (s : Specification) (basis : Basis) (r d : ℕ) → HasChainOfLevels s basis r d → ((q : ℕ) → q < r → HasChain s basis q → ⊥) → HasFencedChain s basis r d
 least_in_fence s basis r d has none_fewer =
     let is : HasReducedChain s basis r d = least s basis r d has none_fewer in

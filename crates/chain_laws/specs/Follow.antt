@@ -1,4 +1,4 @@
--- Functions of a chain's places that are determined step by step: values, and levels too.
+-- Functions of a chain's places that are determined step by step, such as values and levels.
 use Rattle.std.proofs.Common.{◌≡◌, ℕ, zero, suc, ◌+◌, ◌≤◌, ◌<◌, ◌==◌, Bool, List, [], ◌∷◌, ◌++◌, length, Some, refl, sym, ap, ◌∙◌, arith, inl, inr, ⊎_elim, add-zero, ◌-◌, ◌⊎◌, get_or, subst}
 use Rattle.std.specs.Prelude.{slice_get, slice_index_or, map, if◌then◌else◌}
 use Rattle.std.specs.List.{All, range_with_len}
@@ -17,19 +17,19 @@ use Rattle.chain_theory.specs.Value.{extended, step_value, values_after, values_
 abbrev pub with_own : {V : Type 0} → (ℕ → V) → ℕ → V → ℕ → V
 with_own has place own p = if p == place then own else has p
 
--- Each step in turn gives its place what f makes of the places so far; the first one is at the
--- given place.
--- Example: where f adds 1 to the larger number of the operands, and inputs have 0, this is the
--- level of a place.
+-- The run of f over a list of steps: each step's place gets the result of f on the lower places. The
+-- first step is at the given place.
+-- Example: if f is 1 + the larger number of the operands, and inputs have 0, the run gives the level of
+-- each place.
 unfoldable pub run : {V : Type 0} → ((ℕ → V) → Step → V) → (ℕ → V) → ℕ → List Step → ℕ → V
 run f has place [] = has
 run f has place (s ∷ ss) = run f (with_own has place (f has s)) (place + 1) ss
 
--- f depends on the step and its operands alone
+-- f depends only on the step and the numbers of its operands
 pub record IsLocal {V : Type 0} (f : (ℕ → V) → Step → V) : Type 0 where
   pub same : (a b : ℕ → V) (s : Step) → a s.j ≡ b s.j → a s.k ≡ b s.k → f a s ≡ f b s
 
--- each step's place has what f makes of it; the first one is at the given place
+-- each step's place has the result of f; the first step is at the given place
 pub record FollowsAt {V : Type 0} (f : (ℕ → V) → Step → V) (has : ℕ → V) (place : ℕ) (steps : List Step) : Type 0 where
   pub each : (i : ℕ) (s : Step) → slice_get steps i ≡ Some s → has (place + i) ≡ f has s
 
@@ -66,7 +66,7 @@ later_follow f has place s ss follows = record {
   each = λ i t at. let e : (place + 1) + i ≡ place + suc i = omega arith in ap has e ∙ follows.each (suc i) t at;
 }
 
--- What begins as the run and follows each step is the run.
+-- A function that agrees with the run on the lower places, and follows each step, is the run.
 pub determined : {V : Type 0} (f : (ℕ → V) → Step → V) → IsLocal f → (given has : ℕ → V) (place : ℕ) (steps : List Step) → AreStepsAt place steps → FollowsAt f has place steps → ((p : ℕ) → 1 ≤ p → p < place → given p ≡ has p) → (p : ℕ) → 1 ≤ p → p < place + length steps → run f given place steps p ≡ has p
 unfolding run
 determined f local given has place [] are follows same p from low = same p from (omega arith)
@@ -80,7 +80,7 @@ determined f local given has place (s ∷ ss) are follows same p from low =
     (cases_eq q place))
     p from (omega arith)
 
--- What the run gives follows each step.
+-- The run follows each step.
 pub run_follows : {V : Type 0} (f : (ℕ → V) → Step → V) → IsLocal f → (given : ℕ → V) (place : ℕ) (steps : List Step) → AreStepsAt place steps → FollowsAt f (run f given place steps) place steps
 unfolding run
 run_follows f local given place [] are = record { each = λ i s at. absurd cc }
@@ -126,7 +126,7 @@ input_value n t p steps low = ap (λ (v : ℕ → Bool). v p) (values_run (input
 pub step_is : (n t : ℕ) (steps : List Step) → AreSteps n steps → (i : ℕ) (s : Step) → slice_get steps i ≡ Some s → values_on n t steps (n + 1 + i) ≡ step_value (values_on n t steps) s
 step_is n t steps are i s at = rw (values_run (input n t) (n + 1) steps) ((run_follows step_value value_is_local (input n t) (n + 1) steps (steps_at n steps are)).each i s at)
 
--- Bits that have the inputs' bits of row t and follow each step are the values on row t.
+-- Bits that agree with the inputs on row t, and follow each step, are the values on row t.
 pub values_are : (n t : ℕ) (bits : ℕ → Bool) (steps : List Step) → AreSteps n steps → ((p : ℕ) → 1 ≤ p → p ≤ n → bits p ≡ input n t p) → ((i : ℕ) (s : Step) → slice_get steps i ≡ Some s → bits (n + 1 + i) ≡ step_value bits s) → (p : ℕ) → 1 ≤ p → p < n + 1 + length steps → values_on n t steps p ≡ bits p
 values_are n t bits steps are inputs follow p from low =
     ap (λ (v : ℕ → Bool). v p) (values_run (input n t) (n + 1) steps)
@@ -156,7 +156,7 @@ rebuilt_at f r k x at =
 
 -- ---- steps by their index
 
--- the step at an index; after the last one a default
+-- the step at an index; a default after the last step
 unfoldable pub step_at : List Step → ℕ → Step
 step_at steps i = slice_index_or steps i (record { j = 0; k = 0; op = 0 })
 
@@ -175,7 +175,7 @@ step_at_all P steps all i low = All-get_or P steps i (record { j = 0; k = 0; op 
 pub place_cases : (n r p : ℕ) → p < n + 1 + r → (p ≤ n) ⊎ ((i : ℕ) × (i < r) × (p ≡ n + 1 + i))
 place_cases n r p low = ⊎_elim (λ (below : p < n + 1). inl (omega arith)) (λ (above : n + 1 ≤ p). inr (p - (n + 1), omega arith, omega arith)) (cases_lt p (n + 1))
 
--- what holds of each f k holds of each element
+-- a property of each f k holds of each element
 pub rebuilt_all : {X : Type 0} (P : X → Type 0) (f : ℕ → X) (r : ℕ) → ((k : ℕ) → k < r → P (f k)) → All P (rebuilt f r)
 rebuilt_all P f r each = λ k d low.
     let inside : k < r = omega (arith, rebuilt_length f r) in

@@ -1,4 +1,4 @@
--- Two inputs exchanged.
+-- Two symmetric inputs are exchanged.
 use Rattle.std.proofs.Common.{◌≡◌, ℕ, ◌+◌, ◌*◌, ◌≤◌, ◌<◌, refl, sym, ap, ◌∙◌, arith, inl, inr, ⊎_elim, subst}
 use Rattle.std.proofs.lemmas.Bool.{cases_eq, cases_lt}
 use Rattle.std.proofs.lemmas.Bool.Decides.{nat_tests}
@@ -40,7 +40,7 @@ before_same j k j2 k2 l m l2 m2 ej ek el em before =
     (subst (λ (x : ℕ). ComesBefore (pair j2 k2) (pair x m)) (sym el)
     (subst (λ (x : ℕ). ComesBefore (pair j2 k2) (pair l2 x)) (sym em) before)))
 
--- A pair with q and not p comes earlier once q is renamed p, which is smaller.
+-- A pair with q and without p comes earlier when q is renamed to the smaller p.
 falls : (p q : ℕ) (a : Step) → p < q → ReadsWithout a q p → ComesBefore (moved (renamed p q) a) a
 falls p q a less reads =
     let f : ℕ → ℕ = renamed p q in
@@ -113,7 +113,7 @@ inputs_move s basis r d b fits p q from less low symmetric =
           (renamed_from p q x from (omega arith) x_from, omega (arith, renamed_low p q x (n + k) (omega arith) (omega arith) (omega arith))));
     }
 
--- Where the first step that reads q and not p comes before any that reads p and not q, the two
+-- If the first step that reads q without p comes before every step that reads p without q, the two
 -- inputs can be exchanged; the keys decrease.
 pub inputs_lower : (s : Specification) (basis : Basis) (r d : ℕ) (b : Body) → Fits s basis r d b → (p q : ℕ) → 1 ≤ p → p < q → q ≤ s.inputs → IsSymmetric s p q → (i : ℕ) → i < r → ReadsWithout (b.step i) q p → ((k : ℕ) → k < i → ReadsWithout (b.step k) q p → ⊥) → ((k : ℕ) → k < i → ReadsWithout (b.step k) p q → ⊥) → IsLower (Fits s basis r d) (λ x. rank (s.inputs + r + 1) r x.step) b
 inputs_lower s basis r d b fits p q from less low symmetric i inside reads no_q no_p =

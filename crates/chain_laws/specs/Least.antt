@@ -1,4 +1,4 @@
--- The law of least chains: where a chain agrees and none of fewer steps does, a reduced one agrees.
+-- The law of least chains: if a chain agrees and none of fewer steps does, one in normal form agrees.
 use Rattle.std.proofs.Common.{◌≡◌, ℕ, ◌+◌, ◌-◌, ◌≤◌, ◌<◌, Bool, true, false, not, length, refl, sym, ap, ◌∙◌, arith, inl, inr, ⊎_elim, ◌⊎◌, subst}
 use Rattle.std.specs.Prelude.{slice_get, slice_index_or, Some}
 use Rattle.std.specs.List.{Contains}
@@ -25,9 +25,9 @@ use Rattle.chain_laws.specs.Oriented.{oriented_rises, oriented_body, oriented_fi
 use Rattle.chain_laws.specs.Complemented.{flip, complemented_body, complemented_bits, complemented_fits, complemented_settled}
 use Rattle.chain_laws.specs.Settling.{settled}
 
--- ---- operands in rising order
+-- ---- operands in increasing order
 
--- operands rise, where the basis lets them be exchanged
+-- operands are in increasing order, if the basis is closed under exchanged operands
 abbrev Rise : Basis → ℕ → (ℕ → Step) → Type 0
 Rise basis r step = swap_closed basis ≡ true → (k : ℕ) → k < r → (step k).j ≤ (step k).k
 
@@ -65,7 +65,7 @@ unfolding flag
 flag_false (inl holds) never = absurd (never holds)
 flag_false (inr fails) never = refl
 
--- a step that is no out and is 1 on row 0
+-- a step that isn't an out and is 1 on row 0
 abbrev IsOne : ℕ → ℕ → Body → ℕ → Type 0
 IsOne n r b p = (n < p) × ((bits_of n r b.step 0 p ≡ true) × (IsNamed b.outs p → ⊥))
 
@@ -117,7 +117,7 @@ final s basis r d none is = ⊎_elim
 
 -- ---- the law
 
--- what holds of each step by its index holds of the list's steps
+-- a property of each step by its index holds of the steps of the list
 each_step : (r : ℕ) (step : ℕ → Step) (P : ℕ → Step → Type 0) → ((i : ℕ) → i < r → P i (step i)) → (i : ℕ) (a : Step) → slice_get (rebuilt step r) i ≡ Some a → P i a
 each_step r step P each i a at = let here = rebuilt_at step r i a at in subst (P i) (sym here.1) (each i here.0)
 
@@ -159,8 +159,8 @@ reduced s basis r d none f =
       zero_on_row_0 = λ closed. each_step r b.step (λ i a. (value c 0 (n + 1 + i) ≡ false) ⊎ IsOut c (n + 1 + i)) (f.zero closed);
     }
 
--- Where a chain of r steps and at most d levels agrees, and none of fewer steps does, with any
--- number of levels, a reduced chain of r steps and at most d levels agrees.
+-- If a chain of r steps and at most d levels agrees, and no chain of fewer steps and any number of
+-- levels does, then a chain in normal form of r steps and at most d levels agrees.
 pub least : (s : Specification) (basis : Basis) (r d : ℕ) → HasChainOfLevels s basis r d → ((q : ℕ) → q < r → HasChain s basis q → ⊥) → HasReducedChain s basis r d
 least s basis r d has none_fewer =
     let none : HasFewer s basis r → ⊥ = λ fewer. none_fewer fewer.count fewer.fewer fewer.chain in
@@ -187,7 +187,7 @@ levels_at_most_steps c is = λ p from low.
     (p + 1) p (omega arith) from (omega arith) in
     omega arith
 
--- The minimum is reached by a reduced chain.
+-- A chain in normal form reaches the minimum.
 pub minimum_is_reduced : (s : Specification) (basis : Basis) (r : ℕ) → IsMinimum s basis r → HasReducedChain s basis r r
 minimum_is_reduced s basis r minimum =
     let has = minimum.reached in

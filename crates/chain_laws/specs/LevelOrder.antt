@@ -1,4 +1,4 @@
--- A reduced chain is in level order.
+-- The steps of a chain in normal form are ordered by level.
 use Rattle.std.proofs.Common.{◌≡◌, ℕ, zero, suc, ◌+◌, ◌-◌, ◌≤◌, ◌<◌, length, sym, ap, arith, inl, ⊎_elim, subst}
 use Rattle.std.specs.Prelude.{max}
 use Rattle.std.proofs.lemmas.Option.{slice_get_within}
@@ -10,7 +10,7 @@ use Rattle.chain_theory.specs.LevelLaws.{input_level, level_step}
 use Rattle.chain_laws.specs.Keys.{larger, ComesBefore}
 use Rattle.chain_laws.specs.Reduced.{IsStep}
 
--- no step's pair of operands comes before that of the step below it
+-- no step's pair of operands comes before that of the preceding step
 abbrev pub KeysRise : Chain → Type 0
 KeysRise c = (i : ℕ) (a b : Step) → IsStep c i a → IsStep c (i + 1) b → ComesBefore b a → ⊥
 

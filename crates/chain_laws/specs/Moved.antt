@@ -1,4 +1,4 @@
--- Places renamed: the same steps at other places, on other rows.
+-- A chain with its places renamed, and rows permuted accordingly.
 use Rattle.std.proofs.Common.{◌≡◌, ℕ, ◌+◌, ◌-◌, ◌≤◌, ◌<◌, ◌^◌, Bool, map, length, refl, sym, ap, ◌∙◌, arith, ⊎_elim, leb}
 use Rattle.std.specs.Prelude.{slice_index_or, if◌then◌else◌}
 use Rattle.std.proofs.lemmas.List.{get_or-map, length-map}
@@ -21,9 +21,9 @@ moved f a = record { j = f a.j; k = f a.k; op = a.op }
 abbrev pub moved_body : (ℕ → ℕ) → (ℕ → ℕ) → Body → Body
 moved_body f order b = record { step = λ k. moved f (b.step (order k)); outs = map (sent (λ p. Place (f p))) b.outs }
 
--- Places are renamed by f, which is its own inverse, inputs to inputs; the step of index k becomes
--- that of index order k; and each row is mapped to one with the same cells that gives the renamed
--- inputs the same bits.
+-- Places are renamed by f, an involution that maps inputs to inputs. The step of index k becomes that of
+-- index `order k`. Each row is mapped to one that has the same cells and gives the renamed inputs the
+-- same bits.
 pub record IsMove (s : Specification) (r : ℕ) (step : ℕ → Step) (f order row : ℕ → ℕ) : Type 0 where
   pub back : (p : ℕ) → f (f p) ≡ p
   pub from : (p : ℕ) → 1 ≤ p → 1 ≤ f p
@@ -46,7 +46,7 @@ moved_out last f bits old same Zero names = refl
 moved_out last f bits old same One names = refl
 moved_out last f bits old same (Place p) names = same p names.0 names.1
 
--- the values move with the places
+-- values are renamed along with the places
 pub moved_bits : (s : Specification) (basis : Basis) (r d : ℕ) (b : Body) → Fits s basis r d b → (f order row : ℕ → ℕ) → IsMove s r b.step f order row → (t p : ℕ) → 1 ≤ p → p < s.inputs + 1 + r → bits_of s.inputs r (λ k. moved f (b.step (order k))) t p ≡ bits_of s.inputs r b.step (row t) (f p)
 moved_bits s basis r d b fits f order row is t =
     let n : ℕ = s.inputs in

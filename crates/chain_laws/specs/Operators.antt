@@ -1,4 +1,4 @@
--- What operators and closed bases give, value by value.
+-- Operators and closure properties of bases, value by value.
 use Rattle.std.proofs.Common.{◌≡◌, ℕ, zero, suc, ◌<◌, Bool, true, false, not, refl, ap, ◌∙◌, arith, ⊎_elim}
 use Rattle.std.proofs.lemmas.Bool.{and_parts, and_cases, or_cases, not-true, not-false, both_ways}
 use Rattle.chain_theory.specs.Operator.{apply, Basis}
@@ -11,7 +11,7 @@ pub two_values : (f g : Bool → Bool) → f false ≡ g false → f true ≡ g 
 two_values f g at_0 at_1 true = at_1
 two_values f g at_0 at_1 false = at_0
 
--- the value of an operator that is a function of two bits
+-- the value of the operator of a function of two bits
 pub value_by : (op : ℕ) (f : Bool → Bool → Bool) → op ≡ operator_of f → (x y : Bool) → apply op x y ≡ f x y
 value_by op f e x y = ap (λ (o : ℕ). apply o x y) e ∙ operator_values f x y
 
@@ -34,23 +34,23 @@ fails_below (suc bound) test fails = ⊎_elim
     (λ (last : test bound ≡ false). (bound, omega arith, last))
     (and_cases (every_below bound test) (test bound) fails)
 
--- A test that doesn't pass for all operators fails for one.
+-- A test that doesn't pass for all operators fails for some operator.
 pub fails_at : (test : ℕ → Bool) → every test ≡ false → (op : ℕ) × (op < 16) × (test op ≡ false)
 fails_at test fails = fails_below 16 test fails
 
--- what holds under a premise, and the premise
+-- an implication that holds, with its premise
 pub implied : (a b : Bool) → implies a b ≡ true → a ≡ true → b ≡ true
 implied true b e a_holds = e
 implied false b e a_holds = absurd cc
 
--- a premise that holds and a conclusion that doesn't
+-- an implication that doesn't hold: its premise holds and its conclusion doesn't
 pub not_implied : (a b : Bool) → implies a b ≡ false → (a ≡ true) × (b ≡ false)
 not_implied true b e = (refl, e)
 not_implied false b e = absurd cc
 
 -- ---- negations
 
--- a member that complements equal operands
+-- a member that is a negation on equal operands
 abbrev pub HasNegation : Basis → Type 0
 HasNegation basis = (m : ℕ) × (m < 16) × (basis m ≡ true) × NegatesBoth m
 
@@ -62,8 +62,8 @@ negation_from basis has =
     let both = and_parts (apply found.0 false false) (not (apply found.0 true true)) (not-false (negates_both found.0) parts.1) in
     (found.0, found.1, parts.0, (both.0, not-true (apply found.0 true true) both.1))
 
--- Where constants can be left out, a member that is a negation once one operand is constant implies
--- a member that complements equal operands.
+-- If constants can be left out, and a member is a negation when one operand is a constant, then some
+-- member is a negation on equal operands.
 pub negation_given : (basis : Basis) → const_closed basis ≡ true → (op : ℕ) → op < 16 → basis op ≡ true → negates_one op ≡ true → HasNegation basis
 unfolding keeps_constants
 negation_given basis closed op low member negates = ⊎_elim

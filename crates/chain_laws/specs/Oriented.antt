@@ -1,4 +1,4 @@
--- Operands put in rising order.
+-- Operands in increasing order.
 use Rattle.std.proofs.Common.{◌≡◌, ℕ, ◌+◌, ◌≤◌, ◌<◌, Bool, true, not, leb, refl, sym, ◌∙◌, arith, inl, inr, ⊎_elim, ◌⊎◌, subst}
 use Rattle.std.specs.Prelude.{if◌then◌else◌}
 use Rattle.std.proofs.lemmas.Bool.{cases_lt, cond-true, cond-false, le-leb, lt-leb}
@@ -14,11 +14,11 @@ use Rattle.chain_laws.specs.Operators.{implied, value_by, swapped_value, swapped
 use Rattle.chain_laws.specs.Replaced.{IsSame, same_fits}
 use Rattle.chain_laws.specs.Settled.{IsSettled, SamePair, paired_same}
 
--- a step with its operands and its operator's operands exchanged
+-- a step with its operands exchanged, and its operator changed accordingly
 abbrev turned : Step → Step
 turned a = record { j = a.k; k = a.j; op = swapped a.op }
 
--- a step with rising operands
+-- a step with its operands in increasing order
 unfoldable pub oriented : Step → Step
 oriented a = if leb a.j a.k then a else turned a
 
@@ -32,7 +32,7 @@ orient_cases a = ⊎_elim
     (λ (rises : a.j ≤ a.k). inl (rises, cond-true (leb a.j a.k) a (turned a) (le-leb a.j a.k rises)))
     (cases_lt a.k a.j)
 
--- what holds of a step and of the step turned holds of the oriented step
+-- a property of a step and of the step with exchanged operands holds of the oriented step
 orient_by : (P : Step → Type 0) (a : Step) → P a → (a.k < a.j → P (turned a)) → P (oriented a)
 orient_by P a plain other = elim (orient_cases a) [ inl is ↦ subst P (sym is.1) plain | inr is ↦ subst P (sym is.1) (other is.0) ]
 

@@ -1,4 +1,4 @@
--- The list of the keys of all steps as one number.
+-- The list of the keys of all steps, as one number.
 use Rattle.std.proofs.Common.{◌≡◌, ℕ, zero, suc, ◌+◌, ◌*◌, ◌≤◌, ◌<◌, refl, ap, ◌∙◌, arith, ⊎_elim, subst}
 use Rattle.std.proofs.lemmas.Bool.{cases_lt, cases_eq}
 use Rattle.std.proofs.lemmas.Bool.Decides.{nat_tests}
@@ -14,7 +14,7 @@ block_less base x y u v lt low =
     let next : suc x * base ≤ y * base = mul-le-mul_right base lt in
     omega (arith, next)
 
--- the key of a step as a number, where places are below the base
+-- the key of a step as a number of two digits, where places are below the base
 unfoldable pub key : ℕ → Step → ℕ
 key base a = larger a * base + smaller a
 

@@ -1,4 +1,4 @@
--- Re-application: a step applied to another one and one of its operands.
+-- Re-application: a step reads another step and one of its operands.
 use Rattle.std.proofs.Common.{◌≡◌, ℕ, ◌+◌, ◌≤◌, ◌<◌, ◌==◌, Bool, true, false, not, ◌&&◌, ◌||◌, eqb-true, sym, ap, ◌∙◌, arith, inl, inr, ⊎_elim, ◌⊎◌, subst}
 use Rattle.std.proofs.lemmas.Bool.{or_cases, and_parts}
 use Rattle.chain_theory.specs.Operator.{apply, Basis}
@@ -19,7 +19,7 @@ use Rattle.chain_laws.specs.Decided.{IsLower}
 
 -- ---- what closure under re-application gives
 
--- an operator of two places that is a signal or a single step
+-- an operator of two places that is a signal, or one step
 abbrev IsAllowed : Basis → ℕ → Type 0
 IsAllowed basis g = ((basis g ≡ true) ⊎ (basis (swapped g) ≡ true)) ⊎ (IsCopy g ⊎ ((IsConstant g × (const_closed basis ≡ true)) ⊎ (((g ≡ operator_of (λ x y. not x)) ⊎ (g ≡ operator_of (λ x y. not y))) × HasNegation basis)))
 
@@ -74,8 +74,8 @@ all_allowed basis closed p q p_low q_low p_in q_in =
 
 -- ---- chains
 
--- A step that computes an allowed operator of two lower places can be left out, or moves down to
--- them.
+-- A step that computes an allowed operator of two lower places can be left out, or can read these
+-- places instead, and the keys decrease.
 comes_down : (s : Specification) (basis : Basis) (r d : ℕ) (b : Body) (fits : Fits s basis r d b) (k : ℕ) → k < r → (x y g : ℕ) → 1 ≤ x → 1 ≤ y → x < larger (b.step k) → y < larger (b.step k) → fits.height x < fits.height (s.inputs + 1 + k) → fits.height y < fits.height (s.inputs + 1 + k) → g < 16 → ((t : ℕ) → step_value (bits_of s.inputs r b.step t) (b.step k) ≡ apply g (bits_of s.inputs r b.step t x) (bits_of s.inputs r b.step t y)) → IsAllowed basis g → HasFewer s basis r ⊎ IsLower (Fits s basis r d) (λ z. rank (s.inputs + r + 1) r z.step) b
 comes_down s basis r d b fits k low x y g x_from y_from x_low y_low x_height y_height g_low same is =
     let n : ℕ = s.inputs in
@@ -116,7 +116,7 @@ second_of_right : (p q : ℕ) (x y : Bool) → (apply q y (apply p x y) ≡ appl
 unfolding right_on_second
 second_of_right p q x y = (sym (operator_values (λ a b. apply q b (apply p a b)) x y), operator_low (λ a b. apply q b (apply p a b)))
 
--- Over a basis closed under re-application, such a step can be left out, or moves down.
+-- Over a basis closed under re-application, a re-application can be left out, or the keys decrease.
 pub again_goes : (s : Specification) (basis : Basis) (r d : ℕ) (b : Body) → Fits s basis r d b → reapply_closed basis ≡ true → (i k : ℕ) → i < k → k < r → AppliesAgain (s.inputs + 1 + i) (b.step i) (b.step k) → HasFewer s basis r ⊎ IsLower (Fits s basis r d) (λ z. rank (s.inputs + r + 1) r z.step) b
 again_goes s basis r d b fits closed i k before low again =
     let n : ℕ = s.inputs in

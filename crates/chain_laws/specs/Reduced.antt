@@ -1,7 +1,7 @@
 -- The normal form of chains. Its rules are the symmetry breaking and pruning of searches for least
 -- chains (Kojevnikov, Kulikov and Yaroslavtsev, "Finding Efficient Circuits Using SAT-solvers",
 -- 2009; Knuth, TAOCP 7.2.2.2, exercise 477; Haaswijk, Soeken, Mishchenko and De Micheli, "SAT-Based
--- Exact Synthesis", 2020), each under the test of the basis that it needs.
+-- Exact Synthesis", 2020), each under the closure property of the basis that it needs.
 use Rattle.std.specs.Prelude.{◌≡◌, ℕ, ◌+◌, ◌≤◌, ◌<◌, ◌⊎◌, true, false, not, slice_get, Some}
 use Rattle.std.specs.List.{Contains}
 use Rattle.chain_theory.specs.Operator.{apply, Basis}
@@ -28,12 +28,12 @@ IsNegation op = (op ≡ operator_of (λ a b. not a)) ⊎ (op ≡ operator_of (λ
 abbrev pub IsConstant : ℕ → Type 0
 IsConstant op = (op ≡ operator_of (λ a b. false)) ⊎ (op ≡ operator_of (λ a b. true))
 
--- On two equal operands the operator is their value.
+-- On equal operands the operator is a copy.
 -- Example: x AND x is x.
 abbrev pub CopiesBoth : ℕ → Type 0
 CopiesBoth op = (apply op false false ≡ false) × (apply op true true ≡ true)
 
--- On two equal operands the operator is the complement of their value.
+-- On equal operands the operator is a negation.
 -- Example: x NAND x is NOT x.
 abbrev pub NegatesBoth : ℕ → Type 0
 NegatesBoth op = (apply op false false ≡ true) × (apply op true true ≡ false)
@@ -48,12 +48,12 @@ IsStep c i a = slice_get c.steps i ≡ Some a
 abbrev pub Reads : Step → ℕ → Type 0
 Reads a p = (a.j ≡ p) ⊎ (a.k ≡ p)
 
--- the place p is an operand of the step, and q is not
+-- the place p is an operand of the step, and q isn't
 abbrev pub ReadsWithout : Step → ℕ → ℕ → Type 0
 ReadsWithout a p q = Reads a p × (Reads a q → ⊥)
 
--- Step b reads the step a, which has the place p, together with an operand of a (re-application).
--- Example: x4 = x1 AND x2 is applied again in x5 = x4 XOR x2.
+-- Re-application: step b reads step a, which is at the place p, and an operand of a.
+-- Example: x5 = x4 XOR x2 is a re-application to x4 = x1 AND x2.
 abbrev pub AppliesAgain : ℕ → Step → Step → Type 0
 AppliesAgain p a b = ((b.j ≡ p) × Reads a b.k) ⊎ ((b.k ≡ p) × Reads a b.j)
 
@@ -67,21 +67,20 @@ IsRead c p = (i : ℕ) × (a : Step) × IsStep c i a × Reads a p
 
 -- ---- the normal form
 
--- A chain for the specification is reduced over a basis (in normal form) where
--- - operands rise, if the basis has each operator with its operands exchanged;
+-- A chain for the specification is in normal form over a basis where
+-- - the first operand isn't greater than the second, if the basis is closed under exchanged operands;
 -- - all steps are used: each is an out or is read;
--- - operators are non-trivial: no step is a copy of an operand, and none is a constant, if
---   constants can be left out;
--- - a step whose operands are equal is no copy, and, if constants can be left out, a negation;
+-- - operators are nontrivial: no step is a copy of an operand, and no step is a constant, if constants
+--   can be left out;
+-- - a step with equal operands isn't a copy, and it is a negation, if constants can be left out;
 -- - a negation of an operand has that operand twice;
--- - steps are in co-lexicographic order: no pair of operands comes before that of the step below
---   it;
--- - there is no re-application to an operand, if the basis is closed under that;
--- - of two symmetric inputs, the later one is read without the earlier one only after the earlier
---   one was read without the later one;
--- - a step that is no out is normal (0 on row 0), if the basis is closed under complements.
--- Example: over all operators x3 = x1 XOR x2 with the out Place 3 is reduced for the table 0110;
--- with the operands x2, x1 it isn't.
+-- - steps are in co-lexicographic order: no pair of operands comes before that of the preceding step;
+-- - there is no re-application, if the basis is closed under re-application;
+-- - of two symmetric inputs, the later one is read without the earlier one only after the earlier one
+--   was read without the later one;
+-- - a step that isn't an out is normal (0 on row 0), if the basis is closed under complements.
+-- Example: over all operators, x3 = x1 XOR x2 with the out Place 3 is in normal form for the table
+-- 0110, and x3 = x2 XOR x1 isn't.
 pub record IsReduced (basis : Basis) (s : Specification) (c : Chain) : Type 0 where
   pub operands_rise : swap_closed basis ≡ true → (i : ℕ) (a : Step) → IsStep c i a → a.j ≤ a.k
   pub used : (i : ℕ) (a : Step) → IsStep c i a → IsOut c (c.n + 1 + i) ⊎ IsRead c (c.n + 1 + i)
@@ -95,7 +94,7 @@ pub record IsReduced (basis : Basis) (s : Specification) (c : Chain) : Type 0 wh
   pub earlier_first : (p q : ℕ) → 1 ≤ p → p < q → q ≤ c.n → IsSymmetric s p q → (k : ℕ) (b : Step) → IsStep c k b → ReadsWithout b q p → (i : ℕ) × (a : Step) × (i < k) × IsStep c i a × ReadsWithout a p q
   pub zero_on_row_0 : polarity_closed basis ≡ true → (i : ℕ) (a : Step) → IsStep c i a → (value c 0 (c.n + 1 + i) ≡ false) ⊎ IsOut c (c.n + 1 + i)
 
--- a reduced chain of r steps and at most d levels over the basis that agrees
+-- a chain in normal form of r steps and at most d levels over the basis implements the specification
 pub record HasReducedChain (s : Specification) (basis : Basis) (r d : ℕ) : Type 0 where
   pub has : HasChainOfLevels s basis r d
   pub reduced : IsReduced basis s has.chain

@@ -1,4 +1,4 @@
--- Two places whose names are exchanged.
+-- Exchanging two places.
 use Rattle.std.proofs.Common.{◌≡◌, ℕ, ◌+◌, ◌≤◌, ◌<◌, refl, sym, ap, ◌∙◌, arith, inl, inr, ⊎_elim, ◌⊎◌}
 use Rattle.std.proofs.lemmas.Bool.{cases_eq}
 use Rattle.std.proofs.lemmas.Bool.Decides.{nat_tests}
@@ -49,7 +49,7 @@ renamed_from p q x a b c = (renamed_within p q x 1 (p + q + x) a b (omega arith)
 pub renamed_low : (p q x high : ℕ) → p ≤ high → q ≤ high → x ≤ high → renamed p q x ≤ high
 renamed_low p q x high a b c = (renamed_within p q x 0 high (omega arith) (omega arith) a b (omega arith) c).1
 
--- places whose names stay
+-- places that aren't renamed
 pub moved_same : (f : ℕ → ℕ) (a : Step) → f a.j ≡ a.j → f a.k ≡ a.k → moved f a ≡ a
 moved_same f a ej ek =
     ap (λ (x : ℕ). let b : Step = record { j = x; k = f a.k; op = a.op } in b) ej ∙ ap (λ (x : ℕ). let b : Step = record { j = a.j; k = x; op = a.op } in b) ek

@@ -1,4 +1,4 @@
--- A step replaced by another one of the same value.
+-- A step is replaced by another one with the same value.
 use Rattle.std.proofs.Common.{◌≡◌, ℕ, ◌+◌, ◌-◌, ◌≤◌, ◌<◌, true, refl, sym, ap, ◌∙◌, arith, ⊎_elim, subst}
 use Rattle.std.specs.Prelude.{slice_index_or}
 use Rattle.std.proofs.lemmas.Bool.{cases_eq}
@@ -15,7 +15,7 @@ use Rattle.chain_laws.specs.Ranks.{key, rank, rank_less}
 use Rattle.chain_laws.specs.Decided.{IsLower}
 use Rattle.chain_laws.specs.Bodies.{Body, Fits, AreBelow, bits_of, bits_are, step_bit, input_bit, same_out, out_named}
 
--- steps that have other operators or operands and the same values
+-- other steps with the same values
 pub record IsSame (s : Specification) (basis : Basis) (r d : ℕ) (b : Body) (fits : Fits s basis r d b) (step : ℕ → Step) : Type 0 where
   pub below : AreBelow s.inputs r step
   pub over : (k : ℕ) → k < r → basis (step k).op ≡ true
@@ -45,7 +45,7 @@ same_fits s basis r d b fits step is = record {
       ∙ fits.cells h t from low row;
 }
 
--- A step may be replaced by another one of the same value that isn't higher,
+-- A step may be replaced by another one with the same value whose operands' heights are lower;
 pub replaced : (s : Specification) (basis : Basis) (r d : ℕ) (b : Body) (fits : Fits s basis r d b) (i : ℕ) → i < r → (u : Step) → IsStepAt (s.inputs + 1 + i) u → basis u.op ≡ true → fits.height u.j < fits.height (s.inputs + 1 + i) → fits.height u.k < fits.height (s.inputs + 1 + i) → ((t : ℕ) → step_value (bits_of s.inputs r b.step t) u ≡ step_value (bits_of s.inputs r b.step t) (b.step i)) → Fits s basis r d (record { step = with_own b.step i u; outs = b.outs })
 replaced s basis r d b fits i low u below over j_lower k_lower same =
     let n : ℕ = s.inputs in
@@ -61,7 +61,7 @@ replaced s basis r d b fits i low u below over j_lower k_lower same =
       same = λ t k k_low. (each k k_low).3 t;
     })
 
--- and the keys decrease where its pair comes before.
+-- the keys decrease where the new pair comes before the old one.
 pub replaced_lower : (s : Specification) (basis : Basis) (r d : ℕ) (b : Body) (fits : Fits s basis r d b) (i : ℕ) → i < r → (u : Step) → IsStepAt (s.inputs + 1 + i) u → basis u.op ≡ true → fits.height u.j < fits.height (s.inputs + 1 + i) → fits.height u.k < fits.height (s.inputs + 1 + i) → ((t : ℕ) → step_value (bits_of s.inputs r b.step t) u ≡ step_value (bits_of s.inputs r b.step t) (b.step i)) → ComesBefore u (b.step i) → IsLower (Fits s basis r d) (λ x. rank (s.inputs + r + 1) r x.step) b
 replaced_lower s basis r d b fits i low u below over j_lower k_lower same before =
     let new = replaced s basis r d b fits i low u below over j_lower k_lower same in

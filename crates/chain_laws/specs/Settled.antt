@@ -1,4 +1,4 @@
--- Chains whose keys can't decrease any more, and what else has their pairs.
+-- Chains whose keys can't decrease any more, and chains with the same pairs.
 use Rattle.std.proofs.Common.{◌≡◌, ℕ, ◌+◌, ◌≤◌, ◌<◌, true, sym, ◌∙◌, arith, inl, inr, ⊎_elim, ◌⊎◌, subst}
 use Rattle.std.proofs.lemmas.Bool.Decides.{nat_tests}
 use Rattle.chain_theory.specs.Operator.{Basis}
@@ -9,8 +9,8 @@ use Rattle.tt_core.specs.Symmetry.{IsSymmetric}
 use Rattle.chain_laws.specs.Keys.{larger, smaller, ComesBefore}
 use Rattle.chain_laws.specs.Reduced.{IsNegation, Reads, ReadsWithout, AppliesAgain}
 
--- The rules of reduced chains that the descent of keys settles, for the steps of index 0 to r - 1:
--- the three that speak of pairs alone, and that of negations.
+-- The rules of the normal form that hold once the keys can't decrease, for the steps of index 0 to
+-- r - 1: first the three rules on pairs alone, and then also the rule on negations.
 pub record IsPaired (s : Specification) (basis : Basis) (r : ℕ) (step : ℕ → Step) : Type 0 where
   pub in_order : (i : ℕ) → i + 1 < r → ComesBefore (step (i + 1)) (step i) → ⊥
   pub not_again : reapply_closed basis ≡ true → (i k : ℕ) → i < k → k < r → AppliesAgain (s.inputs + 1 + i) (step i) (step k) → ⊥

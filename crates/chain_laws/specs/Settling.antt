@@ -1,4 +1,4 @@
--- A least chain's keys decrease until the rules hold.
+-- The descent: a least chain is transformed, and its keys decrease, until the rules hold.
 use Rattle.std.proofs.Common.{◌≡◌, ℕ, ◌+◌, ◌-◌, ◌≤◌, ◌<◌, ◌^◌, true, false, not, refl, arith, inl, inr, ⊎_elim, ◌⊎◌, subst}
 use Rattle.std.proofs.lemmas.Bool.{cases_eq, cases_Bool, both_ways}
 use Rattle.chain_theory.specs.Operator.{Basis}
@@ -20,7 +20,7 @@ use Rattle.chain_laws.specs.Inputs.{inputs_lower}
 use Rattle.chain_laws.specs.Reapplied.{again_goes}
 use Rattle.chain_laws.specs.Settled.{IsSettled}
 
--- ---- the rules are decided
+-- ---- the rules are decidable
 
 decided_cell : (a b : Cell) → IsDecided (a ≡ b)
 decided_cell cells.Zero cells.Zero = inl refl
@@ -53,7 +53,7 @@ decided_again place a b = decided_or ((b.j ≡ place) × Reads a b.k) ((b.k ≡ 
 decided_without : (a : Step) (p q : ℕ) → IsDecided (ReadsWithout a p q)
 decided_without a p q = decided_and (Reads a p) (Reads a q → ⊥) (decided_reads a p) (decided_not (Reads a q) (decided_reads a q))
 
--- ---- where a rule is broken
+-- ---- a rule is violated
 
 abbrev SplitNegation : ℕ → (ℕ → Step) → Type 0
 SplitNegation r step = IsSomewhere (λ i. IsNegation (step i).op × ((step i).j ≡ (step i).k → ⊥)) r
@@ -75,7 +75,7 @@ Again n r step k = IsSomewhere (λ i. AppliesAgain (n + 1 + i) (step i) (step k)
 decided_reapplied : (n r : ℕ) (step : ℕ → Step) → IsDecided (IsSomewhere (Again n r step) r)
 decided_reapplied n r step = decided_somewhere (Again n r step) (λ k. decided_somewhere (λ i. AppliesAgain (n + 1 + i) (step i) (step k)) (λ i. decided_again (n + 1 + i) (step i) (step k)) k) r
 
--- step k reads q without p, and no step below it reads p without q
+-- step k reads q without p, and no earlier step reads p without q
 abbrev TooEarly : (ℕ → Step) → ℕ → ℕ → ℕ → Type 0
 TooEarly step p q k = ReadsWithout (step k) q p × (IsSomewhere (λ i. ReadsWithout (step i) p q) k → ⊥)
 
@@ -98,7 +98,7 @@ decided_inputs s r step = decided_somewhere (λ q. IsSomewhere (Exchangeable s r
 
 -- ---- the descent
 
--- an element whose keys can decrease, where no chain of fewer steps agrees
+-- the keys can decrease, if no chain of fewer steps agrees
 abbrev Falls : Specification → Basis → ℕ → ℕ → Body → Type 0
 Falls s basis r d b = IsLower (Fits s basis r d) (λ x. rank (s.inputs + r + 1) r x.step) b
 
@@ -125,7 +125,7 @@ again_falls s basis r d none b fits closed again = ⊎_elim
     (λ (falls : Falls s basis r d b). falls)
     (again_goes s basis r d b fits closed again.2.0 again.0 again.2.1 again.1 again.2.2)
 
--- there is no re-application, where the basis is closed under that
+-- there is no re-application, if the basis is closed under re-application
 abbrev NeverAgain : Specification → Basis → ℕ → (ℕ → Step) → Type 0
 NeverAgain s basis r step = reapply_closed basis ≡ true → IsSomewhere (Again s.inputs r step) r → ⊥
 
@@ -169,6 +169,6 @@ settled_or_falls s basis r d none b fits = ⊎_elim
     (decided_order r b.step))
     (decided_split r b.step)
 
--- Where no chain of fewer steps agrees, the keys decrease until the rules hold.
+-- If no chain of fewer steps agrees, the keys decrease until the rules hold.
 pub settled : (s : Specification) (basis : Basis) (r d : ℕ) → (HasFewer s basis r → ⊥) → (b : Body) → Fits s basis r d b → IsReached (Fits s basis r d) (λ x. IsSettled s basis r x.step)
 settled s basis r d none b fits = descend (Fits s basis r d) (λ x. IsSettled s basis r x.step) (λ x. rank (s.inputs + r + 1) r x.step) (settled_or_falls s basis r d none) b fits

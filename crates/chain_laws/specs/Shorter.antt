@@ -1,5 +1,5 @@
--- Steps left out: where a step's value is that of a lower signal, a chain of fewer steps does the
--- same.
+-- A step is left out: if its value is that of a lower signal, a chain of fewer steps computes the same
+-- outputs.
 use Rattle.std.proofs.Common.{◌≡◌, ℕ, zero, suc, ◌+◌, ◌-◌, ◌≤◌, ◌<◌, Bool, true, List, [], ◌∷◌, ◌++◌, length, map, Some, refl, sym, ap, ◌∙◌, arith, inl, inr, ⊎_elim, subst, length-append}
 use Rattle.std.specs.Prelude.{slice_get, slice_index_or}
 use Rattle.std.proofs.lemmas.List.{get_or-map, length-map}
@@ -40,8 +40,8 @@ own_out f bits place p o e = ap (out_bit bits) (own_has f place p o e)
 
 -- ---- the steps rebuilt, first to last
 
--- The first k steps of a chain, rebuilt with fewer steps: each place so far has a signal of the
--- same value.
+-- The first k steps of a chain, rebuilt with fewer steps: each place so far has a signal with the same
+-- value.
 pub record Mirrors (n : ℕ) (basis : Basis) (has : ℕ → ℕ → Bool) (k : ℕ) : Type 0 where
   pub new : List Step
   pub signal : ℕ → Out
@@ -108,7 +108,7 @@ mirror_step n basis has k m u below over same =
           (cases_eq p place);
     }
 
--- One step of the chain is rebuilt.
+-- One more step of the chain is rebuilt.
 mirror_next : (n : ℕ) (basis : Basis) (has : ℕ → ℕ → Bool) (k : ℕ) → Mirrors n basis has k → (a : Step) → IsStepAt (n + 1 + k) a → basis a.op ≡ true → ((t : ℕ) → has t (n + 1 + k) ≡ step_value (has t) a) → Mirrors n basis has (k + 1)
 mirror_next n basis has k m a below over follows =
     let value : (ℕ → Bool) → Bool = λ bits. apply a.op (out_bit bits (m.signal a.j)) (out_bit bits (m.signal a.k)) in
@@ -212,8 +212,8 @@ mirror_chain s basis r d b fits has outs m =
       };
     }
 
--- Where the step of index i has the value of a lower signal, and all later steps and the outs
--- compute the same with given bits of the places, a chain of fewer steps agrees.
+-- If the step of index i has the value of a lower signal, and the later steps and the outs compute the
+-- same from the given bits of the places, then a chain of fewer steps agrees.
 pub left_out : (s : Specification) (basis : Basis) (r d : ℕ) (b : Body) → Fits s basis r d b → (i : ℕ) → i < r → (o : Out) → IsSignal basis (s.inputs + i) o → (has : ℕ → ℕ → Bool) → ((t p : ℕ) → 1 ≤ p → p < s.inputs + 1 + i → has t p ≡ bits_of s.inputs r b.step t p) → ((t : ℕ) → has t (s.inputs + 1 + i) ≡ out_bit (bits_of s.inputs r b.step t) o) → ((t k : ℕ) → i < k → k < r → has t (s.inputs + 1 + k) ≡ step_value (has t) (b.step k)) → ((h t : ℕ) → 1 ≤ h → h ≤ s.outputs → out_bit (has t) (slice_index_or b.outs (h - 1) Zero) ≡ out_bit (bits_of s.inputs r b.step t) (slice_index_or b.outs (h - 1) Zero)) → HasFewer s basis r
 left_out s basis r d b fits i low o is has front own later outs =
     let whole : (i + 1) + (r - (i + 1)) ≡ r = omega arith in
@@ -235,7 +235,7 @@ unread_bit bits place own Zero other = refl
 unread_bit bits place own One other = refl
 unread_bit bits place own (Place p) other = other_has bits place p own (λ (e : p ≡ place). other (ap Place e))
 
--- A step that is no out and that no step reads can be left out.
+-- A step that isn't an out and that no step reads can be left out.
 pub unused : (s : Specification) (basis : Basis) (r d : ℕ) (b : Body) → Fits s basis r d b → (i : ℕ) → i < r → ((k : ℕ) → k < r → Reads (b.step k) (s.inputs + 1 + i) → ⊥) → ((h : ℕ) → 1 ≤ h → h ≤ s.outputs → slice_index_or b.outs (h - 1) Zero ≡ Place (s.inputs + 1 + i) → ⊥) → HasFewer s basis r
 unused s basis r d b fits i low unread no_out =
     let n : ℕ = s.inputs in

@@ -1,4 +1,4 @@
--- Operators on places and constants: the result is a place or constant, or one step.
+-- Operators on places and constants: the result is a place, a constant, or one step.
 use Rattle.std.proofs.Common.{◌≡◌, ℕ, ◌+◌, ◌≤◌, ◌<◌, Bool, true, false, refl, sym, ◌∙◌, arith, inl, inr, ◌⊎◌}
 use Rattle.std.proofs.lemmas.Grind.{common_steps}
 use Rattle.chain_theory.specs.Operator.{apply, Basis}
@@ -12,7 +12,7 @@ use Rattle.chain_laws.specs.Operators.{two_values, HasNegation, negation_given}
 
 -- ---- operators on signals
 
--- a signal: one of the places up to the last, or a constant, where constants can be left out
+-- a signal: one of the places up to the last, or a constant, if constants can be left out
 abbrev pub IsSignal : Basis → ℕ → Out → Type 0
 IsSignal basis last Zero = const_closed basis ≡ true
 IsSignal basis last One = const_closed basis ≡ true
@@ -72,7 +72,7 @@ second_constant basis last closed op low member p from below y = of_one basis la
 first_constant : (basis : Basis) (last : ℕ) → const_closed basis ≡ true → (op : ℕ) → op < 16 → basis op ≡ true → (p : ℕ) → 1 ≤ p → p ≤ last → (x : Bool) → IsJoined basis last (λ bits. apply op x (bits p))
 first_constant basis last closed op low member p from below x = of_one basis last p closed from below (λ y. apply op x y) (λ e0 e1. negation_given basis closed op low member (negates_second op x e0 e1))
 
--- A member on two signals is a signal or one step.
+-- A member applied to two signals is a signal or one step.
 pub joined : (basis : Basis) (last op : ℕ) → op < 16 → basis op ≡ true → (a b : Out) → IsSignal basis last a → IsSignal basis last b → IsJoined basis last (λ bits. apply op (out_bit bits a) (out_bit bits b))
 joined basis last op low member Zero Zero a_is b_is = inl (constant basis last a_is (apply op false false))
 joined basis last op low member Zero One a_is b_is = inl (constant basis last a_is (apply op false true))

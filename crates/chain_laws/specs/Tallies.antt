@@ -23,7 +23,7 @@ number_or true true = omega arith
 number_or true false = omega arith
 number_or false b = omega arith
 
--- two tests that never pass together, and a third that passes where either does
+-- two tests that never pass together, and a third one that passes where one of them does
 pub tally_apart : (f g h : ℕ → Bool) (n : ℕ) → ((i : ℕ) → i < n → number (f i) + number (g i) ≤ number (h i)) → tally f n + tally g n ≤ tally h n
 unfolding tally
 tally_apart f g h zero each = omega arith
@@ -74,7 +74,7 @@ tally_some f (suc n) i low passes = ⊎_elim
     (λ (past : n ≤ i). omega (arith, number_true (f n) (ap f (let e : n ≡ i = omega arith in e) ∙ passes)))
     (cases_lt i n)
 
--- a test that passes exactly for the numbers below a bound
+-- a downward closed test: below n, where it passes for a number, it passes for all smaller ones
 abbrev pub IsFront : (ℕ → Bool) → ℕ → Type 0
 IsFront f n = (i k : ℕ) → i ≤ k → k < n → f k ≡ true → f i ≡ true
 

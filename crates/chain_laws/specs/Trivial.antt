@@ -61,7 +61,7 @@ equal_by s basis r d b fits closed i low equal true true at_0 at_1 = inl (equal_
 equal_by s basis r d b fits closed i low equal false true at_0 at_1 = inl (equal_copy_goes s basis r d b fits i low equal (at_0, at_1))
 equal_by s basis r d b fits closed i low equal true false at_0 at_1 = inr (at_0, at_1)
 
--- Where constants can be left out, a step with equal operands can be left out, or is a negation.
+-- If constants can be left out, a step with equal operands can be left out or is a negation.
 pub equal_goes : (s : Specification) (basis : Basis) (r d : ℕ) (b : Body) → Fits s basis r d b → const_closed basis ≡ true → (i : ℕ) → i < r → (b.step i).j ≡ (b.step i).k → HasFewer s basis r ⊎ NegatesBoth (b.step i).op
 equal_goes s basis r d b fits closed i low equal = equal_by s basis r d b fits closed i low equal (apply (b.step i).op false false) (apply (b.step i).op true true) refl refl
 
@@ -89,7 +89,7 @@ decided_reads a p = decided_or (a.j ≡ p) (a.k ≡ p) (cases_eq a.j p) (cases_e
 abbrev pub IsUsed : ℕ → ℕ → Body → ℕ → Type 0
 IsUsed n r b i = Contains b.outs (Place (n + 1 + i)) ⊎ ((k : ℕ) × (k < r) × Reads (b.step k) (n + 1 + i))
 
--- A step can be left out, or is used.
+-- A step can be left out or is used.
 pub unused_goes : (s : Specification) (basis : Basis) (r d : ℕ) (b : Body) → Fits s basis r d b → (i : ℕ) → i < r → HasFewer s basis r ⊎ IsUsed s.inputs r b i
 unused_goes s basis r d b fits i low =
     let p : ℕ = s.inputs + 1 + i in
@@ -109,7 +109,7 @@ smaller_equal a e = grind (arith, nat_tests)
 smaller_apart : (a : Step) → (a.j ≡ a.k → ⊥) → smaller a ≡ min a.j a.k
 smaller_apart a apart = grind (arith, nat_tests)
 
--- an operand twice comes before a pair of it with another operand
+-- an operand twice comes before a pair of this operand and another one
 twice_before : (op : ℕ) (a : Step) → 1 ≤ a.j → 1 ≤ a.k → (a.j ≡ a.k → ⊥) → ComesBefore (record { j = a.j; k = a.j; op = op }) a × ComesBefore (record { j = a.k; k = a.k; op = op }) a
 twice_before op a j_from k_from apart =
     let u : Step = record { j = a.j; k = a.j; op = op } in
@@ -122,7 +122,7 @@ twice_before op a j_from k_from apart =
       | inr ge ↦ (inr (omega arith, omega arith), inl (omega (arith, apart)))
     ]
 
--- A negation of one of two operands can have that operand twice; the keys decrease.
+-- A negation of one of two different operands can read that operand twice; the keys decrease.
 pub negation_lower : (s : Specification) (basis : Basis) (r d : ℕ) (b : Body) → Fits s basis r d b → (i : ℕ) → i < r → IsNegation (b.step i).op → ((b.step i).j ≡ (b.step i).k → ⊥) → IsLower (Fits s basis r d) (λ x. rank (s.inputs + r + 1) r x.step) b
 negation_lower s basis r d b fits i low negation apart =
     let a : Step = b.step i in

@@ -1,4 +1,4 @@
--- A step is read by a step of a higher level or is an out, and each step reads at most two places.
+-- Each step is an out or is read by a step of a higher level, and a step reads at most two places.
 use Rattle.std.proofs.Common.{◌≡◌, ℕ, zero, suc, ◌+◌, ◌*◌, ◌≤◌, ◌<◌, ◌==◌, Bool, true, false, ◌||◌, List, [], ◌∷◌, length, ltb, leb, eqb-true, refl, sym, ap, ◌∙◌, arith, inl, inr, ⊎_elim, ◌⊎◌, subst}
 use Rattle.std.specs.Prelude.{slice_index_or, if◌then◌else◌}
 use Rattle.std.proofs.lemmas.Option.{slice_get_within}
@@ -27,11 +27,11 @@ AreUsed c = (i : ℕ) (a : Step) → IsStep c i a → IsOut c (c.n + 1 + i) ⊎ 
 
 -- ---- places that steps read
 
--- p is an operand of a step that counts
+-- p is an operand of the step, and the step is counted
 abbrev reads_bit : Bool → Step → ℕ → Bool
 reads_bit counts a p = if counts then a.j == p || a.k == p else false
 
--- a step that counts, of an index below k, reads the place n + 1 + i
+-- a step that is counted, with an index below k, reads the place n + 1 + i
 unfoldable hit : (ℕ → Bool) → (ℕ → Step) → ℕ → ℕ → ℕ → Bool
 hit counts step n zero i = false
 hit counts step n (suc k) i = hit counts step n k i || reads_bit (counts k) (step k) (n + 1 + i)
@@ -146,9 +146,8 @@ covered c is used l i low =
     (λ (lower : leb l (level c (n + 1 + i)) ≡ false). omega (arith, number_false (leb l (level c (n + 1 + i))) lower))
     (cases_Bool (leb l (level c (n + 1 + i))))
 
--- A level has at most as many steps as all levels above it together have, plus the outs: each step
--- of the level and above is read by a step above the level or is an out, and a step reads two
--- places.
+-- A level has at most as many steps as all levels above it together have, plus the number of outs: each
+-- step from this level on is an out or is read by a step above the level, and a step reads two places.
 pub level_counts : (c : Chain) → IsChain c → AreUsed c → (l : ℕ) → width c l ≤ above c l + length c.outs
 level_counts c is used l =
     let high : ℕ → Bool = λ k. ltb l (level c (c.n + 1 + k)) in

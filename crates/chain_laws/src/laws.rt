@@ -1,5 +1,5 @@
-//! Why searches for a least chain may be restricted to chains in normal form, as facts about chains
-//! alone. Each law is the contract of a function that does nothing.
+//! Why a search for least chains may be restricted to chains in normal form. These are facts about
+//! chains, independent of any encoding. Each law is the contract of a function that does nothing.
 ghost use Rattle.std.specs.Prelude.{ℕ, ◌<◌};
 ghost use Rattle.chain_theory.specs.Operator.{Basis};
 ghost use Rattle.chain_theory.specs.Specification.{Specification};
@@ -8,16 +8,16 @@ ghost use Rattle.chain_theory.specs.Levels.{HasChainOfLevels};
 ghost use Rattle.chain_laws.specs.Reduced.{HasReducedChain};
 ghost use Rattle.chain_laws.specs.Fences.{HasFencedChain};
 
-/// Where a chain of r steps and at most d levels over a basis agrees with a specification, and no
-/// chain of fewer steps does, a reduced chain (in normal form) of r steps and at most d levels over
-/// the basis agrees. A reduced chain has none of the steps and pairs that the cuts (symmetry
-/// breaking and pruning) rule out, each cut under its test of the basis.
+/// If a chain of r steps and at most d levels over a basis implements a specification, and no chain of
+/// fewer steps does, then a chain in normal form of r steps and at most d levels over the basis
+/// implements it. A chain in normal form satisfies all symmetry-breaking and pruning constraints, each
+/// under the closure property of the basis that it needs.
 pub fn some_least_chain_is_reduced()
     ensures { (s : Specification) (basis : Basis) (r d : ℕ) → HasChainOfLevels s basis r d → ((q : ℕ) → q < r → HasChain s basis q → ⊥) → HasReducedChain s basis r d }
 {}
 
-/// Then a reduced one is in level order, in a fence of at most d levels that is listed for the
-/// outputs.
+/// Under the same conditions some chain in normal form has its steps ordered by level, and its fence
+/// has at most d levels and is listed for the number of outputs.
 pub fn some_reduced_chain_stands_in_a_listed_fence()
     ensures { (s : Specification) (basis : Basis) (r d : ℕ) → HasChainOfLevels s basis r d → ((q : ℕ) → q < r → HasChain s basis q → ⊥) → HasFencedChain s basis r d }
 {}

@@ -12,7 +12,7 @@ const FULL_ADDER: &[u8] = b"chain 5\nx4 x1 x2 0110\nx5 x1 x2 0001\nx6 x4 x3 0110
 /// An input, a negation by two equal operands, and the constants.
 const MIXED: &[u8] = b"chain 2\nx2 x1 x1 1110\nx3 x2 x1 0010\nout 1\nout x3\nout 0\nout x1\n";
 
-/// As many steps as a chain may have, and one more.
+/// The greatest number of steps that a chain may have, and one more.
 const SIXTEEN_STEPS: &[u8] = b"chain 16\n\
     x3 x1 x2 0110\nx4 x1 x3 0110\nx5 x1 x4 0110\nx6 x1 x5 0110\n\
     x7 x1 x6 0110\nx8 x1 x7 0110\nx9 x1 x8 0110\nx10 x1 x9 0110\n\
@@ -29,7 +29,7 @@ const SEVENTEEN_STEPS: &[u8] = b"chain 17\n\
     out x19\n";
 
 /// Whether `difference` is the first output and row on which the chain of `block` differs from
-/// `spec`; None: it implements `spec`.
+/// `spec`. None: the chain implements `spec`.
 fn is_difference(alloc: Global, spec: &Spec, block: &[u8], difference: Option<(u32, u32)>) -> bool {
     let (inputs, outputs) = (spec.n(), spec.outputs());
     if block.len() > 1000 || inputs > 6 || outputs > 8 {
@@ -41,7 +41,7 @@ fn is_difference(alloc: Global, spec: &Spec, block: &[u8], difference: Option<(u
     }
 }
 
-/// The same for the text of truth tables.
+/// The same for truth tables as a text.
 fn differs_at(alloc: Global, tables: &[u8], block: &[u8], difference: Option<(u32, u32)>) -> bool {
     if tables.len() > 1000 {
         return false;
@@ -88,7 +88,7 @@ fn taken(alloc: Global, text: &[u8]) -> Result<usize, ChainError> {
     Ok(used)
 }
 
-/// The refusals of a count, of the first step and of the output after it.
+/// The errors of the first line, of the first step's line and of the output's line after it.
 const BAD_COUNT: Result<usize, ChainError> = Err(ChainError::BadCount(4));
 
 const BAD_STEP: Result<usize, ChainError> = Err(ChainError::BadStep(5));
@@ -97,8 +97,8 @@ const FORWARD: Result<usize, ChainError> = Err(ChainError::ForwardPlace(5));
 
 const BAD_OUT: Result<usize, ChainError> = Err(ChainError::BadOut(6));
 
-/// Texts for two inputs and one output, with the first line numbered 4: the number of bytes read,
-/// or the refusal.
+/// Texts for two inputs and one output, with the first line numbered 4, and the number of bytes read
+/// or the error.
 const READ: &[(&[u8], Result<usize, ChainError>)] = &[
     (b"chain 1\nx3 x1 x2 0110\nout x3\nend\n", Ok(29)),
     (b"chain 1\nx3 x2 x2 1110\nout x2\n", Ok(29)),
@@ -158,7 +158,7 @@ fn blocks_are_read_or_refused_at_the_first_fault(rt: HostRuntime) {
     }
 }
 
-/// Whether a chain is written as `block`, after what was there.
+/// Whether a chain is appended to a text as `block`.
 fn is_written(alloc: Global, chain: &Chain, block: &[u8]) -> bool {
     let Ok(mut text) = Vec::from_slice(alloc, b"x") else {
         return false;

@@ -26,7 +26,7 @@ fn bound_of(alloc: Global, text: &[u8]) -> Option<u32> {
 
 /// Truth tables, and their lower bounds.
 const BOUNDS: &[(&[u8], u32)] = &[
-    // the exclusive or of 2 to 6 inputs: one step less than inputs
+    // the exclusive or of 2 to 6 inputs: the number of inputs less 1
     (b"inputs 2\n0110\n", 1),
     (b"inputs 3\n01101001\n", 2),
     (b"inputs 4\n0110100110010110\n", 3),
@@ -36,13 +36,13 @@ const BOUNDS: &[(&[u8], u32)] = &[
     (b"inputs 2\n0000\n1111\n0011\n0101\n", 0),
     (b"inputs 0\n1\n0\n", 0),
     (b"inputs 1\n10\n", 1),
-    // equal outputs are counted once, different ones both
+    // equal outputs are counted once, and different outputs twice
     (b"inputs 2\n0110\n0110\n", 1),
     (b"inputs 2\n0110\n1001\n", 2),
     (b"inputs 2\n0110\n0011\n0001\n", 2),
     // the sum and the carry of three bits
     (b"inputs 3\n01101001\n00010111\n", 2),
-    // two outputs over three inputs of their own each: six inputs minus two outputs
+    // two outputs with disjoint supports of three inputs: six inputs less two outputs
     (APART_3, 4),
     // one row of six inputs
     (ROW_6, 5),

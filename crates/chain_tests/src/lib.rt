@@ -1,6 +1,6 @@
-//! Tests of the crates from `port_io` and `text_core` to `step_core`: faults in mid-stream, lines,
-//! words and numbers of texts, operators and bases, truth tables and their lower bounds, chain
-//! blocks, and chains of at most one step.
+//! Tests of the crates from `port_io` and `text_core` to `step_core`: input and output errors in
+//! mid-stream, lines, words and numbers of texts, operators and bases, truth tables and their lower
+//! bounds, chain blocks, and least chains of few steps.
 #![tactic(auto)]
 
 #[cfg(test)]

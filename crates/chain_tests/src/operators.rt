@@ -1,5 +1,5 @@
-//! Operators by their truth tables (words of four digits), and bases: their properties and their
-//! texts.
+//! Operators by their truth tables (words of four digits), and bases: their closure properties and
+//! their texts.
 use op_basis::{Basis, BasisError, Op, read_basis, read_operator, write_basis, write_operator};
 use std::alloc::Global;
 
@@ -19,7 +19,7 @@ fn has_values(op: Op, values: [bool; 4]) -> bool {
 }
 
 /// Whether `word` is read as the operator `number`, which has the values `values` and is written as
-/// `word`; None: it is refused.
+/// `word`. None: the word is refused.
 fn is_operator(alloc: Global, word: &[u8], number: Option<u8>, values: [bool; 4]) -> bool {
     match read_operator(word) {
         Some(op) => {
@@ -114,8 +114,8 @@ const BASES: &[(&[u8], [bool; 5], &[u8])] = &[
     (b"1110", [true, true, true, false, false], b"nand"),
 ];
 
-/// At least one basis for each of the fourteen patterns of the five properties; an independent
-/// program found them among all 65535 bases.
+/// At least one basis for each of the fourteen combinations of the five properties that occur. An
+/// independent program found these combinations among all 65535 bases.
 #[test]
 fn bases_are_closed(rt: HostRuntime) {
     for &(word, tests, text) in BASES {
@@ -123,7 +123,7 @@ fn bases_are_closed(rt: HostRuntime) {
     }
 }
 
-/// Words that are no basis.
+/// Texts that aren't bases, and their errors.
 const REFUSALS: &[(&[u8], BasisError)] = &[
     (b"nor", BasisError::UnknownName),
     (b"All", BasisError::UnknownName),

@@ -1,4 +1,5 @@
-//! The plain program on a full adder: the sum and the carry of three bits, in five steps.
+//! The literal definitions of `chain_theory::plain` on a full adder: the sum and the carry of three bits, in
+//! five steps.
 use chain_theory::plain::{PlainStep, agrees, place_level, place_value};
 use chain_theory::{Cell, Out};
 
@@ -38,7 +39,7 @@ fn cell(character: u8) -> Cell {
     }
 }
 
-/// The cells of two truth tables of three inputs.
+/// The cells of two truth tables of three inputs, as `plain` takes them.
 fn cells(tables: &[u8; 16]) -> [Cell; 16] {
     let mut cells = [Cell::Free; 16];
     for (at, character) in tables.iter().enumerate() {
@@ -76,8 +77,8 @@ const BOTH: [Out; 2] = [Out::Place(5), Out::Place(8)];
 
 const CONSTANTS: [Out; 2] = [Out::Zero, Out::One];
 
-/// Two outputs, their tables, and whether the chain implements them: sum and carry; one cell
-/// changed; that cell a don't-care; the tables exchanged; constants.
+/// Two outs, their tables, and whether the chain implements the tables: sum and carry; one cell
+/// changed; this cell a don't-care; the tables exchanged; constants.
 const TABLES: &[([Out; 2], &[u8; 16], bool)] = &[
     (BOTH, b"0110100100010111", true),
     (BOTH, b"0110100100010110", false),

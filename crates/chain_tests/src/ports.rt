@@ -1,4 +1,4 @@
-//! Faults in mid-stream and limits, over each kind of source and sink of bytes.
+//! Errors in mid-stream and limits, for each kind of source and sink of bytes.
 use port_io::{
     InputPort, MemorySink, MemorySource, OutputPort, ReadError, SteadySource, read_all, write_all,
 };
@@ -6,7 +6,7 @@ use std::alloc::{AllocError, Global};
 use std::io;
 use std::io::{ErrorKind, Read, Write};
 
-/// The byte at the index `place` of a source.
+/// The byte of a source at the index `place`.
 fn byte_at(place: usize) -> u8 {
     (place % 251) as u8
 }
@@ -19,7 +19,7 @@ fn bytes_of(alloc: Global, length: usize) -> Result<Vec<u8>, AllocError> {
     Ok(bytes)
 }
 
-/// Whether `bytes` are all bytes of a source of `length` bytes.
+/// Whether `bytes` are exactly the bytes of a source of `length` bytes.
 fn are_all(bytes: &[u8], length: usize) -> bool {
     for (place, byte) in bytes.iter().enumerate() {
         if *byte != byte_at(place) {
@@ -29,7 +29,7 @@ fn are_all(bytes: &[u8], length: usize) -> bool {
     bytes.len() == length
 }
 
-/// Whether the outcome `read` is `error`, or a source of `length` bytes where that is None.
+/// Whether the result `read` is `error`, or, if that is None, the bytes of a source of `length` bytes.
 fn came_to(read: &Result<Vec<u8>, ReadError>, length: usize, error: Option<ReadError>) -> bool {
     match read {
         Ok(bytes) => error.is_none() && are_all(bytes, length),
@@ -43,8 +43,8 @@ fn source(alloc: Global, length: usize, failing: u64) -> Result<MemorySource, Al
     Ok(MemorySource::new(bytes, vec![in alloc; failing]?))
 }
 
-/// Whether a source of `length` bytes that fails at the call `failing` is read with `error`, or
-/// whole, and with `faults` faults.
+/// Whether reading a source of `length` bytes that fails at the call `failing` gives `error` or all
+/// bytes, and counts `faults` failed calls.
 fn is_read(
     alloc: Global,
     length: usize,
@@ -59,8 +59,8 @@ fn is_read(
     came_to(&read_all(alloc, &mut source, limit), length, error) && source.faults() == faults
 }
 
-/// Whether a source that never fails is read to its end, where the limit allows it, without a
-/// fault.
+/// Whether a source that never fails is read to its end, if the limit allows it, without a failed
+/// call.
 fn is_read_steadily(alloc: Global, length: usize, limit: usize) -> bool {
     let Ok(bytes) = bytes_of(alloc, length) else {
         return false;
@@ -70,7 +70,7 @@ fn is_read_steadily(alloc: Global, length: usize, limit: usize) -> bool {
 }
 
 /// The length of a source, the number of the call that fails, the limit, the error, and the number
-/// of faults.
+/// of failed calls.
 const READ: &[(usize, u64, usize, Option<ReadError>, u64)] = &[
     (0, 0, 0, None, 0),
     (3, 0, 3, None, 0),
@@ -93,15 +93,15 @@ fn reads_memory(rt: HostRuntime) {
     }
 }
 
-/// Whether the first or the second write fails exactly where `failing` says so.
+/// Whether the first or the second write fails, exactly as `failing` says.
 fn is_told(sink: &mut MemorySink, failing: u64) -> bool {
     let first = write_all(sink, b"abc").is_err();
     let second = write_all(sink, b"def").is_err();
     first == (failing == 1) && second == (failing == 2)
 }
 
-/// Whether a sink that fails at the call `failing` has `text` after two calls, and `faults`
-/// faults.
+/// Whether a sink that fails at the call `failing` has `text` and `faults` failed calls after two
+/// calls.
 fn is_written(alloc: Global, failing: u64, text: &[u8], faults: u64) -> bool {
     let Ok(calls) = Vec::from_slice(alloc, &[failing]) else {
         return false;
@@ -111,7 +111,7 @@ fn is_written(alloc: Global, failing: u64, text: &[u8], faults: u64) -> bool {
     told && sink.written() == text && sink.faults() == faults
 }
 
-/// The number of the call that fails, the text after two calls, and the number of faults.
+/// The number of the call that fails, the text after two calls, and the number of failed calls.
 const WRITTEN: &[(u64, &[u8], u64)] = &[
     (0, b"abcdef", 0),
     (1, b"def", 1),
@@ -129,7 +129,7 @@ fn writes_memory(rt: HostRuntime) {
     }
 }
 
-/// Gives two bytes a call, and fails at one call.
+/// A source that gives two bytes a call, and fails at one call.
 #[derive(Drop)]
 struct Dripping<'a> {
     rest: &'a [u8],
@@ -160,7 +160,7 @@ fn is_text(read: Result<Vec<u8>, ReadError>, text: &[u8]) -> bool {
     }
 }
 
-/// Whether a port fails once, and the next call reads it to its end.
+/// Whether reading a port fails once, and the next call reads it to its end.
 fn is_read_after_a_fault(alloc: Global) -> bool {
     let mut port = InputPort::new(Dripping {
         rest: b"abcde",
@@ -178,7 +178,7 @@ fn reads_port(rt: HostRuntime) {
     assert!(rt; is_read_after_a_fault(rt.alloc()));
 }
 
-/// Takes some bytes a call, and fails at one call.
+/// A sink that takes some bytes a call, and fails at one call.
 #[derive(Drop)]
 struct Taking {
     bytes: Vec<u8>,
@@ -205,7 +205,7 @@ impl Write for Taking {
 }
 
 /// Whether a port that takes `most` bytes a call and fails at the call `failing` has `text` and
-/// `faults` faults in the end.
+/// `faults` failed calls in the end.
 fn is_taken(alloc: Global, most: usize, failing: u8, text: &[u8], faults: u64) -> bool {
     let mut writer = Taking {
         bytes: Vec::new(alloc),
@@ -220,7 +220,7 @@ fn is_taken(alloc: Global, most: usize, failing: u8, text: &[u8], faults: u64) -
 }
 
 /// How many bytes a port takes a call, the number of the call that fails, the text in the end, and
-/// the number of faults.
+/// the number of failed calls.
 const TAKEN: &[(usize, u8, &[u8], u64)] = &[
     (2, 0, b"abcde", 0),
     (2, 3, b"abcd", 1),

@@ -1,4 +1,4 @@
-//! Truth tables with the chains and the numbers of steps that they need.
+//! Truth tables with their least chains, or the numbers of steps of these.
 use chain_core::{Chain, first_difference, write_chain};
 use op_basis::read_basis;
 use std::alloc::Global;
@@ -11,7 +11,8 @@ fn is_written(alloc: Global, chain: &Chain, text: &[u8]) -> bool {
     write_chain(chain, &mut told).is_ok() && told.as_slice() == text
 }
 
-/// Whether the answer for tables over a basis is the chain `wanted`; an empty text stands for none.
+/// Whether the least chain for tables over a basis, of at most one step, is `wanted`. An empty text: there is
+/// none.
 fn has(alloc: Global, basis: &[u8], tables: &[u8], wanted: &[u8]) -> bool {
     if tables.len() > 100_000 {
         return false;
@@ -29,7 +30,7 @@ fn has(alloc: Global, basis: &[u8], tables: &[u8], wanted: &[u8]) -> bool {
     }
 }
 
-/// Bases, truth tables, and their chains of at most one step; an empty text where they have none.
+/// Bases, truth tables, and their least chains of at most one step. An empty text: there is none.
 const ONE_STEP: &[(&[u8], &[u8], &[u8])] = &[
     // no step: constants and inputs, also by don't-cares
     (
@@ -37,7 +38,7 @@ const ONE_STEP: &[(&[u8], &[u8], &[u8])] = &[
         b"inputs 2\n0000\n1111\n0101\n0--1\n",
         b"chain 0\nout 0\nout 1\nout x2\nout x1\n",
     ),
-    // one step, and another output beside it
+    // one step, and another output that needs none
     (
         b"all",
         b"inputs 2\n0110\n0011\n",
@@ -49,25 +50,25 @@ const ONE_STEP: &[(&[u8], &[u8], &[u8])] = &[
         b"inputs 2\n1010\n",
         b"chain 1\nx3 x2 x2 1110\nout x3\n",
     ),
-    // also where two inputs would do
+    // a negation of one input, though an operator on two inputs would do
     (
         b"all",
         b"inputs 2\n1010\n",
         b"chain 1\nx3 x2 x2 1000\nout x3\n",
     ),
-    // operands in the other order, where the basis has no other
+    // operands in the other order, if the basis needs it
     (
         b"0010",
         b"inputs 2\n0100\n",
         b"chain 1\nx3 x2 x1 0010\nout x3\n",
     ),
-    // outputs that may be one step
+    // outputs that can be the same step
     (
         b"bench",
         b"inputs 3\n0-0001-1\n0000-101\n",
         b"chain 1\nx4 x1 x3 0001\nout x4\nout x4\n",
     ),
-    // more than one step: over this basis, for two outputs, for three inputs
+    // none of one step: over this basis, for two outputs, for three inputs
     (b"nand", b"inputs 2\n0110\n", b""),
     (b"all", b"inputs 2\n0110\n0111\n", b""),
     (b"all", b"inputs 3\n01101001\n", b""),
@@ -86,7 +87,8 @@ fn chains_of_one_step_are_found(rt: HostRuntime) {
     }
 }
 
-/// Whether the answer for tables over a basis, of at most `most` steps, has as many steps as are wanted.
+/// Whether the least chain for tables over a basis, of at most `most` steps, has the wanted number of steps.
+/// None: there is no such chain.
 fn needs(alloc: Global, basis: &[u8], tables: &[u8], most: u32, wanted: Option<u32>) -> bool {
     if tables.len() > 100_000 || most > 6 {
         return false;
@@ -104,7 +106,8 @@ fn needs(alloc: Global, basis: &[u8], tables: &[u8], most: u32, wanted: Option<u
     }
 }
 
-/// Bases, truth tables, the most steps, and the fewest that there are (TAOCP 7.1.2 has most of them).
+/// Bases, truth tables, the bound on the steps, and the size of the least chain (TAOCP 7.1.2 has most of these
+/// sizes).
 const FEWEST: &[(&[u8], &[u8], u32, Option<u32>)] = &[
     // the exclusive or of two inputs over NAND
     (b"nand", b"inputs 2\n0110\n", 3, None),
@@ -130,7 +133,7 @@ fn fewest_steps_are_found(rt: HostRuntime) {
     }
 }
 
-/// Whether there is a chain of at most `most` steps after `number` others, and it agrees with the tables.
+/// Whether there is a chain number `number`, from 0, of at most `most` steps, and it implements the tables.
 fn has_after(alloc: Global, basis: &[u8], tables: &[u8], most: u32, number: u32) -> bool {
     if tables.len() > 100_000 || most > 6 {
         return false;

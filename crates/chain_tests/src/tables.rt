@@ -1,4 +1,4 @@
-//! Truth tables read and refused; their symmetric inputs and their non-trivial (live) outputs.
+//! Truth tables that are read or refused, their symmetric inputs, and their live (nontrivial) outputs.
 use std::alloc::Global;
 use tt_core::{
     Cell, Out, Spec, SpecError, Tables, are_cells, inputs, live_part, push_row, read_tables, row,
@@ -98,7 +98,7 @@ fn tables_are_read(rt: HostRuntime) {
     }
 }
 
-/// Texts and their refusals.
+/// Texts and their errors.
 const REFUSALS: &[(&[u8], SpecError)] = &[
     (b"", SpecError::BadHeader(1)),
     (b"\n0110\n", SpecError::BadHeader(1)),
@@ -136,18 +136,18 @@ fn refusals_have_their_lines(rt: HostRuntime) {
     }
 }
 
-/// Whether there are two inputs, and the words `on` and `care`.
+/// Whether a specification has two inputs and the words `on` and `care`.
 fn has_words(spec: &Spec, on: &[u64], care: &[u64]) -> bool {
     spec.n() == 2 && spec.on() == on && spec.care() == care
 }
 
-/// Whether tables without outputs are made.
+/// Whether a specification without outputs can be built.
 fn are_kept(alloc: Global) -> bool {
     let spec = Spec::new(2, Vec::new(alloc), Vec::new(alloc));
     has_words(&spec, &[], &[]) && spec.outputs() == 0
 }
 
-/// Whether headings and rows are distinguished from other lines.
+/// Whether header lines and table lines are distinguished from other lines.
 fn are_told() -> bool {
     inputs(b"inputs 2", true) == Some(2)
         && inputs(b"inputs 2", false).is_none()
@@ -205,7 +205,7 @@ fn inputs_are_exchanged(rt: HostRuntime) {
     }
 }
 
-/// Whether the live part of tables has as many inputs as they, and the words `on` and `care`.
+/// Whether the specification of the live outputs has the same inputs and the words `on` and `care`.
 fn is_part(alloc: Global, spec: &Spec, on: &[u64], care: &[u64]) -> bool {
     match live_part(alloc, spec) {
         Ok(live) => live.on() == on && live.care() == care && live.n() == spec.n(),

@@ -20,7 +20,7 @@ const ITEMS: &[(&[u8], &[u8], Option<&[u8]>)] = &[
     (b"1\t2 ", b"1\t2", Some(b"")),
 ];
 
-/// Words, texts, and the rest of the text after the word where it begins with it.
+/// Words, texts, and the rest of the text after the word, if the text begins with it.
 const AFTER: &[(&[u8], &[u8], Option<&[u8]>)] = &[
     (b"x", b"x10", Some(b"10")),
     (b"inputs ", b"inputs 3", Some(b"3")),
@@ -93,7 +93,7 @@ const NUMBERS: &[(u32, &[u8], Option<u32>)] = &[
     (0, b"1", None),
 ];
 
-/// Whether two numbers are appended to what was there.
+/// Whether two numbers are appended to a text.
 fn are_pushed(alloc: Global) -> bool {
     let Ok(mut out) = Vec::from_slice(alloc, b"x") else {
         return false;

@@ -1,4 +1,4 @@
--- Agreement as `plain` computes it, output by output from the first.
+-- Agreement as `plain` computes it: output by output, from the first.
 use Rattle.std.proofs.Common.{◌≡◌, ℕ, zero, suc, ◌+◌, ◌-◌, ◌*◌, ◌%◌, ◌^◌, ◌<◌, ◌≤◌, true, List, [], ◌∷◌, ◌++◌, length, get_or, refl, sym, ◌∙◌, ap, ap₂, subst, arith, pow_mono}
 use Rattle.std.proofs.lemmas.List.{get_or_append_left, get_or-append-add}
 use Rattle.chain_theory.specs.Agreement.{is_met, output_value, Agrees}
@@ -14,7 +14,7 @@ use Rattle.chain_theory.specs.declared.plain.PlainStep.{PlainStep}
 abbrev pub AgreesFlat : ℕ → List PlainStep → List Out → List Cell → Type 0
 AgreesFlat n steps outs cells = Agrees (chain_of n steps outs) (flat_specification n (length outs) cells)
 
--- the outs are the first out and the others, and the cells are its own and those of the others
+-- the outs are split into the first one and the others, and the cells into its own and the later ones
 pub record IsCut (n : ℕ) (outs : List Out) (cells : List Cell) (out : Out) (others : List Out) (own behind : List Cell) : Type 0 where
   pub outs_are : outs ≡ out ∷ others
   pub cells_are : cells ≡ own ++ behind
@@ -24,7 +24,7 @@ pub record IsCut (n : ℕ) (outs : List Out) (cells : List Cell) (out : Out) (ot
 shifted : (n : ℕ) → n < 32 → (1 * 2 ^ n) % 18446744073709551616 ≡ 2 ^ n
 shifted n low = let few : n ≤ 31 = omega arith in let most : 2 ^ n ≤ 2 ^ 31 = pow_mono few in omega (arith, most)
 
--- the cut after the first out and its cells
+-- the split after the first out and its cells
 pub cut_behind : (n : ℕ) (outs : List Out) (cells : List Cell) (out : Out) (others : List Out) (own behind : List Cell) → n < 32 → outs ≡ out ∷ others → cells ≡ own ++ behind → length own ≡ (1 * 2 ^ n) % 18446744073709551616 → IsCut n outs cells out others own behind
 cut_behind n outs cells out others own behind low outs_are cells_are count = record { outs_are = outs_are; cells_are = cells_are; count = count ∙ shifted n low }
 
@@ -48,8 +48,8 @@ other_cell n h t own behind count =
     let place : (suc (suc h) - 1) * 2 ^ n + t ≡ length own + ((suc h - 1) * 2 ^ n + t) = rw (count, next, this) (omega arith) in
     ap (λ (i : ℕ). get_or (own ++ behind) i Free) place ∙ get_or-append-add own behind ((suc h - 1) * 2 ^ n + t) Free
 
--- a cell of a later output is met with the first output and its cells in front exactly where it is
--- without
+-- a cell of a later output is met in the whole lists exactly where it is met in the lists without the
+-- first output
 same_met : (n h t : ℕ) (steps : List PlainStep) (out : Out) (others : List Out) (own behind : List Cell) → length own ≡ 2 ^ n → is_met (get_or (own ++ behind) ((suc (suc h) - 1) * 2 ^ n + t) Free) (output_value (chain_of n steps (out ∷ others)) (suc (suc h)) t) ≡ is_met (get_or behind ((suc h - 1) * 2 ^ n + t) Free) (output_value (chain_of n steps others) (suc h) t)
 same_met n h t steps out others own behind count =
     let next : suc (suc h) - 1 ≡ suc h = omega arith in
@@ -57,7 +57,7 @@ same_met n h t steps out others own behind count =
     let same : output_value (chain_of n steps (out ∷ others)) (suc (suc h)) t ≡ output_value (chain_of n steps others) (suc h) t = rw (next, this) (any_outs n t steps (out ∷ others) others (get_or others h Zero)) in
     ap₂ is_met (other_cell n h t own behind count) same
 
--- and a cell of the first output exactly where its out alone meets it
+-- a cell of the first output is met in the whole lists exactly where its out meets it
 first_met : (n t : ℕ) (steps : List PlainStep) (out : Out) (others : List Out) (own behind : List Cell) → length own ≡ 2 ^ n → t < 2 ^ n → is_met (get_or (own ++ behind) ((1 - 1) * 2 ^ n + t) Free) (output_value (chain_of n steps (out ∷ others)) 1 t) ≡ is_met (get_or own t Free) (out_value (chain_of n steps []) t out)
 first_met n t steps out others own behind count low =
     ap₂ is_met (first_cell n t own behind count low) (any_outs n t steps (out ∷ others) [] out)
@@ -91,7 +91,7 @@ agrees-first n steps outs cells out others own behind cut all t low =
     let whole = taken_apart n steps outs cells out others own behind cut all in
     sym (first_met n t steps out others own behind cut.count low) ∙ whole.cells 1 t (omega arith) (omega arith) low
 
--- And the others agree with theirs.
+-- Where a chain agrees, its other outs agree with their cells.
 pub agrees-others : (n : ℕ) (steps : List PlainStep) (outs : List Out) (cells : List Cell) (out : Out) (others : List Out) (own behind : List Cell) → IsCut n outs cells out others own behind → AgreesFlat n steps outs cells → AgreesFlat n steps others behind
 agrees-others n steps outs cells out others own behind cut all =
     record { inputs = refl; outputs = refl; cells = others_met n steps out others own behind cut.count (taken_apart n steps outs cells out others own behind cut all) }

@@ -28,12 +28,12 @@ pub record Agrees (c : Chain) (s : Specification) : Type 0 where
   pub outputs : length c.outs ≡ s.outputs
   pub cells : (h t : ℕ) → 1 ≤ h → h ≤ s.outputs → t < 2 ^ s.inputs → is_met (s.cell h t) (output_value c h t) ≡ true
 
--- Each step's operator is a member of the basis. Order of operands, use of steps and equal operands
--- are free.
+-- Each step's operator is a member of the basis. The operands may be equal and in any order, and a
+-- step needn't be read.
 abbrev pub IsOver : Basis → Chain → Type 0
 IsOver basis c = All (λ (s : Step). basis s.op ≡ true) c.steps
 
--- a chain of r steps over the basis that agrees
+-- a chain of r steps over the basis agrees with the specification
 pub record HasChain (s : Specification) (basis : Basis) (r : ℕ) : Type 0 where
   pub chain : Chain
   pub is_chain : IsChain chain
@@ -41,11 +41,11 @@ pub record HasChain (s : Specification) (basis : Basis) (r : ℕ) : Type 0 where
   pub is_over : IsOver basis chain
   pub agrees : Agrees chain s
 
--- no chain of fewer steps agrees
+-- no chain over the basis of fewer steps agrees
 abbrev pub NoneBelow : Specification → Basis → ℕ → Type 0
 NoneBelow s basis size = (q : ℕ) → q < size → HasChain s basis q → ⊥
 
--- The minimum: r steps are enough, and no chain at all of fewer steps agrees.
+-- The minimum (combinational complexity): r steps are enough, and no chain of fewer steps agrees.
 -- Example: XOR has the minimum 1 over all operators and the minimum 4 over NAND alone.
 pub record IsMinimum (s : Specification) (basis : Basis) (r : ℕ) : Type 0 where
   pub reached : HasChain s basis r

@@ -30,12 +30,13 @@ pub record IsStepAt (place : ℕ) (s : Step) : Type 0 where
 pub record AreSteps (n : ℕ) (steps : List Step) : Type 0 where
   pub each : (i : ℕ) (s : Step) → slice_get steps i ≡ Some s → IsStepAt (n + 1 + i) s
 
--- an out that is a place is one of the places 1 to last
+-- an out is a constant or one of the places 1 to last
 abbrev pub NamesPlace : ℕ → Out → Type 0
 NamesPlace last Zero = Unit {0}
 NamesPlace last One = Unit {0}
 NamesPlace last (Place p) = (1 ≤ p) × (p ≤ last)
 
+-- operands are lower places, and outs are constants or places of the chain
 pub record IsChain (c : Chain) : Type 0 where
   pub steps : AreSteps c.n c.steps
   pub outs : All (NamesPlace (c.n + length c.steps)) c.outs

@@ -15,7 +15,7 @@ pub record IsFirstDifference (c : Chain) (s : Specification) (h t : ℕ) : Type 
   pub outputs_before : (g u : ℕ) → 1 ≤ g → g < h → u < 2 ^ s.inputs → is_met (s.cell g u) (output_value c g u) ≡ true
   pub rows_before : (u : ℕ) → u < t → is_met (s.cell h u) (output_value c h u) ≡ true
 
--- None where the chain agrees, else the output and the row of the first difference
+-- None: the chain agrees; Some: the output and the row of the first difference
 abbrev pub IsComparison : Chain → Specification → Option (ℕ × ℕ) → Type 0
 IsComparison c s None = Agrees c s
 IsComparison c s (Some at) = IsFirstDifference c s at.0 at.1

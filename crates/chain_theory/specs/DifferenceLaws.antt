@@ -16,7 +16,7 @@ not_both b yes_ no_ = cc
 pub none_where_agrees : (c : Chain) (s : Specification) (h t : ℕ) → Agrees c s → IsFirstDifference c s h t → ⊥
 none_where_agrees c s h t agrees d = not_both (is_met (s.cell h t) (output_value c h t)) (agrees.cells h t d.output_from d.output d.row) d.missed
 
--- no first difference is at an output below another's
+-- no first difference is at a lower output than another one
 not_above : {A : Type 0} (c : Chain) (s : Specification) (h t g u : ℕ) → IsFirstDifference c s h t → IsFirstDifference c s g u → h < g → A
 not_above c s h t g u d e low =
     not_both (is_met (s.cell h t) (output_value c h t)) (e.outputs_before h t d.output_from low d.row) d.missed
@@ -33,7 +33,7 @@ same_row c s h t u d e =
     (λ low. not_both (is_met (s.cell h t) (output_value c h t)) (e.rows_before t low) d.missed)
     (λ high. not_both (is_met (s.cell h u) (output_value c h u)) (d.rows_before u high) e.missed) apart) (cases_order t u)
 
--- two answers to one comparison are the same
+-- two results of one comparison are equal
 pub one_comparison : (c : Chain) (s : Specification) (a b : Option (ℕ × ℕ)) → IsComparison c s a → IsComparison c s b → a ≡ b
 one_comparison c s None None p q = refl
 one_comparison c s None (Some y) p q = absurd (none_where_agrees c s y.0 y.1 p q)

@@ -1,4 +1,4 @@
--- What levels are, without recursion.
+-- Levels, characterised without recursion.
 use Rattle.std.specs.Prelude.{◌≡◌, ℕ, zero, suc, ◌+◌, ◌-◌, ◌≤◌, ◌<◌, List, [], ◌∷◌, ◌++◌, length, slice_get, Some, refl}
 use Rattle.std.proofs.Common.{add-zero, arith, sym, ◌∙◌, ap, ◌≢◌, inl, inr}
 use Rattle.std.proofs.lemmas.Bool.{cases_lt}
@@ -13,7 +13,7 @@ placed-same levels place p level e = grind (arith, nat_tests)
 pub placed-other : (levels : ℕ → ℕ) (place p level : ℕ) → p ≢ place → placed levels place level p ≡ levels p
 placed-other levels place p level other = grind (arith, nat_tests)
 
--- One more step at the end sets the level of its own place, from the levels that the others left.
+-- A step that is added at the end sets the level of its own place, from the levels after the others.
 pub levels_after-push : (levels : ℕ → ℕ) (place : ℕ) (ss : List Step) (s : Step) → levels_after levels place (ss ++ s ∷ []) ≡ placed (levels_after levels place ss) (place + length ss) (step_level (levels_after levels place ss) s)
 unfolding levels_after
 levels_after-push levels place [] s = rw add-zero refl

@@ -13,12 +13,12 @@ placed levels place level p = if p == place then level else levels p
 abbrev pub step_level : (ℕ → ℕ) → Step → ℕ
 step_level levels s = 1 + max (levels s.j) (levels s.k)
 
--- Each step in turn gives its place a level; the first one is at the given place.
+-- The levels after a list of steps, the first of which is at the given place.
 unfoldable pub levels_after : (ℕ → ℕ) → ℕ → List Step → ℕ → ℕ
 levels_after levels place [] = levels
 levels_after levels place (s ∷ ss) = levels_after (placed levels place (step_level levels s)) (place + 1) ss
 
--- the level of a place, by a list of steps over n inputs
+-- the level of a place, in a chain of these steps over n inputs
 abbrev pub level_in : ℕ → List Step → ℕ → ℕ
 level_in n steps = levels_after (λ (p : ℕ). 0) (n + 1) steps
 
@@ -43,7 +43,7 @@ greatest f (suc k) = max (greatest f k) (f k)
 abbrev pub depth : Chain → ℕ
 depth c = greatest (λ i. level c (c.n + 1 + i)) (length c.steps)
 
--- a chain of r steps and at most d levels over the basis that agrees
+-- a chain of r steps and at most d levels over the basis agrees with the specification
 pub record HasChainOfLevels (s : Specification) (basis : Basis) (r d : ℕ) : Type 0 where
   pub chain : Chain
   pub is_chain : IsChain chain

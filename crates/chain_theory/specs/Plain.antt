@@ -1,4 +1,4 @@
--- How `plain` holds its data.
+-- The data of `plain` in terms of the definitions.
 use Rattle.std.specs.Prelude.{◌≡◌, ℕ, ◌<◌, ◌^◌, ◌+◌, ◌-◌, ◌*◌, true, List, map, slice_index_or, []}
 use Rattle.chain_theory.specs.Specification.{Specification}
 use Rattle.chain_theory.specs.Chain.{Step, Chain}

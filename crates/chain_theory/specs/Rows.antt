@@ -6,7 +6,7 @@ use Rattle.std.proofs.lemmas.Nat.Bits.{bit_at_lowest, bit_at-suc}
 use Rattle.std.specs.Int.{bit_at}
 use Rattle.chain_theory.specs.Operator.{digit}
 
--- The row of n inputs that gives input j the bit of j: the first input's is the most significant.
+-- The row of n inputs that gives each input j the bit `bits j`. Input 1 is the most significant bit.
 -- Example: for two inputs with the bits 1 and 0 it is row 2.
 unfoldable pub row_of : ℕ → (ℕ → Bool) → ℕ
 row_of zero bits = 0
@@ -27,7 +27,7 @@ row_digit bits zero i j e some = absurd (omega arith)
 row_digit bits (suc k) zero j e some = let last : suc k ≡ j = omega arith in lowest_bit (row_of k bits) (bits (suc k)) ∙ ap bits last
 row_digit bits (suc k) (suc i) j e some = higher_bit (row_of k bits) i (bits (suc k)) ∙ row_digit bits k i j (omega arith) some
 
--- it is one of the 2 ^ k rows
+-- the row is one of the 2 ^ k rows
 pub row_low : (bits : ℕ → Bool) (k : ℕ) → row_of k bits < 2 ^ k
 unfolding row_of
 row_low bits zero = omega arith

@@ -1,4 +1,4 @@
--- What is asked for: truth tables of several outputs over n inputs, with don't-cares (TAOCP 7.1.2).
+-- Specifications: truth tables of several outputs over n inputs, with don't-cares (TAOCP 7.1.2).
 use Rattle.std.specs.Prelude.{ℕ, Bool, ◌-◌}
 use Rattle.chain_theory.specs.Operator.{digit}
 use Rattle.chain_theory.specs.declared.data.Cell.{Cell}
@@ -11,8 +11,8 @@ pub record Specification : Type 0 where
   pub outputs : ℕ
   pub cell : ℕ → ℕ → Cell
 
--- the bit that row t gives input j of n: x1 is the most significant bit of the row (kitty and ABC
--- have it the other way)
+-- the bit of input j of n on row t: x1 is the most significant bit of the row (in kitty and ABC it is
+-- the least significant)
 -- Example: row 4 of three inputs is 100, so x1 is 1 there, and x2 and x3 are 0.
 abbrev pub input : ℕ → ℕ → ℕ → Bool
 input n t j = digit t (n - j)

@@ -14,12 +14,12 @@ extended bits place bit p = if p == place then bit else bits p
 abbrev pub step_value : (ℕ → Bool) → Step → Bool
 step_value bits s = apply s.op (bits s.j) (bits s.k)
 
--- Each step in turn gives its place a bit; the first one is at the given place.
+-- The bits after a list of steps, the first of which is at the given place.
 unfoldable pub values_after : (ℕ → Bool) → ℕ → List Step → ℕ → Bool
 values_after bits place [] = bits
 values_after bits place (s ∷ ss) = values_after (extended bits place (step_value bits s)) (place + 1) ss
 
--- the value of a place on row t, by a list of steps over n inputs
+-- the value of a place on row t, in a chain of these steps over n inputs
 abbrev pub values_on : ℕ → ℕ → List Step → ℕ → Bool
 values_on n t steps = values_after (input n t) (n + 1) steps
 

@@ -1,4 +1,4 @@
--- What values are, without recursion.
+-- Values, characterised without recursion.
 use Rattle.std.specs.Prelude.{◌≡◌, ℕ, zero, ◌+◌, ◌≤◌, ◌<◌, Bool, List, [], ◌∷◌, ◌++◌, length, slice_get, Some, refl}
 use Rattle.std.proofs.Common.{add-zero, arith, sym, ◌∙◌, ap, suc, ◌≢◌}
 use Rattle.std.proofs.lemmas.Bool.Decides.{nat_tests}
@@ -14,7 +14,7 @@ extended-same bits place p bit e = grind (arith, nat_tests)
 pub extended-other : (bits : ℕ → Bool) (place p : ℕ) (bit : Bool) → p ≢ place → extended bits place bit p ≡ bits p
 extended-other bits place p bit other = grind (arith, nat_tests)
 
--- One more step at the end sets the bit of its own place, from the bits after the others.
+-- A step that is added at the end sets the bit of its own place, from the bits after the others.
 pub values_after-push : (bits : ℕ → Bool) (place : ℕ) (ss : List Step) (s : Step) → values_after bits place (ss ++ s ∷ []) ≡ extended (values_after bits place ss) (place + length ss) (step_value (values_after bits place ss) s)
 unfolding values_after
 values_after-push bits place [] s = rw add-zero refl

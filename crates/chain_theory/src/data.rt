@@ -1,15 +1,15 @@
-//! Cells and outs, the two enums that the definitions use, and how many steps a chain may have where it is
-//! searched for, read or written.
+//! Cells and outs, the two enums that the definitions share with programs, and the greatest size of a chain
+//! that programs search for, read or write.
 
-/// The most steps of a chain that is searched for, read or written. The definitions have no bound.
+/// The most steps of a chain that programs search for, read or write. The definitions have no bound.
 pub const MOST_STEPS: u32 = 16;
 
-/// What a specification asks of an output on a row: an entry of its truth table.
+/// An entry of an output's truth table: what a specification requires of the output on a row.
 #[derive(Clone, Copy)]
 pub enum Cell {
-    /// The output is 0 there.
+    /// The output is 0 on the row.
     Zero,
-    /// The output is 1 there.
+    /// The output is 1 on the row.
     One,
     /// The output may be either: a don't-care.
     Free,
@@ -22,6 +22,6 @@ pub enum Out {
     Zero,
     /// The constant 1.
     One,
-    /// The value of a place: 1 to n are the inputs, the steps follow from n + 1 on.
+    /// The value of a place: 1 to n are the inputs, and n + 1 onward are the steps.
     Place(u32),
 }

@@ -1,5 +1,5 @@
-//! What follows from the definitions, said without recursion. Each law is the contract of a
-//! function that does nothing.
+//! What the definitions imply, stated without recursion. Each law is the contract of a function that
+//! does nothing.
 ghost use Rattle.std.specs.Prelude.{◌≡◌, ℕ, ◌+◌, ◌≤◌, Some, Option, slice_get, max};
 ghost use Rattle.chain_theory.specs.Operator.{apply};
 ghost use Rattle.chain_theory.specs.Specification.{Specification, input};
@@ -8,8 +8,8 @@ ghost use Rattle.chain_theory.specs.Value.{value};
 ghost use Rattle.chain_theory.specs.Levels.{level, HasLevels, depth};
 ghost use Rattle.chain_theory.specs.Difference.{IsComparison};
 
-/// The value of a place: an input's is its bit of the row, a step's is its operator on the values of
-/// its two operands.
+/// The value of an input is its bit of the row. The value of a step is its operator applied to the
+/// values of its two operands.
 pub fn values_of_places()
     ensures input { (c : Chain) (t p : ℕ) → p ≤ c.n → value c t p ≡ input c.n t p }
     ensures step { (c : Chain) (t i : ℕ) (s : Step) →
@@ -18,7 +18,7 @@ pub fn values_of_places()
         value c t (c.n + 1 + i) ≡ apply s.op (value c t s.j) (value c t s.k) }
 {}
 
-/// The level of a place: an input's is 0, a step's is 1 + the larger level of its two operands.
+/// The level of an input is 0. The level of a step is 1 + the larger level of its two operands.
 pub fn levels_of_places()
     ensures input { (c : Chain) (p : ℕ) → p ≤ c.n → level c p ≡ 0 }
     ensures step { (c : Chain) (i : ℕ) (s : Step) →

@@ -1,5 +1,6 @@
-//! The definitions, computed literally: recursion over the steps, one place at a time. For reading
-//! and for small inputs; it takes exponential time.
+//! The definitions, computed literally: recursion over the steps from the last to the first. For
+//! readers and for small inputs: a step that is read twice is computed twice, so the time is
+//! exponential in the number of steps.
 ghost use Rattle.std.specs.Prelude.{◌≡◌, ◌*◌, ◌^◌, ◌<◌, ◌≤◌, length, [], true, false};
 ghost use Rattle.chain_theory.specs.Operator.{apply as apply_of};
 ghost use Rattle.chain_theory.specs.Specification.{input as input_of};
@@ -10,7 +11,7 @@ ghost use Rattle.chain_theory.specs.Plain.{steps_of, chain_of, MeetsRows, flat_s
 
 use crate::data::{Cell, Out};
 
-/// An operator on two places: `j` and `k` from 1 on, `op` the number of the operator's word.
+/// A step: the places `j` and `k` of its operands, from 1, and the number `op` of its operator, below 16.
 #[derive(Clone, Copy)]
 pub struct PlainStep {
     pub j: u32,
@@ -18,7 +19,7 @@ pub struct PlainStep {
     pub op: u8,
 }
 
-/// The value of an operator, given by the number of its word, at two bits.
+/// The value of an operator, given by its number, at two bits.
 pub fn apply(op: u8, a: bool, b: bool) -> bool
     ensures { result ≡ apply_of op a b }
 {
@@ -31,8 +32,8 @@ pub fn apply(op: u8, a: bool, b: bool) -> bool
     (op >> place) & 1 == 1
 }
 
-/// The bit that row `t` gives input `j` of `n`. As in the definitions, `n - j` is 0 where `j` is
-/// greater.
+/// The bit of input `j` of `n` on row `t`; input 1 is the most significant bit. For `j` above `n` it
+/// is that of input `n`, as in the definitions, where `n - j` is 0 then.
 pub fn input(n: u32, t: u32, j: u32) -> bool
     requires { n < 32 }
     ensures { result ≡ input_of n t j }
@@ -40,7 +41,7 @@ pub fn input(n: u32, t: u32, j: u32) -> bool
     (t >> n.saturating_sub(j)) & 1 == 1
 }
 
-/// The value of a place on row `t`, by steps over `n` inputs.
+/// The value of a place on row `t`, in a chain of these steps over `n` inputs.
 pub fn place_value(n: u32, steps: &[PlainStep], t: u32, place: u32) -> bool
     requires inputs { n < 32 }
     requires steps { length steps.now < 2 ^ 31 }
@@ -58,7 +59,7 @@ pub fn place_value(n: u32, steps: &[PlainStep], t: u32, place: u32) -> bool
     }
 }
 
-/// The level of a place, by steps over `n` inputs.
+/// The level of a place, in a chain of these steps over `n` inputs.
 pub fn place_level(n: u32, steps: &[PlainStep], place: u32) -> u32
     requires inputs { n < 32 }
     requires steps { length steps.now < 2 ^ 31 }
@@ -90,7 +91,7 @@ pub fn out_value(n: u32, steps: &[PlainStep], t: u32, out: Out) -> bool
     }
 }
 
-/// Whether the bit meets the cell.
+/// Whether a bit meets a cell: the cell is free or equal to the bit.
 pub fn is_met(cell: Cell, bit: bool) -> bool
     ensures { result ≡ is_met_of cell bit }
 {
@@ -101,7 +102,7 @@ pub fn is_met(cell: Cell, bit: bool) -> bool
     }
 }
 
-/// Whether an out meets the cells of an output, row 0 first.
+/// Whether an out meets all cells of an output. `cells` has the cell of row 0 first.
 pub fn meets_rows(n: u32, steps: &[PlainStep], out: Out, cells: &[Cell]) -> bool
     requires inputs { n < 32 }
     requires steps { length steps.now < 2 ^ 31 }
@@ -119,8 +120,8 @@ pub fn meets_rows(n: u32, steps: &[PlainStep], out: Out, cells: &[Cell]) -> bool
     true
 }
 
-/// Whether a chain agrees with truth tables: `cells` has all cells of output 1, row 0 first, then
-/// all of output 2, and so on.
+/// Whether a chain agrees with (implements) truth tables. `cells` has all cells of output 1, row 0
+/// first, then all of output 2, and so on.
 pub fn agrees(n: u32, steps: &[PlainStep], outs: &[Out], cells: &[Cell]) -> bool
     requires inputs { n < 32 }
     requires steps { length steps.now < 2 ^ 31 }

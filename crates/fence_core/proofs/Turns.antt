@@ -1,4 +1,4 @@
--- One more size of the first level.
+-- An iteration of the loop: one more size of the first level.
 use Rattle.std.proofs.Common.{◌≡◌, ℕ, zero, suc, ◌+◌, ◌-◌, ◌≤◌, true, false, leb, List, [], ◌∷◌, ◌++◌, ap, ◌∙◌, arith, append-nil}
 use Rattle.std.specs.List.{flat_map, range_with_len}
 use Rattle.std.proofs.lemmas.Bool.{cond-true, cond-false}
@@ -10,7 +10,7 @@ range_push : (a n : ℕ) → range_with_len a (suc n) ≡ range_with_len a n ++ 
 range_push a zero = ap (λ (x : ℕ). x ∷ []) (let e : a ≡ a + 0 = omega arith in e)
 range_push a (suc n) = ap (λ (xs : List ℕ). a ∷ xs) (range_push (a + 1) n ∙ ap (λ (x : ℕ). range_with_len (a + 1) n ++ x ∷ []) (let e : (a + 1) + n ≡ a + suc n = omega arith in e))
 
--- the fences with fewer steps on the first level, and those with q there
+-- the fences with fewer steps on the first level, and those with q steps on it
 pub next_turn : (below : List ℕ) (r m q : ℕ) → 1 ≤ q → flat_map (fences_with below r m) (range_with_len 1 (q + 1 - 1)) ≡ flat_map (fences_with below r m) (range_with_len 1 (q - 1)) ++ fences_with below r m q
 next_turn below r m zero some = absurd (omega arith)
 next_turn below r m (suc q) some =
@@ -23,7 +23,7 @@ next_turn below r m (suc q) some =
     ∙ ap (λ (xs : List (List ℕ)). flat_map (fences_with below r m) (range_with_len 1 q) ++ xs) (append-nil (fences_with below r m (1 + q)) ∙ ap (fences_with below r m) last)
     ∙ ap (λ (n : ℕ). flat_map (fences_with below r m) (range_with_len 1 n) ++ fences_with below r m (suc q)) (let e : q ≡ suc q - 1 = omega arith in e)
 
--- a first level that is allowed, and one that isn't
+-- a first level that isn't too wide, and one that is
 pub with_allowed : (below : List ℕ) (r m q : ℕ) → leb q (r - q + m) ≡ true → fences_with below r m q ≡ behind (below ++ q ∷ []) (listed_fences (r - q) m)
 unfolding fences_with
 with_allowed below r m q e = cond-true (leb q (r - q + m)) (behind (below ++ q ∷ []) (listed_fences (r - q) m)) [] e

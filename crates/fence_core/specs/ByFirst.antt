@@ -1,4 +1,4 @@
--- The listed fences by how many steps are on the first level.
+-- The listed fences, grouped by the number of steps on the first level.
 use Rattle.std.proofs.Common.{◌≡◌, ℕ, zero, suc, ◌+◌, ◌-◌, ◌≤◌, Bool, true, false, ◌&&◌, leb, List, [], ◌∷◌, ◌++◌, map, All, refl, sym, ap, ◌∙◌, arith, append_assoc, append-nil}
 use Rattle.std.specs.Prelude.{if◌then◌else◌}
 use Rattle.std.specs.List.{filter, flat_map, range_with_len}
@@ -7,18 +7,17 @@ use Rattle.std.proofs.lemmas.List.Elements.{All-head, All-tail, filter-append}
 use Rattle.fence_core.specs.Fence.{one_more, filled_fences, fences_of_size, is_listed, listed_fences}
 use Rattle.fence_core.specs.Listing.{IsOfSize, all_of_size}
 
--- fences with the levels of `below` under their own
+-- fences on top of the levels `below`
 unfoldable pub behind : List ℕ → List (List ℕ) → List (List ℕ)
 behind below fences = map (λ f. below ++ f) fences
 
--- The listed fences of r steps with q of them on the first level, with the levels of `below` under
--- their own.
+-- The listed fences of r steps with q steps on the first level, on top of the levels `below`.
 unfoldable pub fences_with : List ℕ → ℕ → ℕ → ℕ → List (List ℕ)
 fences_with below r m q = if leb q (r - q + m) then behind (below ++ q ∷ []) (listed_fences (r - q) m) else []
 
 -- ---- fences of a size by their first level
 
--- the fences of r steps with q of them on the first level
+-- the fences of r steps with q steps on the first level
 unfoldable starting : ℕ → ℕ → List (List ℕ)
 starting r q = map (λ f. q ∷ f) (fences_of_size (r - q))
 
@@ -59,7 +58,7 @@ filled_by_first (suc r) =
 
 -- ---- listed ones
 
--- a fence with one more level under it is listed where that level isn't too wide
+-- a fence on top of one more level is listed where that level isn't too wide
 listed_with : (m q s : ℕ) (fences : List (List ℕ)) → All (IsOfSize s) fences → filter (is_listed m) (map (λ f. q ∷ f) fences) ≡ (if leb q (s + m) then map (λ f. q ∷ f) (filter (is_listed m) fences) else [])
 unfolding is_listed
 listed_with m q s [] are = none (leb q (s + m))
@@ -90,7 +89,7 @@ unfolding behind
 behind_if below true q fences = behind_one below q fences
 behind_if below false q fences = refl
 
--- where there is a step, all fences by their first level
+-- where there is a step, all fences are grouped by their first level
 pub listed_by_first : (below : List ℕ) (r m : ℕ) → 1 ≤ r → flat_map (fences_with below r m) (range_with_len 1 r) ≡ behind below (listed_fences r m)
 unfolding fences_with listed_fences starting fences_of_size behind
 listed_by_first below zero m some = absurd (omega arith)
@@ -109,7 +108,7 @@ unfolding behind listed_fences fences_of_size is_listed
 listed_none below zero m e = ap (λ (f : List ℕ). f ∷ []) (append-nil below)
 listed_none below (suc r) m e = absurd (omega (arith, e))
 
--- with nothing below, fences are themselves
+-- on top of no levels, fences are unchanged
 pub behind_nothing : (fences : List (List ℕ)) → behind [] fences ≡ fences
 unfolding behind
 behind_nothing [] = refl

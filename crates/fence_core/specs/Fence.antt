@@ -1,16 +1,17 @@
--- How the steps of a chain are spread over levels.
+-- Fences: how many steps of a chain are on each level.
 use Rattle.std.specs.Prelude.{ℕ, zero, suc, ◌+◌, ◌≤◌, ◌<◌, ◌≡◌, ◌⊎◌, ⊤, Bool, true, ◌&&◌, leb, List, [], ◌∷◌, ◌++◌, map, sum, All}
 use Rattle.std.specs.List.{Contains, filter}
 
--- the number of steps on each level, the first level first; none is 0
+-- the numbers of steps on the levels 1, 2 and so on; none is 0
 -- Example: 2, 1 is a fence of three steps on two levels, and 2, 0, 1 is none.
 abbrev pub IsFence : List ℕ → Type 0
 IsFence levels = All (λ q. 1 ≤ q) levels
 
--- Each level has at most as many steps as all levels above it together have, and m more: a step is
--- read by one above it or is one of m outputs, and a step reads two places.
+-- Each level has at most as many steps as all levels above it together have, plus m. A least chain
+-- with m outputs satisfies this: each step is read by a step of a higher level or is an output, and a
+-- step reads two places.
 -- Example: 2, 1 is listed for one output, and 3, 1 isn't, since the one step of the second level
--- reads two places.
+-- reads only two places.
 abbrev pub IsListed : ℕ → List ℕ → Type 0
 IsListed m [] = ⊤
 IsListed m (q ∷ qs) = (q ≤ sum qs + m) × IsListed m qs
@@ -28,12 +29,12 @@ IsBefore xs [] = ⊥
 IsBefore [] (y ∷ ys) = ⊤
 IsBefore (x ∷ xs) (y ∷ ys) = (x < y) ⊎ ((x ≡ y) × IsBefore xs ys)
 
--- each list comes before all that follow it
+-- each list comes before all later ones
 abbrev pub IsRising : List (List ℕ) → Type 0
 IsRising [] = ⊤
 IsRising (f ∷ fences) = All (IsBefore f) fences × IsRising fences
 
--- these are the listed fences of r steps, all of them, in lexicographic order
+-- these are exactly the listed fences of r steps, in lexicographic order
 pub record AreListed (r m : ℕ) (fences : List (List ℕ)) : Type 0 where
   pub only : All (IsFenceOf r m) fences
   pub all : (f : List ℕ) → IsFenceOf r m f → Contains fences f
@@ -46,14 +47,14 @@ abbrev pub one_more : List ℕ → List ℕ
 one_more [] = []
 one_more (q ∷ qs) = (q + 1) ∷ qs
 
--- The fences of r + 1 steps in lexicographic order, listed or not: where there is more than one step,
--- those with one step on the first level, and then those that have more there.
+-- The fences of r + 1 steps in lexicographic order, listed or not. For more than one step, those with
+-- one step on the first level come first, and then those with more.
 unfoldable pub filled_fences : ℕ → List (List ℕ)
 filled_fences zero = (1 ∷ []) ∷ []
 filled_fences (suc r) = map (λ f. 1 ∷ f) (filled_fences r) ++ map one_more (filled_fences r)
 
 -- the fences of r steps
--- Example: those of three steps are 1 1 1, 1 2, 2 1 and 3.
+-- Example: the fences of three steps are 1 1 1, 1 2, 2 1 and 3.
 unfoldable pub fences_of_size : ℕ → List (List ℕ)
 fences_of_size zero = [] ∷ []
 fences_of_size (suc r) = filled_fences r
@@ -64,6 +65,6 @@ is_listed m [] = true
 is_listed m (q ∷ qs) = leb q (sum qs + m) && is_listed m qs
 
 -- the listed fences of r steps, in lexicographic order
--- Example: for one output those of three steps are 1 1 1 and 2 1.
+-- Example: for one output the listed fences of three steps are 1 1 1 and 2 1.
 unfoldable pub listed_fences : ℕ → ℕ → List (List ℕ)
 listed_fences r m = filter (is_listed m) (fences_of_size r)

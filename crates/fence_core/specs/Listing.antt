@@ -1,4 +1,4 @@
--- The listed fences are exactly the ones that the rule allows, in lexicographic order.
+-- The computed list has exactly the listed fences, in lexicographic order.
 use Rattle.std.proofs.Common.{◌≡◌, ◌⊎◌, ℕ, zero, suc, ◌+◌, ◌≤◌, ◌<◌, Bool, true, false, leb, List, [], ◌∷◌, ◌++◌, map, sum, All, Contains, refl, sym, ap, ◌∙◌, subst, arith, inl, inr, ⊎_elim}
 use Rattle.std.specs.Prelude.{if◌then◌else◌}
 use Rattle.std.specs.List.{filter}
@@ -181,7 +181,7 @@ unfolding fences_of_size
 size_rises zero = (All-nil (IsBefore []), tt)
 size_rises (suc r) = filled_rise r
 
--- The list is exactly the listed fences, in lexicographic order.
+-- The list has exactly the listed fences, in lexicographic order.
 pub fences_are_listed : (r m : ℕ) → AreListed r m (listed_fences r m)
 unfolding listed_fences
 fences_are_listed r m = record {

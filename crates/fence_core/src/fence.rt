@@ -1,11 +1,11 @@
-//! A fence as a value: the number of steps on each level, at least one.
+//! A fence: how many steps are on each level.
 ghost use Rattle.std.specs.Prelude.{◌≡◌};
 ghost use Rattle.fence_core.specs.Fence.{IsFence};
 
 use std::marker::Model;
 
-/// The number of steps on each level, the first level first, each at least one. Contracts see the
-/// list of these numbers.
+/// The numbers of steps on the levels 1, 2 and so on, each at least one. Contracts see the list of
+/// these numbers.
 #[derive(Drop)]
 pub struct Fence {
     levels: Vec<u32>,
@@ -23,7 +23,7 @@ impl Model for Fence {
 }
 
 impl Fence {
-    /// The fence with these numbers of steps, the first level first.
+    /// The fence with these numbers of steps on the levels 1, 2 and so on.
     pub fn new(levels: Vec<u32>) -> Fence
         requires { IsFence levels.items }
         ensures { result ≡ levels.items }
@@ -31,7 +31,7 @@ impl Fence {
         Fence { levels }
     }
 
-    /// The number of steps on each level.
+    /// The numbers of steps on the levels 1, 2 and so on.
     pub fn levels(&self) -> &[u32]
         ensures value { result.now ≡ self.now }
         ensures whole { IsFence self.now }

@@ -1,4 +1,4 @@
-//! The fences by which a size is searched.
+//! The fences into which the search of one size is split.
 ghost use Rattle.std.specs.Prelude.{◌≡◌, ◌≤◌, ◌-◌, ◌+◌, ◌++◌, ◌∷◌, [], leb, IfOk, OnOk};
 ghost use Rattle.fence_core.specs.Fence.{IsFence, AreListed, listed_fences};
 ghost use Rattle.fence_core.specs.ByFirst.{behind};
@@ -6,7 +6,7 @@ ghost use Rattle.fence_core.specs.ByFirst.{behind};
 use crate::Fence;
 use std::alloc::{AllocError, Global};
 
-/// Adds the fence with these levels.
+/// Appends the fence with these numbers of steps.
 fn push_fence(alloc: Global, fences: &mut Vec<Fence>, levels: &[u32]) -> Result<(), AllocError>
     requires { IsFence levels.now }
     ensures { OnOk result (fences.new.items ≡ fences.old.items ++ levels.now ∷ []) }
@@ -16,8 +16,8 @@ fn push_fence(alloc: Global, fences: &mut Vec<Fence>, levels: &[u32]) -> Result<
     Ok(())
 }
 
-/// Whether `first` of `left` steps may be on the first level: the others and the outputs read
-/// enough.
+/// Whether `first` of `left` steps may be on the lowest level: there are at most as many as other
+/// steps and outputs together.
 fn may_begin(left: u32, outputs: u32, first: u32) -> bool
     requires { (first ≤ left) × (left ≤ 16) }
     ensures { result ≡ leb first (left - first + outputs) }
@@ -25,7 +25,7 @@ fn may_begin(left: u32, outputs: u32, first: u32) -> bool
     first.saturating_sub(left - first) <= outputs
 }
 
-/// Adds the listed fences of `left` steps, each with the levels of `below` under its own.
+/// Appends the listed fences of `left` steps, each on top of the levels `below`.
 #[tactic(auto, using(crate::proofs::Turns::turns))]
 fn push_fences(
     alloc: Global,
@@ -53,9 +53,10 @@ fn push_fences(
     Ok(())
 }
 
-/// The fences of `r` steps that some least chain with `outputs` live outputs has: each level has at
-/// most as many steps as all levels above it together, and `outputs` more. They are in
-/// lexicographic order; without steps there is the one fence without levels.
+/// The fences of `r` steps that a least chain with `outputs` live outputs may have: each level has at
+/// most as many steps as all levels above it together have, plus `outputs`. Some least chain has one
+/// of them. They are in lexicographic order; for 0 steps there is the one fence without levels. An
+/// error means that memory ran out.
 pub fn fences(alloc: Global, r: u32, outputs: u32) -> Result<Vec<Fence>, AllocError>
     requires { r ≤ 16 }
     ensures exact { IfOk result (λ fences. fences.items ≡ listed_fences r outputs) }

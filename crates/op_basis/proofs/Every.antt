@@ -1,4 +1,4 @@
--- Tests that go over the operators.
+-- Loops that test all operators.
 use Rattle.std.proofs.Common.{◌≡◌, ℕ, zero, suc, ◌+◌, ◌<◌, Bool, true, false, refl, arith, add-one, inl, inr}
 use Rattle.std.proofs.lemmas.Grind.{common_steps}
 use Rattle.std.proofs.lemmas.Bool.{cases_lt}
@@ -9,7 +9,7 @@ pub every_none : (test : ℕ → Bool) → every_below 0 test ≡ true
 unfolding every_below
 every_none test = refl
 
--- one operator more
+-- one more operator
 pub every_more : (test : ℕ → Bool) (k : ℕ) → every_below k test ≡ true → test k ≡ true → every_below (k + 1) test ≡ true
 unfolding every_below
 every_more test k before here = rw (add-one, before, here) refl

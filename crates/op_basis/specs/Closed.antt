@@ -1,4 +1,4 @@
--- Five tests of sets of operators, said of the functions of two bits that the operators are.
+-- Five closure properties of a basis, in terms of the functions of two bits that its operators are.
 use Rattle.std.specs.Prelude.{ℕ, zero, suc, ◌+◌, ◌*◌, Bool, true, false, ◌&&◌, ◌||◌, not, ◌==◌, if◌then◌else◌}
 use Rattle.chain_theory.specs.Operator.{apply, Basis}
 
@@ -11,17 +11,17 @@ number bit = if bit then 1 else 0
 abbrev pub of_values : Bool → Bool → Bool → Bool → ℕ
 of_values at_00 at_01 at_10 at_11 = 8 * number at_00 + 4 * number at_01 + 2 * number at_10 + number at_11
 
--- the operator that is a function of two bits
+-- the operator with the values of a function of two bits
 -- Example: operator_of (λ a b. a && b) is 1, the operator 0001.
 abbrev pub operator_of : (Bool → Bool → Bool) → ℕ
 operator_of f = of_values (f false false) (f false true) (f true false) (f true true)
 
 -- the operator with its operands exchanged
--- Example: of 0010, a and not b, it is 0100, b and not a.
+-- Example: 0010, a and not b, becomes 0100, b and not a.
 unfoldable pub swapped : ℕ → ℕ
 swapped op = operator_of (λ a b. apply op b a)
 
--- the operator's complement, and the operator with one operand complemented
+-- the complement of the operator, and the operator with one operand complemented
 unfoldable pub complement : ℕ → ℕ
 complement op = operator_of (λ a b. not (apply op a b))
 
@@ -50,13 +50,13 @@ implies a b = not a || b
 unfoldable pub swaps : Basis → ℕ → Bool
 swaps basis op = implies (basis op) (basis (swapped op))
 
--- Each member's operator with its operands exchanged is a member.
+-- Each member is a member with its operands exchanged, too.
 abbrev pub swap_closed : Basis → Bool
 swap_closed basis = every (swaps basis)
 
 -- ---- negation
 
--- on equal operands the operator is their complement
+-- on equal operands the operator is a negation
 unfoldable pub negates_both : ℕ → Bool
 negates_both op = apply op false false && not (apply op true true)
 
@@ -72,7 +72,7 @@ has_negation basis = not (every (has_no_negation_at basis))
 abbrev pub is_complement : Bool → Bool → Bool
 is_complement at_0 at_1 = at_0 && not at_1
 
--- with one operand fixed to 0 or to 1 the operator is the complement of the other
+-- with one operand fixed to 0 or to 1, the operator is the complement of the other operand
 unfoldable pub negates_one : ℕ → Bool
 negates_one op =
     is_complement (apply op false false) (apply op false true)
@@ -83,8 +83,8 @@ negates_one op =
 unfoldable pub keeps_constants : Basis → ℕ → Bool
 keeps_constants basis op = implies (basis op) (not (negates_one op))
 
--- The set has a negation, or no member becomes the complement of its other operand when one operand
--- is fixed to a constant.
+-- Constant steps can be left out: some member is a negation on equal operands, or no member is the
+-- complement of one operand when the other is fixed to a constant.
 abbrev pub const_closed : Basis → Bool
 const_closed basis = has_negation basis || every (keeps_constants basis)
 
@@ -93,15 +93,15 @@ const_closed basis = has_negation basis || every (keeps_constants basis)
 unfoldable pub has_complements : Basis → ℕ → Bool
 has_complements basis op = implies (basis op) (basis (complement op) && basis (first_complemented op) && basis (second_complemented op))
 
--- For each member its complement, and the operators with one operand complemented, are members.
+-- For each member, its complement and the operators with one operand complemented are members.
 abbrev pub polarity_closed : Basis → Bool
 polarity_closed basis = every (has_complements basis)
 
--- ---- an operator applied again
+-- ---- re-application: an operator applied to another one and one of its operands
 
--- A gate that computes this operator can be left out or stand in one step: the operator is a member,
--- its operands exchanged or not; or it is one of its operands; or it is a constant, where constants
--- make no negation; or the complement of an operand, where there is a negation.
+-- A step with this operator can be one step over the basis, or be left out: the operator is a member,
+-- with its operands exchanged or not; or one of its operands; or a constant, if constants can be left
+-- out; or the complement of an operand, if there is a negation.
 unfoldable pub is_allowed : Basis → ℕ → Bool
 is_allowed basis op =
     (basis op || basis (swapped op))
@@ -109,7 +109,7 @@ is_allowed basis op =
     || ((op == operator_of (λ a b. false) || op == operator_of (λ a b. true)) && const_closed basis)
     || ((op == operator_of (λ a b. not a) || op == operator_of (λ a b. not b)) && has_negation basis)
 
--- what q makes of the value of p and of one operand of p
+-- q applied to the value of p and one operand of p, in the four possible ways
 unfoldable pub left_on_first : ℕ → ℕ → ℕ
 left_on_first p q = operator_of (λ a b. apply q (apply p a b) a)
 

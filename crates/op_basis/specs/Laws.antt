@@ -1,4 +1,4 @@
--- Operators by their values, and tests of all operators.
+-- An operator is determined by its values; a test of all operators is one of each.
 use Rattle.std.proofs.Common.{◌≡◌, ◌≤◌, ℕ, zero, suc, ◌<◌, ◌==◌, Bool, true, false, refl, sym, ap, ◌∙◌, arith, inl, inr}
 use Rattle.std.proofs.lemmas.Grind.{common_steps}
 use Rattle.std.proofs.lemmas.Bool.{cases_lt}
@@ -28,11 +28,11 @@ operator_values f true true = digit_is (operator_of f) 0 (f true true) (omega (a
 pub operator_low : (f : Bool → Bool → Bool) → operator_of f < 16
 operator_low f = omega (arith, number_low (f false false), number_low (f false true), number_low (f true false), number_low (f true true))
 
--- There is one operator with the values of a function.
+-- It is the only operator with these values.
 pub operator_only : (f : Bool → Bool → Bool) (op : ℕ) → op < 16 → ((a b : Bool) → apply op a b ≡ f a b) → op ≡ operator_of f
 operator_only f op low same = sym (operator_is op low) ∙ rw (same false false, same false true, same true false, same true true) refl
 
--- A test that passes at all passes at each.
+-- A test that passes for all operators passes for each.
 each_below : (bound : ℕ) (test : ℕ → Bool) → every_below bound test ≡ true → (op : ℕ) → op < bound → test op ≡ true
 unfolding every_below
 each_below zero test all op low = absurd (omega arith)

@@ -1,4 +1,4 @@
--- Sets that are read of words and lists.
+-- The sets that are read from names and lists.
 use Rattle.std.proofs.Common.{◌≡◌, ℕ, zero, suc, ◌^◌, ◌<◌, ◌==◌, Bool, true, false, cond, List, [], ◌∷◌, length, bit_or, max, Option, Some, None, Result, Ok, Err, IfOk, refl, sym, ap, ◌∙◌, arith, inl, inr}
 use Rattle.std.proofs.lemmas.Bool.{cases_lt}
 use Rattle.std.proofs.lemmas.Nat.Bits.{bit_at_or, bit_at-lt, bit_at-zero, bit_at-pow_same}
@@ -9,14 +9,14 @@ use Rattle.op_basis.specs.ReadBack.{has_item}
 use Rattle.op_basis.specs.Text.{◌>>=◌, all_set, u2_set, bench_set, nand_set, items_of, with_operator, with_item, listed, begins_letter, named, basis_of}
 use Rattle.op_basis.specs.Word.{operator_in}
 
--- ---- what is read isn't empty
+-- ---- no set that is read is empty
 
 max_one : (a : ℕ) → a < 2 → max a 1 ≡ 1
 max_one zero low = refl
 max_one (suc zero) low = refl
 max_one (suc (suc a)) low = absurd (omega arith)
 
--- the operator that is put in is a member
+-- the operator that is added is a member
 pub or_has : (set op : ℕ) → bit_at (bit_or set (2 ^ op)) op ≡ 1
 or_has set op = bit_at_or set (2 ^ op) op ∙ rw (bit_at-pow_same op) (max_one (bit_at set op) (bit_at-lt set op))
 
@@ -54,7 +54,7 @@ unfolding listed
 grown_some set more [] some e = let same : set ≡ more = cc in rw same at some
 grown_some set more (item ∷ items) some e = bind_some (with_item set item) more items (λ m here rest. grown_some m more items (item_some set m item here) rest) e
 
--- a list with an item gives a member
+-- the set of a nonempty list has a member
 listed_some : (set more : ℕ) (items : List (List ℕ)) → 0 < length items → listed set items ≡ Ok more → 0 < more
 unfolding listed
 listed_some set more [] some e = absurd (omega arith)
@@ -67,7 +67,7 @@ if_some false set more rest some other e = other e
 none_named : (more : ℕ) (error : BasisError) → Err error ≡ Ok more → 0 < more
 none_named more error e = absurd cc
 
--- a basis with a name has a member
+-- the set of a name has a member
 named_some : (word : List ℕ) (more : ℕ) → named word ≡ Ok more → 0 < more
 unfolding named
 named_some word more e =
@@ -80,7 +80,7 @@ word_some : (is : Bool) (word : List ℕ) (more : ℕ) → cond is (named word) 
 word_some true word more e = named_some word more e
 word_some false word more e = listed_some 0 more (items_of word) (has_item word) e
 
--- what a word says has a member
+-- the set of a text has a member
 pub basis_some : (word : List ℕ) (set : ℕ) → basis_of word ≡ Ok set → 0 < set
 basis_some word set e = word_some (begins_letter word) word set e
 

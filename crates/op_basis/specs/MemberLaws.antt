@@ -19,14 +19,14 @@ use Rattle.op_basis.specs.Text.{◌>>=◌, same_text, items_of, with_operator, w
 use Rattle.op_basis.specs.Word.{bit_in, of_bits, operator_in, character, word_text}
 use Rattle.op_basis.specs.ListLaws.{or_has}
 
--- ---- sets with one operator more
+-- ---- sets with one more operator
 
 max_none : (a : ℕ) → a < 2 → max a 0 ≡ a
 max_none zero low = refl
 max_none (suc zero) low = refl
 max_none (suc (suc a)) low = absurd (omega arith)
 
--- the operator that is put in is a member, and the others are members as before
+-- the operator that is added is a member, and membership of the others is as before
 new_member : (set p : ℕ) → members (bit_or set (2 ^ p)) p ≡ true
 new_member set p = ap (λ (x : ℕ). x == 1) (or_has set p)
 
@@ -80,7 +80,7 @@ spelled_by a b c d op (Some x) (Some y) (Some z) (Some w) ea eb ec ed e =
       low = rw is at (values_low x y z w);
     }
 
--- what reads as an operator is its word
+-- an item that is read as an operator is its word
 pub item_spelled : (item : List ℕ) (op : ℕ) → operator_in item ≡ Some op → IsWordOf item op
 unfolding operator_in
 item_spelled [] op e = absurd cc
@@ -93,11 +93,11 @@ item_spelled (a ∷ b ∷ c ∷ d ∷ x ∷ xs) op e = absurd cc
 some_same : (a b : ℕ) → Some a ≡ Some b → a ≡ b
 some_same a b e = cc
 
--- two operators with the same word are the same
+-- operators with equal words are equal
 same_operator : (a b : ℕ) → a < 16 → b < 16 → word_text a ≡ word_text b → a ≡ b
 same_operator a b low below e = some_same a b (sym (operator_back a low) ∙ ap operator_in e ∙ operator_back b below)
 
--- what one item adds
+-- the set with one more item: the item is the word of an operator that wasn't a member
 pub record Adds (set : ℕ) (item : List ℕ) (more : ℕ) : Type 0 where
   pub op : ℕ
   pub spelled : IsWordOf item op
@@ -145,12 +145,12 @@ not_true : (b : Bool) → (b ≡ true → ⊥) → b ≡ false
 not_true true never = absurd (never refl)
 not_true false never = refl
 
--- an item that isn't in a list differs from each of it
+-- an item that isn't in a list differs from each item of the list
 all_differ : (x : List ℕ) (xs : List (List ℕ)) → (Contains xs x → ⊥) → AllByRecursion (λ y. same_text x y ≡ false) xs
 all_differ x [] never = tt
 all_differ x (y ∷ xs) never = (not_true (same_text x y) (λ e. never (contains_here y x xs (sym ((bytes_decides x y).0 e)))), all_differ x xs (λ h. never (contains_later y x xs h)))
 
--- what a list that is read says of the set before and of the set after
+-- how a list that is read changes the set
 pub record Reads (set more : ℕ) (items : List (List ℕ)) : Type 0 where
   pub kept : (op : ℕ) → members set op ≡ true → members more op ≡ true
   pub put : (op : ℕ) → op < 16 → Contains items (word_text op) → members more op ≡ true

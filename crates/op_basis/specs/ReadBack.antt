@@ -1,4 +1,4 @@
--- A basis that was written is read again.
+-- The text that is written for a basis is read as this basis.
 use Rattle.std.proofs.Common.{if◌then◌else◌, ◌≡◌, ℕ, zero, suc, ◌+◌, ◌*◌, ◌%◌, ◌^◌, ◌<◌, ◌≤◌, ◌==◌, Bool, true, false, cond, List, [], ◌∷◌, ◌++◌, length, bit_or, Option, Some, Result, Ok, Err, refl, sym, ap, ◌∙◌, arith, inl, inr, eqb-true}
 use Rattle.std.specs.Prelude.{codes}
 use Rattle.std.proofs.lemmas.Grind.{common_steps}
@@ -19,7 +19,7 @@ use Rattle.op_basis.specs.Word.{word_text, character, bit_in, operator_in}
 
 -- ---- items
 
--- no comma stands in a text
+-- the text has no comma
 unfoldable pub is_item : List ℕ → Bool
 is_item [] = true
 is_item (b ∷ bs) = if b == 44 then false else is_item bs
@@ -63,13 +63,13 @@ unfolding items_of
 item_push_by b text item true e more = rw (slice_split-cons_yes is_comma b (text ++ 44 ∷ item) e, slice_split-cons_yes is_comma b text e) (ap (λ (parts : List (List ℕ)). [] ∷ parts) more)
 item_push_by b text item false e more = rw (slice_split-cons_no is_comma b (text ++ 44 ∷ item) e, slice_split-cons_no is_comma b text e) (ap (onto_first b) more ∙ onto_push b (slice_split is_comma text) item (has_item text))
 
--- one item more
+-- one more item
 item_push : (text item : List ℕ) → is_item item ≡ true → items_of (text ++ 44 ∷ item) ≡ items_of text ++ item ∷ []
 unfolding items_of
 item_push [] item free = ap (λ (parts : List (List ℕ)). [] ∷ parts) (item_last item free)
 item_push (b ∷ text) item free = item_push_by b text item (is_comma b) refl (item_push text item free)
 
--- an answer that goes on with itself
+-- bind with `Ok` changes nothing
 bind_ok : (r : Result ℕ BasisError) → (r >>= λ m. listed m []) ≡ r
 unfolding listed
 bind_ok (Ok m) = refl
@@ -93,7 +93,7 @@ listed_push set more (x ∷ items) item answer e last = bind_push (with_item set
 number_bit : (b : ℕ) → b < 2 → number (b == 1) ≡ b
 number_bit b low = grind (arith, common_steps)
 
--- an operator is the one with its values
+-- an operator is the operator with its values
 pub operator_is : (op : ℕ) → op < 16 → of_values (digit op 3) (digit op 2) (digit op 1) (digit op 0) ≡ op
 operator_is op low =
     rw (number_bit (bit_at op 3) (bit_at-lt op 3), number_bit (bit_at op 2) (bit_at-lt op 2), number_bit (bit_at op 1) (bit_at-lt op 1), number_bit (bit_at op 0) (bit_at-lt op 0)) (omega arith)
@@ -134,7 +134,7 @@ item_ok : (set k : ℕ) → k < 16 → with_item (set % 2 ^ k) (word_text k) ≡
 unfolding with_item word_text
 item_ok set k low = rw (operator_back k low, not_below set k) refl
 
--- what is read of the words below k
+-- the set that is read from the words of the members below k
 pub record ReadsBelow (set k : ℕ) (text : List ℕ) : Type 0 where
   pub none : length text ≡ 0 → set % 2 ^ k ≡ 0
   pub some : 0 < length text → listed 0 (items_of text) ≡ Ok (set % 2 ^ k)
@@ -199,7 +199,7 @@ name_back : (is : Bool) (set other : ℕ) (name list : List ℕ) (rest : Option 
 name_back true set other name list rest same named_is else_is = named_is ∙ ap (λ (s : ℕ). Ok s) (sym (same refl))
 name_back false set other name list rest same named_is else_is = else_is
 
--- What is written for a basis is read as it.
+-- The text that is written for a basis is read as this basis.
 pub basis_back : (set : ℕ) → 0 < set → set < 65536 → basis_of (basis_text set) ≡ Ok set
 unfolding named name_of
 basis_back set some low =

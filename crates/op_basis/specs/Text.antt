@@ -8,7 +8,7 @@ use Rattle.op_basis.specs.declared.error.BasisError.TheVariants.{UnknownName, Ba
 use Rattle.op_basis.specs.Basis.{members}
 use Rattle.op_basis.specs.Word.{operator_in, word_text}
 
--- what is done with a value, an error staying as it is
+-- monadic bind: the function is applied to a value, and an error stays
 infixl 10 ◌>>=◌
 abbrev pub ◌>>=◌ : {A B : Type 0} → Result A BasisError → (A → Result B BasisError) → Result B BasisError
 (Ok x) >>= f = f x
@@ -19,16 +19,16 @@ abbrev pub ◌>>=◌ : {A B : Type 0} → Result A BasisError → (A → Result 
 abbrev pub all_set : ℕ
 all_set = 65535
 
--- AND, OR and their like: the operators that depend on both operands, but for XOR and its complement
+-- the operators that depend on both operands, except XOR and its complement:
 -- 0001 0010 0100 0111 1000 1011 1101 1110
 abbrev pub u2_set : ℕ
 u2_set = 2 ^ 1 + 2 ^ 2 + 2 ^ 4 + 2 ^ 7 + 2 ^ 8 + 2 ^ 11 + 2 ^ 13 + 2 ^ 14
 
--- 0001 0110 0111 1000 1001 1110
+-- AND, XOR, OR and their complements: 0001 0110 0111 1000 1001 1110
 abbrev pub bench_set : ℕ
 bench_set = 2 ^ 1 + 2 ^ 6 + 2 ^ 7 + 2 ^ 8 + 2 ^ 9 + 2 ^ 14
 
--- 1110
+-- NAND alone: 1110
 abbrev pub nand_set : ℕ
 nand_set = 2 ^ 14
 
@@ -58,20 +58,20 @@ name_of set =
 abbrev pub is_comma : ℕ → Bool
 is_comma b = b == 44
 
--- what stands between the commas
+-- the items between the commas
 unfoldable pub items_of : List ℕ → List (List ℕ)
 items_of word = slice_split is_comma word
 
--- the set with one operator more
+-- the set with one more operator, which must be there and not yet be a member
 abbrev pub with_operator : ℕ → Option ℕ → Result ℕ BasisError
 with_operator set None = Err BadOperator
 with_operator set (Some op) = if members set op then Err Repeated else Ok (bit_or set (2 ^ op))
 
--- the set with the operator of one item more
+-- the set with the operator of one more item
 unfoldable pub with_item : ℕ → List ℕ → Result ℕ BasisError
 with_item set item = if length item == 0 then Err Empty else with_operator set (operator_in item)
 
--- the set with the operators of all items, or the first fault from the left
+-- the set with the operators of all items, or the first error from the left
 unfoldable pub listed : ℕ → List (List ℕ) → Result ℕ BasisError
 listed set [] = Ok set
 listed set (item ∷ items) = with_item set item >>= λ more. listed more items
@@ -80,19 +80,19 @@ abbrev pub begins_letter : List ℕ → Bool
 begins_letter [] = false
 begins_letter (b ∷ bs) = is_ascii_alphabetic b
 
--- The basis that a word says, or why it says none.
--- Example: `nand` and `1110` say the set of NAND alone; `0110,1110,` has an empty item at its end.
+-- The basis of a text, or the error.
+-- Example: `nand` and `1110` are both the set of NAND alone; `0110,1110,` has an empty item at its end.
 abbrev pub basis_of : List ℕ → Result ℕ BasisError
 basis_of word = if begins_letter word then named word else listed 0 (items_of word)
 
 -- ---- how a basis is written
 
--- a word after others
+-- a word appended to a list, after a comma unless the list is empty
 abbrev pub with_word : List ℕ → List ℕ → List ℕ
 with_word [] word = word
 with_word (b ∷ bs) word = (b ∷ bs) ++ 44 ∷ word
 
--- the words of the members below k, rising, with commas
+-- the words of the members below k, in increasing order, with commas
 unfoldable pub list_below : ℕ → ℕ → List ℕ
 list_below set zero = []
 list_below set (suc k) = if members set k then with_word (list_below set k) (word_text k) else list_below set k
@@ -101,7 +101,7 @@ abbrev pub text_with : Option (List ℕ) → List ℕ → List ℕ
 text_with None list = list
 text_with (Some name) list = name
 
--- The one spelling of a basis: its name, where it has one, else the words of its members, rising.
+-- The one spelling of a basis: its name where it has one, else the words of its members in increasing order.
 -- Example: the set of XOR and its complement is `0110,1001`.
 abbrev pub basis_text : ℕ → List ℕ
 basis_text set = text_with (name_of set) (list_below set 16)

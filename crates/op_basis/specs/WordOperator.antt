@@ -1,9 +1,9 @@
--- Operators on words of 64 bits. In a word bit t is the binary digit that stands for 2 ^ t.
+-- Operators on words of 64 bits. Bit t of a word is the binary digit of weight 2 ^ t.
 use Rattle.std.specs.Prelude.{ℕ, ◌==◌, Bool, true, false, not, if◌then◌else◌, bit_and, bit_xor}
 use Rattle.chain_theory.specs.Operator.{apply}
 use Rattle.op_basis.specs.declared.words.Masks.{Masks}
 
--- the word all of whose 64 bits are `bit`
+-- the word whose 64 bits are all `bit`
 abbrev pub spread : Bool → ℕ
 spread bit = if bit then 0xffff_ffff_ffff_ffff else 0
 
@@ -12,9 +12,10 @@ abbrev pub differ : Bool → Bool → Bool
 differ true bit = not bit
 differ false bit = bit
 
--- An operator is the exclusive or of four products: of nothing, of its first operand, of its second, and of both. These
--- are the coefficients, each spread over a word.
--- Example: AND has the coefficient of both alone, and NAND those of both and of nothing.
+-- The coefficients of the algebraic normal form of an operator: the operator is the exclusive or of four
+-- products, the empty one, its first operand, its second operand, and both. Each coefficient is spread over a
+-- word.
+-- Example: AND has only the coefficient `both`, and NAND has `both` and `none`.
 abbrev pub masks_of : ℕ → Masks
 masks_of op = record {
   none = spread (apply op false false);
@@ -23,7 +24,7 @@ masks_of op = record {
   both = spread (differ (differ (apply op false false) (apply op true false)) (differ (apply op false true) (apply op true true)));
 }
 
--- the exclusive or of the products of two words
+-- the algebraic normal form with these coefficients, on two words
 unfoldable pub combined : Masks → ℕ → ℕ → ℕ
 combined m a b = bit_xor (bit_xor (bit_xor m.none (bit_and m.first a)) (bit_and m.second b)) (bit_and m.both (bit_and a b))
 
@@ -31,8 +32,8 @@ combined m a b = bit_xor (bit_xor (bit_xor m.none (bit_and m.first a)) (bit_and 
 abbrev pub on_words : ℕ → ℕ → ℕ → ℕ
 on_words op a b = combined (masks_of op) a b
 
--- the word whose bit t is the digit of t that stands for 2 ^ k
--- Example: of the rows 3, 2, 1, 0 the input with k = 0 has the bits 1, 0, 1, 0.
+-- the word whose bit t is the digit of weight 2 ^ k of t
+-- Example: for k = 0 its bits on the rows 3, 2, 1, 0 are 1, 0, 1, 0.
 unfoldable pub input_word : ℕ → ℕ
 input_word k = if k == 0 then 0xaaaa_aaaa_aaaa_aaaa
     else (if k == 1 then 0xcccc_cccc_cccc_cccc

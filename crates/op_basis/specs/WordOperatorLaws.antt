@@ -1,4 +1,4 @@
--- The bits of words: of an and, of an exclusive or, of an operator on two words, and of the words of inputs.
+-- The bits of words: of a conjunction, an exclusive or, an operator on two words, and the word of an input.
 use Rattle.std.proofs.Common.{◌≡◌, ◌∙◌, ℕ, zero, suc, ◌+◌, ◌%◌, ◌<◌, Bool, true, false, ◌&&◌, refl, ap, arith, min}
 use Rattle.std.specs.Prelude.{bit_and, bit_xor, ◌==◌}
 use Rattle.std.specs.Int.{bit_at}
@@ -39,7 +39,7 @@ digit_spread false i low = ap (λ (x : ℕ). x == 1) (bit_at-zero i)
 
 -- ---- operators
 
--- the value among four by two bits
+-- one of four values, chosen by two bits
 abbrev chosen : Bool → Bool → Bool → Bool → Bool → Bool → Bool
 chosen n s f t false false = n
 chosen n s f t false true = s

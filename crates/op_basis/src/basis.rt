@@ -20,7 +20,7 @@ impl Model for Basis {
 }
 
 impl Basis {
-    /// The set of the operators whose bits are 1 in `bits`: 16384, which is 2^14, for NAND alone.
+    /// The set of the operators k whose bits 2^k are 1 in `bits`. NAND alone is 16384, which is 2^14.
     pub fn new(bits: u16) -> Basis
         ensures { result ≡ bits }
     {

@@ -1,5 +1,5 @@
-//! What a chain over a basis may be assumed to have depends on how the basis is closed. Each test
-//! goes over all sixteen operators.
+//! Closure properties of a basis. They decide which normal forms a search for chains may assume.
+//! Each test goes over all sixteen operators.
 ghost use Rattle.std.specs.Prelude.{◌≡◌};
 ghost use Rattle.op_basis.specs.Basis.{members};
 ghost use Rattle.op_basis.specs.Closed.{every, swaps as swaps_of, swap_closed as swap_closed_of};
@@ -16,7 +16,7 @@ use crate::values::{
 };
 use crate::{Basis, Op};
 
-/// With one operand fixed to a constant the operator is the complement of the other.
+/// Whether the operator is the complement of one operand when the other is fixed to some constant.
 #[tactic(auto, unfolding(crate::specs::Closed::negates_one))]
 fn negates_one(op: Op) -> bool
     ensures { result ≡ negates_one_of op }
@@ -28,7 +28,7 @@ fn negates_one(op: Op) -> bool
 }
 
 impl Basis {
-    /// The operator with its operands exchanged is a member, where the operator is one.
+    /// The operator isn't a member, or it is a member with its operands exchanged, too.
     #[tactic(auto, unfolding(crate::specs::Closed::swaps))]
     fn swaps(self, op: Op) -> bool
         ensures { result ≡ swaps_of (members self) op }
@@ -36,7 +36,7 @@ impl Basis {
         !self.contains(op) || self.contains(swapped(op))
     }
 
-    /// Whether each member's operator with its operands exchanged is a member.
+    /// Whether each member is a member with its operands exchanged, too.
     #[tactic(auto, using(crate::proofs::Every::passing))]
     pub fn swap_closed(self) -> bool
         ensures { result ≡ swap_closed_of (members self) }
@@ -49,7 +49,7 @@ impl Basis {
         true
     }
 
-    /// The operator is no member, or it doesn't negate a bit given as both operands.
+    /// The operator isn't a member, or it isn't a negation on equal operands.
     #[tactic(auto, unfolding(crate::specs::Closed::has_no_negation_at, crate::specs::Closed::negates_both))]
     fn has_no_negation_at(self, op: Op) -> bool
         ensures { result ≡ has_no_negation_at_of (members self) op }
@@ -57,8 +57,8 @@ impl Basis {
         !self.contains(op) || !(op.apply(false, false) && !op.apply(true, true))
     }
 
-    /// Whether some member has the value 1 at (0,0) and 0 at (1,1), so that it negates a bit given
-    /// as both operands.
+    /// Whether some member has the value 1 at (0,0) and 0 at (1,1), and so is a negation on equal
+    /// operands.
     #[tactic(auto, using(crate::proofs::Every::passing))]
     pub fn has_negation(self) -> bool
         ensures { result ≡ has_negation_of (members self) }
@@ -71,7 +71,8 @@ impl Basis {
         false
     }
 
-    /// The operator is no member, or no operand fixed to a constant makes it the other's complement.
+    /// The operator isn't a member, or it never is the complement of one operand when the other is
+    /// fixed to a constant.
     #[tactic(auto, unfolding(crate::specs::Closed::keeps_constants))]
     fn keeps_constants(self, op: Op) -> bool
         ensures { result ≡ keeps_constants_of (members self) op }
@@ -79,7 +80,7 @@ impl Basis {
         !self.contains(op) || !negates_one(op)
     }
 
-    /// No member becomes the complement of its other operand when one operand is fixed.
+    /// Whether no member is the complement of one operand when the other is fixed to a constant.
     #[tactic(auto, using(crate::proofs::Every::passing))]
     fn all_keep_constants(self) -> bool
         ensures { result ≡ every (keeps_constants_of (members self)) }
@@ -92,16 +93,16 @@ impl Basis {
         true
     }
 
-    /// Whether the set has a negation, or no member becomes the complement of its other operand when
-    /// one operand is fixed to a constant.
+    /// Whether constant steps can be left out of a chain: some member is a negation on equal operands,
+    /// or no member is the complement of one operand when the other is fixed to a constant.
     pub fn const_closed(self) -> bool
         ensures { result ≡ const_closed_of (members self) }
     {
         self.has_negation() || self.all_keep_constants()
     }
 
-    /// The operator's complement, and the operators with one operand complemented, are members, where
-    /// the operator is one.
+    /// The operator isn't a member, or its complement and the operators with one operand complemented
+    /// are members too.
     #[tactic(auto, unfolding(crate::specs::Closed::has_complements))]
     fn has_complements(self, op: Op) -> bool
         ensures { result ≡ has_complements_of (members self) op }
@@ -112,8 +113,8 @@ impl Basis {
                 && self.contains(second_complemented(op)))
     }
 
-    /// Whether for each member its complement, and the operators with one operand complemented, are
-    /// members.
+    /// Whether the basis is closed under complements: for each member, its complement and the operators
+    /// with one operand complemented are members.
     #[tactic(auto, using(crate::proofs::Every::passing))]
     pub fn polarity_closed(self) -> bool
         ensures { result ≡ polarity_closed_of (members self) }
@@ -126,8 +127,9 @@ impl Basis {
         true
     }
 
-    /// The operator is a member, with its operands exchanged or not, or no gate at all, where the
-    /// set lets it be.
+    /// A step with this operator can be one step over the basis, or be left out: the operator is a
+    /// member, with its operands exchanged or not; or an operand; or a constant, if constants can be
+    /// left out; or the complement of an operand, if there is a negation.
     #[tactic(auto, unfolding(crate::specs::Closed::is_allowed))]
     fn is_allowed(self, op: Op) -> bool
         ensures { result ≡ is_allowed_of (members self) op }
@@ -143,8 +145,8 @@ impl Basis {
         }
     }
 
-    /// The four operators that `q` makes of `p` and one of its operands are allowed, where `q` is a
-    /// member.
+    /// `q` isn't a member, or the four operators that apply `q` to `p` and one of its operands are
+    /// allowed.
     #[tactic(auto, unfolding(crate::specs::Closed::reapplies))]
     fn reapplies(self, p: Op, q: Op) -> bool
         ensures { result ≡ reapplies_of (members self) p q }
@@ -156,7 +158,7 @@ impl Basis {
                 && self.is_allowed(right_on_second(p, q)))
     }
 
-    /// The same with each of the sixteen operators in the place of `q`.
+    /// The same for each of the sixteen operators as `q`.
     #[tactic(auto, using(crate::proofs::Every::passing))]
     fn reapplies_each(self, p: Op) -> bool
         ensures { result ≡ every (reapplies_of (members self) p) }
@@ -169,7 +171,7 @@ impl Basis {
         true
     }
 
-    /// What each member makes of `p` and one of its operands is allowed, where `p` is a member.
+    /// `p` isn't a member, or each member may be applied to `p` and one of its operands.
     #[tactic(auto, unfolding(crate::specs::Closed::reapplies_all))]
     fn reapplies_all(self, p: Op) -> bool
         ensures { result ≡ reapplies_all_of (members self) p }
@@ -177,10 +179,10 @@ impl Basis {
         !self.contains(p) || self.reapplies_each(p)
     }
 
-    /// Whether for all members p and q the operators q(p(a,b), a), q(p(a,b), b), q(a, p(a,b)) and
-    /// q(b, p(a,b)) are members with their operands exchanged or not, or an operand, or a constant
-    /// where the set is closed for constants, or the complement of an operand where the set has a
-    /// negation.
+    /// Whether re-applications can be left out of a chain: for all members p and q, each of the
+    /// operators q(p(a,b), a), q(p(a,b), b), q(a, p(a,b)) and q(b, p(a,b)) is a member, with its
+    /// operands exchanged or not; or an operand; or a constant, if constants can be left out; or the
+    /// complement of an operand, if there is a negation.
     #[tactic(auto, using(crate::proofs::Every::passing))]
     pub fn reapply_closed(self) -> bool
         ensures { result ≡ reapply_closed_of (members self) }

@@ -1,14 +1,14 @@
-//! Why a word says no basis.
+//! Why a text isn't a basis.
 
-/// Why a word says no basis. The items of a list are judged from the left.
+/// Why a text isn't a basis. The items of a list are checked from the left, and the first error counts.
 #[derive(Clone, Copy, PartialEq, Eq)]
 pub enum BasisError {
-    /// The word begins with a letter and is no name of a basis.
+    /// The text begins with a letter and isn't the name of a basis.
     UnknownName,
     /// An item isn't four characters `0` and `1`.
     BadOperator,
-    /// The word or an item is empty.
+    /// The text or an item is empty.
     Empty,
-    /// An item is equal to one before it.
+    /// An item is equal to an earlier one.
     Repeated,
 }

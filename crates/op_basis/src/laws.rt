@@ -1,4 +1,4 @@
-//! What the definitions come to. Each law is the contract of a function that does nothing.
+//! What the definitions imply. Each law is the contract of a function that does nothing.
 ghost use Rattle.std.specs.Prelude.{◌≡◌, ◌↔◌, ℕ, ◌<◌, Ok, Bool, true, false, List, Contains};
 ghost use Rattle.std.specs.List.{IsDistinct};
 ghost use Rattle.op_basis.specs.Operator.{apply};
@@ -17,20 +17,20 @@ pub fn operators_are_functions()
         op ≡ operator_of f }
 {}
 
-/// A test of all operators passes exactly where it passes at each of the sixteen.
+/// A test of all operators is true exactly where it is true of each of the sixteen.
 pub fn every_is_each()
     ensures each { (test : ℕ → Bool) → every test ≡ true → (op : ℕ) → op < 16 → test op ≡ true }
     ensures all { (test : ℕ → Bool) → ((op : ℕ) → op < 16 → test op ≡ true) → every test ≡ true }
 {}
 
-/// A basis that was written is read again.
+/// The text that is written for a basis is read as this basis.
 pub fn written_basis_is_read()
     ensures { (set : ℕ) → 0 < set → set < 65536 → basis_of (basis_text set) ≡ Ok set }
 {}
 
-/// A list that is read says its operators: each item is the word of one, none comes twice, and the
-/// set has an operator exactly where the operator's word is an item. What is read, a name too, isn't
-/// empty.
+/// A list that is read gives its operators: each item is the word of an operator, no item comes
+/// twice, and the set has an operator exactly where the operator's word is an item. No basis that is
+/// read, by name or as a list, is empty.
 pub fn list_is_its_operators()
     ensures members { (word : List ℕ) (set op : ℕ) →
         begins_letter word ≡ false →

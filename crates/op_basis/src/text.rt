@@ -1,6 +1,6 @@
-//! Bases as texts: a name, or the words of the operators with commas between them. A list is walked
-//! item by item over the bytes, and each step says how the list of what is left follows, so that the
-//! loop's one equation is with the definition over the whole list.
+//! Bases as texts: a name, or the words of the operators with commas between them. A list is read
+//! item by item from its bytes. The loop invariant is that the set so far, followed by the items that
+//! are left, gives the definition's result for the whole list.
 ghost use Rattle.std.specs.Prelude.{◌≡◌, ◌+◌, ◌<◌, ℕ, List, ◌∷◌, ◌++◌, length, OnOk, OnErr, IfOk};
 ghost use Rattle.std.specs.Option.{option_map};
 ghost use Rattle.std.specs.Borrow.{Bor};
@@ -14,7 +14,7 @@ use std::alloc::AllocError;
 /// All sixteen operators.
 const ALL: u16 = 0b1111_1111_1111_1111;
 
-/// All that depend on both operands but XOR and its complement (the basis U2 of Zwick).
+/// The operators that depend on both operands, except XOR and its complement (the basis U2 of Zwick).
 const U2: u16 = 0b0110_1001_1001_0110;
 
 /// AND, OR, XOR and their complements, the gates of the BENCH format: a bit for each operator.
@@ -23,7 +23,7 @@ pub const BENCH: u16 = 0b0100_0011_1100_0010;
 /// NAND alone.
 const NAND: u16 = 0b0100_0000_0000_0000;
 
-/// For the prover: `word == name` of two slices, as a function of its own.
+/// `word == name` of two slices, as a function of its own for the prover.
 fn is_word(word: &[u8], name: &[u8]) -> bool
     ensures { result ≡ spec.same_text word.now name.now }
 {
@@ -50,7 +50,7 @@ fn named(word: &[u8]) -> Result<Basis, BasisError>
     Err(BasisError::UnknownName)
 }
 
-/// The first item of a list, and what stands after its comma; None where no comma follows.
+/// The first item of a list, and the rest after its comma; None where no comma follows.
 #[tactic(auto, using(crate::proofs::Items::cutting))]
 fn next_item(text: &[u8]) -> (&[u8], Option<&[u8]>)
     ensures items { spec.items_of text.now ≡ result.0.now ∷ items_left result.1 }
@@ -69,7 +69,7 @@ fn next_item(text: &[u8]) -> (&[u8], Option<&[u8]>)
     (text, None)
 }
 
-/// The set with the operator of one item more.
+/// The set with the operator of one more item.
 #[tactic(auto, unfolding(crate::specs::Text::with_item), using(crate::proofs::Items::shifting))]
 fn with_item(set: Basis, item: &[u8]) -> Result<Basis, BasisError>
     ensures { result ≡ spec.with_item set item.now }
@@ -101,14 +101,14 @@ fn listed(word: &[u8]) -> Result<Basis, BasisError>
     Ok(set)
 }
 
-/// Reads a basis: one of the names `all`, `u2` (all that depend on both operands but XOR and its
-/// complement), `bench` (AND, OR, XOR and their complements) and `nand`, or a list of operators, each
-/// a word of four bits, with commas between them, in any order.
+/// Reads a basis: one of the names `all`, `u2` (the operators that depend on both operands, except XOR
+/// and its complement), `bench` (AND, OR, XOR and their complements) and `nand`, or a list of
+/// operators in any order, each a word of four bits, with commas between them.
 ///
-/// Where the first character is a letter of either case, the word is a name: one of the four above, all
-/// in small letters, or `UnknownName`. Any other word is a list, and so is the empty one. Its items
-/// are judged from the left, and the first fault is the answer; of one item `Empty` comes before
-/// `BadOperator` and this before `Repeated`.
+/// If the first character is a letter of either case, the text is a name: one of the four above, in
+/// lower case, or `UnknownName`. Any other text, the empty one too, is a list. Its items are checked
+/// from the left, and the first error is returned; of one item, `Empty` comes before `BadOperator` and
+/// that before `Repeated`.
 pub fn read_basis(word: &[u8]) -> Result<Basis, BasisError>
     ensures exact { result ≡ spec.basis_of word.now }
     ensures some { IfOk result (λ basis. 0 < basis) }
@@ -133,7 +133,7 @@ fn name_of(set: Basis) -> Option<&'static [u8]>
     }
 }
 
-/// Appends the word of an operator, with a comma before it where others stand.
+/// Appends the word of an operator, after a comma unless the text is empty.
 fn push_word(text: &mut Vec<u8>, op: Op) -> Result<(), AllocError>
     ensures { OnOk result (text.new.items ≡ spec.with_word text.old.items (word_text op)) }
 {
@@ -143,7 +143,7 @@ fn push_word(text: &mut Vec<u8>, op: Op) -> Result<(), AllocError>
     write_operator(op, text)
 }
 
-/// Appends the words of the members, to a text that is empty.
+/// Appends the words of the members to an empty text, in increasing order with commas between them.
 #[tactic(auto, using(crate::proofs::Items::listing))]
 fn push_words(text: &mut Vec<u8>, set: Basis) -> Result<(), AllocError>
     requires { length text.old.items ≡ 0 }
@@ -158,8 +158,8 @@ fn push_words(text: &mut Vec<u8>, set: Basis) -> Result<(), AllocError>
 }
 
 /// Appends the one spelling of a basis that isn't empty: its name where it has one, else the words of
-/// its members in rising order with commas between them. An error is want of memory, and then nothing
-/// is written.
+/// its members in increasing order with commas between them. An error means that memory ran out; then
+/// nothing is appended.
 pub fn write_basis(basis: Basis, out: &mut Vec<u8>) -> Result<(), AllocError>
     requires { 0 < basis }
     ensures text { OnOk result (out.new.items ≡ out.old.items ++ spec.basis_text basis) }

@@ -1,4 +1,4 @@
-//! Operators made by their values.
+//! Operators built from their values.
 ghost use Rattle.std.specs.Prelude.{◌≡◌};
 ghost use Rattle.op_basis.specs.Operator.{apply};
 ghost use Rattle.op_basis.specs.Closed.{operator_of, swapped as swapped_of, complement as complement_of};

@@ -1,5 +1,5 @@
-//! Operators on words of 64 bits, all of them at once. Each operator of two bits is an exclusive or of
-//! products of its operands, its algebraic normal form: so one expression with four masks serves all sixteen.
+//! Operators on words of 64 bits (bit-parallel). Each operator of two bits is an exclusive or of products of its
+//! operands (its algebraic normal form), so one expression with four masks computes all sixteen.
 ghost use Rattle.std.specs.Prelude.{◌≡◌, ◌<◌};
 ghost use Rattle.op_basis.specs.WordOperator.{spread as spread_of, differ as differ_of, masks_of, combined};
 ghost use Rattle.op_basis.specs.WordOperator.{on_words as on_words_of, input_word as input_word_of};
@@ -16,14 +16,14 @@ pub struct Masks {
     pub both: u64,
 }
 
-/// The word all of whose 64 bits are `bit`.
+/// The word whose 64 bits are all `bit`.
 pub fn spread(bit: bool) -> u64
     ensures { result ≡ spread_of bit }
 {
     if bit { u64::MAX } else { 0 }
 }
 
-/// For the prover: `a ^ b`, by cases as the definition has it.
+/// `a ^ b`, by cases as in the definition, for the prover.
 fn differ(a: bool, b: bool) -> bool
     ensures { result ≡ differ_of a b }
 {
@@ -46,7 +46,7 @@ pub fn masks_for(op: Op) -> Masks
     }
 }
 
-/// The operator whose coefficients are `masks` on each of 64 pairs of bits.
+/// Applies the operator with the coefficients `masks` to each of 64 pairs of bits.
 #[tactic(auto, unfolding(crate::specs::WordOperator::combined))]
 pub fn combine(masks: Masks, a: u64, b: u64) -> u64
     ensures { result ≡ combined masks a b }
@@ -54,15 +54,16 @@ pub fn combine(masks: Masks, a: u64, b: u64) -> u64
     masks.none ^ (masks.first & a) ^ (masks.second & b) ^ (masks.both & (a & b))
 }
 
-/// The operator on each of 64 pairs of bits. Where many words meet one operator, `combine` with its masks is faster.
+/// Applies an operator to each of 64 pairs of bits. For many words and one operator, `combine` with its masks
+/// is faster.
 pub fn on_words(op: Op, a: u64, b: u64) -> u64
     ensures { result ≡ on_words_of op a b }
 {
     combine(masks_for(op), a, b)
 }
 
-/// The values of an input on all 64 rows, where the input's bit is the row's digit of 2^k: the truth table of a
-/// variable.
+/// The truth table of a variable: bit t of the word is the binary digit of weight 2^k of the row t, for each of
+/// 64 rows.
 #[tactic(auto, unfolding(crate::specs::WordOperator::input_word))]
 pub fn input_word(k: u32) -> u64
     requires { k < 6 }

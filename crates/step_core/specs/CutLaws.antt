@@ -1,4 +1,4 @@
--- That outputs which differ need steps of their own.
+-- Outputs that are incompatible need different steps.
 use Rattle.std.proofs.Common.{◌≡◌, ℕ, ◌+◌, ◌≤◌, ◌<◌, ◌⊎◌, true, false, Bool, ◌&&◌, not, ◌==◌, List, [], ◌∷◌, ◌++◌, length, refl, sym, ap, ◌∙◌, subst, arith, inl, inr}
 use Rattle.std.specs.Prelude.{slice_index, bit_and, bit_xor}
 use Rattle.std.specs.Int.{bit_at}
@@ -30,7 +30,7 @@ pub not_false : (b : Bool) → not b ≡ false → b ≡ true
 not_false true e = refl
 not_false false e = absurd cc
 
--- ---- one word has not the values of two outputs that differ
+-- ---- no word has the values of two incompatible outputs
 
 same_bit : (a b x care more : Bool) → (differ x a && care) ≡ false → (differ x b && more) ≡ false → ((differ a b && care) && more) ≡ false
 same_bit a b x false more p q = grind (arith, common_steps)
@@ -48,7 +48,7 @@ no_row x e t = ap (λ (y : ℕ). digit y t) e ∙ ap (λ (y : ℕ). y == 1) (bit
 no_rows : (x : ℕ) → ((t : ℕ) → digit x t ≡ false) → x ≡ 0
 no_rows x none = same_from_bits x 0 (λ t. no_digit (bit_at x t) (bit_at-lt x t) (none t) ∙ sym (bit_at-zero t))
 
--- a word that two outputs have makes them alike
+-- two outputs are compatible where one word has the values of both
 both_alike : (w : Words) (word i b : ℕ) → misses w word i ≡ false → misses w word b ≡ false → are_alike w i b ≡ true
 unfolding misses are_alike
 both_alike w word i b has_i has_b =
@@ -85,7 +85,7 @@ gives_none w front word i none low missing has =
     let gives_it : (not (misses w word i) && not (is_met w front i)) ≡ true = rw (has, missing) refl in
     true_false (sym gives_it ∙ none_passes (gives w front word) (length w.on) i none low)
 
--- the output that it gives its values
+-- an output that is met only with the last step has that step's values
 newly_met : (w : Words) (front : List Step) (s : Step) (i : ℕ) → is_met w front i ≡ false → is_met w (front ++ s ∷ []) i ≡ true → misses w (word_in w.n (front ++ s ∷ []) (w.n + 1 + length front)) i ≡ false
 newly_met w front s i before after =
     let found = met_some w (front ++ s ∷ []) i after in
@@ -104,7 +104,7 @@ is_whole : (w : Words) (steps : List Step) (i : ℕ) → is_apart w i ≡ true �
 unfolding is_due is_missing
 is_whole w steps i apart missing = rw (apart, missing) refl
 
--- an output of the word that differs from those before it
+-- the word has the values of an output that is compatible with no output before it
 unfoldable is_own : Words → ℕ → ℕ → Bool
 is_own w word i = is_apart w i && not (misses w word i)
 
@@ -140,7 +140,7 @@ due_step w front s =
     by_met w front s i apart missing (inl met) = inr (own_whole w (word_in w.n (front ++ s ∷ []) (w.n + 1 + length front)) i apart (newly_met w front s i missing met))
     by_met w front s i apart missing (inr still) = inl (is_whole w (front ++ s ∷ []) i apart still)
 
--- ---- steps that serve
+-- ---- solutions
 
 none_due : (w : Words) (steps : List Step) (i : ℕ) → all_met w steps ≡ true → i < length w.on → is_due w steps i ≡ false
 unfolding all_met is_due
@@ -150,7 +150,7 @@ none_due w steps i all low = ap (λ (x : Bool). is_apart w i && x) (none_passes 
     and_false true = refl
     and_false false = refl
 
--- as many further steps are needed as outputs are due
+-- at least as many further steps are needed as outputs are due
 pub due_few : (w : Words) (basis : Basis) (rest front : List Step) → IsTarget w basis (front ++ rest) → due w front ≤ length rest
 due_few w basis [] front target =
     let whole : all_met w front ≡ true = subst (λ (ss : List Step). all_met w ss ≡ true) (append_nil front) target.serving.met in
@@ -161,7 +161,7 @@ due_few w basis (s ∷ rest) front target =
 pub too_few : (w : Words) (basis : Basis) (front : List Step) (left : ℕ) → left < due w front → NoneFrom w basis front left
 too_few w basis front left few = record { none = λ rest count target. omega (arith, few, count, due_few w basis rest front target) }
 
--- where each further step has to give an output its values
+-- where all steps that are left are due, the next step has the values of a missing output
 pub must_give : (w : Words) (basis : Basis) (front : List Step) (s : Step) (left word : ℕ) → word ≡ on_words s.op (word_in w.n front s.j) (word_in w.n front s.k) → gives_some w front word ≡ false → left ≤ due w front → NoneWith w basis front left (IsThe s)
 must_give w basis front s left word made none many = record {
   none = λ this rest is count target.

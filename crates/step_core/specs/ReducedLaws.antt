@@ -1,4 +1,4 @@
--- Steps that no reduced chain has.
+-- Steps that no chain in normal form has.
 use Rattle.std.proofs.Common.{◌≡◌, ℕ, zero, suc, ◌+◌, ◌-◌, ◌≤◌, ◌<◌, ◌⊎◌, true, false, Bool, ◌&&◌, ◌||◌, not, ◌==◌, List, [], ◌∷◌, ◌++◌, length, refl, sym, ap, ◌∙◌, arith, inl, inr}
 use Rattle.std.specs.Prelude.{slice_get, slice_index_or, Some}
 use Rattle.std.specs.List.{Contains}
@@ -26,7 +26,7 @@ use Rattle.step_core.specs.WalkLaws.{append_one, get_middle}
 use Rattle.step_core.specs.WordLaws.{word_row, never_missed}
 use Rattle.step_core.specs.CutLaws.{must_give}
 
--- ---- operands in rising order
+-- ---- operands in increasing order
 
 pub must_rise : (w : Words) (basis : Basis) (front : List Step) (left low high : ℕ) → swap_closed basis ≡ true → low < high → NoneWith w basis front left (HasOperands high low)
 must_rise w basis front left low high closed less = record {

@@ -1,15 +1,15 @@
--- What a basis allows a walk to leave out, and what the walk ends at.
+-- Which prunings a basis permits, and whether the first solution ends the enumeration.
 use Rattle.std.specs.Prelude.{◌≡◌, ℕ, Bool}
 use Rattle.op_basis.specs.Basis.{members}
 use Rattle.op_basis.specs.Closed.{swap_closed, polarity_closed, const_closed}
 
--- the tests of a basis
+-- the results of the tests of a basis
 pub record AreRules (basis : ℕ) (rises normal constants : Bool) : Type 0 where
   pub rising : rises ≡ swap_closed (members basis)
   pub having : normal ≡ polarity_closed (members basis)
   pub leaving : constants ≡ const_closed (members basis)
 
--- the operators of a walk, and whether it ends at the first steps that serve
+-- the basis as a number, and whether the first solution ends the enumeration
 pub record Ruled : Type 0 where
   pub basis : ℕ
   pub whole : Bool

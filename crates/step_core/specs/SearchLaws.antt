@@ -1,4 +1,4 @@
--- What the loops keep: that no number yet passes.
+-- The invariants of loops that look for a number that passes a test, or count those.
 use Rattle.std.proofs.Common.{◌≡◌, ℕ, zero, suc, ◌+◌, ◌<◌, ◌≤◌, ◌⊎◌, true, false, Bool, cond, refl, sym, add-one, arith, inl, inr, ◌∙◌}
 use Rattle.std.specs.Prelude.{if◌then◌else◌}
 use Rattle.std.proofs.lemmas.Grind.{common_steps}
@@ -6,12 +6,12 @@ use Rattle.std.proofs.lemmas.Bool.{cases_Bool}
 use Rattle.bound_core.specs.Counts.{some_below, count_below}
 use Rattle.bound_core.specs.CountLaws.{passes_some, some_passes, true_false}
 
--- no number yet
+-- no number below 0 passes
 pub some_none : (test : ℕ → Bool) → some_below test 0 ≡ false
 unfolding some_below
 some_none test = refl
 
--- one number more that doesn't pass
+-- one more number that doesn't pass
 pub some_more : (test : ℕ → Bool) (k : ℕ) → some_below test k ≡ false → test k ≡ false → some_below test (k + 1) ≡ false
 unfolding some_below
 some_more test k before here = rw (add-one, before, here) refl
@@ -34,7 +34,7 @@ count_more test k = rw add-one refl
 
 pub ruleset counting = (common_steps, count_none, count_more)
 
--- what passes is split between two tests
+-- each number that passes `a` passes `b` or `c`
 pub count_split : (a b c : ℕ → Bool) (k : ℕ) → ((i : ℕ) → i < k → a i ≡ true → (b i ≡ true) ⊎ (c i ≡ true)) → count_below a k ≤ count_below b k + count_below c k
 unfolding count_below
 count_split a b c zero each = omega arith
@@ -54,7 +54,7 @@ unfolding count_below
 count_zero test zero each = refl
 count_zero test (suc k) each = rw (count_zero test k (λ i low. each i (omega (arith, low))), each k (omega arith)) refl
 
--- at most one passes, where no two do
+-- where no two numbers pass, at most one does
 pub count_one : (test : ℕ → Bool) (k : ℕ) → ((i j : ℕ) → i < j → j < k → test i ≡ true → test j ≡ true → ⊥) → count_below test k ≤ 1
 unfolding count_below
 count_one test zero apart = omega arith

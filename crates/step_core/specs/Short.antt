@@ -1,4 +1,4 @@
--- Chains of few steps that agree with a specification.
+-- Chains within a bound on their size that implement a specification, and the least of them.
 use Rattle.std.specs.Prelude.{ℕ, ◌+◌, ◌≤◌, length, Option, Some, None}
 use Rattle.chain_theory.specs.Chain.{Chain}
 use Rattle.chain_theory.specs.Operator.{Basis}
@@ -6,14 +6,15 @@ use Rattle.chain_theory.specs.Specification.{Specification}
 use Rattle.chain_theory.specs.Agreement.{IsOver, Agrees, NoneBelow}
 use Rattle.chain_core.specs.Steps.{IsSmallChain}
 
--- a chain over the basis that agrees, of at most `most` steps
+-- a chain over the basis of at most `most` steps that implements the specification
 pub record IsFitting (s : Specification) (basis : Basis) (most : ℕ) (c : Chain) : Type 0 where
   pub small : IsSmallChain c
   pub few : length c.steps ≤ most
   pub over : IsOver basis c
   pub agrees : Agrees c s
 
--- a chain over the basis that agrees, of at most `most` steps, where none of fewer steps than it has agrees
+-- A least chain: no chain over the basis with fewer steps implements the specification. It has at most `most`
+-- steps.
 -- Example: NOT of one input over NAND alone is the step j = 1, k = 1, op = 14 with the out Place 2.
 pub record IsShort (s : Specification) (basis : Basis) (most : ℕ) (c : Chain) : Type 0 where
   pub small : IsSmallChain c
@@ -22,7 +23,7 @@ pub record IsShort (s : Specification) (basis : Basis) (most : ℕ) (c : Chain) 
   pub agrees : Agrees c s
   pub least : NoneBelow s basis (length c.steps)
 
--- a chain that `IsShort` holds of, or that no chain over the basis of at most `most` steps agrees
+-- Some: a least chain. None: no chain over the basis of at most `most` steps implements the specification.
 abbrev pub IsAnswer : Specification → Basis → ℕ → Option Chain → Type 0
 IsAnswer s basis most (Some c) = IsShort s basis most c
 IsAnswer s basis most None = NoneBelow s basis (most + 1)

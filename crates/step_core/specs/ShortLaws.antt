@@ -1,4 +1,4 @@
--- That the chain which is made agrees, and that no chain of few steps does where none is made.
+-- The chain of a solution implements the specification; without a solution no chain of so few steps does.
 use Rattle.std.proofs.Common.{◌≡◌, ℕ, zero, suc, ◌+◌, ◌-◌, ◌<◌, ◌≤◌, Bool, true, false, not, List, [], ◌∷◌, length, All, refl, sym, ap, ◌∙◌, subst, arith}
 use Rattle.std.specs.Prelude.{slice_index, slice_index_or}
 use Rattle.std.proofs.lemmas.Grind.{common_steps}
@@ -46,7 +46,7 @@ met_each : (w : Words) (steps : List Step) (i : ℕ) → all_met w steps ≡ tru
 unfolding all_met is_missing
 met_each w steps i all low = not_false (is_met w steps i) (none_passes (is_missing w steps) (length w.on) i (not_true (some_below (is_missing w steps) (length w.on)) all) low)
 
--- the word of a live output is its word among the live ones
+-- the word of a live output is the word at its index among the live outputs
 live_word : (w : Words) (words : List ℕ) (h i : ℕ) → i < length (live_outputs (specification w)) → slice_index (live_outputs (specification w)) i ≡ h → slice_index (words_of words (live_outputs (specification w))) i ≡ slice_index words (h - 1)
 unfolding words_of
 live_word w words h i low e = get_or-map (λ g. slice_index words (g - 1)) (live_outputs (specification w)) i 0 0 low ∙ ap (λ (g : ℕ). slice_index words (g - 1)) e
@@ -66,7 +66,7 @@ are_met w basis steps serving = record {
       met_at w steps (h - 1) found.0 found.1 (sym (live_meets w steps h c.0 found.0 c.1 at) ∙ found.2);
 }
 
--- ---- the chain that is made
+-- ---- the chain of a solution
 
 made_outs : (w : Words) (steps : List Step) (outs : List Out) → AreOuts w steps outs → All (NamesPlace (w.n + length steps)) outs
 made_outs w steps outs are = λ i d low.
@@ -95,7 +95,7 @@ made_fitting w basis steps outs spec trail over count are = record {
   };
 }
 
--- the chain as the program makes it
+-- the chain that the program builds
 abbrev chain_with : ℕ → List held.Step → List Out → Chain
 chain_with n steps outs = record { n = n; steps = steps_of steps; outs = outs }
 
@@ -117,7 +117,7 @@ fitting_most w basis size most c fits low = record { small = fits.small; few = o
 
 -- ---- sizes in turn
 
--- no chain of fewer steps agrees with the live outputs
+-- no chain of fewer steps implements the live outputs
 pub record IsClear (w : Words) (basis : Basis) (size : ℕ) : Type 0 where
   pub none : NoneBelow (specification w) basis size
 

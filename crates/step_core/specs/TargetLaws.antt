@@ -1,4 +1,4 @@
--- The steps of a chain that agrees with the live outputs are looked for.
+-- A chain in normal form that implements the live outputs is one that the enumeration looks for.
 use Rattle.std.proofs.Common.{◌≡◌, ℕ, ◌+◌, ◌-◌, ◌^◌, ◌≤◌, ◌<◌, true, false, not, List, [], length, map, Option, None, Some, refl, sym, ap, ◌∙◌, subst, arith, inl, inr}
 use Rattle.std.specs.Prelude.{slice_index, slice_index_or}
 use Rattle.std.proofs.lemmas.Bool.{cases_lt}
@@ -65,7 +65,7 @@ live_are w = record {
 out_at : Chain → ℕ → Out
 out_at c h = slice_index_or c.outs (h - 1) kinds.Zero
 
--- the outs of the live outputs
+-- the chain with the outs of the live outputs alone
 pub live_chain : (w : Words) (basis : Basis) (q : ℕ) → HasChain (specification w) basis q → HasChain (specification (live_words w)) basis q
 unfolding out_at
 live_chain w basis q has =
@@ -173,6 +173,6 @@ none_by w basis size q spec live before none low has = elim (cases_lt q size) [
 pub none_more : (w : Words) (basis : Basis) (size : ℕ) → IsSpec w → AreLive w → NoneBelow (specification w) basis size → NoneFrom w basis [] size → NoneBelow (specification w) basis (size + 1)
 none_more w basis size spec live before none q low has = none_by w basis size q spec live before none low has
 
--- and of all tables, where there is none of the live ones
+-- no chain of fewer steps for the live outputs, so none for all outputs
 pub none_live : (w : Words) (basis : Basis) (size : ℕ) → NoneBelow (specification (live_words w)) basis size → NoneBelow (specification w) basis size
 none_live w basis size none q low has = none q low (live_chain w basis q has)

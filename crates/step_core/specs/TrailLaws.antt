@@ -1,4 +1,4 @@
--- Words of a trail: with a step more, and with one less.
+-- The words of a stack after a push and after a pop.
 use Rattle.std.proofs.Common.{◌≡◌, ℕ, suc, ◌+◌, ◌-◌, ◌≤◌, ◌<◌, List, [], ◌∷◌, ◌++◌, length, sym, ap, ◌∙◌, subst, arith, inl, inr}
 use Rattle.std.specs.Prelude.{slice_index, slice_index_or, Some, take, drop}
 use Rattle.std.proofs.lemmas.Grind.{common_steps}
@@ -42,7 +42,7 @@ pub word_input : (n : ℕ) (steps : List Step) (p : ℕ) → p ≤ n → word_in
 unfolding word_in
 word_input n steps p low = run_below step_word (λ q. input_word (n - q)) (n + 1) steps p (omega arith)
 
--- ---- trails
+-- ---- stacks
 
 abbrev pub trail_of : ℕ → List held.Step → Trailed
 trail_of n steps = record { n = n; steps = steps_of steps }
@@ -108,7 +108,7 @@ push_whole n word steps more step words longer is grown lengthened room at made 
     (subst (λ (ss : List Step). HasWords (record { n = n; steps = ss }) (words ++ word ∷ [])) (sym (pushed_steps steps more step grown))
     (pushed_words n word (steps_of steps) (step_of step) words is room at made))
 
--- by the trail that is seen
+-- the same in terms of the model of the stack
 pub push_seen : (n word : ℕ) (steps more : List held.Step) (step : held.Step) (words longer : List ℕ) (now : Trailed) → trail_of n steps ≡ now → HasWords (trail_of n steps) words → more ≡ steps ++ step ∷ [] → longer ≡ words ++ word ∷ [] → length now.steps < 6 → IsStepAt (now.n + 1 + length now.steps) (step_of step) → word ≡ on_words step.op (word_in now.n now.steps step.j) (word_in now.n now.steps step.k) → HasWords (trail_of n more) longer
 push_seen n word steps more step words longer now seen is grown lengthened room at made =
     push_whole n word steps more step words longer is grown lengthened

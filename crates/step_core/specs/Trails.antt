@@ -1,4 +1,4 @@
--- The steps that a walk has placed, as its words show them.
+-- The stack of the steps that the enumeration has placed.
 use Rattle.std.specs.Prelude.{◌≡◌, ℕ, ◌+◌, ◌-◌, ◌≤◌, List, length, slice_index}
 use Rattle.chain_theory.specs.Chain.{Step, AreSteps}
 use Rattle.step_core.specs.Steps.{word_in}
@@ -8,12 +8,13 @@ pub record Trailed : Type 0 where
   pub n : ℕ
   pub steps : List Step
 
--- at most six inputs and six steps, and a word for each place
+-- at most six inputs and six steps
 pub record IsTrail (t : Trailed) : Type 0 where
   pub inputs : t.n ≤ 6
   pub few : length t.steps ≤ 6
   pub are : AreSteps t.n t.steps
 
+-- with the truth table of each place: the inputs' first, then the steps'
 pub record HasWords (t : Trailed) (words : List ℕ) : Type 0 where
   pub trail : IsTrail t
   pub count : length words ≡ t.n + length t.steps

@@ -1,4 +1,4 @@
--- That each place which waits is read by a later step, so that few steps can't be all that are left where many wait.
+-- Each place that waits is read by a later step; so many waiting places need many further steps.
 use Rattle.std.proofs.Common.{◌≡◌, ℕ, zero, suc, ◌+◌, ◌-◌, ◌*◌, ◌≤◌, ◌<◌, ◌⊎◌, true, false, Bool, cond, ◌&&◌, ◌||◌, not, ◌==◌, List, [], ◌∷◌, ◌++◌, length, refl, sym, ap, ◌∙◌, arith, inl, inr}
 use Rattle.std.specs.Prelude.{slice_get, Some, nat_lt}
 use Rattle.std.proofs.lemmas.Bool.{cases_Bool, cases_eq, cases_lt, and_parts, or_cases, or_left, or_right, not-true, not-false, both_ways, cond-true, cond-false, lt-ltb, le-ltb, eq-eqb, eqb-true}
@@ -34,7 +34,7 @@ is_at p i = i + 1 == p
 unfoldable has_read : Step → ℕ → Bool
 has_read s i = is_at s.j i || is_at s.k i
 
--- some step of a list does
+-- some step of a list reads the place i + 1
 unfoldable is_later : List Step → ℕ → Bool
 is_later [] i = false
 is_later (s ∷ ss) i = has_read s i || is_later ss i
@@ -60,7 +60,7 @@ later_has (x ∷ rest) i p zero s e at reads =
     or_left (has_read x i) (is_later rest i) (ap (λ (y : Step). has_read y i) (sym same) ∙ reads_has s i p e reads)
 later_has (x ∷ rest) i p (suc k) s e at reads = or_right (has_read x i) (is_later rest i) (later_has rest i p k s e at reads)
 
--- a step of two lists is one of either
+-- a step of two lists one after the other is in one of them
 either_get : (front rest : List Step) (i : ℕ) (s : Step) → slice_get (front ++ rest) i ≡ Some s → ((i < length front) × (slice_get front i ≡ Some s)) ⊎ ((k : ℕ) × (slice_get rest k ≡ Some s))
 either_get [] rest i s at = inr (i, at)
 either_get (x ∷ front) rest zero s at = inl (omega arith, at)
@@ -79,7 +79,7 @@ read_by steps p i s low at reads =
     one (inl first) = or_left (s.j == p) (s.k == p) (eq-eqb s.j p first)
     one (inr second) = or_right (s.j == p) (s.k == p) (eq-eqb s.k p second)
 
--- what no step so far reads a later one reads
+-- a place that is read, but by no step so far, is read by a later step
 read_later : (front rest : List Step) (i p k : ℕ) (s : Step) → p ≡ i + 1 → is_read front p ≡ false → slice_get (front ++ rest) k ≡ Some s → Reads s p → is_later rest i ≡ true
 read_later front rest i p k s e unread at reads = elim (either_get front rest k s at) [
   | inl here ↦ absurd (both_ways (is_read front p) unread (read_by front p k s here.0 here.1 reads))
@@ -112,7 +112,7 @@ met_place w basis steps i serving low =
     let found = some_passes (meets_at w steps i) (length steps) (not-false (is_met w steps i) missing) in
     (found.0, found.1, not-true (misses w (word_in w.n steps (w.n + 1 + found.0)) i) found.2)
 
--- an input that an output uses is read
+-- an input in the support of an output is read
 input_read : (w : Words) (basis : Basis) (steps : List Step) (j i : ℕ) → IsSpec w → IsServing w basis steps → j ≤ w.n → i < length w.on → IsUsed (specification w) j (i + 1) → ((k : ℕ) (s : Step) → slice_get steps k ≡ Some s → Reads s j → ⊥) → ⊥
 input_read w basis steps j i spec serving low inside used unread =
     let met = met_place w basis steps i serving inside in
@@ -180,7 +180,7 @@ waits_later w basis front rest i spec target low e =
 
 -- ---- counts
 
--- two different numbers don't have one place
+-- different numbers are different places
 at_once : (p i j : ℕ) → i < j → is_at p i ≡ true → is_at p j ≡ true → ⊥
 at_once p i j less first second = omega (arith, less, is_at_is p i first, is_at_is p j second)
 
@@ -204,7 +204,7 @@ later_few (s ∷ rest) k = omega (
   later_few rest k,
 )
 
--- of the places that wait, the given one
+-- the place waits, and is the given one
 unfoldable is_own : Words → List Step → ℕ → ℕ → Bool
 is_own w front p i = waits w front i && is_at p i
 
@@ -237,7 +237,7 @@ of_few w front low high k = omega (
   own_few w front high k,
 )
 
--- ---- the cuts
+-- ---- the pruning rules
 
 pub too_many : (w : Words) (basis : Basis) (front : List Step) (left : ℕ) → IsSpec w → 2 * left < waiting w front → NoneFrom w basis front left
 too_many w basis front left spec many = record {

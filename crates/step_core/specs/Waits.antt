@@ -1,5 +1,5 @@
--- Places that the steps left have to read: each step of a reduced chain is an out or is read, and so is each input that an
--- output uses.
+-- Places that wait to be read. In a chain in normal form each step is an out or is read, and each input in the
+-- support of an output is read.
 use Rattle.std.specs.Prelude.{ℕ, ◌+◌, Bool, ◌==◌, ◌&&◌, ◌||◌, not, List, length, nat_lt, if◌then◌else◌}
 use Rattle.chain_theory.specs.Chain.{Step}
 use Rattle.chain_laws.specs.Follow.{step_at}
@@ -12,27 +12,27 @@ use Rattle.step_core.specs.Cuts.{meets_some}
 unfoldable pub reads_at : List Step → ℕ → ℕ → Bool
 reads_at steps p i = (step_at steps i).j == p || (step_at steps i).k == p
 
--- some step reads it
+-- some step reads the place
 unfoldable pub is_read : List Step → ℕ → Bool
 is_read steps p = some_below (reads_at steps p) (length steps)
 
--- output i + 1 uses the input of the place
+-- the input p is in the support of output i + 1
 unfoldable pub asks_for : Words → ℕ → ℕ → Bool
 asks_for w p i = uses (specification w) (i + 1) p
 
--- some output uses it
+-- the input p is in the support of some output
 unfoldable pub is_asked : Words → ℕ → Bool
 is_asked w p = some_below (asks_for w p) (length w.on)
 
--- The place is an input's that some output uses, or a step's that has the values of no output.
+-- The place has to be read: it is an input in the support of some output, or a step with the values of no output.
 unfoldable pub is_needed : Words → List Step → ℕ → Bool
 is_needed w steps p = if nat_lt w.n p then not (meets_some w (word_in w.n steps p)) else is_asked w p
 
--- so is the place i + 1, and no step reads it yet
+-- the place i + 1 waits: it has to be read, and no step reads it yet
 unfoldable pub waits : Words → List Step → ℕ → Bool
 waits w steps i = not (is_read steps (i + 1)) && is_needed w steps (i + 1)
 
--- how many places wait to be read
--- Example: of the table 0110 both inputs wait before the first step, and none after it.
+-- how many places wait
+-- Example: for the table 0110 both inputs wait before the first step, and none does after it.
 abbrev pub waiting : Words → List Step → ℕ
 waiting w steps = count_below (waits w steps) (w.n + length steps)

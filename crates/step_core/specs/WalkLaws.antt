@@ -1,4 +1,4 @@
--- What a walk has left out, and what it finds.
+-- How the outcome of the enumeration follows from those of its branches.
 use Rattle.std.proofs.Common.{◌≡◌, ℕ, ◌+◌, ◌≤◌, ◌<◌, true, false, Bool, List, [], ◌∷◌, ◌++◌, length, refl, sym, ap, ◌∙◌, subst, arith, inl, inr, All}
 use Rattle.std.specs.Prelude.{min, slice_get, slice_index_or, Some}
 use Rattle.std.proofs.lemmas.Grind.{common_steps}
@@ -38,7 +38,7 @@ member_among front rest s basis over = ap (λ (x : Step). basis x.op) (sym (inde
 
 -- ---- outcomes
 
--- steps that serve, where a walk that began at the same trail has found them
+-- found: a branch from the same stack found a solution
 pub found_on : (w : Words) (basis : Basis) (whole : Bool) (left : ℕ) (old mid new : Trailed) (None More : Type 0) (found : Bool) → mid ≡ old → IsWalked w basis whole left mid new None found → found ≡ true → IsWalked w basis whole left old new More true
 found_on w basis whole left old mid new None More found same is yes_ = record {
   inputs = is.inputs ∙ ap (λ (t : Trailed). t.n) same;
@@ -48,7 +48,7 @@ found_on w basis whole left old mid new None More found same is yes_ = record {
   none = λ e sure. absurd cc;
 }
 
--- nothing was found
+-- not found: the stack is unchanged, and the claim holds
 pub none_there : (w : Words) (basis : Basis) (whole : Bool) (left : ℕ) (old new : Trailed) (None : Type 0) → new ≡ old → (whole ≡ true → None) → IsWalked w basis whole left old new None false
 none_there w basis whole left old new None same none = record {
   inputs = ap (λ (t : Trailed). t.n) same;
@@ -78,7 +78,7 @@ whole_walk w basis whole left t new found trail walking none same serve fails = 
 step_among : (front rest : List Step) (s : Step) (n : ℕ) → AreSteps n (front ++ s ∷ rest) → IsStepAt (n + 1 + length front) s
 step_among front rest s n are = are.each (length front) s (get_middle front s rest)
 
--- by the larger operand
+-- a further step has some larger operand
 pub by_larger : (w : Words) (basis : Basis) (t : Trailed) (left : ℕ) → 1 ≤ left → t.n ≡ w.n → ((m : ℕ) → 1 ≤ m → m ≤ t.n + length t.steps → NoneWith w basis t.steps left (HasLarger m)) → NoneFrom w basis t.steps left
 by_larger w basis t left some inputs each = record {
   none = λ rest count target. next rest count target;
@@ -105,7 +105,7 @@ by_order w basis t left low high rising falling = record {
   ];
 }
 
--- by the operator
+-- and some operator, which is a member
 this_step : (s : Step) (j k op : ℕ) → s.j ≡ j → s.k ≡ k → s.op ≡ op → s ≡ record { j = j; k = k; op = op }
 this_step s j k op is_j is_k is_op = rw (sym is_j, sym is_k, sym is_op) refl
 
@@ -116,22 +116,23 @@ by_operator w basis t left j k each = record {
       (each s.op at.op_below (member_among t.steps rest s basis target.serving.over)).none s rest (this_step s j k s.op is.0 is.1 refl) count target;
 }
 
--- ---- walking on
+-- ---- from branch to branch
 
 pub walking_same : (w : Words) (basis : Basis) (old mid : Trailed) (left : ℕ) → mid ≡ old → IsWalking w basis old left → IsWalking w basis mid left
 walking_same w basis old mid left same is = subst (λ (t : Trailed). IsWalking w basis t left) (sym same) is
 
 -- ---- loops
 
--- none of the properties below a number is left
+-- no chain in normal form goes on with one of the properties 1 to k at its next step
 pub record AllUnder (w : Words) (basis : Basis) (front : List Step) (left : ℕ) (Has : ℕ → Step → Type 0) (k : ℕ) : Type 0 where
   pub each : (m : ℕ) → 1 ≤ m → m ≤ k → NoneWith w basis front left (Has m)
 
--- the operators below a number, on given operands
+-- nor with the operands j and k and a member below the bound
 pub record AllOperators (w : Words) (basis : Basis) (front : List Step) (left j k bound : ℕ) : Type 0 where
   pub each : (op : ℕ) → op < bound → basis op ≡ true → NoneWith w basis front left (IsThe (record { j = j; k = k; op = op }))
 
--- the trail is as it was at first, and something was left out, where the walk passes over nothing that serves
+-- The loop invariant: the stack is as it was at first, and if no solution was skipped (`whole`), `None` holds
+-- of the branches so far.
 pub record IsLeft (w : Words) (basis : Basis) (whole : Bool) (left : ℕ) (first now : Trailed) (None : Type 0) : Type 0 where
   pub walking : IsWalking w basis now left
   pub same : now ≡ first

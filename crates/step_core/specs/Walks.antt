@@ -1,4 +1,4 @@
--- What a walk over steps looks for, and what it has left out.
+-- What the enumeration looks for, and what it has ruled out.
 use Rattle.std.specs.Prelude.{◌≡◌, ℕ, suc, ◌+◌, ◌≤◌, Bool, true, false, List, ◌∷◌, ◌++◌, length, min}
 use Rattle.chain_theory.specs.Operator.{Basis}
 use Rattle.chain_theory.specs.Chain.{Step, Chain}
@@ -10,22 +10,22 @@ use Rattle.tt_core.specs.Words.{Words, specification}
 use Rattle.step_core.specs.Steps.{IsServing, AreOver}
 use Rattle.step_core.specs.Trails.{Trailed}
 
--- the chain of some steps for the outputs
+-- the chain with these steps and outs
 abbrev pub chain_on : Words → List Step → List Out → Chain
 chain_on w steps outs = record { n = w.n; steps = steps; outs = outs }
 
--- The steps that are looked for: those of a reduced chain that agrees.
+-- The steps that are looked for: those of a chain in normal form that implements the specification.
 pub record IsTarget (w : Words) (basis : Basis) (steps : List Step) : Type 0 where
   pub serving : IsServing w basis steps
   pub outs : List Out
   pub agrees : Agrees (chain_on w steps outs) (specification w)
   pub reduced : IsReduced basis (specification w) (chain_on w steps outs)
 
--- none begin with the steps of `front` and have `left` more
+-- no such chain begins with the steps of `front` and has `left` more
 pub record NoneFrom (w : Words) (basis : Basis) (front : List Step) (left : ℕ) : Type 0 where
   pub none : (rest : List Step) → length rest ≡ left → IsTarget w basis (front ++ rest) → ⊥
 
--- nor where the next step has the property `P`
+-- no such chain begins with the steps of `front`, has `left` more, and has the property `P` at the first of these
 pub record NoneWith (w : Words) (basis : Basis) (front : List Step) (left : ℕ) (P : Step → Type 0) : Type 0 where
   pub none : (s : Step) (rest : List Step) → P s → suc (length rest) ≡ left → IsTarget w basis (front ++ s ∷ rest) → ⊥
 
@@ -41,18 +41,18 @@ HasPair low high s = (min s.j s.k ≡ low) × (larger s ≡ high)
 abbrev pub HasOperands : ℕ → ℕ → Step → Type 0
 HasOperands j k s = (s.j ≡ j) × (s.k ≡ k)
 
--- it is the given step
+-- the step is the given one
 abbrev pub IsThe : Step → Step → Type 0
 IsThe this s = s ≡ this
 
--- a walk may place `left` more steps
+-- the stack has steps over the basis, and room for `left` more
 pub record IsWalking (w : Words) (basis : Basis) (t : Trailed) (left : ℕ) : Type 0 where
   pub inputs : t.n ≡ w.n
   pub room : length t.steps + left ≤ 6
   pub over : AreOver basis t.steps
 
--- A walk has found steps that serve, or put the trail back as it was; then `None` holds of it, where the walk passes over
--- nothing that serves.
+-- The outcome of an enumeration from the stack `old`. Found: the stack `new` is a solution with `left` more
+-- steps. Not found: the stack is unchanged, and if no solution was skipped (`whole`), `None` holds.
 pub record IsWalked (w : Words) (basis : Basis) (whole : Bool) (left : ℕ) (old new : Trailed) (None : Type 0) (found : Bool) : Type 0 where
   pub inputs : new.n ≡ old.n
   pub serving : found ≡ true → IsServing w basis new.steps

@@ -1,4 +1,4 @@
--- The rows of words: those of places, and what it is to meet an output.
+-- Words row by row: the values of places, and the values that an output specifies.
 use Rattle.std.proofs.Common.{◌≡◌, ◌∙◌, ℕ, zero, suc, ◌+◌, ◌-◌, ◌^◌, ◌≤◌, ◌<◌, Bool, true, false, ◌&&◌, not, List, length, refl, ap, ap₂, sym, arith, inl, inr}
 use Rattle.std.specs.Prelude.{bit_and, bit_xor, ◌==◌, slice_index, if◌then◌else◌}
 use Rattle.std.specs.Int.{bit_at}
@@ -57,7 +57,7 @@ pub zero_is : (x : ℕ) → not (x == 0) ≡ false → x ≡ 0
 zero_is zero e = refl
 zero_is (suc x) e = grind (arith, common_steps, nat_tests)
 
--- a word that isn't missed has each specified value
+-- a word that doesn't miss an output has each of its specified values
 pub not_missed : (w : Words) (word i t : ℕ) → misses w word i ≡ false → is_met (cell_of w (i + 1) t) (digit word t) ≡ true
 unfolding misses
 not_missed w word i t e =
@@ -67,7 +67,7 @@ not_missed w word i t e =
     let none : bit_and (bit_xor word on) care ≡ 0 = zero_is (bit_and (bit_xor word on) care) e in
     rw same (met_bit (digit care t) (digit on t) (digit word t) (sym (missed_digit word on care t) ∙ ap (λ (x : ℕ). digit x t) none ∙ ap (λ (x : ℕ). x == 1) (bit_at-zero t)))
 
--- and one that has them isn't missed
+-- and a word that has them doesn't miss it
 pub never_missed : (w : Words) (word i : ℕ) → IsSpec w → ((t : ℕ) → t < 2 ^ w.n → is_met (cell_of w (i + 1) t) (digit word t) ≡ true) → misses w word i ≡ false
 unfolding misses
 never_missed w word i spec met =

@@ -1,5 +1,8 @@
-//! What a walk may leave out. Outputs that differ need steps of their own; a step that is 1 on row 0 and has the values of no
-//! output is its complement's, where the basis has complements; pairs of operands come in their order.
+//! The pruning rules of the enumeration, except that of unread places (`waits`). Outputs that differ need
+//! different steps; a step that is 1 on row 0 and isn't an output is replaced by its complement, if the basis
+//! is closed under complements; pairs of operands come in co-lexicographic order.
+//!
+//! Each rule is a test with a contract: if it fails, no chain in normal form goes on like this (`NoneWith`).
 ghost use Rattle.std.specs.Prelude.{◌≡◌, ℕ, ◌+◌, ◌<◌, true, false, List, length};
 ghost use Rattle.chain_theory.specs.Operator.{digit, Basis as Operators};
 ghost use Rattle.chain_theory.specs.Chain.{Step as StepOf, IsStepAt};
@@ -17,20 +20,20 @@ use chain_core::Step;
 use op_basis::{Op, on_words};
 use tt_core::Spec;
 
-/// Whether no row asks for different values of two outputs.
+/// Whether two outputs are compatible: no row specifies different values for them. Outputs are counted from 0.
 #[tactic(auto, unfolding(crate::specs::Cuts::are_alike))]
 fn are_alike(spec: &Spec, output: u32, before: u32) -> bool
     requires output { output < length spec.now.on }
     requires before { before < length spec.now.on }
     ensures { result ≡ are_alike_of spec.now output before }
 {
-    // brings the specification's invariant into the proof
+    // for the prover: brings in the invariant of the specification
     let _inputs = spec.n();
     let rows = spec.on()[output as usize] ^ spec.on()[before as usize];
     rows & spec.care()[output as usize] & spec.care()[before as usize] == 0
 }
 
-/// Whether an output differs from each output before it.
+/// Whether an output is compatible with no output before it.
 #[tactic(auto, using(crate::specs::SearchLaws::passing), unfolding(crate::specs::Cuts::is_apart))]
 fn is_apart(spec: &Spec, output: u32) -> bool
     requires { output < length spec.now.on }
@@ -44,7 +47,8 @@ fn is_apart(spec: &Spec, output: u32) -> bool
     true
 }
 
-/// Whether an output needs a further step of its own.
+/// Whether an output needs a further step of its own: it is compatible with no output before it, and no step
+/// has its values.
 #[tactic(auto, unfolding(crate::specs::Cuts::is_due, crate::specs::Steps::is_missing))]
 fn is_due(spec: &Spec, trail: &Trail, output: u32) -> bool
     requires inputs { trail.now.n ≡ spec.now.n }
@@ -67,7 +71,7 @@ pub(crate) fn due(spec: &Spec, trail: &Trail) -> u32
     count
 }
 
-/// Whether a word has the values of an output.
+/// Whether a word has all specified values of an output.
 #[tactic(auto, unfolding(crate::specs::Cuts::meets))]
 fn meets(spec: &Spec, word: u64, output: u32) -> bool
     requires { output < length spec.now.on }
@@ -76,7 +80,7 @@ fn meets(spec: &Spec, word: u64, output: u32) -> bool
     !misses(spec, word, output)
 }
 
-/// Whether a word has the values of some output.
+/// Whether a word has all specified values of some output.
 #[tactic(auto, using(crate::specs::SearchLaws::passing), unfolding(crate::specs::Cuts::meets_some))]
 pub(crate) fn meets_some(spec: &Spec, word: u64) -> bool
     ensures { result ≡ meets_some_of spec.now word }
@@ -89,7 +93,7 @@ pub(crate) fn meets_some(spec: &Spec, word: u64) -> bool
     false
 }
 
-/// Whether a word has the values of an output that no step has yet.
+/// Whether a word has the values of this output, and no step has them yet.
 #[tactic(auto, unfolding(crate::specs::Cuts::gives, crate::specs::Steps::is_missing))]
 fn gives(spec: &Spec, trail: &Trail, word: u64, output: u32) -> bool
     requires inputs { trail.now.n ≡ spec.now.n }
@@ -99,7 +103,7 @@ fn gives(spec: &Spec, trail: &Trail, word: u64, output: u32) -> bool
     meets(spec, word, output) && !is_met(spec, trail, output)
 }
 
-/// Whether a word has the values of some output that no step has yet.
+/// Whether a word has the values of an output that no step has yet.
 #[tactic(auto, using(crate::specs::SearchLaws::passing), unfolding(crate::specs::Cuts::gives_some))]
 pub(crate) fn gives_some(spec: &Spec, trail: &Trail, word: u64) -> bool
     requires { trail.now.n ≡ spec.now.n }
@@ -120,8 +124,10 @@ fn starts_with_one(word: u64) -> bool
     (word >> 0u32) & 1 == 1
 }
 
-/// Whether a step may come next, where as many steps are left as are given. If all of them are due, it gives an output its
-/// values; and it is 0 on row 0 or has the values of an output, where the basis has complements.
+/// Whether the step with these operands and this operator may come next. `left` is the number of steps that are
+/// left, this one included, and `due` that of the outputs that still need one. If all of them are due, the step
+/// has to have the values of a missing output. It has to be 0 on row 0 or an output, if the basis is closed
+/// under complements.
 #[tactic(auto, using(crate::specs::ReducedLaws::coming))]
 pub(crate) fn may_come(
     spec: &Spec,
@@ -138,7 +144,7 @@ pub(crate) fn may_come(
     requires at { IsStepAt (trail.now.n + 1 + length trail.now.steps) (record { j = j; k = k; op = op }) }
     ensures { result ≡ false → NoneWith spec.now (members rules.now.basis) trail.now.steps left (IsThe (record { j = j; k = k; op = op })) }
 {
-    // brings the specification's invariant into the proof
+    // for the prover: brings in the invariant of the specification
     let _inputs = spec.n();
     let word = on_words(op, trail.word(j), trail.word(k));
     if rules.normal() && starts_with_one(word) && !meets_some(spec, word) {
@@ -147,7 +153,7 @@ pub(crate) fn may_come(
     due < left || gives_some(spec, trail, word)
 }
 
-/// Whether the pair of operands `low` and `high` comes before that of a step.
+/// Whether the pair of operands `low` and `high` comes before that of the step `last` in co-lexicographic order.
 #[tactic(auto, using(crate::specs::ReducedLaws::coming))]
 fn comes_before(low: u32, high: u32, last: Step) -> bool
     ensures { result ≡ true → (s : StepOf) → HasPair low high s → ComesBefore s (step_of last) }
@@ -174,7 +180,7 @@ pub(crate) fn may_follow(trail: &Trail, low: u32, high: u32) -> bool
     !comes_before(low, high, trail.step(count - 1))
 }
 
-/// Whether an operator is one of its operands, or the complement of one.
+/// Whether an operator is one of its operands or its complement: the words 0011, 0101, 1100 and 1010.
 #[tactic(auto, unfolding(crate::specs::Cuts::follows_one))]
 fn follows_one(op: Op) -> bool
     ensures { result ≡ follows_one_of op }
@@ -183,7 +189,7 @@ fn follows_one(op: Op) -> bool
     word == 3 || word == 5 || word == 12 || word == 10
 }
 
-/// Whether an operator is a constant.
+/// Whether an operator is a constant: the words 0000 and 1111.
 #[tactic(auto, unfolding(crate::specs::Cuts::is_constant))]
 fn is_constant(op: Op) -> bool
     ensures { result ≡ is_constant_of op }
@@ -192,8 +198,9 @@ fn is_constant(op: Op) -> bool
     word == 0 || word == 15
 }
 
-/// Whether an operator may stand on two operands: on two different ones it needs both, and one twice is negated, as far as
-/// constants can be left out.
+/// Whether an operator is nontrivial on these operands. On different operands it depends on both; on equal
+/// operands it is a negation. Constants, and copies of equal operands, are ruled out only if the basis lets
+/// constants be left out.
 #[tactic(auto, using(crate::specs::ReducedLaws::coming))]
 pub(crate) fn is_plain(rules: &Rules, j: u32, k: u32, op: Op) -> bool
     ensures { result ≡ false → (w : Words) (front : List StepOf) (left : ℕ) → NoneWith w (members rules.now.basis) front left (IsThe (record { j = j; k = k; op = op })) }

@@ -1,26 +1,29 @@
-//! Whether a specification has a chain of few steps, by going over all chains that a least one may be taken from. Nothing is
-//! searched by a solver, and nothing stays open.
+//! Whether a specification has a chain of few steps, by enumeration of the chains in normal form. No solver is
+//! called, and the answer is never open.
 //!
-//! It stands on `tt_core` for the outputs that are a constant or an input at no cost and for those that are live, on
-//! `chain_core` for chains, and on `chain_laws` for the normal form of a least chain. Sizes are tried in turn, from 0 steps
-//! on. So where a size is tried, no chain of fewer steps agrees, and some chain of that size is reduced, if any agrees. The
-//! walk places a step after another (`trail`: each with the word of its values on all rows), and leaves out what no reduced
-//! chain has (`cuts`):
+//! The crate uses `tt_core` for the live outputs (those that are neither a constant nor an input), `chain_core`
+//! for chains, and `chain_laws` for the normal form. Sizes are tried in increasing order from 0. When a size is
+//! tried, no smaller chain implements the specification; so if some chain of this size does, one in normal form
+//! does too, and it is enough to enumerate those. The enumeration is depth-first: it places one step after the
+//! other on a stack (`trail`), each with its truth table, and prunes what no chain in normal form has (`cuts`,
+//! `waits`):
 //!
-//! - Of the outputs that differ, no two are at one step. More of them than steps are left end the walk, and as many ask each
-//!   step to be one.
-//! - Each step that is no output, and each input that an output uses, has to be read, and a step reads two places: more that
-//!   wait than the steps left can read end the walk, and so for the pair of operands of the next step.
-//! - Pairs of operands come in their order, the first operand below the second, where the basis lets operands be exchanged.
-//! - An operator needs both operands, and one operand twice is negated.
-//! - A step that is no output is 0 on row 0, where the basis has complements.
+//! - Outputs that differ are values of different steps. The enumeration backtracks when fewer steps are left
+//!   than such outputs are missing; when as many are left, each further step has to be one of them.
+//! - Every step that isn't an output, and every input in the support of an output, has to be read, and a step
+//!   reads two places. The enumeration backtracks when the steps that are left can't read all places that still
+//!   wait. The same test rules out single pairs of operands.
+//! - Pairs of operands come in co-lexicographic order. The first operand is the smaller one, if the basis is
+//!   closed under exchanged operands.
+//! - An operator depends on both operands, and a step with equal operands is a negation.
+//! - A step that isn't an output is normal (0 on row 0), if the basis is closed under complements.
 //!
-//! The same walk, made to pass over a number of ways that serve before it ends at one, gives one chain after the other
-//! (`nth_chain`): for moves that put a chain of equal size in a window's place. Which one comes isn't promised, only that it
-//! agrees and has few steps.
+//! `nth_chain` uses the same enumeration but skips a given number of solutions, so that increasing numbers give
+//! different chains. Resynthesis uses it to replace a window by another chain of the same size. Which chain has
+//! which number isn't promised, only that the chain implements the specification and has few steps.
 //!
 //! ```text
-//! few_steps(alloc, &spec, basis, 4)? // Some(chain) of at most four steps, the fewest, or None: no chain over the basis has so few
+//! least_chain(alloc, &spec, basis, 4)? // Some(chain): a least chain, of at most four steps; None: there is none
 //! ```
 #![tactic(auto)]
 

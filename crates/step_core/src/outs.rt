@@ -1,4 +1,4 @@
-//! The outs of a chain: each output is its trivial out where it has one, and else a step that has its values.
+//! The outs of a chain: the trivial out of an output where it has one, else a step with its values.
 ghost use Rattle.std.specs.Prelude.{◌≡◌, ◌-◌, ◌≤◌, ◌<◌, true, false, length, IfSome, IfNone, IfOk};
 ghost use Rattle.tt_core.specs.Words.{specification};
 ghost use Rattle.tt_core.specs.Live.{is_live};
@@ -11,7 +11,8 @@ use chain_core::Out;
 use std::alloc::{AllocError, Global};
 use tt_core::{Spec, trivial};
 
-/// The place of a step that has the values of an output, counted from 0.
+/// The place of the first step that has the values of an output; None where no step has. Outputs are counted
+/// from 0.
 #[tactic(auto, using(crate::specs::OutLaws::sitting), unfolding(crate::specs::Steps::is_met))]
 fn step_for(spec: &Spec, trail: &Trail, output: u32) -> Option<u32>
     requires inputs { trail.now.n ≡ spec.now.n }
@@ -27,7 +28,7 @@ fn step_for(spec: &Spec, trail: &Trail, output: u32) -> Option<u32>
     None
 }
 
-/// The out of output `h`.
+/// The out of output `h`, numbered from 1.
 #[tactic(auto, using(crate::specs::OutLaws::sitting))]
 fn out_for(spec: &Spec, trail: &Trail, h: u32) -> Out
     requires inputs { trail.now.n ≡ spec.now.n }
@@ -35,7 +36,7 @@ fn out_for(spec: &Spec, trail: &Trail, h: u32) -> Out
     requires met { is_live (specification spec.now) h ≡ true → is_met_of spec.now trail.now.steps (h - 1) ≡ true }
     ensures { IsOutFor spec.now trail.now.steps h result }
 {
-    // bring the invariants into the proof
+    // for the prover: bring in the invariants
     let _inputs = spec.n();
     let _steps = trail.len();
     match trivial(spec, h) {
@@ -47,7 +48,7 @@ fn out_for(spec: &Spec, trail: &Trail, h: u32) -> Out
     }
 }
 
-/// The outs of all outputs.
+/// The outs of all outputs, in order. An error means that memory ran out.
 #[tactic(auto, using(crate::specs::OutLaws::sitting))]
 pub(crate) fn outs_for(alloc: Global, spec: &Spec, trail: &Trail) -> Result<Vec<Out>, AllocError>
     requires inputs { trail.now.n ≡ spec.now.n }

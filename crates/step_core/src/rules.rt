@@ -1,4 +1,4 @@
-//! The rules of a walk: a basis, with what it allows the walk to leave out, and whether the first steps that serve end it.
+//! The settings of the enumeration: the basis, which prunings it permits, and whether the first solution ends it.
 ghost use Rattle.std.specs.Prelude.{◌≡◌};
 ghost use Rattle.op_basis.specs.Basis.{members};
 ghost use Rattle.op_basis.specs.Closed.{swap_closed, polarity_closed, const_closed};
@@ -6,8 +6,8 @@ ghost use Rattle.op_basis.specs.Closed.{swap_closed, polarity_closed, const_clos
 use op_basis::{Basis, Op};
 use std::marker::Model;
 
-/// A basis with its tests, each made once, and whether a walk ends at the first steps that serve. Contracts see the basis and
-/// that.
+/// The basis with the results of its tests, each computed once, and `whole`: whether the first solution ends
+/// the enumeration. Contracts see the basis and `whole`.
 #[derive(Drop)]
 pub struct Rules {
     basis: Basis,
@@ -28,7 +28,7 @@ impl Model for Rules {
 }
 
 impl Rules {
-    /// The rules of a basis, for a walk that ends at the first steps that serve, or that may pass over some.
+    /// The rules for a basis. If `whole` is false, the enumeration may skip solutions.
     pub fn new(basis: Basis, whole: bool) -> Rules
         ensures { result ≡ record { basis = basis; whole = whole } }
     {
@@ -44,35 +44,37 @@ impl Rules {
         }
     }
 
-    /// Whether the walk ends at the first steps that serve, and passes over none.
+    /// Whether the first solution ends the enumeration, so that none is skipped.
     pub fn whole(&self) -> bool
         ensures { result ≡ self.now.whole }
     {
         self.whole
     }
 
-    /// Whether an operator is a member.
+    /// Whether an operator is a member of the basis.
     pub fn contains(&self, op: Op) -> bool
         ensures { result ≡ members self.now.basis op }
     {
         self.basis.contains(op)
     }
 
-    /// Whether each member's operator with its operands exchanged is a member.
+    /// Whether the first operand may be assumed to be the smaller one: the basis is closed under exchanged
+    /// operands.
     pub fn rises(&self) -> bool
         ensures { result ≡ swap_closed (members self.now.basis) }
     {
         self.rises
     }
 
-    /// Whether the basis has complements.
+    /// Whether steps may be assumed to be normal (0 on row 0): the basis is closed under complements.
     pub fn normal(&self) -> bool
         ensures { result ≡ polarity_closed (members self.now.basis) }
     {
         self.normal
     }
 
-    /// Whether constants can be left out.
+    /// Whether constant steps can be left out: some member negates equal operands, or no member becomes a
+    /// negation when one operand is a constant.
     pub fn constants(&self) -> bool
         ensures { result ≡ const_closed (members self.now.basis) }
     {

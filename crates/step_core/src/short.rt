@@ -1,5 +1,5 @@
-//! A chain of at most as many steps as are allowed, or that there is none: sizes in turn, each gone over whole. Or one after
-//! some that are passed over.
+//! The least chain within a bound on its size, or the answer that there is none: sizes in increasing order, each
+//! enumerated completely. And the chain after a number of others.
 ghost use Rattle.std.specs.Prelude.{◌≡◌, ◌≤◌, [], length, IfOk, IfSome, IfNone};
 ghost use Rattle.chain_theory.specs.Operator.{Basis as Operators};
 ghost use Rattle.op_basis.specs.Basis.{members};
@@ -19,20 +19,21 @@ use op_basis::Basis;
 use std::alloc::{AllocError, Global};
 use tt_core::{Spec, live_part};
 
-/// The chain of the steps that serve the live outputs.
+/// The chain of the steps on the stack, which have the values of all live outputs.
 fn chain_of(alloc: Global, spec: &Spec, trail: Trail) -> Result<Chain, AllocError>
     requires inputs { trail.n ≡ spec.now.n }
     requires met { AreMet spec.now trail.steps }
     ensures { IfOk result (λ chain. (basis : Operators) → AreOver basis trail.steps → IsFitting (specification spec.now) basis (length trail.steps) chain) }
 {
-    // bring the invariants into the proof
+    // for the prover: brings in the invariant of the specification
     let _inputs = spec.n();
     let n = trail.n();
     let outs = outs_for(alloc, spec, &trail)?;
     Ok(Chain::new(n, trail.into_steps(), outs))
 }
 
-/// As many steps as are asked for that serve all outputs.
+/// A solution of exactly `size` steps, or None where no chain of this size in normal form implements the
+/// specification.
 fn serving_steps(
     alloc: Global,
     spec: &Spec,
@@ -53,7 +54,7 @@ fn serving_steps(
     Ok(None)
 }
 
-/// The steps of the least size at which some serve the live outputs, as a chain.
+/// The chain of the first solution, sizes in increasing order up to `most`. `live` has the live outputs of `spec`.
 #[tactic(auto, using(crate::specs::ShortLaws::answering))]
 fn first_size(
     alloc: Global,
@@ -66,7 +67,7 @@ fn first_size(
     requires live { live.now ≡ live_words spec.now }
     ensures { IfOk result (λ found. IsAnswer (specification spec.now) (members basis) most found) }
 {
-    // bring the invariants of both specifications into the proof
+    // for the prover: bring in the invariants of both specifications
     let _inputs = spec.n();
     let _same_inputs = live.n();
     for size in 0..most + 1 {
@@ -77,9 +78,9 @@ fn first_size(
     Ok(None)
 }
 
-/// A chain of at most `most` steps over the basis that agrees with the specification, with the fewest steps, or None where
-/// there is none, of all chains over the basis of the definition: also with equal operands, with operands in any order, and
-/// with steps that nothing reads.
+/// A least chain over the basis that implements the specification, or None where it has more than `most` steps.
+/// None speaks of all chains over the basis, not only of those in normal form. An error means that memory ran
+/// out.
 pub fn few_steps(
     alloc: Global,
     spec: &Spec,
@@ -93,7 +94,7 @@ pub fn few_steps(
     first_size(alloc, spec, &live, basis, most)
 }
 
-/// The steps that serve the live outputs after `number` that are passed over, as a chain.
+/// The chain of the solution after `number` others, sizes in increasing order up to `most`.
 #[tactic(auto, using(crate::specs::ShortLaws::answering))]
 fn size_after(
     alloc: Global,
@@ -107,7 +108,7 @@ fn size_after(
     requires live { live.now ≡ live_words spec.now }
     ensures { IfOk result (λ found. IfSome found (λ chain. IsFitting (specification spec.now) (members basis) most chain)) }
 {
-    // bring the invariants of both specifications into the proof
+    // for the prover: bring in the invariants of both specifications
     let _inputs = spec.n();
     let _same_inputs = live.n();
     let rules = Rules::new(basis, false);
@@ -120,9 +121,10 @@ fn size_after(
     Ok(None)
 }
 
-/// A chain of at most `most` steps over the basis that agrees with the specification, after `number` others, in the order of
-/// the walk, or None where it comes to its end before. So rising numbers give different chains, for who puts one of equal
-/// size in another's place. Of those whose size isn't the least the walk leaves some out, and so None says nothing.
+/// The chain number `number`, from 0, in the order of the enumeration, of at most `most` steps over the basis;
+/// it implements the specification. None where the enumeration ends before. Rising numbers give different
+/// solutions, for a caller that replaces a chain by another one of equal size. Pruning drops some chains above
+/// the least size, so None proves nothing. An error means that memory ran out.
 pub fn nth_chain(
     alloc: Global,
     spec: &Spec,

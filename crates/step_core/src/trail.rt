@@ -1,5 +1,5 @@
-//! The steps that a walk has placed, each with the word of its values: an operator's word is made once, from the words of
-//! its operands, and taken off with the step.
+//! The stack of the steps that the enumeration has placed, each with its truth table. A step's table is
+//! computed once, from those of its operands, when the step is pushed, and is popped with it.
 ghost use Rattle.std.specs.Prelude.{◌≡◌, ◌+◌, ◌-◌, ◌++◌, ◌∷◌, ◌<◌, ◌≤◌, [], length, take, IfOk, OnOk};
 ghost use Rattle.chain_theory.specs.Chain.{IsStepAt};
 ghost use Rattle.chain_laws.specs.Follow.{step_at};
@@ -12,8 +12,8 @@ use op_basis::{input_word, on_words};
 use std::alloc::{AllocError, Global};
 use std::marker::Model;
 
-/// At most six steps over at most six inputs, and how many steps that serve are still to be passed over. Contracts see the
-/// number of inputs and the steps.
+/// A stack of at most six steps over at most six inputs, with the truth table of each place, and the number of
+/// solutions that are still to be skipped. Contracts see the number of inputs and the steps.
 #[derive(Drop)]
 pub struct Trail {
     n: u32,
@@ -35,7 +35,7 @@ impl Model for Trail {
 
 #[tactic(auto, using(crate::specs::TrailLaws::trailing))]
 impl Trail {
-    /// The trail without steps over `n` inputs, of which `passed` that serve are to be passed over.
+    /// The empty stack over `n` inputs; `passed` solutions are to be skipped.
     pub fn new(alloc: Global, n: u32, passed: u32) -> Result<Trail, AllocError>
         requires { n ≤ 6 }
         ensures inputs { IfOk result (λ trail. trail.n ≡ n) }
@@ -79,7 +79,7 @@ impl Trail {
         self.steps[index as usize]
     }
 
-    /// The word of a place.
+    /// The truth table of a place: row t is the bit of 2^t. Places are numbered from 1.
     pub fn word(&self, place: u32) -> u64
         requires from { 1 ≤ place }
         requires to { place ≤ self.now.n + length self.now.steps }
@@ -89,7 +89,7 @@ impl Trail {
         self.words[place as usize - 1]
     }
 
-    /// Adds a step at the next place.
+    /// Pushes a step, at the next place. An error means that memory ran out.
     pub fn push(&mut self, step: Step) -> Result<(), AllocError>
         requires room { length self.old.steps < 6 }
         requires at { IsStepAt (self.old.n + 1 + length self.old.steps) (step_of step) }
@@ -105,7 +105,7 @@ impl Trail {
         Ok(())
     }
 
-    /// Whether no more steps that serve are to be passed over. Else there is one less to come.
+    /// Whether the enumeration stops at this solution. Else one solution less is to be skipped.
     pub fn is_reached(&mut self) -> bool
         ensures { self.new ≡ self.old }
     {
@@ -116,7 +116,7 @@ impl Trail {
         false
     }
 
-    /// Takes the last step off.
+    /// Pops the last step.
     pub fn pop(&mut self)
         requires { 0 < length self.old.steps }
         ensures inputs { self.new.n ≡ self.old.n }

@@ -1,6 +1,7 @@
-//! Places that wait to be read. Each step of a reduced chain is an out or is read, and so is each input that an output uses. A
-//! step reads two places, so more than two for each step that is left end the walk; and a pair of operands that leaves more
-//! than two for each step after it isn't tried.
+//! Places that wait to be read. In a chain in normal form each step is an out or is read, and each input in the
+//! support of an output is read. A step reads two places. So the enumeration backtracks when more than two
+//! places wait for each step that is left, and skips a pair of operands that leaves more than two for each step
+//! after it.
 ghost use Rattle.std.specs.Prelude.{◌≡◌, ◌+◌, ◌<◌, ◌≤◌, false, length};
 ghost use Rattle.chain_theory.specs.Operator.{Basis as Operators};
 ghost use Rattle.step_core.specs.Walks.{NoneWith, HasPair};
@@ -34,7 +35,7 @@ fn is_read(trail: &Trail, place: u32) -> bool
     false
 }
 
-/// Whether an output uses the input of a place.
+/// Whether an input is in the support of an output. The input is given by its place, the output is counted from 0.
 #[tactic(auto, unfolding(crate::specs::Waits::asks_for))]
 fn asks_for(spec: &Spec, place: u32, output: u32) -> bool
     requires output { output < length spec.now.on }
@@ -42,12 +43,12 @@ fn asks_for(spec: &Spec, place: u32, output: u32) -> bool
     requires place { place ≤ spec.now.n }
     ensures { result ≡ asks_for_of spec.now place output }
 {
-    // brings the specification's invariant into the proof
+    // for the prover: brings in the invariant of the specification
     let _inputs = spec.n();
     uses(spec, output + 1, place)
 }
 
-/// Whether some output uses the input of a place.
+/// Whether an input is in the support of some output.
 #[tactic(auto, using(crate::specs::SearchLaws::passing), unfolding(crate::specs::Waits::is_asked))]
 fn is_asked(spec: &Spec, place: u32) -> bool
     requires place_from { 1 ≤ place }
@@ -62,7 +63,8 @@ fn is_asked(spec: &Spec, place: u32) -> bool
     false
 }
 
-/// Whether a place has to be read: an input that some output uses, or a step that has the values of no output.
+/// Whether a place has to be read: an input in the support of some output, or a step that has the values of no
+/// output.
 #[tactic(auto, using(crate::specs::WaitLaws::waiting_for))]
 fn is_needed(spec: &Spec, trail: &Trail, place: u32) -> bool
     requires inputs { trail.now.n ≡ spec.now.n }
@@ -76,14 +78,14 @@ fn is_needed(spec: &Spec, trail: &Trail, place: u32) -> bool
     !meets_some(spec, trail.word(place))
 }
 
-/// Whether the place `before` + 1 has to be read and no step reads it yet.
+/// Whether the place `before` + 1 waits: it has to be read, and no step reads it yet.
 #[tactic(auto, unfolding(crate::specs::Waits::waits))]
 fn waits(spec: &Spec, trail: &Trail, before: u32) -> bool
     requires inputs { trail.now.n ≡ spec.now.n }
     requires place { before < trail.now.n + length trail.now.steps }
     ensures { result ≡ waits_of spec.now trail.now.steps before }
 {
-    // bring the invariants into the proof
+    // for the prover: bring in the invariants
     let _inputs = spec.n();
     let _steps = trail.len();
     !is_read(trail, before + 1) && is_needed(spec, trail, before + 1)
@@ -102,7 +104,9 @@ pub(crate) fn waiting(spec: &Spec, trail: &Trail) -> u32
     count
 }
 
-/// Whether a step with the operands `low` and `high` leaves no more places waiting than the steps after it can read.
+/// Whether a step with the operands `low` and `high` leaves at most as many places waiting as the steps after
+/// it can read. `left` counts the steps that are left, this one included; `waiting` counts the places that wait
+/// before it.
 #[tactic(auto, using(crate::specs::WaitLaws::leaving))]
 pub(crate) fn leaves_few(
     spec: &Spec,
@@ -121,7 +125,7 @@ pub(crate) fn leaves_few(
     requires high { high ≤ trail.now.n + length trail.now.steps }
     ensures { result ≡ false → (basis : Operators) → NoneWith spec.now basis trail.now.steps left (HasPair low high) }
 {
-    // brings the specification's invariant into the proof
+    // for the prover: brings in the invariant of the specification
     let _inputs = spec.n();
     let room = 2 * (left - 1);
     if waiting <= room {

@@ -1,5 +1,7 @@
-//! The walk: each step that may come next is placed, and from there the walk goes on, until as many steps as are asked for
-//! are placed. It ends at the first steps that serve, or after as many others that serve as the trail is to pass over.
+//! The depth-first enumeration. Each step that passes the pruning rules is pushed, the rest is enumerated from
+//! there, and the step is popped. The enumeration ends at the first solution, or after the number of solutions
+//! that the stack is to skip. The order of choices is: larger operand, smaller operand, order of the two,
+//! operator.
 ghost use Rattle.std.specs.Prelude.{◌≡◌, ◌+◌, ◌≤◌, true, false, length, IfOk};
 ghost use Rattle.op_basis.specs.Basis.{members};
 ghost use Rattle.chain_theory.specs.Chain.{IsStepAt};
@@ -19,7 +21,7 @@ use op_basis::Op;
 use std::alloc::AllocError;
 use tt_core::Spec;
 
-/// Whether the walk ends with the steps that are placed: they serve, and aren't among those that it passes over.
+/// Whether the enumeration ends here: the placed steps are a solution that isn't to be skipped.
 fn ends(spec: &Spec, rules: &Rules, trail: &mut Trail) -> bool
     requires { trail.old.n ≡ spec.now.n }
     ensures serve { result ≡ true → all_met_of spec.now trail.old.steps ≡ true }
@@ -35,7 +37,8 @@ fn ends(spec: &Spec, rules: &Rules, trail: &mut Trail) -> bool
     trail.is_reached()
 }
 
-/// Goes over all ways to place `left` more steps. Where one serves, the trail has it.
+/// Enumerates all ways to place `left` more steps. True: the stack holds a solution. False: it is as it was
+/// before.
 #[cycle(walking)]
 #[tactic(auto, using(crate::specs::WalkLaws::walking))]
 pub(crate) fn walk(
@@ -47,7 +50,7 @@ pub(crate) fn walk(
     requires walking { IsWalking spec.now (members rules.now.basis) trail.old left }
     ensures { IfOk result (IsWalked spec.now (members rules.now.basis) rules.now.whole left trail.old trail.new (NoneFrom spec.now (members rules.now.basis) trail.old.steps left)) }
 {
-    // brings the specification's invariant into the proof
+    // for the prover: brings in the invariant of the specification
     let _inputs = spec.n();
     let places = trail.n() + trail.len();
     if left == 0 {
@@ -70,7 +73,7 @@ pub(crate) fn walk(
     Ok(false)
 }
 
-/// The ways whose next step has the larger operand `high`.
+/// Enumerates the ways whose next step has the larger operand `high`.
 #[cycle(walking)]
 #[tactic(auto, using(crate::specs::WalkLaws::walking))]
 fn walk_larger(
@@ -97,7 +100,7 @@ fn walk_larger(
     Ok(false)
 }
 
-/// The ways whose next step has these operands, in either order.
+/// Enumerates the ways whose next step has the operands `low` and `high`, in either order.
 #[cycle(walking)]
 #[tactic(auto, using(crate::specs::WalkLaws::walking))]
 fn walk_pair(
@@ -138,7 +141,7 @@ fn walk_pair(
     Ok(found)
 }
 
-/// The ways whose next step has these operands in this order.
+/// Enumerates the ways whose next step has the operands `j` and `k`, in this order.
 #[cycle(walking)]
 #[tactic(auto, using(crate::specs::WalkLaws::walking))]
 fn walk_operators(
@@ -174,7 +177,7 @@ fn walk_operators(
     Ok(false)
 }
 
-/// The ways whose next step is this one.
+/// Enumerates the ways whose next step is `step`.
 #[cycle(walking)]
 #[tactic(auto, using(crate::specs::WalkLaws::walking))]
 fn walk_step(

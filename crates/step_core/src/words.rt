@@ -1,22 +1,22 @@
-//! Words of 64 rows: which outputs ask for the values of a word, and which steps give outputs theirs.
+//! Truth tables in words of 64 rows: whether a word has the values of an output, and whether a step does.
 ghost use Rattle.std.specs.Prelude.{◌≡◌, ◌<◌, length};
 ghost use Rattle.step_core.specs.Steps.{misses as misses_of, meets_at as meets_at_of, is_met as is_met_of, all_met as all_met_of};
 
 use crate::trail::Trail;
 use tt_core::Spec;
 
-/// Whether on some row an output, counted from 0, asks for another value than the word's.
+/// Whether on some row the specified value of an output, counted from 0, isn't that of the word.
 #[tactic(auto, unfolding(crate::specs::Steps::misses))]
 pub(crate) fn misses(spec: &Spec, word: u64, output: u32) -> bool
     requires { output < length spec.now.on }
     ensures { result ≡ misses_of spec.now word output }
 {
-    // brings the specification's invariant into the proof
+    // for the prover: brings in the invariant of the specification
     let _inputs = spec.n();
     (word ^ spec.on()[output as usize]) & spec.care()[output as usize] != 0
 }
 
-/// Whether the step of an index has the values of an output.
+/// Whether the step of an index, counted from 0, has all specified values of an output.
 #[tactic(auto, unfolding(crate::specs::Steps::meets_at))]
 pub(crate) fn meets_at(spec: &Spec, trail: &Trail, output: u32, index: u32) -> bool
     requires inputs { trail.now.n ≡ spec.now.n }
@@ -27,7 +27,7 @@ pub(crate) fn meets_at(spec: &Spec, trail: &Trail, output: u32, index: u32) -> b
     !misses(spec, trail.word(trail.n() + 1 + index), output)
 }
 
-/// Whether some step has the values of an output.
+/// Whether some step has all specified values of an output.
 #[tactic(auto, using(crate::specs::SearchLaws::passing), unfolding(crate::specs::Steps::is_met))]
 pub(crate) fn is_met(spec: &Spec, trail: &Trail, output: u32) -> bool
     requires inputs { trail.now.n ≡ spec.now.n }

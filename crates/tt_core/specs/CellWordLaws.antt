@@ -23,13 +23,13 @@ unfolding word_of
 word_below bit small [] = omega arith
 word_below bit small (x ∷ xs) = omega (arith, small x, word_below bit small xs, two-pow-succ (length xs))
 
--- one cell more, whose bit is 1
+-- one more cell, whose bit is 1
 word_push : (bit : ℕ → ℕ) (xs : List ℕ) (x : ℕ) → bit x ≡ 1 → word_of bit (xs ++ x ∷ []) ≡ 2 ^ length xs + word_of bit xs
 unfolding word_of
 word_push bit [] x one = omega arith
 word_push bit (y ∷ xs) x one = omega (arith, word_push bit xs x one, two-pow-succ (length xs))
 
--- one cell more, whose bit is 0
+-- one more cell, whose bit is 0
 word_same : (bit : ℕ → ℕ) (xs : List ℕ) (x : ℕ) → bit x ≡ 0 → word_of bit (xs ++ x ∷ []) ≡ word_of bit xs
 unfolding word_of
 word_same bit [] x none = omega arith

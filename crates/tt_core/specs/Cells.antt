@@ -5,11 +5,11 @@ use Rattle.std.specs.Prelude.{ℕ, ◌+◌, ◌*◌, Bool, ◌||◌, List, [], �
 abbrev pub is_cell : ℕ → Bool
 is_cell c = (c == 48 || c == 49) || c == 45
 
--- `1` is a value of 1
+-- `1` has the value 1
 abbrev pub on_bit : ℕ → ℕ
 on_bit c = if c == 49 then 1 else 0
 
--- `-` is a row that isn't specified
+-- all but `-` specify the row
 abbrev pub care_bit : ℕ → ℕ
 care_bit c = if c == 45 then 0 else 1
 

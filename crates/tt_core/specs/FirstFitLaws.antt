@@ -8,22 +8,22 @@ use Rattle.chain_theory.specs.declared.data.Out.{Out}
 use Rattle.chain_theory.specs.declared.data.Out.TheVariants.{Zero, One, Place}
 use Rattle.tt_core.specs.Live.{fits, inputs_from, first_fit, trivial_of, IsTrivial, turn, IsFirstFit}
 
--- where nothing is found, the first out doesn't fit and nothing is found after it
+-- where no out is found, the first one doesn't fit, and none is found after it
 none_found : (test : Bool) (out : Out) (more : Option Out) → (if test then Some out else more) ≡ None → (test ≡ false) × (more ≡ None)
 none_found true out more e = absurd cc
 none_found false out more e = (refl, e)
 
--- what is found is the first out where that fits, and is found after it where it doesn't
+-- the out that is found is the first one if it fits, else it is found after the first one
 one_found : (test : Bool) (out found : Out) (more : Option Out) → (if test then Some out else more) ≡ Some found → ((test ≡ true) × (out ≡ found)) ⊎ ((test ≡ false) × (more ≡ Some found))
 one_found true out found more e = inl (refl, same_Some out found e)
 one_found false out found more e = inr (refl, e)
 
--- a first out that doesn't fit is passed over
+-- a first out that doesn't fit is skipped
 passed_over : (test : Bool) (out : Out) (more : Option Out) → test ≡ false → (if test then Some out else more) ≡ more
 passed_over true out more e = absurd cc
 passed_over false out more e = refl
 
--- where none of k inputs from j on is found, none of them fits
+-- where none of the k inputs from j on is found, none of them fits
 no_input : (s : Specification) (h j k : ℕ) → first_fit s h (inputs_from j k) ≡ None → (i : ℕ) → j ≤ i → i < j + k → fits s h (Place i) ≡ false
 unfolding first_fit inputs_from
 no_input s h j zero e i from to = absurd (omega arith)
@@ -50,7 +50,7 @@ record FirstInput (s : Specification) (h j k : ℕ) (out : Out) : Type 0 where
   fitting : fits s h (Place input) ≡ true
   earlier : (i : ℕ) → j ≤ i → i < input → fits s h (Place i) ≡ false
 
--- what is found among inputs is the first that fits
+-- the input that is found is the first one that fits
 input_found : (s : Specification) (h j k : ℕ) (out : Out) → first_fit s h (inputs_from j k) ≡ Some out → FirstInput s h j k out
 unfolding first_fit inputs_from
 input_found s h j zero out e = absurd cc
@@ -118,7 +118,7 @@ one_first s h zero_fails fit = record {
     before_one One is before = absurd (omega (arith, before))
     before_one (Place i) is before = absurd (omega (arith, before, is.0))
 
--- before an input 0 and 1 are tried, and the inputs before it
+-- 0, 1 and the lower inputs are tried before an input
 input_first : (s : Specification) (h : ℕ) → fits s h Zero ≡ false → fits s h One ≡ false → (out : Out) → FirstInput s h 1 s.inputs out → IsFirstFit s h out
 input_first s h zero_fails one_fails out first = subst (IsFirstFit s h) first.is record {
   trivial = (first.from, omega (arith, first.to));
@@ -131,7 +131,7 @@ input_first s h zero_fails one_fails out first = subst (IsFirstFit s h) first.is
     before_input One is before = one_fails
     before_input (Place i) is before = first.earlier i is.0 (omega (arith, before))
 
--- what is found is the first out that fits
+-- the out that is found is the first one that fits
 pub found_first : (s : Specification) (h : ℕ) (out : Out) → trivial_of s h ≡ Some out → IsFirstFit s h out
 unfolding first_fit
 found_first s h out e = elim (one_found (fits s h Zero) Zero out _ e) [

@@ -1,4 +1,4 @@
--- One table line more keeps the invariant of a specification.
+-- One more table line keeps the invariant of a specification.
 use Rattle.std.proofs.Common.{◌≡◌, ℕ, zero, suc, ◌+◌, ◌*◌, ◌^◌, ◌/◌, ◌<◌, ◌≤◌, true, false, List, [], ◌∷◌, ◌++◌, length, get_or, refl, sym, ◌∙◌, arith, inl, inr, length-append, eq-eqb}
 use Rattle.std.proofs.lemmas.Grind.{common_steps}
 use Rattle.std.proofs.lemmas.Bool.{cases_lt, eqb-true}
@@ -22,7 +22,7 @@ word_bit bit small (x ∷ xs) (suc t) d within =
 on_care : (c : ℕ) → on_bit c ≡ 1 → care_bit c ≡ 1
 on_care c one = grind (arith, common_steps)
 
--- and after the last character it has no digit
+-- after the last character it has no digit
 pub word_none : (bit : ℕ → ℕ) → IsBit bit → (xs : List ℕ) (t : ℕ) → length xs ≤ t → bit_at (word_of bit xs) t ≡ 0
 unfolding word_of
 word_none bit small [] t past = bit_at-zero t
@@ -53,7 +53,7 @@ pairs_push R (a ∷ xs) [] x y i same each last = absurd (omega arith)
 pairs_push R (a ∷ xs) (b ∷ ys) x y zero same each last = each 0
 pairs_push R (a ∷ xs) (b ∷ ys) x y (suc i) same each last = pairs_push R xs ys x y i (omega arith) (λ k. each (suc k)) last
 
--- One table line more keeps the invariant of a specification.
+-- One more table line keeps the invariant of a specification.
 pub kept : (n : ℕ) (on care on' care' text : List ℕ) → IsSpec (record { n = n; on = on; care = care }) → length on < 8 → length text ≡ 2 ^ n → on' ≡ on ++ word_of on_bit text ∷ [] → care' ≡ care ++ word_of care_bit text ∷ [] → IsSpec (record { n = n; on = on'; care = care' })
 kept n on care on' care' text spec room rows on-is care-is =
     rw (on-is, care-is) record {

@@ -1,4 +1,4 @@
--- Exchanged rows, trivial outs and live outputs, said without recursion.
+-- Exchanged rows, trivial outs and live outputs, characterised without recursion.
 use Rattle.std.proofs.Common.{◌≡◌, ℕ, zero, suc, ◌-◌, ◌^◌, ◌<◌, ◌≤◌, true, refl, ap, ◌∙◌, arith, inl, inr}
 use Rattle.std.proofs.lemmas.Grind.{common_steps}
 use Rattle.std.proofs.lemmas.Bool.{cases_lt}
@@ -11,7 +11,7 @@ use Rattle.tt_core.specs.Live.{trivial_value, fits_rows, fits}
 
 -- ---- rows by their bits
 
--- The exchanged row gives each input the bit that the row gives to the input of the other name.
+-- The exchanged row gives each input the bit of its exchanged partner.
 pub exchanged_input : (n p q t j : ℕ) → 1 ≤ j → j ≤ n → input n (exchanged n p q t) j ≡ input n t (renamed p q j)
 exchanged_input n p q t j some low = row_digit (exchanged_bit n p q t) n (n - j) j (omega arith) some
 

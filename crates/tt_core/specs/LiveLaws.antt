@@ -1,4 +1,4 @@
--- Outs that meet all cells, and the outputs that none meets.
+-- Outs that meet all cells of an output, and outputs that no trivial out meets.
 use Rattle.std.proofs.Common.{◌≡◌, ℕ, zero, suc, ◌+◌, ◌-◌, ◌<◌, ◌≤◌, true, false, List, [], ◌∷◌, ◌++◌, length, refl, ap, ◌∙◌, arith, add-one, length-append, inl, inr}
 use Rattle.std.specs.Prelude.{slice_index}
 use Rattle.std.proofs.lemmas.Grind.{common_steps}
@@ -19,7 +19,7 @@ pub fits_none : (s : Specification) (h : ℕ) (out : Out) → fits_rows s h out 
 unfolding fits_rows
 fits_none s h out = refl
 
--- one row more that is met
+-- one more row that is met
 pub fits_more : (w : Words) (h : ℕ) (out : Out) (t : ℕ) → fits_rows (specification w) h out t ≡ true → is_met (cell_of w h t) (trivial_value w.n t out) ≡ true → fits_rows (specification w) h out (t + 1) ≡ true
 unfolding fits_rows
 fits_more w h out t before met = rw (add-one, before, met) refl
@@ -54,7 +54,7 @@ pub live_none : (s : Specification) (words : List ℕ) → words_of words (live_
 unfolding live_among words_of
 live_none s words = refl
 
--- one output more, live or not
+-- one more output, live or not
 pub live_more : (s : Specification) (words : List ℕ) (k : ℕ) → is_live s (k + 1) ≡ true → words_of words (live_among s (k + 1)) ≡ words_of words (live_among s k) ++ slice_index words (k + 1 - 1) ∷ []
 unfolding live_among words_of
 live_more s words k live =
@@ -90,14 +90,14 @@ live_cells w h t some low =
     let within : h - 1 < length outputs = omega arith in
     rw (word_at w.care outputs (h - 1) within, word_at w.on outputs (h - 1) within) refl
 
--- the outputs and cells of a specification that is the live part
+-- the outputs and cells of the specification of the live outputs
 pub part_count : (w part : Words) → part ≡ live_words w → length part.on ≡ length (live_outputs (specification w))
 part_count w part is = ap (λ (x : Words). length x.on) is ∙ words_count w.on (live_outputs (specification w))
 
 pub part_cells : (w part : Words) → part ≡ live_words w → (h t : ℕ) → 1 ≤ h → h ≤ length part.on → cell_of part h t ≡ cell_of w (slice_index (live_outputs (specification w)) (h - 1)) t
 part_cells w part is h t some low = ap (λ (x : Words). cell_of x h t) is ∙ live_cells w h t some (omega (arith, part_count w part is))
 
--- One output more, copied from another, keeps the invariant of a specification.
+-- One more output, copied from another one, keeps the invariant of a specification.
 pub kept_copy : (w : Words) (on care on' care' : List ℕ) (h : ℕ) → IsSpec w → IsSpec (record { n = w.n; on = on; care = care }) → length on < 8 → on' ≡ on ++ slice_index w.on (h - 1) ∷ [] → care' ≡ care ++ slice_index w.care (h - 1) ∷ [] → IsSpec (record { n = w.n; on = on'; care = care' })
 kept_copy w on care on' care' h whole spec room on-is care-is =
     rw (on-is, care-is) record {

@@ -21,7 +21,7 @@ added_keeps : (test : Bool) (xs : List ℕ) (y x : ℕ) → Contains xs x → Co
 added_keeps true xs y x c = Contains-append_left xs (y ∷ []) x c
 added_keeps false xs y x c = c
 
--- and gets the number where the test holds
+-- and contains the number where the test holds
 added_has : (test : Bool) (xs : List ℕ) (y : ℕ) → test ≡ true → Contains (if test then xs ++ y ∷ [] else xs) y
 added_has true xs y e = Contains-push xs y
 added_has false xs y e = absurd cc
@@ -47,7 +47,7 @@ live_is_among s (suc k) h some low live = elim (cases_lt h (suc k)) [
       subst (Contains (live_among s (suc k))) (sym same) (added_has (is_live s (suc k)) (live_among s k) (suc k) is)
 ]
 
--- a rising list followed by a greater number rises
+-- an increasing list followed by a greater number is increasing
 rising_push : (xs : List ℕ) (y : ℕ) → IsStrictlyIncreasing xs → All (λ x. x < y) xs → IsStrictlyIncreasing (xs ++ y ∷ [])
 rising_push xs y rising low k within =
     let long = length_push xs y in
@@ -61,7 +61,7 @@ added_rises : (test : Bool) (xs : List ℕ) (y : ℕ) → IsStrictlyIncreasing x
 added_rises true xs y rising low = rising_push xs y rising low
 added_rises false xs y rising low = rising
 
--- the live outputs among the first k rise
+-- the live outputs among the first k are increasing
 pub among_rises : (s : Specification) (k : ℕ) → IsStrictlyIncreasing (live_among s k)
 unfolding live_among
 among_rises s zero = λ i within. absurd (omega arith)

@@ -29,7 +29,7 @@ same_digit a b low_a low_b same = grind (arith, common_steps)
 same_from_digits : (a b : ℕ) → ((t : ℕ) → digit a t ≡ digit b t) → a ≡ b
 same_from_digits a b same = same_from_bits a b (λ t. same_digit (bit_at a t) (bit_at b t) (bit_at-lt a t) (bit_at-lt b t) (same t))
 
--- what holds at each index holds of all
+-- a property that holds at each index holds of all elements
 all_pass : (p : ℕ → Bool) (xs : List ℕ) → ((t : ℕ) → t < length xs → p (get_or xs t 0) ≡ true) → list_all p xs ≡ true
 all_pass p [] each = refl
 all_pass p (x ∷ xs) each = grind (arith, common_steps, each 0, all_pass p xs (λ t within. each (suc t) (omega arith)))
@@ -79,7 +79,7 @@ on_word_back w i l spec table = same_from_digits _ _ (λ t. elim (cases_lt t (le
   | inr past ↦ ap (λ (b : ℕ). b == 1) (word_none on_bit on_is_bit l.text t past) ∙ sym (on_ends w i t spec (omega (arith, table.rows)))
 ])
 
--- a table line is a good line
+-- a table line is well-formed
 row_back : (w : Words) (h : ℕ) (l : Line) → IsTableLine (specification w) h l → IsRow w.n l
 row_back w h l table = record {
   ended = table.ended;
@@ -106,7 +106,7 @@ not_eight k room = not_true _ (λ is. let e : k ≡ 8 = eqb-true k 8 is in omega
 has_row : (n : ℕ) (l : Line) → IsRow n l → 0 < length l.text
 has_row n l good = omega (arith, good.rows, pow_pos n)
 
--- a good line has no fault
+-- a well-formed line has no error
 no_fault : (n number : ℕ) (l : Line) → IsRow n l → row_fault n number l ≡ None
 no_fault n number l good = rw (good.ended, not_zero (length l.text) (has_row n l good), good.cells, eq-eqb (length l.text) (2 ^ n) good.rows) refl
 
@@ -116,7 +116,7 @@ unfolding rows_of
 end_back w [] end some = rw (not_zero (length w.on) some) refl
 end_back w (l ∷ ls) end some = rw (end, not_zero (length w.on) some) refl
 
--- one line more
+-- one more line
 row_step : (w : Words) (l : Line) (ls : List Line) → IsRow w.n l → length w.on < 8 → rows_of w (l ∷ ls) ≡ rows_of (with_row w l.text) ls
 unfolding rows_of
 row_step w l ls good room = rw (cell_not_lower l.text (has_row w.n l good) good.cells, not_eight (length w.on) room, no_fault w.n (2 + length w.on) l good) refl
@@ -153,7 +153,7 @@ rows_back n on care (u ∷ us) (v ∷ vs) (l ∷ ls) rest same rows behind end s
     let count : length (on ++ on_word l ∷ []) ≡ length on + 1 = length-append on (on_word l ∷ []) in
     row_step (record { n = n; on = on; care = care }) l ls first.good (omega arith) ∙ rows_back n (on ++ on_word l ∷ []) (care ++ care_word l ∷ []) us vs ls rest (omega arith) (other_rows n l ls u v us vs rows) behind end (omega (arith, count)) (omega (arith, count)) ∙ ap₂ (λ (xs ys : List ℕ). let w : Words = record { n = n; on = xs; care = ys } in let r : Read = record { words = w; rest = rest } in let out : Result Read SpecError = Ok r in out) (regroup on (on_word l) u us first.on) (regroup care (care_word l) v vs first.care)
 
--- a header that is written is read
+-- the header that is written for a number of inputs is read as it
 header_back : (n : ℕ) → n ≤ 6 → inputs_of (header_line n) ≡ Some n
 header_back n few = rw (word_back (codes "inputs ") (decimal n)) (number_back 999999999 n (omega arith) (omega arith))
 

@@ -1,4 +1,4 @@
--- How many rows there are at most.
+-- A bound on the number of rows.
 use Rattle.std.proofs.Common.{ℕ, ◌^◌, ◌≤◌, arith}
 use Rattle.std.proofs.Math.Pow.{pow_mono}
 

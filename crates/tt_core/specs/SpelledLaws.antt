@@ -1,4 +1,4 @@
--- What is read is spelled so.
+-- The text spells what is read.
 use Rattle.std.proofs.Common.{◌≡◌, ◌⊎◌, ℕ, zero, suc, ◌+◌, ◌-◌, ◌^◌, ◌<◌, ◌≤◌, Bool, true, false, cond, List, [], ◌∷◌, ◌++◌, length, get_or, map, drop, Option, Some, None, Result, Ok, Err, refl, sym, ap, ap₂, ◌∙◌, arith, append_assoc, append-nil, inl, inr, ◌==◌, lit<}
 use Rattle.std.specs.Prelude.{codes, decimal, slice_get, slice_index}
 use Rattle.std.specs.Option.{option_and_then}
@@ -18,7 +18,7 @@ use Rattle.tt_core.specs.Spelling.{character, header_line, IsTableLine, EndsTabl
 use Rattle.tt_core.specs.CellWordLaws.{on_is_bit, care_is_bit}
 use Rattle.tt_core.specs.KeepLaws.{word_bit}
 
--- a good table line: cells alone, as many as there are rows, and an LF
+-- a well-formed table line: cells alone, as many as there are rows, and an LF
 pub record IsRow (n : ℕ) (l : Line) : Type 0 where
   pub ended : l.ended ≡ true
   pub rows : length l.text ≡ 2 ^ n
@@ -42,11 +42,11 @@ pub record ReadsRows (w : Words) (ls : List Line) (r : Read) : Type 0 where
   pub output : 0 < length r.words.on
   pub end : EndsTables r.rest
 
--- the tables end without a fault
+-- the tables end without an error
 end_ok : (w : Words) (ls : List Line) (r : Read) → end_of w ls ≡ Ok r → (0 < length w.on) × (r ≡ record { words = w; rest = ls })
 end_ok w ls r e = (grind (arith, common_steps), grind (arith, common_steps))
 
--- a table line that has no fault
+-- a table line without an error
 row_ok : (n number : ℕ) (l : Line) (read : Result Read SpecError) (r : Read) → unless_fault (row_fault n number l) read ≡ Ok r → IsRow n l × (read ≡ Ok r)
 row_ok n number l read r e = (record { ended = grind (arith, common_steps); rows = grind (arith, common_steps); cells = grind (arith, common_steps) }, grind (arith, common_steps))
 
@@ -97,7 +97,7 @@ and_then_ok (Some x) f n e = (x, refl, e)
 line_is : (l : Line) (text : List ℕ) → l.text ≡ text → l.ended ≡ true → l ≡ record { text = text; ended = true }
 line_is l text e ended = let line : List ℕ → Bool → Line = λ t b. record { text = t; ended = b } in ap₂ line e ended
 
--- a header that is read is spelled so
+-- a header that is read spells its number of inputs
 header_read : (l : Line) (n : ℕ) → inputs_of l ≡ Some n → l ≡ header_line n
 header_read l n e =
     elim (chosen l.ended _ _ _ e) [
@@ -127,18 +127,18 @@ table_at n (suc i) (l ∷ tables) rest good within =
 cell_back : (c : ℕ) → is_cell c ≡ true → character (cond (care_bit c == 1) (cond (on_bit c == 1) One Zero) Free) ≡ c
 cell_back c good = grind (arith, common_steps)
 
--- what a good header and the good lines after it give
+-- a header without an error, and the lines after it
 header_ok : (o : Option ℕ) (ls : List Line) (r : Read) → behind_inputs o ls ≡ Ok r → (n : ℕ) × (o ≡ Some n) × ReadsRows (record { n = n; on = []; care = [] }) ls r
 header_ok None ls r e = absurd cc
 header_ok (Some n) ls r e = (n, refl, rows_read (record { n = n; on = []; care = [] }) ls r (not_full _ _ _ _ e))
 
--- what holds of all holds at an index
+-- a property of all elements holds at an index
 pass_at : (p : ℕ → Bool) (xs : List ℕ) (i : ℕ) → i < length xs → list_all p xs ≡ true → p (get_or xs i 0) ≡ true
 pass_at p [] i within all = absurd (omega arith)
 pass_at p (x ∷ xs) zero within all = grind (arith, common_steps)
 pass_at p (x ∷ xs) (suc i) within all = pass_at p xs i (omega arith) (grind (arith, common_steps))
 
--- a table line is that of its output
+-- a well-formed line spells its output
 line_spelled : (w : Words) (i : ℕ) (l : Line) → IsRow w.n l → slice_index w.on i ≡ on_word l → slice_index w.care i ≡ care_word l → IsTableLine (specification w) (suc i) l
 line_spelled w i l good on care = record {
   ended = good.ended;
@@ -162,7 +162,7 @@ table_spelled l ls r n reads (suc i) some low =
 rest_behind : (l : Line) (tables rest ls : List Line) (k : ℕ) → ls ≡ tables ++ rest → k ≡ length tables → rest ≡ drop (1 + k) (l ∷ ls)
 rest_behind l tables rest ls k e count = let more : 1 + k ≡ suc k = omega arith in rw (more, e) (sym (drop_at tables rest k (sym count)))
 
--- Where lines are read, they spell what was read.
+-- Lines that are read spell what was read.
 pub tables_spelled : (ls : List Line) (r : Read) → tables_of ls ≡ Ok r → SpellsTables (specification r.words) ls r.rest
 tables_spelled [] r e = absurd cc
 tables_spelled (l ∷ ls) r e =

@@ -1,4 +1,4 @@
--- Texts of tables, as a relation to the specification that they spell: which character is where.
+-- Texts of tables, as a relation to the specification that they spell: the character at each index.
 use Rattle.std.specs.Prelude.{◌≡◌, ℕ, ◌+◌, ◌^◌, ◌<◌, ◌≤◌, true, List, [], ◌∷◌, ◌++◌, length, Some, slice_get, slice_index, codes, decimal}
 use Rattle.std.proofs.Common.{drop}
 use Rattle.chain_theory.specs.Specification.{Specification}
@@ -17,7 +17,7 @@ character Free = 45
 abbrev pub header_line : ℕ → Line
 header_line n = record { text = codes "inputs " ++ decimal n; ended = true }
 
--- the table of output h: character number t, from 0, is the cell of row t, and an LF ends the line
+-- the table of output h: character t, from 0, is the cell of row t, and an LF ends the line
 pub record IsTableLine (s : Specification) (h : ℕ) (l : Line) : Type 0 where
   pub ended : l.ended ≡ true
   pub rows : length l.text ≡ 2 ^ s.inputs

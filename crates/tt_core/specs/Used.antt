@@ -1,4 +1,4 @@
--- What was read of a text, with what follows the bytes that were used.
+-- What was read from a text, with the lines after the bytes that were read.
 use Rattle.std.specs.Prelude.{ℕ, List}
 use Rattle.std.proofs.Common.{drop}
 use Rattle.text_core.specs.Lines.{lines_of}

@@ -26,6 +26,6 @@ pub record IsSpec (w : Words) : Type 0 where
 abbrev pub cell_of : Words → ℕ → ℕ → Cell
 cell_of w h t = if digit (slice_index w.care (h - 1)) t then (if digit (slice_index w.on (h - 1)) t then One else Zero) else Free
 
--- what the words specify
+-- the specification in these words
 abbrev pub specification : Words → Specification
 specification w = record { inputs = w.n; outputs = length w.on; cell = cell_of w }

@@ -5,14 +5,15 @@ ghost use Rattle.tt_core.specs.Cells.{is_cell, on_bit, care_bit, word_of};
 
 use std::alloc::AllocError;
 
-/// Whether each character is `0`, `1` or `-`.
+/// Whether each character of a table line is `0`, `1` or `-`.
 pub fn are_cells(text: &[u8]) -> bool
     ensures { result ≡ list_all is_cell text.now }
 {
     text.iter().all(|character| *character == b'0' || *character == b'1' || *character == b'-')
 }
 
-/// The words of values and of specified rows that a table line spells.
+/// The values and the care set of a table line: bit t is that of row t. A row that isn't specified has
+/// the value 0.
 #[tactic(auto, using(crate::specs::CellWordLaws::growing), unfolding(crate::specs::Cells::word_of))]
 pub(crate) fn row_words(text: &[u8]) -> (u64, u64)
     requires { length text.now ≤ 64 }
@@ -31,7 +32,7 @@ pub(crate) fn row_words(text: &[u8]) -> (u64, u64)
     (on, care)
 }
 
-/// Adds a word to each of two lists, or to neither where memory runs out.
+/// Appends a word to each of two lists, or to neither if memory runs out.
 pub(crate) fn push_both(
     on: &mut Vec<u64>,
     care: &mut Vec<u64>,

@@ -1,19 +1,19 @@
 //! Why tables are refused.
 use std::alloc::{AllocError, AllocFailed};
 
-/// Why tables are refused. Lines are judged from the top, and numbered from 1; at the end of the
-/// text the number is that of the line that would come next.
+/// Why tables are refused. Lines are checked from the top and numbered from 1. At the end of the text
+/// the number is that of the line that would come next.
 #[derive(Clone, Copy, PartialEq, Eq)]
 pub enum SpecError {
     /// The first line isn't `inputs ` and a number of at most nine digits, or has no LF.
     BadHeader(u32),
-    /// This table line is empty, has a character that is no cell, or has no LF.
+    /// This table line is empty, has a character other than `0`, `1` and `-`, or has no LF.
     BadRow(u32),
-    /// This table line is good but for the number of its cells, which isn't 2^N.
+    /// This table line is well-formed but has a number of cells other than 2^N.
     WrongLength(u32),
-    /// The header is good and names more than six inputs.
+    /// The header is well-formed and names more than six inputs.
     TooManyInputs,
-    /// There is a ninth table line, whatever its characters.
+    /// There is a ninth table line, well-formed or not.
     TooManyOutputs,
     /// There is no table line.
     NoOutput,

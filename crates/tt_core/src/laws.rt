@@ -1,5 +1,5 @@
-//! What follows from the definitions, said without recursion. Each law is the contract of a
-//! function that does nothing.
+//! What the definitions imply, stated without recursion. Each law is the contract of a function that
+//! does nothing.
 ghost use Rattle.std.specs.Prelude.{◌≡◌, ◌↔◌, ℕ, ◌^◌, ◌<◌, ◌≤◌, true, false, Some, None, Contains};
 ghost use Rattle.tt_core.specs.Agreement.{is_met};
 ghost use Rattle.tt_core.specs.Specification.{Specification, input};
@@ -8,13 +8,14 @@ ghost use Rattle.tt_core.specs.Live.{trivial_value, fits, trivial_of, IsTrivial,
 ghost use Rattle.chain_theory.specs.declared.data.Out.{Out};
 ghost use Rattle.tt_core.specs.Symmetry.{renamed, exchanged};
 
-/// An exchanged row gives each input the bit that the row gives to the input of the other name.
+/// The row with the bits of `p` and `q` exchanged gives each input the bit of its exchanged partner,
+/// and is one of the 2^n rows.
 pub fn rows_are_exchanged()
     ensures bits { (n p q t j : ℕ) → 1 ≤ j → j ≤ n → input n (exchanged n p q t) j ≡ input n t (renamed p q j) }
     ensures row { (n p q t : ℕ) → exchanged n p q t < 2 ^ n }
 {}
 
-/// An out fits exactly where it meets each cell of the output.
+/// A trivial out fits an output exactly where it meets each of its cells.
 pub fn fitting_is_meeting()
     ensures meets { (s : Specification) (h : ℕ) (out : Out) →
         fits s h out ≡ true →
@@ -31,7 +32,8 @@ pub fn trivial_is_first_fit()
     ensures first { (s : Specification) (h : ℕ) (out : Out) → trivial_of s h ≡ Some out → IsFirstFit s h out }
 {}
 
-/// The list of live outputs rises, and contains exactly the numbers of the live outputs.
+/// The list of live outputs is strictly increasing, and contains exactly the numbers of the live
+/// outputs.
 pub fn live_outputs_are_listed()
     ensures rising { (s : Specification) → IsStrictlyIncreasing (live_outputs s) }
     ensures live { (s : Specification) (h : ℕ) → Contains (live_outputs s) h ↔ ((1 ≤ h) × (h ≤ s.outputs) × (is_live s h ≡ true)) }

@@ -1,6 +1,6 @@
-//! Trivial outputs, which a constant or an input implements at no cost, and the others, which are
-//! live. An output's trivial out is the first of 0, 1, x1, .., xn that meets all its cells; the
-//! code tries them in the order of the definition.
+//! Trivial outputs, which a constant or an input implements at no cost, and live outputs, which need
+//! a step. The trivial out of an output is the first of 0, 1, x1, .., xn that meets all its cells;
+//! the code tries them in this order.
 ghost use Rattle.std.specs.Prelude.{◌≡◌, ℕ, ◌+◌, ◌-◌, ◌<◌, ◌≤◌, [], ◌∷◌, ◌++◌, length, slice_index, IfOk, OnOk};
 ghost use Rattle.tt_core.specs.Live.{trivial_value as trivial_value_of, fits as fits_of, trivial_of};
 ghost use Rattle.tt_core.specs.Live.{is_live as is_live_of, live_outputs, live_words};
@@ -12,7 +12,7 @@ use chain_theory::Out;
 use chain_theory::plain::{input, is_met};
 use std::alloc::{AllocError, Global};
 
-/// The value on row `t` of a constant, or of an input among `n`.
+/// The value of a trivial out on row `t`: a constant, or one of `n` inputs.
 fn trivial_value(n: u32, t: u32, out: Out) -> bool
     requires { n < 32 }
     ensures { result ≡ trivial_value_of n t out }
@@ -39,8 +39,8 @@ fn fits(spec: &Spec, h: u32, out: Out) -> bool
     true
 }
 
-/// The first of the outs 0, 1, x1, .., xn that agrees with output `h` wherever it is specified;
-/// None where the output is live. Outputs are numbered from 1.
+/// The first of the outs 0, 1, x1, .., xn that meets all cells of output `h`; None where the output is
+/// live. Outputs are numbered from 1.
 #[tactic(auto, unfolding(crate::specs::Live::first_fit), using(crate::specs::LiveLaws::inputs))]
 pub fn trivial(spec: &Spec, h: u32) -> Option<Out>
     requires { (1 ≤ h) × (h ≤ length spec.now.on) }
@@ -60,7 +60,7 @@ pub fn trivial(spec: &Spec, h: u32) -> Option<Out>
     None
 }
 
-/// Whether output `h` is live: no trivial out meets its cells.
+/// Whether output `h` is live: no trivial out meets all its cells.
 #[tactic(auto, unfolding(crate::specs::Live::is_live))]
 fn is_live(spec: &Spec, h: u32) -> bool
     requires { (1 ≤ h) × (h ≤ length spec.now.on) }
@@ -72,7 +72,7 @@ fn is_live(spec: &Spec, h: u32) -> bool
     }
 }
 
-/// Adds a copy of output `h`.
+/// Appends a copy of the words of output `h`.
 fn push_output(
     spec: &Spec,
     h: u32,
@@ -92,11 +92,11 @@ fn push_output(
     Ok(())
 }
 
-/// The specification of the live outputs alone, in their order.
+/// The specification of the live outputs alone, in their order. An error means that memory ran out.
 #[tactic(auto, using(crate::specs::LiveLaws::living))]
 pub fn live_part(alloc: Global, spec: &Spec) -> Result<Spec, AllocError>
     ensures words { IfOk result (λ part. part ≡ live_words spec.now) }
-    // Its output number i is that of the i-th live output.
+    // Its output i is the i-th live output.
     ensures outputs { IfOk result (λ part. length part.on ≡ length (live_outputs (specification spec.now))) }
     ensures cells { IfOk result (λ part. (h t : ℕ) →
         1 ≤ h →

@@ -1,7 +1,7 @@
 //! Tables are read line by line: the header, and then rows until the text ends or a line begins
-//! with a lower-case letter. The loop keeps one equation: the grammar of what is left, given the
-//! words of the rows already read, is the grammar of the whole; so each refusal is the grammar's
-//! first fault.
+//! with a lower-case letter. The loop invariant is an equation: the grammar of the lines that are
+//! left, given the words of the rows already read, is the grammar of the whole text. So each refusal
+//! is the first error of the grammar.
 ghost use Rattle.std.specs.Prelude.{◌≡◌, ◌+◌, ◌^◌, ◌<◌, ◌≤◌, List, [], ◌∷◌, ◌++◌, length, IfOk, OnOk, OnErr};
 ghost use Rattle.std.proofs.Common.{drop};
 ghost use Rattle.text_core.specs.Lines.{Line, lines_of};
@@ -20,19 +20,19 @@ use text_core::{after, begins_lower, next_line, number_up_to};
 /// The greatest number of nine digits.
 const GREATEST: u32 = 999_999_999;
 
-/// What was read of a text: the specification, and how many bytes and lines its tables take.
+/// What was read from a text: the specification, and the numbers of bytes and lines of its tables.
 #[derive(Drop)]
 pub struct Tables {
     /// The specification.
     pub spec: Spec,
-    /// How many bytes were read; what follows them isn't judged.
+    /// How many bytes were read. The bytes after them aren't checked.
     pub used: usize,
-    /// How many lines were read, each with its LF.
+    /// How many lines were read, the header included.
     pub lines: u32,
 }
 
-/// The number of inputs that the first line names; None where it isn't `inputs ` and a number of at
-/// most nine digits, or has no LF.
+/// The number of inputs in a header line, `text` without its LF; `ended` tells whether it has one.
+/// None where the line isn't `inputs ` and a number of at most nine digits, or has no LF.
 pub fn inputs(text: &[u8], ended: bool) -> Option<u32>
     ensures { result ≡ inputs_of (record { text = text.now; ended = ended }) }
 {
@@ -42,8 +42,8 @@ pub fn inputs(text: &[u8], ended: bool) -> Option<u32>
     number_up_to(GREATEST, after(b"inputs ", text)?)
 }
 
-/// Adds the output that a table line of `0`, `1` and `-` spells to the words of the outputs before
-/// it. An error means that memory ran out, and nothing was added.
+/// Appends the output of a table line of `0`, `1` and `-` to the words of the outputs before it. An
+/// error means that memory ran out; then nothing is appended.
 #[tactic(auto, using(crate::specs::RowLaws::row_below))]
 pub fn push_row(
     n: u32,
@@ -65,7 +65,7 @@ pub fn push_row(
     Ok(())
 }
 
-/// The tables, where there is at least one.
+/// The tables that were read, or `NoOutput` where there is none.
 fn finish(n: u32, on: Vec<u64>, care: Vec<u64>, used: usize) -> Result<Tables, SpecError>
     requires { IsSpec (record { n = n; on = on.items; care = care.items }) }
     ensures exact { (ls : List Line) → Gives (λ x. record { words = x.spec; rest = ls }) result
@@ -81,7 +81,7 @@ fn finish(n: u32, on: Vec<u64>, care: Vec<u64>, used: usize) -> Result<Tables, S
     Ok(Tables { spec, used, lines })
 }
 
-/// Reads the table lines as the grammar says.
+/// Reads the header and the table lines as the grammar says.
 #[tactic(auto, unfolding(crate::specs::Tables::rows_of), using(crate::specs::RowLaws::row_below))]
 fn read(alloc: Global, bytes: &[u8]) -> Result<Tables, SpecError>
     ensures exact { Gives (read_of bytes.now) result (tables_of (lines_of bytes.now)) }
@@ -124,17 +124,17 @@ fn read(alloc: Global, bytes: &[u8]) -> Result<Tables, SpecError>
 /// Reads a specification from the start of a text: the line `inputs N`, and a line for each output
 /// with its cells for rows 0 to 2^N - 1, each `0`, `1` or `-` for a don't-care. The tables end with
 /// the text, or before the first line that begins with a lower-case letter. Each line ends with LF.
-/// There are at most six inputs and from one to eight outputs.
+/// There are at most six inputs, and one to eight outputs.
 pub fn read_tables(alloc: Global, bytes: &[u8]) -> Result<Tables, SpecError>
     requires { length bytes.now < 2 ^ 31 }
-    // What is read is spelled so, each character of it, and what is spelled so is read.
+    // The text spells what is read, character by character, and every spelling is read.
     ensures spelled { IfOk result (λ x.
         SpellsTables (specification x.spec) (lines_of bytes.now) (lines_of (drop x.used bytes.now))) }
     ensures read { (w : Words) (rest : List Line) → IsSpec w →
         SpellsTables (specification w) (lines_of bytes.now) rest →
         Gives (read_of bytes.now) result (Ok (record { words = w; rest = rest })) }
 
-    // It is refused exactly where the grammar has a fault, with the first fault from the top.
+    // A text is refused exactly where the grammar finds an error, with the first one from the top.
     ensures exact { Gives (read_of bytes.now) result (tables_of (lines_of bytes.now)) }
 
     ensures used { IfOk result (λ x. x.used ≤ length bytes.now) }

@@ -6,7 +6,7 @@ ghost use Rattle.tt_core.specs.Words.{IsSpec, specification};
 use chain_theory::Cell;
 use std::marker::Model;
 
-/// The most inputs of a specification: their 2^6 rows are the bits of one word.
+/// The most inputs of a specification: the 2^6 rows are the bits of one word.
 pub const MOST_INPUTS: u32 = 6;
 
 /// The most outputs of a specification.
@@ -35,7 +35,7 @@ impl Model for Spec {
 }
 
 impl Spec {
-    /// A specification of these words.
+    /// The specification with `n` inputs and these words of values and care sets.
     pub fn new(n: u32, on: Vec<u64>, care: Vec<u64>) -> Spec
         requires { IsSpec (record { n = n; on = on.items; care = care.items }) }
         ensures { result ≡ record { n = n; on = on.items; care = care.items } }
@@ -43,7 +43,7 @@ impl Spec {
         Spec { n, on, care }
     }
 
-    /// How many inputs it has.
+    /// The number of inputs.
     pub fn n(&self) -> u32
         ensures value { result ≡ self.now.n }
         ensures whole { IsSpec self.now }
@@ -51,7 +51,7 @@ impl Spec {
         self.n
     }
 
-    /// How many outputs it has.
+    /// The number of outputs.
     pub fn outputs(&self) -> u32
         ensures { result ≡ length self.now.on }
     {
@@ -73,7 +73,7 @@ impl Spec {
     }
 }
 
-/// What the specification asks of output `h`, numbered from 1, on row `t`.
+/// The cell of output `h`, numbered from 1, on row `t`.
 #[tactic(auto, using(crate::specs::RowLaws::row_below))]
 pub fn row(spec: &Spec, h: u32, t: u32) -> Cell
     requires output { (1 ≤ h) × (h ≤ length spec.now.on) }

@@ -1,5 +1,5 @@
-//! Whether two inputs are symmetric variables: the row with their bits exchanged has the same cell,
-//! for every row and every output. The exchanged row is built bit by bit from its first input on.
+//! Whether two inputs are symmetric variables: for every row and every output, the row with the two
+//! bits exchanged has the same cell. The exchanged row is built bit by bit, from the first input on.
 ghost use Rattle.std.specs.Prelude.{◌≡◌, ◌^◌, ◌<◌, ◌≤◌, length, true, false};
 ghost use Rattle.tt_core.specs.Symmetry.{exchanged as exchanged_of, exchanged_bit as exchanged_bit_of};
 ghost use Rattle.tt_core.specs.Symmetry.{renamed as renamed_of, IsSymmetricOutput, IsSymmetric};
@@ -7,7 +7,7 @@ ghost use Rattle.tt_core.specs.Words.{specification};
 
 use crate::{Spec, row};
 
-/// The input whose bit input `j` gets where `p` and `q` are exchanged.
+/// The input whose bit input `j` gets when `p` and `q` are exchanged.
 fn renamed(p: u32, q: u32, j: u32) -> u32
     ensures { result ≡ renamed_of p q j }
 {
@@ -20,7 +20,7 @@ fn renamed(p: u32, q: u32, j: u32) -> u32
     }
 }
 
-/// The bit of input `j` of `n` on row `t`, its bits of `p` and `q` exchanged.
+/// The bit of input `j` of `n` on row `t` with the bits of `p` and `q` exchanged.
 fn exchanged_bit(n: u32, p: u32, q: u32, t: u32, j: u32) -> bool
     requires inputs { n < 32 }
     requires exchange { (p ≤ n) × (q ≤ n) × (j ≤ n) }
@@ -29,7 +29,7 @@ fn exchanged_bit(n: u32, p: u32, q: u32, t: u32, j: u32) -> bool
     (t >> (n - renamed(p, q, j))) & 1 == 1
 }
 
-/// Row `t` of `n` inputs with its bits of `p` and `q` exchanged.
+/// Row `t` of `n` inputs with the bits of `p` and `q` exchanged.
 #[tactic(auto, using(crate::proofs::Exchange::growing))]
 fn exchanged(n: u32, p: u32, q: u32, t: u32) -> u32
     requires inputs { n ≤ 6 }
@@ -44,7 +44,7 @@ fn exchanged(n: u32, p: u32, q: u32, t: u32) -> u32
     exchanged
 }
 
-/// Whether output `h` stays the same where `p` and `q` are exchanged.
+/// Whether output `h` stays the same when `p` and `q` are exchanged.
 #[tactic(auto, using(crate::specs::RowLaws::row_below))]
 fn is_symmetric_output(spec: &Spec, p: u32, q: u32, h: u32) -> bool
     requires exchange { (p ≤ spec.now.n) × (q ≤ spec.now.n) }
@@ -61,8 +61,8 @@ fn is_symmetric_output(spec: &Spec, p: u32, q: u32, h: u32) -> bool
     true
 }
 
-/// Whether inputs `p` and `q`, numbered from 1, are symmetric: exchanging them leaves every cell of
-/// every output the same.
+/// Whether inputs `p` and `q`, numbered from 1, are symmetric: exchanging them changes no cell of any
+/// output.
 pub fn symmetric(spec: &Spec, p: u32, q: u32) -> bool
     requires { (1 ≤ p) × (p < q) × (q ≤ spec.now.n) }
     ensures symmetric { result ≡ true → IsSymmetric (specification spec.now) p q }

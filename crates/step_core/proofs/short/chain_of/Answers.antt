@@ -1,4 +1,4 @@
--- The chain that is made.
+-- The chain of a solution.
 use Rattle.step_core.specs.ShortLaws.{fitting_made, small_made}
 use Rattle.step_core.proofs.short.chain_of.Goals as goal
 

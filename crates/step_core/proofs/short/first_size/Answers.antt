@@ -1,4 +1,4 @@
--- Where no steps of the sizes so far serve the live outputs, no chain of as few steps agrees.
+-- Without a solution of the sizes so far, no chain of so few steps implements the specification.
 use Rattle.std.proofs.Common.{◌≡◌, ◌+◌, ◌≤◌, length, arith, subst}
 use Rattle.chain_theory.specs.Agreement.{NoneBelow}
 use Rattle.op_basis.specs.Basis.{members}

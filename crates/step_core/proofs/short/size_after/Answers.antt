@@ -1,4 +1,4 @@
--- The steps that a walk ends at serve the live outputs.
+-- The enumeration ends at a solution for the live outputs.
 use Rattle.std.proofs.Common.{◌≡◌, ◌≤◌, ℕ, length, List, arith, ap, subst}
 use Rattle.chain_theory.specs.Chain.{Step}
 use Rattle.op_basis.specs.Basis.{members}

@@ -1,4 +1,4 @@
--- What each part of the walk leaves out.
+-- What each branch of the enumeration rules out.
 use Rattle.std.proofs.Common.{◌≡◌, ◌+◌, ◌-◌, ◌*◌, ◌<◌, length, refl, arith, sym, ap, ◌∙◌}
 use Rattle.op_basis.specs.Basis.{members}
 use Rattle.chain_theory.specs.Chain.{IsStepAt}
