@@ -1,10 +1,10 @@
-//! The log of one part, as contracts see it: its lines as the values that the definitions of logs speak of.
+//! The log of one subproblem. Contracts see its lines as values of `sat_theory`.
 use cert_theory::Ended;
 use enc_theory::Part;
 use log_core::Log;
 use std::marker::Model;
 
-/// A log over the formula of a part, and how it ends.
+/// A log over the formula of a subproblem, and how it ends.
 #[derive(Drop)]
 pub struct PartLog {
     pub part: Part,
