@@ -1,11 +1,11 @@
-//! Certificates of minimum size as data: made by the loop over sizes, written by `bundle_text`. Contracts see
-//! them as the values of `cert_theory`, which defines when they are valid; this crate adds only whether a size
-//! is open.
+//! Certificates of the fewest steps as data: what the loop over sizes makes and the writer of
+//! certificates spells. Contracts see them as the values of `cert_theory`, which says when they are
+//! valid; here is no more than what they hold, and whether a size is open.
 //!
 //! ```text
 //! let log = Log::new(alloc);
-//! let subproblem = SubproblemLog { subproblem: Subproblem::Whole, ended: Ended::Refuted, log };
-//! let section = Section { size: 0, subproblems: vec![in alloc; subproblem]? };
+//! let part = PartLog { part: Part::Whole, ended: Ended::Refuted, log }; // of a formula with the empty clause
+//! let section = Section { size: 0, parts: vec![in alloc; part]? };
 //! ```
 #![tactic(auto)]
 

@@ -1,4 +1,4 @@
-//! The log of one subproblem. Contracts see its lines as values of `sat_theory`.
+//! The log of one part, as contracts see it: its lines as the values that the definitions of logs speak of.
 use cert_theory::Ended;
 use enc_theory::Part;
 use log_core::Log;

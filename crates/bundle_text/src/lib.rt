@@ -1,5 +1,5 @@
-//! The writer of certificates. It depends on `cert_theory` for the spelling, on `bundle_core` for certificates
-//! as data, and on the crates of tables, bases, chains and logs for the spelling of each of these.
+//! The writer of certificates. It depends on `cert_theory` for certificates as data and for their spelling, and
+//! on the crates of tables, bases, chains and logs for the spelling of each of these.
 //!
 //! The theorem is that of `write_bundle`: it appends exactly the certificate's spelling. `write_heading`,
 //! `write_section` and `write_ending` append the three kinds of pieces, so that a certificate can be written

@@ -1,12 +1,13 @@
-//! Settings of netlist improvement as data, with ranges and defaults: shared by the code that parses them and
-//! the code that improves by them. The crate depends on `op_basis` for bases and on `settings` for the
-//! encodings and the conflict limit. It is separate from `settings` because certificates depend on that crate:
-//! a new option of `improve` must not touch them.
+//! Settings of the improver of netlists, as data with ranges and defaults, for whoever parses them
+//! or improves by them. The crate stands on `op_basis` for bases and on `settings` for the
+//! encodings and the greatest conflict limit. It is apart from `settings`, since certificates
+//! depend on that crate alone: an option of the improver doesn't touch them.
 //!
-//! `specs/Improve.antt` defines the valid ranges (`IsInRange`) and the defaults (`usual`).
+//! `specs/Improve.antt` says which settings are in their ranges (`IsInRange`), and which are the
+//! defaults (`usual`).
 //!
 //! ```text
-//! let settings = ImproveSettings { observe: true, ..ImproveSettings::defaults() };
+//! let settings = ImproveSettings { observe: true, ..ImproveSettings::usual() };
 //! ```
 #![tactic(auto)]
 
