@@ -4,8 +4,8 @@ use cert_theory::{Heading, Verdict};
 use chain_core::Chain;
 use std::marker::Model;
 
-/// A certificate: what is searched, the logs of the sizes without a chain, the chain where one was
-/// found, and what it comes to.
+/// A certificate: the question, the logs of the sizes without a chain, the chain if one was found, and the
+/// verdict.
 #[derive(Drop)]
 pub struct Bundle {
     pub heading: Heading,

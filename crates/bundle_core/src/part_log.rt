@@ -4,7 +4,7 @@ use enc_theory::Part;
 use log_core::Log;
 use std::marker::Model;
 
-/// A log over the formula of a part, and how it ends.
+/// A log over the formula of a subproblem, and how it ends.
 #[derive(Drop)]
 pub struct PartLog {
     pub part: Part,

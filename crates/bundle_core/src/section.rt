@@ -6,7 +6,7 @@ use crate::PartLog;
 use cert_theory::Ended;
 use std::marker::Model;
 
-/// The logs of one size, one for each of its parts in their order.
+/// The logs of one size, one for each of its subproblems, in order.
 #[derive(Drop)]
 pub struct Section {
     pub size: u32,
@@ -22,7 +22,7 @@ impl Model for Section {
 }
 
 impl Section {
-    /// Whether a part of the size is open: its log doesn't end with the empty clause, and no chain was found.
+    /// Whether a subproblem of the size is open, that is, neither refuted nor satisfied.
     pub fn is_open(&self) -> bool
         ensures { result ≡ bundles.is_open self.now }
     {

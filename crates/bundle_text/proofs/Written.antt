@@ -1,4 +1,4 @@
--- One thing more in a text.
+-- Texts with one more element appended.
 use Rattle.std.proofs.Common.{◌≡◌, ℕ, ◌+◌, ◌^◌, List, [], ◌∷◌, ◌++◌, length, map, Option, refl, sym, ap, ◌∙◌, append_assoc, append-nil, zero-add, arith}
 use Rattle.std.specs.List.{flat_map, range_with_len}
 use Rattle.std.proofs.lemmas.Grind.{common_steps, flat_map-append}
@@ -64,7 +64,7 @@ sections_more s ss = flat_map-append line_bytes (section_lines s) (flat_map sect
 pub text_both : (ls more : List Line) → text_of (ls ++ more) ≡ text_of ls ++ text_of more
 text_both ls more = flat_map-append line_bytes ls more
 
--- ---- things of several pieces
+-- ---- texts of several pieces
 
 regroup : (a b t c d e f : List ℕ) → a ++ (b ++ (t ++ (c ++ (d ++ (e ++ (f ++ [])))))) ≡ a ++ b ++ t ++ c ++ d ++ (e ++ f)
 regroup a b t c d e f = simp append_assoc (simp append-nil)

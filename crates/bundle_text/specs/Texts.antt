@@ -1,4 +1,4 @@
--- Texts that are written in loops, as far as the loops have come.
+-- The texts after some iterations of the loops that write them.
 use Rattle.std.specs.Prelude.{ℕ, ◌+◌, List, ◌++◌, length, map, codes, decimal, Option}
 use Rattle.std.specs.List.{flat_map, range_with_len}
 use Rattle.text_core.specs.Lines.{line_bytes}
@@ -25,18 +25,18 @@ parts_text parts = text_of (flat_map part_lines parts)
 unfoldable pub sections_text : List Section → List ℕ
 sections_text sections = text_of (flat_map section_lines sections)
 
--- ---- things of several pieces
+-- ---- texts of several pieces
 
 -- a line, with its LF
 unfoldable pub spelled : List ℕ → List ℕ
 spelled text = line_bytes (line text)
 
--- a heading, piece by piece
+-- a header, piece by piece
 unfoldable pub heading_text : Heading → List ℕ
 heading_text h =
     spelled first_text ++ spelled (codes "inputs " ++ decimal h.spec.n) ++ tables_to h.spec (length h.spec.on) ++ spelled (basis_line h.basis) ++ spelled (method_line h.method)
     ++ (spelled (conflicts_line h.conflicts) ++ spelled (max_line h.max))
 
--- a bundle, piece by piece
+-- a certificate, piece by piece
 unfoldable pub whole_text : Heading → List Section → Option Chain → Verdict → List ℕ
 whole_text h sections chain verdict = heading_text h ++ (sections_text sections ++ text_of (ending_lines chain verdict))

@@ -1,4 +1,4 @@
-//! Endings as they are written.
+//! The trailer of a certificate.
 ghost use Rattle.std.specs.Prelude.{◌≡◌, ◌++◌, OnOk, OnErr};
 ghost use Rattle.text_core.specs.Lines.{line_bytes};
 ghost use Rattle.chain_core.specs.Spelling.{line};
@@ -10,7 +10,7 @@ use chain_core::{Chain, write_chain};
 use std::alloc::AllocError;
 use text_core::push_number;
 
-/// Appends the block of a chain, where there is one.
+/// Appends the lines of a chain, if there is one.
 fn push_block(text: &mut Vec<u8>, chain: &Option<Chain>) -> Result<(), AllocError>
     ensures { OnOk result (text.new.items ≡ text.old.items ++ spelling.text_of (spelling.block_lines chain.now)) }
 {
@@ -37,7 +37,7 @@ fn push_verdict(text: &mut Vec<u8>, verdict: Verdict) -> Result<(), AllocError>
     }
 }
 
-/// Appends the lines of an ending.
+/// Appends the lines of a trailer.
 #[tactic(auto, using(crate::proofs::Written::ending_pieces))]
 pub fn push_ending(
     text: &mut Vec<u8>,
@@ -51,8 +51,8 @@ pub fn push_ending(
     text.extend_from_slice(b"end\n")
 }
 
-/// Appends the lines of an ending: the chain's block where there is one, the verdict, and `end`. On an
-/// error nothing was written.
+/// Appends the lines of a trailer: the chain, if there is one, the verdict, and `end`. On an error `out` is
+/// unchanged.
 pub fn write_ending(
     chain: &Option<Chain>,
     verdict: Verdict,

@@ -1,4 +1,4 @@
-//! Headings as they are written.
+//! The header of a certificate.
 ghost use Rattle.std.specs.Prelude.{◌≡◌, ◌<◌, ◌++◌, codes, decimal, OnOk, OnErr};
 ghost use Rattle.cert_theory.specs.Spelling as spelling;
 ghost use Rattle.bundle_text.specs.Texts.{spelled, heading_text};
@@ -9,7 +9,7 @@ use settings::{Method, method_name};
 use std::alloc::AllocError;
 use tt_core::Spec;
 
-/// Appends the line that says that a certificate begins.
+/// Appends the first line.
 #[tactic(auto, unfolding(crate::specs::Texts::spelled))]
 fn push_first(text: &mut Vec<u8>) -> Result<(), AllocError>
     ensures { OnOk result (text.new.items ≡ text.old.items ++ spelled spelling.first_text) }
@@ -46,7 +46,7 @@ fn push_method(text: &mut Vec<u8>, method: Method) -> Result<(), AllocError>
     text.extend_from_slice(b"\n")
 }
 
-/// Appends the lines of the budget and of the greatest size.
+/// Appends the lines of the conflict limit and of the greatest size.
 #[tactic(auto, unfolding(cert_theory::specs::Spelling::conflicts_line, cert_theory::specs::Spelling::max_line, crate::specs::Texts::spelled))]
 fn push_bounds(text: &mut Vec<u8>, conflicts: u32, max: u32) -> Result<(), AllocError>
     ensures { OnOk result (text.new.items ≡ text.old.items ++ (spelled (spelling.conflicts_line conflicts) ++ spelled (spelling.max_line max))) }
@@ -55,7 +55,7 @@ fn push_bounds(text: &mut Vec<u8>, conflicts: u32, max: u32) -> Result<(), Alloc
     push_numbered(text, b"max ", max)
 }
 
-/// Appends the lines of a heading.
+/// Appends the lines of a header.
 #[tactic(auto, unfolding(crate::specs::Texts::heading_text))]
 pub fn push_heading(
     text: &mut Vec<u8>,
@@ -76,8 +76,7 @@ pub fn push_heading(
     push_bounds(text, conflicts, max)
 }
 
-/// Appends the lines of a heading: what is searched, over a basis that isn't empty. On an error nothing
-/// was written.
+/// Appends the lines of a header, over a basis that isn't empty. On an error `out` is unchanged.
 #[tactic(auto, using(crate::proofs::Written::headings))]
 pub fn write_heading(
     spec: &Spec,

@@ -1,15 +1,14 @@
-//! Certificates as they are written. It stands on `cert_theory` for the one spelling of a bundle, on
-//! `bundle_core` for bundles as data, and on the crates of tables, bases, chains and logs for the
-//! spelling of each of these.
+//! The writer of certificates. It depends on `cert_theory` for certificates as data and for their spelling, and
+//! on the crates of tables, bases, chains and logs for the spelling of each of these.
 //!
-//! The theorem is that of `write_bundle`: what it appends is the spelling. `write_heading`,
-//! `write_section` and `write_ending` append its three pieces, so that a certificate can be written
-//! while it is found: the heading, each section as soon as it stands, and the ending. `write_parts` appends
-//! parts that stand after a certificate.
+//! The theorem is that of `write_bundle`: it appends exactly the certificate's spelling. `write_heading`,
+//! `write_section` and `write_ending` append the three kinds of pieces, so that a certificate can be written
+//! during the search: the header, each section as soon as it is complete, and the trailer. `write_parts`
+//! appends logs of subproblems that follow a certificate (those of depths).
 //!
 //! ```text
 //! let mut text = Vec::new(alloc);
-//! write_bundle(&bundle, &mut text)?; // "chains 1\n" .. "minimum 1\nend\n"
+//! write_certificate(&certificate, &mut text)?; // "chains 1\n" .. "minimum 1\nend\n"
 //! ```
 #![tactic(auto)]
 

@@ -1,4 +1,4 @@
-//! Sections as they are written.
+//! The sections of a certificate.
 ghost use Rattle.std.specs.Prelude.{◌≡◌, ◌++◌, OnOk, OnErr};
 ghost use Rattle.std.specs.List.{flat_map};
 ghost use Rattle.text_core.specs.Lines.{line_bytes};
@@ -13,10 +13,10 @@ use enc_theory::Part;
 use log_core::write_log;
 use std::alloc::AllocError;
 
-/// The room that a section's text has at first; those of sizes 0 and 1 fit in.
+/// The initial capacity of a section's text in bytes; enough for sizes 0 and 1.
 const SHORT: usize = 1000;
 
-/// Appends the title of a part: the sizes of the levels of a fence, and nothing for the whole.
+/// Appends the name of a subproblem: the sizes of a fence's levels, and nothing for a whole size.
 #[tactic(auto, unfolding(cert_theory::specs::Spelling::title_lines))]
 fn push_title(text: &mut Vec<u8>, part: &Part) -> Result<(), AllocError>
     ensures { OnOk result (text.new.items ≡ text.old.items ++ spelling.text_of (spelling.title_lines part.now)) }
@@ -29,7 +29,7 @@ fn push_title(text: &mut Vec<u8>, part: &Part) -> Result<(), AllocError>
     text.extend_from_slice(b"\n")
 }
 
-/// Appends the line that begins a log.
+/// Appends the first line of a log: `refuted` or `open`.
 fn push_ended(text: &mut Vec<u8>, ended: Ended) -> Result<(), AllocError>
     ensures { OnOk result (text.new.items ≡ text.old.items ++ line_bytes (line (spelling.ended_text ended))) }
 {
@@ -39,7 +39,7 @@ fn push_ended(text: &mut Vec<u8>, ended: Ended) -> Result<(), AllocError>
     }
 }
 
-/// Appends the lines of a part.
+/// Appends the lines of a subproblem.
 #[tactic(auto, using(crate::proofs::Written::part_pieces))]
 fn push_part(text: &mut Vec<u8>, part: &PartLog) -> Result<(), AllocError>
     ensures { OnOk result (text.new.items ≡ text.old.items ++ spelling.text_of (spelling.part_lines part.now)) }
@@ -50,7 +50,7 @@ fn push_part(text: &mut Vec<u8>, part: &PartLog) -> Result<(), AllocError>
     text.extend_from_slice(b"done\n")
 }
 
-/// Appends the lines of parts.
+/// Appends the lines of subproblems.
 #[tactic(auto, using(crate::proofs::Written::parts))]
 fn push_parts(text: &mut Vec<u8>, parts: &[PartLog]) -> Result<(), AllocError>
     ensures { OnOk result (text.new.items ≡ text.old.items ++ parts_text parts.now) }
@@ -63,7 +63,7 @@ fn push_parts(text: &mut Vec<u8>, parts: &[PartLog]) -> Result<(), AllocError>
     Ok(())
 }
 
-/// Appends the lines of parts, as they stand in a section. On an error nothing was written.
+/// Appends the lines of subproblems, as in a section. On an error `out` is unchanged.
 #[tactic(auto, unfolding(crate::specs::Texts::parts_text))]
 pub fn write_parts(parts: &[PartLog], out: &mut Vec<u8>) -> Result<(), AllocError>
     ensures ok { OnOk result (out.new.items ≡ out.old.items ++ spelling.text_of (flat_map spelling.part_lines parts.now)) }
@@ -83,7 +83,7 @@ pub fn push_section(text: &mut Vec<u8>, section: &Section) -> Result<(), AllocEr
     push_parts(text, &section.parts)
 }
 
-/// Appends the lines of a section. On an error nothing was written.
+/// Appends the lines of a section. On an error `out` is unchanged.
 pub fn write_section(section: &Section, out: &mut Vec<u8>) -> Result<(), AllocError>
     ensures ok { OnOk result (out.new.items ≡ out.old.items ++ spelling.text_of (spelling.section_lines section.now)) }
     ensures err { OnErr result (out.new.items ≡ out.old.items) }

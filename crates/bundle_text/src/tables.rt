@@ -9,7 +9,7 @@ use std::alloc::AllocError;
 use text_core::push_number;
 use tt_core::{Cell, Spec, row};
 
-/// A cell as it is written.
+/// The character of a cell.
 fn character(cell: Cell) -> u8
     ensures { result ≡ character_of cell }
 {
@@ -45,7 +45,7 @@ pub fn push_tables(text: &mut Vec<u8>, spec: &Spec) -> Result<(), AllocError>
     Ok(())
 }
 
-/// Appends a line of a word and a number. An error is want of memory.
+/// Appends a line of a word and a number. The only error is that memory runs out.
 pub fn push_numbered(text: &mut Vec<u8>, word: &[u8], number: u32) -> Result<(), AllocError>
     ensures { OnOk result (text.new.items ≡ text.old.items ++ line_bytes (line (word.now ++ decimal number))) }
 {

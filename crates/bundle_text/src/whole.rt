@@ -1,4 +1,4 @@
-//! Whole bundles as they are written.
+//! Whole certificates.
 ghost use Rattle.std.specs.Prelude.{◌≡◌, ◌<◌, ◌++◌, OnOk, OnErr};
 ghost use Rattle.cert_theory.specs.Bundle.{IsValid, HasOutput};
 ghost use Rattle.cert_theory.specs.Spelling as spelling;
@@ -24,7 +24,7 @@ fn push_sections(text: &mut Vec<u8>, sections: &[Section]) -> Result<(), AllocEr
     Ok(())
 }
 
-/// Appends the lines of a bundle.
+/// Appends the lines of a certificate.
 #[tactic(auto, unfolding(crate::specs::Texts::whole_text))]
 fn push_bundle(
     text: &mut Vec<u8>,
@@ -48,7 +48,7 @@ fn push_bundle(
     push_ending(text, chain, verdict)
 }
 
-/// Appends the one spelling of a valid bundle with an output. On an error nothing was written.
+/// Appends the spelling of a valid certificate with an output. On an error `out` is unchanged.
 #[tactic(auto, using(crate::proofs::Written::whole))]
 pub fn write_bundle(bundle: &Bundle, out: &mut Vec<u8>) -> Result<(), AllocError>
     requires valid { IsValid bundle.now }

@@ -1,4 +1,4 @@
--- Lines of a chain block.
+-- Lines of a chain.
 use Rattle.std.proofs.Common.{◌≡◌, ℕ, ◌<◌, ◌==◌, Bool, false, cond, List, [], ◌∷◌, ◌++◌, length, Option, Result, Ok, refl, sym, ap, ◌∙◌, arith}
 use Rattle.std.proofs.lemmas.Bool.Decides.{nat_tests}
 use Rattle.text_core.specs.Lines.{Line}
@@ -26,7 +26,7 @@ pub body_is : (f : Frame) (ls : List Line) → body_from f ls ≡ steps_then f (
 unfolding body_from
 body_is f ls = refl
 
--- the frame that a block is judged by
+-- the frame of the chain's grammar
 pub frame_is : (h : Heading) (number steps n outputs : ℕ) → n ≡ h.spec.n → outputs ≡ length h.spec.on → frame_of h number steps ≡ record { first_line = number; n = n; outputs = outputs; steps = steps }
 frame_is h number steps n outputs inputs_is outputs_is = λ i. record { first_line = number; n = sym inputs_is i; outputs = sym outputs_is i; steps = steps }
 

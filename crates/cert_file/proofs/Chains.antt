@@ -1,4 +1,4 @@
--- The first line of a chain block, and its end.
+-- The first line of a chain, and its end.
 use Rattle.std.proofs.Common.{◌≡◌, ℕ, ◌+◌, List, [], length, Option, Result, Ok, ap, ◌∙◌}
 use Rattle.text_core.specs.Lines.{Line}
 use Rattle.chain_theory.specs.Chain.{Step}
@@ -20,7 +20,7 @@ chain_goes h number size low l ls steps read =
     ap (λ (r : Result ℕ BundleError). r >>= λ steps. with_block h (frame_of h number steps) low (body_from (frame_of h number steps) ls)) read
     ∙ ap (with_block h (frame_of h number steps) low) (body_is (frame_of h number steps) ls)
 
--- all outs were read: the chain is judged
+-- all outputs were read: the chain is checked
 outs_end : (h : Heading) (f : Frame) (low : Option ℕ) (steps : List Step) (os : List Out) (ls : List Line) → length os ≡ f.outputs → with_block h f low (outs_then f steps (outs_from f os ls)) ≡ (chain_judged h (record { n = f.n; steps = steps; outs = os }) >>= λ good. behind_chain (f.first_line + 1 + f.steps + f.outputs) f.steps low ls)
 unfolding with_block
 outs_end h f low steps os ls all = ap (λ (r : Result (List Out × List Line) ChainError). with_block h f low (outs_then f steps r)) (outs_done f os ls all)

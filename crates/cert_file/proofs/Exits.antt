@@ -1,4 +1,4 @@
--- Refusals that are handed on.
+-- Faults that are passed on.
 use Rattle.std.proofs.Common.{◌≡◌, ℕ, List, Result, Ok, Err, sym, subst}
 use Rattle.std.specs.Result.{IsErrAnd}
 use Rattle.text_core.specs.Lines.{Line}

@@ -1,4 +1,4 @@
--- What a stage keeps of the text, one line on.
+-- What a stage keeps of the text, after one more line.
 use Rattle.std.proofs.Common.{◌≡◌, ℕ, ◌+◌, List, [], ◌∷◌, length, Result, Ok, sym, ap, ◌∙◌, subst, arith}
 use Rattle.text_core.specs.Lines.{Line}
 use Rattle.chain_theory.specs.Chain.{Chain, Step}
@@ -13,7 +13,7 @@ use Rattle.line_reader.specs.Cuts.{IsPlace}
 use Rattle.cert_file.specs.Telling.{IsBlock, IsHeld, chain_read}
 use Rattle.cert_file.proofs.Blocks.{body_is}
 
--- ---- the block
+-- ---- the chain
 
 pub block_begins : (f : Frame) (all : List Line) (l : Line) (ls : List Line) → IsPlace f.first_line (l ∷ ls) all → count_at f.first_line l ≡ Ok f.steps → IsBlock f all (steps_then f (steps_from f [] ls))
 unfolding chain_of
@@ -28,7 +28,7 @@ block_begins f all l ls place count = record {
 pub block_goes : (f : Frame) (all : List Line) (read next : Result Read ChainError) → read ≡ next → IsBlock f all read → IsBlock f all next
 block_goes f all read next same is = subst (λ (r : Result Read ChainError). IsBlock f all r) same is
 
--- all outs were read
+-- all outputs were read
 pub block_held : (h : Heading) (f : Frame) (all ls : List Line) (steps : List Step) (os : List Out) (number : ℕ) (c : Chain) → IsFrame h f → length steps ≡ f.steps → length os ≡ f.outputs → number ≡ f.first_line + 1 + f.steps + f.outputs → c ≡ record { n = f.n; steps = steps; outs = os } → IsBlock f all (outs_then f steps (outs_from f os ls)) → IsHeld h c 0 number all
 block_held h f all ls steps os number c frame count all_outs place is block =
     let own : Chain = record { n = f.n; steps = steps; outs = os } in

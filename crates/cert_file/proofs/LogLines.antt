@@ -37,7 +37,7 @@ logged_is : (f : Formula) (ended : Ended) (log : List theory.Line) (l : Line) (l
 unfolding logged_in
 logged_is f ended log l line e = ap (λ (r : Result theory.Line PartError). r >>= behind_spelling f ended log) e
 
--- one that can't
+-- a line that can't be parsed
 pub unspelled : (f : Formula) (ended : Ended) (log : List theory.Line) (l : Line) (e : PartError) → PartFails e (spelled_in l) → PartFails e (logged_in f ended log l)
 unfolding logged_in
 unspelled f ended log l e fails = part_fails_bind e (spelled_in l) (behind_spelling f ended log) fails
@@ -62,7 +62,7 @@ refused_line f ended log l line c fault e spelled accepted told is =
     part_fails_is e (behind_spelling f ended log line) (logged_in f ended log l) (logged_is f ended log l line spelled)
     (refusal_fails fault e (line_fault (state_after f log) line) line (λ held. or_not_new ended (state_after f log) held) told' is)
 
--- a line that holds is taken where the test lets it
+-- a line that holds is accepted where the test allows it
 fresh_is : (f : Formula) (log : List theory.Line) (c : Checked) (line : theory.Line) (b : Bool) → HasAccepted f log c → is_new_to c line b → b ≡ is_fresh (state_after f log) line
 fresh_is f log c (theory.Add id lits hints) b accepted new =
     let at : b ≡ is_fresh (state_of c) (theory.Add id lits hints) = test_is (state_of c) lits b (subst (λ (s : State). IsLow s) (sym accepted.state) (log_low f log accepted.holds)) new in
@@ -86,11 +86,11 @@ added_is log (theory.Delete id ids) = let same = ap length (added_ids-delete log
 
 -- ---- the reader
 
--- nothing is missing where there are enough
+-- nothing is missing where there are enough additions
 enough_is : (conflicts additions missing : ℕ) → missing ≡ conflicts - additions → nat_le conflicts additions ≡ (missing == 0)
 enough_is conflicts additions missing is = grind (arith, nat_tests, is)
 
--- and one addition more leaves one less
+-- and one more addition leaves one less missing
 pub one_less : (conflicts additions added more missing left : ℕ) → missing ≡ conflicts - additions → more ≡ additions + added → left ≡ missing - added → left ≡ conflicts - more
 one_less conflicts additions added more missing left is sum less = omega arith
 
@@ -107,7 +107,7 @@ stop done = Ok None
 abbrev one_more : theory.Line → Result (Option theory.Line) PartError
 one_more line = Ok (Some line)
 
--- which of the two a line is
+-- a line is either of the two
 by_test : (f : Formula) (conflicts : ℕ) (ended : Ended) (log : List theory.Line) (l : Line) (done : Bool) → is_line done_text l ≡ done → part_in f conflicts ended log l ≡ cond done (done_in f conflicts ended log >>= stop) (logged_in f ended log l >>= one_more)
 unfolding part_in
 by_test f conflicts ended log l done is = ap (λ (b : Bool). cond b (done_in f conflicts ended log >>= stop) (logged_in f ended log l >>= one_more)) is
@@ -129,7 +129,7 @@ logged_fails f conflicts ended log l e is fails =
 pub logged_goes : (f : Formula) (conflicts : ℕ) (ended : Ended) (log : List theory.Line) (l : Line) (line : theory.Line) → is_line done_text l ≡ false → logged_in f ended log l ≡ Ok line → part_in f conflicts ended log l ≡ Ok (Some line)
 logged_goes f conflicts ended log l line is read = by_test f conflicts ended log l false is ∙ ap (λ (r : Result theory.Line PartError). r >>= one_more) read
 
--- ---- refusals that are handed on
+-- ---- faults that are passed on
 
 pub logged_err : (r : Result ℕ PartError) (e : PartError) (f : Formula) (ended : Ended) (log : List theory.Line) (l : Line) (c : Checked) → IsErrAnd r (λ d. d ≡ e) → PartFails e (logged_in f ended log l) → IsLogged f ended log l c r
 logged_err (Ok added) e f ended log l c is fails = absurd is

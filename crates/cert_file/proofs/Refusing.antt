@@ -1,4 +1,4 @@
--- Refusals of chain blocks.
+-- Errors of the chain's grammar.
 use Rattle.std.proofs.Common.{◌≡◌, ℕ, Option, Result, Err, sym, ap, subst}
 use Rattle.std.proofs.lemmas.Grind.{common_steps}
 use Rattle.chain_core.specs.declared.frame.Frame.{Frame}
@@ -13,7 +13,7 @@ use Rattle.cert_theory.specs.Gives.{Fails}
 use Rattle.cert_theory.specs.GivesLaws.{fails_bind}
 use Rattle.cert_file.specs.Refusals.{IsRefusal}
 
--- a refusal of a chain block is one of bundles
+-- an error of the chain's grammar is a fault of the certificate
 pub refusal_fails : {A : Type 0} (error : ChainError) (e : BundleError) (read : Result A ChainError) → reading.Fails error read → IsRefusal error e → Fails e (as_syntax chain_place read)
 refusal_fails {A = A} (BadStep line) e read fails is = subst (λ (d : BundleError). Fails d (as_syntax chain_place read)) (sym is) (ap (λ (r : Result A ChainError). as_syntax chain_place r) fails)
 refusal_fails {A = A} (ForwardPlace line) e read fails is = subst (λ (d : BundleError). Fails d (as_syntax chain_place read)) (sym is) (ap (λ (r : Result A ChainError). as_syntax chain_place r) fails)
@@ -22,12 +22,12 @@ refusal_fails {A = A} (TooManySteps line) e read fails is = subst (λ (d : Bundl
 refusal_fails {A = A} (BadCount line) e read fails is = subst (λ (d : BundleError). Fails d (as_syntax chain_place read)) (sym is) (ap (λ (r : Result A ChainError). as_syntax chain_place r) fails)
 refusal_fails Memory e read fails is = subst (λ (d : BundleError). Fails d (as_syntax chain_place read)) (sym is) tt
 
--- so it is the answer
+-- so it is the result
 pub block_fails : (h : Heading) (f : Frame) (low : Option ℕ) (read : Result block.Read ChainError) (error : ChainError) (e : BundleError) → reading.Fails error read → IsRefusal error e → Fails e (with_block h f low read)
 unfolding with_block
 block_fails h f low read error e fails is = fails_bind e (as_syntax chain_place read) _ (refusal_fails error e read fails is)
 
--- what refuses before another reader refuses with it
+-- a fault of the first reader is that of the sequence
 pub fails_on : {A B : Type 0} (error : ChainError) (read : Result A ChainError) (more : Result B ChainError) → ((d : ChainError) → read ≡ Err d → more ≡ Err d) → reading.Fails error read → reading.Fails error more
 fails_on (BadStep line) read more on fails = on (BadStep line) fails
 fails_on (ForwardPlace line) read more on fails = on (ForwardPlace line) fails

@@ -54,7 +54,7 @@ unfolding sections_of
 part_goes h number size low part later ended log l ls step e =
     ap (λ (r : Result (Option theory.Line) PartError). (at_line number r >>= λ step. come (behind_line size low part later ended log step)) >>= go_on h number ls) e
 
--- ---- titles
+-- ---- names
 
 due_fails : (h : Heading) (number size : ℕ) (low : Option ℕ) (sizes : List ℕ) (later : List Part) (l : Line) (ls : List Line) (e : PartError) → PartFails e (title_in (may_follow l) sizes l) → Fails (fault_at number e) (sections_of h number (progress size low (Due sizes later)) (l ∷ ls))
 unfolding sections_of
@@ -67,7 +67,7 @@ due_goes : (h : Heading) (number size : ℕ) (low : Option ℕ) (sizes : List �
 unfolding sections_of
 due_goes h number size low sizes later l ls e = ap (λ (r : Result (Unit {0}) PartError). (at_line number r >>= λ titled. come (progress size low (Begun (Levels sizes) later))) >>= go_on h number ls) e
 
--- a title that is due is at fault
+-- a name that is due is at fault
 pub titled_fails : (part : Part) (h : Heading) (number size : ℕ) (low : Option ℕ) (later : List Part) (l : Line) (ls : List Line) (e : PartError) → IsTitled part (may_follow l) l (Err e) → Fails (fault_at number e) (sections_of h number (before size low (part ∷ later)) (l ∷ ls))
 unfolding before
 titled_fails Whole h number size low later l ls e is = absurd cc
@@ -102,7 +102,7 @@ first_of (y ∷ ys) (suc k) x later e = let rest = first_of ys k x later e in (s
 pub same_first : {A : Type 0} (x y : A) (xs ys zs : List A) → zs ≡ x ∷ xs → zs ≡ y ∷ ys → x ≡ y
 same_first x y xs ys zs one two = cc
 
--- the formula of a part that is another's too
+-- the formula of a subproblem that equals another one
 pub formula_at : {E : Type 0} (r : Result Formula E) (h : Heading) (size : ℕ) (p q : Part) → p ≡ q → IfOk r (λ cnf. cnf ≡ formula_of h size p) → IfOk r (λ cnf. cnf ≡ formula_of h size q)
 formula_at (Ok f) h size p q same is = is ∙ ap (formula_of h size) same
 formula_at (Err e) h size p q same is = tt

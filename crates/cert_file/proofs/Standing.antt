@@ -1,4 +1,4 @@
--- What a stage says with one more line, and a refusal of a text that is one piece.
+-- What a stage says with one more line, and the fault of a text that is one piece.
 use Rattle.std.proofs.Common.{◌≡◌, ℕ, List, [], Result, Ok, Err, sym, subst, append-nil}
 use Rattle.std.specs.Prelude.{IfOk}
 use Rattle.std.specs.Result.{IsErrAnd}
@@ -14,7 +14,7 @@ use Rattle.cert_file.specs.Standing.{StandsIn, Refuses}
 use Rattle.cert_file.specs.Reader.{IsRefused}
 use Rattle.cert_file.specs.declared.stage.Stage.{Stage}
 
--- the answer for which a stage stands, and what it keeps
+-- the result that a stage determines, and what it keeps
 pub taken_both : (r : Result Stage BundleError) (number : ℕ) (ls all : List Line) → Judged r number ls (bundle_of all) → IfOk r (λ s. Tells s number ls all) → pieces.Judged StandsIn Refuses r number ls all
 taken_both (Ok s) number ls all judged tells = (judged, tells)
 taken_both (Err e) number ls all judged tells = judged

@@ -49,7 +49,7 @@ rows_short n number (x ∷ on) care same =
     ap (λ (b : Bool). with_tables (cond b (Err NoOutput) (Ok (record { words = record { n = n; on = x ∷ on; care = care }; rest = [] })))) (some_rows (length on))
     ∙ ap (λ (k : ℕ). let r : Answer = Err (Syntax k) in r) (sym same)
 
--- what the lines come to where none is left
+-- the result at the end
 abbrev pub closed_at : ℕ → Option Told → Answer
 closed_at number None = Err (Syntax number)
 closed_at number (Some told) = Ok told.verdict

@@ -1,4 +1,4 @@
--- What is handed out of a text, where something is.
+-- What is returned for a text without a fault.
 use Rattle.std.proofs.Common.{◌<◌, List, ℕ, Result, Ok, Err}
 use Rattle.std.specs.Prelude.{IfOk}
 use Rattle.text_core.specs.Lines.{lines_of}

@@ -1,4 +1,4 @@
--- What the lines of a bundle ask.
+-- The header of a certificate, by its lines alone.
 use Rattle.std.specs.Prelude.{ℕ, List, [], ◌∷◌, Option, None, Result, Ok, Err, option_and_then}
 use Rattle.std.specs.Option.{option_map}
 use Rattle.text_core.specs.Lines.{Line}
@@ -9,7 +9,7 @@ use Rattle.settings.specs.declared.methods.Method.{Method}
 use Rattle.cert_theory.specs.declared.data.Heading.{Heading}
 use Rattle.cert_theory.specs.Judging.{basis_in, method_in, conflicts_in, max_in}
 
--- by the line of the greatest size, where all before it was read
+-- the header by the line of the greatest size, where all lines before have been read
 unfoldable pub with_max : Words → ℕ → Method → ℕ → List Line → Option Heading
 with_max w basis method conflicts [] = None
 with_max w basis method conflicts (l ∷ ls) = option_map (λ max. record { spec = w; basis = basis; method = method; conflicts = conflicts; max = max }) (max_in l)
@@ -30,8 +30,8 @@ unfoldable pub heading_by : Result tables.Read SpecError → Option Heading
 heading_by (Ok read) = with_basis read.words read.rest
 heading_by (Err e) = None
 
--- the heading of the lines of a bundle: after the first stand the tables, and then the basis, the method, the
--- conflicts and the greatest size
+-- The header of a certificate's lines: the tables follow the first line, and then come the basis, the method,
+-- the conflict limit and the greatest size.
 unfoldable pub heading_in : List Line → Option Heading
 heading_in [] = None
 heading_in (l ∷ ls) = heading_by (tables.tables_of ls)

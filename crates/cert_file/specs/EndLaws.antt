@@ -1,4 +1,4 @@
--- What is judged as the definition says, has the verdicts of valid bundles.
+-- A result as in the definition has the verdicts of valid certificates.
 use Rattle.std.specs.Prelude.{List, ℕ, Result, Ok, Err, IfOk}
 use Rattle.std.proofs.Common.{subst}
 use Rattle.text_core.specs.Lines.{lines_of}

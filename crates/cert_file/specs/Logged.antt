@@ -1,4 +1,4 @@
--- What was done with a line of a log.
+-- What the reader of a log does with a line.
 use Rattle.std.specs.Prelude.{◌≡◌, ◌↔◌, ℕ, ◌+◌, ◌-◌, Bool, true, List, [], ◌∷◌, ◌++◌, length, Some, None, Result, Ok, Err}
 use Rattle.text_core.specs.Lines.{Line}
 use Rattle.sat_theory.specs.Formula.{Formula}
@@ -18,17 +18,17 @@ use Rattle.cert_file.specs.declared.part.PartReader.{PartReader}
 use Rattle.cert_file.specs.declared.part.PartStep.{PartStep}
 use Rattle.cert_file.specs.declared.part.PartStep.TheVariants.{More, Done}
 
--- the test says of an addition whether its clause is new
+-- the flag says whether an addition isn't subsumed by a live clause
 abbrev pub is_new_to : Checked → theory.Line → Bool → Type 0
 is_new_to checker (theory.Add id lits hints) test = (test ≡ true) ↔ IsNew (live_at checker.live) lits
 is_new_to checker (theory.Delete id ids) test = test ≡ true
 
--- and of a log, whether it may have the line after the others
+-- and whether the log may have the line next
 abbrev pub MayAdd : Checked → Ended → theory.Line → Bool → Type 0
 MayAdd checker Refuted line test = test ≡ true
 MayAdd checker Open line test = is_new_to checker line test
 
--- a refusal of the checker, as one of parts
+-- a fault of the checker as one of the log
 abbrev pub IsRefusal : CheckError → PartError → Type 0
 IsRefusal check_errors.Memory e = e ≡ errors.Memory
 IsRefusal fault e = e ≡ errors.StepRefused fault
@@ -38,34 +38,34 @@ abbrev pub added_by : theory.Line → ℕ
 added_by (theory.Add id lits hints) = 1
 added_by (theory.Delete id ids) = 0
 
--- a line was taken: the checker has accepted it after the others
+-- a line was accepted by the checker, after those before
 pub record IsTaken (f : Formula) (ended : Ended) (log : List theory.Line) (l : Line) (checker : Checked) (added : ℕ) : Type 0 where
   pub line : theory.Line
   pub read : logged_in f ended log l ≡ Ok line
   pub accepted : HasAccepted f (log ++ line ∷ []) checker
   pub count : length (added_ids (log ++ line ∷ [])) ≡ length (added_ids log) + added
 
--- it was taken, or it is at fault
+-- a line was accepted, or it has a fault
 abbrev pub IsLogged : Formula → Ended → List theory.Line → Line → Checked → Result ℕ PartError → Type 0
 IsLogged f ended log l checker (Ok added) = IsTaken f ended log l checker added
 IsLogged f ended log l checker (Err e) = PartFails e (logged_in f ended log l)
 
--- ---- the reader of a part
+-- ---- the reader of a subproblem
 
--- A reader has read these lines of a log over a formula: its checker has accepted them, and it knows how
--- many additions are missing of the `conflicts` that a part which is left open needs.
+-- A reader has read these lines of a log over a formula: its checker has accepted them, and it knows how many
+-- of the `conflicts` additions of an open log are missing.
 pub record IsReading (f : Formula) (conflicts : ℕ) (log : List theory.Line) (reader : PartReader) : Type 0 where
   pub accepted : HasAccepted f log reader.checker
   pub missing : reader.missing ≡ conflicts - length (added_ids log)
 
--- it has read one line more
+-- it has read one more line
 pub record HasMore (f : Formula) (conflicts : ℕ) (ended : Ended) (log : List theory.Line) (l : Line) (reader : PartReader) : Type 0 where
   pub line : theory.Line
   pub read : part_in f conflicts ended log l ≡ Ok (Some line)
   pub reading : IsReading f conflicts (log ++ line ∷ []) reader
   pub same_end : reader.ended ≡ ended
 
--- one line more was read, the log has ended as it has to, or the line is at fault
+-- one more line was read, the log has ended without a fault, or the line has a fault
 abbrev pub IsFed : Formula → ℕ → Ended → List theory.Line → Line → Result PartStep PartError → Type 0
 IsFed f conflicts ended log l (Ok (More reader)) = HasMore f conflicts ended log l reader
 IsFed f conflicts ended log l (Ok Done) = part_in f conflicts ended log l ≡ Ok None

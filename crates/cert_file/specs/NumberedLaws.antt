@@ -1,4 +1,4 @@
--- A verdict of one number or of two is the same, whatever is made of its numbers.
+-- Parsing the numbers of a verdict commutes with functions of the numbers.
 use Rattle.std.specs.Prelude.{◌≡◌, ℕ, Bool, true, false, List, [], ◌∷◌, cond, Option, Some, None}
 use Rattle.std.specs.Option.{option_map}
 use Rattle.std.specs.Prelude.{option_and_then}
@@ -36,6 +36,6 @@ numbered_as {U} {V} f one two first second l =
     chosen_as f (begins first l) (option_map one (number_behind first l)) (option_and_then (λ pair. bounded_in two (items_of pair)) (value_of second l)) (option_map (λ n. f (one n)) (number_behind first l)) (option_and_then (λ pair. bounded_in (λ a b. f (two a b)) (items_of pair)) (value_of second l))
     (one_as f one (number_behind first l)) (behind_as f two (value_of second l))
 
--- what was read of a line, as something else
+-- the parsed numbers under a function
 pub numbered_is : {U V : Type 0} (f : U → V) (one : ℕ → U) (two : ℕ → ℕ → U) (first second : List ℕ) (l : Line) (o : Option U) → o ≡ numbered_in one two first second l → option_map f o ≡ numbered_in (λ n. f (one n)) (λ a b. f (two a b)) first second l
 numbered_is {U} {V} f one two first second l o is = ap (option_map f) is ∙ numbered_as f one two first second l

@@ -1,4 +1,4 @@
--- What a reader says of the text that it was fed, wherever that was cut into pieces.
+-- What a reader of a text knows, wherever the text is cut into pieces.
 use Rattle.std.specs.Prelude.{ℕ, List}
 use Rattle.line_reader.specs.Reader as pieces
 use Rattle.line_reader.specs.Seen as lines
@@ -8,8 +8,7 @@ use Rattle.cert_file.specs.Standing.{StandsIn, Refuses}
 use Rattle.cert_file.specs.declared.stage.Stage.{Stage}
 use Rattle.line_reader.specs.declared.reader.PieceReader.{PieceReader}
 
--- what is due next and what is kept of the lines before, the number of the next line, what was fed of it,
--- and how many bytes were fed in all
+-- the stage, the number of the next line, the bytes of the unfinished line, and how many bytes were fed in all
 abbrev pub Reader : Type 0
 Reader = pieces.Reader Stage
 
@@ -24,11 +23,11 @@ seen r = lines.seen r
 abbrev pub IsReader : Reader → Type 0
 IsReader r = pieces.IsReader IsStage (λ (s : Stage). 0) r
 
--- A reader stands for a text: whatever comes after the text, the whole has the answer for which the stage stands, and
--- the heading and the chain that it keeps.
+-- A reader determines the result of every text that begins with these bytes, and it keeps the header and the
+-- chain.
 abbrev pub StandsFor : Reader → List ℕ → Type 0
 StandsFor r text = pieces.StandsFor StandsIn r text
 
--- Whatever comes after the text, the whole is refused so.
+-- every text that begins with these bytes has this fault
 abbrev pub IsRefused : BundleError → List ℕ → Type 0
 IsRefused e text = pieces.IsRefused Refuses e text

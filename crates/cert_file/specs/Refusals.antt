@@ -1,4 +1,4 @@
--- A refusal of a chain block as one of bundles.
+-- An error of the chain's grammar as a fault of a certificate.
 use Rattle.std.specs.Prelude.{◌≡◌}
 use Rattle.chain_core.specs.declared.error.ChainError.{ChainError}
 use Rattle.chain_core.specs.declared.error.ChainError.TheVariants as chain_errors

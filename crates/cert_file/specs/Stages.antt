@@ -1,4 +1,4 @@
--- What a stage says of the lines that were read: which answer a text has with the lines that come next.
+-- What a stage says about the lines read so far: the result of the text, as a function of the lines to come.
 use Rattle.std.specs.Prelude.{◌≡◌, ℕ, ◌+◌, ◌≤◌, ◌<◌, List, [], ◌∷◌, length, drop, All, Option, Some, None, Result, Ok, Err}
 use Rattle.text_core.specs.Lines.{Line}
 use Rattle.sat_theory.specs.Line as theory
@@ -30,34 +30,34 @@ use Rattle.cert_file.specs.declared.stage.Stage.TheVariants as stages
 abbrev pub Answer : Type 0
 Answer = Result Verdict BundleError
 
--- what is known of a heading that was read
+-- what is known of a header that was read
 pub record IsKnown (h : Heading) : Type 0 where
   pub output : 0 < length h.spec.on
   pub basis : 0 < h.basis
   pub max : h.max ≤ most_steps
 
--- a size whose section is read: its parts, and one of them
+-- a size whose section is being read: its subproblems, and the index of the current one
 pub record IsRunning (r : Running) : Type 0 where
   pub known : IsKnown r.heading
   pub size : r.size ≤ r.heading.max
   pub parts : r.parts.items ≡ parts_of r.heading r.size
   pub at : r.at < length r.parts.items
 
--- after the first line of a chain block
+-- after the first line of a chain
 pub record IsFrame (h : Heading) (f : Frame) : Type 0 where
   pub known : IsKnown h
   pub n : f.n ≡ h.spec.n
   pub outputs : f.outputs ≡ length h.spec.on
   pub steps : f.steps ≤ 16
 
--- these steps of the block were read, and there is one more
+-- these steps were read, and at least one more is due
 pub record AreRead (h : Heading) (f : Frame) (steps : List Step) (number : ℕ) : Type 0 where
   pub frame : IsFrame h f
   pub due : length steps < f.steps
   pub steps_are : chain.AreSteps f.n (steps_of steps)
   pub number_is : number ≡ f.first_line + 1 + length steps
 
--- all steps and these outs were read, and there is one more out
+-- all steps and these outputs were read, and at least one more output is due
 pub record AreNamed (h : Heading) (f : Frame) (steps : List Step) (os : List Out) (number : ℕ) : Type 0 where
   pub frame : IsFrame h f
   pub due : length os < f.outputs
@@ -66,7 +66,7 @@ pub record AreNamed (h : Heading) (f : Frame) (steps : List Step) (os : List Out
   pub named : All (chain.NamesPlace (f.n + f.steps)) os
   pub number_is : number ≡ f.first_line + 1 + f.steps + length os
 
--- what a stage keeps, where the next line has this number
+-- the invariant of a stage, where the next line has this number
 abbrev pub IsStage : Stage → ℕ → Type 0
 IsStage stages.Start number = number ≡ 1
 IsStage stages.Inputs number = number ≡ 2
@@ -84,26 +84,26 @@ IsStage (stages.Found h low c) number = IsKnown h
 IsStage (stages.End told) number = IsKnown told.heading
 IsStage (stages.Done told) number = IsKnown told.heading
 
--- what the text states, where nothing is due
+-- what the text claims; None if a line is due
 abbrev pub told_in : Stage → Option Told
 told_in (stages.Done told) = Some told
 told_in stage = None
 
--- the parts after the one that is read or due
+-- the subproblems after the current one
 abbrev pub later_of : Running → List Part
 later_of r = drop (r.at + 1) r.parts.items
 
--- the part that is read or due
+-- the current subproblem
 abbrev pub IsPart : Running → Part → Type 0
 IsPart r part = drop r.at r.parts.items ≡ part ∷ later_of r
 
--- After the title of a part.
+-- After the name of a subproblem.
 pub record IsBegun (r : Running) (number : ℕ) (lines : List Line) (answer : Answer) : Type 0 where
   pub part : Part
   pub is_part : IsPart r part
   pub answer_is : answer ≡ sections_of r.heading number (record { size = r.size; low = r.low; place = Begun part (later_of r) }) lines
 
--- In a log: the reader has read the lines before.
+-- Within a log: the reader has read its lines so far.
 pub record IsLogging (r : Running) (reader : PartReader) (number : ℕ) (lines : List Line) (answer : Answer) : Type 0 where
   pub part : Part
   pub is_part : IsPart r part
@@ -111,15 +111,15 @@ pub record IsLogging (r : Running) (reader : PartReader) (number : ℕ) (lines :
   pub reading : IsReading (formula_of r.heading r.size part) r.heading.conflicts log reader
   pub answer_is : answer ≡ sections_of r.heading number (record { size = r.size; low = r.low; place = Within part (later_of r) reader.ended log }) lines
 
--- the block whose outs were read
+-- the chain's grammar, after these outputs
 abbrev pub outs_then : Frame → List chain.Step → Result (List Out × List Line) ChainError → Result block.Read ChainError
 outs_then f steps read = read >>= λ os. Ok (record { chain = record { n = f.n; steps = steps; outs = os.0 }; rest = os.1 })
 
--- the block whose steps were read
+-- the chain's grammar, after these steps
 abbrev pub steps_then : Frame → Result (List chain.Step × List Line) ChainError → Result block.Read ChainError
 steps_then f read = read >>= λ s. outs_then f s.0 (block.outs_from f [] s.1)
 
--- The answer of a text, where these lines come next.
+-- The result of a text, where these lines come next.
 abbrev pub Stands : Stage → ℕ → List Line → Answer → Type 0
 Stands stages.Start number lines answer = answer ≡ bundle_of lines
 Stands stages.Inputs number lines answer = answer ≡ with_tables (tables_of lines)
@@ -137,7 +137,7 @@ Stands (stages.Found h low c) number lines answer = answer ≡ behind_chain numb
 Stands (stages.End told) number lines answer = answer ≡ end_of number told.verdict lines
 Stands (stages.Done told) number lines answer = answer ≡ nothing_behind number told.verdict lines
 
--- after one more line: a stage stands for what comes next, or the line is at fault, whatever comes next
+-- after one more line: the next stage determines the result, or the line is at fault, whatever comes next
 abbrev pub Judged : Result Stage BundleError → ℕ → List Line → Answer → Type 0
 Judged (Ok stage) number lines answer = Stands stage number lines answer
 Judged (Err e) number lines answer = Fails e answer

@@ -1,5 +1,5 @@
--- What a stage says of the lines to come and of all lines of the text: the answer for which it stands, and what it keeps;
--- and what a text comes to.
+-- What a stage says about the lines to come and about all lines of the text: the result that it determines, and
+-- the header and chain that it keeps; and the results of whole texts.
 use Rattle.std.specs.Prelude.{ℕ, List, Result, Ok, IfOk}
 use Rattle.text_core.specs.Lines.{Line, lines_of}
 use Rattle.cert_theory.specs.declared.data.BundleError.{BundleError}
@@ -12,18 +12,18 @@ use Rattle.cert_file.specs.Stages.{Stands}
 use Rattle.cert_file.specs.Telling.{Tells}
 use Rattle.cert_file.specs.declared.stage.Stage.{Stage}
 
--- It stands for the answer of all lines, and for the heading and the chain among them.
+-- The stage determines the result of all lines, and it keeps their header and chain.
 abbrev pub StandsIn : Stage → ℕ → List Line → List Line → Type 0
 StandsIn stage number lines all = Stands stage number lines (bundle_of all) × Tells stage number lines all
 
--- lines are refused so
+-- the lines have this fault
 abbrev pub Refuses : BundleError → List Line → Type 0
 Refuses e all = Fails e (bundle_of all)
 
--- What a text comes to.
+-- The result of checking a text.
 pub record Ends (result : Result Verdict BundleError) (text : List ℕ) : Type 0 where
-  -- It is refused exactly where the definition has a fault, with the first from the top.
+  -- A fault is given exactly where the definition has one, and it is the first.
   pub exact : Gives (λ (v : Verdict). v) result (bundle_of (lines_of text))
-  -- What has a verdict is the text of a valid bundle that has it, and each such text has one.
+  -- A verdict is given exactly to the texts of valid certificates, and it is the certificate's own.
   pub verdict : IfOk result (λ v. HasVerdict text v)
   pub accepted : (b : Bundle) → IsBundle text b → Gives (λ (v : Verdict). v) result (Ok b.verdict)

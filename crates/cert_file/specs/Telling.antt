@@ -1,5 +1,5 @@
--- What a stage keeps to hand it out: what the text asks, and its chain, each where it was read. `all` are all lines of
--- the text.
+-- What a stage keeps for the end: the header, and the chain, as soon as they have been read. `all` are all
+-- lines of the text.
 use Rattle.std.specs.Prelude.{◌≡◌, ℕ, ◌+◌, List, ◌++◌, length, Option, Some, None, Result, Ok, Err}
 use Rattle.text_core.specs.Lines.{Line}
 use Rattle.chain_theory.specs.Chain.{Chain}
@@ -21,7 +21,7 @@ abbrev pub chain_read : Result block.Read ChainError → Option Chain
 chain_read (Ok read) = Some read.chain
 chain_read (Err e) = None
 
--- A chain block begins with the line that the frame names, and this is what comes of it.
+-- A chain begins at the line that the frame names; `read` is the result of its grammar there.
 pub record IsBlock (f : Frame) (all : List Line) (read : Result block.Read ChainError) : Type 0 where
   pub front : List Line
   pub lines : List Line
@@ -29,7 +29,7 @@ pub record IsBlock (f : Frame) (all : List Line) (read : Result block.Read Chain
   pub place : f.first_line ≡ length front + 1
   pub read_is : block.chain_of f.first_line f.n f.outputs lines ≡ read
 
--- This chain was read from its block, after which `behind` lines stand before the line `number`.
+-- This chain was read; after it, `behind` are the lines from `number` on.
 pub record IsHeld (h : Heading) (c : Chain) (behind number : ℕ) (all : List Line) : Type 0 where
   pub front : List Line
   pub lines : List Line
@@ -39,12 +39,12 @@ pub record IsHeld (h : Heading) (c : Chain) (behind number : ℕ) (all : List Li
   pub outputs : length c.outs ≡ length h.spec.on
   pub number_is : number ≡ length front + 2 + length c.steps + length c.outs + behind
 
--- The verdict is one with a chain, which was read so, or one without.
+-- The verdict is one with a chain, which was read, or one without.
 abbrev pub HasEnded : Heading → Option Chain → Verdict → ℕ → ℕ → List Line → Type 0
 HasEnded h (Some c) v behind number all = IsHeld h c behind number all × ((low : Option ℕ) × (v ≡ found (length c.steps) low))
 HasEnded h None v behind number all = (low : Option ℕ) × (v ≡ not_found h.max low)
 
--- what the text asks, where these lines come next
+-- the header, where these lines come next
 abbrev pub Asks : Stage → List Line → Option Heading → Type 0
 Asks stages.Start lines asked = asked ≡ heading_in lines
 Asks stages.Inputs lines asked = asked ≡ heading_by (tables_of lines)
@@ -74,12 +74,12 @@ Holds stage number lines all = Unit {0}
 abbrev pub Tells : Stage → ℕ → List Line → List Line → Type 0
 Tells stage number lines all = Asks stage lines (heading_in all) × Holds stage number lines all
 
--- What was read of all lines, of which none is left.
+-- What was read of all lines, at the end.
 pub record HasTold (t : Told) (all : List Line) : Type 0 where
   pub asks : heading_in all ≡ Some t.heading
   pub ended : HasEnded t.heading t.chain t.verdict 2 (length all + 1) all
 
--- What is handed out of a bundle is its heading, its chain and its verdict.
+-- What is returned for a certificate: its header, its chain and its verdict.
 pub record IsTold (b : Bundle) (t : Told) : Type 0 where
   pub heading : t.heading ≡ b.heading
   pub chain : t.chain ≡ b.chain

@@ -1,4 +1,4 @@
--- What was read of the title of a part.
+-- The result of reading the name of a subproblem.
 use Rattle.std.specs.Prelude.{◌≡◌, ℕ, Bool, true, false, List, Result, Ok, Err}
 use Rattle.text_core.specs.Lines.{Line}
 use Rattle.enc_theory.specs.declared.part.Part.{Part}
@@ -7,12 +7,12 @@ use Rattle.cert_theory.specs.declared.data.PartError.{PartError}
 use Rattle.cert_theory.specs.PartLines.{title_in}
 use Rattle.cert_theory.specs.Gives.{PartFails}
 
--- the title of a fence was read, or is at fault
+-- the name of a fence was read, or is at fault
 abbrev pub HasTitle : Bool → List ℕ → Line → Result Bool PartError → Type 0
 HasTitle follows sizes l (Ok titled) = (titled ≡ true) × (title_in follows sizes l ≡ Ok tt)
 HasTitle follows sizes l (Err e) = PartFails e (title_in follows sizes l)
 
--- the whole bears none
+-- a whole size has no name
 abbrev pub IsTitled : Part → Bool → Line → Result Bool PartError → Type 0
 IsTitled Whole follows l result = result ≡ Ok false
 IsTitled (Levels sizes) follows l result = HasTitle follows sizes l result

@@ -1,4 +1,4 @@
--- What is handed out of the text of a bundle is the bundle's own, and no text has two.
+-- The header, chain and verdict that are returned are those of the certificate, and no text has two.
 use Rattle.std.proofs.Common.{◌≡◌, ℕ, suc, ◌+◌, ◌<◌, List, [], ◌∷◌, ◌++◌, length, map, Option, Some, None, Result, Ok, refl, sym, ap, ◌∙◌, subst, arith, append_assoc}
 use Rattle.std.specs.Prelude.{option_and_then}
 use Rattle.std.specs.List.{flat_map}
@@ -28,7 +28,7 @@ use Rattle.cert_file.specs.declared.told.Told.{Told}
 read_lines : (bytes : List ℕ) (b : Bundle) → IsBundle bytes b → lines_of bytes ≡ bundle_lines b
 read_lines bytes b is = ap lines_of is.text ∙ lines_again b is.valid
 
--- ---- the heading
+-- ---- the header
 
 four_again : (h : Heading) (rest : List Line) → IsHeading h → with_basis h.spec (line (basis_line h.basis) ∷ line (method_line h.method) ∷ line (conflicts_line h.conflicts) ∷ line (max_line h.max) ∷ rest) ≡ Some h
 unfolding with_basis with_method with_conflicts with_max
@@ -95,7 +95,7 @@ count_block xs c v e =
     let both : length (steps ++ outs) ≡ length steps + length outs = length-append steps outs in
     omega (arith, total, behind, both, count_steps (c.n + 1) c.steps, count_outs c.outs)
 
--- The chain that was read stands where the bundle's stands, so it is that one.
+-- The chain that was read begins where the certificate's begins, so it is that one.
 chain_is : (b : Bundle) (h : Heading) (c own : Chain) (all : List Line) → IsValid b → all ≡ bundle_lines b → h ≡ b.heading → b.chain ≡ Some own → length c.steps ≡ length own.steps → IsHeld h c 2 (length all + 1) all → c ≡ own
 chain_is b h c own all valid lines same is steps held =
     let found = chain_of_bundle b own valid is in
@@ -112,7 +112,7 @@ chain_is b h c own all valid lines same is steps held =
     ap chain_read (lines_read (length held.front + 1) own (v ∷ e ∷ []) (small_chain b.heading (length b.sections) own valid.heading found)) in
     some_same c own (sym held.read_is ∙ (λ i. chain_read (block.chain_of (length held.front + 1) (inputs i) (outs i) (behind i))) ∙ read)
 
--- ---- the verdict says whether a chain stands there
+-- ---- the verdict says whether there is a chain
 
 size_found : (m n : ℕ) (low most : Option ℕ) → found m low ≡ found n most → m ≡ n
 size_found m n None None e = cc
@@ -151,7 +151,7 @@ told_is bytes b t read is told =
       verdict = verdict;
     }
 
--- ---- one bundle
+-- ---- one certificate
 
 abbrev pub own_told : Bundle → Told
 own_told b = record { heading = b.heading; chain = b.chain; verdict = b.verdict }
@@ -182,6 +182,6 @@ own_is_told bytes b is = record {
   ended = own_ended b b.chain b.verdict (first_open b.sections) (lines_of bytes) is.valid (read_lines bytes b is) refl is.valid.ending;
 }
 
--- A text is that of one heading, chain and verdict.
+-- Two certificates with the same text have the same header, chain and verdict.
 pub one_bundle : (bytes : List ℕ) (b c : Bundle) → IsBundle bytes b → IsBundle bytes c → IsTold c (own_told b)
 one_bundle bytes b c is other = told_is bytes c (own_told b) (text_again bytes b is) other (own_is_told bytes b is)

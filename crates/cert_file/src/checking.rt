@@ -1,4 +1,4 @@
-//! Whole texts, judged as one piece.
+//! Whole texts, checked as one piece.
 ghost use Rattle.std.specs.Prelude.{ℕ, ◌^◌, ◌<◌, length, IfOk, Ok};
 ghost use Rattle.text_core.specs.Lines.{lines_of};
 ghost use Rattle.cert_theory.specs.Gives.{Gives};
@@ -14,7 +14,7 @@ use crate::reader::BundleReader;
 use cert_theory::{BundleError, Verdict};
 use std::alloc::Global;
 
-/// Judges as the definition says.
+/// Checks as the definition says.
 fn judge(alloc: Global, bytes: &[u8]) -> Result<Verdict, BundleError>
     requires { length bytes.now < 2 ^ 31 }
     ensures { Gives (λ v. v) result (bundle_of (lines_of bytes.now)) }
@@ -23,22 +23,22 @@ fn judge(alloc: Global, bytes: &[u8]) -> Result<Verdict, BundleError>
     reader.finish()
 }
 
-/// Judges a text as a bundle: its verdict where it is the text of a valid one, else its first fault.
-/// It costs time in the text and in the formulas of its sizes, in open parts also in the clauses that
-/// newness is asked of; and memory in the live clauses of one part and in one line.
+/// Checks the text of a certificate: its verdict if it is valid, otherwise its first fault. Time grows with the
+/// text and with the formulas of its sizes, and in open logs also with the clauses that the subsumption test
+/// visits; memory with the live clauses of one subproblem and with the longest line.
 pub fn check_bundle(alloc: Global, bytes: &[u8]) -> Result<Verdict, BundleError>
     requires { length bytes.now < 2 ^ 31 }
-    // What has a verdict is the text of a valid bundle that has it, and each such text has one.
+    // A verdict is given exactly to the texts of valid certificates, and it is the certificate's own.
     ensures verdict { IfOk result (λ v. HasVerdict bytes.now v) }
     ensures accepted { (b : Bundle) → IsBundle bytes.now b → Gives (λ v. v) result (Ok b.verdict) }
-    // The verdict is true of the tables and the basis that the text states.
+    // The verdict is true of the certificate's tables and basis.
     ensures means { IfOk result (λ v. (b : Bundle) → IsBundle bytes.now b →
         Means (specification b.heading.spec) (members b.heading.basis) v) }
-    // It is true as well of the tables and the basis that the lines spell: those after the first line.
+    // The verdict is true of the tables and the basis that the first lines of the text spell.
     ensures asks { IfOk result (λ v. (w : Words) × (basis : ℕ) × HasQuestion bytes.now w basis) }
     ensures answers { IfOk result (λ v. (w : Words) (basis : ℕ) → HasQuestion bytes.now w basis →
         Means (specification w) (members basis) v) }
-    // It is refused exactly where the definition has a fault, with the first from the top.
+    // A fault is given exactly where the definition has one, and it is the first.
     ensures exact { Gives (λ v. v) result (bundle_of (lines_of bytes.now)) }
 {
     judge(alloc, bytes)

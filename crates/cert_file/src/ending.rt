@@ -1,4 +1,4 @@
-//! The chain block, the verdict and the end.
+//! The trailer: the chain, the verdict, and the line `end`.
 ghost use Rattle.std.specs.Prelude.{◌≡◌, ◌+◌, ◌<◌, ◌≤◌, ◌^◌, ◌==◌, ◌&&◌, nat_lt, List, ◌∷◌, length, Some, Ok, IfOk};
 ghost use Rattle.text_core.specs.Lines.{Line};
 ghost use Rattle.chain_theory.specs.Chain as chain;
@@ -26,7 +26,7 @@ use chain_core::{
 use settings::Method;
 use std::alloc::Global;
 
-/// A refusal of a chain block.
+/// An error of the chain's grammar as a fault of the certificate.
 fn refusal(error: ChainError) -> BundleError
     ensures { IsRefusal error result }
 {
@@ -40,7 +40,7 @@ fn refusal(error: ChainError) -> BundleError
     }
 }
 
-/// The number of steps of a chain block, which is to be that of the sections.
+/// The number of steps of a chain, which must be the number of sections.
 #[tactic(auto, using(crate::proofs::Refusing::refusing), unfolding(cert_theory::specs::Judging::steps_at))]
 fn steps_at(heading: &Heading, size: u32, line: &TextLine) -> Result<u32, BundleError>
     ensures exact { Gives (λ x. x) result (judging.steps_at heading.now line.now.number size (line_of line.now)) }
@@ -57,7 +57,7 @@ fn steps_at(heading: &Heading, size: u32, line: &TextLine) -> Result<u32, Bundle
     Ok(steps)
 }
 
-/// The first line of a chain block.
+/// The first line of a chain.
 fn at_chain(
     alloc: Global,
     heading: Heading,
@@ -137,8 +137,7 @@ pub(crate) fn at_steps(
     })
 }
 
-/// What is wrong with a chain that was read: an operator outside the basis, or else the first row that
-/// it misses.
+/// Checks a chain: first that its operators are in the basis, then that it agrees with the tables on all rows.
 #[tactic(auto, unfolding(cert_theory::specs::Judging::chain_judged))]
 fn chain_judged(heading: &Heading, chain: &Chain) -> Result<(), BundleError>
     requires inputs { chain.now.n ≡ heading.now.spec.n }
@@ -154,7 +153,7 @@ fn chain_judged(heading: &Heading, chain: &Chain) -> Result<(), BundleError>
     Ok(())
 }
 
-/// An out of the chain, and with the last one the chain.
+/// The line of an output of the chain; after the last one the chain is checked.
 pub(crate) fn at_outs(
     heading: Heading,
     low: Option<u32>,
@@ -210,7 +209,7 @@ fn is_same(verdict: Verdict, due: Verdict) -> bool
     }
 }
 
-/// The verdict of a line, where a chain stands before it.
+/// The verdict on a line that follows a chain.
 fn found_in(line: &TextLine) -> Option<Verdict>
     ensures { result ≡ judging.found_in (line_of line.now) }
 {
@@ -223,7 +222,7 @@ fn found_in(line: &TextLine) -> Option<Verdict>
     }
 }
 
-/// The verdict of a line, where none does.
+/// The verdict on a line, where there is no chain.
 #[tactic(auto, unfolding(cert_theory::specs::Judging::not_found_in))]
 pub(crate) fn not_found_in(line: &TextLine) -> Option<Verdict>
     ensures { result ≡ judging.not_found_in (line_of line.now) }
@@ -265,8 +264,8 @@ pub(crate) fn at_found(
     })
 }
 
-/// The verdict of a line where no chain stands. By fences a title after a section, where no part is due
-/// any more, is a fault of its own.
+/// The verdict on a line, where there is no chain. With fences, a fence's name after the last subproblem of a
+/// section is reported as `NotRefuted`.
 fn verdict_at(method: Method, size: u32, line: &TextLine) -> Result<Verdict, BundleError>
     ensures { Gives (λ v. v) result (judging.verdict_at (is_titled method && nat_lt 0 size) line.now.number (line_of line.now)) }
 {
@@ -279,7 +278,7 @@ fn verdict_at(method: Method, size: u32, line: &TextLine) -> Result<Verdict, Bun
     Ok(verdict)
 }
 
-/// The verdict where no chain stands.
+/// The verdict without a chain.
 fn at_not_found(
     heading: Heading,
     size: u32,
@@ -304,7 +303,7 @@ fn at_not_found(
     })
 }
 
-/// The first line of the ending.
+/// The first line of the trailer.
 pub(crate) fn at_ending(
     alloc: Global,
     heading: Heading,

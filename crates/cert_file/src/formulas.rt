@@ -1,4 +1,4 @@
-//! The parts of the sizes, and their formulas, by the methods.
+//! The subproblems of a size and their formulas, by the header's method.
 ghost use Rattle.std.specs.Prelude.{◌≡◌, ◌≤◌, ◌<◌, IfOk, Contains};
 ghost use Rattle.cert_theory.specs.Bundle as bundles;
 
@@ -12,7 +12,7 @@ use enc_theory::Part;
 use settings::Method;
 use std::alloc::{AllocError, Global};
 
-/// The parts of a size, by the heading's method.
+/// The subproblems of a size, in order.
 #[tactic(auto, unfolding(cert_theory::specs::Coding::coding_of))]
 pub(crate) fn parts_of(alloc: Global, heading: &Heading, size: u32) -> Result<Vec<Part>, AllocError>
     requires { size ≤ 16 }
@@ -26,7 +26,7 @@ pub(crate) fn parts_of(alloc: Global, heading: &Heading, size: u32) -> Result<Ve
     }
 }
 
-/// The formula of a part of a size, by the heading's method.
+/// The formula of a subproblem.
 #[tactic(auto, unfolding(cert_theory::specs::Coding::coding_of))]
 pub(crate) fn formula_of(
     alloc: Global,

@@ -1,4 +1,4 @@
-//! The lines of the heading.
+//! The lines of the header.
 ghost use Rattle.std.specs.Prelude.{◌≡◌, ◌+◌, ◌<◌, ◌≤◌, List, ◌∷◌, length, IfOk, IfSome};
 ghost use Rattle.text_core.specs.Lines.{Line};
 ghost use Rattle.tt_core.specs.Words.{IsSpec};
@@ -19,7 +19,7 @@ use std::alloc::{AllocError, Global};
 use text_core::{begins_lower, number_up_to};
 use tt_core::{MOST_INPUTS, MOST_OUTPUTS, Spec, are_cells, inputs, push_row};
 
-/// The first line.
+/// The first line: the format and its version.
 #[tactic(auto, unfolding(cert_theory::specs::Judging::bundle_of, crate::specs::Asking::heading_in))]
 pub(crate) fn at_start(line: &TextLine) -> Result<Stage, BundleError>
     requires { line.now.number ≡ 1 }
@@ -54,7 +54,7 @@ pub(crate) fn at_inputs(alloc: Global, line: &TextLine) -> Result<Stage, BundleE
     })
 }
 
-/// The basis of a line, where it is spelled as it is written.
+/// The basis on a line, if it has its canonical spelling.
 #[tactic(auto, unfolding(cert_theory::specs::Judging::basis_in))]
 pub(crate) fn basis_in(alloc: Global, line: &TextLine) -> Result<Option<Basis>, AllocError>
     ensures exact { IfOk result (λ basis. basis ≡ judging.basis_in (line_of line.now)) }
@@ -74,7 +74,7 @@ pub(crate) fn basis_in(alloc: Global, line: &TextLine) -> Result<Option<Basis>, 
     Ok(Some(basis))
 }
 
-/// The line after the tables, which is that of the basis.
+/// The line after the tables, which must be that of the basis.
 #[tactic(auto, unfolding(cert_theory::specs::Judging::with_tables, cert_theory::specs::Judging::behind_tables, crate::specs::Asking::heading_by, crate::specs::Asking::with_basis))]
 fn at_basis(
     alloc: Global,
@@ -133,7 +133,7 @@ pub(crate) fn at_tables(
     Ok(Stage::Tables { n, on, care })
 }
 
-/// The method of a line.
+/// The method on a line.
 #[tactic(auto, unfolding(cert_theory::specs::Judging::method_in))]
 pub(crate) fn method_in(line: &TextLine) -> Option<Method>
     ensures { result ≡ judging.method_in (line_of line.now) }
@@ -141,7 +141,7 @@ pub(crate) fn method_in(line: &TextLine) -> Option<Method>
     method_named(value_of(b"method ", line)?)
 }
 
-/// The method.
+/// The line of the method.
 #[tactic(auto, unfolding(cert_theory::specs::Judging::behind_basis, crate::specs::Asking::with_method))]
 pub(crate) fn at_method(spec: Spec, basis: Basis, line: &TextLine) -> Result<Stage, BundleError>
     requires basis { 0 < basis }
@@ -160,7 +160,7 @@ pub(crate) fn at_method(spec: Spec, basis: Basis, line: &TextLine) -> Result<Sta
     })
 }
 
-/// The number of conflicts of a line, from 1 to 10,000,000.
+/// The conflict limit on a line, from 1 to 10,000,000.
 #[tactic(auto, unfolding(cert_theory::specs::Judging::conflicts_in))]
 pub(crate) fn conflicts_in(line: &TextLine) -> Option<u32>
     ensures { result ≡ judging.conflicts_in (line_of line.now) }
@@ -172,7 +172,7 @@ pub(crate) fn conflicts_in(line: &TextLine) -> Option<u32>
     Some(conflicts)
 }
 
-/// The number of conflicts.
+/// The line of the conflict limit.
 #[tactic(auto, unfolding(cert_theory::specs::Judging::behind_method, crate::specs::Asking::with_conflicts))]
 pub(crate) fn at_conflicts(
     spec: Spec,
@@ -197,7 +197,7 @@ pub(crate) fn at_conflicts(
     })
 }
 
-/// The greatest size of a line, at most 16.
+/// The greatest size on a line, at most 16.
 #[tactic(auto, unfolding(cert_theory::specs::Judging::max_in))]
 pub(crate) fn max_in(line: &TextLine) -> Option<u32>
     ensures exact { result ≡ judging.max_in (line_of line.now) }
@@ -207,7 +207,7 @@ pub(crate) fn max_in(line: &TextLine) -> Option<u32>
     number_up_to(MOST_STEPS, word)
 }
 
-/// The greatest size.
+/// The line of the greatest size, which ends the header.
 #[tactic(auto, unfolding(cert_theory::specs::Judging::behind_conflicts, crate::specs::Asking::with_max))]
 pub(crate) fn at_max(
     spec: Spec,

@@ -1,16 +1,16 @@
-//! Certificates of the fewest steps as texts, judged line by line. It stands on
-//! `cert_theory` for what a valid bundle is, how it is spelled and what its verdict means, on
-//! `lrat_check` for logs, and on the encodings for the formulas that logs refute.
+//! The checker of certificates: texts, checked line by line. It depends on `cert_theory` for what a valid
+//! certificate is, how it is spelled and what its verdict means, on `lrat_check` for logs, and on the encodings
+//! for the formulas that the logs refute.
 //!
-//! The theorem is that of `check_bundle`: bytes get a verdict exactly where they are the text of a
-//! valid bundle that has it, and the verdict is true; else the first fault is reported. A text is judged
-//! a line at a time, and of the logs no more is kept than one part's checker: `PartReader` takes the log of a
-//! part wherever it stands, and `Stage` walks from part to part. `BundleReader`, which is `line_reader`'s reader with
-//! that stage, takes the text in pieces, wherever it is cut; a whole text is one piece. Single lines are read by
-//! functions of their own, for texts that have such lines too.
+//! The theorem is the contract of `check_bundle`: bytes get a verdict exactly where they are the text of a
+//! valid certificate with this verdict, and the verdict is true; otherwise the first fault is reported. Of the
+//! logs, only the checker of one subproblem is kept in memory: `PartReader` reads the log of a subproblem,
+//! wherever it is in a text, and `Stage` is the state between two lines. `BundleReader` (the reader of
+//! `line_reader` over `Stage`) takes the text in pieces of any size; `check_bundle` feeds the whole text as one
+//! piece. The functions on single lines are public for `depth_file`, whose texts have the same kinds of lines.
 //!
 //! ```text
-//! let verdict = check_bundle(alloc, &bytes)?; // Verdict::Minimum(1) for XOR
+//! let verdict = check_certificate(alloc, &bytes)?; // Verdict::Minimum(1) for XOR
 //! ```
 #![tactic(auto)]
 

@@ -1,4 +1,4 @@
-//! Certificates as texts that are read line by line.
+//! `Stage` as a reader of lines, for `line_reader`.
 ghost use Rattle.std.specs.Prelude.{Err};
 ghost use Rattle.cert_file.specs.Stages.{IsStage};
 ghost use Rattle.cert_file.specs.Standing.{StandsIn, Refuses, Ends};

@@ -1,4 +1,4 @@
-//! Single lines.
+//! Single lines: words, numbers and faults.
 ghost use Rattle.std.specs.Prelude.{◌≡◌};
 ghost use Rattle.std.specs.Option.{option_copied};
 ghost use Rattle.cert_theory.specs.Judging as judging;
@@ -11,10 +11,10 @@ use cert_theory::{BundleError, PartError};
 pub use line_reader::TextLine;
 use text_core::{after, next_item, number_up_to};
 
-/// The greatest number of nine digits.
+/// The greatest number that a line may have: nine digits.
 pub(crate) const GREATEST: u32 = 999_999_999;
 
-/// A fault of a part, at a line.
+/// A fault of a subproblem as a fault of the certificate, at a line.
 pub(crate) fn fault_at(number: u32, fault: PartError) -> BundleError
     ensures { result ≡ judging.fault_at number fault }
 {
@@ -29,7 +29,7 @@ pub(crate) fn fault_at(number: u32, fault: PartError) -> BundleError
     }
 }
 
-/// Whether a line is this text.
+/// Whether a line is this text, with its LF.
 pub fn is_line(word: &[u8], line: &TextLine) -> bool
     ensures { result ≡ parts.is_line word.now (line_of line.now) }
 {
@@ -43,7 +43,7 @@ pub(crate) fn begins(word: &[u8], line: &TextLine) -> bool
     after(word, line.text).is_some()
 }
 
-/// What stands after a word, up to the LF.
+/// The text between a word and the LF.
 pub(crate) fn value_of<'a>(word: &[u8], line: &TextLine<'a>) -> Option<&'a [u8]>
     ensures { option_copied result ≡ judging.value_of word.now (line_of line.now) }
 {
@@ -60,16 +60,16 @@ pub fn number_behind(word: &[u8], line: &TextLine) -> Option<u32>
     number_up_to(GREATEST, value_of(word, line)?)
 }
 
-/// The numbers of a verdict: one, or two between which it leaves the least open.
+/// The numbers of a verdict: the minimum, or bounds of it.
 #[derive(Drop)]
 pub enum Numbered {
     /// One number.
     One(u32),
     /// Two numbers.
     Two {
-        /// The least may be this one,
+        /// The lower bound.
         low: u32,
-        /// and is at most this one.
+        /// The upper bound.
         most: u32,
     },
 }

@@ -1,5 +1,5 @@
-//! The lines of a log, and its end, as lines of a bundle: each goes to the reader of the part, and what comes
-//! after the end is the next part or the next size.
+//! The lines of logs within a certificate. Each line goes to the reader of its subproblem; after the end of a
+//! log comes the next subproblem or the next size.
 ghost use Rattle.std.specs.Prelude.{◌≡◌, ℕ, ◌+◌, ◌<◌, List, ◌∷◌, Some, IfOk};
 ghost use Rattle.text_core.specs.Lines as lines;
 ghost use Rattle.cert_theory.specs.Judging as judging;
@@ -35,7 +35,7 @@ pub fn ended_in(line: &TextLine) -> Option<Ended>
     None
 }
 
-/// The formula of the part that is read.
+/// The formula of the current subproblem.
 fn formula_in(alloc: Global, running: &Running) -> Result<Cnf, AllocError>
     requires { IsRunning running.now }
     ensures { (part : Part) → IsPart running.now part → IfOk result (λ cnf. cnf ≡ bundles.formula_of running.now.heading running.now.size part) }
@@ -43,7 +43,7 @@ fn formula_in(alloc: Global, running: &Running) -> Result<Cnf, AllocError>
     formula_of(alloc, &running.heading, running.size, part_in(running))
 }
 
-/// The line that begins the log of a part.
+/// The first line of a log.
 pub(crate) fn at_begun(
     alloc: Global,
     running: Running,
@@ -63,7 +63,7 @@ pub(crate) fn at_begun(
     Ok(Stage::Within { running, reader })
 }
 
-/// The first that is open, with one more: of sizes, or of levels.
+/// The first open size (or level), updated by the log of one more.
 pub fn low_with(low: Option<u32>, end: Ended, next: u32) -> Option<u32>
     ensures { result ≡ judging.low_with low end next }
 {
@@ -73,7 +73,7 @@ pub fn low_with(low: Option<u32>, end: Ended, next: u32) -> Option<u32>
     }
 }
 
-/// What comes after a part whose log ends so.
+/// The state after the log of a subproblem.
 fn behind(running: Running, end: Ended) -> Stage
     requires { IsRunning running }
     ensures keeps { (number : ℕ) → IsStage result number }

@@ -1,5 +1,5 @@
-//! From stage to stage, a line at a time. The argument: a stage stands for the answer of the whole text, whatever
-//! lines come next, so the first refusal is that of the text; and at the end the stage is the answer.
+//! The transitions of `Stage`, one line at a time. The argument: a stage determines the result of the whole
+//! text, given the lines to come; so the first fault is the text's, and at the end the stage is the result.
 ghost use Rattle.std.specs.Prelude.{◌≡◌, ◌+◌, ◌^◌, ◌<◌, List, [], ◌∷◌, IfOk};
 ghost use Rattle.text_core.specs.Lines.{Line};
 ghost use Rattle.cert_theory.specs.Gives.{Gives};
@@ -20,7 +20,7 @@ use crate::told::Told;
 use cert_theory::{BundleError, Verdict};
 use std::alloc::Global;
 
-/// Takes the next line.
+/// The stage after the next line, or its fault.
 pub(crate) fn take(alloc: Global, stage: Stage, line: &TextLine) -> Result<Stage, BundleError>
     requires stage { IsStage stage line.now.number }
     requires number { line.now.number < 2 ^ 31 }
@@ -77,20 +77,21 @@ pub(crate) fn take(alloc: Global, stage: Stage, line: &TextLine) -> Result<Stage
     }
 }
 
-/// What the text states, where nothing is due.
+/// What a complete text claims; None if a line is still due.
 fn told_in(stage: Stage) -> Option<Told>
     ensures { result ≡ stages.told_in stage }
 {
     match stage {
         Stage::Done { told } => Some(told),
         stage => {
+            // for the prover: dropped here at once; left to the exit, each of its fields would be
             drop(stage);
             None
         }
     }
 }
 
-/// What the lines come to, where none is left.
+/// What the text claims, at its end.
 pub(crate) fn told_of(stage: Stage, number: u32) -> Result<Told, BundleError>
     requires { IsStage stage number }
     ensures answer { (answer : Answer) → Stands stage number [] answer → Gives (λ t. t.verdict) result answer }
@@ -103,7 +104,7 @@ pub(crate) fn told_of(stage: Stage, number: u32) -> Result<Told, BundleError>
     Ok(told)
 }
 
-/// The verdict that the lines come to, where none is left.
+/// The verdict, at the end of the text.
 pub(crate) fn verdict_of(stage: Stage, number: u32) -> Result<Verdict, BundleError>
     requires { IsStage stage number }
     ensures { (answer : Answer) → Stands stage number [] answer → Gives (λ v. v) result answer }

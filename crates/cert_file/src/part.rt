@@ -1,9 +1,8 @@
-//! The log of one part, line after line: a value of its own, which knows neither where in a text the part
-//! stands nor what may follow it. It keeps a checker of the part's formula, and of the lines that were read
-//! no more than how many additions are still missing.
+//! The reader of one subproblem's log, which depends neither on where in a text the log is nor on what may
+//! follow. It keeps a checker of the subproblem's formula, and how many additions are still missing.
 //!
-//! The argument: the checker's state is that of the log so far, so what it refuses of the next line is what
-//! the definition refuses; and an addition is new for the checker where it is new in that state.
+//! The argument: the checker's state is the state after the log so far, so it refuses of the next line what the
+//! definition refuses, and its subsumption test decides the definition's.
 ghost use Rattle.std.specs.Prelude.{◌≡◌, ℕ, ◌==◌, List, [], IfOk};
 ghost use Rattle.sat_theory.specs.Line as theory;
 ghost use Rattle.sat_theory.specs.Line.{IsLine, HasClause};
@@ -21,28 +20,28 @@ use lrat_check::{CheckError, Checker};
 use lrat_text::{Line, LineError, read_line};
 use std::alloc::{AllocError, Global};
 
-/// The log of a part, as far as it was read.
+/// The log of a subproblem, as far as it has been read.
 #[derive(Drop)]
 pub struct PartReader {
     pub(crate) checker: Checker,
-    /// How it will end.
+    /// How the log says that it will end.
     pub(crate) ended: Ended,
-    /// How many more additions it needs to leave its part open.
+    /// How many more additions an open log needs.
     pub(crate) missing: u32,
 }
 
-/// What one more line comes to.
+/// The effect of one more line.
 #[derive(Drop)]
 pub enum PartStep {
-    /// It is one more line of the log.
+    /// The line belongs to the log.
     More(PartReader),
-    /// The log ends with it, as it has to.
+    /// The line ends the log, without a fault.
     Done,
 }
 
 impl PartReader {
-    /// The log of a part of this formula, without a line yet. Where it leaves the part open it needs `conflicts`
-    /// additions at least.
+    /// A reader before the first line of a log over this formula. An open log needs at least `conflicts`
+    /// additions.
     pub fn new(
         alloc: Global,
         cnf: Cnf,
@@ -60,14 +59,14 @@ impl PartReader {
         })
     }
 
-    /// How the log ends, where it does.
+    /// How the log says that it will end.
     pub fn ended(&self) -> Ended
         ensures { result ≡ self.now.ended }
     {
         self.ended
     }
 
-    /// Takes the next line: its text, and whether an LF ends it.
+    /// Reads the next line: its text, and whether an LF ends it.
     pub fn feed(self, alloc: Global, text: &[u8], lf: bool) -> Result<PartStep, PartError>
         ensures { (f : Formula) (conflicts : ℕ) (log : List theory.Line) → IsReading f conflicts log self →
             IsFed f conflicts self.ended log (record { text = text.now; ended = lf }) result }
@@ -100,7 +99,7 @@ impl PartReader {
     }
 }
 
-/// A checker of a formula. Only an open part asks of each clause whether it is new.
+/// A checker of a formula. Only open logs need the index for subsumption tests.
 fn checker_of(alloc: Global, cnf: Cnf, end: Ended) -> Result<Checker, AllocError>
     ensures { IfOk result (HasAccepted cnf []) }
 {
@@ -110,14 +109,14 @@ fn checker_of(alloc: Global, cnf: Cnf, end: Ended) -> Result<Checker, AllocError
     }
 }
 
-/// Whether a line ends a log.
+/// Whether a line is the end of a log.
 fn is_done(text: &[u8], lf: bool) -> bool
     ensures { result ≡ judging.is_line done_text (record { text = text.now; ended = lf }) }
 {
     lf && text == b"done".as_slice()
 }
 
-/// The line of a log that a text spells.
+/// The LRAT line that a text spells.
 #[tactic(auto, unfolding(cert_theory::specs::PartLines::spelled_in))]
 fn spelled(alloc: Global, text: &[u8], lf: bool) -> Result<Line, PartError>
     ensures exact { GivesPart line_value result (judging.spelled_in (record { text = text.now; ended = lf })) }
@@ -134,7 +133,7 @@ fn spelled(alloc: Global, text: &[u8], lf: bool) -> Result<Line, PartError>
     }
 }
 
-/// Whether a line of a log that leaves its part open adds what is new.
+/// Whether a line adds no clause that a live clause subsumes.
 fn is_new(checker: &Checker, line: &Line) -> bool
     ensures { is_new_to checker.now (line_value line.now) result }
 {
@@ -144,7 +143,7 @@ fn is_new(checker: &Checker, line: &Line) -> bool
     }
 }
 
-/// How many clauses a line adds.
+/// How many clauses a line adds: 0 or 1.
 fn added_by(line: &Line) -> u32
     ensures { result ≡ added_by (line_value line.now) }
 {
@@ -154,7 +153,7 @@ fn added_by(line: &Line) -> u32
     }
 }
 
-/// Whether a log that ends so may add what a line adds.
+/// Whether a log may add what a line adds; only open logs are restricted.
 fn may_add(checker: &Checker, end: Ended, line: &Line) -> bool
     ensures { MayAdd checker.now end (line_value line.now) result }
 {
@@ -164,7 +163,7 @@ fn may_add(checker: &Checker, end: Ended, line: &Line) -> bool
     }
 }
 
-/// A refusal of a line that can be read.
+/// A fault of the checker as one of the log.
 fn refusal(fault: CheckError) -> PartError
     ensures { IsRefusal fault result }
 {
@@ -174,7 +173,7 @@ fn refusal(fault: CheckError) -> PartError
     }
 }
 
-/// Takes a line of a log, and reports how many clauses it adds.
+/// Checks a line of a log, and returns how many clauses it adds.
 fn logged(
     alloc: Global,
     checker: &mut Checker,
@@ -198,7 +197,7 @@ fn logged(
     Ok(added)
 }
 
-/// The end of a log, where the empty clause stands or doesn't, and the additions are enough or aren't.
+/// Checks at the end of a log: whether there is an empty clause, and whether there are enough additions.
 fn closed(empty: bool, enough: bool, end: Ended) -> Result<(), PartError>
     ensures { GivesPart (λ x. x) result (judging.closed empty enough end) }
 {

@@ -1,5 +1,5 @@
-//! A text that comes in pieces, wherever it is cut. A reader keeps the stage that its whole lines have come to,
-//! and the unfinished line after them; so what is fed decides what it is, and not where the pieces end.
+//! Texts that come in pieces of any size. A reader keeps the stage after the complete lines, and the unfinished
+//! line; so its state depends on the bytes alone, and not on where the pieces end.
 ghost use Rattle.std.specs.Prelude.{◌<◌, List, ℕ, IfOk};
 ghost use Rattle.text_core.specs.Lines.{lines_of};
 ghost use Rattle.cert_theory.specs.Gives.{Gives};
@@ -15,17 +15,16 @@ use crate::told::Told;
 use cert_theory::BundleError;
 use line_reader::PieceReader;
 
-/// A certificate, as far as it was read. It keeps what its stage keeps, which of the logs is one part's checker,
-/// and the unfinished line; nothing of the lines before. At the end it gives the verdict (`specs/Standing`: `Ends`).
+/// A certificate, as far as it has been read. It keeps its stage, which has at most one checker, and the
+/// unfinished line, but none of the lines before. Its end gives the verdict (`specs/Standing`: `Ends`).
 pub type BundleReader = PieceReader<Stage>;
 
-/// Judges the text, which ends here, and hands out what it states, where it is the text of a valid bundle;
-/// else its first fault.
+/// Ends the text. Returns what the text claims if it is a valid certificate, otherwise its first fault.
 pub fn tell(reader: BundleReader) -> Result<Told, BundleError>
     requires { IsReader (seen reader) }
-    // It is refused exactly where the definition has a fault, with the first from the top.
+    // A fault is given exactly where the definition has one, and it is the first.
     ensures exact { (text : List ℕ) → StandsFor (seen reader) text → Gives (λ t. t.verdict) result (bundle_of (lines_of text)) }
-    // What is handed out is the text's own heading, chain and verdict.
+    // The header, the chain and the verdict are the certificate's own.
     ensures told { (text : List ℕ) (b : Bundle) → StandsFor (seen reader) text → IsBundle text b → IfOk result (λ t. IsTold b t) }
     ensures operators { IfOk result (λ t. 0 < t.heading.basis) }
 {

@@ -17,7 +17,7 @@ use crate::stage::{Running, Stage};
 use cert_theory::{BundleError, Heading};
 use std::alloc::Global;
 
-/// The line of a size, which is to be the next one.
+/// The line of a size, which must be the next size.
 #[tactic(auto, unfolding(cert_theory::specs::Judging::size_at))]
 fn size_at(heading: &Heading, size: u32, line: &TextLine) -> Result<(), BundleError>
     ensures within { OnOk result (size ≤ heading.now.max) }
@@ -32,7 +32,8 @@ fn size_at(heading: &Heading, size: u32, line: &TextLine) -> Result<(), BundleEr
     Ok(())
 }
 
-/// What comes after the line of a size, or after a part: the next part, or the next size.
+/// The stage after the line of a size, or after a log: the next subproblem or, after the last one, the next
+/// size.
 pub(crate) fn due(running: Running) -> Stage
     requires known { IsKnown running.heading }
     requires size { running.size ≤ running.heading.max }
@@ -58,7 +59,7 @@ pub(crate) fn due(running: Running) -> Stage
     }
 }
 
-/// The line of the next size, or the first line of the ending.
+/// The line of the next size, or the first line of the trailer.
 #[tactic(auto, unfolding(cert_theory::specs::Judging::sections_of))]
 pub(crate) fn at_between(
     alloc: Global,

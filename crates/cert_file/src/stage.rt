@@ -1,5 +1,5 @@
-//! How far the lines of a bundle have come: what is due next, and what is kept of the lines before. A stage
-//! stands for the answer of the whole text, whatever lines come next (`specs/Stages.antt`).
+//! The state of the checker between two lines: which line is due next, and what is kept of those before. A
+//! stage determines the result of the whole text, given the lines to come (`specs/Stages.antt`).
 use crate::part::PartReader;
 use crate::told::Told;
 use cert_theory::Heading;
@@ -8,27 +8,27 @@ use enc_theory::Part;
 use settings::Method;
 use tt_core::Spec;
 
-/// A size whose section is read, and one of its parts.
+/// A size whose section is being read, and its current subproblem.
 #[derive(Drop)]
 pub struct Running {
     pub(crate) heading: Heading,
     pub(crate) size: u32,
-    /// The first open size, by the logs that were read.
+    /// The first open size so far.
     pub(crate) low: Option<u32>,
     pub(crate) parts: Vec<Part>,
-    /// How many parts stand before this one.
+    /// The index of the current subproblem.
     pub(crate) at: usize,
 }
 
-/// What is due next of a bundle whose lines were good so far, and what is kept of them. Its variants are for this
-/// crate and the one that reads depth bundles alone.
+/// What is due next in a certificate without a fault so far, and what is kept of it. Only this
+/// crate and `depth_file` use the variants.
 #[derive(Drop)]
 pub enum Stage {
     /// The first line.
     Start,
     /// The number of inputs.
     Inputs,
-    /// A table, or the basis after the tables.
+    /// A table, or the line of the basis.
     Tables {
         n: u32,
         on: Vec<u64>,
@@ -39,7 +39,7 @@ pub enum Stage {
         spec: Spec,
         basis: Basis,
     },
-    /// The number of conflicts.
+    /// The conflict limit.
     Conflicts {
         spec: Spec,
         basis: Basis,
@@ -52,21 +52,21 @@ pub enum Stage {
         method: Method,
         conflicts: u32,
     },
-    /// The section of the next size, or the ending.
+    /// The line of the next size, or the trailer.
     Between {
         heading: Heading,
         size: u32,
         low: Option<u32>,
     },
-    /// The title of this part, or how its log ends where it bears none.
+    /// The name of this subproblem, or the first line of its log if it has no name.
     Due {
         running: Running,
     },
-    /// How the log of this part ends.
+    /// The first line of this subproblem's log.
     Begun {
         running: Running,
     },
-    /// A line of the log of this part.
+    /// A line of this subproblem's log.
     Within {
         running: Running,
         reader: PartReader,
@@ -78,7 +78,7 @@ pub enum Stage {
         frame: Frame,
         steps: Vec<Step>,
     },
-    /// An out of the chain.
+    /// An output of the chain.
     Outs {
         heading: Heading,
         low: Option<u32>,
@@ -92,11 +92,11 @@ pub enum Stage {
         low: Option<u32>,
         chain: Chain,
     },
-    /// The last line.
+    /// The line `end`.
     End {
         told: Told,
     },
-    /// Nothing.
+    /// Nothing: the text is complete.
     Done {
         told: Told,
     },

@@ -1,4 +1,4 @@
-//! The titles of parts.
+//! The names of subproblems.
 ghost use Rattle.std.specs.Prelude.{◌≡◌, ◌+◌, ◌<◌, ◌^◌, List, ◌∷◌, length, drop, codes, Some, IfOk};
 ghost use Rattle.text_core.specs.Lines.{Line};
 ghost use Rattle.text_core.specs.Items.{items_of};
@@ -45,7 +45,7 @@ fn is_list(text: &[u8]) -> bool
     }
 }
 
-/// Whether a line is the title of a fence, of whatever numbers.
+/// Whether a line is the name of a fence, with any numbers.
 #[tactic(auto, unfolding(cert_theory::specs::Judging::is_title))]
 pub fn is_title(line: &TextLine) -> bool
     ensures { result ≡ judging.is_title (line_of line.now) }
@@ -56,7 +56,7 @@ pub fn is_title(line: &TextLine) -> bool
     }
 }
 
-/// Whether a line begins a chain block.
+/// Whether a line begins a chain.
 fn is_count(line: &TextLine) -> bool
     ensures { result ≡ judging.is_count (judging.number_behind (codes "chain ") (line_of line.now)) }
 {
@@ -66,7 +66,8 @@ fn is_count(line: &TextLine) -> bool
     }
 }
 
-/// Whether a line could stand where a title is due: another title, or what stands after a section.
+/// Whether a line could be right where a fence's name is due: the name of another fence, or a line that may
+/// follow a section.
 #[tactic(auto, unfolding(cert_theory::specs::Judging::may_follow))]
 fn may_follow(line: &TextLine) -> bool
     ensures { result ≡ judging.may_follow (line_of line.now) }
@@ -77,8 +78,8 @@ fn may_follow(line: &TextLine) -> bool
         || not_found_in(line).is_some()
 }
 
-/// Reads the title of a part, and reports whether it bears one. `follows` says whether the line could stand
-/// there otherwise.
+/// Reads the name of a subproblem; false if it has none. `follows` says whether the line could be right if the
+/// subproblem were absent.
 #[tactic(auto, unfolding(cert_theory::specs::PartLines::title_in))]
 fn title_in(alloc: Global, part: &Part, line: &TextLine, follows: bool) -> Result<bool, PartError>
     ensures { IsTitled part.now follows (line_of line.now) result }
@@ -96,7 +97,7 @@ fn title_in(alloc: Global, part: &Part, line: &TextLine, follows: bool) -> Resul
     Err(PartError::Syntax)
 }
 
-/// The part that is read or due.
+/// The current subproblem.
 pub(crate) fn part_in(running: &Running) -> &Part
     requires { running.now.at < length running.now.parts.items }
     ensures { IsPart running.now result.now }
@@ -104,7 +105,7 @@ pub(crate) fn part_in(running: &Running) -> &Part
     &running.parts[running.at]
 }
 
-/// The title of a part, or the line that begins its log where it bears none.
+/// The name of a subproblem, or the first line of its log if it has no name.
 pub(crate) fn at_due(alloc: Global, running: Running, line: &TextLine) -> Result<Stage, BundleError>
     requires running { IsRunning running }
     requires number { line.now.number < 2 ^ 31 }

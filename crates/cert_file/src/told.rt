@@ -1,14 +1,14 @@
-//! What the text of a bundle states.
+//! What the text of a certificate claims.
 use cert_theory::{Heading, Verdict};
 use chain_core::Chain;
 
-/// What a bundle asks, its chain where it has one, and its verdict.
+/// The question of a certificate, its chain if it has one, and its verdict.
 #[derive(Drop)]
 pub struct Told {
-    /// The tables, the basis, the method, the conflicts and the greatest size.
+    /// The tables, the basis, the method, the conflict limit and the greatest size.
     pub heading: Heading,
-    /// The chain, where one was found.
+    /// The chain, if one was found.
     pub chain: Option<Chain>,
-    /// What is proved.
+    /// What the certificate proves.
     pub verdict: Verdict,
 }

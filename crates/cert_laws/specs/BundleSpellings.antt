@@ -1,4 +1,4 @@
--- Bundles, as they are read.
+-- Lines that are accepted spell a valid certificate.
 use Rattle.std.proofs.Common.{◌≡◌, ℕ, ◌+◌, ◌<◌, ◌≤◌, List, [], ◌∷◌, ◌++◌, length, None, Ok, refl, sym, ap, ◌∙◌, subst, arith, zero-add, append_assoc}
 use Rattle.std.specs.Prelude.{codes}
 use Rattle.std.specs.List.{flat_map}
@@ -21,7 +21,7 @@ use Rattle.cert_laws.specs.LineSpellings.{as_ok, is_line_spells, basis_spells, m
 use Rattle.cert_laws.specs.TableSpellings.{tables_read}
 use Rattle.cert_laws.specs.SectionSpellings.{Rest, sections_spell}
 
--- what is read after the tables
+-- what was read after the tables
 record Read (w : Words) (ls : List Line) (v : Verdict) : Type 0 where
   h : Heading
   spec_is : h.spec ≡ w
@@ -86,7 +86,7 @@ read_basis w number (l ∷ ls) v e =
     let parts = basis_spells l read.0 (read_ok number (basis_in l) read.0 read.1) in
     moved w (line (basis_line read.0) ∷ ls) (l ∷ ls) v (λ i. parts.0 i ∷ ls) (read_method w read.0 (number + 1) ls v parts.1 parts.2 read.2)
 
--- lines are those of a valid bundle that has an output
+-- the lines are those of a valid certificate with an output
 pub record ReadBundle (ls : List Line) (v : Verdict) : Type 0 where
   pub bundle : Bundle
   pub valid : IsValid bundle
@@ -132,7 +132,7 @@ lines_read (l ∷ ls) v e =
     let found = with_read read.0.words ls read.0.rest v t.spec t.output t.lines (read_basis read.0.words (3 + length read.0.words.on) read.0.rest v read.2) in
     record { bundle = found.bundle; valid = found.valid; output = found.output; verdict = found.verdict; lines = (λ i. is_line_spells (codes "chains 1") l first.0 i ∷ ls) ∙ found.lines }
 
--- Bytes that have a verdict are the text of a valid bundle that has it.
+-- Bytes that have a verdict are the text of a valid certificate with this verdict.
 pub verdict_spelled : (bytes : List ℕ) (v : Verdict) → bundle_of (lines_of bytes) ≡ Ok v → HasVerdict bytes v
 verdict_spelled bytes v e =
     let read = lines_read (lines_of bytes) v e in

@@ -1,4 +1,4 @@
--- Bundles that were written are read again.
+-- The text of a valid certificate is accepted.
 use Rattle.std.proofs.lemmas.List.Elements.{recursion_from_All}
 use Rattle.cert_laws.specs.CodingLaws.{HasShortTitle, method_is_coding}
 use Rattle.enc_theory.specs.declared.part.Part.{Part}
@@ -73,7 +73,7 @@ pub basis_lower : (b : ℕ) → begins_lower (basis_line b) ≡ true
 unfolding basis_line
 basis_lower b = refl
 
--- ---- the heading
+-- ---- the header
 
 max_next : (w : Words) (basis : ℕ) (method : Method) (conflicts number max : ℕ) (ls : List Line) → max ≤ most_steps → behind_conflicts w basis method conflicts number (line (max_line max) ∷ ls) ≡ sections_of (record { spec = w; basis = basis; method = method; conflicts = conflicts; max = max }) (number + 1) beginning ls
 unfolding behind_conflicts
@@ -92,7 +92,7 @@ basis_next : (w : Words) (number basis : ℕ) (ls : List Line) → 0 < basis →
 unfolding behind_tables
 basis_next w number basis ls some low = ap (λ (o : Option ℕ). or_syntax number o >>= λ b. behind_basis w b (number + 1) ls) (basis_again basis some low)
 
--- the lines of a heading are read, and those after them are sections
+-- the lines of a header are accepted, and sections follow
 heading_again : (h : Heading) (rest : List Line) (v : Verdict) → IsHeading h → 0 < length h.spec.on → ((number : ℕ) → sections_of h number beginning rest ≡ Ok v) → bundle_of (heading_lines h ++ rest) ≡ Ok v
 unfolding bundle_of with_tables
 heading_again h rest v is output onward =
@@ -109,7 +109,7 @@ heading_again h rest v is output onward =
 
 -- ---- the whole
 
--- the first open size is a size
+-- the first open size is the size of a section
 open_low : (h : Heading) (ss : List Section) (size l : ℕ) → AreSections h size ss → size + length ss ≤ h.max + 1 → first_open ss ≡ Some l → l ≤ h.max
 unfolding AreSections
 open_low h [] size l are few e = absurd cc
@@ -178,6 +178,6 @@ pub lines_again : (b : Bundle) → IsValid b → lines_of (bundle_text b) ≡ bu
 unfolding lines_from
 lines_again b valid = sym (ap lines_of (append-nil (bundle_text b))) ∙ (whole_bundle b valid).back [] ∙ append-nil (bundle_lines b)
 
--- The text of a valid bundle is judged as its verdict.
+-- The text of a valid certificate is accepted with its verdict.
 pub text_again : (bytes : List ℕ) (b : Bundle) → IsBundle bytes b → bundle_of (lines_of bytes) ≡ Ok b.verdict
 text_again bytes b is = ap (λ (xs : List ℕ). bundle_of (lines_of xs)) is.text ∙ ap bundle_of (lines_again b is.valid) ∙ bundle_again b is.valid is.output

@@ -1,4 +1,4 @@
--- The clauses of a log's states.
+-- The live clauses after a log.
 use Rattle.std.proofs.Common.{◌≡◌, ◌==◌, ℤ, true, false, List, Some, None, subst}
 use Rattle.std.proofs.Math.Logic.{⊎_elim}
 use Rattle.std.proofs.lemmas.List.Elements.{All-contains}

@@ -1,4 +1,4 @@
--- What the formulas of a method have to mean for its verdicts to be true.
+-- The laws of a method's formulas that make its verdicts true.
 use Rattle.std.specs.Prelude.{◌≡◌, ℕ, ◌≤◌, ◌<◌, ◌^◌, List, [], ◌∷◌, All, Contains, slice_index_or, sum, length, map, refl}
 use Rattle.std.proofs.Common.{zero, suc, subst, arith, ap, sym}
 use Rattle.chain_theory.specs.Agreement.{IsMinimum}
@@ -24,13 +24,13 @@ use Rattle.enc_theory.specs.declared.part.Part.{Part}
 use Rattle.enc_theory.specs.declared.part.Part.TheVariants.{Whole, Levels}
 use Rattle.cert_theory.specs.Coding.{Coding, plain_coding, ssv_coding, select_coding, fence_coding, coding_of}
 
--- the numbers of a part's title can be read
+-- the numbers of a subproblem's name have at most nine digits
 unfoldable pub HasShortTitle : Part → Type 0
 HasShortTitle Whole = Unit {0}
 HasShortTitle (Levels sizes) = All (λ size. size < 2 ^ 64) sizes
 
--- The parts of a size have titles that can be read, and their formulas are formulas; where the size is
--- the minimum, one of them is satisfiable.
+-- The names of a size's subproblems can be read, and their formulas are well-formed; if the size is the
+-- minimum, one of the formulas is satisfiable.
 pub record IsCoding (c : Coding) : Type 0 where
   pub titles : (w : Words) (r : ℕ) (part : Part) → r ≤ 16 → Contains (c.parts w r) part → HasShortTitle part
   pub formulas : (w : Words) (basis r : ℕ) (part : Part) → Contains (c.parts w r) part → IsFormula (c.formula w basis r part)
@@ -94,7 +94,7 @@ fence_is_coding = record {
   complete = λ w basis r minimum. is_complete w basis r minimum;
 }
 
--- so each method has true verdicts
+-- so the verdicts of each method are true
 pub method_is_coding : (method : Method) → IsCoding (coding_of method)
 unfolding coding_of
 method_is_coding Plain = plain_is_coding

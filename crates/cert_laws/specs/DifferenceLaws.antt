@@ -1,4 +1,4 @@
--- The searches that judge a chain find what the definitions say.
+-- The searches that check a chain decide what the definitions say.
 use Rattle.std.proofs.Common.{◌≡◌, ℕ, zero, suc, ◌+◌, ◌^◌, ◌<◌, ◌≤◌, Bool, true, false, cond, List, [], ◌∷◌, ◌++◌, length, Option, Some, None, refl, sym, ap, ◌∙◌, subst, arith, inl, inr}
 use Rattle.std.specs.List.{AllByRecursion}
 use Rattle.std.proofs.lemmas.Bool.{cases_lt}
@@ -33,7 +33,7 @@ outside_some basis place (t ∷ front) s behind all out =
     ∙ outside_some basis (place + 1) front s behind all.1 out
     ∙ ap (λ (p : ℕ). Some p) same
 
--- where a chain is judged, the search answers so
+-- for a chain that is checked, the search gives this result
 pub outside_is : (basis : Basis) (c : Chain) (x : Option ℕ) → IsJudged basis c x → outside_from basis (c.n + 1) c.steps ≡ x
 outside_is basis c None over = outside_none basis (c.n + 1) c.steps (recursion_from_All (IsInside basis) c.steps over)
 outside_is basis c (Some place) first =
@@ -41,12 +41,12 @@ outside_is basis c (Some place) first =
     ∙ outside_some basis (c.n + 1) first.front first.step first.behind (recursion_from_All (IsInside basis) first.front first.inside) first.outside
     ∙ ap (λ (p : ℕ). Some p) (sym first.place_is)
 
--- ---- rows that are missed
+-- ---- rows that differ
 
 abbrev IsMet : Chain → Specification → ℕ → ℕ → Type 0
 IsMet c s h t = is_met (s.cell h t) (output_value c h t) ≡ true
 
--- what a search along rows found
+-- the result of a search along rows
 record RowFound (c : Chain) (s : Specification) (h t rows found : ℕ) : Type 0 where
   from : t ≤ found
   to : found < t + rows
@@ -57,7 +57,7 @@ abbrev IsRow : Chain → Specification → ℕ → ℕ → ℕ → Option ℕ �
 IsRow c s h t rows None = (u : ℕ) → t ≤ u → u < t + rows → IsMet c s h u
 IsRow c s h t rows (Some found) = RowFound c s h t rows found
 
--- a fact about this number, and about those above it
+-- a statement about this number and those above it
 from_here : (P : ℕ → Type 0) (t u : ℕ) → P t → (t + 1 ≤ u → P u) → t ≤ u → P u
 from_here P t u here above low = elim (cases_lt t u) [
   | inl more ↦ above (omega arith)
@@ -82,9 +82,9 @@ unfolding missed_row
 row_found c s h t zero = λ u low high. absurd (omega arith)
 row_found c s h t (suc rows) = row_by c s h t rows (is_met (s.cell h t) (output_value c h t)) refl (row_found c s h (t + 1) rows)
 
--- ---- outputs that are missed
+-- ---- outputs that differ
 
--- all rows of an output are met
+-- all rows of an output agree
 abbrev AreMet : Chain → Specification → ℕ → Type 0
 AreMet c s h = (u : ℕ) → u < 2 ^ s.inputs → IsMet c s h u
 
@@ -138,7 +138,7 @@ compared c s (Some at) inputs outputs found = record {
   rows_before = found.rows_before;
 }
 
--- the search is the comparison
+-- the result of the search is the first difference
 pub difference_compares : (c : Chain) (s : Specification) → c.n ≡ s.inputs → length c.outs ≡ s.outputs → IsComparison c s (difference_of c s)
 difference_compares c s inputs outputs = compared c s (difference_of c s) inputs outputs (output_found c s 1 s.outputs)
 

@@ -57,6 +57,6 @@ has_is f log has =
     (λ (added : Any AddsEmpty log). or_right (list_any is_empty f.clauses) (list_any adds_empty log) (list_any-from_Any adds_empty log (any_as AddsEmpty (λ (l : Line). adds_empty l ≡ true) log is_adds added)))
     has
 
--- so a checker decides it
+-- so a checker's flag decides it
 pub refuted_is : (f : Formula) (log : List Line) (c : Checked) → HasAccepted f log c → c.refuted ≡ has_empty f log
 refuted_is f log c accepted = same_bool c.refuted (has_empty f log) (λ yes_. has_is f log (accepted.refuted.0 yes_)) (λ yes_. accepted.refuted.1 (empty_has f log yes_))

@@ -1,4 +1,4 @@
--- The ending, as it is read.
+-- Lines that are accepted as a trailer spell it.
 use Rattle.cert_theory.specs.declared.data.BundleError.TheVariants.{NotRefuted}
 use Rattle.cert_theory.specs.Coding.{is_titled}
 use Rattle.std.proofs.Common.{◌≡◌, ℕ, ◌+◌, ◌≤◌, ◌&&◌, ◌==◌, Bool, true, false, List, [], ◌∷◌, ◌++◌, length, Option, Some, None, Result, Ok, refl, sym, ap, ◌∙◌, subst, arith, cond, Err}
@@ -64,7 +64,7 @@ bounded_some bounded (a ∷ b ∷ []) v e =
     (parts.0, parts.1, (λ i. first.1 i ∷ second.1 i ∷ []), parts.4)
 bounded_some bounded (a ∷ b ∷ c ∷ ws) v e = absurd cc
 
--- A verdict of one number or of two is the line that spells it.
+-- A verdict of one or two numbers has one spelling.
 pub numbered_spells : {V : Type 0} (one : ℕ → V) (bounded : ℕ → ℕ → V) (first second : List ℕ) (text : V → List ℕ) (l : Line) (v : V) → ((r : ℕ) → text (one r) ≡ first ++ decimal r) → ((low r : ℕ) → text (bounded low r) ≡ second ++ (decimal low ++ 32 ∷ decimal r)) → numbered_in one bounded first second l ≡ Some v → l ≡ line (text v)
 numbered_spells {V} one bounded first second text l v spells_one spells_two e =
     ⊎_elim
@@ -128,7 +128,7 @@ end_spells number v w (l ∷ ls) e =
     let rest = nothing_is (number + 1) v w ls tests.1 in
     ((λ i. is_line_spells (codes "end") l tests.0 i ∷ rest.0 i), rest.1)
 
--- the line of the verdict that is due, and the last one
+-- the line of the verdict, and the last line
 record IsLast (ls : List Line) (due v : Verdict) : Type 0 where
   verdict_is : v ≡ due
   lines : ls ≡ line (verdict_line v) ∷ line end_text ∷ []
@@ -156,7 +156,7 @@ last_by number complete due v l ls o spells e =
 
 -- ---- without a chain
 
--- a title isn't a verdict
+-- the name of a fence isn't a verdict
 no_title : (b : Bool) (d : BundleError) (read : Result Verdict BundleError) (next : Verdict → Result Verdict BundleError) (v : Verdict) → (cond b (Err d) read >>= next) ≡ Ok v → (read >>= next) ≡ Ok v
 no_title true d read next v e = absurd cc
 no_title false d read next v e = e
@@ -206,7 +206,7 @@ unfolding behind_chain
 behind_is number size low [] v e = absurd cc
 behind_is number size low (l ∷ ls) v e = (last_by number true (found size low) v l ls (found_in l) (found_spells l) e).1
 
--- the number of steps that a first line states
+-- the number of steps on the first line
 count_is : (number k r : ℕ) → k ≤ 16 → count_at number (line (count_text k)) ≡ Ok r → k ≡ r
 unfolding count_at
 count_is number k r few e =
@@ -245,7 +245,7 @@ chain_ends h number size low l ls v e =
     ok_is : (x y : ℕ) → done_with {E = BundleError} x ≡ Ok y → x ≡ y
     ok_is x y is = cc
 
--- ---- the ending
+-- ---- the trailer
 
 pub ending_spells : (h : Heading) (number size : ℕ) (low : Option ℕ) (l : Line) (ls : List Line) (v : Verdict) → ending_at h number size low l ls ≡ Ok v → IsEnded h size low (l ∷ ls) v
 ending_spells h number size low l ls v e =

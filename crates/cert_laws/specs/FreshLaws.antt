@@ -1,4 +1,4 @@
--- The test for new clauses.
+-- The test for subsumption by live clauses.
 use Rattle.std.proofs.Common.{◌≡◌, ◌↔◌, ◌⊎◌, ℕ, zero, suc, ◌+◌, ◌-◌, ◌<◌, ◌≤◌, ◌&&◌, ℤ, not, ◌==◌, cond, Bool, true, false, List, [], ◌∷◌, All, Contains, Option, Some, None, refl, sym, ap, ◌∙◌, inl, inr, arith}
 use Rattle.std.proofs.Math.Logic.{⊎_elim}
 use Rattle.std.proofs.lemmas.Bool.{cases_lt}
@@ -71,7 +71,7 @@ within_all : (lits clause : List ℤ) → AllByRecursion (Contains lits) clause 
 within_all lits [] all = refl
 within_all lits (l ∷ ls) all = rw (among-from_Contains lits l all.0, within_all lits ls all.1) refl
 
--- no live clause of an id below a number is within some literals
+-- no live clause with a smaller id subsumes the literals
 abbrev IsNewBelow : ℕ → (ℕ → Option (List ℤ)) → List ℤ → Type 0
 IsNewBelow n live lits = (id : ℕ) (clause : List ℤ) → id < n → live id ≡ Some clause → All (Contains lits) clause → ⊥
 
@@ -104,7 +104,7 @@ below_new zero live lits each = refl
 below_new (suc n) live lits each =
     rw (within_not lits (live n) (is_within lits (live n)) refl (λ clause is all. each n clause (omega arith) is all), below_new n live lits (λ id clause low is all. each id clause (omega arith) is all)) refl
 
--- where all ids are low, the test says whether a clause is new
+-- if no id is above the bound, the test decides whether a clause is subsumed
 pub new_from_test : (s : State) (lits : List ℤ) → IsLow s → is_new_below (s.greatest + 1) s.live lits ≡ true → IsNew s.live lits
 new_from_test s lits low e = λ id clause is all. let at = low.each id clause is in new_below (s.greatest + 1) s.live lits e id clause (omega (arith, at)) is all
 
@@ -119,6 +119,6 @@ pub test_from_fresh : (s : State) (line : Line) → IsFresh s line → is_fresh 
 test_from_fresh s (Add id lits hints) fresh = test_from_new s lits fresh
 test_from_fresh s (Delete id ids) fresh = refl
 
--- another test that decides it answers the same
+-- another test that decides it has the same result
 pub test_is : (s : State) (lits : List ℤ) (b : Bool) → IsLow s → (b ≡ true) ↔ IsNew s.live lits → b ≡ is_new_below (s.greatest + 1) s.live lits
 test_is s lits b low told = same_bool b (is_new_below (s.greatest + 1) s.live lits) (λ yes_. test_from_new s lits (told.0 yes_)) (λ yes_. told.1 (new_from_test s lits low yes_))

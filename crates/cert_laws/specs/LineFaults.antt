@@ -1,4 +1,4 @@
--- The fault of a log's line is never want of memory.
+-- The fault of a log's line is never that memory runs out.
 use Rattle.std.proofs.Common.{◌≡◌, ◌||◌, ℕ, ℤ, Bool, true, false, cond, List, [], ◌∷◌, Option, Some, None}
 use Rattle.std.specs.Prelude.{nat_le, is_none}
 use Rattle.sat_theory.specs.Formula.{opposite}

@@ -1,4 +1,4 @@
--- Single lines, as they are read and as they are written.
+-- Single lines: what is parsed is what is spelled.
 use Rattle.std.proofs.Common.{◌≡◌, ◌⊎◌, ℕ, zero, suc, ◌^◌, ◌<◌, ◌≤◌, ◌&&◌, Bool, true, false, cond, List, ◌++◌, Option, Some, None, Result, Ok, Err, refl, sym, ap, ◌∙◌, subst, arith, inl, inr}
 use Rattle.std.specs.Prelude.{codes, decimal, option_and_then}
 use Rattle.std.specs.Str.{bytes_eq}
@@ -80,7 +80,7 @@ number_at limit word l n narrow e =
 pub number_at_back : (limit : ℕ) (word : List ℕ) (n : ℕ) → n < 2 ^ 64 → n ≤ limit → option_and_then (number_up_to limit) (value_of word (line (word ++ decimal n))) ≡ Some n
 number_at_back limit word n narrow fits = ap (option_and_then (number_up_to limit)) (value_back word (decimal n)) ∙ number_back limit n narrow fits
 
--- ---- the heading
+-- ---- the header
 
 spelled_is : (word : List ℕ) (r : Result ℕ BasisError) (b : ℕ) → spelled word r ≡ Some b → (r ≡ Ok b) × (word ≡ basis_text b)
 spelled_is word (Ok x) b e =
@@ -107,7 +107,7 @@ basis_spells l b e =
     let parts = spelled_is word (basis_of word) b is in
     (value_spells (codes "basis ") l word value ∙ ap (λ (w : List ℕ). line (codes "basis " ++ w)) parts.1, basis_some word b parts.0, set_low word b (begins_letter word) refl parts.0))
 
--- a word that is compared with one name, and else goes on
+-- a word is compared with one name after the other
 named_or : (word : List ℕ) (m first : Method) (later : Option Method) → (later ≡ Some m → word ≡ method_text m) → cond (bytes_eq word (method_text first)) (Some first) later ≡ Some m → word ≡ method_text m
 named_or word m first later next e =
     ⊎_elim

@@ -1,4 +1,4 @@
--- Single lines that were written are read again.
+-- Single lines that were written are parsed back.
 use Rattle.std.proofs.Common.{◌≡◌, ℕ, ◌<◌, ◌≤◌, ◌==◌, Bool, true, false, cond, List, [], ◌∷◌, ◌++◌, Option, Some, None, Result, Ok, refl, sym, ap, ◌∙◌, arith}
 use Rattle.std.specs.Prelude.{codes, decimal, option_and_then, nat_le}
 use Rattle.std.specs.Str.{bytes_eq}

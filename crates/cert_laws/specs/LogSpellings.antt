@@ -1,5 +1,5 @@
--- The log of a part, as it is read line after line: each line that is taken holds, and where the log leaves its
--- part open each addition was new.
+-- The log of a subproblem, as it is accepted line by line: each line holds, and in an open log no addition is
+-- subsumed.
 use Rattle.std.proofs.Common.{◌≡◌, ℕ, ◌≤◌, Bool, true, false, cond, List, [], ◌∷◌, ◌++◌, length, Option, Some, None, Result, Ok, Err, refl, ap, ◌∙◌, subst, arith}
 use Rattle.std.specs.Prelude.{nat_le}
 use Rattle.std.proofs.lemmas.Bool.Decides.{nat_tests}
@@ -25,7 +25,7 @@ use Rattle.cert_laws.specs.EmptyLaws.{empty_has, has_is}
 use Rattle.cert_laws.specs.FreshLaws.{IsLow, log_low, fresh_from_test}
 use Rattle.cert_laws.specs.LineSpellings.{log_spells}
 
--- where the log leaves its part open, each addition was new
+-- in an open log no addition is subsumed
 abbrev pub AreFresh : Ended → Formula → List theory.Line → Type 0
 AreFresh ends.Refuted f log = Unit {0}
 AreFresh ends.Open f log = EachLine IsFresh (start f) log

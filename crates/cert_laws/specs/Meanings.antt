@@ -1,4 +1,4 @@
--- The verdict of a valid bundle is true.
+-- The verdict of a valid certificate is true.
 use Rattle.std.proofs.Common.{◌≡◌, ◌⊎◌, ℕ, zero, suc, ◌+◌, ◌<◌, ◌≤◌, ◌||◌, Bool, true, false, cond, List, [], ◌∷◌, length, map, Contains, Option, Some, None, refl, sym, ◌∙◌, subst, arith, inl, inr, zero-add}
 use Rattle.std.specs.List.{list_any, find, AllByRecursion}
 use Rattle.std.specs.Option.{option_map}
@@ -26,7 +26,7 @@ use Rattle.cert_theory.specs.Meaning.{Means}
 abbrev Fewer : Heading → ℕ → Type 0
 Fewer h size = NoneBelow (specification h.spec) (members h.basis) size
 
--- a log of a part, whose size is refuted
+-- the log of a subproblem whose size is refuted
 record RefutedLog (h : Heading) (size : ℕ) (part : Part) : Type 0 where
   p : PartLog
   part_is : p.part ≡ part
@@ -42,7 +42,7 @@ log_of h size [] part logs none (k, within, at) = absurd (let low : k < 0 = with
 log_of h size (p ∷ ps) part logs none (zero, within, at) = record { p = p; part_is = at; log = logs.0; ended = (neither (is_open_end p.ended) (list_any (λ p. is_open_end p.ended) ps) none).0 }
 log_of h size (p ∷ ps) part logs none (suc k, within, at) = log_of h size ps part logs.1 (neither (is_open_end p.ended) (list_any (λ p. is_open_end p.ended) ps) none).1 (k, (let more : suc k < suc (length (map part_of ps)) = within in omega arith), at)
 
--- a log that ends refuted leaves no assignment
+-- a log that ends refuted excludes all assignments
 refutes : (h : Heading) (size : ℕ) (part : Part) (log : List Line) (ended : Ended) → is_open_end ended ≡ false → EndsAs (formula_of h size part) h.conflicts ended log → Refutes (formula_of h size part) log
 refutes h size part log ends.Refuted is ends_as = ends_as
 refutes h size part log ends.Open is ends_as = absurd cc
@@ -52,14 +52,14 @@ unsatisfied h size part coding there r v satisfies =
     let ends_as : EndsAs (formula_of h size part) h.conflicts r.p.ended r.p.log = subst (λ (q : Part). EndsAs (formula_of h size q) h.conflicts r.p.ended r.p.log) r.part_is r.log in
     no_assignment (formula_of h size part) r.p.log v (coding.formulas h.spec h.basis size part there) (refutes h size part r.p.log r.p.ended r.ended ends_as) satisfies
 
--- a size that is refuted has no chain, where no smaller one has
+-- a refuted size has no chain if no smaller size has one
 pub none_at : (h : Heading) (size : ℕ) (s : Section) → IsHeading h → IsCoding (coding_of h.method) → size ≤ 16 → IsSection h size s → is_open s ≡ false → Fewer h size → HasChain (specification h.spec) (members h.basis) size → ⊥
 none_at h size s heading coding few section refuted fewer has =
     let sat = coding.complete h.spec h.basis size (record { reached = has; none_fewer = fewer }) in
     let named : Contains (map part_of s.parts) sat.0 = subst (λ (parts : List Part). Contains parts sat.0) (sym section.parts_are) sat.1 in
     unsatisfied h size sat.0 coding sat.1 (log_of h size s.parts sat.0 (recursion_from_All (IsPartLog h size) s.parts section.logs) refuted named) sat.2.0 sat.2.1
 
--- where no chain has fewer than `size` steps and none has `size`, none has fewer than one more
+-- if no chain has fewer than `size` steps and none has `size`, none has fewer than `size + 1`
 pub one_more : (h : Heading) (size : ℕ) → Fewer h size → (HasChain (specification h.spec) (members h.basis) size → ⊥) → Fewer h (size + 1)
 one_more h size fewer none = λ q low has. elim (cases_lt q size) as (λ _. ⊥) [
   | inl below ↦ fewer q below has
@@ -77,7 +77,7 @@ open_cases s ss o e = by (is_open s) refl e
     by true is e = inl (is, sym e)
     by false is e = inr (is, e)
 
--- where all sizes are refuted no chain is found among them
+-- if all sizes are refuted, no chain has one of them
 pub all_refuted : (h : Heading) (ss : List Section) (size : ℕ) → IsHeading h → IsCoding (coding_of h.method) → AreSections h size ss → size + length ss ≤ h.max + 1 → first_open ss ≡ None → Fewer h size → Fewer h (size + length ss)
 unfolding AreSections
 all_refuted h [] size heading coding are few none fewer = let same : size ≡ size + 0 = omega arith in subst (λ (k : ℕ). Fewer h k) same fewer
@@ -91,7 +91,7 @@ all_refuted h (s ∷ ss) size heading coding are few none fewer =
     (one_more h size fewer (none_at h size s heading coding (omega (arith, heading.asked.max_to)) are.0 refuted.0 fewer))))
     (open_cases s ss None none)
 
--- and none below the first open one
+-- and none is below the first open one
 pub none_below_open : (h : Heading) (ss : List Section) (size low : ℕ) → IsHeading h → IsCoding (coding_of h.method) → AreSections h size ss → size + length ss ≤ h.max + 1 → first_open ss ≡ Some low → Fewer h size → Fewer h low
 unfolding AreSections
 none_below_open h [] size low heading coding are few is fewer = absurd cc
@@ -121,7 +121,7 @@ means_by h count (Some l) (Some c) v few all opened ending =
 nothing_fewer : (h : Heading) → Fewer h 0
 nothing_fewer h = λ q low has. absurd (omega arith)
 
--- The verdict of a valid bundle is true.
+-- The verdict of a valid certificate is true.
 pub verdict_means : (b : Bundle) → IsCoding (coding_of b.heading.method) → IsValid b → Means (specification b.heading.spec) (members b.heading.basis) b.verdict
 verdict_means b coding valid =
     let none = nothing_fewer b.heading in
@@ -130,6 +130,6 @@ verdict_means b coding valid =
     (λ l e. none_below_open b.heading b.sections 0 l valid.heading coding valid.sections (omega (arith, valid.sizes_to)) e none)
     valid.ending
 
--- So it is for each method, whose formulas have these laws.
+-- This holds for each method whose formulas satisfy the laws.
 pub verdict_true : (b : Bundle) → IsValid b → Means (specification b.heading.spec) (members b.heading.basis) b.verdict
 verdict_true b valid = verdict_means b (method_is_coding b.heading.method) valid

@@ -1,4 +1,4 @@
--- What a certificate asks, and what its verdict answers.
+-- The question of a certificate, and that its verdict answers it.
 use Rattle.std.proofs.Common.{◌≡◌, ℕ, List, [], ◌∷◌, ◌++◌, Option, Some, Result, Ok, ap, ◌∙◌, subst, append_assoc}
 use Rattle.std.specs.List.{flat_map}
 use Rattle.text_core.specs.Lines.{Line, lines_of}
@@ -18,7 +18,7 @@ use Rattle.cert_laws.specs.LinesAgain.{basis_again}
 use Rattle.cert_laws.specs.BundlesAgain.{spells_tables, basis_lower, lines_again}
 use Rattle.cert_laws.specs.Meanings.{verdict_true}
 
--- a certificate asks for its tables and its basis
+-- a certificate's question is its tables and its basis
 pub bundle_asks : (bytes : List ℕ) (b : Bundle) → IsBundle bytes b → HasQuestion bytes b.heading.spec b.heading.basis
 bundle_asks bytes b is =
     let h = b.heading in
@@ -46,7 +46,7 @@ same_read read a b one two = cc
 same_some : (o : Option ℕ) (a b : ℕ) → o ≡ Some a → o ≡ Some b → a ≡ b
 same_some o a b one two = cc
 
--- and for no others
+-- and there is no other question
 pub one_question : (bytes : List ℕ) (w u : Words) (a b : ℕ) → HasQuestion bytes w a → HasQuestion bytes u b → (w ≡ u) × (a ≡ b)
 one_question bytes w u a b one two =
     let behind : one.behind ≡ two.behind = same_behind (line first_text) one.behind two.behind (lines_of bytes) one.first two.first in

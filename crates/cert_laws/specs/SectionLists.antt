@@ -1,4 +1,4 @@
--- Lists of sections that were written are read again.
+-- Sections that were written are accepted.
 use Rattle.cert_theory.specs.declared.data.PartError.{PartError}
 use Rattle.cert_theory.specs.declared.data.PartError.TheVariants.{NotRefuted, Syntax}
 use Rattle.std.proofs.Common.{◌≡◌, ℕ, suc, ◌+◌, ◌<◌, ◌≤◌, Bool, not, cond, List, [], ◌∷◌, ◌++◌, length, map, Contains, Option, Some, None, Result, Ok, refl, sym, ap, ◌∙◌, subst, arith, append_assoc, Err}
@@ -30,7 +30,7 @@ use Rattle.cert_laws.specs.LinesAgain.{size_again, size_begins, ended_again}
 use Rattle.cert_laws.specs.SectionSpellings.{progress, low_or, low_same, low_more, low_after, part_text}
 use Rattle.cert_laws.specs.SectionsAgain.{ending_again, WasFresh, within_again, Onward}
 
--- ---- parts
+-- ---- subproblems
 
 pub log_holds : (f : Formula) (conflicts : ℕ) (ended : Ended) (log : List theory.Line) → EndsAs f conflicts ended log → EachLine IsStep (start f) log
 log_holds f conflicts ends.Refuted log is = is.holds
@@ -63,7 +63,7 @@ unfolding sections_of
 ended_step h number size low part later ended ls =
     ap (λ (o : Option Ended). (or_syntax number o >>= λ e. come (progress size low (Within part later e []))) >>= λ next. sections_of h (number + 1) next ls) (ended_again ended)
 
--- the lines of a log are read
+-- the lines of a log are accepted
 log_again : (h : Heading) (number size : ℕ) (low : Option ℕ) (part : Part) (later : List Part) (ended : Ended) (log : List theory.Line) (behind : List Line) (v : Verdict) → IsFormula (formula_of h size part) → EndsAs (formula_of h size part) h.conflicts ended log → Onward h size (low_with low ended size) later behind v
     → sections_of h number (progress size low (Begun part later)) (line (ended_text ended) ∷ (map log_line log ++ line done_text ∷ behind)) ≡ Ok v
 unfolding after
@@ -72,7 +72,7 @@ log_again h number size low part later ended log behind v formula is onward =
     ended_step h number size low part later ended (map log_line log ++ line done_text ∷ behind)
     ∙ within_again log h (number + 1) size low part later ended [] behind v (start_clauses f formula) (log_holds f h.conflicts ended log is) (log_fresh f h.conflicts ended log is) is onward
 
--- a part, with its title
+-- a subproblem, with its name
 part_again : (part : Part) (h : Heading) (number size : ℕ) (low : Option ℕ) (later : List Part) (ended : Ended) (log : List theory.Line) (behind : List Line) (v : Verdict) → IsFormula (formula_of h size part) → EndsAs (formula_of h size part) h.conflicts ended log → Onward h size (low_with low ended size) later behind v
     → sections_of h number (before size low (part ∷ later)) (title_lines part ++ (line (ended_text ended) ∷ (map log_line log ++ line done_text ∷ behind))) ≡ Ok v
 unfolding before title_lines
@@ -84,7 +84,7 @@ part_again (Levels sizes) h number size low later ended log behind v formula is 
 abbrev AreFormulas : Heading → ℕ → List PartLog → Type 0
 AreFormulas h size ps = (part : Part) → Contains (map part_of ps) part → IsFormula (formula_of h size part)
 
--- all parts of a section
+-- all subproblems of a section
 parts_again : (ps : List PartLog) (h : Heading) (number size : ℕ) (low : Option ℕ) (behind : List Line) (v : Verdict) → AreFormulas h size ps → AllByRecursion (IsPartLog h size) ps → ((n : ℕ) → sections_of h n (progress (size + 1) (low_after low size ps) Between) behind ≡ Ok v)
     → sections_of h number (before size low (map part_of ps)) (flat_map part_lines ps ++ behind) ≡ Ok v
 unfolding before low_after
@@ -99,7 +99,7 @@ section_formulas : (h : Heading) (size : ℕ) (s : Section) → IsSection h size
 section_formulas h size s is part there =
     (method_is_coding h.method).formulas h.spec h.basis size part (subst (λ (parts : List Part). Contains parts part) is.parts_are there)
 
--- the lines of a section are read
+-- the lines of a section are accepted
 section_again : (h : Heading) (number size : ℕ) (low : Option ℕ) (s : Section) (behind : List Line) (v : Verdict) → size ≤ h.max → size ≤ 16 → IsSection h size s → ((n : ℕ) → sections_of h n (progress (size + 1) (low_after low size s.parts) Between) behind ≡ Ok v)
     → sections_of h number (progress size low Between) (section_lines s ++ behind) ≡ Ok v
 unfolding section_lines

@@ -1,4 +1,4 @@
--- Sections, as they are read.
+-- Lines that are accepted as sections spell them.
 use Rattle.std.specs.Option.{option_map}
 use Rattle.std.proofs.Common.{◌≡◌, ◌⊎◌, ℕ, suc, ◌+◌, ◌≤◌, Bool, true, false, not, cond, List, [], ◌∷◌, ◌++◌, length, map, Option, Some, None, Result, Ok, Err, refl, sym, ap, ◌∙◌, subst, arith, inl, inr, append_assoc, append-nil, ◌||◌}
 use Rattle.std.specs.Prelude.{codes}
@@ -29,18 +29,18 @@ use Rattle.cert_laws.specs.LineSpellings.{chosen, is_line_spells, size_spells, e
 use Rattle.cert_laws.specs.EndingSpellings.{IsEnded, ending_spells}
 use Rattle.cert_laws.specs.LogSpellings.{IsLog, no_log, fine, closed_is, taken, logged_is}
 
--- ---- what is read from a place on
+-- ---- the lines from a state on
 
 abbrev pub low_or : Option ℕ → Option ℕ → Option ℕ
 low_or None o = o
 low_or (Some low) o = Some low
 
--- the first open size, with the parts of one size more
+-- the first open size, with the subproblems of one more size
 unfoldable pub low_after : Option ℕ → ℕ → List PartLog → Option ℕ
 low_after low size [] = low
 low_after low size (p ∷ ps) = low_after (low_with low p.ended size) size ps
 
--- sections of the sizes from one on, and the ending
+-- sections of the sizes from one on, and the trailer
 pub record Rest (h : Heading) (size : ℕ) (low : Option ℕ) (ls : List Line) (v : Verdict) : Type 0 where
   pub sections : List Section
   pub chain : Option Chain
@@ -49,7 +49,7 @@ pub record Rest (h : Heading) (size : ℕ) (low : Option ℕ) (ls : List Line) (
   pub ending : IsEnding h (size + length sections) (low_or low (first_open sections)) chain v
   pub lines : ls ≡ flat_map section_lines sections ++ ending_lines chain v
 
--- the logs of the parts that are due, and what stands after the section
+-- the logs of the remaining subproblems, and the lines after the section
 pub record PartsRest (h : Heading) (size : ℕ) (low : Option ℕ) (due : List Part) (ls : List Line) (v : Verdict) : Type 0 where
   pub parts : List PartLog
   pub parts_are : map part_of parts ≡ due
@@ -88,7 +88,7 @@ IsAt h size (Due sizes later) = size ≤ h.max
 IsAt h size (Begun part later) = size ≤ h.max
 IsAt h size (Within part later ended log) = (size ≤ h.max) × IsLog (formula_of h size part) ended log
 
--- no section more
+-- no more section
 pub low_same : (low : Option ℕ) → low ≡ low_or low None
 low_same None = refl
 low_same (Some low) = refl
@@ -106,7 +106,7 @@ ended_rest h size low ls v few ended =
       lines = ended.lines;
     }
 
--- ---- a section more at the head
+-- ---- one more section at the head
 
 abbrev pub any_open : List PartLog → Bool
 any_open ps = list_any (λ p. is_open_end p.ended) ps
@@ -116,7 +116,7 @@ unfolding low_after
 low_some low size [] = refl
 low_some low size (p ∷ ps) = low_some low size ps
 
--- the first open size with a section's parts, and those of the sections after it
+-- the first open size with a section's subproblems, and those of the sections after it
 low_first : (ended : Ended) (size : ℕ) (ps : List PartLog) (o : Option ℕ) → low_or (low_after None size ps) o ≡ cond (any_open ps) (Some size) o → low_or (low_after (low_with None ended size) size ps) o ≡ cond (is_open_end ended || any_open ps) (Some size) o
 low_first ends.Refuted size ps o rest = rest
 low_first ends.Open size ps o rest = ap (λ (q : Option ℕ). low_or q o) (low_some size size ps)
@@ -153,9 +153,9 @@ size_rest h size low l ls v first parts =
           ∙ sym (append_assoc (section_lines s) (flat_map section_lines rest.sections) (ending_lines rest.chain v));
     }
 
--- ---- parts
+-- ---- subproblems
 
--- the lines of a part, and those after it
+-- the lines of a subproblem, and those after it
 pub part_text : (part : Part) (ended : Ended) (log : List theory.Line) (behind : List Line) → part_lines (record { part = part; ended = ended; log = log }) ++ behind ≡ title_lines part ++ (line (ended_text ended) ∷ (map log_line log ++ line done_text ∷ behind))
 unfolding part_lines
 part_text part ended log behind =
@@ -282,7 +282,7 @@ stop done = Ok None
 abbrev one_more : theory.Line → Result (Option theory.Line) PartError
 one_more line = Ok (Some line)
 
--- which of the two a line is
+-- a line is either of the two
 pub part_done : (f : Formula) (conflicts : ℕ) (ended : Ended) (log : List theory.Line) (l : Line) → part_in f conflicts ended log l ≡ Ok None → (is_line (codes "done") l ≡ true) × (done_in f conflicts ended log ≡ Ok tt)
 unfolding part_in
 part_done f conflicts ended log l e =

@@ -1,4 +1,4 @@
--- Sections and endings that were written are read again.
+-- Sections and trailers that were written are accepted.
 use Rattle.cert_theory.specs.Coding.{is_titled}
 use Rattle.std.proofs.Common.{◌≡◌, ℕ, ◌+◌, ◌<◌, ◌≤◌, ◌==◌, ◌&&◌, Bool, true, false, not, cond, List, [], ◌∷◌, ◌++◌, length, map, Option, Some, None, Result, Ok, Err, refl, sym, ap, ◌∙◌, subst, arith, append_assoc, append-nil}
 use Rattle.std.specs.Prelude.{codes, nat_le, nat_lt}
@@ -49,7 +49,7 @@ use Rattle.cert_laws.specs.SectionSpellings.{progress}
 abbrev go_on : Heading → ℕ → List Line → Progress → Result Verdict BundleError
 go_on h number ls next = sections_of h (number + 1) next ls
 
--- ---- the ending
+-- ---- the trailer
 
 end_again : (number : ℕ) (v : Verdict) → end_of number v (line end_text ∷ []) ≡ Ok v
 unfolding end_of
@@ -84,7 +84,7 @@ unfolding verdict_line is_title after
 no_title max None = refl
 no_title max (Some low) = refl
 
--- what isn't a title is read as a verdict
+-- a line that isn't the name of a fence is read as a verdict
 verdict_plain : (titled : Bool) (number : ℕ) (l : Line) → is_title l ≡ false → verdict_at titled number l ≡ or_syntax number (not_found_in l)
 verdict_plain true number l e = ap (λ (b : Bool). cond b (Err (NotRefuted number)) (or_syntax number (not_found_in l))) e
 verdict_plain false number l e = refl
@@ -162,7 +162,7 @@ not_found_last h number size low complete fits short =
     ∙ ap (λ (t : Bool). or_syntax number (not_found_in (line (verdict_line v))) >>= λ read. follows number t v read >>= λ w. end_of (number + 1) w (line end_text ∷ [])) all
     ∙ last_again number v (not_found_in (line (verdict_line v))) (not_found_again h.max low fits short)
 
--- where no section begins, the ending is read
+-- where no section begins, the trailer is read
 at_ending : (h : Heading) (number size : ℕ) (low : Option ℕ) (l : Line) (ls : List Line) → begins (codes "size ") l ≡ false → sections_of h number (progress size low Between) (l ∷ ls) ≡ ending_at h number size low l ls
 unfolding sections_of
 at_ending h number size low l ls none = ap (λ (t : Bool). cond (not t) (ending_at h number size low l ls) (section_at h number size low Between l >>= go_on h number ls)) none
@@ -220,7 +220,7 @@ stop done = Ok None
 abbrev one_more : theory.Line → Result (Option theory.Line) PartError
 one_more line = Ok (Some line)
 
--- the end, and one line more
+-- the end, and one more line
 pub part_ends : (f : Formula) (conflicts : ℕ) (ended : Ended) (log : List theory.Line) → EndsAs f conflicts ended log → part_in f conflicts ended log (line done_text) ≡ Ok None
 unfolding part_in
 part_ends f conflicts ended log is = ap (λ (r : Result (Unit {0}) PartError). r >>= stop) (done_again f conflicts ended log is)

@@ -1,4 +1,4 @@
--- Tables, as they are read.
+-- Lines that are accepted as tables spell them.
 use Rattle.std.proofs.Common.{◌≡◌, ◌⊎◌, ℕ, zero, suc, ◌+◌, ◌^◌, ◌<◌, ◌≤◌, ◌==◌, Bool, true, false, cond, List, [], ◌∷◌, ◌++◌, length, map, drop, Option, Some, None, Result, Ok, Err, refl, sym, ap, ◌∙◌, subst, arith, inl, inr}
 use Rattle.std.specs.Prelude.{slice_get, nat_lt}
 use Rattle.std.specs.List.{range_with_len}
@@ -20,7 +20,7 @@ use Rattle.tt_core.specs.SpelledLaws.{tables_spelled}
 use Rattle.chain_core.specs.WrittenListLaws.{line_is}
 use Rattle.cert_theory.specs.Spelling.{table_text, table_line, tables_lines}
 
--- ---- what is read is a specification
+-- ---- the tables are a specification
 
 end_keeps : (w : Words) (rest : List Line) (r : Read) → end_of w rest ≡ Ok r → w ≡ r.words
 end_keeps w rest r e = grind (arith, common_steps)
@@ -73,7 +73,7 @@ pub read_spec : (ls : List Line) (r : Read) → tables_of ls ≡ Ok r → IsSpec
 read_spec [] r e = absurd cc
 read_spec (l ∷ ls) r e = inputs_keep (inputs_of l) ls r e
 
--- ---- and the lines are its text
+-- ---- and the lines are their text
 
 table_is : (w : Words) (h : ℕ) (l : Line) → IsTableLine (specification w) h l → l ≡ table_line w h
 unfolding table_text
@@ -98,7 +98,7 @@ table_of w ls rest l spells i low =
     let same : suc i ≡ 0 + i + 1 = omega arith in
     table.1 ∙ ap (λ (m : Line). Some m) (table_is w (suc i) table.0 table.2) ∙ ap (λ (n : ℕ). Some (table_line w n)) same
 
--- the lines of tables that were read, and those after them
+-- the lines of the tables, and those after them
 pub tables_are : (w : Words) (ls rest : List Line) → SpellsTables (specification w) ls rest → ls ≡ tables_lines w ++ rest
 tables_are w [] rest spells = let header = spells.header in absurd cc
 tables_are w (l ∷ ls) rest spells =

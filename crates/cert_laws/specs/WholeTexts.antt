@@ -1,4 +1,4 @@
--- The lines of a bundle are those of its text.
+-- The lines of a certificate are the lines of its text.
 use Rattle.cert_laws.specs.CodingLaws.{HasShortTitle}
 use Rattle.enc_theory.specs.declared.part.Part.{Part}
 use Rattle.enc_theory.specs.declared.part.Part.TheVariants.{Whole, Levels}
@@ -37,7 +37,7 @@ use Rattle.cert_theory.specs.declared.data.Verdict.TheVariants as verdicts
 use Rattle.settings.specs.Methods.{method_text}
 use Rattle.cert_theory.specs.Spelling.{text_of, table_text, table_line, tables_lines, basis_line, method_line, conflicts_line, max_line, first_text, heading_lines, size_line, ended_text, done_text, log_line, verdict_line, end_text, title_text, title_lines}
 
--- lines that are read from their text, whatever follows
+-- lines that are split from their text, whatever follows
 pub record IsWhole (ls : List Line) : Type 0 where
   pub back : (rest : List ℕ) → lines_of (text_of ls ++ rest) ≡ ls ++ lines_of rest
 
@@ -70,7 +70,7 @@ whole_block c small = record { back = λ rest. lines_back (chain_lines c) rest (
 pub whole_cons : (l : Line) (ls : List Line) → IsWhole (l ∷ []) → IsWhole ls → IsWhole (l ∷ ls)
 whole_cons l ls one two = whole_both (l ∷ []) ls one two
 
--- ---- bytes that are no LF
+-- ---- bytes other than LF
 
 free_word : (word : List ℕ) (n : ℕ) → is_free 10 word ≡ true → n < 2 ^ 64 → is_free 10 (word ++ decimal n) ≡ true
 free_word word n free narrow = free_both 10 word (decimal n) free (free_decimal 10 n (omega arith) narrow)
@@ -132,7 +132,7 @@ free_method Ssv = refl
 free_method Select = refl
 free_method Fence = refl
 
--- ---- the heading
+-- ---- the header
 
 whole_tables : (w : Words) (ks : List ℕ) → IsWhole (map (λ i. table_line w (i + 1)) ks)
 whole_tables w [] = whole_none
@@ -172,7 +172,7 @@ whole_heading h inputs conflicts max =
     let tables = whole_cons (header_line h.spec.n) (map (λ i. table_line h.spec (i + 1)) (range_with_len 0 (length h.spec.on))) (whole_line (codes "inputs " ++ decimal h.spec.n) (free_inputs h.spec.n inputs)) (whole_tables h.spec (range_with_len 0 (length h.spec.on))) in
     whole_cons (line first_text) _ (whole_line first_text free_first) (whole_both (tables_lines h.spec) _ tables four)
 
--- ---- logs, and the ending
+-- ---- logs, and the trailer
 
 pub whole_lines : (s : State) (log : List theory.Line) → EachLine IsStep s log → IsWhole (map log_line log)
 unfolding EachLine

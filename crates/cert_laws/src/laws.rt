@@ -14,19 +14,18 @@ ghost use Rattle.cert_theory.specs.Spelling.{IsBundle, HasVerdict};
 ghost use Rattle.cert_theory.specs.Question.{HasQuestion};
 ghost use Rattle.cert_theory.specs.Judging.{bundle_of};
 
-/// The verdict of a valid bundle is true, whoever made it.
+/// The verdict of a valid certificate is true, whoever made it.
 pub fn verdicts_are_true()
     ensures { (b : Bundle) → IsValid b → Means (specification b.heading.spec) (members b.heading.basis) b.verdict }
 {}
 
-/// Bytes are judged as a verdict exactly where they are the text of a valid bundle that has it.
+/// A text is accepted with a verdict exactly where it is the text of a valid certificate that has it.
 pub fn verdicts_are_spelled()
     ensures only { (bytes : List ℕ) (v : Verdict) → bundle_of (lines_of bytes) ≡ Ok v → HasVerdict bytes v }
     ensures each { (bytes : List ℕ) (b : Bundle) → IsBundle bytes b → bundle_of (lines_of bytes) ≡ Ok b.verdict }
 {}
 
-/// What has a verdict asks for tables and a basis, by its own lines, for one of each and no other; and
-/// the verdict is true of them.
+/// A text that has a verdict determines its tables and its basis, and the verdict is true of them.
 pub fn verdicts_answer_their_texts()
     ensures asks { (bytes : List ℕ) (v : Verdict) → bundle_of (lines_of bytes) ≡ Ok v → (w : Words) × (basis : ℕ) × HasQuestion bytes w basis }
     ensures one { (bytes : List ℕ) (w u : Words) (a b : ℕ) → HasQuestion bytes w a → HasQuestion bytes u b → (w ≡ u) × (a ≡ b) }
@@ -34,7 +33,7 @@ pub fn verdicts_answer_their_texts()
         HasQuestion bytes w basis → Means (specification w) (members basis) v }
 {}
 
-/// The fault of a log's line is never want of memory, so that `Memory` never stands in `StepRefused`.
+/// A fault of a log's line is never that memory runs out, so `StepRefused` never contains `Memory`.
 pub fn faults_of_lines_are_told()
     ensures { (s : State) (l : Line) → line_fault s l ≡ Some Memory → ⊥ }
 {}

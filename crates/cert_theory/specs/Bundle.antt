@@ -1,4 +1,4 @@
--- Bundles, and when they are valid.
+-- Certificates, and when they are valid.
 use Rattle.std.specs.Prelude.{◌≡◌, ℕ, ◌+◌, ◌≤◌, ◌<◌, Bool, true, false, List, [], ◌∷◌, length, map, All, Option, Some, None}
 use Rattle.std.specs.List.{list_any, find}
 use Rattle.std.specs.Option.{option_map}
@@ -19,15 +19,15 @@ use Rattle.cert_theory.specs.declared.data.Verdict.{Verdict}
 use Rattle.cert_theory.specs.declared.data.Verdict.TheVariants as verdicts
 use Rattle.cert_theory.specs.Coding.{coding_of}
 
--- ---- bundles as values
+-- ---- certificates as values
 
--- a log over the formula of a part, and how it ends
+-- a log over the formula of a subproblem, and how it ends
 pub record PartLog : Type 0 where
   pub part : Part
   pub ended : Ended
   pub log : List Line
 
--- the logs of one size, one for each of its parts
+-- the logs of one size, one for each of its subproblems
 pub record Section : Type 0 where
   pub size : ℕ
   pub parts : List PartLog
@@ -38,9 +38,9 @@ pub record Bundle : Type 0 where
   pub chain : Option Chain
   pub verdict : Verdict
 
--- ---- the heading
+-- ---- the header
 
--- what is asked beside the tables
+-- the settings, apart from the tables
 abbrev pub settings_of : Heading → SynthSettings
 settings_of h = record { basis = h.basis; method = h.method; max = h.max; conflicts = h.conflicts }
 
@@ -59,9 +59,9 @@ formula_of h size part = (coding_of h.method).formula h.spec h.basis size part
 
 -- ---- sections
 
--- A log that ends refuted refutes the part's formula. A log that ends open holds over it, doesn't
--- reach the empty clause, and has at least as many additions as the heading says, each of a clause
--- that was new.
+-- A log that ends refuted refutes the subproblem's formula. A log that ends open holds over it, doesn't reach
+-- the empty clause, and has at least as many additions as the header says, none of them subsumed by a live
+-- clause.
 abbrev pub EndsAs : Formula → ℕ → Ended → List Line → Type 0
 EndsAs f conflicts ends.Refuted log = Refutes f log
 EndsAs f conflicts ends.Open log = IsSpent f log conflicts
@@ -72,13 +72,13 @@ IsPartLog h size p = EndsAs (formula_of h size p.part) h.conflicts p.ended p.log
 abbrev pub part_of : PartLog → Part
 part_of p = p.part
 
--- the section of a size has a log for each part of the size, in order
+-- the section of a size has a log for each subproblem of the size, in order
 pub record IsSection (h : Heading) (size : ℕ) (s : Section) : Type 0 where
   pub size_is : s.size ≡ size
   pub parts_are : map part_of s.parts ≡ parts_of h size
   pub logs : All (IsPartLog h size) s.parts
 
--- sections of the sizes from one on, without a gap
+-- sections of consecutive sizes, from `size` on
 unfoldable pub AreSections : Heading → ℕ → List Section → Type 0
 AreSections h size [] = Unit {0}
 AreSections h size (s ∷ ss) = IsSection h size s × AreSections h (size + 1) ss
@@ -87,7 +87,7 @@ abbrev pub is_open_end : Ended → Bool
 is_open_end ends.Refuted = false
 is_open_end ends.Open = true
 
--- a size is open where one of its parts is, and refuted where none is
+-- a size is open if one of its subproblems is, and refuted otherwise
 abbrev pub is_open : Section → Bool
 is_open s = list_any (λ p. is_open_end p.ended) s.parts
 
@@ -98,9 +98,9 @@ size_of s = s.size
 abbrev pub first_open : List Section → Option ℕ
 first_open sections = option_map size_of (find is_open sections)
 
--- ---- the ending
+-- ---- the trailer
 
--- the verdict with a chain of `size` steps, and without one, where the first open size is given
+-- the verdict with a chain of `size` steps, and without a chain; the option is the first open size
 abbrev pub found : ℕ → Option ℕ → Verdict
 found size None = verdicts.Minimum size
 found size (Some low) = verdicts.Bounded low size
@@ -109,7 +109,7 @@ abbrev pub not_found : ℕ → Option ℕ → Verdict
 not_found max None = verdicts.NoChain max
 not_found max (Some low) = verdicts.Open low
 
--- a chain of `size` steps that is one, is over the basis, and agrees with the tables
+-- a chain of `size` steps over the basis that implements the tables
 pub record IsFound (h : Heading) (size : ℕ) (c : Chain) : Type 0 where
   pub chain : IsChain c
   pub size_is : length c.steps ≡ size
@@ -117,20 +117,20 @@ pub record IsFound (h : Heading) (size : ℕ) (c : Chain) : Type 0 where
   pub over : IsOver (members h.basis) c
   pub agrees : Agrees c (specification h.spec)
 
--- A chain has as many steps as there are sections. Where there is none, all sizes up to the greatest
--- have a section. The verdict follows.
+-- A chain has as many steps as there are sections. If there is no chain, all sizes up to the greatest have a
+-- section. The verdict is the one that follows.
 abbrev pub IsEnding : Heading → ℕ → Option ℕ → Option Chain → Verdict → Type 0
 IsEnding h count low None v = (count ≡ h.max + 1) × (v ≡ not_found h.max low)
 IsEnding h count low (Some c) v = IsFound h count c × (v ≡ found count low)
 
--- Example: for XOR over all operators, a section of size 0 whose log refutes its formula, the chain of
--- the one step j = 1, k = 2, op = 6, and the verdict Minimum 1.
+-- Example: for XOR over all operators, a section of size 0 whose log refutes its formula, the chain of the one
+-- step j = 1, k = 2, op = 6, and the verdict Minimum 1.
 pub record IsValid (b : Bundle) : Type 0 where
   pub heading : IsHeading b.heading
   pub sections : AreSections b.heading 0 b.sections
   pub sizes_to : length b.sections ≤ b.heading.max + 1
   pub ending : IsEnding b.heading (length b.sections) (first_open b.sections) b.chain b.verdict
 
--- it has an output, so that it can be written
+-- there is at least one output: the text format needs one
 abbrev pub HasOutput : Bundle → Type 0
 HasOutput b = 0 < length b.heading.spec.on

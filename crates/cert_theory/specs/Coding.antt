@@ -1,4 +1,4 @@
--- The formulas that a method gives a size.
+-- The subproblems and formulas of each method.
 use Rattle.std.specs.Prelude.{ℕ, Bool, true, false, List, [], ◌∷◌}
 use Rattle.sat_theory.specs.Formula.{Formula}
 use Rattle.tt_core.specs.Words.{Words}
@@ -12,8 +12,8 @@ use Rattle.enc_theory.specs.declared.part.Part.TheVariants.{Whole}
 use Rattle.settings.specs.declared.methods.Method.{Method}
 use Rattle.settings.specs.declared.methods.Method.TheVariants.{Plain, Ssv, Select, Fence}
 
--- The parts in which the size `r` is searched, in their order, and the formula of a part: of tables, over
--- the set of operators that `basis` is, of `r` steps.
+-- The subproblems in which the size `r` is searched, in order, and the formula of a subproblem: for tables, the
+-- set of operators `basis`, and `r` steps.
 pub record Coding : Type 0 where
   pub parts : Words → ℕ → List Part
   pub formula : Words → ℕ → ℕ → Part → Formula
@@ -27,18 +27,18 @@ ssv_coding = record { parts = λ w r. Whole ∷ []; formula = λ w basis r part.
 abbrev pub select_coding : Coding
 select_coding = record { parts = λ w r. Whole ∷ []; formula = λ w basis r part. select_formula w basis r }
 
--- a part for each fence that is listed
+-- one subproblem for each listed fence
 abbrev pub fence_coding : Coding
 fence_coding = record { parts = λ w r. parts_for w r; formula = λ w basis r part. fence_formula w basis r (fence_in part) }
 
--- by fences the parts of a size bear titles
+-- only the fence method names its subproblems
 abbrev pub is_titled : Method → Bool
 is_titled Plain = false
 is_titled Ssv = false
 is_titled Select = false
 is_titled Fence = true
 
--- the coding of a method
+-- the encoding of a method
 unfoldable pub coding_of : Method → Coding
 coding_of Plain = plain_coding
 coding_of Ssv = ssv_coding

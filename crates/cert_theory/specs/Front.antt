@@ -1,4 +1,4 @@
--- What a search may have written of a certificate when it is cut short between two sizes.
+-- Prefixes of certificates: what a search may have written when it stops between two sizes.
 use Rattle.std.specs.Prelude.{◌≡◌, ◌⊎◌, ℕ, ◌+◌, ◌≤◌, ◌<◌, List, ◌++◌, length}
 use Rattle.std.specs.List.{flat_map}
 use Rattle.text_core.specs.Lines.{Line}
@@ -6,12 +6,11 @@ use Rattle.cert_theory.specs.declared.data.Heading.{Heading}
 use Rattle.cert_theory.specs.Bundle.{Section, Bundle, IsHeading, AreSections}
 use Rattle.cert_theory.specs.Spelling.{heading_lines, section_lines, text_of, IsBundle}
 
--- the lines of a heading and of some sections after it
+-- the lines of a header and of some sections after it
 abbrev pub begun_lines : Heading → List Section → List Line
 begun_lines h sections = heading_lines h ++ flat_map section_lines sections
 
--- A text is that of a heading and of whole sections, which are those of the sizes 0, 1, 2 and so on, none
--- above the greatest.
+-- The text is a header followed by whole sections of the sizes 0, 1, 2 and so on, none above the greatest.
 pub record IsBegun (h : Heading) (sections : List Section) (written : List ℕ) : Type 0 where
   pub heading : IsHeading h
   pub output : 0 < length h.spec.on
@@ -19,8 +18,7 @@ pub record IsBegun (h : Heading) (sections : List Section) (written : List ℕ) 
   pub sizes_to : length sections ≤ h.max + 1
   pub text : written ≡ text_of (begun_lines h sections)
 
--- A prefix for a heading is the text of a valid certificate with this heading, or that of the heading and of
--- some whole sections.
--- Example: of the example of the spelling the first seven lines, the first ten, and all fifteen.
+-- A prefix with a given header: the text of a valid certificate, or a header followed by some whole sections.
+-- Example: of the example in `Spelling`, the first seven lines, the first ten, and all fifteen.
 abbrev pub IsFront : Heading → List ℕ → Type 0
 IsFront h text = ((b : Bundle) × IsBundle text b × (b.heading ≡ h)) ⊎ ((sections : List Section) × IsBegun h sections text)

@@ -1,4 +1,4 @@
--- What is a prefix of a certificate.
+-- Laws about prefixes of certificates.
 use Rattle.std.proofs.Common.{◌≡◌, ℕ, ◌+◌, ◌≤◌, ◌<◌, List, [], ◌∷◌, ◌++◌, length, refl, sym, ap, ◌∙◌, subst, arith, inl, append_assoc, append-nil, zero-add}
 use Rattle.std.specs.List.{flat_map}
 use Rattle.std.proofs.lemmas.Grind.{flat_map-append}
@@ -10,11 +10,11 @@ use Rattle.cert_theory.specs.Spelling.{heading_lines, section_lines, text_of, Is
 use Rattle.cert_theory.specs.Front.{begun_lines, IsBegun, IsFront}
 use Rattle.cert_theory.specs.SectionLaws.{AreSections-push, AreSections-front}
 
--- a whole certificate is one
+-- a whole certificate is a prefix
 pub whole_is_front : (text : List ℕ) (b : Bundle) → IsBundle text b → IsFront b.heading text
 whole_is_front text b is = inl (b, is, refl)
 
--- a heading begins one
+-- a header is a prefix
 pub heading_begins : (h : Heading) → IsHeading h → 0 < length h.spec.on → IsBegun h [] (text_of (heading_lines h))
 unfolding AreSections
 heading_begins h heading output = record {
@@ -25,14 +25,14 @@ heading_begins h heading output = record {
   text = ap text_of (sym (append-nil (heading_lines h)));
 }
 
--- the lines of one section more
+-- the lines with one more section
 section_text : (h : Heading) (sections : List Section) (s : Section) → text_of (begun_lines h (sections ++ s ∷ [])) ≡ text_of (begun_lines h sections) ++ text_of (section_lines s)
 section_text h sections s =
     ap (λ (ls : List Line). text_of (heading_lines h ++ ls)) (flat_map-append section_lines sections (s ∷ []) ∙ ap (λ (ls : List Line). flat_map section_lines sections ++ ls) (append-nil (section_lines s)))
     ∙ ap text_of (sym (append_assoc (heading_lines h) (flat_map section_lines sections) (section_lines s)))
     ∙ flat_map-append line_bytes (begun_lines h sections) (section_lines s)
 
--- and so does one section more, of the next size
+-- a prefix with the section of the next size appended is a prefix
 pub section_goes_on : (h : Heading) (sections : List Section) (text : List ℕ) (s : Section) → IsBegun h sections text → IsSection h (length sections) s → length sections ≤ h.max → IsBegun h (sections ++ s ∷ []) (text ++ text_of (section_lines s))
 section_goes_on h sections text s is is_section within = record {
   heading = is.heading;
@@ -42,7 +42,7 @@ section_goes_on h sections text s is is_section within = record {
   text = ap (λ (xs : List ℕ). xs ++ text_of (section_lines s)) is.text ∙ sym (section_text h sections s);
 }
 
--- what stands of a whole certificate up to any of its sections
+-- the text of a certificate up to any of its sections is a prefix
 pub sections_are_front : (text : List ℕ) (b : Bundle) (front behind : List Section) → IsBundle text b → b.sections ≡ front ++ behind → IsBegun b.heading front (text_of (begun_lines b.heading front))
 sections_are_front text b front behind is same = record {
   heading = is.valid.heading;

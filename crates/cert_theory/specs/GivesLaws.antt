@@ -1,4 +1,4 @@
--- One reader after another.
+-- Laws about sequencing.
 use Rattle.std.proofs.Common.{◌≡◌, Result, Ok, Err, Bool, true, false, cond, ℕ, Option, Some, None, refl, ap, ◌∙◌}
 use Rattle.cert_theory.specs.declared.data.BundleError.{BundleError}
 use Rattle.cert_theory.specs.declared.data.BundleError.TheVariants.{Syntax, SizeOutOfOrder, StepRefused, NotRefuted, ChainDiffers, OperatorNotInBasis, OpenTooShort, NotNew, WrongVerdict, Memory}
@@ -7,7 +7,7 @@ use Rattle.cert_theory.specs.declared.data.PartError.{PartError}
 use Rattle.cert_theory.specs.declared.data.PartError.TheVariants as part_errors
 use Rattle.cert_theory.specs.Judging.{or_syntax, fault_at, at_line}
 
--- where the first refuses, both do
+-- where the first fails, both fail
 pub fails_bind : {A B : Type 0} (e : BundleError) (read : Result A BundleError) (next : A → Result B BundleError) → Fails e read → Fails e (read >>= next)
 fails_bind {A = A} (Syntax line) read next is = ap (λ (r : Result A BundleError). r >>= next) is
 fails_bind {A = A} (SizeOutOfOrder line) read next is = ap (λ (r : Result A BundleError). r >>= next) is
@@ -20,7 +20,7 @@ fails_bind {A = A} (NotNew line) read next is = ap (λ (r : Result A BundleError
 fails_bind {A = A} (WrongVerdict line) read next is = ap (λ (r : Result A BundleError). r >>= next) is
 fails_bind Memory read next is = tt
 
--- a refusal of one answer is that of an equal one
+-- a failure of a result is one of an equal result
 pub fails_is : {A : Type 0} (e : BundleError) (read answer : Result A BundleError) → answer ≡ read → Fails e read → Fails e answer
 fails_is (Syntax line) read answer same is = same ∙ is
 fails_is (SizeOutOfOrder line) read answer same is = same ∙ is
@@ -33,7 +33,7 @@ fails_is (NotNew line) read answer same is = same ∙ is
 fails_is (WrongVerdict line) read answer same is = same ∙ is
 fails_is Memory read answer same is = tt
 
--- where both are read, the first is
+-- where both succeed, the first does
 pub bind_ok : {A B E : Type 0} (read : Result A E) (next : A → Result B E) (y : B) → (read >>= next) ≡ Ok y → (x : A) × (read ≡ Ok x) × (next x ≡ Ok y)
 bind_ok (Ok x) next y e = (x, refl, e)
 bind_ok (Err d) next y e = absurd cc
@@ -46,7 +46,7 @@ pub read_ok : {A : Type 0} (number : ℕ) (o : Option A) (x : A) → or_syntax n
 read_ok number None x e = absurd cc
 read_ok number (Some y) x e = cc
 
--- ---- one part
+-- ---- one subproblem
 
 pub part_fails_bind : {A B : Type 0} (e : PartError) (read : Result A PartError) (next : A → Result B PartError) → PartFails e read → PartFails e (read >>= next)
 part_fails_bind {A = A} part_errors.Syntax read next is = ap (λ (r : Result A PartError). r >>= next) is
@@ -66,7 +66,7 @@ part_fails_is part_errors.TooShort read answer same is = same ∙ is
 part_fails_is part_errors.EmptyStands read answer same is = same ∙ is
 part_fails_is part_errors.Memory read answer same is = tt
 
--- what a part refuses, its bundle does at that line
+-- a fault of a subproblem is a fault of its certificate at that line
 pub located_fails : {A : Type 0} (number : ℕ) (e : PartError) (read : Result A PartError) → PartFails e read → Fails (fault_at number e) (at_line number read)
 located_fails number part_errors.Syntax read is = ap (at_line number) is
 located_fails number (part_errors.StepRefused fault) read is = ap (at_line number) is

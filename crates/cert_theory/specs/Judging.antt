@@ -1,6 +1,6 @@
--- What lines say as a bundle, and the first fault where they aren't a valid one. Lines are judged from
--- the top; what the lines of one part say is in PartLines. Each function is given the number that the
--- first of its lines has in the whole text.
+-- The certificate that lines spell, and the first fault where they aren't a valid one. Lines are checked from
+-- the top; `PartLines` defines the lines of one subproblem. Each function takes the number that its first line
+-- has in the whole text.
 use Rattle.std.specs.Prelude.{ℕ, ◌+◌, Bool, true, false, not, ◌&&◌, ◌||◌, ◌==◌, nat_le, nat_lt, if◌then◌else◌, List, [], ◌∷◌, ◌++◌, length, codes, Option, Some, None, is_some, Result, Ok, Err, option_and_then}
 use Rattle.std.specs.Option.{option_map}
 use Rattle.std.specs.Str.{bytes_eq}
@@ -44,12 +44,12 @@ use Rattle.cert_theory.specs.Difference.{difference_of}
 
 -- ---- lines
 
--- what was read, or Syntax of the line where nothing was
+-- the value that was read, or Syntax at this line
 abbrev pub or_syntax : {A : Type 0} → ℕ → Option A → Result A BundleError
 or_syntax number None = Err (Syntax number)
 or_syntax number (Some x) = Ok x
 
--- the refusal of another reader is Syntax of the line where it stands
+-- an error of another grammar becomes Syntax at its line
 abbrev pub as_syntax : {A E : Type 0} → (E → ℕ) → Result A E → Result A BundleError
 as_syntax place (Ok x) = Ok x
 as_syntax place (Err e) = Err (Syntax (place e))
@@ -58,13 +58,13 @@ as_syntax place (Err e) = Err (Syntax (place e))
 abbrev pub begins : List ℕ → Line → Bool
 begins word l = is_some (after word l.text)
 
--- what stands after a word, up to the LF
+-- the text between a word and the LF
 abbrev pub value_of : List ℕ → Line → Option (List ℕ)
 value_of word l = if l.ended then after word l.text else None
 
--- ---- the heading
+-- ---- the header
 
--- Tables stand from line 2 on, so each line of theirs has a number greater by one.
+-- The tables begin at line 2, so the line numbers of their grammar grow by one.
 abbrev pub table_place : SpecError → ℕ
 table_place (spec_errors.BadHeader line) = line + 1
 table_place (spec_errors.BadRow line) = line + 1
@@ -74,7 +74,7 @@ table_place spec_errors.TooManyOutputs = 11
 table_place spec_errors.NoOutput = 3
 table_place spec_errors.Memory = 0
 
--- a basis that is spelled as it is written
+-- the basis must have its canonical spelling
 abbrev pub spelled : List ℕ → Result ℕ BasisError → Option ℕ
 spelled word (Ok basis) = if bytes_eq word (basis_text basis) then Some basis else None
 spelled word (Err e) = None
@@ -94,9 +94,9 @@ conflicts_in l = option_and_then from_one (option_and_then (number_up_to most_co
 unfoldable pub max_in : Line → Option ℕ
 max_in l = option_and_then (number_up_to most_steps) (value_of (codes "max ") l)
 
--- ---- parts
+-- ---- subproblems
 
--- a fault of a part in a bundle, at a line
+-- a fault of a subproblem as a fault of the certificate, at a line
 abbrev pub fault_at : ℕ → PartError → BundleError
 fault_at number part_errors.Syntax = Syntax number
 fault_at number (part_errors.StepRefused e) = StepRefused number e
@@ -106,11 +106,11 @@ fault_at number part_errors.TooShort = OpenTooShort number
 fault_at number part_errors.EmptyStands = WrongVerdict number
 fault_at number part_errors.Memory = Memory
 
--- what was read of a part, or the fault at this line
+-- the result for a subproblem, with its fault at this line
 abbrev pub at_line : {A : Type 0} → ℕ → Result A PartError → Result A BundleError
 at_line number read = with_fault (fault_at number) read
 
--- ---- verdicts, as they are written
+-- ---- verdicts
 
 abbrev pub number_behind : List ℕ → Line → Option ℕ
 number_behind word l = option_and_then block.number_in (value_of word l)
@@ -131,11 +131,11 @@ numbered_in one bounded first second l =
     then option_map one (number_behind first l)
     else option_and_then (λ pair. bounded_in bounded (items_of pair)) (value_of second l)
 
--- the verdict of a line, where a chain stands before it
+-- the verdict on a line that follows a chain
 unfoldable pub found_in : Line → Option Verdict
 found_in l = numbered_in (λ r. verdicts.Minimum r) (λ low r. verdicts.Bounded low r) (codes "minimum ") (codes "bounded ") l
 
--- the verdict of a line, where none does
+-- the verdict on a line, where there is no chain
 unfoldable pub not_found_in : Line → Option Verdict
 not_found_in l =
     if begins (codes "none ") l
@@ -144,16 +144,15 @@ not_found_in l =
 
 -- ---- sections
 
--- Where the lines of a section have come: none is read; the title of a fence is due; a part is named,
--- and its log is due; or the log of a part has begun, and has these lines. After each stand the parts
--- that are due later.
+-- The state between lines of a section: no section has begun; the name of a fence is due; a subproblem is known
+-- and its log is due; or its log has begun and has these lines. `later` are the subproblems after it.
 pub data Place : Type 0 where
   Between : Place
   Due : (sizes : List ℕ) (later : List Part) → Place
   Begun : (part : Part) (later : List Part) → Place
   Within : (part : Part) (later : List Part) (ended : Ended) (log : List theory.Line) → Place
 
--- the size that is next or runs, the first open size before it, and the place in its section
+-- the current size (or the next), the first open size before it, and the state in its section
 pub record Progress : Type 0 where
   pub size : ℕ
   pub low : Option ℕ
@@ -162,13 +161,13 @@ pub record Progress : Type 0 where
 abbrev pub beginning : Progress
 beginning = record { size = 0; low = None; place = Between }
 
--- before the first of the parts that are due; where none is, the section is whole
+-- the state before the next subproblem; if there is none, the section is complete
 unfoldable pub before : ℕ → Option ℕ → List Part → Progress
 before size low [] = record { size = size + 1; low = low; place = Between }
 before size low (Whole ∷ later) = record { size = size; low = low; place = Begun Whole later }
 before size low (Levels sizes ∷ later) = record { size = size; low = low; place = Due sizes later }
 
--- the first open size, with one size more
+-- the first open size, updated by the log of one more subproblem
 abbrev pub low_with : Option ℕ → Ended → ℕ → Option ℕ
 low_with (Some low) ended size = Some low
 low_with None ends.Refuted size = None
@@ -179,7 +178,7 @@ size_at h number size l = do
   stated ← or_syntax number (option_and_then block.number_in (value_of (codes "size ") l))
   (if stated == size && nat_le stated h.max then Ok tt else Err (SizeOutOfOrder number))
 
--- numbers by their form alone, of nine digits at most
+-- whether all words are numbers of at most nine digits
 unfoldable pub are_numbers : List (List ℕ) → Bool
 are_numbers [] = true
 are_numbers (word ∷ words) = is_some (block.number_in word) && are_numbers words
@@ -192,40 +191,41 @@ abbrev pub is_list_in : Option (List ℕ) → Bool
 is_list_in None = false
 is_list_in (Some rest) = is_list rest
 
--- whether a line is the title of a fence, of whatever numbers
+-- whether a line is the name of a fence, with any numbers
 unfoldable pub is_title : Line → Bool
 is_title l = is_list_in (value_of (codes "fence") l)
 
--- a number of steps that a chain block may have
+-- whether a chain block may have this many steps
 abbrev pub is_count : Option ℕ → Bool
 is_count None = false
 is_count (Some r) = nat_le r 16
 
--- Whether a line could stand where a title is due: another title, or what stands after a section,
--- which is a size, the first line of a chain block, or a verdict.
+-- Whether a line could be right where a fence's name is due: the name of another fence, or a line that may
+-- follow a section, which is a size, the first line of a chain, or a verdict. Then the fault is NotRefuted
+-- instead of Syntax.
 unfoldable pub may_follow : Line → Bool
 may_follow l = is_title l || is_some (number_behind (codes "size ") l) || is_count (number_behind (codes "chain ") l) || is_some (not_found_in l)
 
--- what comes after a line of a log, or after its end
+-- the state after a line of a log, or after its end
 abbrev pub behind_line : ℕ → Option ℕ → Part → List Part → Ended → List theory.Line → Option theory.Line → Progress
 behind_line size low part later ended log None = before size (low_with low ended size) later
 behind_line size low part later ended log (Some line) = record { size = size; low = low; place = Within part later ended (log ++ line ∷ []) }
 
--- a line of a section
+-- the state after one more line of a section
 abbrev pub section_at : Heading → ℕ → ℕ → Option ℕ → Place → Line → Result Progress BundleError
 section_at h number size low Between l = size_at h number size l >>= λ begun. Ok (before size low (parts_of h size))
 section_at h number size low (Due sizes later) l = at_line number (title_in (may_follow l) sizes l) >>= λ titled. Ok (record { size = size; low = low; place = Begun (Levels sizes) later })
 section_at h number size low (Begun part later) l = or_syntax number (ended_in l) >>= λ ended. Ok (record { size = size; low = low; place = Within part later ended [] })
 section_at h number size low (Within part later ended log) l = at_line number (part_in (formula_of h size part) h.conflicts ended log l) >>= λ step. Ok (behind_line size low part later ended log step)
 
--- no section begins with this line
+-- whether the sections end before this line
 abbrev pub ends_sections : Place → Line → Bool
 ends_sections Between l = not (begins (codes "size ") l)
 ends_sections (Due sizes later) l = false
 ends_sections (Begun part later) l = false
 ends_sections (Within part later ended log) l = false
 
--- ---- the ending
+-- ---- the trailer
 
 abbrev pub is_same : Verdict → Verdict → Bool
 is_same (verdicts.Minimum r) (verdicts.Minimum q) = r == q
@@ -234,7 +234,7 @@ is_same (verdicts.Bounded low r) (verdicts.Bounded least q) = low == least && r 
 is_same (verdicts.Open low) (verdicts.Open least) = low == least
 is_same v w = false
 
--- the verdict is the one that follows
+-- the verdict must be the one that follows; `complete` says whether enough sizes have a section
 abbrev pub follows : ℕ → Bool → Verdict → Verdict → Result Verdict BundleError
 follows number complete due v = if complete && is_same v due then Ok v else Err (WrongVerdict number)
 
@@ -263,7 +263,7 @@ chain_place (chain_errors.TooManySteps line) = line
 chain_place (chain_errors.BadCount line) = line
 chain_place chain_errors.Memory = 0
 
--- the number of steps of a chain block, which is that of the sections
+-- the number of steps of a chain, which must be the number of sections
 unfoldable pub steps_at : Heading → ℕ → ℕ → Line → Result ℕ BundleError
 steps_at h number size l = do
   steps ← as_syntax chain_place (block.count_at number l)
@@ -280,11 +280,11 @@ abbrev pub or_outside : Option ℕ → Result Unit BundleError → Result Unit B
 or_outside None next = next
 or_outside (Some place) next = Err (OperatorNotInBasis place)
 
--- a chain that was read: the basis is judged first, then the tables
+-- checks of a chain: first its operators, then its values
 unfoldable pub chain_judged : Heading → Chain → Result Unit BundleError
 chain_judged h c = or_outside (outside_from (members h.basis) (c.n + 1) c.steps) (or_differs (difference_of c (specification h.spec)))
 
--- what was read of a chain block, and what stands after it
+-- the rest of the trailer, after a chain block
 unfoldable pub with_block : Heading → Frame → Option ℕ → Result block.Read ChainError → Result Verdict BundleError
 with_block h f low read = do
   r ← as_syntax chain_place read
@@ -294,11 +294,11 @@ with_block h f low read = do
 abbrev pub chain_at : Heading → ℕ → ℕ → Option ℕ → Line → List Line → Result Verdict BundleError
 chain_at h number size low l ls = steps_at h number size l >>= λ steps. with_block h (frame_of h number steps) low (block.body_from (frame_of h number steps) ls)
 
--- By fences a title after a section, where no part is due any more, is a fault of its own.
+-- With fences, a fence's name after the last subproblem of a section is reported as NotRefuted.
 abbrev pub verdict_at : Bool → ℕ → Line → Result Verdict BundleError
 verdict_at titled number l = if titled && is_title l then Err (NotRefuted number) else or_syntax number (not_found_in l)
 
--- the verdict where no chain stands: all sizes have to be there
+-- the verdict without a chain: all sizes must have a section
 abbrev pub no_chain_at : Heading → ℕ → ℕ → Option ℕ → Line → List Line → Result Verdict BundleError
 no_chain_at h number size low l ls = do
   read ← verdict_at (is_titled h.method && nat_lt 0 size) number l
@@ -310,7 +310,7 @@ ending_at h number size low l ls = if begins (codes "chain ") l then chain_at h 
 
 -- ---- the whole
 
--- the sections from a place on, and the ending
+-- the sections from a state on, and the trailer
 unfoldable pub sections_of : Heading → ℕ → Progress → List Line → Result Verdict BundleError
 sections_of h number p [] = Err (Syntax number)
 sections_of h number p (l ∷ ls) =
@@ -335,12 +335,12 @@ unfoldable pub behind_tables : Words → ℕ → List Line → Result Verdict Bu
 behind_tables w number [] = Err (Syntax number)
 behind_tables w number (l ∷ ls) = or_syntax number (basis_in l) >>= λ basis. behind_basis w basis (number + 1) ls
 
--- what was read of the tables, and the lines after them
+-- the rest of the text, after the tables
 unfoldable pub with_tables : Result tables.Read SpecError → Result Verdict BundleError
 with_tables read = as_syntax table_place read >>= λ r. behind_tables r.words (3 + length r.words.on) r.rest
 
 -- The verdict of lines, or their first fault.
--- Example: where the last line of the example of the spelling is missing, the fault is Syntax 15.
+-- Example: if the last line of the example in `Spelling` is missing, the fault is Syntax 15.
 unfoldable pub bundle_of : List Line → Result Verdict BundleError
 bundle_of [] = Err (Syntax 1)
 bundle_of (l ∷ ls) = if is_line (codes "chains 1") l then with_tables (tables.tables_of ls) else Err (Syntax 1)

@@ -1,6 +1,5 @@
--- What the lines of one part say: its title, how its log ends, the lines of the log and its end; and the
--- first fault where they aren't what they say. Nothing here knows where in a text the part stands, nor what
--- may follow it.
+-- The lines of one subproblem: its name, how its log ends, the log, and the line `done`; and the first fault in
+-- them. These definitions don't depend on the subproblem's place in a text, nor on what may follow it.
 use Rattle.std.specs.Prelude.{ℕ, zero, suc, ◌+◌, Bool, true, false, not, ◌&&◌, ◌||◌, nat_le, if◌then◌else◌, List, length, codes, Option, Some, None, Result, Ok, Err, ℤ}
 use Rattle.std.specs.List.{list_all, list_any}
 use Rattle.std.specs.Str.{bytes_eq}
@@ -22,13 +21,13 @@ use Rattle.cert_theory.specs.declared.data.PartError.TheVariants.{Syntax, StepRe
 use Rattle.cert_theory.specs.Spelling.{title_text, done_text}
 use Rattle.cert_theory.specs.Gives.{◌>>=◌}
 
--- whether a line is this text
+-- whether a line is this text, with its LF
 abbrev pub is_line : List ℕ → Line → Bool
 is_line text l = l.ended && bytes_eq l.text text
 
--- ---- the title
+-- ---- the name
 
--- The title that is due. Another line that may follow what stands before it is a fault of its own.
+-- The name that is due; `follows` says whether the line could be right if the subproblem were absent.
 unfoldable pub title_in : Bool → List ℕ → Line → Result Unit PartError
 title_in follows sizes l = if is_line (title_text sizes) l then Ok tt else (if follows then Err NotRefuted else Err Syntax)
 
@@ -37,30 +36,30 @@ title_in follows sizes l = if is_line (title_text sizes) l then Ok tt else (if f
 unfoldable pub ended_in : Line → Option Ended
 ended_in l = if is_line (codes "refuted") l then Some Refuted else (if is_line (codes "open") l then Some Open else None)
 
--- ---- new clauses
+-- ---- subsumption
 
--- whether all literals of a live clause are among some
+-- whether a live clause subsumes the literals
 abbrev pub is_within : List ℤ → Option (List ℤ) → Bool
 is_within lits None = false
 is_within lits (Some clause) = list_all (among lits) clause
 
--- whether no clause of the ids below a number is within some literals
+-- whether no clause with a smaller id subsumes the literals
 unfoldable pub is_new_below : ℕ → (ℕ → Option (List ℤ)) → List ℤ → Bool
 is_new_below zero live lits = true
 is_new_below (suc id) live lits = not (is_within lits (live id)) && is_new_below id live lits
 
--- whether an addition is of a new clause; no live clause has an id above the greatest
+-- whether an addition isn't subsumed by a live clause; no live clause has an id above the greatest
 abbrev pub is_fresh : State → theory.Line → Bool
 is_fresh s (theory.Add id lits hints) = is_new_below (s.greatest + 1) s.live lits
 is_fresh s (theory.Delete id ids) = true
 
 -- ---- the lines of the log
 
--- whether the empty clause is in the formula or was added
+-- whether the formula or the log contains the empty clause
 unfoldable pub has_empty : Formula → List theory.Line → Bool
 has_empty f log = list_any is_empty f.clauses || list_any adds_empty log
 
--- the state that a log leaves
+-- the state after a log
 abbrev pub state_after : Formula → List theory.Line → State
 state_after f log = logs.after (start f) log
 
@@ -68,7 +67,7 @@ abbrev pub or_misspelled : Result theory.Line LineError → Result theory.Line P
 or_misspelled (Ok line) = Ok line
 or_misspelled (Err e) = Err Syntax
 
--- the line of a log that a text spells
+-- the LRAT line that a text spells
 unfoldable pub spelled_in : Line → Result theory.Line PartError
 spelled_in l = if l.ended then or_misspelled (line_in l.text) else Err Syntax
 
@@ -76,12 +75,12 @@ abbrev pub refused : Option CheckError → theory.Line → Result theory.Line Pa
 refused None line = Ok line
 refused (Some e) line = Err (StepRefused e)
 
--- in a log that leaves its part open each addition is new
+-- a log that leaves its subproblem open may add no subsumed clause
 abbrev pub or_not_new : Ended → State → theory.Line → Result theory.Line PartError
 or_not_new Refuted s line = Ok line
 or_not_new Open s line = if is_fresh s line then Ok line else Err NotNew
 
--- a line of a log after others: it can be read, it holds, and then it is new where it has to be
+-- one more line of a log: it can be parsed, it holds, and in an open log it adds no subsumed clause
 unfoldable pub logged_in : Formula → Ended → List theory.Line → Line → Result theory.Line PartError
 logged_in f ended log l = do
   line ← spelled_in l
@@ -90,16 +89,16 @@ logged_in f ended log l = do
 
 -- ---- the end of the log
 
--- where the empty clause stands or doesn't, and the additions are enough or aren't
+-- checks at the end: whether there is an empty clause, and whether there are enough additions
 abbrev pub closed : Bool → Bool → Ended → Result Unit PartError
 closed empty enough Refuted = if empty then Ok tt else Err NotRefuted
 closed empty enough Open = if empty then Err EmptyStands else (if enough then Ok tt else Err TooShort)
 
--- the line `done` after a log, which has `conflicts` additions at least where it leaves its part open
+-- the line `done`; a log that leaves its subproblem open needs at least `conflicts` additions
 unfoldable pub done_in : Formula → ℕ → Ended → List theory.Line → Result Unit PartError
 done_in f conflicts ended log = closed (has_empty f log) (nat_le conflicts (length (logs.added_ids log))) ended
 
--- What a line comes to after a log: one more line of it, or its end, which is None.
+-- One more line: a line of the log, or None where it is the log's end.
 unfoldable pub part_in : Formula → ℕ → Ended → List theory.Line → Line → Result (Option theory.Line) PartError
 part_in f conflicts ended log l =
     if is_line done_text l

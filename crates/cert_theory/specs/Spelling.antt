@@ -1,4 +1,4 @@
--- How a bundle is written: each thing has one spelling. Example, for XOR over all operators:
+-- The text of a certificate; each value has exactly one spelling. Example, for XOR over all operators:
 --
 --     chains 1
 --     inputs 2
@@ -36,9 +36,9 @@ use Rattle.cert_theory.specs.declared.data.Verdict.{Verdict}
 use Rattle.cert_theory.specs.declared.data.Verdict.TheVariants as verdicts
 use Rattle.cert_theory.specs.Bundle.{PartLog, Section, Bundle, IsValid, HasOutput}
 
--- ---- the heading
+-- ---- the header
 
--- the table of an output, a character for each row
+-- the table of an output, one character for each row
 unfoldable pub table_text : Words → ℕ → List ℕ
 table_text w h = map (λ t. character (cell_of w h t)) (range_with_len 0 (2 ^ w.n))
 
@@ -72,7 +72,7 @@ heading_lines h = line first_text ∷ (tables_lines h.spec ++ line (basis_line h
 unfoldable pub size_line : ℕ → List ℕ
 size_line size = codes "size " ++ decimal size
 
--- a fence bears its levels' sizes, and the whole bears no title
+-- a fence is named by the sizes of its levels; the whole size has no name
 unfoldable pub title_text : List ℕ → List ℕ
 title_text sizes = codes "fence" ++ flat_map (λ size. 32 ∷ decimal size) sizes
 
@@ -96,7 +96,7 @@ part_lines p = title_lines p.part ++ (line (ended_text p.ended) ∷ (map log_lin
 unfoldable pub section_lines : Section → List Line
 section_lines s = line (size_line s.size) ∷ flat_map part_lines s.parts
 
--- ---- the ending
+-- ---- the trailer
 
 abbrev pub block_lines : Option Chain → List Line
 block_lines None = []
@@ -126,13 +126,13 @@ text_of lines = flat_map line_bytes lines
 abbrev pub bundle_text : Bundle → List ℕ
 bundle_text b = text_of (bundle_lines b)
 
--- Bytes are the text of a valid bundle.
+-- Bytes are the text of a valid certificate.
 pub record IsBundle (bytes : List ℕ) (b : Bundle) : Type 0 where
   pub valid : IsValid b
   pub output : HasOutput b
   pub text : bytes ≡ bundle_text b
 
--- Bytes are the text of a valid bundle that has this verdict.
+-- Bytes are the text of a valid certificate with this verdict.
 pub record HasVerdict (bytes : List ℕ) (v : Verdict) : Type 0 where
   pub bundle : Bundle
   pub is_bundle : IsBundle bytes bundle

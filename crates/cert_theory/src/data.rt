@@ -1,92 +1,93 @@
-//! What certificates hold beside chains and logs, and what may be wrong with them: the data that the
-//! definitions of this crate speak of.
+//! The data that the definitions of this crate speak of: what a certificate has beside chains and logs, and the
+//! ways in which a text can be wrong.
 use lrat_check::CheckError;
 use op_basis::Basis;
 use settings::Method;
 use std::alloc::{AllocError, AllocFailed};
 use tt_core::Spec;
 
-/// What is searched.
+/// What is searched for: the question of a certificate.
 #[derive(Drop)]
 pub struct Heading {
-    /// The tables that a chain has to agree with.
+    /// The tables that a chain has to implement.
     pub spec: Spec,
-    /// The operators that it may have.
+    /// The operators that a chain may have.
     pub basis: Basis,
-    /// How a size is encoded.
+    /// How a size is encoded as formulas.
     pub method: Method,
-    /// How many additions a log has at least that leaves its part open, from 1 to 10,000,000.
+    /// The least number of additions in a log that leaves its subproblem open, from 1 to 10,000,000.
     pub conflicts: u32,
-    /// The greatest size, at most 16.
+    /// The greatest size to try, at most 16.
     pub max: u32,
 }
 
-/// How the log of a part ends.
+/// How the log of a subproblem ends.
 #[derive(Clone, Copy)]
 pub enum Ended {
-    /// It refutes the part's formula.
+    /// The log refutes the formula.
     Refuted,
-    /// It has spent the budget, and left the formula open.
+    /// The limit was reached; the formula is left open.
     Open,
 }
 
-/// What a bundle comes to.
+/// What a certificate proves.
 #[derive(Clone, Copy, PartialEq, Eq)]
 pub enum Verdict {
-    /// A chain of this number of steps does, and none of fewer.
+    /// A chain of this many steps implements the tables, and none with fewer does.
     Minimum(u32),
-    /// No chain of at most this number of steps does.
+    /// No chain of at most this many steps implements the tables.
     NoChain(u32),
-    /// A chain of `r` steps does, and none of fewer than `low`.
+    /// A chain of `r` steps implements the tables, and none of fewer than `low` does.
     Bounded { low: u32, r: u32 },
-    /// No chain of fewer than `low` steps does.
+    /// No chain of fewer than `low` steps implements the tables.
     Open { low: u32 },
 }
 
-/// Why a text isn't a valid bundle. Lines are judged from the top and numbered from 1; where a text
-/// ends too early, the number is that of the line that would come next. The first fault is reported, and
-/// `Syntax` comes before the other faults of a line.
+/// Why a text isn't a valid certificate. Lines are checked from the top and numbered from 1; if the text ends
+/// too early, the number is that of the missing line. The first fault is reported, and of one line's faults
+/// `Syntax` comes first.
 #[derive(Clone, Copy, PartialEq, Eq)]
 pub enum BundleError {
-    /// The line isn't what may stand there, or has no LF, or is missing.
+    /// The line isn't allowed here, has no LF, or is missing.
     Syntax(u32),
-    /// A `size` line isn't the next size or is above the greatest; or the number of steps of a chain
-    /// block isn't the number of sections, or is above the greatest size.
+    /// A `size` line isn't the next size or is above the greatest; or the number of steps of the chain isn't
+    /// the number of sections, or is above the greatest size.
     SizeOutOfOrder(u32),
-    /// A line of a log doesn't hold, with its first fault. This is never want of memory.
+    /// A line of a log doesn't hold, with its first fault; never `CheckError::Memory`.
     StepRefused(u32, CheckError),
-    /// A refuted part is done without the empty clause.
+    /// A log that should refute its formula ends without the empty clause.
     NotRefuted(u32),
-    /// The chain misses the tables, first at this output, numbered from 1, and on this row.
+    /// The chain differs from the tables, first at this output (numbered from 1) and on this row (from 0).
     ChainDiffers(u32, u32),
     /// The operator of the step at this place isn't in the basis; it is the first such step.
     OperatorNotInBasis(u32),
-    /// An open part is done with fewer additions than the budget.
+    /// A log that leaves its subproblem open has fewer additions than the limit.
     OpenTooShort(u32),
-    /// A line of an open part holds, and adds a clause that isn't new.
+    /// A line of an open log holds, but adds a clause that a live clause subsumes.
     NotNew(u32),
-    /// An open part is done although the empty clause stands; or the verdict isn't the one that
-    /// follows from the sections and the chain.
+    /// An open log contains the empty clause; or the verdict isn't the one that follows from the sections and
+    /// the chain.
     WrongVerdict(u32),
     /// Memory ran out.
     Memory,
 }
 
-/// Why lines aren't the log of a part, wherever the part stands. `Syntax` comes before the other faults
-/// of a line.
+/// Why lines aren't the log of a subproblem, wherever it is in a text. Of one line's faults `Syntax` comes
+/// first.
 #[derive(Clone, Copy, PartialEq, Eq)]
 pub enum PartError {
-    /// The line isn't what may stand there, or has no LF.
+    /// The line isn't allowed here, or has no LF.
     Syntax,
-    /// A line of the log doesn't hold, with its first fault. This is never want of memory.
+    /// A line of the log doesn't hold, with its first fault; never `CheckError::Memory`.
     StepRefused(CheckError),
-    /// A line of an open part holds, and adds a clause that isn't new.
+    /// A line of an open log holds, but adds a clause that a live clause subsumes.
     NotNew,
-    /// A refuted part is done without the empty clause, or another line stands where its title is due.
+    /// A log that should refute its formula ends without the empty clause, or another line is where the
+    /// subproblem's name should be.
     NotRefuted,
-    /// An open part is done with fewer additions than the budget.
+    /// A log that leaves its subproblem open has fewer additions than the limit.
     TooShort,
-    /// An open part is done although the empty clause stands.
+    /// An open log contains the empty clause.
     EmptyStands,
     /// Memory ran out.
     Memory,

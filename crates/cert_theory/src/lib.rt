@@ -1,20 +1,23 @@
-//! What a certificate of the fewest steps is, how it is written, what is wrong with one, and what it
-//! means. What is valid, how it is written and what it means stand on the definitions of chains,
-//! logs and formulas alone; what is wrong with a text is reported by the grammars of its parts.
+//! What a certificate of minimum size is, how it is written, when it is valid, and what it proves. Validity,
+//! spelling and meaning rest on the definitions of chains, logs and formulas alone; faults of a text are
+//! defined by the grammars of its lines.
 //!
-//! A certificate (a bundle) is for tables, a basis and a method. For each size 0, 1, 2 and so on it
-//! has a log that refutes the method's formula of that size, or that shows how much work left it
-//! open. Then comes a chain, where one was found, and the verdict that follows.
+//! A certificate is for truth tables, a basis and a method. For each size 0, 1, 2 and so on it has a section
+//! with a log that refutes the method's formula of that size, or that shows how much work left the formula
+//! open. A trailer follows: the chain, if one was found, and the verdict.
 //!
 //! - `specs/Coding.antt`: the formulas that a method gives a size.
-//! - `specs/Bundle.antt`: a bundle as a value, and when it is valid.
+//! - `specs/Bundle.antt`: a certificate as a value, and when it is valid.
 //! - `specs/Spelling.antt`: how it is written.
-//! - `specs/PartLines.antt`: what the lines of one part say, and their first fault.
-//! - `specs/Judging.antt`: what lines say, and the first fault where they aren't a valid bundle.
-//! - `specs/Meaning.antt`: what each verdict says of chains.
+//! - `specs/PartLines.antt`: the lines of one subproblem, and their first fault.
+//! - `specs/Judging.antt`: the lines of a certificate, and the first fault where they aren't a valid one.
+//! - `specs/Meaning.antt`: what each verdict says about chains.
 //!
-//! The theorems, in `laws`: lines are judged as a verdict exactly where they spell a valid bundle that
-//! has it, and the verdict of a valid bundle is true.
+//! `Bundle` is a certificate as data: made by the loop over sizes and written by `bundle_text`. Contracts see
+//! it as the value of `specs/Bundle.antt`.
+//!
+//! The theorems, in `cert_laws`: lines are accepted with a verdict exactly where they spell a valid certificate
+//! that has it, and the verdict of a valid certificate is true.
 #![tactic(auto)]
 
 mod data;

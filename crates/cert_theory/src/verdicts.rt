@@ -1,4 +1,4 @@
-//! The verdict that follows.
+//! The verdict that follows from the sections and the chain.
 ghost use Rattle.std.specs.Prelude.{◌≡◌};
 ghost use Rattle.cert_theory.specs.Bundle as bundles;
 
@@ -15,7 +15,7 @@ impl Verdict {
         }
     }
 
-    /// The verdict without a chain of at most `max` steps, where `low` is the first open size.
+    /// The verdict if no chain of at most `max` steps was found, where `low` is the first open size.
     pub fn not_found(max: u32, low: Option<u32>) -> Verdict
         ensures { result ≡ bundles.not_found max low }
     {

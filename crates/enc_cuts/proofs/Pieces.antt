@@ -15,7 +15,7 @@ use Rattle.enc_cuts.specs.Counts.{both-few}
 -- a filter, element by element
 pub ruleset keeping = (common_steps, filter_more)
 
--- the variables of a formula's pairs are within the formula's
+-- the selection variables are within the formula's
 pub ruleset families = (common_steps, steps_have_vars)
 
 -- the test of symmetric inputs
@@ -25,7 +25,7 @@ may_is w p q false yes_ no_ = sym (false_from_ne_true (may_exchange w p q) (λ e
 
 pub ruleset exchanging = (common_steps, may_is)
 
--- a loop over the inputs after one
+-- a loop over the inputs after a given one
 pub all_inputs : {A : Type 0} (f : ℕ → List A) (p n : ℕ) → p ≤ n → flat_map f (range_with_len (suc p) (n - p)) ≡ flat_map f (range_with_len (p + 1) (n + 1 - (p + 1)))
 all_inputs {A} f p n low = let e : suc p ≡ p + 1 = omega arith in let l : n - p ≡ n + 1 - (p + 1) = omega arith in rw (e, l) refl
 

@@ -1,4 +1,4 @@
--- Definitions by recursion over the steps, step by step.
+-- Recursion over the steps, step by step.
 use Rattle.std.proofs.Common.{◌≡◌, ℕ, List, [], ◌∷◌, ◌++◌, refl, sym, ap, ◌∙◌, append_assoc}
 use Rattle.std.specs.Prelude.{ℤ}
 use Rattle.std.specs.List.{flat_map}
@@ -8,7 +8,7 @@ use Rattle.enc_theory.specs.declared.data.Sizes.{Sizes}
 use Rattle.enc_theory.specs.Pairs.{StepSlots}
 use Rattle.enc_theory.specs.Cuts.{used_by, used, order_slot, order_with, order, again_later, again_all, exchange_slot, readers_without, exchange_steps}
 
--- one step's clauses after those before, and what is left of the walk
+-- the clauses of one step after those before, and the remaining steps
 pub walked : (f : List StepSlots → List (List ℤ)) (piece old new all : List (List ℤ)) (left later : List StepSlots) (s : StepSlots) → new ≡ old ++ piece → left ≡ s ∷ later → f (s ∷ later) ≡ piece ++ f later → old ++ f left ≡ all → new ++ f later ≡ all
 walked f piece old new all left later s is split one before =
     ap (λ (xs : List (List ℤ)). xs ++ f later) is ∙ append_assoc old piece (f later) ∙ ap (λ (xs : List (List ℤ)). old ++ xs) (sym one) ∙ ap (λ (xs : List StepSlots). old ++ f xs) (sym split) ∙ before
@@ -63,7 +63,7 @@ exchange-none p q before = refl
 
 pub ruleset exchange_walk = (common_steps, exchange-step, exchange-none)
 
--- the same, where the walk carries the literals of the steps before
+-- the same, with the literals of the steps before
 pub exchanged : (p q : ℕ) (before after : List Raw) (old new all : List (List ℤ)) (left later : List StepSlots) (s : StepSlots) → new ≡ old ++ flat_map (exchange_slot p q before) s.slots → left ≡ s ∷ later → after ≡ before ++ readers_without p q s → old ++ exchange_steps p q before left ≡ all → new ++ exchange_steps p q after later ≡ all
 exchanged p q before after old new all left later s is split more at =
     let piece = flat_map (exchange_slot p q before) s.slots in

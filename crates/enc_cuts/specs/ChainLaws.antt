@@ -1,11 +1,11 @@
--- Chains that are decoded.
+-- Chains that assignments spell.
 use Rattle.std.proofs.Common.{◌≡◌, ℕ, ◌≤◌, Result, Ok, Err, IfOk, arith}
 use Rattle.chain_theory.specs.Chain.{Chain}
 use Rattle.chain_core.specs.Steps.{IsSmallChain}
 use Rattle.tt_core.specs.Words.{Words, IsSpec}
 use Rattle.enc_laws.specs.Decoded.{IsFor}
 
--- where P implies Q, an Ok result with P has Q
+-- if P implies Q, an Ok result with P has Q
 pub if_ok : {X E : Type 0} (P Q : X → Type 0) (r : Result X E) → ((x : X) → P x → Q x) → IfOk r P → IfOk r Q
 if_ok P Q (Ok x) each holds = each x holds
 if_ok P Q (Err e) each holds = tt

@@ -1,4 +1,4 @@
--- Bounds for the number of clauses of the cuts, within the program's bounds.
+-- The numbers of clauses of the constraints are within the program's bounds.
 use Rattle.std.specs.Prelude.{◌≡◌, ℕ, suc, ◌+◌, ◌-◌, ◌*◌, ◌≤◌, ◌==◌, ℤ, Bool, true, false, List, [], ◌∷◌, ◌++◌, map, length, if◌then◌else◌}
 use Rattle.std.specs.List.{range_with_len, flat_map}
 use Rattle.std.proofs.Common.{arith, length-append}
@@ -19,7 +19,7 @@ use Rattle.enc_frame.specs.Room.{IsSmall}
 use Rattle.enc_frame.specs.Counts.{common-few}
 use Rattle.clause_core.specs.CountLaws.{flat_map-few, pieces-few, written-few, times-few}
 
--- clauses that are listed only where a test passes
+-- clauses that are listed only under a condition
 pub if-few : (test : Bool) (clauses : List (List ℤ)) (k : ℕ) → length clauses ≤ k → length (if test then clauses else []) ≤ k
 if-few true clauses k few = few
 if-few false clauses k few = omega arith
@@ -139,13 +139,13 @@ row_0-few basis z small =
     let all : length (flat_map (row_0_at z) (range_with_len (z.n + 1) z.r)) ≤ z.r * 1 = flat_map-few (row_0_at z) 1 (z.n + 1) z.r (λ i low high. written-few _) in
     if-few (polarity_closed (members basis)) (flat_map (row_0_at z) (places z)) 16 (omega (arith, all, small.steps))
 
--- The cuts are few enough for a formula.
+-- The constraints are few enough for a formula.
 pub cuts-few : (w : Words) (basis : ℕ) (z : Sizes) (steps : List StepSlots) → IsSmall z → w.n ≤ 6 → length steps ≤ 16 → slot_count steps ≤ 16000 → length (cuts w basis z steps) ≤ 600000000
 unfolding cuts not_trivial again
 cuts-few w basis z steps small inputs few slots =
     rw (length-append, length-append, length-append, length-append, length-append)
     (omega (arith, used-few z steps, trivial-few (const_closed (members basis)) basis z steps, order-few steps slots, if-few (reapply_closed (members basis)) (again_all steps) (slot_count steps * 16000) (again-few steps slots), exchange-few w steps inputs slots, row_0-few basis z small))
 
--- the clauses of a chain and the cuts together
+-- the clauses that define chains and the constraints together
 pub both-few : (w : Words) (basis : ℕ) (z : Sizes) (steps : List StepSlots) → IsSmall z → w.n ≤ 6 → length steps ≤ 16 → slot_count steps ≤ 16000 → length (common w basis z steps ++ cuts w basis z steps) ≤ 610000000
 both-few w basis z steps small inputs few slots = rw length-append (omega (arith, common-few w basis z steps small few slots, cuts-few w basis z steps small inputs few slots))

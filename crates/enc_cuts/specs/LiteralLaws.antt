@@ -1,4 +1,4 @@
--- The variables of listed literals are the formula's.
+-- The variables of listed literals are variables of the formula.
 use Rattle.std.proofs.Common.{ℕ, ◌==◌, Bool, true, false, List, [], ◌∷◌, map, get_or, All, Contains, arith}
 use Rattle.std.specs.Prelude.{if◌then◌else◌}
 use Rattle.std.specs.List.{flat_map}

@@ -1,11 +1,11 @@
--- Pairs whose variables are the formula's.
+-- Pairs whose selection variables are variables of the formula.
 use Rattle.std.specs.Prelude.{ℕ, ◌≤◌, List, All}
 use Rattle.enc_theory.specs.declared.data.Sizes.{Sizes}
 use Rattle.enc_theory.specs.declared.data.Slot.{Slot}
 use Rattle.enc_theory.specs.Pairs.{StepSlots}
 use Rattle.enc_frame.specs.Room.{HasSlots}
 
--- the pair's variable is one of 1 to vars
+-- the selection variable is one of 1 to vars
 pub record HasVar (vars : ℕ) (u : Slot) : Type 0 where
   pub from : 1 ≤ u.var
   pub within : u.var ≤ vars

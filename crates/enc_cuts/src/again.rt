@@ -1,4 +1,4 @@
-//! No re-application: no step is applied again to one of its operands.
+//! No re-application: no step combines a step with one of that step's operands.
 ghost use Rattle.std.specs.Prelude.{◌≡◌, ◌++◌, [], ◌∷◌, All, IfOk, OnOk, if◌then◌else◌};
 ghost use Rattle.std.specs.List.{flat_map};
 ghost use Rattle.enc_theory.specs.Cuts.{applies_again as applies_again_of, again_pair, again_slot, has_place, reading as reading_of, again_later, again_all, again};
@@ -11,8 +11,7 @@ use enc_theory::Slot;
 use op_basis::Basis;
 use std::alloc::{AllocError, Global};
 
-/// Whether a step with the pair `v` applies the step at `place`, which has the pair `u`, again to
-/// one of its operands.
+/// Whether the pair `v` has the step at `place` and one of that step's operands, which are `u`.
 #[tactic(auto, unfolding(enc_theory::specs::Cuts::applies_again))]
 fn applies_again(place: u32, u: Slot, v: Slot) -> bool
     ensures { result ≡ applies_again_of place u v }
@@ -20,7 +19,7 @@ fn applies_again(place: u32, u: Slot, v: Slot) -> bool
     v.j == place && reads(u, v.k) || v.k == place && reads(u, v.j)
 }
 
-/// The clause that not both pairs are there, where the second one is a re-application.
+/// The clause "not both pairs", if the second one is a re-application.
 #[tactic(auto, unfolding(enc_theory::specs::Cuts::again_pair))]
 fn push_again_pair(
     alloc: Global,
@@ -39,7 +38,7 @@ fn push_again_pair(
     Ok(())
 }
 
-/// The clauses of a pair and of those of a later step that have the place.
+/// The clauses of a pair with those of a later step that have the place.
 #[tactic(auto, using(clause_core::specs::RangeLaws::loops), unfolding(enc_theory::specs::Cuts::again_slot))]
 fn push_again_slot(
     alloc: Global,
@@ -58,7 +57,7 @@ fn push_again_slot(
     Ok(())
 }
 
-/// The clauses of all pairs of a step.
+/// The clauses of all pairs of a step with those of a later one.
 #[tactic(auto, using(clause_core::specs::RangeLaws::loops))]
 fn push_again_slots(
     alloc: Global,
@@ -77,7 +76,7 @@ fn push_again_slots(
     Ok(())
 }
 
-/// Keeps the pair, if it has the place.
+/// Keeps the pair if it has the place.
 #[tactic(auto, unfolding(enc_theory::specs::Cuts::has_place))]
 fn keep_reading(kept: &mut Vec<Slot>, place: u32, slot: Slot) -> Result<(), AllocError>
     ensures { OnOk result (kept.new.items ≡ kept.old.items ++ (if has_place place slot then slot ∷ [] else [])) }
@@ -153,7 +152,7 @@ fn push_again_all(
     Ok(())
 }
 
-/// That there is no re-application, where the basis is closed under that.
+/// Writes that there is no re-application, if the basis is closed under it.
 #[tactic(auto, unfolding(enc_theory::specs::Cuts::again))]
 pub(crate) fn push_again(
     alloc: Global,

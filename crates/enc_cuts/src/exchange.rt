@@ -1,4 +1,4 @@
-//! Symmetric inputs are read in their order.
+//! Symmetric inputs are read in order.
 ghost use Rattle.std.specs.Prelude.{◌≡◌, ◌≤◌, ◌<◌, ◌++◌, [], All, OnOk};
 ghost use Rattle.std.specs.List.{flat_map};
 ghost use Rattle.enc_theory.specs.Cuts.{may_exchange as may_exchange_of, reader_without, readers_without, exchange_slot, exchange_steps, exchange_pair, exchange_with, exchange};
@@ -12,7 +12,7 @@ use enc_theory::Slot;
 use std::alloc::{AllocError, Global};
 use tt_core::{Spec, symmetric};
 
-/// Whether `p` and `q` are symmetric: exchanging them leaves the tables unchanged.
+/// Whether the inputs `p` and `q` are symmetric: exchanging them leaves the tables unchanged.
 #[tactic(auto, using(crate::proofs::Pieces::exchanging))]
 fn may_exchange(spec: &Spec, p: u32, q: u32) -> bool
     requires { (1 ≤ p) × (p < q) × (q ≤ spec.now.n) }
@@ -21,7 +21,7 @@ fn may_exchange(spec: &Spec, p: u32, q: u32) -> bool
     symmetric(spec, p, q)
 }
 
-/// Adds that the step has this pair, if it has `p` and not `q`.
+/// Adds the pair's selection literal if the pair has `p` and not `q`.
 #[tactic(auto, unfolding(enc_theory::specs::Cuts::reader_without, enc_theory::specs::Families::chosen))]
 fn push_reader_without(raws: &mut Vec<Raw>, p: u32, q: u32, slot: Slot) -> Result<(), AllocError>
     ensures { OnOk result (raws.new.items ≡ raws.old.items ++ reader_without p q slot) }
@@ -33,7 +33,7 @@ fn push_reader_without(raws: &mut Vec<Raw>, p: u32, q: u32, slot: Slot) -> Resul
     Ok(())
 }
 
-/// Adds for each pair of a step with `p` and not `q` that the step has it.
+/// Adds the selection literals of a step's pairs with `p` and not `q`.
 #[tactic(auto, using(clause_core::specs::RangeLaws::loops), unfolding(enc_theory::specs::Cuts::readers_without))]
 fn push_readers_without(
     raws: &mut Vec<Raw>,
@@ -49,8 +49,8 @@ fn push_readers_without(
     Ok(())
 }
 
-/// The clause that a step doesn't have this pair or that a pair before it is there, where it has
-/// `q` and not `p`.
+/// If the pair has `q` and not `p`: the clause that the step doesn't have it or one of the literals `before` is
+/// true.
 #[tactic(auto, unfolding(enc_theory::specs::Cuts::exchange_slot))]
 fn push_exchange_slot(
     alloc: Global,
@@ -114,7 +114,7 @@ fn push_exchange_steps(
     Ok(())
 }
 
-/// The clauses for two inputs, where they are symmetric.
+/// The clauses for two inputs, if they are symmetric.
 #[tactic(auto, unfolding(enc_theory::specs::Cuts::exchange_pair))]
 fn push_exchange_pair(
     alloc: Global,
@@ -154,8 +154,7 @@ fn push_exchange_with(
     Ok(())
 }
 
-/// That of two symmetric inputs the later one is read without the earlier one only after the
-/// earlier one was read without the later one.
+/// Writes that of two symmetric inputs p < q, no step reads q without p before some step has read p without q.
 #[tactic(auto, using(clause_core::specs::RangeLaws::loops), unfolding(enc_theory::specs::Cuts::exchange))]
 pub(crate) fn push_exchange(
     alloc: Global,

@@ -1,4 +1,4 @@
-//! The whole formula of an encoding by pairs with the cuts.
+//! The formula of an encoding by pairs with symmetry-breaking constraints.
 ghost use Rattle.std.specs.Prelude.{◌≡◌, ◌≤◌, IfOk};
 ghost use Rattle.enc_cuts.specs.Formula.{with_cuts};
 
@@ -10,8 +10,8 @@ use op_basis::Basis;
 use std::alloc::{AllocError, Global};
 use tt_core::{Spec, live_part};
 
-/// The formula of size `r` whose steps choose among the given pairs: the clauses that say what a chain
-/// of the live outputs is, and the cuts.
+/// The formula of size `r` over the given pairs: the clauses that define chains of the live outputs, and the
+/// constraints.
 #[tactic(auto, using(crate::proofs::Pieces::limits), unfolding(crate::specs::Formula::with_cuts, crate::specs::Formula::live_with_cuts))]
 pub fn formula_with_cuts<P: Pairs>(
     alloc: Global,

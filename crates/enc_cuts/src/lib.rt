@@ -1,27 +1,26 @@
-//! Cuts of encodings by pairs: further clauses (symmetry-breaking and structural constraints),
-//! which leave the formula of a least size satisfiable. They rule out unused steps, trivial
-//! operators, steps out of order, re-application, and what symmetric inputs and complemented steps
-//! give twice, each under the test of the basis that it needs (Kojevnikov, Kulikov and Yaroslavtsev
-//! 2009; Knuth, TAOCP 7.2.2.2, exercise 477; Haaswijk, Soeken, Mishchenko and De Micheli 2020).
+//! Symmetry-breaking and structural constraints of encodings by pairs: further clauses, which keep the formula
+//! of the minimum size satisfiable. They exclude unused steps, trivial operators, steps out of order,
+//! re-application, and the copies of chains under symmetric inputs and complemented steps, each only for the
+//! bases for which it is sound (Kojevnikov, Kulikov and Yaroslavtsev 2009; Knuth, TAOCP 7.2.2.2, exercise 477;
+//! Haaswijk, Soeken, Mishchenko and De Micheli 2020).
 //!
 //! ```text
-//! push_common(alloc, &mut list, &live, basis, z, &layout.steps)?; // what a chain is
-//! push_cuts(alloc, &mut list, &live, basis, z, &layout.steps)?;   // and no needless one
+//! push_common(alloc, &mut list, &live, basis, z, &layout.steps)?; // the clauses that define chains
+//! push_cuts(alloc, &mut list, &live, basis, z, &layout.steps)?;   // and the constraints
 //! ```
 //!
-//! `formula_with_cuts` makes a formula of both. The cuts without pairs can be called alone, for other
-//! encodings.
+//! `formula_with_cuts` makes a formula of both. The constraints that don't mention pairs are public for MSV.
 //!
-//! The cuts, and their names in the field:
+//! The constraints, and their names in the literature:
 //!
-//! | Here | Field |
+//! | Here | Literature |
 //! |---|---|
-//! | each step is an output or is read | all steps used |
-//! | no step is trivial | non-trivial operators |
-//! | pairs never fall | co-lexicographic order |
-//! | not applied again to an operand | no re-application |
-//! | inputs that may be exchanged | symmetric variables |
-//! | 0 on row 0 | normal functions |
+//! | each step drives an output or is read | all steps used |
+//! | no step is a constant or projection | non-trivial operators |
+//! | the pairs of consecutive steps never decrease | co-lexicographic order |
+//! | no step combines a step with one of its operands | no re-application |
+//! | symmetric inputs are first read in order | symmetric variables |
+//! | a step that drives no output is 0 on row 0 | normal functions |
 #![tactic(auto)]
 
 ghost use Rattle.std.specs.Prelude.{◌≡◌, ◌++◌, All, OnOk};
@@ -53,9 +52,9 @@ use op_basis::Basis;
 use std::alloc::{AllocError, Global};
 use tt_core::Spec;
 
-/// Writes the cuts for tables whose outputs are all live: all steps are used; operators are
-/// non-trivial; pairs never decrease; there is no re-application; symmetric inputs are read in
-/// their order; and a step that is no output is 0 on row 0.
+/// Writes the constraints, for tables whose outputs are all live: all steps are used; operators are
+/// non-trivial; pairs never decrease; there is no re-application; symmetric inputs are read in order; and a
+/// step that drives no output is 0 on row 0.
 #[tactic(auto, using(crate::proofs::Pieces::families), unfolding(enc_theory::specs::Cuts::cuts))]
 pub fn push_cuts(
     alloc: Global,

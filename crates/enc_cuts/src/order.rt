@@ -1,4 +1,4 @@
-//! Co-lexicographic order: pairs never decrease.
+//! Co-lexicographic order: the pairs of consecutive steps never decrease.
 ghost use Rattle.std.specs.Prelude.{◌≡◌, ◌++◌, All, OnOk};
 ghost use Rattle.std.specs.List.{flat_map};
 ghost use Rattle.enc_theory.specs.Cuts.{larger as larger_of, smaller as smaller_of, comes_before as comes_before_of, order_pair, order_slot, order_with, order};
@@ -17,7 +17,7 @@ fn larger(slot: Slot) -> u32
     slot.j.max(slot.k)
 }
 
-/// The smaller operand of a pair, and 0 where they are equal.
+/// The smaller operand of a pair, or 0 if they are equal.
 fn smaller(slot: Slot) -> u32
     ensures { result ≡ smaller_of slot }
 {
@@ -28,7 +28,7 @@ fn smaller(slot: Slot) -> u32
     }
 }
 
-/// Whether a pair comes before another one in co-lexicographic order.
+/// Whether a pair comes before another one in co-lexicographic order, with equal operands first.
 #[tactic(auto, unfolding(enc_theory::specs::Cuts::comes_before))]
 fn comes_before(u: Slot, v: Slot) -> bool
     ensures { result ≡ comes_before_of u v }
@@ -36,7 +36,7 @@ fn comes_before(u: Slot, v: Slot) -> bool
     larger(u) < larger(v) || (larger(u) == larger(v) && smaller(u) < smaller(v))
 }
 
-/// The clause that not both pairs are there, where that of the next step comes before the other.
+/// The clause "not both pairs", if that of the next step comes before the other.
 #[tactic(auto, unfolding(enc_theory::specs::Cuts::order_pair))]
 fn push_order_pair(alloc: Global, list: &mut ClauseList, u: Slot, v: Slot) -> Result<(), AllocError>
     requires first { HasVar list.old.vars u }
@@ -49,7 +49,7 @@ fn push_order_pair(alloc: Global, list: &mut ClauseList, u: Slot, v: Slot) -> Re
     Ok(())
 }
 
-/// The clauses of a pair and those of the next step.
+/// The clauses of a pair with those of the next step.
 #[tactic(auto, using(clause_core::specs::RangeLaws::loops), unfolding(enc_theory::specs::Cuts::order_slot))]
 fn push_order_slot(
     alloc: Global,
@@ -85,7 +85,7 @@ fn push_order_slots(
     Ok(())
 }
 
-/// The clauses of a step and of the next one, if there is one.
+/// The clauses of a step and the next one, if there is one.
 #[tactic(auto, using(crate::proofs::Walks::order_first))]
 fn push_order_with(
     alloc: Global,
@@ -103,7 +103,7 @@ fn push_order_with(
     }
 }
 
-/// That no step's pair comes before that of the step below it.
+/// Writes that no step's pair comes before that of the step before it.
 #[tactic(auto, using(crate::proofs::Walks::order_walk))]
 pub(crate) fn push_order(
     alloc: Global,

@@ -1,4 +1,4 @@
-//! Normal steps: a step that is no output is 0 on row 0.
+//! Normal steps: a step that drives no output is 0 on row 0.
 ghost use Rattle.std.specs.Prelude.{◌≡◌, ◌++◌, OnOk};
 ghost use Rattle.std.specs.List.{flat_map};
 ghost use Rattle.enc_theory.specs.Numbering.{places};
@@ -12,7 +12,7 @@ use enc_theory::Sizes;
 use op_basis::Basis;
 use std::alloc::{AllocError, Global};
 
-/// The clause that step `i` is 0 on row 0 or is an output.
+/// The clause that step `i` is 0 on row 0 or drives an output.
 #[tactic(auto, unfolding(enc_theory::specs::Cuts::row_0_at))]
 fn push_row_0_at(alloc: Global, list: &mut ClauseList, z: Sizes, i: u32) -> Result<(), AllocError>
     requires room { HasRoom z list.old.vars }
@@ -36,7 +36,7 @@ fn push_rows_0(alloc: Global, list: &mut ClauseList, z: Sizes) -> Result<(), All
     Ok(())
 }
 
-/// Writes that each step is 0 on row 0 or is an output, where the basis is closed under complements.
+/// Writes that each step is 0 on row 0 or drives an output, if the basis is closed under complements.
 #[tactic(auto, unfolding(enc_theory::specs::Cuts::row_0))]
 pub fn push_row_0(
     alloc: Global,

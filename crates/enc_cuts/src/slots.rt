@@ -1,4 +1,4 @@
-//! The tests of pairs that the cuts need, and the literals made from them.
+//! Tests of pairs for the constraints, and literals made from pairs.
 ghost use Rattle.std.specs.Prelude.{◌≡◌, ◌++◌, map, OnOk};
 ghost use Rattle.enc_theory.specs.Numbering.{outputs};
 ghost use Rattle.enc_theory.specs.Cuts.{bears, reads as reads_of, reads_without as reads_without_of, not_both};
@@ -10,21 +10,21 @@ use enc_frame::g_var;
 use enc_theory::{Sizes, Slot};
 use std::alloc::{AllocError, Global};
 
-/// Whether the pair has the place.
+/// Whether the place is an operand of the pair.
 pub(crate) fn reads(slot: Slot, place: u32) -> bool
     ensures { result ≡ reads_of slot place }
 {
     slot.j == place || slot.k == place
 }
 
-/// Whether the pair has the place `p` and not `q`.
+/// Whether `p` is an operand of the pair and `q` isn't.
 pub(crate) fn reads_without(p: u32, q: u32, slot: Slot) -> bool
     ensures { result ≡ reads_without_of p q slot }
 {
     reads(slot, p) && !reads(slot, q)
 }
 
-/// Adds for each output that it is the step.
+/// Adds for each output the literal that the step drives it.
 #[tactic(auto, using(clause_core::specs::RangeLaws::loops), unfolding(enc_theory::specs::Cuts::bears, enc_theory::specs::Families::bearer))]
 pub fn push_bearers(raws: &mut Vec<Raw>, z: Sizes, place: u32) -> Result<(), AllocError>
     requires small { IsSmall z }
@@ -37,7 +37,7 @@ pub fn push_bearers(raws: &mut Vec<Raw>, z: Sizes, place: u32) -> Result<(), All
     Ok(())
 }
 
-/// The clause that of two pairs not both are there.
+/// The clause "not both pairs".
 #[tactic(auto, unfolding(enc_theory::specs::Cuts::not_both))]
 pub(crate) fn push_not_both(
     alloc: Global,

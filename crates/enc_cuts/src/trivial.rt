@@ -12,7 +12,7 @@ use enc_theory::{Sizes, Slot};
 use op_basis::{Basis, Op};
 use std::alloc::{AllocError, Global};
 
-/// Adds that the operator of step `i` is another one.
+/// Adds the literals that the operator of step `i` isn't `op`.
 #[tactic(auto, unfolding(enc_theory::specs::Families::operator_raw))]
 pub fn push_operator(raws: &mut Vec<Raw>, z: Sizes, i: u32, op: Op) -> Result<(), AllocError>
     requires small { IsSmall z }
@@ -26,7 +26,7 @@ pub fn push_operator(raws: &mut Vec<Raw>, z: Sizes, i: u32, op: Op) -> Result<()
     Ok(())
 }
 
-/// The clause that step `i` has another operator than `op`, where that is a member.
+/// The clause that step `i` doesn't have the operator `op`, if `op` is in the basis.
 #[tactic(auto, unfolding(enc_theory::specs::Cuts::other_operator))]
 fn push_other_operator(
     alloc: Global,
@@ -48,7 +48,7 @@ fn push_other_operator(
     list.push(alloc, &raws)
 }
 
-/// Writes that step `i` copies no operand, and is no constant, where constants can be left out.
+/// Writes that step `i` is no projection, and no constant for bases where constants aren't needed.
 #[tactic(auto, using(crate::specs::PieceLaws::pieces), unfolding(enc_theory::specs::Cuts::not_idle))]
 pub fn push_not_idle(
     alloc: Global,
@@ -72,7 +72,7 @@ pub fn push_not_idle(
     push_other_operator(alloc, list, basis, z, i, Op::new(15))
 }
 
-/// What a pair of equal operands requires of the operator.
+/// The clauses on the operator for a pair of equal operands.
 #[tactic(auto, unfolding(enc_theory::specs::Cuts::equal_raw))]
 fn push_equal(
     alloc: Global,
@@ -97,7 +97,7 @@ fn push_equal(
     list.push(alloc, &[no_pair, high])
 }
 
-/// The same for any pair: nothing where its operands differ.
+/// The same for any pair: nothing if its operands differ.
 #[tactic(auto, unfolding(enc_theory::specs::Cuts::equal_slot))]
 fn push_equal_slot(
     alloc: Global,
@@ -118,7 +118,7 @@ fn push_equal_slot(
     Ok(())
 }
 
-/// Adds that the step has this pair, if its operands are equal.
+/// Adds the pair's selection literal if its operands are equal.
 #[tactic(auto, unfolding(enc_theory::specs::Cuts::equal_pair, enc_theory::specs::Families::chosen))]
 fn push_equal_pair(raws: &mut Vec<Raw>, slot: Slot) -> Result<(), AllocError>
     ensures { OnOk result (raws.new.items ≡ raws.old.items ++ equal_pair slot) }
@@ -130,7 +130,7 @@ fn push_equal_pair(raws: &mut Vec<Raw>, slot: Slot) -> Result<(), AllocError>
     Ok(())
 }
 
-/// Adds for each pair of equal operands that the step has it.
+/// Adds the selection literals of all pairs of equal operands.
 #[tactic(auto, using(clause_core::specs::RangeLaws::loops))]
 fn push_equal_pairs(raws: &mut Vec<Raw>, slots: &[Slot]) -> Result<(), AllocError>
     ensures { OnOk result (raws.new.items ≡ raws.old.items ++ flat_map equal_pair slots.now) }
@@ -141,8 +141,8 @@ fn push_equal_pairs(raws: &mut Vec<Raw>, slots: &[Slot]) -> Result<(), AllocErro
     Ok(())
 }
 
-/// The clause that a step has another operator than `op`, a negation of an operand, or a pair of
-/// equal operands, where that is a member.
+/// The clause that a step doesn't have the operator `op`, a negation of an operand, or that it has a pair of
+/// equal operands; nothing if `op` isn't in the basis.
 #[tactic(auto, unfolding(enc_theory::specs::Cuts::negation_raw))]
 fn push_negation(
     alloc: Global,
@@ -165,7 +165,7 @@ fn push_negation(
     list.push(alloc, &raws)
 }
 
-/// That negations have equal operands.
+/// Writes that negations have equal operands.
 #[tactic(auto, using(crate::specs::PieceLaws::pieces), unfolding(enc_theory::specs::Cuts::negations))]
 fn push_negations(
     alloc: Global,
@@ -182,7 +182,7 @@ fn push_negations(
     push_negation(alloc, list, basis, z, step, Op::new(12))
 }
 
-/// What pairs of equal operands require of the operator.
+/// Writes the clauses on the operator for all pairs of equal operands.
 #[tactic(auto, using(clause_core::specs::RangeLaws::loops))]
 fn push_equal_slots(
     alloc: Global,
@@ -201,7 +201,7 @@ fn push_equal_slots(
     Ok(())
 }
 
-/// That a step isn't trivial.
+/// Writes that a step isn't trivial.
 #[tactic(auto, unfolding(enc_theory::specs::Cuts::not_trivial_at))]
 fn push_not_trivial_at(
     alloc: Global,
@@ -220,7 +220,7 @@ fn push_not_trivial_at(
     push_negations(alloc, list, basis, z, step)
 }
 
-/// That no step is trivial.
+/// Writes that no step is trivial.
 #[tactic(auto, using(clause_core::specs::RangeLaws::loops), unfolding(enc_theory::specs::Cuts::not_trivial))]
 pub(crate) fn push_not_trivial(
     alloc: Global,

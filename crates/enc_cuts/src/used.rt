@@ -1,4 +1,4 @@
-//! All steps used: each step is an output or is read.
+//! All steps used: each step drives an output or is read by a later step.
 ghost use Rattle.std.specs.Prelude.{◌≡◌, ◌++◌, All, OnOk};
 ghost use Rattle.std.specs.List.{flat_map};
 ghost use Rattle.enc_theory.specs.Cuts.{reader, readers, used_by, used};
@@ -10,7 +10,7 @@ use enc_frame::StepSlots;
 use enc_theory::{Sizes, Slot};
 use std::alloc::{AllocError, Global};
 
-/// Adds that the step has this pair, if it has the place.
+/// Adds the pair's selection literal if the pair has the place.
 #[tactic(auto, unfolding(enc_theory::specs::Cuts::reader, enc_theory::specs::Families::chosen))]
 fn push_reader(raws: &mut Vec<Raw>, place: u32, slot: Slot) -> Result<(), AllocError>
     ensures { OnOk result (raws.new.items ≡ raws.old.items ++ reader place slot) }
@@ -22,7 +22,7 @@ fn push_reader(raws: &mut Vec<Raw>, place: u32, slot: Slot) -> Result<(), AllocE
     Ok(())
 }
 
-/// Adds for each pair of a step with the place that the step has it.
+/// Adds the selection literals of a step's pairs with the place.
 #[tactic(auto, using(clause_core::specs::RangeLaws::loops), unfolding(enc_theory::specs::Cuts::readers))]
 fn push_readers(raws: &mut Vec<Raw>, place: u32, step: &StepSlots) -> Result<(), AllocError>
     ensures { OnOk result (raws.new.items ≡ raws.old.items ++ readers place step.now) }
@@ -33,7 +33,7 @@ fn push_readers(raws: &mut Vec<Raw>, place: u32, step: &StepSlots) -> Result<(),
     Ok(())
 }
 
-/// Adds for each pair of later steps with the place that the step has it.
+/// Adds the selection literals of all later steps' pairs with the place.
 #[tactic(auto, using(clause_core::specs::RangeLaws::loops))]
 fn push_all_readers(raws: &mut Vec<Raw>, place: u32, steps: &[StepSlots]) -> Result<(), AllocError>
     ensures { OnOk result (raws.new.items ≡ raws.old.items ++ flat_map (readers place) steps.now) }
@@ -44,7 +44,7 @@ fn push_all_readers(raws: &mut Vec<Raw>, place: u32, steps: &[StepSlots]) -> Res
     Ok(())
 }
 
-/// The clause that a step is an output or that one of the later steps reads it.
+/// The clause that a step drives an output or is read by one of the later steps.
 #[tactic(auto, unfolding(enc_theory::specs::Cuts::used_by))]
 fn push_used_by(
     alloc: Global,
@@ -64,7 +64,7 @@ fn push_used_by(
     list.push(alloc, &raws)
 }
 
-/// That each step is an output or is read.
+/// Writes that each step drives an output or is read.
 #[tactic(auto, using(crate::proofs::Walks::used_walk))]
 pub(crate) fn push_used(
     alloc: Global,

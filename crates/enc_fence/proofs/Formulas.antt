@@ -1,4 +1,4 @@
--- The chains that formulas give are within the program's limits.
+-- Chains that formulas spell are within the program's limits.
 use Rattle.std.proofs.Common.{◌≡◌, ℕ, ◌≤◌, List, refl}
 use Rattle.chain_core.specs.Steps.{IsSmallChain}
 use Rattle.sat_theory.specs.Formula.{Assignment, Satisfies}

@@ -17,7 +17,7 @@ use Rattle.enc_theory.specs.Pairs.{StepSlots, layout, vars_of}
 use Rattle.enc_cuts.specs.Formula.{with_cuts, live_with_cuts}
 use Rattle.enc_fence.specs.StepPairs.{step_pairs, layout-same}
 
--- with the pairs of places, inputs among them, the layout is the fence's
+-- with the pairs of all places, including inputs, the layout is the fence's
 pub fence_laid : (basis : ℕ) (fence levels : List ℕ) (z : Sizes) (n : ℕ) (ordered : Bool) → n ≡ z.n → ordered ≡ swap_closed (members basis) → levels ≡ fence → layout (step_pairs ordered n levels) z ≡ fence_layout basis fence z
 fence_laid basis fence levels z n ordered inputs is same = rw (inputs, is, same) (layout-same (swap_closed (members basis)) fence z)
 

@@ -1,4 +1,4 @@
--- The pairs of a step in a fence, for any place, and that they are of places below and few.
+-- The pairs of a step in a fence, for any place: they have lower places, and they are few.
 use Rattle.std.proofs.Common.{◌≡◌, ℕ, zero, suc, ◌+◌, ◌-◌, ◌*◌, ◌<◌, ◌≤◌, Bool, List, [], ◌∷◌, All, length, refl, sym, ap, ◌∙◌, subst, arith, ⊎_elim}
 use Rattle.std.specs.Prelude.{nat_lt, leb, if◌then◌else◌}
 use Rattle.std.specs.List.{range_with_len, flat_map}
@@ -17,7 +17,7 @@ use Rattle.enc_frame.specs.PairLaws.{with-below, with-few}
 unfoldable pub step_pairs : Bool → ℕ → List ℕ → ℕ → List Pair
 step_pairs ordered n fence place = if leb place n then [] else fence_pairs ordered n fence place
 
--- ---- the places below are in a row
+-- ---- the places below are a range
 
 record IsRow (first : ℕ) (bound : ℕ) (places : List ℕ) : Type 0 where
   from : ℕ
@@ -94,7 +94,7 @@ step_pairs-few ordered n fence place low = ⊎_elim
 
 -- ---- the layout
 
--- steps that stand after a place, with the same pairs there
+-- the steps from a place on, with the same pairs
 laid-same : (a b : ℕ → List Pair) (v place count : ℕ) → ((p : ℕ) → place ≤ p → a p ≡ b p) → laid a v place count ≡ laid b v place count
 unfolding laid
 laid-same a b v place zero same = refl

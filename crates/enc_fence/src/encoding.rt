@@ -1,5 +1,6 @@
-//! The encoding by fences. It is the encoding by pairs with cuts, over the pairs that a fence leaves; its laws
-//! rest on this: some least chain stands level by level, in a listed fence, and a fence's pairs rise by levels.
+//! The encoding by fences: SSV with symmetry-breaking constraints, over the pairs that a fence allows. Its laws
+//! rest on two facts: some minimum chain is ordered by level, in a listed fence, and the operands of a fence's
+//! pairs are on lower levels than the step.
 ghost use Rattle.std.specs.Prelude.{◌≡◌, ◌≤◌, IfOk};
 ghost use Rattle.chain_core.specs.Steps.{IsSmallChain};
 ghost use Rattle.sat_theory.specs.Formula.{bits_of};
@@ -19,13 +20,12 @@ use op_basis::Basis;
 use std::alloc::{AllocError, Global};
 use tt_core::{Spec, live_part};
 
-/// The encoding by fences with cuts. A size has a part for each fence that is listed for the live
-/// outputs, in lexicographic order; the formula of a part is that of the encoding by pairs with cuts, over
-/// the pairs of the fence alone.
+/// SSV with symmetry-breaking constraints, over the pairs of a fence. A size has one subproblem for each listed
+/// fence of the live outputs, in lexicographic order.
 #[derive(Clone, Copy)]
 pub struct FenceEnc;
 
-/// The levels of a part's fence.
+/// The numbers of steps on the levels of a subproblem's fence.
 #[tactic(auto, unfolding(enc_theory::specs::Parts::fence_in))]
 fn levels_in(part: &Part) -> &[u32]
     ensures { result.now ≡ fence_in part.now }
@@ -36,7 +36,7 @@ fn levels_in(part: &Part) -> &[u32]
     }
 }
 
-/// The pairs that the steps of chains over `n` inputs may have in a part's fence.
+/// The pairs that the steps of chains over `n` inputs may have in a subproblem's fence.
 fn pairs_in(n: u32, basis: Basis, part: &Part) -> FencePairs<'_>
     ensures n { result.n ≡ n }
     ensures ordered { result.ordered ≡ swap_closed (members basis) }
@@ -49,7 +49,7 @@ fn pairs_in(n: u32, basis: Basis, part: &Part) -> FencePairs<'_>
     }
 }
 
-/// The chain that an assignment spells in a part's fence.
+/// The chain that an assignment spells in a subproblem's fence.
 #[tactic(auto, using(crate::proofs::Layouts::same), unfolding(enc_theory::specs::Fence::fence_decoded))]
 fn decode_in(
     alloc: Global,
@@ -114,7 +114,7 @@ impl Encoding for FenceEnc {
         part: &Part,
         assign: &Assign,
     ) -> Result<Chain, AllocError> {
-        // brings that the tables are within the limits
+        // for the prover: brings in that the tables are within the limits
         let _n = spec.n();
         decode_in(alloc, spec, basis, r, part, assign)
     }

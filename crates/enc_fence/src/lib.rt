@@ -1,12 +1,12 @@
-//! The encoding by fences: a formula for each way in which the steps of a size may stand in levels.
+//! The encoding by fences: one formula for each distribution of the steps of a size over levels.
 //!
-//! A fence says how many steps stand on each level. Where the steps stand level by level, each has an
-//! operand on the level just below its own, so that a fence leaves far fewer pairs, and each formula is
-//! refuted with far fewer conflicts than one formula of the whole size. Some least chain stands in its
-//! own fence, and each of its steps is read by a step above it or is an output: so the fences that pass
-//! this count are enough (`fence_core::fences`).
+//! A fence is the number of steps on each level. With the steps ordered by level, each has an operand on the
+//! level just below its own, so a fence leaves far fewer pairs, and its formula is refuted with far fewer
+//! conflicts than the formula of the whole size. Some minimum chain has a fence in which each step drives an
+//! output or is read by a step on a higher level; the listed fences are those that pass this count
+//! (`fence_core::fences`).
 //!
-//! - `FenceEnc` is the encoding; its law `complete` is that of the fence of a least chain.
+//! - `FenceEnc` is the encoding; its law `complete` is about the fence of a minimum chain.
 //! - `levels` gives the level of each step of a chain.
 #![tactic(auto)]
 

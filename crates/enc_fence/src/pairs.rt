@@ -9,15 +9,14 @@ use enc_frame::{Pairs, push_pairs_with};
 use enc_theory::Pair;
 use std::alloc::{AllocError, Global};
 
-/// Some places in a row.
+/// A range of places.
 #[derive(Clone, Copy)]
 struct Places {
     first: u32,
     count: u32,
 }
 
-/// The places of the level below the one on which the step of index `k` stands, where `n` inputs stand
-/// below all steps; none after the last level.
+/// The places on the level below that of the step with index `k`, above `n` inputs; none after the last level.
 #[tactic(auto, using(crate::proofs::Walks::walk))]
 fn places_under(n: u32, levels: &[u32], k: u32) -> Places
     requires { n + k < 22 }
@@ -55,8 +54,7 @@ fn pairs_over(alloc: Global, ordered: bool, places: Places) -> Result<Vec<Pair>,
     Ok(pairs)
 }
 
-/// The pairs that the step at a place may have: the larger operand stands on the level below the
-/// step's.
+/// The pairs that the step at a place may have: the larger operand is on the level below the step's.
 #[tactic(auto, using(crate::proofs::Walks::pairs))]
 fn pairs_at(
     alloc: Global,
@@ -75,8 +73,8 @@ fn pairs_at(
     pairs_over(alloc, ordered, places)
 }
 
-/// The pairs of steps that stand level by level, as many on each as `levels` says, above `n` inputs;
-/// where they are ordered, those with j <= k alone.
+/// The pairs of steps ordered by level, with `levels` steps on each, above `n` inputs; if ordered, only those
+/// with j <= k.
 #[derive(Drop)]
 pub struct FencePairs<'a> {
     pub n: u32,

@@ -1,4 +1,4 @@
--- Steps with their pairs, one at a time.
+-- Layouts, one step at a time.
 use Rattle.std.proofs.Common.{◌≡◌, ℕ, zero, suc, ◌+◌, ◌-◌, ◌≤◌, ◌<◌, List, [], ◌∷◌, ◌++◌, All, length, append_assoc, append-nil, refl, ap, sym, ◌∙◌, subst, arith}
 use Rattle.std.proofs.lemmas.Grind.{common_steps}
 use Rattle.std.proofs.lemmas.List.Elements.{All-nil, All-cons, All-head, All-tail}
@@ -47,18 +47,18 @@ slot_count-push (r ∷ steps) s = omega (arith, slot_count-push steps s)
 
 pub ruleset laying = (common_steps, laid-none, laid-more, slot_count-none, slot_count-push, length-numbered)
 
--- One more step, followed by what is laid after it, is what was to be laid.
+-- One more step, followed by the layout of the rest, is the layout.
 pub laid_on : (pairs : ℕ → List Pair) (v count place last : ℕ) (own : List Pair) (slots : List Slot) (old new all : List StepSlots) → place < last → own ≡ pairs place → slots ≡ numbered v own → count ≡ length own → new ≡ old ++ record { place = place; slots = slots } ∷ [] → old ++ laid pairs v place (last - place) ≡ all → new ++ laid pairs (v + count) (place + 1) (last - (place + 1)) ≡ all
 laid_on pairs v count place last own slots old new all low is numbers long push before =
     let step : StepSlots = record { place = place; slots = numbered v (pairs place) } in
     let more : laid pairs v place (last - place) ≡ step ∷ laid pairs (v + length (pairs place)) (place + 1) (last - (place + 1)) = laid-more pairs v place last low in
     rw (push, numbers, long, is) (append_assoc old (step ∷ []) (laid pairs (v + length (pairs place)) (place + 1) (last - (place + 1))) ∙ rw more at before)
 
--- Where no place is left, all are laid.
+-- if no place is left, the layout is complete
 pub laid_all : (pairs : ℕ → List Pair) (v place last : ℕ) (steps all : List StepSlots) → last ≤ place → steps ++ laid pairs v place (last - place) ≡ all → steps ≡ all
 laid_all pairs v place last steps all end same = rw (laid-none pairs v place last end, append-nil) at same
 
--- ---- what is laid is within
+-- ---- the layout is within the bounds
 
 slots_within : (vars place v : ℕ) (ps : List Pair) → All (IsPair place) ps → 1 ≤ v → v + length ps ≤ vars + 1 → All (IsSlot vars place) (numbered v ps)
 unfolding numbered

@@ -1,4 +1,4 @@
--- A listed clause with something true is a tautology, and nothing is written of it.
+-- A listed clause with a true literal is a tautology, so nothing is written for it.
 use Rattle.std.proofs.Common.{◌≡◌, ℕ, ◌⊎◌, Bool, true, false, not, List, [], ◌∷◌, ◌++◌, None, refl, ap, append-nil}
 use Rattle.std.specs.Prelude.{ℤ}
 use Rattle.std.proofs.lemmas.Bool.{cases_Bool}
@@ -30,7 +30,7 @@ written_true : (before after : List Raw) → written (before ++ Fixed true ∷ a
 unfolding written
 written_true before after = ap listed (simplified_true [] before after)
 
--- where the second operand has the bit for certain, nothing is written of a clause that lists it
+-- if the second operand certainly has the bit, nothing is written for one clause
 pub skipped : (z : Sizes) (i : ℕ) (u : Slot) (t : ℕ) (a b c : Bool) → x_is z u.k t (not c) ≡ Fixed true → value_clause z i u t a b c ≡ []
 unfolding value_clause value_raw
 skipped z i u t a b c e = rw e (written_true (Var u.var false ∷ x_is z i t (not a) ∷ x_is z u.j t (not b) ∷ []) (Var (f_var z i b c) a ∷ []))
@@ -39,7 +39,7 @@ skipped_first : (z : Sizes) (i : ℕ) (u : Slot) (t : ℕ) (a b c : Bool) → x_
 unfolding value_clause value_raw
 skipped_first z i u t a b c e = rw e (written_true (Var u.var false ∷ x_is z i t (not a) ∷ []) (x_is z u.k t (not c) ∷ Var (f_var z i b c) a ∷ []))
 
--- and where the first one has, of both
+-- and if the first one has, for two
 pub skipped_both : (z : Sizes) (i : ℕ) (u : Slot) (t : ℕ) (a b : Bool) → x_is z u.j t (not b) ≡ Fixed true → value_clause z i u t a b false ++ value_clause z i u t a b true ≡ []
 skipped_both z i u t a b e = rw (skipped_first z i u t a b false e, skipped_first z i u t a b true e) refl
 

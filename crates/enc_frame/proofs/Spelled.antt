@@ -1,4 +1,4 @@
--- What an assignment spells, turn by turn of a loop.
+-- The chain that an assignment spells, iteration by iteration of the loops.
 use Rattle.std.proofs.Common.{◌≡◌, ℕ, zero, suc, ◌+◌, ◌-◌, ◌≤◌, ◌<◌, true, false, List, [], ◌∷◌, Some, None, length, refl, arith, length-append}
 use Rattle.std.specs.List.{range_with_len}
 use Rattle.std.proofs.lemmas.Grind.{common_steps}

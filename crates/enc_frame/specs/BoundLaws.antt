@@ -1,4 +1,4 @@
--- How large powers and products get within the program's bounds.
+-- Bounds of powers and products, within the program's bounds.
 use Rattle.std.proofs.Common.{ℕ, ◌*◌, ◌^◌, ◌≤◌, arith, pow_mono}
 use Rattle.std.proofs.Math.Nat.{mul-le-mul_left, mul-le-mul_right}
 use Rattle.std.proofs.lemmas.Grind.{common_steps}

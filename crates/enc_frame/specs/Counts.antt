@@ -1,4 +1,4 @@
--- Bounds for the number of clauses of the families, within the program's bounds.
+-- The numbers of clauses of the families are within the program's bounds.
 use Rattle.std.specs.Prelude.{ℕ, ◌+◌, ◌*◌, ◌^◌, ◌≤◌, Bool, true, false, List, [], ◌∷◌, length, if◌then◌else◌}
 use Rattle.std.specs.List.{range_with_len, flat_map}
 use Rattle.std.proofs.Common.{arith, length-append}
@@ -90,7 +90,7 @@ operators-few basis z small =
     let all : length (flat_map (operators_at basis z) (range_with_len (z.n + 1) z.r)) ≤ z.r * 16 = flat_map-few (operators_at basis z) 16 (z.n + 1) z.r (λ i low high. operators_at-few basis z i) in
     omega (arith, all, small.steps)
 
--- The clauses that say what a chain is are few enough for a formula.
+-- The clauses that define chains are few enough for a formula.
 pub common-few : (w : Words) (basis : ℕ) (z : Sizes) (steps : List StepSlots) → IsSmall z → length steps ≤ 16 → slot_count steps ≤ 16000 → length (common w basis z steps) ≤ 10000000
 unfolding common
 common-few w basis z steps small few slots =

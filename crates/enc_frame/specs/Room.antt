@@ -1,4 +1,4 @@
--- How large formulas may be, and the bounds of their parts.
+-- Bounds of formulas, places and variables, as preconditions of the functions that write clauses.
 use Rattle.std.specs.Prelude.{◌≡◌, length, ℕ, ◌+◌, ◌≤◌, ◌<◌, All}
 use Rattle.enc_theory.specs.declared.data.Sizes.{Sizes}
 use Rattle.tt_core.specs.Words.{Words}
@@ -19,7 +19,7 @@ pub record HasRoom (z : Sizes) (vars : ℕ) : Type 0 where
   pub first : s_first z ≤ vars + 1
   pub few : vars < 1000000000
 
--- the place of a step
+-- the place is that of a step
 pub record IsPlace (z : Sizes) (i : ℕ) : Type 0 where
   pub from : z.n + 1 ≤ i
   pub below : i < z.n + 1 + z.r

@@ -1,4 +1,4 @@
--- Variables of a formula are within it.
+-- The variables of a formula are at most its number of variables.
 use Rattle.std.proofs.Common.{◌≡◌, ℕ, ◌≤◌, ◌<◌, Bool, List, [], ◌∷◌, ◌++◌, All, length, get_or, subst, sym, arith}
 use Rattle.clause_core.specs.declared.raw.Raw.{Raw}
 use Rattle.clause_core.specs.declared.raw.Raw.TheVariants.{Var}
@@ -13,7 +13,7 @@ use Rattle.enc_frame.specs.Room.{HasRoom, IsSlot}
 pub within_first : (z : Sizes) (vars v : ℕ) (bit : Bool) → HasRoom z vars → (1 ≤ v) × (v < s_first z) → IsWithin vars (Var v bit)
 within_first z vars v bit room low = within_var vars v bit low.0 (omega (arith, room.first, low.1))
 
--- the variable of one of a step's pairs is within
+-- the selection variable of one of a step's pairs is within
 pub slot_pushed : (vars place i : ℕ) (all slots : List Slot) (d : Slot) (bit : Bool) (old new : List Raw) → slots ≡ all → All (IsSlot vars place) all → i < length slots → new ≡ old ++ Var (get_or slots i d).var bit ∷ [] → All (IsWithin vars) old → All (IsWithin vars) new
 slot_pushed vars place i all slots d bit old new same each low is before =
     let here : IsSlot vars place (get_or slots i d) = subst (λ (us : List Slot). All (IsSlot vars place) us) (sym same) each i d low in

@@ -1,24 +1,24 @@
-//! Which cuts (symmetry-breaking and structural constraints) a basis allows.
+//! Which symmetry-breaking constraints a basis allows.
 ghost use Rattle.std.specs.Prelude.{◌≡◌};
 ghost use Rattle.op_basis.specs.Basis.{members};
 ghost use Rattle.op_basis.specs.Closed.{swap_closed, const_closed, polarity_closed, reapply_closed};
 
 use op_basis::Basis;
 
-/// Which cuts a basis allows without losing all least chains.
+/// The constraints that a basis allows without excluding all minimum chains.
 #[derive(Clone, Copy, PartialEq, Eq)]
 pub struct CutSet {
-    /// The operands of a step may be put in order.
+    /// The operands of a step may be ordered.
     pub swap: bool,
     /// No step needs to be a constant.
     pub constants: bool,
-    /// A step that is no output may be complemented (normal steps).
+    /// A step that drives no output may be complemented (normal steps).
     pub polarity: bool,
-    /// An operator on a step and one of that step's operands is never needed (no re-application).
+    /// No step needs to apply an operator to a step and one of that step's operands (no re-application).
     pub reapply: bool,
 }
 
-/// The tests of a basis that the cuts need: whether it is closed under exchanged operands, for
+/// The properties of the basis that the constraints need: whether it is closed under exchanging operands, under
 /// constants, under complements, and under re-application.
 pub fn cuts(basis: Basis) -> CutSet
     ensures swap { result.swap ≡ swap_closed (members basis) }

@@ -1,4 +1,4 @@
-//! The chain that an assignment of a formula's variables spells.
+//! The chain that an assignment spells.
 ghost use Rattle.std.specs.Prelude.{◌≡◌, ◌+◌, ◌-◌, ◌≤◌, ◌<◌, length, map, All, IfOk};
 ghost use Rattle.chain_core.specs.Steps.{step_of, steps_of, IsSmallChain};
 ghost use Rattle.sat_theory.specs.Formula.{bits_of};
@@ -17,7 +17,7 @@ use op_basis::Op;
 use std::alloc::{AllocError, Global};
 use tt_core::{Spec, trivial};
 
-/// The bit of a variable, numbered from 1; those after the end of the list are 0.
+/// The value of a variable, numbered from 1; false after the end of the list.
 pub fn bit(bits: &[bool], variable: u32) -> bool
     ensures { result ≡ bits_of bits.now variable }
 {
@@ -30,7 +30,7 @@ pub fn bit(bits: &[bool], variable: u32) -> bool
     }
 }
 
-/// The first of a step's pairs whose variable is true.
+/// The first of a step's pairs whose selection variable is true.
 #[tactic(auto, using(crate::proofs::Spelled::pairs))]
 fn first_pair(bits: &[bool], slots: &[Slot]) -> Pair
     ensures { result ≡ first_pair_of (bits_of bits.now) slots.now }
@@ -48,7 +48,7 @@ fn first_pair(bits: &[bool], slots: &[Slot]) -> Pair
     Pair { j: 1, k: 1 }
 }
 
-/// The operator of the step at a place, as its four variables spell it.
+/// The operator of the step at a place, by its four variables.
 pub fn operator(bits: &[bool], z: Sizes, place: u32) -> Op
     requires small { IsSmall z }
     requires place { IsPlace z place }
@@ -110,7 +110,7 @@ fn first_bearer(bits: &[bool], z: Sizes, h: u32) -> u32
     z.n + 1
 }
 
-/// The outs of the live outputs.
+/// The drivers of the live outputs.
 #[tactic(auto, using(clause_core::specs::RangeLaws::loops), unfolding(enc_theory::specs::Decode::decoded_out))]
 fn live_outs(alloc: Global, bits: &[bool], z: Sizes) -> Result<Vec<Out>, AllocError>
     requires { IsSmall z }
@@ -123,7 +123,7 @@ fn live_outs(alloc: Global, bits: &[bool], z: Sizes) -> Result<Vec<Out>, AllocEr
     Ok(outs)
 }
 
-/// The out of output `h`: its trivial out, or else the next of the live ones.
+/// Output `h` of the chain: its trivial value, or else the next of the live outputs.
 #[tactic(auto, unfolding(enc_theory::specs::Decode::restored_at))]
 fn restored_out(spec: &Spec, live: &[Out], h: u32, next: usize) -> Out
     requires output { (1 ≤ h) × (h ≤ length spec.now.on) }
@@ -154,7 +154,7 @@ fn live_up_to(spec: &Spec, h: u32, below: usize) -> usize
     }
 }
 
-/// The live outs, with the trivial ones put back in their places.
+/// The live outputs, with the trivial ones put back in their places.
 #[tactic(auto, using(crate::proofs::Spelled::restoring), unfolding(enc_theory::specs::Decode::restored))]
 fn restored(alloc: Global, spec: &Spec, live: &[Out]) -> Result<Vec<Out>, AllocError>
     ensures { IfOk result (λ outs. outs.items ≡ restored_of (specification spec.now) live.now) }
@@ -170,8 +170,8 @@ fn restored(alloc: Global, spec: &Spec, live: &[Out]) -> Result<Vec<Out>, AllocE
     Ok(outs)
 }
 
-/// The chain of `steps` for the tables: each live output is the first step whose variable for it is
-/// true, and the trivial outs are put back at their places. `z` has the number of live outputs.
+/// The chain with these steps, for the tables: each live output is driven by the first step whose variable for
+/// it is true, and the trivial outputs are put back in their places. `z` has the number of live outputs.
 pub fn with_outs(
     alloc: Global,
     spec: &Spec,
@@ -188,8 +188,8 @@ pub fn with_outs(
     Ok(Chain::new(spec.n(), steps, outs))
 }
 
-/// The chain for the tables: each step with the first of its pairs whose variable is true and the
-/// operator that its four variables spell, and the outs of `with_outs`.
+/// The chain for the tables: each step has its first pair whose selection variable is true and the operator
+/// that its four variables spell; the outputs are those of `with_outs`.
 #[tactic(auto, unfolding(enc_theory::specs::Decode::decoded))]
 pub fn decode(
     alloc: Global,

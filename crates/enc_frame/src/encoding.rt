@@ -1,5 +1,5 @@
-//! What an encoding is: the parts of a size, a formula for each, the chain that a solution spells,
-//! and the two laws that connect formulas with chains.
+//! The trait of encodings: the subproblems of a size, a formula for each, the chain that a solution spells, and
+//! the two laws that connect formulas with chains.
 use chain_core::Chain;
 use cnf_core::{Assign, Cnf};
 use enc_theory::Part;
@@ -7,9 +7,9 @@ use op_basis::Basis;
 use std::alloc::{AllocError, Global};
 use tt_core::Spec;
 
-/// A way to ask for a chain of r steps by formulas. A size has parts (subproblems); a chain of that
-/// size is found by satisfying the formula of one of them, and where the formulas of all parts of a
-/// size and of all smaller sizes are refuted, no chain of that size agrees.
+/// An encoding of "there is a chain of r steps" as formulas. A size has subproblems; a satisfying assignment of
+/// one of their formulas spells a chain of that size. If the formulas of all subproblems of a size and of all
+/// smaller sizes are unsatisfiable, no chain of at most that size implements the tables.
 pub trait Encoding {
     ghost use Rattle.std.specs.Prelude.{◌≡◌, ℕ, ◌≤◌, ◌<◌, List, length, Contains, IfOk};
     ghost use Rattle.chain_theory.specs.Agreement.{Agrees, IsOver, HasChain, IsMinimum};
@@ -20,18 +20,18 @@ pub trait Encoding {
     ghost use Rattle.enc_theory.specs.declared.part.Part.{Part};
     ghost use Rattle.enc_theory.specs.Parts.{FitsPart};
 
-    /// The parts of a size, in their order.
+    /// The definition of a size's subproblems, in order.
     ghost parts_of: { Self → Words → ℕ → List Part };
 
-    /// The formula of truth tables, a set of operators, a size and a part.
+    /// The definition of the formula, for truth tables, a set of operators, a size and a subproblem.
     ghost formula_of: { Self → Words → ℕ → ℕ → Part → Formula };
 
-    /// The parts of size `r`.
+    /// The subproblems of size `r`.
     fn parts(&self, alloc: Global, spec: &Spec, r: u32) -> Result<Vec<Part>, AllocError>
         requires { r ≤ 16 }
         ensures { IfOk result (λ parts. parts.items ≡ parts_of self.now spec.now r) };
 
-    /// The formula of a part of size `r`.
+    /// The formula of a subproblem of size `r`.
     fn formula(
         &self,
         alloc: Global,
@@ -45,8 +45,7 @@ pub trait Encoding {
         requires part { Contains (parts_of self.now spec.now r) part.now }
         ensures { IfOk result (λ cnf. cnf ≡ formula_of self.now spec.now basis r part.now) };
 
-    /// The chain that a satisfying assignment of that formula spells: it agrees, and is as the part
-    /// asks.
+    /// The chain that a satisfying assignment spells. It implements the tables and fits the subproblem.
     fn decode(
         &self,
         alloc: Global,
@@ -65,11 +64,11 @@ pub trait Encoding {
         ensures agrees { IfOk result (λ chain. Agrees chain (specification spec.now)) }
         ensures fits { IfOk result (λ chain. FitsPart part.now chain) };
 
-    /// Where an assignment satisfies the formula of some part of size r, a chain of r steps over the
-    /// basis agrees.
+    /// If the formula of a subproblem of size r is satisfiable, a chain of r steps over the basis implements
+    /// the tables.
     ghost sound: { (encoding : Self) (w : Words) (basis r : ℕ) (part : Part) → Contains (parts_of encoding w r) part → IsSatisfiable (formula_of encoding w basis r part) → HasChain (specification w) (members basis) r };
 
-    /// Where a chain of r steps over the basis agrees and none of fewer steps does, the formula of
-    /// some part of size r is satisfiable.
+    /// If a chain of r steps over the basis implements the tables and none of fewer steps does, the formula of
+    /// some subproblem of size r is satisfiable.
     ghost complete: { (encoding : Self) (w : Words) (basis r : ℕ) → IsMinimum (specification w) (members basis) r → (part : Part) × Contains (parts_of encoding w r) part × IsSatisfiable (formula_of encoding w basis r part) };
 }

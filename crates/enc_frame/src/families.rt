@@ -1,4 +1,4 @@
-//! The clauses that say what a chain is.
+//! The clauses that define chains.
 ghost use Rattle.std.specs.Prelude.{◌≡◌, ◌+◌, ◌^◌, ◌<◌, ◌≤◌, ◌++◌, All, OnOk};
 ghost use Rattle.enc_theory.specs.Families.{out_exists_at, out_exists, out_value_is, out_value, out_values_of, out_values_at, out_values, pair_exists_at, pair_exists, operator_raw, operator_clause, operators_at, operators, common};
 ghost use Rattle.enc_frame.specs.Room.{HasRoom, IsPlace, HasSlots, AreFor};
@@ -12,7 +12,7 @@ use op_basis::{Basis, Op};
 use std::alloc::{AllocError, Global};
 use tt_core::{Cell, Spec, row};
 
-/// The clause that output `h` is some step.
+/// The clause that some step drives output `h`.
 #[tactic(auto, using(clause_core::specs::RangeLaws::loops), unfolding(enc_theory::specs::Families::out_exists_at, enc_theory::specs::Families::bearer))]
 fn push_out_exists_at(
     alloc: Global,
@@ -31,7 +31,7 @@ fn push_out_exists_at(
     list.push(alloc, &raws)
 }
 
-/// Writes that each output is some step.
+/// Writes that some step drives each output.
 #[tactic(auto, using(clause_core::specs::RangeLaws::loops), unfolding(enc_theory::specs::Families::out_exists))]
 pub fn push_out_exists(alloc: Global, list: &mut ClauseList, z: Sizes) -> Result<(), AllocError>
     requires { HasRoom z list.old.vars }
@@ -43,7 +43,7 @@ pub fn push_out_exists(alloc: Global, list: &mut ClauseList, z: Sizes) -> Result
     Ok(())
 }
 
-/// The clause that step `i` has the bit on row `t` if it is output `h`.
+/// The clause that step `i` has the bit on row `t` if it drives output `h`.
 #[tactic(auto, unfolding(enc_theory::specs::Families::out_value_is))]
 fn push_out_value_is(
     alloc: Global,
@@ -133,7 +133,7 @@ fn push_out_values_at(
     Ok(())
 }
 
-/// Writes that a step which is an output has the values of its cells.
+/// Writes that the driver of each output has the values of its cells.
 #[tactic(auto, using(clause_core::specs::RangeLaws::loops), unfolding(enc_theory::specs::Families::out_values))]
 pub fn push_out_values(
     alloc: Global,
@@ -170,7 +170,7 @@ fn push_pair_exists_at(
     list.push(alloc, &raws)
 }
 
-/// That each step has some pair.
+/// Writes that each step has some pair.
 #[tactic(auto, using(clause_core::specs::RangeLaws::loops), unfolding(enc_theory::specs::Families::pair_exists))]
 fn push_pair_exists(
     alloc: Global,
@@ -188,7 +188,7 @@ fn push_pair_exists(
     Ok(())
 }
 
-/// The clause that step `i` has another operator than `op`, unless that is a member.
+/// The clause that step `i` doesn't have the operator `op`, unless it is in the basis.
 #[tactic(auto, unfolding(enc_theory::specs::Families::operator_clause, enc_theory::specs::Families::operator_raw))]
 fn push_operator_clause(
     alloc: Global,
@@ -235,7 +235,7 @@ fn push_operators_at(
     Ok(())
 }
 
-/// Writes that each step's operator is a member.
+/// Writes that each step's operator is in the basis.
 #[tactic(auto, using(clause_core::specs::RangeLaws::loops), unfolding(enc_theory::specs::Families::operators))]
 pub fn push_operators(
     alloc: Global,
@@ -252,9 +252,9 @@ pub fn push_operators(
     Ok(())
 }
 
-/// Writes the clauses that say what a chain is, for tables whose outputs are all live: each output
-/// is some step, which has the values of its cells; each step has some pair, its operator's values
-/// of that pair, and an operator of the basis.
+/// Writes the clauses that define chains, for tables whose outputs are all live: some step drives each output
+/// and has the values of its cells; each step has some pair, its operator's values at that pair, and an
+/// operator of the basis.
 #[tactic(auto, unfolding(enc_theory::specs::Families::common))]
 pub fn push_common(
     alloc: Global,

@@ -9,7 +9,7 @@ use enc_theory::{Pair, Sizes, Slot};
 use std::alloc::{AllocError, Global};
 use std::marker::Model;
 
-/// A step, and the pairs that it may have with their variables, in their order.
+/// A step, and the pairs that it may have with their selection variables, in order.
 #[derive(Drop)]
 pub struct StepSlots {
     place: u32,
@@ -47,7 +47,7 @@ impl StepSlots {
     }
 }
 
-/// Gives each pair a variable, in their order, from `first` on.
+/// Numbers the pairs' selection variables, in order, from `first` on.
 #[tactic(auto, using(crate::proofs::Laying::numbering))]
 fn number(alloc: Global, first: u32, pairs: &[Pair]) -> Result<Vec<Slot>, AllocError>
     requires { first + length pairs.now < 2 ^ 31 }
@@ -69,7 +69,7 @@ fn number(alloc: Global, first: u32, pairs: &[Pair]) -> Result<Vec<Slot>, AllocE
     Ok(slots)
 }
 
-/// All steps of a formula with the pairs that each may have, and the number of its variables.
+/// All steps of a formula with the pairs that each may have, and the number of variables.
 #[derive(Drop)]
 pub struct Layout {
     /// The variables are 1 to `vars`.
@@ -79,8 +79,7 @@ pub struct Layout {
 }
 
 impl Layout {
-    /// The steps of a formula of the given sizes; the variables of their pairs come after all
-    /// others.
+    /// The steps of a formula of the given sizes; the selection variables come after all other variables.
     #[tactic(auto, using(crate::proofs::Laying::laying))]
     pub fn new<P: Pairs>(alloc: Global, pairs: &P, z: Sizes) -> Result<Layout, AllocError>
         requires { IsSmall z }

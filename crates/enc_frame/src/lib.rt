@@ -1,21 +1,21 @@
-//! What all encodings of chains share: the trait that an encoding implements, with its two laws;
-//! the code that writes the clauses which say what a chain is; and the code that decodes a chain
-//! from an assignment. The clause lists are the definitions of `enc_theory`, and what is written
-//! here equals them literal by literal.
+//! What all encodings of chains share: the trait of encodings, with its two laws; the writer of the clauses
+//! that define chains; and the decoder of chains from assignments. The clause lists are defined in
+//! `enc_theory`, and what is written here equals them literal by literal.
 //!
-//! - `Encoding` promises that a formula is exactly its definition, that a decoded chain has the
-//!   size, is over the basis, agrees and is as its part asks, and two laws: where some assignment
-//!   satisfies a formula of size r, a chain of r steps over the basis agrees (`sound`); and where r
-//!   is the least size of such a chain, some formula of size r is satisfiable (`complete`).
-//! - `Layout::new` gives each step its pairs with their variables, in their order.
-//! - `push_common` writes the clauses of any encoding whose steps choose among pairs. Its families
-//!   of outputs and operators, which have no pairs, can be called alone, for other encodings.
-//! - `decode` decodes the chain of an assignment, and `with_outs` adds outs to steps that were
-//!   decoded in another way.
-//! - `cuts` answers which cuts a basis allows; that they lose nothing is a law of `chain_laws`.
+//! - `Encoding` promises that a formula is exactly its definition, that a decoded chain has the size, is over
+//!   the basis, implements the tables and fits its subproblem; and two laws: if a formula of size r is
+//!   satisfiable, a chain of r steps over the basis implements the tables (`sound`), and if r is the minimum
+//!   size of such a chain, some formula of size r is satisfiable (`complete`).
+//! - `Layout::new` gives each step its pairs with their selection variables, in order.
+//! - `push_common` writes the clauses that define chains whose steps have pairs. Its families of outputs and
+//!   operators, which don't mention pairs, are public for MSV.
+//! - `decode` decodes the chain of an assignment, and `with_outs` adds the outputs to steps that were decoded
+//!   in another way.
+//! - `cuts` tells which symmetry-breaking constraints a basis allows; that they exclude no minimum size is a
+//!   law of `chain_laws`.
 //!
-//! A call that writes several clauses into a list, or several pairs, may have written some of them
-//! where memory runs out; `ClauseList::push` alone then leaves the list unchanged.
+//! If memory runs out, a call that writes several clauses or pairs may have written some of them; only
+//! `ClauseList::push` leaves its list unchanged.
 #![tactic(auto)]
 
 mod cut_set;

@@ -1,17 +1,17 @@
-//! The pairs that a step may have.
+//! The pairs of operands that a step may have.
 ghost use Rattle.std.specs.Prelude.{◌≡◌, ◌≤◌, ◌++◌, IfOk, OnOk};
 ghost use Rattle.enc_theory.specs.Pairs.{pairs_of as pairs_of_pair, pairs_with, pairs_below as pairs_below_of};
 
 use enc_theory::Pair;
 use std::alloc::{AllocError, Global};
 
-/// Which pairs each step may have.
+/// The pairs that each step may have.
 pub trait Pairs {
     ghost use Rattle.std.specs.Prelude.{◌≡◌, ℕ, ◌≤◌, List, All, length, IfOk};
     ghost use Rattle.enc_theory.specs.declared.data.Pair.{Pair};
     ghost use Rattle.enc_frame.specs.Room.{IsPair};
 
-    /// The pairs of the step at a place, in their order.
+    /// The definition of the pairs of the step at a place, in order.
     ghost pairs_of: { Self → ℕ → List Pair };
 
     /// The pairs of the step at a place.
@@ -22,11 +22,11 @@ pub trait Pairs {
     /// Both operands of each pair are places below the step.
     ghost below: { (pairs : Self) (place : ℕ) → All (IsPair place) (pairs_of pairs place) };
 
-    /// A step within the bounds of the program has at most a thousand pairs.
+    /// A step within the program's bounds has at most 1,000 pairs.
     ghost few: { (pairs : Self) (place : ℕ) → place ≤ 22 → length (pairs_of pairs place) ≤ 1000 };
 }
 
-/// All pairs of places below a step; where they are ordered, those with j <= k alone.
+/// All pairs of places below a step; if ordered, only those with j <= k.
 #[derive(Clone, Copy)]
 pub struct AllPairs {
     pub ordered: bool,
@@ -50,8 +50,7 @@ fn push_pairs_of(
     Ok(())
 }
 
-/// Adds the pairs whose larger operand is a given place, in their order; where they are ordered,
-/// those with j <= k alone.
+/// Adds the pairs whose larger operand is a given place, in order; if ordered, only those with j <= k.
 #[tactic(auto, using(clause_core::specs::RangeLaws::loops), unfolding(enc_theory::specs::Pairs::pairs_with))]
 pub fn push_pairs_with(pairs: &mut Vec<Pair>, ordered: bool, large: u32) -> Result<(), AllocError>
     requires { 1 ≤ large }
@@ -64,7 +63,7 @@ pub fn push_pairs_with(pairs: &mut Vec<Pair>, ordered: bool, large: u32) -> Resu
     Ok(())
 }
 
-/// The pairs of places below one, in their order.
+/// The pairs of places below one, in order.
 #[tactic(auto, using(clause_core::specs::RangeLaws::loops), unfolding(enc_theory::specs::Pairs::pairs_below))]
 fn pairs_below(alloc: Global, ordered: bool, place: u32) -> Result<Vec<Pair>, AllocError>
     requires { 1 ≤ place }

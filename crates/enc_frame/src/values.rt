@@ -1,4 +1,4 @@
-//! The clauses that give each step its operator's value of its pair.
+//! The clauses that the value of a step is its operator's value at its operands' values.
 ghost use Rattle.std.specs.Prelude.{◌≡◌, ◌+◌, ◌^◌, ◌<◌, ◌≤◌, ◌++◌, true, false, All, IsTrue, OnOk};
 ghost use Rattle.clause_core.specs.declared.raw.Raw.TheVariants.{Fixed};
 ghost use Rattle.enc_theory.specs.Families.{value_clause, value_row, value_slot, value_step, values};
@@ -11,7 +11,7 @@ use clause_core::{ClauseList, Raw};
 use enc_theory::{Sizes, Slot};
 use std::alloc::{AllocError, Global};
 
-/// A pair that a step may have, on a row.
+/// The subject of a value clause: a step, a pair that it may have, and a row.
 #[derive(Clone, Copy)]
 struct At {
     step: u32,
@@ -19,8 +19,7 @@ struct At {
     row: u32,
 }
 
-/// Whether it is certain that place `j` has the bit on row `t`, as it may be of an input: then a
-/// clause that lists it is a tautology.
+/// Whether place `j` is an input that has the bit on row `t`; then a clause with this literal is a tautology.
 fn is_certain(z: Sizes, j: u32, t: u32, bit: bool) -> bool
     requires small { IsSmall z }
     requires place { (1 ≤ j) × (j < z.n + 1 + z.r) }
@@ -33,8 +32,8 @@ fn is_certain(z: Sizes, j: u32, t: u32, bit: bool) -> bool
     }
 }
 
-/// One clause, for bits a, b, c of the step and of its two operands; none is listed where the second
-/// operand is an input with the other bit, which makes it a tautology.
+/// One clause, for bits a, b, c of the step and of its two operands; nothing if the second operand is an input
+/// with the other bit, which makes the clause a tautology.
 #[tactic(auto, using(crate::proofs::Skipped::skipping), unfolding(enc_theory::specs::Families::value_clause, enc_theory::specs::Families::value_raw))]
 fn push_value_clause(
     alloc: Global,
@@ -66,8 +65,8 @@ fn push_value_clause(
     )
 }
 
-/// The two clauses of a bit of the step and one of its first operand. Where that is an input with
-/// the other bit, both are tautologies, and none is listed.
+/// The two clauses for a bit of the step and one of its first operand; nothing if the first operand is an input
+/// with the other bit, which makes both tautologies.
 #[tactic(auto, using(crate::proofs::Skipped::skipping))]
 fn push_value_half(
     alloc: Global,

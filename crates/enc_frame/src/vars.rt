@@ -1,4 +1,4 @@
-//! The variables of a formula, computed from places.
+//! The numbers of a formula's variables.
 ghost use Rattle.std.specs.Prelude.{◌≡◌, ℕ, ◌+◌, ◌^◌, ◌<◌, ◌≤◌};
 ghost use Rattle.enc_theory.specs.Numbering.{sizes_of, x_var as x_var_of, g_var as g_var_of, f_first as f_first_of, f_var as f_var_of, s_first as s_first_of, x_is as x_is_of};
 ghost use Rattle.enc_frame.specs.Room.{IsSmall, HasRoom, IsPlace};
@@ -9,7 +9,7 @@ use clause_core::Raw;
 use enc_theory::Sizes;
 use tt_core::Spec;
 
-/// The sizes of a formula for the tables with `r` steps.
+/// The sizes of the formula for the tables with `r` steps.
 pub fn sizes(spec: &Spec, r: u32) -> Sizes
     requires { r ≤ 16 }
     ensures value { result ≡ sizes_of spec.now r }
@@ -22,7 +22,7 @@ pub fn sizes(spec: &Spec, r: u32) -> Sizes
     }
 }
 
-/// How many rows there are.
+/// The number of rows.
 #[tactic(auto, using(crate::specs::BoundLaws::row_count))]
 pub fn rows(z: Sizes) -> u32
     requires { IsSmall z }
@@ -32,7 +32,7 @@ pub fn rows(z: Sizes) -> u32
     1 << z.n
 }
 
-/// The variable of step `i` on row `t`.
+/// The variable of step `i`'s value on row `t`.
 #[tactic(auto, using(crate::specs::BoundLaws::products), unfolding(enc_theory::specs::Numbering::x_var, enc_theory::specs::Numbering::s_first))]
 pub(crate) fn x_var(z: Sizes, i: u32, t: u32) -> u32
     requires small { IsSmall z }
@@ -44,7 +44,7 @@ pub(crate) fn x_var(z: Sizes, i: u32, t: u32) -> u32
     (i - (z.n + 1)) * rows(z) + t + 1
 }
 
-/// The variable of output `h` and step `i`.
+/// The variable that step `i` drives output `h`.
 #[tactic(auto, using(crate::specs::BoundLaws::products), unfolding(enc_theory::specs::Numbering::g_var, enc_theory::specs::Numbering::s_first))]
 pub fn g_var(z: Sizes, h: u32, i: u32) -> u32
     requires small { IsSmall z }
@@ -66,7 +66,7 @@ pub(crate) fn f_first(z: Sizes) -> u32
     z.r * rows(z) + z.m * z.r + 1
 }
 
-/// The variable of step `i`'s operator at `b` and `c`.
+/// The variable of step `i`'s operator at (`b`, `c`).
 #[tactic(auto, unfolding(enc_theory::specs::Numbering::f_var, enc_theory::specs::Numbering::s_first))]
 pub fn f_var(z: Sizes, i: u32, b: bool, c: bool) -> u32
     requires small { IsSmall z }
@@ -87,7 +87,7 @@ pub fn s_first(z: Sizes) -> u32
     f_first(z) + 4 * z.r
 }
 
-/// That place `j` has the bit on row `t`.
+/// The literal, or constant, that place `j` has the bit on row `t`.
 #[tactic(auto, unfolding(enc_theory::specs::Numbering::x_is, clause_core::specs::Clauses::IsWithin))]
 pub fn x_is(z: Sizes, j: u32, t: u32, bit: bool) -> Raw
     requires small { IsSmall z }

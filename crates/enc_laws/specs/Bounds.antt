@@ -1,4 +1,4 @@
--- Bounds of the variables' numbers: from 1 on, and below those of pairs.
+-- Bounds of variable numbers: from 1 on, and below the selection variables.
 use Rattle.std.proofs.Common.{◌≡◌, ℕ, ◌+◌, ◌-◌, ◌*◌, ◌^◌, ◌<◌, ◌≤◌, Bool, true, false, List, arith}
 use Rattle.std.proofs.Math.Nat.{mul_comm}
 use Rattle.std.proofs.lemmas.Nat.{mul-add-lt}

@@ -1,5 +1,5 @@
--- An assignment built from the values that its variables should have: the kind and the indices of a
--- variable by division.
+-- An assignment with given values of its variables: division gives the kind and the indices of a variable from
+-- its number.
 use Rattle.std.proofs.Common.{◌≡◌, ℕ, ◌+◌, ◌-◌, ◌*◌, ◌/◌, ◌%◌, ◌^◌, ◌<◌, ◌≤◌, ◌==◌, Bool, true, false, refl, ◌∙◌, arith}
 use Rattle.std.specs.Prelude.{if◌then◌else◌, nat_lt}
 use Rattle.std.proofs.lemmas.Bool.{lt-ltb, le-ltb}
@@ -15,8 +15,8 @@ use Rattle.enc_laws.specs.Layouts.{IsStepPlace}
 abbrev pub x_count : Sizes → ℕ
 x_count z = z.r * 2 ^ z.n
 
--- values by place and row, outputs by output and place, operators by place and two bits, and all
--- later variables
+-- given values by place and row, outputs by output and place, operators by place and two bits, and later
+-- variables by number
 unfoldable pub built : Sizes → (ℕ → ℕ → Bool) → (ℕ → ℕ → Bool) → (ℕ → Bool → Bool → Bool) → (ℕ → Bool) → Assignment
 built z value out operator rest x =
     if nat_lt x (x_count z + 1) then value ((x - 1) / 2 ^ z.n + (z.n + 1)) ((x - 1) % 2 ^ z.n)

@@ -1,4 +1,4 @@
--- What the encodings by pairs with cuts share, whatever pairs the steps may have.
+-- What the encodings by pairs with symmetry-breaking constraints share, whatever pairs the steps may have.
 use Rattle.std.proofs.Common.{◌≡◌, ℕ, ◌+◌, ◌++◌, List, Some, map, Contains, sym, subst}
 use Rattle.std.specs.Prelude.{slice_get}
 use Rattle.chain_theory.specs.Chain.{Step, Chain}
@@ -30,9 +30,9 @@ use Rattle.enc_laws.specs.Laws.{IsAllowed, allowed_pairs, chain_satisfies, part_
 use Rattle.enc_laws.specs.Rests.{IsPlaced}
 use Rattle.enc_laws.specs.Cuts.{cuts_hold}
 
--- ---- the fewest steps, of the tables and of their live part
+-- ---- minimum sizes, of the tables and of their live outputs
 
--- where the live part has a chain, the tables have one
+-- if the live outputs have a chain, the tables have one
 pub whole_has : (w : Words) (basis r : ℕ) → HasChain (specification (live_words w)) (members basis) r → HasChain (specification w) (members basis) r
 whole_has w basis r has = record {
   chain = whole_chain w has.chain;
@@ -53,7 +53,7 @@ part_minimum w basis r minimum = record {
 
 -- ---- formulas by pairs
 
--- the formula of live tables in which the steps have given pairs
+-- the formula for tables whose outputs are all live, over given pairs
 abbrev pub formula_by : (ℕ → List Pair) → Words → ℕ → ℕ → Formula
 formula_by pairs w basis r =
     let z = sizes_of w r in
@@ -77,7 +77,7 @@ module _ (pairs : ℕ → List Pair) (w : Words) (basis r : ℕ) (below : AreBel
       let slot = laid_slot pairs (s_first z) (z.n + 1) z.r is.from is.slot is.has in
       subst (λ (place : ℕ). Contains (pairs place) (pair d.j d.k)) is.place (subst (λ (s : Step). Contains (pairs is.from.place) (pair s.j s.k)) (sym is.is) slot.has)
 
-  -- The assignment of a reduced chain satisfies the formula.
+  -- The assignment of a chain in normal form satisfies the formula.
   pub reduced_satisfies : (c : Chain) → IsFor (live_words w) basis r c → IsReduced (members basis) (specification (live_words w)) c → IsAllowed pairs (live_words w) r c → IsSatisfiable (formula_by pairs (live_words w) basis r)
   reduced_satisfies c is reduced allowed =
       let z : Sizes = sizes_of (live_words w) r in

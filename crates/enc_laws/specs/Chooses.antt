@@ -1,5 +1,4 @@
--- What the clauses of an encoding by single operands (MSV) mean for an assignment: they are
--- equivalent to properties.
+-- What the clauses of MSV mean for an assignment: they are equivalent to properties.
 use Rattle.std.proofs.Common.{◌≡◌, ℕ, ◌-◌, ◌^◌, ◌<◌, ◌≤◌, Bool, true, false, not, ◌||◌, map, Contains, refl, sym, ◌∙◌, arith}
 use Rattle.std.specs.List.{list_any}
 use Rattle.sat_theory.specs.Formula.{Assignment}
@@ -17,8 +16,8 @@ use Rattle.enc_laws.specs.Layouts.{IsStepPlace}
 use Rattle.enc_laws.specs.Solves.{x_bit, MeetsTables, place_there, there_place, row_there, there_row, x_is_positive, x_is_value, clause_of, clause_gives, gives_clause, meets_from, bearers_hold, outs_hold, operators_hold}
 use Rattle.enc_laws.specs.SelectVars.{IsBelow, choice_positive, value_positive}
 
--- The assignment gives each step a lower place for each operand, the operand the value of that
--- place, and the step its operator's value of its operands' values; and outputs meet their cells.
+-- The assignment gives each step a lower place for each operand, the operand the value of that place, and the
+-- step its operator's value of its operands' values; and drivers have the values of their outputs' cells.
 pub record Chooses (w : Words) (basis : ℕ) (z : Sizes) (v : Assignment) : Type 0 where
   pub tables : MeetsTables w basis z v
   pub choice : (side : Side) (i : ℕ) → IsStepPlace z i → (j : ℕ) × (1 ≤ j) × (j < i) × (v (choice_var z side i j) ≡ true)
@@ -164,7 +163,7 @@ result_make z v each =
 
 -- ---- all families
 
--- What satisfies the clauses has the properties,
+-- An assignment that satisfies the clauses has the properties,
 pub chooses_from : (w : Words) (basis : ℕ) (z : Sizes) (v : Assignment) → holds v (chosen_chain w basis z) ≡ true → Chooses w basis z v
 unfolding chosen_chain
 chooses_from w basis z v all =
@@ -182,7 +181,7 @@ chooses_from w basis z v all =
       result = λ i t is row. result_get z v i t sixth is row;
     }
 
--- and what has the properties satisfies the clauses.
+-- and an assignment with the properties satisfies the clauses.
 pub chooses_to : (w : Words) (basis : ℕ) (z : Sizes) (v : Assignment) → Chooses w basis z v → holds v (chosen_chain w basis z) ≡ true
 unfolding chosen_chain
 chooses_to w basis z v is =

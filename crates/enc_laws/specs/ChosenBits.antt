@@ -1,4 +1,4 @@
--- The assignment of a chain, where steps choose operands one by one (MSV).
+-- The assignment of a chain in MSV.
 use Rattle.std.proofs.Common.{◌≡◌, ℕ, ◌+◌, ◌-◌, ◌*◌, ◌/◌, ◌%◌, ◌^◌, ◌<◌, ◌==◌, Bool, true, ◌||◌, length, refl, sym, ap, ◌∙◌, arith, ⊎_elim}
 use Rattle.std.specs.Prelude.{if◌then◌else◌, nat_lt}
 use Rattle.std.specs.List.{list_any}
@@ -25,7 +25,7 @@ abbrev pub operand : Side → Step → ℕ
 operand First s = s.j
 operand Second s = s.k
 
--- the number is that of the choice of an operand that the chain's step i has
+-- the number is that of a selection variable that is true of the chain
 abbrev step_chooses : Sizes → Chain → ℕ → ℕ → Bool
 step_chooses z c x i = choice_var z First i (step_at c i).j == x || choice_var z Second i (step_at c i).k == x
 
@@ -41,7 +41,7 @@ select_rest z c x =
     if nat_lt x (value_first z First) then choice_bit z c x
     else (if nat_lt x (value_first z Second) then operand_bit z c First (x - value_first z First) else operand_bit z c Second (x - value_first z Second))
 
--- The variables of choices and of operands' values, from those of the chain.
+-- the values of selection variables and of the operands' values, by the chain
 pub record IsOfChoices (w : Words) (r : ℕ) (c : Chain) (v : Assignment) : Type 0 where
   pub of : IsOfChain w r c v
   pub has : (side : Side) (i : ℕ) → IsStepPlace (sizes_of w r) i → v (choice_var (sizes_of w r) side i (operand side (step_at c i))) ≡ true

@@ -1,4 +1,4 @@
--- The clauses of an encoding by single operands (MSV) are clauses of a formula.
+-- The clauses of MSV are clauses of a formula.
 use Rattle.std.proofs.Common.{◌≡◌, ℕ, ◌+◌, ◌-◌, ◌^◌, ◌<◌, ◌≤◌, ◌==◌, Bool, true, false, not, ◌&&◌, List, [], ◌∷◌, ◌++◌, map, Contains, arith, ⊎_elim, ◌⊎◌}
 use Rattle.std.specs.Prelude.{ℤ, if◌then◌else◌, nat_lt}
 use Rattle.std.specs.List.{flat_map, range_with_len}
@@ -51,7 +51,7 @@ module _ (w : Words) (basis : ℕ) (z : Sizes) where
       let i_to = place.to in
       record { place = record { from = omega arith; to = omega arith }; from = omega arith; to = omega arith }
 
-  -- ---- what a chain is
+  -- ---- the clauses that define chains
 
   choices_clauses : AreClauses (select_vars z) (operands_exist z)
   unfolding operands_exist choices_exist choice_exists chooses
@@ -97,7 +97,7 @@ module _ (w : Words) (basis : ℕ) (z : Sizes) where
       results_clauses)
       (operators_clauses (select_vars z) basis z [] room)
 
-  -- ---- cuts
+  -- ---- constraints
 
   rising_clauses : AreClauses (select_vars z) (rising basis z)
   unfolding rising rising_step rising_from rising_pair

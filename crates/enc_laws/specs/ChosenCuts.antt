@@ -1,4 +1,4 @@
--- A reduced chain satisfies the cuts of the encoding by single operands (MSV).
+-- A chain in normal form satisfies the constraints of MSV.
 use Rattle.std.proofs.Common.{◌≡◌, ◌⊎◌, ℕ, ◌+◌, ◌-◌, ◌<◌, ◌≤◌, ◌==◌, Bool, true, false, not, ◌&&◌, ◌||◌, List, [], ◌∷◌, ◌++◌, map, get_or, Contains, refl, sym, ap, ◌∙◌, subst, arith, inl, inr, ⊎_elim}
 use Rattle.std.specs.Prelude.{ℤ, if◌then◌else◌, min, max, nat_lt}
 use Rattle.std.specs.List.{flat_map, range_with_len}
@@ -32,7 +32,7 @@ use Rattle.enc_laws.specs.SelectVars.{IsBelow, choice_positive}
 use Rattle.enc_laws.specs.Chooses.{there_below, is_below}
 use Rattle.enc_laws.specs.ChosenBits.{operand, IsOfChoices}
 
--- ---- clauses that rule operands out
+-- ---- clauses that exclude operands
 
 -- "not both, or one of these"
 unless_both : (a b more : Bool) → (a ≡ true → b ≡ true → more ≡ true) → (not a || (not b || more)) ≡ true
@@ -76,7 +76,7 @@ module _ (w : Words) (basis r : ℕ) (c : Chain) (v : Assignment) (choices : IsO
       holds-written v (not_these (sizes_of w r) i j k ++ more) (choice_positive (sizes_of w r) First i j, (choice_positive (sizes_of w r) Second i k, positive))
       ∙ unless_these i j k more first second each
 
-  -- ---- operands rise
+  -- ---- operands are ordered
 
   pub rising_holds : holds v (rising basis (sizes_of w r)) ≡ true
   unfolding rising rising_step rising_from rising_pair
@@ -90,7 +90,7 @@ module _ (w : Words) (basis r : ℕ) (c : Chain) (v : Assignment) (choices : IsO
       these_hold i j k [] first (record { place = place; from = k_from; to = omega arith }) tt (λ j_is k_is.
       absurd (let rises = reduced.operands_rise closed (i - (c.n + 1)) (step_at c i) (is_step i place) in omega arith))))))
 
-  -- ---- each step is an output or is read
+  -- ---- each step drives an output or is read
 
   choosers_positive : (i : ℕ) → ArePositive (flat_map (choosers (sizes_of w r) i) (above (sizes_of w r) i))
   unfolding choosers chooses
@@ -316,9 +316,9 @@ module _ (w : Words) (basis r : ℕ) (c : Chain) (v : Assignment) (choices : IsO
       unless_holds (ordered && nat_lt k j) (flat_map (again_operand ordered z i l j k) (different j k)) (each_holds v (again_operand ordered z i l j k) (different j k) (λ o in_operands.
       again_operand_holds ordered i l j k o closed (record { from = omega arith; to = omega arith }) (omega arith) (is_below z i j place in_below) (is_below z i k place in_below') (different_is j k o in_operands))))))))
 
-  -- ---- all cuts
+  -- ---- all constraints
 
-  -- The assignment of a reduced chain satisfies all cuts.
+  -- The assignment of a chain in normal form satisfies all constraints.
   pub chosen_cuts_hold : holds v (chosen_cuts basis (sizes_of w r)) ≡ true
   unfolding chosen_cuts
   chosen_cuts_hold =

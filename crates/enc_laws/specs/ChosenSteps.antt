@@ -1,4 +1,4 @@
--- What an assignment of an encoding by single operands (MSV) spells is a chain that agrees.
+-- An assignment of MSV spells a chain that implements the tables.
 use Rattle.std.proofs.Common.{◌≡◌, ℕ, ◌+◌, ◌^◌, ◌<◌, Bool, true, false, ◌||◌, List, [], ◌∷◌, map, get_or, Some, Contains, refl, sym, ap, ◌∙◌, arith}
 use Rattle.std.specs.Prelude.{if◌then◌else◌, slice_get}
 use Rattle.std.specs.List.{list_any}
@@ -26,7 +26,7 @@ use Rattle.enc_laws.specs.Sound.{IsSpelled, bearer_place, bearer_met, made_from}
 use Rattle.enc_laws.specs.SelectVars.{IsBelow}
 use Rattle.enc_laws.specs.Chooses.{Chooses, below_there, is_below}
 
--- the first place whose variable is true
+-- the first place whose selection variable is true
 pub record IsFirstChoice (z : Sizes) (v : Assignment) (side : Side) (i : ℕ) (js : List ℕ) (j : ℕ) : Type 0 where
   pub inside : Contains js j
   pub true_ : v (choice_var z side i j) ≡ true

@@ -1,4 +1,4 @@
--- A chain that agrees gives an assignment that satisfies the clauses.
+-- A chain that implements the tables gives an assignment that satisfies the clauses.
 use Rattle.std.proofs.Common.{◌≡◌, ℕ, ◌+◌, ◌-◌, ◌^◌, ◌<◌, ◌≤◌, ◌==◌, Bool, true, false, ◌&&◌, List, length, get_or, Some, Contains, refl, sym, ap, ◌∙◌, subst, arith, ⊎_elim}
 use Rattle.std.specs.Prelude.{slice_get}
 use Rattle.std.specs.List.{list_any}
@@ -33,7 +33,7 @@ use Rattle.enc_laws.specs.Decoded.{IsFor}
 abbrev pub step_at : Chain → ℕ → Step
 step_at c i = get_or c.steps (i - (c.n + 1)) (record { j = 1; k = 1; op = 0 })
 
--- the out is the given place
+-- the output is the given place
 abbrev pub is_place : ℕ → Out → Bool
 is_place i Zero = false
 is_place i One = false
@@ -43,25 +43,25 @@ is_place i (Place p) = p == i
 abbrev pub is_pair_of : Step → Slot → Bool
 is_pair_of s u = (u.j == s.j) && (u.k == s.k)
 
--- the variable is that of a slot with the pair of its step
+-- the variable is the selection variable of a slot with its step's pair
 unfoldable pub slot_bit : Chain → List StepSlots → ℕ → Bool
 slot_bit c steps x = list_any (λ s. list_any (λ u. (u.var == x) && is_pair_of (step_at c s.place) u) s.slots) steps
 
--- The assignment of a chain: the values of its steps, its outputs, its operators, and the variables
--- after these,
+-- The assignment of a chain: the values of its steps, its outputs, its operators, and the variables after
+-- these,
 abbrev pub chain_bits : Sizes → Chain → (ℕ → Bool) → Assignment
 chain_bits z c rest = built z (λ i t. value c t i) (λ h i. is_place i (out_at c.outs h)) (λ i b c'. apply (step_at c i).op b c') rest
 
--- which here are those of pairs.
+-- which here are selection variables.
 abbrev pub assignment_of : Sizes → List StepSlots → Chain → Assignment
 assignment_of z steps c = chain_bits z c (slot_bit c steps)
 
--- a variable is that of at most one slot, and the pair of each step has a slot
+-- a variable is the selection variable of at most one slot, and the pair of each step has a slot
 pub record HasPairs (steps : List StepSlots) (c : Chain) : Type 0 where
   pub once : (s s' : StepSlots) (u u' : Slot) → IsSlotOf steps s u → IsSlotOf steps s' u' → u.var ≡ u'.var → IsSameSlot s s' u u'
   pub has : (s : StepSlots) → Contains steps s → HasSlot s.slots (step_at c s.place).j (step_at c s.place).k
 
--- each out is the place of a step
+-- each output is the place of a step
 pub record HasStepOuts (c : Chain) (m : ℕ) : Type 0 where
   pub each : (h : ℕ) → 1 ≤ h → h ≤ m → IsStepOut c.n (c.n + length c.steps) (out_at c.outs h)
 
@@ -96,7 +96,7 @@ true_slot steps c s u pairs is true_ =
     let same = pairs.once outer.element s inner.element u (record { step = outer.inside; slot = inner.inside }) is (eqb-true inner.element.var u.var var) in
     ap (λ (x : StepSlots). is_pair_of (step_at c x.place) u) (sym same.step) ∙ ap (is_pair_of (step_at c outer.element.place)) (sym same.slot) ∙ pair
 
--- ---- the assignment's variables of values, outputs and operators, whatever the later ones are
+-- ---- the variables of values, outputs and operators, whatever the later ones are
 
 pub record IsOfChain (w : Words) (r : ℕ) (c : Chain) (v : Assignment) : Type 0 where
   pub values : (i t : ℕ) → IsStepPlace (sizes_of w r) i → t < 2 ^ w.n → v (x_var (sizes_of w r) i t) ≡ value c t i

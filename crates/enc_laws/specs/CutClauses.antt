@@ -1,4 +1,4 @@
--- The cuts are clauses of a formula.
+-- The constraints are clauses of a formula.
 use Rattle.std.proofs.Common.{ℕ, suc, ◌+◌, ◌-◌, ◌==◌, Bool, true, false, List, [], ◌∷◌, ◌++◌, map, Contains, arith}
 use Rattle.std.specs.Prelude.{ℤ, if◌then◌else◌}
 use Rattle.std.specs.List.{flat_map, range_with_len}
@@ -29,7 +29,7 @@ pub are_of-flat_map : {X : Type 0} (vars : ℕ) (f : X → List Raw) (xs : List 
 are_of-flat_map vars f [] each = tt
 are_of-flat_map vars f (x ∷ xs) each = are_of-append vars (f x) (flat_map f xs) (each x (contains_head x xs)) (are_of-flat_map vars f xs (λ y c. each y (contains_tail x y xs c)))
 
--- clauses and literals that are listed only where a test passes
+-- clauses and literals that are listed only under a condition
 pub clauses_if : (vars : ℕ) (test : Bool) (clauses : List (List ℤ)) → AreClauses vars clauses → AreClauses vars (if test then clauses else [])
 clauses_if vars true clauses are = are
 clauses_if vars false clauses are = no_clauses vars

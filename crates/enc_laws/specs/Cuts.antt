@@ -1,4 +1,4 @@
--- A reduced chain satisfies the cuts.
+-- A chain in normal form satisfies the symmetry-breaking constraints.
 use Rattle.std.proofs.Common.{◌≡◌, ℕ, suc, ◌+◌, ◌-◌, ◌<◌, ◌≤◌, ◌==◌, Bool, true, false, not, List, [], ◌∷◌, ◌++◌, length, map, get_or, Contains, refl, sym, ap, ◌∙◌, subst, arith, inl, inr, ⊎_elim}
 use Rattle.std.specs.Prelude.{if◌then◌else◌}
 use Rattle.std.specs.List.{flat_map, range_with_len}
@@ -58,7 +58,7 @@ module _ (w : Words) (basis r : ℕ) (steps : List StepSlots) (c : Chain) (place
         ap (λ (i : ℕ). get_or c.steps i (record { j = 1; k = 1; op = 0 })) index ∙ get_or_from_slice_get c.steps k a (record { j = 1; k = 1; op = 0 }) at,
       )
 
-  -- a slot's variable is true exactly where the slot has its step's pair
+  -- a selection variable is true exactly if the slot has its step's pair
   pub has_pair : (s : StepSlots) (u : Slot) → IsSlotOf steps s u → assignment_of (sizes_of w r) steps c u.var ≡ true → (u.j ≡ (step_at c s.place).j) × (u.k ≡ (step_at c s.place).k)
   has_pair s u slot true_ = pair_test (step_at c s.place) u (true_slot steps c s u placed.pairs slot (sym (v_s w basis r steps c u.var (placed.laid.behind s u slot)) ∙ true_))
 
@@ -89,7 +89,7 @@ module _ (w : Words) (basis r : ℕ) (steps : List StepSlots) (c : Chain) (place
   unfolding readers
   readers_positive p later inside = positive-flat_map (readers p) later (λ s in_later. positive-flat_map (reader p) s.slots (λ u in_slots. reader_positive p s u record { step = inside s in_later; slot = in_slots }))
 
-  -- a step reads lower places alone
+  -- a step reads only lower places
   reads_below : (k : ℕ) (a : Step) (p : ℕ) → IsStep c k a → Reads a p → p < c.n + 1 + k
   reads_below k a p at (inl e) = let below = placed.is.is_chain.steps.each k a at in let j = below.j_below in omega arith
   reads_below k a p at (inr e) = let below = placed.is.is_chain.steps.each k a at in let k' = below.k_below in omega arith
@@ -344,9 +344,9 @@ module _ (w : Words) (basis r : ℕ) (steps : List StepSlots) (c : Chain) (place
       (record { each = λ s u slot low test true_. absurd (let at = laid_is_place (sizes_of w r) steps s placed.laid slot.step in let from = at.from in omega arith) })
       (rest_all (sizes_of w r) steps placed.laid))))
 
-  -- ---- all cuts
+  -- ---- all constraints
 
-  -- The assignment of a reduced chain satisfies all cuts.
+  -- The assignment of a chain in normal form satisfies all constraints.
   pub cuts_hold : IsReduced (members basis) (specification w) c → holds (assignment_of (sizes_of w r) steps c) (cuts w basis (sizes_of w r) steps) ≡ true
   unfolding cuts
   cuts_hold reduced =

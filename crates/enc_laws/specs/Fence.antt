@@ -61,7 +61,7 @@ fence_pairs_are_below ordered n fence = record {
       record { j_from = is.j_from; j_below = omega arith; k_from = is.k_from; k_below = omega arith };
 }
 
--- the level of a place, where the level below the fence's first has `count` places from `first` on
+-- the level of a place, if the level below the fence's first has `count` places from `first` on
 abbrev pub level_from : ℕ → ℕ → List ℕ → ℕ → ℕ
 level_from first count fence p = if nat_lt p (first + count) then 0 else level_by fence (p - (first + count))
 
@@ -119,7 +119,7 @@ under_has first count (q ∷ qs) k p low from to e =
 
 -- ---- a chain in its fence
 
--- the level of a place of a chain in level order, by its fence
+-- the level of a place of a chain ordered by level, by its fence
 level_is : (c : Chain) (fence : List ℕ) → StandsIn c fence → (p : ℕ) → 1 ≤ p → p < c.n + 1 + length c.steps → level c p ≡ level_from 1 c.n fence p
 level_is c fence stands p from low = ⊎_elim
     (λ (is_input : p ≤ c.n). input_level c.n p c.steps is_input ∙ sym (level_from_low 1 c.n fence p (omega arith)))
@@ -129,7 +129,7 @@ level_is c fence stands p from low = ⊎_elim
     ap (level c) here ∙ stands.levels is_step.0 is_step.1 ∙ ap (level_by fence) offset ∙ sym (level_from_high 1 c.n fence p (omega arith)))
     (place_cases c.n (length c.steps) p low)
 
--- The pairs of a reduced chain in its fence are those of the encoding.
+-- The pairs of a chain in normal form, in its fence, are those of the encoding.
 stands_allowed : (w : Words) (basis r : ℕ) (c : Chain) (fence : List ℕ) → IsFor w basis r c → IsReduced (members basis) (specification w) c → StandsIn c fence → IsAllowed (fence_pairs (swap_closed (members basis)) w.n fence) w r c
 unfolding fence_pairs
 stands_allowed w basis r c fence is reduced stands = record {
@@ -157,25 +157,24 @@ stands_allowed w basis r c fence is reduced stands = record {
 
 -- ---- the laws
 
--- What a satisfying assignment spells is a chain of r steps over the basis that agrees.
+-- A satisfying assignment spells a chain of r steps over the basis that implements the tables.
 pub fence_decodes : (w : Words) (basis r : ℕ) (fence : List ℕ) (v : Assignment) → Satisfies v (fence_formula w basis r fence) → IsFor w basis r (fence_decoded w basis r fence v)
 unfolding fence_formula fence_live fence_decoded
 fence_decodes w basis r fence v satisfies = by_pairs_decodes (fence_pairs (swap_closed (members basis)) w.n fence) w basis r (fence_pairs_are_below (swap_closed (members basis)) w.n fence) v satisfies
 
--- Where the formula of some fence is satisfiable, a chain of r steps over the basis agrees with the
--- tables.
+-- If the formula of some fence is satisfiable, a chain of r steps over the basis implements the tables.
 pub fence_sound : (w : Words) (basis r : ℕ) (fence : List ℕ) → IsSatisfiable (fence_formula w basis r fence) → HasChain (specification w) (members basis) r
 fence_sound w basis r fence (v, satisfies) = for_is_there w basis r (fence_decoded w basis r fence v) (fence_decodes w basis r fence v satisfies)
 
--- A fence of r steps that is listed for the live outputs, with a satisfiable formula.
+-- A listed fence of r steps for the live outputs, with a satisfiable formula.
 pub record HasFence (w : Words) (basis r d : ℕ) : Type 0 where
   pub fence : List ℕ
   pub listed : IsFenceOf r (length (live_words w).on) fence
   pub low : length fence ≤ d
   pub satisfiable : IsSatisfiable (fence_formula w basis r fence)
 
--- Where a chain of r steps and at most d levels over the basis agrees and none of fewer steps does, a
--- listed fence of at most d levels has a satisfiable formula.
+-- If a chain of r steps and at most d levels over the basis implements the tables and none of fewer steps does,
+-- a listed fence of at most d levels has a satisfiable formula.
 pub fence_complete_at : (w : Words) (basis r d : ℕ) → HasChainOfLevels (specification w) (members basis) r d → ((q : ℕ) → q < r → HasChain (specification w) (members basis) q → ⊥) → HasFence w basis r d
 unfolding fence_formula fence_live
 fence_complete_at w basis r d has none_fewer =
@@ -193,7 +192,7 @@ fence_complete_at w basis r d has none_fewer =
           (stands_allowed (live_words w) basis r least.reduced.has.chain least.fence is least.reduced.reduced least.stands);
     }
 
--- Where a chain of r steps over the basis agrees and none of fewer steps does, a listed fence has a
+-- If a chain of r steps over the basis implements the tables and none of fewer steps does, a listed fence has a
 -- satisfiable formula.
 pub fence_complete : (w : Words) (basis r : ℕ) → IsMinimum (specification w) (members basis) r → HasFence w basis r r
 fence_complete w basis r minimum =
@@ -207,7 +206,7 @@ fence_complete w basis r minimum =
       levels = subst (λ (d : ℕ). HasLevels d has.chain) has.size (levels_at_most_steps has.chain has.is_chain);
     }) minimum.none_fewer
 
--- Its clauses are clauses, over the variables that it counts.
+-- The formula is well-formed.
 pub fence_is_formula : (w : Words) (basis r : ℕ) (fence : List ℕ) → IsFormula (fence_formula w basis r fence)
 unfolding fence_formula fence_live
 fence_is_formula w basis r fence = by_pairs_is_formula (fence_pairs (swap_closed (members basis)) w.n fence) w basis r (fence_pairs_are_below (swap_closed (members basis)) w.n fence)

@@ -17,11 +17,11 @@ use Rattle.enc_theory.specs.declared.part.Part.TheVariants.{Whole, Levels}
 use Rattle.enc_theory.specs.Parts.{parts_for, fence_in, FitsPart}
 use Rattle.enc_laws.specs.FenceLevels.{fence_has_levels}
 
--- a formula of size r that is satisfiable has a chain of r steps
+-- if a formula of size r is satisfiable, there is a chain of r steps
 pub is_sound : (w : Words) (basis r : ℕ) (part : Part) → Contains (parts_for w r) part → IsSatisfiable (fence_formula w basis r (fence_in part)) → HasChain (specification w) (members basis) r
 is_sound w basis r part there sat = fence_sound w basis r (fence_in part) sat
 
--- where r is the least number of steps, the formula of some listed fence of r steps is satisfiable
+-- if r is the minimum size, the formula of some listed fence of r steps is satisfiable
 pub is_complete : (w : Words) (basis r : ℕ) → IsMinimum (specification w) (members basis) r → (part : Part) × Contains (parts_for w r) part × IsSatisfiable (fence_formula w basis r (fence_in part))
 unfolding parts_for fence_in
 is_complete w basis r least =
@@ -29,7 +29,7 @@ is_complete w basis r least =
     let m : ℕ = length (live_words w).on in
     (Levels found.fence, contains_map Levels (listed_fences r m) found.fence ((fences_are_listed r m).all found.fence found.listed), found.satisfiable)
 
--- what a satisfying assignment of a part's formula spells is as the part asks
+-- the chain that a satisfying assignment spells fits its subproblem
 pub spelled_fits : (w : Words) (basis r : ℕ) (part : Part) (v : Assignment) → Satisfies v (fence_formula w basis r (fence_in part)) → FitsPart part (fence_decoded w basis r (fence_in part) v)
 unfolding fence_in FitsPart
 spelled_fits w basis r Whole v satisfies = tt

@@ -1,6 +1,5 @@
--- A solution of a fence's formula spells a chain of at most the fence's levels: the fence gives
--- each place a level, the pairs of a step have places of lower levels alone, and no step's level is
--- above that.
+-- A solution of a fence's formula spells a chain of at most the fence's levels: the fence gives each place a
+-- level, the operands of a step's pairs have lower levels, and so no step's level is above that.
 use Rattle.std.proofs.Common.{◌≡◌, ℕ, ◌+◌, ◌-◌, ◌<◌, ◌≤◌, Bool, List, [], ◌∷◌, length, map, Contains, ap, ◌∙◌, subst, arith, ⊎_elim}
 use Rattle.std.specs.Prelude.{nat_lt}
 use Rattle.std.specs.List.{range_with_len}
@@ -113,7 +112,7 @@ fence_has_levels w basis r fence v satisfies =
     (p + 1) p (omega arith) from (omega arith) in
     omega (arith, low, from_low w.n fence p)
 
--- Where the formula of a fence is satisfiable, a chain of at most its levels agrees with the tables.
+-- If the formula of a fence is satisfiable, a chain of at most its levels implements the tables.
 pub fence_sound_at : (w : Words) (basis r : ℕ) (fence : List ℕ) → IsSatisfiable (fence_formula w basis r fence) → HasChainOfLevels (specification w) (members basis) r (length fence)
 fence_sound_at w basis r fence (v, satisfies) =
     let is : IsFor w basis r (fence_decoded w basis r fence v) = fence_decodes w basis r fence v satisfies in

@@ -1,4 +1,4 @@
--- The clauses are clauses of a formula: different variables, all within the number of variables.
+-- The clauses are clauses of a formula: their variables differ and are within the number of variables.
 use Rattle.std.proofs.Common.{◌≡◌, ◌⊎◌, ℕ, zero, suc, ◌+◌, ◌^◌, ◌<◌, ◌≤◌, Bool, true, false, not, List, [], ◌∷◌, length, map, Contains, refl, sym, ap, subst, arith, ⊎_elim}
 use Rattle.std.specs.Prelude.{if◌then◌else◌}
 use Rattle.std.specs.List.{range_with_len}
@@ -20,15 +20,15 @@ use Rattle.clause_core.specs.Holds.{contains_cases, range_inside}
 use Rattle.enc_laws.specs.Bounds.{x_positive, g_positive, f_positive, s_positive, slot_positive, x_below, g_below, f_below}
 use Rattle.enc_laws.specs.Layouts.{IsStepPlace, IsSlotOf, IsLaid, AreBelow, numbered_slot, laid_is_place, layout_is_laid}
 
--- ---- the families of a chain
+-- ---- the families that define chains
 
--- room for all variables except those of pairs, and for those too
+-- room for all variables except selection variables, and for these too
 pub record HasRoom (vars : ℕ) (z : Sizes) (steps : List StepSlots) : Type 0 where
   pub common : s_first z ≤ vars + 1
   pub slots : (s : StepSlots) (u : Slot) → IsSlotOf steps s u → u.var ≤ vars
   pub positive : (s : StepSlots) (u : Slot) → IsSlotOf steps s u → 1 ≤ u.var
 
--- where there are no pairs, room for all others is enough
+-- if there are no pairs, room for all other variables is enough
 pub room_without_pairs : (vars : ℕ) (z : Sizes) → s_first z ≤ vars + 1 → HasRoom vars z []
 room_without_pairs vars z common = record {
   common = common;

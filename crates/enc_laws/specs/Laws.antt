@@ -42,7 +42,7 @@ allowed_pairs pairs w r c below allowed = record {
       (allowed.each s.place (laid_is_place (sizes_of w r) (layout pairs (sizes_of w r)) s (layout_is_laid pairs (sizes_of w r) below) c_s));
 }
 
--- The assignment of a chain with allowed pairs satisfies the clauses of a chain.
+-- The assignment of a chain with allowed pairs satisfies the clauses that define chains.
 pub chain_satisfies : (pairs : ℕ → List Pair) (w : Words) (basis r : ℕ) (c : Chain) → AreBelow w.n pairs → AreLive w → IsFor w basis r c → IsAllowed pairs w r c
     → holds (assignment_of (sizes_of w r) (layout pairs (sizes_of w r)) c) (common w basis (sizes_of w r) (layout pairs (sizes_of w r))) ≡ true
 chain_satisfies pairs w basis r c below live is allowed =
@@ -50,7 +50,7 @@ chain_satisfies pairs w basis r c below live is allowed =
     solves_to w basis (sizes_of w r) (layout pairs (sizes_of w r)) (assignment_of (sizes_of w r) (layout pairs (sizes_of w r)) c) laid
     (chain_solves w basis r (layout pairs (sizes_of w r)) c is (live_outs w basis r c live is) laid (allowed_pairs pairs w r c below allowed))
 
--- the live part's outputs are all live, and a chain for tables is one for their live part
+-- the live outputs are all live, and a chain for the tables gives one for the live outputs
 pub part_is_all_live : (w : Words) → AreLive (live_words w)
 part_is_all_live w = record { each = part_is_live w }
 
@@ -72,18 +72,18 @@ all_allowed w basis r c is = record {
 
 -- ---- plain
 
--- What a satisfying assignment spells is a chain of r steps over the basis that agrees.
+-- A satisfying assignment spells a chain of r steps over the basis that implements the tables.
 pub plain_decodes : (w : Words) (basis r : ℕ) (v : Assignment) → Satisfies v (plain_formula w basis r) → IsFor w basis r (plain_decoded w r v)
 unfolding plain_formula plain_live plain_decoded
 plain_decodes w basis r v satisfies =
     let z : Sizes = sizes_of (live_words w) r in
     decoded_is_for w basis r (plain_layout z) v (layout_is_laid (pairs_below false) z (pairs_are_below false w.n)) (holds_satisfied v (plain_formula w basis r) satisfies)
 
--- Where the formula is satisfiable, a chain of r steps over the basis agrees with the tables,
+-- If the formula is satisfiable, a chain of r steps over the basis implements the tables,
 pub plain_sound : (w : Words) (basis r : ℕ) → IsSatisfiable (plain_formula w basis r) → HasChain (specification w) (members basis) r
 plain_sound w basis r (v, satisfies) = for_is_there w basis r (plain_decoded w r v) (plain_decodes w basis r v satisfies)
 
--- and where one agrees, the formula is satisfiable.
+-- and if a chain does, the formula is satisfiable.
 pub plain_complete : (w : Words) (basis r : ℕ) → HasChain (specification w) (members basis) r → IsSatisfiable (plain_formula w basis r)
 unfolding plain_formula plain_live
 plain_complete w basis r has =
@@ -96,7 +96,7 @@ plain_complete w basis r has =
           (chain_satisfies (pairs_below false) (live_words w) basis r (picked w has.chain) (pairs_are_below false w.n) (part_is_all_live w) part (all_allowed (live_words w) basis r (picked w has.chain) part)),
     )
 
--- Its clauses are clauses, over the variables that it counts.
+-- The formula is well-formed.
 pub plain_is_formula : (w : Words) (basis r : ℕ) → IsFormula (plain_formula w basis r)
 unfolding plain_formula plain_live
 plain_is_formula w basis r =

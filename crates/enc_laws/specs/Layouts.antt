@@ -28,8 +28,8 @@ pub record IsSlotOf (steps : List StepSlots) (s : StepSlots) (u : Slot) : Type 0
   pub step : Contains steps s
   pub slot : Contains s.slots u
 
--- The steps have consecutive places, and the pairs of each are of lower places; the variables of
--- pairs come after all others.
+-- The steps have consecutive places, and each has pairs of lower places; the selection variables come after all
+-- others.
 pub record IsLaid (z : Sizes) (steps : List StepSlots) : Type 0 where
   pub count : length steps ≡ z.r
   pub places : (k : ℕ) (s : StepSlots) → slice_get steps k ≡ Some s → s.place ≡ z.n + 1 + k
@@ -93,7 +93,7 @@ pair_has_slot v (q ∷ ps) p c = ⊎_elim
     })
     (contains_cases q p ps c)
 
--- a variable is that of one pair
+-- a variable is the selection variable of at most one pair
 pub numbered_once : (v : ℕ) (ps : List Pair) (u w : Slot) → Contains (numbered v ps) u → Contains (numbered v ps) w → u.var ≡ w.var → u ≡ w
 unfolding numbered
 numbered_once v [] u w c d e = absurd (omega (arith, c.1))
@@ -124,7 +124,7 @@ laid_place pairs v place (suc count) zero s at =
 laid_place pairs v place (suc count) (suc k) s at =
     let more = laid_place pairs (v + length (pairs place)) (place + 1) count k s at in omega arith
 
--- the first variable of a step's pairs
+-- the first selection variable of a step
 pub record IsLaidStep (pairs : ℕ → List Pair) (v place : ℕ) (s : StepSlots) : Type 0 where
   pub first : ℕ
   pub from : v ≤ first
@@ -165,7 +165,7 @@ laid_slot pairs v place count s u is =
     let slot_from = slot.from in
     record { has = slot.has; from = omega arith }
 
--- a variable is that of one pair of one step
+-- a variable is the selection variable of at most one pair of one step
 pub record IsSameSlot (s s' : StepSlots) (u u' : Slot) : Type 0 where
   pub step : s ≡ s'
   pub slot : u ≡ u'

@@ -1,4 +1,4 @@
--- The live part of truth tables and the whole: chains of the one and of the other.
+-- The tables of the live outputs and the whole tables: chains of each give chains of the other.
 use Rattle.std.proofs.Common.{◌≡◌, ◌⊎◌, ℕ, zero, suc, ◌+◌, ◌-◌, ◌<◌, ◌≤◌, ◌^◌, Bool, true, false, List, ◌∷◌, [], ◌++◌, length, map, get_or, Option, Some, None, refl, sym, ap, ◌∙◌, subst, arith, inl, inr, ⊎_elim}
 use Rattle.std.specs.Prelude.{slice_index, slice_index_or, Contains, if◌then◌else◌}
 use Rattle.std.proofs.lemmas.Bool.{cases_lt, both_ways, false_from_ne_true}
@@ -26,7 +26,7 @@ none_is : (o : Option Out) → is_none o ≡ true → o ≡ None
 none_is None e = refl
 none_is (Some out) e = absurd cc
 
--- no trivial out fits a live output
+-- no trivial output fits a live one
 pub live_fits_none : (s : Specification) (h : ℕ) → is_live s h ≡ true → (out : Out) → IsTrivial s.inputs out → fits s h out ≡ false
 unfolding is_live
 live_fits_none s h live out trivial = none_fits s h (none_is (trivial_of s h) live) out trivial
@@ -63,7 +63,7 @@ live_stands s (suc k) h some low live = elim (cases_lt h (suc k)) [
       (pushed_stands (is_live s (suc k)) (live_among s k) (suc k) (length (live_among s (h - 1))) (ap (is_live s) same ∙ live) (ap (λ (x : ℕ). length (live_among s x)) below))
 ]
 
--- the output of the whole whose table output h of the live part has
+-- the output whose table is that of live output h
 abbrev pub whole_output : Words → ℕ → ℕ
 whole_output w h = slice_index (live_outputs (specification w)) (h - 1)
 
@@ -95,28 +95,28 @@ part_is_live w h some low =
     both_ways (fits (specification w) (whole_output w h) out) (live_fits_none (specification w) (whole_output w h) whole.live out trivial)
     (meets_fits (specification w) (whole_output w h) out (λ t row. rw (← part_cell w h t some low) (fits_meets (specification (live_words w)) h out fit t row))))))
 
--- ---- outs of live outputs
+-- ---- drivers of live outputs
 
 trivial_is : (c : Chain) (t : ℕ) (out : Out) → IsTrivial c.n out → out_value c t out ≡ trivial_value c.n t out
 trivial_is c t Zero is = refl
 trivial_is c t One is = refl
 trivial_is c t (Place j) is = value-input c t j is.1
 
--- the out is the place of a step
+-- the output is the place of a step
 pub record IsStepOut (n last : ℕ) (out : Out) : Type 0 where
   pub place : ℕ
   pub is : out ≡ Place place
   pub above : n < place
   pub within : place ≤ last
 
--- an out that isn't trivial is a step's place
+-- an output that isn't trivial is a step's place
 out_cases : (n last : ℕ) (out : Out) → NamesPlace last out → (IsTrivial n out → ⊥) → IsStepOut n last out
 out_cases n last Zero names costs = absurd (costs tt)
 out_cases n last One names costs = absurd (costs tt)
 out_cases n last (Place p) names costs = ⊎_elim (λ (above : n < p). record { place = p; is = refl; above = above; within = names.1 })
     (λ (below : p ≤ n). absurd (costs (names.0, below))) (cases_lt n p)
 
--- The out of a live output is a step's place, in each chain that agrees.
+-- A live output is a step's place, in each chain that implements the tables.
 pub live_out_is_step : (s : Specification) (c : Chain) (h : ℕ) → IsChain c → Agrees c s → 1 ≤ h → h ≤ s.outputs → is_live s h ≡ true → IsStepOut c.n (c.n + length c.steps) (slice_index_or c.outs (h - 1) Zero)
 live_out_is_step s c h is agrees some low live =
     let count = agrees.outputs in
@@ -128,12 +128,12 @@ live_out_is_step s c h is agrees some low live =
     (trivial_is c t (slice_index_or c.outs (h - 1) Zero) trivial ∙ ap (λ (n : ℕ). trivial_value n t (slice_index_or c.outs (h - 1) Zero)) agrees.inputs)
     (agrees.cells h t some low row))))
 
--- ---- from the whole to the live part
+-- ---- from the whole tables to the live outputs
 
 abbrev pub out_at : List Out → ℕ → Out
 out_at outs h = slice_index_or outs (h - 1) Zero
 
--- the outs of the live outputs alone
+-- the drivers of the live outputs alone
 abbrev pub picked_outs : Words → List Out → List Out
 picked_outs w outs = map (out_at outs) (live_outputs (specification w))
 
@@ -163,8 +163,7 @@ picked_is_chain w c is count = record {
       rw here (is.outs (get_or (live_outputs (specification w)) k 0 - 1) Zero (omega arith));
 }
 
--- Where a chain agrees with the tables, it agrees with their live part, with the outs of the live
--- outputs.
+-- If a chain implements the tables, its live outputs alone implement the live outputs' tables.
 pub picked_agrees : (w : Words) (c : Chain) → Agrees c (specification w) → Agrees (picked w c) (specification (live_words w))
 picked_agrees w c agrees = record {
   inputs = agrees.inputs;
@@ -175,12 +174,12 @@ picked_agrees w c agrees = record {
       rw (part_cell w h t some low, same) (agrees.cells (whole_output w h) t whole.from whole.to row);
 }
 
--- ---- from the live part to the whole
+-- ---- from the live outputs to the whole tables
 
 abbrev pub whole_chain : Words → Chain → Chain
 whole_chain w c = record { n = c.n; steps = c.steps; outs = restored (specification w) c.outs }
 
--- a restored out is a trivial one that fits, or that of an output of the live part
+-- a restored output is a trivial one that fits, or the driver of a live output
 pub record IsFitting (s : Specification) (h : ℕ) (out : Out) : Type 0 where
   pub trivial : IsTrivial s.inputs out
   pub fitting : fits s h out ≡ true
@@ -249,7 +248,7 @@ restored_met w c h t out agrees row (inr part) =
     rw (part.is) (subst (λ (x : ℕ). is_met (cell_of w x t) (out_value c t (out_at c.outs part.output)) ≡ true) part.whole
     (rw (part_cell w part.output t part.from part.to) at (agrees.cells part.output t part.from part.to row)))
 
--- Where a chain agrees with the live part, it agrees with the tables, with the trivial outs put
+-- If a chain implements the live outputs' tables, it implements the tables once the trivial outputs are put
 -- back.
 pub restored_agrees : (w : Words) (c : Chain) → Agrees c (specification (live_words w)) → Agrees (whole_chain w c) (specification w)
 restored_agrees w c agrees = record {

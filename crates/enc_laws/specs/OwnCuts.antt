@@ -1,5 +1,5 @@
--- A reduced chain satisfies the cuts about outputs, operators and values alone, whatever way steps
--- choose their operands.
+-- A chain in normal form satisfies the constraints on outputs, operators and values, however steps select their
+-- operands.
 use Rattle.std.proofs.Common.{◌≡◌, ℕ, ◌+◌, ◌-◌, ◌<◌, ◌≤◌, Bool, true, false, List, [], ◌∷◌, ◌++◌, length, map, get_or, refl, sym, ap, ◌∙◌, subst, arith, inl, inr, ⊎_elim}
 use Rattle.std.specs.Prelude.{ℤ}
 use Rattle.std.specs.List.{flat_map}
@@ -41,7 +41,7 @@ module _ (w : Words) (basis r : ℕ) (c : Chain) (v : Assignment) (of : IsOfChai
   is_step : (i : ℕ) → IsStepPlace (sizes_of w r) i → IsStep c (i - (c.n + 1)) (step_at c i)
   is_step i place = step_there w basis r c is i place
 
-  -- a step that is an out has an output
+  -- a step that is an output has an output's number
   out_bit : (i : ℕ) → IsStepPlace (sizes_of w r) i → IsOut c i → (h : ℕ) × (1 ≤ h) × (h ≤ length w.on) × (v (g_var (sizes_of w r) h i) ≡ true)
   out_bit i place (k, low, at) =
       let outputs = is.agrees.outputs in
@@ -61,7 +61,7 @@ module _ (w : Words) (basis r : ℕ) (c : Chain) (v : Assignment) (of : IsOfChai
       raws_bit-map v (bears (sizes_of w r) i) (outputs (sizes_of w r))
       ∙ any_make (λ (x : ℕ). v (g_var (sizes_of w r) x i)) (outputs (sizes_of w r)) h (range_contains 1 (length w.on) h some (omega arith)) true_
 
-  -- no step is a copy, and none a constant where constants can be left out
+  -- no step is a projection, and none a constant for bases where constants aren't needed
   other_holds : (i op : ℕ) → IsStepPlace (sizes_of w r) i → op < 16 → ((step_at c i).op ≡ op → ⊥) → holds v (other_operator basis (sizes_of w r) i op) ≡ true
   unfolding other_operator
   other_holds i op place low other =
@@ -84,7 +84,7 @@ module _ (w : Words) (basis r : ℕ) (c : Chain) (v : Assignment) (of : IsOfChai
       both_hold v (f 3) (f 5 ++ []) (other_holds i 3 place (omega arith) (λ e. reduced.no_copy k (step_at c i) (is_step i place) (inl e)))
       (both_hold v (f 5) [] (other_holds i 5 place (omega arith) (λ e. reduced.no_copy k (step_at c i) (is_step i place) (inr e))) refl)
 
-  -- a step that is no output is 0 on row 0
+  -- a step that drives no output is 0 on row 0
   pub row_0_holds : IsReduced (members basis) (specification w) c → holds v (row_0 basis (sizes_of w r)) ≡ true
   unfolding row_0 row_0_at raws_bit
   row_0_holds reduced =

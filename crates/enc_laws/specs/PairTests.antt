@@ -1,4 +1,4 @@
--- The tests of pairs in the cuts, and what they mean for a chain's steps.
+-- The tests of pairs in the constraints, and what they mean for a chain's steps.
 use Rattle.std.proofs.Common.{◌≡◌, ◌⊎◌, ℕ, ◌^◌, ◌<◌, ◌==◌, Bool, true, false, not, ◌&&◌, ◌||◌, List, [], length, refl, sym, ap, ◌∙◌, subst, arith, inl, inr, ⊎_elim}
 use Rattle.std.specs.Prelude.{ℤ, if◌then◌else◌, nat_lt}
 use Rattle.std.specs.List.{range_with_len}
@@ -29,7 +29,7 @@ never_both true true never = absurd (never refl refl)
 never_both true false never = refl
 never_both false b never = refl
 
--- clauses that are listed only where a test passes
+-- clauses that are listed only under a condition
 pub if_holds : (v : Assignment) (test : Bool) (clauses : List (List ℤ)) → (test ≡ true → holds v clauses ≡ true) → holds v (if test then clauses else []) ≡ true
 unfolding holds
 if_holds v true clauses all = all refl
@@ -41,7 +41,7 @@ one_implies true true e = refl
 one_implies true false e = e refl
 one_implies false b e = refl
 
--- bits that aren't 0 and 1 where a variable is true
+-- bits that aren't 0 and 1 if a variable is true
 pub no_copy_bits : (s low high : Bool) → (s ≡ true → low ≡ false → high ≡ true → ⊥) → (not s || (low || (not high || false))) ≡ true
 no_copy_bits false low high never = refl
 no_copy_bits true true high never = refl
@@ -104,7 +104,7 @@ same_cell_refl cells.Zero = refl
 same_cell_refl cells.One = refl
 same_cell_refl cells.Free = refl
 
--- the test is passed exactly where the tables are symmetric
+-- the test succeeds exactly if the tables are symmetric
 pub exchange_symmetric : (w : Words) (p q : ℕ) → may_exchange w p q ≡ true → IsSymmetric (specification w) p q
 unfolding may_exchange same_output same_at
 exchange_symmetric w p q may = λ h some low t row.
@@ -128,7 +128,7 @@ pub without_test : (u : Slot) (a : Step) (p q : ℕ) → u.j ≡ a.j → u.k ≡
 without_test u a p q j k (one, none) = and_from (reads u p) (not (reads u q)) (reads_test u a p j k one)
     (not_from_false (reads u q) (false_from_ne_true (reads u q) (λ e. none (reads_from u a q j k e))))
 
--- where a step before the place has a pair with p and not q, one of the literals is true
+-- if a step before the place has a pair with p and not q, one of the literals is true
 pub record HasBefore (steps : List StepSlots) (v : Assignment) (p q place : ℕ) (before : List Raw) : Type 0 where
   pub each : (s : StepSlots) (u : Slot) → IsSlotOf steps s u → s.place < place → reads_without p q u ≡ true → v u.var ≡ true → raws_bit v before ≡ true
 

@@ -41,7 +41,7 @@ rest_place steps later place s rest (k, low, at) = let p = rest.places k s (slic
 
 -- ---- a chain in a layout
 
--- a chain that agrees, whose outs are places of steps, in a layout that has its pairs
+-- a chain that implements the tables, whose outputs are places of steps, in a layout that has its pairs
 pub record IsPlaced (w : Words) (basis r : ℕ) (steps : List StepSlots) (c : Chain) : Type 0 where
   pub is : IsFor w basis r c
   pub laid : IsLaid (sizes_of w r) steps

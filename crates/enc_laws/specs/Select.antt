@@ -1,4 +1,4 @@
--- The laws of the encoding by single operands (MSV).
+-- The laws of MSV.
 use Rattle.std.proofs.Common.{ℕ, map}
 use Rattle.chain_theory.specs.Chain.{Chain}
 use Rattle.chain_theory.specs.Agreement.{HasChain, IsMinimum}
@@ -24,7 +24,7 @@ use Rattle.enc_laws.specs.ChosenBits.{select_rest, IsOfChoices, select_bits, cha
 use Rattle.enc_laws.specs.ChosenCuts.{chosen_cuts_hold}
 use Rattle.enc_laws.specs.ChosenClauses.{chain_clauses, chosen_cuts_clauses}
 
--- What a satisfying assignment spells is a chain of r steps over the basis that agrees.
+-- A satisfying assignment spells a chain of r steps over the basis that implements the tables.
 pub select_decodes : (w : Words) (basis r : ℕ) (v : Assignment) → Satisfies v (select_formula w basis r) → IsFor w basis r (select_decoded w r v)
 unfolding select_formula select_live select_decoded
 select_decodes w basis r v satisfies =
@@ -33,11 +33,11 @@ select_decodes w basis r v satisfies =
     let chooses : Chooses (live_words w) basis z v = chooses_from (live_words w) basis z v chain in
     spelled_is_for w basis r (map (chosen_step z v) (places z)) v (chosen_spells (live_words w) basis z v chooses) (λ outs. chosen_is_over (live_words w) basis z v chooses w.n outs)
 
--- Where the formula is satisfiable, a chain of r steps over the basis agrees with the tables.
+-- If the formula is satisfiable, a chain of r steps over the basis implements the tables.
 pub select_sound : (w : Words) (basis r : ℕ) → IsSatisfiable (select_formula w basis r) → HasChain (specification w) (members basis) r
 select_sound w basis r (v, satisfies) = for_is_there w basis r (select_decoded w r v) (select_decodes w basis r v satisfies)
 
--- The assignment of a reduced chain satisfies the formula.
+-- The assignment of a chain in normal form satisfies the formula.
 reduced_selects : (w : Words) (basis r : ℕ) (c : Chain) → IsFor (live_words w) basis r c → IsReduced (members basis) (specification (live_words w)) c → IsSatisfiable (select_live (live_words w) basis r)
 unfolding select_live
 reduced_selects w basis r c is reduced =
@@ -51,15 +51,15 @@ reduced_selects w basis r c is reduced =
           (chosen_cuts_hold (live_words w) basis r c v choices is reduced)),
     )
 
--- Where a chain of r steps over the basis agrees and none of fewer steps does, the formula is
--- satisfiable: the cuts leave a least chain.
+-- If a chain of r steps over the basis implements the tables and none of fewer steps does, the formula is
+-- satisfiable: the constraints keep a minimum chain.
 pub select_complete : (w : Words) (basis r : ℕ) → IsMinimum (specification w) (members basis) r → IsSatisfiable (select_formula w basis r)
 unfolding select_formula
 select_complete w basis r minimum =
     let least = minimum_is_reduced (specification (live_words w)) (members basis) r (part_minimum w basis r minimum) in
     reduced_selects w basis r least.has.chain (record { is_chain = least.has.is_chain; size = least.has.size; is_over = least.has.is_over; agrees = least.has.agrees }) least.reduced
 
--- Its clauses are clauses, over the variables that it counts.
+-- The formula is well-formed.
 pub select_is_formula : (w : Words) (basis r : ℕ) → IsFormula (select_formula w basis r)
 unfolding select_formula select_live
 select_is_formula w basis r =

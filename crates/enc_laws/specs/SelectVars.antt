@@ -1,5 +1,4 @@
--- The variables of chosen operands and of their values: their first number, a bound, and that each
--- is of one operand.
+-- The variables of MSV: the first of each kind, a bound, and that each variable belongs to one operand.
 use Rattle.std.proofs.Common.{◌≡◌, ℕ, zero, suc, ◌+◌, ◌-◌, ◌*◌, ◌^◌, ◌<◌, ◌≤◌, refl, arith, ⊎_elim}
 use Rattle.std.proofs.Math.Nat.{mul_comm}
 use Rattle.std.proofs.lemmas.Bool.{cases_lt, cases_order}
@@ -21,7 +20,7 @@ count_step n q (suc p) less = ⊎_elim
     (λ (last : p ≤ q). let e : q ≡ p = omega arith in rw e (omega arith))
     (cases_lt q p)
 
--- the number of an operand's choice among those of its side
+-- the number of a selection variable among those of its side
 abbrev pub offset : Sizes → ℕ → ℕ → ℕ
 offset z i j = operand_count z.n (i - (z.n + 1)) + (j - 1)
 
@@ -47,7 +46,7 @@ offset_rises z i j l k is is' less =
     let j_to = is.to in
     omega (arith, count_step z.n (i - (z.n + 1)) (l - (z.n + 1)) (omega arith))
 
--- ---- choices
+-- ---- selection variables
 
 pub choice_from : (z : Sizes) (side : Side) (i j : ℕ) → s_first z ≤ choice_var z side i j
 unfolding choice_var choice_first

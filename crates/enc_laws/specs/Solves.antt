@@ -1,4 +1,4 @@
--- What the clauses of a chain mean for an assignment: they are equivalent to properties.
+-- What the clauses that define chains mean for an assignment: they are equivalent to properties.
 use Rattle.std.proofs.Common.{◌≡◌, ◌⊎◌, ℕ, ◌+◌, ◌^◌, ◌<◌, ◌≤◌, Bool, true, false, not, ◌||◌, List, [], ◌∷◌, map, Contains, refl, sym, ap, ◌∙◌, arith, inl, inr, ⊎_elim}
 use Rattle.std.specs.Prelude.{if◌then◌else◌, leb}
 use Rattle.std.specs.List.{range_with_len, list_any}
@@ -29,14 +29,14 @@ use Rattle.enc_laws.specs.Layouts.{IsStepPlace, IsSlotOf, IsLaid}
 unfoldable pub x_bit : Sizes → Assignment → ℕ → ℕ → Bool
 x_bit z v j t = if leb j z.n then input z.n t j else v (x_var z j t)
 
--- The assignment gives each output a step whose values meet the output's cells, and each step an
--- operator of the basis, whatever way steps choose their operands.
+-- The assignment gives each output a driver whose values meet the output's cells, and each step an operator of
+-- the basis, however steps select their operands.
 pub record MeetsTables (w : Words) (basis : ℕ) (z : Sizes) (v : Assignment) : Type 0 where
   pub bearer : (h : ℕ) → 1 ≤ h → h ≤ z.m → (i : ℕ) × IsStepPlace z i × (v (g_var z h i) ≡ true)
   pub out : (h i t : ℕ) → 1 ≤ h → h ≤ z.m → IsStepPlace z i → t < 2 ^ z.n → v (g_var z h i) ≡ true → is_met (cell_of w h t) (x_bit z v i t) ≡ true
   pub operator : (i : ℕ) → IsStepPlace z i → members basis (operator_in z v i) ≡ true
 
--- It gives each step a pair too, and the values of that pair and the operator.
+-- It also gives each step a pair, and the values of the operator at that pair.
 pub record Solves (w : Words) (basis : ℕ) (z : Sizes) (steps : List StepSlots) (v : Assignment) : Type 0 where
   pub tables : MeetsTables w basis z v
   pub pair : (s : StepSlots) → Contains steps s → (u : Slot) × Contains s.slots u × (v u.var ≡ true)
@@ -86,7 +86,7 @@ x_is_value z v j t bit = elim (leb j z.n) as (λ b. raw_value v (if b then Fixed
   | false ↦ refl
 ]
 
--- ---- each output is some step
+-- ---- each output has a driver
 
 bears : (z : Sizes) (v : Assignment) (h : ℕ) → holds v (out_exists_at z h) ≡ list_any (λ i. v (g_var z h i)) (places z)
 unfolding out_exists_at bearer raw_value same
@@ -105,7 +105,7 @@ bearer_to z v each = each_holds v (out_exists_at z) (outputs z) (λ h c.
     let (i, is, true_) = each h some low in
     bears z v h ∙ any_make (λ i. v (g_var z h i)) (places z) i (place_there z i is) true_)
 
--- ---- a step that is an output meets its cells
+-- ---- a driver has the values of its output's cells
 
 pub out_bits : (z : Sizes) (v : Assignment) (h i t : ℕ) (bit : Bool) → IsStepPlace z i → holds v (out_value_is z h i t bit) ≡ (not (v (g_var z h i)) || (same (x_bit z v i t) bit || false))
 unfolding out_value_is raws_bit raw_value same
@@ -213,7 +213,7 @@ row_make z v i u t each =
     (both_hold v _ (value_clause z i u t false true true) (both_hold v _ (value_clause z i u t false true false) (both_hold v (value_clause z i u t false false false) (value_clause z i u t false false true) (each false false false) (each false false true)) (each false true false)) (each false true true))
     (both_hold v _ (value_clause z i u t true true true) (both_hold v _ (value_clause z i u t true true false) (both_hold v (value_clause z i u t true false false) (value_clause z i u t true false true) (each true false false) (each true false true)) (each true true false)) (each true true true))
 
--- the clause of the places' bits gives the step its value
+-- the clause of the operands' bits gives the step its value
 pub clause_gives : (s x j k f : Bool) → s ≡ true → clause_of s x j k f x j k ≡ true → x ≡ f
 unfolding same
 clause_gives false x j k f true_ e = absurd cc
@@ -247,7 +247,7 @@ unfolding same
 has_own x true e = e
 has_own x false e = rw e refl
 
--- each clause is true where the value is that of the operator
+-- each clause is true if the value is that of the operator
 pub gives_clause : (s x j k : Bool) (f : Bool → Bool → Bool) (a b c : Bool) → (s ≡ true → x ≡ f j k) → clause_of s x j k (f b c) a b c ≡ true
 gives_clause false x j k f a b c value = refl
 gives_clause true x j k f a b c value = ⊎_elim
@@ -280,7 +280,7 @@ value_to z v steps laid each =
     row_make z v s.place u t (λ a b c. value_bits z v steps s u t a b c laid is
     ∙ gives_clause (v u.var) (x_bit z v s.place t) (x_bit z v u.j t) (x_bit z v u.k t) (λ b c. v (f_var z s.place b c)) a b c (each s u t is (there_row z t in_rows))))))
 
--- ---- a step's operator is a member
+-- ---- a step's operator is in the basis
 
 pub operator_bits : (z : Sizes) (v : Assignment) (i op : ℕ) → holds v (written (operator_raw z i op)) ≡ (same (v (f_var z i false false)) (not (apply op false false)) || (same (v (f_var z i false true)) (not (apply op false true)) || (same (v (f_var z i true false)) (not (apply op true false)) || (same (v (f_var z i true true)) (not (apply op true true)) || false))))
 unfolding operator_raw raws_bit raw_value
@@ -315,7 +315,7 @@ operator_from basis z v i all is =
     let low = operator_low (λ b c. v (f_var z i b c)) in
     operator_is_member basis z v i (operator_in z v i) (holds_each v (operator_clause basis z i) (range_with_len 0 16) (operator_in z v i) at_i (range_contains 0 16 (operator_in z v i) (omega arith) low)) refl
 
--- an operator other than the step's differs from it at some pair of bits
+-- another operator than the step's differs from it at some pair of bits
 pub differs_from : (z : Sizes) (v : Assignment) (i op : ℕ) → op < 16 → (op ≡ operator_in z v i → ⊥) → holds v (written (operator_raw z i op)) ≡ true
 differs_from z v i op low other = true_from_ne_false (holds v (written (operator_raw z i op))) (λ no.
     let all = sym (operator_bits z v i op) ∙ no in
@@ -366,7 +366,7 @@ operators_hold w basis z v meets = operator_to basis z v meets.operator
 
 -- ---- all five families
 
--- What satisfies the clauses has the properties,
+-- An assignment that satisfies the clauses has the properties,
 pub solves_from : (w : Words) (basis : ℕ) (z : Sizes) (steps : List StepSlots) (v : Assignment) → IsLaid z steps → holds v (common w basis z steps) ≡ true → Solves w basis z steps v
 unfolding common
 solves_from w basis z steps v laid all =
@@ -380,7 +380,7 @@ solves_from w basis z steps v laid all =
       value = λ s u t is row true_. value_from z v steps s u t laid fourth is row true_;
     }
 
--- and what has the properties satisfies the clauses.
+-- and an assignment with the properties satisfies the clauses.
 pub solves_to : (w : Words) (basis : ℕ) (z : Sizes) (steps : List StepSlots) (v : Assignment) → IsLaid z steps → Solves w basis z steps v → holds v (common w basis z steps) ≡ true
 unfolding common
 solves_to w basis z steps v laid solves =

@@ -1,4 +1,4 @@
--- What an assignment spells is a chain that agrees.
+-- An assignment with the properties spells a chain that implements the tables.
 use Rattle.std.proofs.Common.{◌≡◌, ℕ, ◌+◌, ◌-◌, ◌^◌, ◌<◌, ◌≤◌, Bool, true, false, ◌||◌, List, [], ◌∷◌, length, map, get_or, Option, Some, None, Contains, refl, sym, ap, ◌∙◌, arith}
 use Rattle.std.specs.Prelude.{if◌then◌else◌, slice_get, option_map}
 use Rattle.std.specs.List.{list_any}
@@ -38,8 +38,8 @@ pub x_bit-step : (z : Sizes) (v : Assignment) (j t : ℕ) → z.n < j → x_bit 
 unfolding x_bit
 x_bit-step z v j t high = rw (lt-leb j z.n high) refl
 
--- A list of steps: the assignment's bit of a step's place is its operator's of its operands' bits,
--- and each output has a step's place whose bits meet its cells.
+-- A list of steps: the assignment's bit of a step's place is its operator's value at its operands' bits, and
+-- each output has a driver whose bits meet its cells.
 pub record IsSpelled (w : Words) (z : Sizes) (v : Assignment) (list : List Step) (bearer : ℕ → ℕ) : Type 0 where
   pub count : length list ≡ z.r
   pub steps : AreSteps z.n list
@@ -78,7 +78,7 @@ pub spelled_values : (w : Words) (z : Sizes) (v : Assignment) (steps : List Step
 spelled_values w z v steps bearer is p t some low row =
     values_are z.n t (λ q. x_bit z v q t) steps is.steps (λ q q_from q_low. x_bit-input z v q t q_low) (λ i s at. is.follow i s t at row) p some (let count = is.count in omega arith)
 
--- and the chain agrees.
+-- and the chain implements the tables.
 pub spelled_agrees : (w : Words) (z : Sizes) (v : Assignment) (steps : List Step) (bearer : ℕ → ℕ) → z.n ≡ w.n → z.m ≡ length w.on → IsSpelled w z v steps bearer → Agrees (spelled z steps bearer) (specification w)
 spelled_agrees w z v steps bearer inputs count is = record {
   inputs = inputs;
@@ -94,7 +94,7 @@ spelled_agrees w z v steps bearer inputs count is = record {
 
 -- ---- the steps that an assignment of pairs spells
 
--- the first pair whose variable is true
+-- the first pair whose selection variable is true
 pub record IsFirstPair (v : Assignment) (slots : List Slot) (p : Pair) : Type 0 where
   pub slot : Slot
   pub inside : Contains slots slot
@@ -138,7 +138,7 @@ bearer_met w basis z v h t meets some low row =
     let first = first_bearer_is z v h (places z) (any_make (λ (i : ℕ). v (g_var z h i)) (places z) i (range_contains (z.n + 1) z.r i place.from place.to) true_) in
     meets.out h (first_bearer z v h (places z)) t some low (bearer_place w basis z v h meets some low) row first.true_
 
--- the element at an index of a list that is made element by element
+-- the element of a mapped list at an index
 pub record IsMade {X Y : Type 0} (f : X → Y) (o : Option X) (y : Y) : Type 0 where
   pub from : X
   pub at : o ≡ Some from
@@ -176,7 +176,7 @@ decoded_is w basis z steps v i d laid solves at =
       is = with_pair z v made.from d made.is first.slot first.is;
     }
 
--- An assignment with the properties spells steps, and a step for each output.
+-- An assignment with the properties spells steps, and a driver for each output.
 pub solved_spells : (w : Words) (basis : ℕ) (z : Sizes) (steps : List StepSlots) (v : Assignment) → IsLaid z steps → Solves w basis z steps v → IsSpelled w z v (map (decoded_step z v) steps) (λ h. first_bearer z v h (places z))
 solved_spells w basis z steps v laid solves = record {
   count = length-map steps (decoded_step z v) ∙ laid.count;

@@ -1,4 +1,4 @@
--- The laws of the encoding by pairs with cuts (SSV).
+-- The laws of SSV with symmetry-breaking constraints.
 use Rattle.std.proofs.Common.{ℕ, ◌+◌, ◌-◌}
 use Rattle.chain_theory.specs.Chain.{Chain}
 use Rattle.chain_theory.specs.Agreement.{HasChain, IsMinimum}
@@ -21,16 +21,16 @@ use Rattle.enc_laws.specs.ByPairs.{part_minimum, by_pairs_decodes, reduced_satis
 pairs_low : (basis : ℕ) (w : Words) → AreBelow w.n (pairs_below (swap_closed (members basis)))
 pairs_low basis w = pairs_are_below (swap_closed (members basis)) w.n
 
--- What a satisfying assignment spells is a chain of r steps over the basis that agrees.
+-- A satisfying assignment spells a chain of r steps over the basis that implements the tables.
 pub ssv_decodes : (w : Words) (basis r : ℕ) (v : Assignment) → Satisfies v (ssv_formula w basis r) → IsFor w basis r (ssv_decoded w basis r v)
 unfolding ssv_formula ssv_live ssv_decoded
 ssv_decodes w basis r v satisfies = by_pairs_decodes (pairs_below (swap_closed (members basis))) w basis r (pairs_low basis w) v satisfies
 
--- Where the formula is satisfiable, a chain of r steps over the basis agrees with the tables.
+-- If the formula is satisfiable, a chain of r steps over the basis implements the tables.
 pub ssv_sound : (w : Words) (basis r : ℕ) → IsSatisfiable (ssv_formula w basis r) → HasChain (specification w) (members basis) r
 ssv_sound w basis r (v, satisfies) = for_is_there w basis r (ssv_decoded w basis r v) (ssv_decodes w basis r v satisfies)
 
--- the pairs of a reduced chain are those of the encoding
+-- the pairs of a chain in normal form are those of the encoding
 reduced_allowed : (w : Words) (basis r : ℕ) (c : Chain) → IsFor w basis r c → IsReduced (members basis) (specification w) c → IsAllowed (pairs_below (swap_closed (members basis))) w r c
 reduced_allowed w basis r c is reduced = record {
   each = λ i place.
@@ -39,8 +39,8 @@ reduced_allowed w basis r c is reduced = record {
       (λ closed. reduced.operands_rise closed (i - (c.n + 1)) (step_at c i) (step_there w basis r c is i place));
 }
 
--- Where a chain of r steps over the basis agrees and none of fewer steps does, the formula is
--- satisfiable: the cuts leave a least chain.
+-- If a chain of r steps over the basis implements the tables and none of fewer steps does, the formula is
+-- satisfiable: the constraints keep a minimum chain.
 pub ssv_complete : (w : Words) (basis r : ℕ) → IsMinimum (specification w) (members basis) r → IsSatisfiable (ssv_formula w basis r)
 unfolding ssv_formula ssv_live
 ssv_complete w basis r minimum =
@@ -48,7 +48,7 @@ ssv_complete w basis r minimum =
     let is : IsFor (live_words w) basis r least.has.chain = record { is_chain = least.has.is_chain; size = least.has.size; is_over = least.has.is_over; agrees = least.has.agrees } in
     reduced_satisfies (pairs_below (swap_closed (members basis))) w basis r (pairs_low basis w) least.has.chain is least.reduced (reduced_allowed (live_words w) basis r least.has.chain is least.reduced)
 
--- Its clauses are clauses, over the variables that it counts.
+-- The formula is well-formed.
 pub ssv_is_formula : (w : Words) (basis r : ℕ) → IsFormula (ssv_formula w basis r)
 unfolding ssv_formula ssv_live
 ssv_is_formula w basis r = by_pairs_is_formula (pairs_below (swap_closed (members basis))) w basis r (pairs_low basis w)

@@ -1,4 +1,4 @@
--- What an assignment spells, turn by turn of a loop.
+-- The operands that an assignment spells, iteration by iteration of the loops.
 use Rattle.std.proofs.Common.{◌≡◌, ℕ, suc, ◌+◌, ◌-◌, ◌≤◌, ◌<◌, true, false, refl, arith}
 use Rattle.std.specs.List.{range_with_len}
 use Rattle.std.proofs.lemmas.Grind.{common_steps}

@@ -1,4 +1,4 @@
--- Bounds for the number of clauses, within the program's bounds.
+-- The numbers of clauses are within the program's bounds.
 use Rattle.std.specs.Prelude.{ℕ, ◌+◌, ◌-◌, ◌*◌, ◌^◌, ◌≤◌, ◌<◌, ◌==◌, ◌&&◌, ℤ, Bool, true, false, List, [], ◌∷◌, ◌++◌, map, length, nat_lt, min, max, if◌then◌else◌}
 use Rattle.std.specs.List.{range_with_len, flat_map}
 use Rattle.std.proofs.Common.{arith, length-append}
@@ -44,7 +44,7 @@ unless-few : (test : Bool) (clauses : List (List ℤ)) (k : ℕ) → length clau
 unless-few true clauses k few = omega arith
 unless-few false clauses k few = few
 
--- ---- what a chain is
+-- ---- the clauses that define chains
 
 operands-few : (z : Sizes) → IsSmall z → length (operands_exist z) ≤ 32
 unfolding operands_exist choices_exist choice_exists
@@ -74,7 +74,7 @@ chain-few w basis z small =
     rw (length-append, length-append, length-append, length-append, length-append, length-append)
     (omega (arith, out_exists-few z small, out_values-few w z small, operands-few z small, copies-few z First small, copies-few z Second small, results-few z small, operators-few basis z small))
 
--- ---- cuts
+-- ---- constraints
 
 rising-few : (basis : ℕ) (z : Sizes) → IsSmall z → length (rising basis z) ≤ 7744
 unfolding rising rising_step rising_from rising_pair

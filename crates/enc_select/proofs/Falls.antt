@@ -1,4 +1,4 @@
--- The two cuts by descents are those of the definition.
+-- Both constraints on the order of operands are those of the definition.
 use Rattle.std.proofs.Common.{◌≡◌, ℕ, ◌+◌, refl, append_assoc}
 use Rattle.clause_core.specs.RangeLaws as ranges
 use Rattle.enc_theory.specs.declared.data.Side.TheVariants.{First, Second}

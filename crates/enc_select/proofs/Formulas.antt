@@ -1,4 +1,4 @@
--- A formula within the program's bounds, and the chain that is decoded.
+-- A formula within the program's bounds, and the chain that an assignment spells.
 use Rattle.std.proofs.Common.{◌≡◌, ℕ, ◌≤◌, arith, refl}
 use Rattle.std.proofs.lemmas.Grind.{common_steps}
 use Rattle.chain_core.specs.Steps.{IsSmallChain}

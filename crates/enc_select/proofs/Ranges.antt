@@ -1,4 +1,4 @@
--- Comprehensions over ranges and over a few elements, with the terms of loops.
+-- Comprehensions over ranges and over lists of a few elements, in the terms of loops.
 use Rattle.std.proofs.Common.{◌≡◌, ℕ, ◌+◌, ◌-◌, ◌<◌, ◌≤◌, ◌==◌, List, [], ◌∷◌, refl, arith, append_assoc, append-nil}
 use Rattle.std.specs.Prelude.{min, max, if◌then◌else◌}
 use Rattle.std.specs.List.{flat_map, range_with_len}
@@ -13,7 +13,7 @@ all_above {A} f i n r low = let e : n + r - i ≡ n + 1 + r - (i + 1) = omega ar
 
 pub ruleset later = (ranges.loops, all_above)
 
--- a step that isn't there
+-- a step after the last
 pub none_below : {A : Type 0} (f : ℕ → List A) (a r : ℕ) → r ≤ 0 → flat_map f (range_with_len a (r - 1)) ≡ []
 none_below {A} f a r none = let e : r - 1 ≡ 0 = omega arith in rw e refl
 

@@ -1,4 +1,4 @@
--- The variables of listed literals are the formula's.
+-- The variables of listed literals are variables of the formula.
 use Rattle.std.proofs.Common.{ℕ, ◌+◌, ◌-◌, ◌<◌, ◌≤◌, Bool, true, List, [], ◌∷◌, map, get_or, All, Contains, arith}
 use Rattle.std.specs.List.{flat_map}
 use Rattle.std.proofs.lemmas.List.Elements.{All-nil, All-append, All-map, Contains-get_or}
@@ -16,7 +16,7 @@ use Rattle.clause_core.specs.WithinLaws.{within_var, two}
 use Rattle.enc_select.specs.Room.{HasChoices}
 use Rattle.enc_select.proofs.Numbers.{choice_low}
 
--- a choice
+-- a selection literal
 pub choice_within : (z : Sizes) (vars : ℕ) (side : Side) (i j : ℕ) (bit : Bool) → HasChoices z vars → IsPlace z i → 1 ≤ j → j < i → IsWithin vars (Var (choice_var z side i j) bit)
 choice_within z vars side i j bit room place from to = within_var vars (choice_var z side i j) bit (choice_positive z side i j) (omega (arith, room.all, choice_low z side i j place from to))
 

@@ -1,5 +1,5 @@
--- Two operands of steps, of which the second is never the lower place: what rising operands and the
--- co-lexicographic order have in common.
+-- Clauses "if this operand is k, that one isn't lower than k": what ordered operands and co-lexicographic order
+-- have in common.
 use Rattle.std.specs.Prelude.{ℕ, ℤ, false, List, [], ◌∷◌}
 use Rattle.std.specs.List.{flat_map}
 use Rattle.clause_core.specs.declared.raw.Raw.TheVariants.{Var}

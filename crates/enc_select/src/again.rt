@@ -1,4 +1,4 @@
-//! No re-application: no step is applied again to one of its operands.
+//! No re-application: no step combines a step with one of that step's operands.
 ghost use Rattle.std.specs.Prelude.{◌≡◌, ◌<◌, ◌≤◌, ◌++◌, OnOk};
 ghost use Rattle.std.specs.List.{flat_map};
 ghost use Rattle.clause_core.specs.Clauses.{written};
@@ -13,7 +13,7 @@ use enc_theory::{Side, Sizes};
 use op_basis::Basis;
 use std::alloc::{AllocError, Global};
 
-/// A step, its operands, and a later step.
+/// A step, its two operands, and a later step.
 #[derive(Clone, Copy)]
 struct Read {
     step: u32,
@@ -22,8 +22,7 @@ struct Read {
     later: u32,
 }
 
-/// The clause that the step doesn't have its operands or the later one doesn't have `first` and
-/// `second`.
+/// The clause that the step doesn't have its operands or the later one doesn't have `first` and `second`.
 fn push_not_both(
     alloc: Global,
     list: &mut ClauseList,
@@ -49,8 +48,8 @@ fn push_not_both(
     )
 }
 
-/// The clauses of an operand that the later step has together with the step: the step second, and,
-/// where operands needn't rise, also the step first.
+/// The clauses that exclude a later step with this operand and the step: with the step second, and also first
+/// if operands aren't ordered.
 #[tactic(auto, unfolding(enc_theory::specs::Select::again_operand))]
 fn push_again_operand(
     alloc: Global,
@@ -73,7 +72,7 @@ fn push_again_operand(
     push_not_both(alloc, list, z, read, read.step, operand)
 }
 
-/// The clauses of the step's operands, each once, the smaller first.
+/// The clauses for both operands of the step, each once, the smaller first.
 #[tactic(auto, using(crate::proofs::Ranges::pieces))]
 fn push_again_different(
     alloc: Global,
@@ -96,7 +95,7 @@ fn push_again_different(
     push_again_operand(alloc, list, ordered, z, read, high)
 }
 
-/// The same, unless operands have to rise and these don't.
+/// The same; nothing if operands are ordered and these aren't.
 #[tactic(auto, unfolding(enc_theory::specs::Select::again_operands))]
 fn push_again_operands(
     alloc: Global,
@@ -200,7 +199,7 @@ fn push_again_steps(
     Ok(())
 }
 
-/// Writes that there is no re-application, where the basis is closed under that.
+/// Writes that there is no re-application, if the basis is closed under it.
 #[tactic(auto, unfolding(enc_theory::specs::Select::again_steps))]
 pub(crate) fn push_again(
     alloc: Global,

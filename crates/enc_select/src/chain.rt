@@ -1,4 +1,4 @@
-//! The clauses that say what a chain is.
+//! The clauses that define chains.
 ghost use Rattle.std.specs.Prelude.{◌≡◌, ◌+◌, ◌^◌, ◌<◌, ◌≤◌, ◌++◌, OnOk};
 ghost use Rattle.clause_core.specs.Clauses.{written};
 ghost use Rattle.enc_theory.specs.Select.{choice_exists, choices_exist, operands_exist, copy_raw, copy_row, copy_place, copy_step, copies, result_clause, result_bit, result_row, result_step, results, chosen_chain};
@@ -13,7 +13,7 @@ use op_basis::Basis;
 use std::alloc::{AllocError, Global};
 use tt_core::Spec;
 
-/// The clause that an operand of step `i` is some place below it.
+/// The clause that an operand of step `i` is some lower place.
 #[tactic(auto, using(crate::proofs::Ranges::loops), unfolding(enc_theory::specs::Select::choice_exists, enc_theory::specs::Select::chooses))]
 fn push_choice_exists(
     alloc: Global,
@@ -33,7 +33,7 @@ fn push_choice_exists(
     list.push(alloc, &raws)
 }
 
-/// That each step has operands.
+/// Writes that each step has operands.
 #[tactic(auto, using(crate::proofs::Ranges::loops), unfolding(enc_theory::specs::Select::operands_exist, enc_theory::specs::Select::choices_exist))]
 fn push_operands_exist(alloc: Global, list: &mut ClauseList, z: Sizes) -> Result<(), AllocError>
     requires { HasChoices z list.old.vars }
@@ -46,7 +46,7 @@ fn push_operands_exist(alloc: Global, list: &mut ClauseList, z: Sizes) -> Result
     Ok(())
 }
 
-/// A place that an operand of a step may be, on a row.
+/// The subject of a copy clause: an operand of a step, a place that it may be, and a row.
 #[derive(Clone, Copy)]
 struct At {
     side: Side,
@@ -55,7 +55,7 @@ struct At {
     row: u32,
 }
 
-/// The clause that an operand has a bit if its chosen place has it.
+/// The clause that an operand has a bit if the selected place has it.
 #[tactic(auto, unfolding(enc_theory::specs::Select::copy_raw))]
 fn push_copy(
     alloc: Global,
@@ -143,7 +143,7 @@ fn push_copy_step(
     Ok(())
 }
 
-/// That operands have the values of their places.
+/// Writes that operands have the values of the selected places.
 #[tactic(auto, using(crate::proofs::Ranges::loops), unfolding(enc_theory::specs::Select::copies))]
 fn push_copies(alloc: Global, list: &mut ClauseList, z: Sizes, side: Side) -> Result<(), AllocError>
     requires { HasChoices z list.old.vars }
@@ -155,8 +155,8 @@ fn push_copies(alloc: Global, list: &mut ClauseList, z: Sizes, side: Side) -> Re
     Ok(())
 }
 
-/// The clause that step `i` has its operator's value on row `t`, for bits a, b, c of the step and of
-/// its operands.
+/// The clause that the value of step `i` is its operator's on row `t`, for bits a, b, c of the step and of its
+/// operands.
 #[tactic(auto, unfolding(enc_theory::specs::Select::result_clause, enc_theory::specs::Select::result_raw))]
 fn push_result_clause(
     alloc: Global,
@@ -184,7 +184,7 @@ fn push_result_clause(
     )
 }
 
-/// The four clauses of a bit of the step.
+/// The four clauses for a bit of the step.
 #[tactic(auto, unfolding(enc_theory::specs::Select::result_bit))]
 fn push_result_bit(
     alloc: Global,
@@ -224,7 +224,7 @@ fn push_result_step(
     Ok(())
 }
 
-/// That steps have their operators' values of their operands' values.
+/// Writes that the value of each step is its operator's value at its operands' values.
 #[tactic(auto, using(crate::proofs::Ranges::loops), unfolding(enc_theory::specs::Select::results))]
 fn push_results(alloc: Global, list: &mut ClauseList, z: Sizes) -> Result<(), AllocError>
     requires { HasChoices z list.old.vars }
@@ -236,9 +236,9 @@ fn push_results(alloc: Global, list: &mut ClauseList, z: Sizes) -> Result<(), Al
     Ok(())
 }
 
-/// Writes the clauses that say what a chain is, for tables whose outputs are all live: each output
-/// is some step, which has the values of its cells; each step has operands, with the values of
-/// their places, its operator's values of theirs, and an operator of the basis.
+/// Writes the clauses that define chains, for tables whose outputs are all live: some step drives each output
+/// and has the values of its cells; each step has operands, which have the values of their places, its
+/// operator's value at these, and an operator of the basis.
 #[tactic(auto, unfolding(enc_theory::specs::Select::chosen_chain))]
 pub(crate) fn push_chain(
     alloc: Global,

@@ -1,4 +1,4 @@
-//! The steps that an assignment of a formula's variables spells.
+//! The steps that an assignment spells.
 ghost use Rattle.std.specs.Prelude.{◌≡◌, ◌≤◌, map, IfOk};
 ghost use Rattle.chain_core.specs.Steps.{step_of, steps_of, IsSmallChain};
 ghost use Rattle.sat_theory.specs.Formula.{bits_of};
@@ -14,7 +14,7 @@ use enc_theory::{Side, Sizes};
 use std::alloc::{AllocError, Global};
 use tt_core::{Spec, live_part};
 
-/// The first place below step `i` whose variable is true.
+/// The first place below step `i` whose selection variable is true.
 #[tactic(auto, using(crate::proofs::Choices::choices))]
 fn first_choice(bits: &[bool], z: Sizes, side: Side, i: u32) -> u32
     requires small { IsSmall z }

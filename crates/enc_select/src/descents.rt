@@ -1,5 +1,5 @@
-//! Operands that never fall, where the basis has each operator with its operands exchanged: those of a
-//! step rise, and the second ones of steps in a row never decrease (co-lexicographic order).
+//! Ordered operands, if the basis is closed under exchanging them: the first is at most the second, and the
+//! second operands of consecutive steps never decrease (co-lexicographic order).
 ghost use Rattle.std.specs.Prelude.{◌≡◌, ◌+◌, ◌-◌, ◌<◌, ◌≤◌, ◌++◌, OnOk};
 ghost use Rattle.std.specs.List.{flat_map, range_with_len};
 ghost use Rattle.enc_theory.specs.declared.data.Side.TheVariants.{Second};
@@ -59,7 +59,7 @@ fn push_descent(
     )
 }
 
-/// The clauses for each lower place of the other operand.
+/// The clauses for each place of the other operand below `k`.
 #[tactic(auto, using(crate::proofs::Ranges::loops), unfolding(crate::specs::Descents::descents_from))]
 fn push_descents_from(
     alloc: Global,
@@ -82,7 +82,7 @@ fn push_descents_from(
     Ok(())
 }
 
-/// The clauses that the other operand is no lower place than this one.
+/// The clauses that the other operand isn't lower than this one.
 #[tactic(auto, using(crate::proofs::Ranges::loops), unfolding(crate::specs::Descents::descents))]
 fn push_descents(
     alloc: Global,
@@ -103,7 +103,8 @@ fn push_descents(
     Ok(())
 }
 
-/// Writes that the operands of each step rise, where the basis is closed under their exchange.
+/// Writes that the first operand of each step is at most the second, if the basis is closed under exchanging
+/// them.
 #[tactic(auto, using(crate::proofs::Falls::falls), unfolding(enc_theory::specs::Select::rising))]
 pub(crate) fn push_rising(
     alloc: Global,
@@ -140,7 +141,7 @@ fn push_falling_steps(alloc: Global, list: &mut ClauseList, z: Sizes) -> Result<
     Ok(())
 }
 
-/// Writes that second operands never decrease, where the basis is closed under exchanged operands.
+/// Writes that second operands never decrease, if the basis is closed under exchanging operands.
 #[tactic(auto, using(crate::proofs::Ranges::without_steps), unfolding(enc_theory::specs::Select::falling))]
 pub(crate) fn push_falling(
     alloc: Global,

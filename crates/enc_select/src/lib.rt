@@ -1,17 +1,18 @@
-//! The encoding in which a step chooses its first and its second operand one by one (MSV, multiple
-//! selection variables), and has variables for their values (Kojevnikov, Kulikov and Yaroslavtsev
-//! 2009). It has fewer variables and clauses than an encoding by pairs. Both laws of `Encoding`
-//! hold of it; `complete` needs the law of least chains, as that of `enc_ssv::Ssv` does.
+//! The encoding in which a step selects its first and its second operand separately (MSV, multiple selection
+//! variables), with variables for the operands' values (Kojevnikov, Kulikov and Yaroslavtsev 2009). It has
+//! fewer variables and clauses than an encoding by pairs. Both laws of `Encoding` hold of it; like that of
+//! `enc_ssv::Ssv`, `complete` needs the law of minimum chains.
 //!
 //! ```text
-//! let cnf = Select.formula(alloc, &spec, basis, r, &Part::Whole)?;
+//! let cnf = Select.formula(alloc, &spec, basis, r, &Subproblem::Whole)?;
 //! ```
 //!
-//! The clauses on outputs and operators, and the cuts without operands, are those of `enc_frame`
-//! and `enc_cuts`.
+//! The clauses on outputs and operators are those of `enc_frame`, and the constraints that don't mention
+//! operands are those of `enc_cuts`.
 //!
-//! - `chain` writes what a chain is; `descents`, `used`, `trivial` and `again` write the cuts.
-//! - `decoding` decodes the steps of an assignment, and `vars` has the numbers of the variables.
+//! - `chain` writes the clauses that define chains; `descents`, `used`, `trivial` and `again` write the
+//!   symmetry-breaking constraints.
+//! - `decoding` decodes the steps of an assignment, and `vars` numbers the variables.
 #![tactic(auto)]
 
 mod again;

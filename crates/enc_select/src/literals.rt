@@ -1,4 +1,4 @@
-//! The literals of chosen operands (selection literals).
+//! The literals of MSV: selection of operands, and their values.
 ghost use Rattle.std.specs.Prelude.{◌≡◌, ℕ, ◌^◌, ◌<◌, ◌≤◌};
 ghost use Rattle.clause_core.specs.declared.raw.Raw.TheVariants.{Var};
 ghost use Rattle.enc_theory.specs.Select.{choice_var as choice_var_of, value_var as value_var_of};
@@ -10,7 +10,7 @@ use crate::vars::{choice_var, value_var};
 use clause_core::Raw;
 use enc_theory::{Side, Sizes};
 
-/// That an operand of step `i` is place `j`, or isn't.
+/// The literal that an operand of step `i` is place `j`, or isn't.
 #[tactic(auto, unfolding(clause_core::specs::Clauses::IsWithin))]
 pub(crate) fn choice(z: Sizes, side: Side, i: u32, j: u32, bit: bool) -> Raw
     requires small { IsSmall z }
@@ -22,7 +22,7 @@ pub(crate) fn choice(z: Sizes, side: Side, i: u32, j: u32, bit: bool) -> Raw
     Raw::Var(choice_var(z, side, i, j), bit)
 }
 
-/// That an operand of step `i` has the bit on row `t`.
+/// The literal that an operand of step `i` has the bit on row `t`.
 #[tactic(auto, unfolding(clause_core::specs::Clauses::IsWithin))]
 pub(crate) fn value(z: Sizes, side: Side, i: u32, t: u32, bit: bool) -> Raw
     requires small { IsSmall z }

@@ -1,5 +1,5 @@
-//! The encoding by single operands (MSV). Its laws follow from the properties of an assignment that
-//! it shares with encodings by pairs, and from the law of least chains.
+//! MSV. Its laws follow from the properties of an assignment that it shares with encodings by pairs, and from
+//! the law of minimum chains.
 ghost use Rattle.std.specs.Prelude.{◌≡◌, ◌++◌, OnOk};
 ghost use Rattle.enc_theory.specs.Select.{chosen_cuts};
 ghost use Rattle.enc_select.specs.Room.{HasChoices};
@@ -21,8 +21,9 @@ use op_basis::Basis;
 use std::alloc::{AllocError, Global};
 use tt_core::{Spec, live_part};
 
-/// Writes the cuts: operands rise; all steps are used; operators are non-trivial; second operands
-/// never decrease; there is no re-application; and a step that is no output is 0 on row 0.
+/// Writes the symmetry-breaking constraints: operands are ordered; all steps are used; operators are
+/// non-trivial; second operands never decrease; there is no re-application; and a step that drives no output is
+/// 0 on row 0.
 #[tactic(auto, unfolding(enc_theory::specs::Select::chosen_cuts))]
 fn push_cuts(alloc: Global, list: &mut ClauseList, basis: Basis, z: Sizes) -> Result<(), AllocError>
     requires { HasChoices z list.old.vars }
@@ -36,8 +37,8 @@ fn push_cuts(alloc: Global, list: &mut ClauseList, basis: Basis, z: Sizes) -> Re
     push_row_0(alloc, list, basis, z)
 }
 
-/// The encoding by single operands (MSV), with cuts that leave a least chain. A size has one part,
-/// the whole.
+/// MSV with symmetry-breaking constraints, which some minimum chain satisfies. A size has one subproblem, the
+/// whole.
 #[derive(Clone, Copy)]
 pub struct Select;
 

@@ -14,7 +14,7 @@ use enc_theory::{Side, Sizes};
 use op_basis::{Basis, Op};
 use std::alloc::{AllocError, Global};
 
-/// What the place `j` for both operands of step `i` requires of the operator.
+/// The clauses on the operator of step `i` if both operands are the place `j`.
 #[tactic(auto, unfolding(enc_theory::specs::Select::equal_choice))]
 fn push_equal(
     alloc: Global,
@@ -59,8 +59,8 @@ fn push_equals(
     Ok(())
 }
 
-/// The clause that step `i` has another operator than `op` or other operands than `j` and `k`, if
-/// they differ.
+/// The clause that step `i` doesn't have the operator `op`, or doesn't have the operands `j` and `k`; nothing
+/// if these are equal.
 #[tactic(auto, using(crate::proofs::Ranges::loops), unfolding(enc_theory::specs::Select::negation_pair))]
 fn push_negation_pair(
     alloc: Global,
@@ -87,7 +87,7 @@ fn push_negation_pair(
     list.push(alloc, &raws)
 }
 
-/// The clauses of a first operand.
+/// The clauses for one first operand.
 #[tactic(auto, using(crate::proofs::Ranges::loops), unfolding(enc_theory::specs::Select::negation_from))]
 fn push_negation_from(
     alloc: Global,
@@ -108,7 +108,7 @@ fn push_negation_from(
     Ok(())
 }
 
-/// The clauses of all first operands.
+/// The clauses for all first operands.
 #[tactic(auto, using(crate::proofs::Ranges::loops))]
 fn push_negation_all(
     alloc: Global,
@@ -127,7 +127,7 @@ fn push_negation_all(
     Ok(())
 }
 
-/// That step `i` has `op`, a negation of an operand, on equal operands alone, where it is a member.
+/// Writes that step `i` has `op`, a negation of an operand, only with equal operands, if `op` is in the basis.
 #[tactic(auto, unfolding(enc_theory::specs::Select::negation_step))]
 fn push_negation(
     alloc: Global,
@@ -147,7 +147,7 @@ fn push_negation(
     Ok(())
 }
 
-/// That negations have equal operands.
+/// Writes that negations have equal operands.
 #[tactic(auto, using(enc_cuts::specs::PieceLaws::pieces))]
 fn push_negations(
     alloc: Global,
@@ -164,7 +164,7 @@ fn push_negations(
     push_negation(alloc, list, basis, z, i, Op::new(12))
 }
 
-/// That step `i` isn't trivial.
+/// Writes that step `i` isn't trivial.
 #[tactic(auto, unfolding(enc_theory::specs::Select::trivial_step))]
 fn push_trivial_step(
     alloc: Global,

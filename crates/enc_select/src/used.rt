@@ -1,4 +1,4 @@
-//! All steps used: each step is an output or is read.
+//! All steps used: each step drives an output or is read by a later step.
 ghost use Rattle.std.specs.Prelude.{◌≡◌, ◌<◌, ◌≤◌, ◌++◌, OnOk};
 ghost use Rattle.std.specs.List.{flat_map};
 ghost use Rattle.enc_theory.specs.Select.{above, choosers, used_step, used_steps};
@@ -11,7 +11,7 @@ use enc_cuts::push_bearers;
 use enc_theory::{Side, Sizes};
 use std::alloc::{AllocError, Global};
 
-/// Adds that one of the operands of step `i` is `place`.
+/// Adds the literals that an operand of step `i` is `place`.
 #[tactic(auto, using(crate::proofs::Ranges::loops), unfolding(enc_theory::specs::Select::choosers, enc_theory::specs::Select::chooses))]
 fn push_choosers(raws: &mut Vec<Raw>, z: Sizes, place: u32, i: u32) -> Result<(), AllocError>
     requires small { IsSmall z }
@@ -24,7 +24,7 @@ fn push_choosers(raws: &mut Vec<Raw>, z: Sizes, place: u32, i: u32) -> Result<()
     Ok(())
 }
 
-/// Adds for each later step that one of its operands is this step.
+/// Adds the literals that an operand of a later step is this step.
 #[tactic(auto, using(crate::proofs::Ranges::later))]
 fn push_readers(raws: &mut Vec<Raw>, z: Sizes, i: u32) -> Result<(), AllocError>
     requires small { IsSmall z }
@@ -37,7 +37,7 @@ fn push_readers(raws: &mut Vec<Raw>, z: Sizes, i: u32) -> Result<(), AllocError>
     Ok(())
 }
 
-/// The clause that step `i` is an output or that a later step reads it.
+/// The clause that step `i` drives an output or is read by a later step.
 #[tactic(auto, unfolding(enc_theory::specs::Select::used_step))]
 fn push_used_step(alloc: Global, list: &mut ClauseList, z: Sizes, i: u32) -> Result<(), AllocError>
     requires room { HasChoices z list.old.vars }
@@ -50,7 +50,7 @@ fn push_used_step(alloc: Global, list: &mut ClauseList, z: Sizes, i: u32) -> Res
     list.push(alloc, &raws)
 }
 
-/// Writes that each step is an output or is read.
+/// Writes that each step drives an output or is read.
 #[tactic(auto, using(crate::proofs::Ranges::loops), unfolding(enc_theory::specs::Select::used_steps))]
 pub(crate) fn push_used(alloc: Global, list: &mut ClauseList, z: Sizes) -> Result<(), AllocError>
     requires { HasChoices z list.old.vars }

@@ -1,5 +1,5 @@
-//! The numbers of the variables that an encoding by pairs doesn't have: those of chosen operands
-//! and of their values.
+//! The numbers of the variables that an encoding by pairs doesn't have: the selection variables of single
+//! operands, and the operands' values.
 ghost use Rattle.std.specs.Prelude.{◌≡◌, ◌+◌, ◌-◌, ◌*◌, ◌^◌, ◌<◌, ◌≤◌};
 ghost use Rattle.enc_theory.specs.Select.{operand_count as operand_count_of, choice_first as choice_first_of, choice_var as choice_var_of, value_first as value_first_of, value_var as value_var_of, select_vars as select_vars_of};
 ghost use Rattle.enc_frame.specs.Room.{IsSmall, HasRoom, IsPlace};
@@ -7,7 +7,8 @@ ghost use Rattle.enc_frame.specs.Room.{IsSmall, HasRoom, IsPlace};
 use enc_frame::{rows, s_first};
 use enc_theory::{Side, Sizes};
 
-/// The number of places that the operands of the first steps may be.
+/// The number of selection variables of one side for the first `steps` steps: an operand may be any lower
+/// place.
 #[tactic(auto, using(crate::proofs::Numbers::counting))]
 fn operand_count(n: u32, steps: u32) -> u32
     requires { (n ≤ 6) × (steps ≤ 16) }
@@ -17,7 +18,7 @@ fn operand_count(n: u32, steps: u32) -> u32
     n * steps + (steps * steps - steps) / 2
 }
 
-/// The first variable of choices.
+/// The first selection variable.
 #[tactic(auto, unfolding(enc_theory::specs::Select::choice_first))]
 fn choice_first(z: Sizes, side: Side) -> u32
     requires { IsSmall z }
@@ -30,7 +31,7 @@ fn choice_first(z: Sizes, side: Side) -> u32
     }
 }
 
-/// The variable of the choice that an operand of step `i` is place `j`.
+/// The selection variable that an operand of step `i` is place `j`.
 #[tactic(auto, using(crate::proofs::Numbers::choosing), unfolding(enc_theory::specs::Select::choice_var))]
 pub(crate) fn choice_var(z: Sizes, side: Side, i: u32, j: u32) -> u32
     requires small { IsSmall z }
@@ -42,7 +43,7 @@ pub(crate) fn choice_var(z: Sizes, side: Side, i: u32, j: u32) -> u32
     choice_first(z, side) + operand_count(z.n, i - (z.n + 1)) + (j - 1)
 }
 
-/// The first variable of the values of operands.
+/// The first variable of the operands' values.
 #[tactic(auto, using(crate::proofs::Numbers::valuing), unfolding(enc_theory::specs::Select::value_first))]
 fn value_first(z: Sizes, side: Side) -> u32
     requires { IsSmall z }

@@ -31,7 +31,7 @@ plain_is_for w basis r v spec low sat = subst (λ (c : Chain). IsFor w basis r c
 pub plain_is_small : (w : Words) (basis r : ℕ) (v : Assignment) → IsSpec w → r ≤ 16 → Satisfies v (plain_formula w basis r) → IsSmallChain (spelled false w r v)
 plain_is_small w basis r v spec low sat = small_chain w basis r (spelled false w r v) spec low (inputs_kept w r v) (plain_is_for w basis r v spec low sat)
 
--- what a satisfying assignment of the formula with cuts spells
+-- what a satisfying assignment of the formula with constraints spells
 ssv_spelled : (w : Words) (basis r : ℕ) (v : Assignment) → ssv_decoded w basis r v ≡ spelled (swap_closed (members basis)) w r v
 unfolding ssv_decoded spelled
 ssv_spelled w basis r v = refl

@@ -1,4 +1,4 @@
--- Formulas within the program's bounds, and that with cuts.
+-- Formulas within the program's bounds, without and with constraints.
 use Rattle.std.proofs.Common.{◌≡◌, ℕ, Bool, refl, ap, ◌∙◌}
 use Rattle.std.proofs.lemmas.Grind.{common_steps}
 use Rattle.op_basis.specs.Basis.{members}
@@ -15,7 +15,7 @@ ssv_is : (w : Words) (basis r : ℕ) → with_cuts (pairs_below (swap_closed (me
 unfolding with_cuts live_with_cuts ssv_formula ssv_live
 ssv_is w basis r = refl
 
--- the ordered pairs where the basis has each operator with its operands exchanged
+-- the pairs with j <= k, if the basis is closed under exchanging operands
 pub ssv_pairs : (w : Words) (basis r : ℕ) (ordered : Bool) → ordered ≡ swap_closed (members basis) → with_cuts (pairs_below ordered) w basis r ≡ ssv_formula w basis r
 ssv_pairs w basis r ordered is = ap (λ (o : Bool). with_cuts (pairs_below o) w basis r) is ∙ ssv_is w basis r
 

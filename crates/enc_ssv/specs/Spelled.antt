@@ -8,6 +8,6 @@ use Rattle.enc_theory.specs.Numbering.{sizes_of}
 use Rattle.enc_theory.specs.Pairs.{pairs_below, layout}
 use Rattle.enc_theory.specs.Decode.{decoded}
 
--- each step chooses among all pairs of lower places, or among the ordered ones
+-- over all pairs of lower places, or over those with j <= k
 unfoldable pub spelled : Bool → Words → ℕ → Assignment → Chain
 spelled ordered w r v = let z = sizes_of (live_words w) r in decoded w z (layout (pairs_below ordered) z) v

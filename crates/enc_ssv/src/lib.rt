@@ -1,9 +1,9 @@
 //! Encodings with a selection variable for each pair of operands of a step (SSV, single selection
 //! variable).
 //!
-//! `Plain` says what a chain is and nothing else. Both laws of `Encoding` hold of it, and
-//! `complete` holds even where a chain of fewer steps agrees too. `Ssv` also has cuts, which leave
-//! a least chain: its law `complete` needs the law of least chains.
+//! `Plain` has only the clauses that define chains. Both laws of `Encoding` hold of it, and `complete` holds
+//! even if a smaller chain exists. `Ssv` adds symmetry-breaking constraints, which only some minimum chain
+//! satisfies: its law `complete` needs the law of minimum chains.
 #![tactic(auto)]
 
 mod pairs;

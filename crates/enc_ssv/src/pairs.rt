@@ -1,4 +1,4 @@
-//! What encodings by pairs share.
+//! What the encodings by pairs share.
 ghost use Rattle.std.specs.Prelude.{◌≡◌, ◌≤◌, IfOk};
 ghost use Rattle.chain_core.specs.Steps.{IsSmallChain};
 ghost use Rattle.sat_theory.specs.Formula.{bits_of};
@@ -10,8 +10,7 @@ use enc_frame::{AllPairs, Layout, decode, sizes};
 use std::alloc::{AllocError, Global};
 use tt_core::{Spec, live_part};
 
-/// The chain that an assignment spells, where each step chooses among all pairs, or among those with
-/// j <= k.
+/// The chain that an assignment spells, over all pairs or over those with j <= k.
 #[tactic(auto, unfolding(crate::specs::Spelled::spelled))]
 pub(crate) fn decode_pairs(
     alloc: Global,

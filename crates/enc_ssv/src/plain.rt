@@ -1,5 +1,5 @@
-//! The plain encoding. Its laws follow from one equivalence, of the clauses and the properties of
-//! an assignment that spells a chain; no chain is cut off.
+//! The plain encoding. Its laws follow from one equivalence: the clauses hold of an assignment exactly where it
+//! spells a chain that implements the tables; no chain is excluded.
 use crate::pairs::decode_pairs;
 use chain_core::Chain;
 use clause_core::ClauseList;
@@ -10,8 +10,8 @@ use op_basis::Basis;
 use std::alloc::{AllocError, Global};
 use tt_core::{Spec, live_part};
 
-/// The plain encoding: the clauses that say what a chain is, over all pairs of operands. A size has
-/// one part, the whole.
+/// The plain encoding: the clauses that define chains, over all pairs of operands. A size has one subproblem,
+/// the whole.
 #[derive(Clone, Copy)]
 pub struct Plain;
 

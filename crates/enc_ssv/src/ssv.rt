@@ -1,6 +1,6 @@
-//! The encoding by pairs with cuts (SSV). The formula is made from the live part alone, whose
-//! outputs are all steps; its laws follow from the law of least chains: some least chain satisfies
-//! every cut.
+//! SSV with symmetry-breaking constraints. The formula is that of the live outputs alone, which are all driven
+//! by steps; its law `complete` follows from the law of minimum chains: some minimum chain satisfies every
+//! constraint.
 use crate::pairs::decode_pairs;
 use chain_core::Chain;
 use cnf_core::{Assign, Cnf};
@@ -11,9 +11,8 @@ use op_basis::Basis;
 use std::alloc::{AllocError, Global};
 use tt_core::Spec;
 
-/// The encoding by pairs with cuts: the clauses that say what a chain is, over the ordered pairs alone
-/// where the basis has each operator with its operands exchanged, and the cuts that leave a least
-/// chain. A size has one part, the whole.
+/// SSV with symmetry-breaking constraints: the clauses that define chains, over the pairs with j <= k if the
+/// basis is closed under exchanging operands, and the constraints. A size has one subproblem, the whole.
 #[derive(Clone, Copy)]
 pub struct Ssv;
 

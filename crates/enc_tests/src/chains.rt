@@ -12,7 +12,7 @@ use settings::Method;
 use std::alloc::{AllocError, Global};
 use tt_core::{Spec, read_tables};
 
-/// The chain that an assignment spells in the first part of size 1, where it satisfies the formula.
+/// The chain that an assignment spells in the first subproblem of size 1, if it satisfies the formula.
 fn decoded_by<E: Encoding>(
     alloc: Global,
     encoding: &E,
@@ -31,7 +31,7 @@ fn decoded_by<E: Encoding>(
     encoding.decode(alloc, spec, basis, 1, part, assign).ok()
 }
 
-/// The bits of a text, where 1 is true.
+/// The bits of a text, where `1` is true.
 fn bits_of(alloc: Global, text: &[u8]) -> Result<Vec<bool>, AllocError> {
     let mut bits = Vec::new(alloc);
     for &byte in text {
@@ -67,7 +67,7 @@ fn decoded(
     }
 }
 
-/// Tables, a basis, and the chain of one step that solutions of their formulas spell.
+/// Tables, a basis, and the one-step chain that solutions of their formulas spell.
 struct Case {
     tables: &'static [u8],
     basis: &'static [u8],
@@ -123,7 +123,7 @@ const CHAINS: &[(Method, &Case, &[u8])] = &[
     (Method::Plain, &XOR, b"0110101100011"),
     (Method::Plain, &AND_NOT, b"0100100100001"),
     (Method::Plain, &THREE, b"0110101100010"),
-    // with cuts the operands come in one order
+    // with symmetry breaking the operands come in one order
     (Method::Ssv, &XOR, b"011010110001"),
     (Method::Select, &AND_NOT, b"010010010011001010011"),
     (Method::Select, &THREE, b"011010110100100110101"),

@@ -1,4 +1,4 @@
-//! Clauses as they are written, which cuts a basis allows, and the pairs of a step.
+//! How clauses are written, which constraints a basis allows, and the pairs of a step.
 ghost use Rattle.std.specs.Prelude.{◌≡◌};
 
 use clause_core::{ClauseList, Raw};
@@ -7,8 +7,8 @@ use enc_theory::Sizes;
 use op_basis::read_basis;
 use std::alloc::{AllocError, Global};
 
-/// The one clause "4, -2"; a clause with an opposite and one with a constant 1 are left out, and an
-/// empty list of literals is the empty clause.
+/// One clause, "4, -2", is written: a clause with a literal and its complement and one with a constant 1 are
+/// tautologies. An empty list of literals is the empty clause.
 #[tactic(auto, unfolding(clause_core::specs::Clauses::IsWithin))]
 fn write_some(alloc: Global, list: &mut ClauseList) -> Result<(), AllocError>
     requires { list.old.vars ≡ 4 }
@@ -49,7 +49,7 @@ fn clauses_are_simplified(rt: HostRuntime) {
     assert!(rt; lits && second.lits().is_empty() && list.vars() == 4);
 }
 
-/// The cuts that a basis allows; None where the text isn't a basis.
+/// The constraints that a basis allows; None if the text isn't a basis.
 fn cuts_of(basis: &[u8]) -> Option<CutSet> {
     match read_basis(basis) {
         Ok(basis) => Some(cuts(basis)),
@@ -57,7 +57,7 @@ fn cuts_of(basis: &[u8]) -> Option<CutSet> {
     }
 }
 
-/// Bases, and whether they allow cuts by exchanged operands, constants, polarity and reapplication.
+/// Bases, and the constraints they allow: ordered operands, no constants, normal steps, no re-application.
 const CUTS: &[(&[u8], bool, bool, bool, bool)] = &[
     (b"all", true, true, true, true),
     (b"u2", true, true, true, true),

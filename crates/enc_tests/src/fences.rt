@@ -1,4 +1,4 @@
-//! Which fences are listed, the parts of a size, and the levels of a chain.
+//! The listed fences, the subproblems of a size, and the levels of a chain.
 ghost use Rattle.std.specs.Prelude.{◌≤◌};
 
 use chain_core::read_chain;
@@ -45,11 +45,11 @@ fn fences_come_in_order(rt: HostRuntime) {
     assert!(rt; are_listed(rt.alloc(), 3, 1, &[1, 1, 1, 0, 2, 1, 0]));
     assert!(rt; are_listed(rt.alloc(), 3, 2, &[1, 1, 1, 0, 1, 2, 0, 2, 1, 0]));
     assert!(rt; are_listed(rt.alloc(), 4, 1, &[1, 1, 1, 1, 0, 1, 2, 1, 0, 2, 1, 1, 0]));
-    // a step that is no output is read by one above it
+    // a step that drives no output is read by one on a higher level
     assert!(rt; are_listed(rt.alloc(), 2, 0, &[]));
 }
 
-/// How many fences a size has; 0 also where there is no memory for them.
+/// How many fences a size has; 0 also if memory runs out.
 fn count(alloc: Global, r: u32, outputs: u32) -> usize {
     if r > 16 {
         return 0;
@@ -78,7 +78,7 @@ fn fences_are_counted(rt: HostRuntime) {
     }
 }
 
-/// How many parts a size has by fences.
+/// How many subproblems a size has with fences.
 fn parts_of_size(alloc: Global, tables: &[u8], r: u32) -> Option<usize> {
     if tables.len() > 1000 || r > 16 {
         return None;
@@ -95,7 +95,7 @@ fn live_outputs_decide_the_parts(rt: HostRuntime) {
         (b"inputs 2\n0110\n1001\n", 3, 3),
         // one of two outputs is trivial
         (b"inputs 2\n0110\n0011\n", 3, 2),
-        // no step is needed, and none could be listed
+        // no step is needed, and no fence is listed
         (b"inputs 2\n0011\n", 0, 1),
         (b"inputs 2\n0011\n", 1, 0),
     ] {
@@ -134,7 +134,7 @@ fn have_levels(alloc: Global, block: &[u8], wanted: &[u32]) -> bool {
 
 #[test]
 fn steps_have_levels(rt: HostRuntime) {
-    // the AND of three inputs; two steps side by side under a third; and no step
+    // the AND of three inputs; two steps on level 1 under a third; and no step
     for (block, wanted) in [
         (
             b"chain 2\nx4 x1 x2 0001\nx5 x3 x4 0001\nout x5\n" as &[u8],

@@ -11,7 +11,7 @@ use settings::Method;
 use std::alloc::{AllocError, Global};
 use tt_core::{Spec, read_tables};
 
-/// The formula of a part of a size.
+/// The formula of a subproblem of a size.
 fn formula_by<E: Encoding>(
     alloc: Global,
     encoding: &E,
@@ -28,7 +28,7 @@ fn formula_by<E: Encoding>(
     encoding.formula(alloc, spec, basis, r, part).ok()
 }
 
-/// The formula of a part of a size, for tables and a basis in texts.
+/// The formula of a subproblem of a size, for tables and a basis in texts.
 fn formula(
     alloc: Global,
     method: Method,
@@ -69,8 +69,8 @@ fn numbers_of(alloc: Global, cnf: &Cnf) -> Result<Vec<i32>, AllocError> {
     Ok(numbers)
 }
 
-/// Whether there is a formula of `vars` variables whose last clauses are `wanted`, and no others
-/// where `all`.
+/// Whether there is a formula of `vars` variables whose last clauses are `wanted`; with `all`, these are all
+/// its clauses.
 fn ends_with(alloc: Global, formula: Option<Cnf>, vars: u32, all: bool, wanted: &[i32]) -> bool {
     let Some(cnf) = formula else {
         return false;
@@ -85,7 +85,7 @@ fn ends_with(alloc: Global, formula: Option<Cnf>, vars: u32, all: bool, wanted: 
     (front == 0 || !all) && &numbers[front..] == wanted
 }
 
-/// A sum over numbers.
+/// The checksum of a list of numbers.
 fn sum_of(numbers: &[i32]) -> u32 {
     let mut sum = 0u32;
     for number in numbers {
@@ -94,8 +94,8 @@ fn sum_of(numbers: &[i32]) -> u32 {
     sum
 }
 
-/// Whether there is a formula of `vars` variables and `clauses` clauses, with the checksum `sum`
-/// over its clauses.
+/// Whether there is a formula of `vars` variables and `clauses` clauses, with the checksum `sum` of its
+/// clauses.
 fn is_like(alloc: Global, formula: Option<Cnf>, vars: u32, clauses: usize, sum: u32) -> bool {
     let Some(cnf) = formula else {
         return false;
@@ -112,8 +112,7 @@ const THREE: &[u8] = b"inputs 4\n0110100110010110\n0000000000000001\n0----------
 
 const XOR: &[u8] = b"inputs 2\n0110\n";
 
-/// Formulas of parts of sizes, with the numbers of their variables and clauses, and their
-/// checksums, by another program.
+/// Formulas of subproblems, with the numbers of variables and clauses and the checksums of another program.
 const SUMS: &[(Method, &[u8], &[u8], u32, usize, u32, usize, u32)] = &[
     (Method::Plain, LIGHTS, b"all", 3, 0, 140, 3572, 599009576),
     (Method::Ssv, LIGHTS, b"all", 3, 0, 109, 2433, 2276029920),
@@ -181,7 +180,7 @@ fn formulas_are_those_of_another_program(rt: HostRuntime) {
     }
 }
 
-/// Formulas of two steps for XOR over sets of operators, nine outcomes of the five tests of a
+/// Formulas of two steps for XOR over sets of operators, for nine combinations of the five properties of a
 /// basis.
 const SUMS_OF_BASES: &[(Method, &[u8], u32, usize, u32)] = &[
     (Method::Ssv, b"0000,0011,0110", 31, 211, 141350951),
@@ -213,8 +212,8 @@ fn tests_of_bases_decide_the_cuts(rt: HostRuntime) {
     }
 }
 
-/// The clauses for NOT over AND with one step: that it is the output and has its values, that it
-/// has a pair and its operator's values, and that it is no other operator; after these the cuts.
+/// The clauses for NOT over AND with one step: it drives the output and has its values, it has a pair and its
+/// operator's values, and no other operator; then the constraints.
 const NOT_BY_AND: &[i32] = &[
     3, 0, -3, 1, 0, -3, -2, 0, 8, 0, -8, 1, -4, 0, -8, -1, 4, 0, -8, 2, -7, 0, -8, -2, 7, 0, 4, 5,
     6, 7, 0, 4, 5, -6, 7, 0, 4, 5, -6, -7, 0, 4, -5, 6, 7, 0, 4, -5, 6, -7, 0, 4, -5, -6, 7, 0, 4,
@@ -222,8 +221,7 @@ const NOT_BY_AND: &[i32] = &[
     7, 0, -4, -5, 6, -7, 0, -4, -5, -6, 7, 0, -4, -5, -6, -7, 0, 3, 0, -8, 4, 0, -8, -7, 0,
 ];
 
-/// The same for single operands: that it has operands and they have values, in place of that it has
-/// a pair.
+/// The same for MSV: it has operands, which have values, instead of a pair.
 const NOT_BY_AND_SELECTED: &[i32] = &[
     3, 0, -3, 1, 0, -3, -2, 0, 8, 0, 9, 0, -8, -10, 0, -8, 11, 0, -9, -12, 0, -9, 13, 0, 1, 10, 12,
     -4, 0, 1, 10, -12, -5, 0, 1, -10, 12, -6, 0, 1, -10, -12, -7, 0, -1, 10, 12, 4, 0, -1, 10, -12,
@@ -235,31 +233,31 @@ const NOT_BY_AND_SELECTED: &[i32] = &[
     0, -8, -9, -7, 0,
 ];
 
-/// The clauses for one step without inputs, which no output needs: that it has operands, of which
-/// there are none, its operator's values of their values, and the cuts: that it is read, that its
-/// operator is no copy and no constant, and that it is 0.
+/// The clauses for one step without inputs or outputs: it has operands, of which there are none, and its
+/// operator's values at theirs; then the constraints: it is read, its operator is no projection and no
+/// constant, and it is 0.
 const NO_INPUT: &[i32] = &[
     0, 0, 1, 6, 7, -2, 0, 1, 6, -7, -3, 0, 1, -6, 7, -4, 0, 1, -6, -7, -5, 0, -1, 6, 7, 2, 0, -1,
     6, -7, 3, 0, -1, -6, 7, 4, 0, -1, -6, -7, 5, 0, 0, 2, 3, 4, 5, 0, 2, 3, -4, -5, 0, 2, -3, 4,
     -5, 0, -2, -3, -4, -5, 0, -1, 0,
 ];
 
-/// The cuts of XOR over all operators: no operator is a copy or a constant, x2 isn't read twice
-/// where x1 wasn't, and row 0 is 0.
+/// The constraints for XOR over all operators: no operator is a projection or a constant, x2 isn't read twice
+/// if x1 wasn't read, and row 0 is 0.
 const XOR_CUTS: &[i32] = &[
     5, 0, 6, 7, 8, 9, 0, 6, 7, -8, -9, 0, 6, -7, 8, -9, 0, -6, -7, -8, -9, 0, -10, 6, 0, -10, -9,
     0, -11, 6, 0, -11, -9, 0, -6, 7, -8, 9, 10, 11, 0, -6, -7, 8, 9, 10, 11, 0, -11, 0, -1, 5, 0,
 ];
 
-/// Those of two outputs over an operator and its complement, whose operands can't be exchanged:
-/// each step is read or is an output, equal operands are no copy, and pairs never decrease.
+/// Those for two outputs over an operator and its complement, whose operands can't be exchanged: each step is
+/// read or drives an output, equal operands are no projection, and pairs never decrease.
 const TWO_CUTS: &[i32] = &[
     9, 11, 29, 30, 31, 32, 33, 0, 10, 12, 0, -21, 13, -16, 0, -22, 13, -16, 0, -25, 17, -20, 0,
     -26, 17, -20, 0, -29, 17, -20, 0, -22, -25, 0, -23, -25, 0, -23, -26, 0, -24, -25, 0, -24, -26,
     0,
 ];
 
-/// Formulas with the number of their variables, whether all their clauses follow, and their last clauses.
+/// Formulas with the number of variables, whether all their clauses follow, and their last clauses.
 const WRITTEN: &[(Method, &[u8], &[u8], u32, u32, bool, &[i32])] = &[
     (
         Method::Ssv,
@@ -279,7 +277,7 @@ const WRITTEN: &[(Method, &[u8], &[u8], u32, u32, bool, &[i32])] = &[
         true,
         NOT_BY_AND_SELECTED,
     ),
-    // no input: without steps there is no clause, and a step has no pair and no operands
+    // no input: no step, no clause; a step has no pair and no operands
     (Method::Plain, b"inputs 0\n1\n", b"all", 0, 0, true, &[]),
     (Method::Plain, b"inputs 0\n1\n", b"all", 1, 5, true, &[0]),
     (
@@ -291,7 +289,7 @@ const WRITTEN: &[(Method, &[u8], &[u8], u32, u32, bool, &[i32])] = &[
         true,
         NO_INPUT,
     ),
-    // live outputs can't be steps where there are none
+    // live outputs need at least one step
     (
         Method::Plain,
         b"inputs 2\n0110\n1001\n",
@@ -329,7 +327,7 @@ const WRITTEN: &[(Method, &[u8], &[u8], u32, u32, bool, &[i32])] = &[
         true,
         &[],
     ),
-    // the cuts come after all else
+    // the constraints come last
     (
         Method::Ssv,
         b"inputs 2\n0110\n",

@@ -1,6 +1,6 @@
-//! Tests of the encodings by their public calls: how clauses are written, the formulas of each method
-//! against those of another program and literal by literal, the chains that solutions spell, the parts of a
-//! size, and the levels of chains.
+//! Tests of the encodings through their public functions: how clauses are written, the formulas of each method
+//! (compared with those of another program, and small ones literal by literal), the chains that solutions
+//! spell, the subproblems of a size, and the levels of chains.
 #![tactic(auto)]
 
 #[cfg(test)]

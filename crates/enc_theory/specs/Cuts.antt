@@ -1,8 +1,8 @@
--- Cuts: further clauses (symmetry breaking and structural constraints), which some least chain
--- satisfies. They are those of Kojevnikov, Kulikov and Yaroslavtsev ("Finding Efficient Circuits
--- Using SAT-solvers", 2009), Knuth (TAOCP 7.2.2.2, exercise 477) and Haaswijk, Soeken, Mishchenko
--- and De Micheli ("SAT-Based Exact Synthesis", 2020), each under the test of the basis that it
--- needs. Loops run in rising order, the first named is outermost.
+-- Symmetry-breaking and structural constraints: further clauses, which some minimum chain satisfies. They are
+-- those of Kojevnikov, Kulikov and Yaroslavtsev ("Finding Efficient Circuits Using SAT-solvers", 2009), Knuth
+-- (TAOCP 7.2.2.2, exercise 477) and Haaswijk, Soeken, Mishchenko and De Micheli ("SAT-Based Exact Synthesis",
+-- 2020), each only for the bases for which it is sound. Loops run in increasing order; the first one named is
+-- the outermost.
 use Rattle.std.specs.Prelude.{ℕ, suc, ℤ, Bool, true, false, ◌&&◌, ◌||◌, not, List, [], ◌∷◌, ◌++◌, length, map, min, max, nat_lt, ◌==◌, ◌-◌, ◌^◌, if◌then◌else◌}
 use Rattle.std.specs.List.{range_with_len, flat_map, filter, list_all}
 use Rattle.chain_theory.specs.declared.data.Cell.{Cell}
@@ -20,14 +20,13 @@ use Rattle.enc_theory.specs.Numbering.{places, outputs, f_var, x_is}
 use Rattle.enc_theory.specs.Pairs.{StepSlots}
 use Rattle.enc_theory.specs.Families.{bearer, chosen, operator_raw}
 
--- ---- All steps used: for step i, one clause "some output is i, or some later step has a pair with
--- i".
+-- ---- All steps used: for step i, one clause "i drives some output, or some later step has a pair with i".
 
--- output h is step i
+-- step i drives output h
 unfoldable pub bears : Sizes → ℕ → ℕ → Raw
 bears z i h = bearer z h i
 
--- the pair has the place
+-- place p is an operand of the pair
 abbrev pub reads : Slot → ℕ → Bool
 reads u p = u.j == p || u.k == p
 
@@ -46,20 +45,20 @@ used z (s ∷ later) = used_by z s later ++ used z later
 
 -- ---- Non-trivial operators.
 
--- "the step's operator isn't op", where op is a member
+-- "the step's operator isn't op", if op is in the basis
 unfoldable pub other_operator : ℕ → Sizes → ℕ → ℕ → List (List ℤ)
 other_operator basis z i op = if members basis op then written (operator_raw z i op) else []
 
--- the copies 0011 and 0101 of an operand, and with them the constants 0000 and 1111
+-- the projections 0011 and 0101, and with them the constants 0000 and 1111
 abbrev pub idle_operators : Bool → List ℕ
 idle_operators constants = if constants then 0 ∷ 3 ∷ 5 ∷ 15 ∷ [] else 3 ∷ 5 ∷ []
 
 unfoldable pub not_idle : Bool → ℕ → Sizes → ℕ → List (List ℤ)
 not_idle constants basis z i = flat_map (other_operator basis z i) (idle_operators constants)
 
--- On equal operands the operator is a negation, where constants can be left out: "the step doesn't
--- have this pair, or the operator is 1 at 00", and the same with 0 at 11. Otherwise it is at least
--- no copy.
+-- With equal operands the operator is a negation, for bases where constants aren't needed: "the step doesn't
+-- have this pair, or the operator is 1 at 00", and the same with 0 at 11. For other bases it is at least not
+-- the identity.
 unfoldable pub equal_raw : Bool → Sizes → ℕ → Slot → List (List ℤ)
 equal_raw constants z i u =
     if constants then written (Var u.var false ∷ Var (f_var z i false false) true ∷ []) ++ written (Var u.var false ∷ Var (f_var z i true true) false ∷ [])
@@ -71,8 +70,8 @@ equal_slot constants z i u = if u.j == u.k then equal_raw constants z i u else [
 unfoldable pub equal_pair : Slot → List Raw
 equal_pair u = if u.j == u.k then chosen u ∷ [] else []
 
--- A negation of an operand, 1010 or 1100, has that operand twice: "the operator isn't this one, or
--- the step has some pair of equal operands".
+-- A negation of an operand, 1010 or 1100, has that operand twice: "the operator isn't this one, or the step has
+-- some pair of equal operands".
 unfoldable pub negation_raw : ℕ → Sizes → StepSlots → ℕ → List (List ℤ)
 negation_raw basis z s op = if members basis op then written (operator_raw z s.place op ++ flat_map equal_pair s.slots) else []
 
@@ -85,8 +84,8 @@ not_trivial_at constants basis z s = not_idle constants basis z s.place ++ flat_
 unfoldable pub not_trivial : ℕ → Sizes → List StepSlots → List (List ℤ)
 not_trivial basis z steps = flat_map (not_trivial_at (const_closed (members basis)) basis z) steps
 
--- ---- Co-lexicographic order: for step i, a pair of it, and a pair of step i + 1 that comes before
--- that one, "not both".
+-- ---- Co-lexicographic order: for step i, a pair of it, and a pair of step i + 1 that comes before that one,
+-- "not both".
 
 abbrev pub larger : Slot → ℕ
 larger u = max u.j u.k
@@ -94,7 +93,7 @@ larger u = max u.j u.k
 abbrev pub smaller : Slot → ℕ
 smaller u = if u.j == u.k then 0 else min u.j u.k
 
--- by the larger operand; then equal operands before others; then by the smaller operand
+-- by the larger operand; then equal operands first; then by the smaller operand
 unfoldable pub comes_before : Slot → Slot → Bool
 comes_before u v = nat_lt (larger u) (larger v) || (larger u == larger v && nat_lt (smaller u) (smaller v))
 
@@ -115,8 +114,8 @@ unfoldable pub order : List StepSlots → List (List ℤ)
 order [] = []
 order (s ∷ later) = order_with s later ++ order later
 
--- ---- No re-application: where the basis is closed under that, for step i, a later step, a pair of
--- i, and a pair of the later step with i and one of the places of that pair, "not both".
+-- ---- No re-application, if the basis is closed under it: for step i, a later step, a pair (j, k) of i, and a
+-- pair of the later step with i and one of j, k, "not both".
 
 unfoldable pub applies_again : ℕ → Slot → Slot → Bool
 applies_again p u v = (v.j == p && reads u v.k) || (v.k == p && reads u v.j)
@@ -144,9 +143,9 @@ again_all (s ∷ later) = flat_map (again_later s) later ++ again_all later
 unfoldable pub again : ℕ → List StepSlots → List (List ℤ)
 again basis steps = if reapply_closed (members basis) then again_all steps else []
 
--- ---- Symmetric inputs p < q: q is read without p only after p was read without q: for p, q, step
--- i and a pair of it with q and not p, "the step doesn't have this pair, or some step before has a
--- pair with p and not q".
+-- ---- Symmetric inputs p < q: no step reads q without p before some step has read p without q. For p, q, step
+-- i and a pair of it with q and not p, "the step doesn't have this pair, or some step before has a pair with p
+-- and not q".
 
 -- the cells are the same
 abbrev pub same_cell : Cell → Cell → Bool
@@ -175,7 +174,7 @@ reader_without p q u = if reads_without p q u then chosen u ∷ [] else []
 unfoldable pub readers_without : ℕ → ℕ → StepSlots → List Raw
 readers_without p q s = flat_map (reader_without p q) s.slots
 
--- `before` are the literals of pairs with p and not q of the steps before
+-- `before` are the selection literals of the steps before, for pairs with p and not q
 unfoldable pub exchange_slot : ℕ → ℕ → List Raw → Slot → List (List ℤ)
 exchange_slot p q before u = if reads_without q p u then written (Var u.var false ∷ before) else []
 
@@ -192,8 +191,8 @@ exchange_with w steps p = flat_map (exchange_pair w steps p) (range_with_len (su
 unfoldable pub exchange : Words → List StepSlots → List (List ℤ)
 exchange w steps = flat_map (exchange_with w steps) (range_with_len 1 w.n)
 
--- ---- Normal steps: where the basis is closed under complements, a step that is no output is 0 on
--- row 0: for step i "i is 0 on row 0, or some output is i".
+-- ---- Normal steps, if the basis is closed under complements: a step that drives no output is 0 on row 0. For
+-- step i "i is 0 on row 0, or i drives some output".
 
 unfoldable pub row_0_at : Sizes → ℕ → List (List ℤ)
 row_0_at z i = written (x_is z i 0 false ∷ map (bears z i) (outputs z))
@@ -201,6 +200,6 @@ row_0_at z i = written (x_is z i 0 false ∷ map (bears z i) (outputs z))
 unfoldable pub row_0 : ℕ → Sizes → List (List ℤ)
 row_0 basis z = if polarity_closed (members basis) then flat_map (row_0_at z) (places z) else []
 
--- ---- All cuts, the six families in their order.
+-- ---- All constraints, the six families in their order.
 unfoldable pub cuts : Words → ℕ → Sizes → List StepSlots → List (List ℤ)
 cuts w basis z steps = used z steps ++ not_trivial basis z steps ++ order steps ++ again basis steps ++ exchange w steps ++ row_0 basis z

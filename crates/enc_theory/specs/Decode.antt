@@ -1,4 +1,4 @@
--- The chain that an assignment of a formula's variables spells.
+-- The chain that an assignment spells.
 use Rattle.std.specs.Prelude.{ℕ, ◌+◌, ◌-◌, true, false, List, [], ◌∷◌, length, map, slice_index_or, Option, Some, None, if◌then◌else◌}
 use Rattle.std.specs.List.{range_with_len}
 use Rattle.chain_theory.specs.Specification.{Specification}
@@ -15,7 +15,7 @@ use Rattle.enc_theory.specs.declared.data.Slot.{Slot}
 use Rattle.enc_theory.specs.Numbering.{places, outputs, g_var, f_var}
 use Rattle.enc_theory.specs.Pairs.{StepSlots, pair}
 
--- a step has the first of its pairs whose variable is true
+-- a step has the first of its pairs whose selection variable is true
 unfoldable pub first_pair : Assignment → List Slot → Pair
 first_pair v [] = pair 1 1
 first_pair v (u ∷ us) = if v u.var then pair u.j u.k else first_pair v us
@@ -27,7 +27,7 @@ operator_in z v i = of_values (v (f_var z i false false)) (v (f_var z i false tr
 unfoldable pub decoded_step : Sizes → Assignment → StepSlots → Step
 decoded_step z v s = record { j = (first_pair v s.slots).j; k = (first_pair v s.slots).k; op = operator_in z v s.place }
 
--- a live output is the first step whose variable for it is true
+-- a live output is driven by the first step whose variable for it is true
 unfoldable pub first_bearer : Sizes → Assignment → ℕ → List ℕ → ℕ
 first_bearer z v h [] = z.n + 1
 first_bearer z v h (i ∷ is) = if v (g_var z h i) then i else first_bearer z v h is
@@ -35,7 +35,7 @@ first_bearer z v h (i ∷ is) = if v (g_var z h i) then i else first_bearer z v 
 unfoldable pub decoded_out : Sizes → Assignment → ℕ → Out
 decoded_out z v h = Place (first_bearer z v h (places z))
 
--- A trivial output is its trivial out, and a live one is the next of the live outs.
+-- A trivial output is its constant or input; a live one is the next of the live outputs.
 abbrev pub restored_out : Option Out → Out → Out
 restored_out (Some out) next = out
 restored_out None next = next
@@ -43,16 +43,15 @@ restored_out None next = next
 unfoldable pub restored_at : Specification → List Out → ℕ → Out
 restored_at s live h = restored_out (trivial_of s h) (slice_index_or live (length (live_among s (h - 1))) Zero)
 
--- The live outs, with the trivial ones at their places among them.
--- Example: where of three outputs the second is met by x1 and the live outs are x3, x4, it is x3,
--- x1, x4.
+-- The live outputs, with the trivial ones in their places among them.
+-- Example: where the second of three outputs is x1 and the live ones are x3 and x4, the result is x3, x1, x4.
 unfoldable pub restored : Specification → List Out → List Out
 restored s live = map (restored_at s live) (range_with_len 1 s.outputs)
 
--- The chain of some steps for truth tables; `z` has the number of live outputs.
+-- The chain with given steps, for truth tables; `z` has the number of live outputs.
 abbrev pub with_outs : Words → Sizes → List Step → Assignment → Chain
 with_outs w z steps v = record { n = w.n; steps = steps; outs = restored (specification w) (map (decoded_out z v) (outputs z)) }
 
--- The same, for steps that choose among pairs.
+-- The chain whose steps have pairs.
 unfoldable pub decoded : Words → Sizes → List StepSlots → Assignment → Chain
 decoded w z steps v = with_outs w z (map (decoded_step z v) steps) v

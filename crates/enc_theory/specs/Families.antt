@@ -1,5 +1,5 @@
--- The clauses that say what a chain is (TAOCP 7.2.2.2), in five families. Each is a comprehension:
--- its loops run in rising order, the first named is outermost.
+-- The clauses that define chains (TAOCP 7.2.2.2), in five families. Loops run in increasing order; the first
+-- one named is the outermost.
 use Rattle.std.specs.Prelude.{ℕ, ℤ, Bool, true, false, not, List, [], ◌∷◌, ◌++◌, map, if◌then◌else◌}
 use Rattle.std.specs.List.{range_with_len, flat_map}
 use Rattle.chain_theory.specs.Operator.{apply}
@@ -15,7 +15,7 @@ use Rattle.clause_core.specs.Clauses.{written}
 use Rattle.enc_theory.specs.Numbering.{places, rows, outputs, g_var, f_var, x_is}
 use Rattle.enc_theory.specs.Pairs.{StepSlots}
 
--- ---- Each output h is some step: one clause "h is i" over all steps i.
+-- ---- Some step drives each output h: one clause "some i drives h" over all steps i.
 
 unfoldable pub bearer : Sizes → ℕ → ℕ → Raw
 bearer z h i = Var (g_var z h i) true
@@ -26,8 +26,8 @@ out_exists_at z h = written (map (bearer z h) (places z))
 unfoldable pub out_exists : Sizes → List (List ℤ)
 out_exists z = flat_map (out_exists_at z) (outputs z)
 
--- ---- A step that is output h has the values of its cells: for h, step i and row t with a cell that
--- isn't free, "h isn't i, or i has the cell's bit on t".
+-- ---- The driver of output h has the values of its cells: for h, step i and row t with a cell that isn't a
+-- don't-care, "i doesn't drive h, or i has the cell's bit on t".
 
 unfoldable pub out_value_is : Sizes → ℕ → ℕ → ℕ → Bool → List (List ℤ)
 out_value_is z h i t bit = written (Var (g_var z h i) false ∷ x_is z i t bit ∷ [])
@@ -49,7 +49,7 @@ out_values_at w z h = flat_map (out_values_of w z h) (places z)
 unfoldable pub out_values : Words → Sizes → List (List ℤ)
 out_values w z = flat_map (out_values_at w z) (outputs z)
 
--- ---- Each step has some pair: one clause over all its pairs.
+-- ---- Each step has some pair: one clause over all its selection variables.
 
 unfoldable pub chosen : Slot → Raw
 chosen u = Var u.var true
@@ -60,8 +60,8 @@ pair_exists_at s = written (map chosen s.slots)
 unfoldable pub pair_exists : List StepSlots → List (List ℤ)
 pair_exists steps = flat_map pair_exists_at steps
 
--- ---- A step has its operator's value of its pair: for step i, pair (j, k), row t and bits a, b,
--- c, "i doesn't have this pair, or i isn't a on t, or j isn't b, or k isn't c, or the operator is a
+-- ---- The value of a step is its operator's value at its operands' values: for step i, pair (j, k), row t and
+-- bits a, b, c, "i doesn't have this pair, or i isn't a on t, or j isn't b, or k isn't c, or the operator is a
 -- at (b, c)".
 
 unfoldable pub value_raw : Sizes → ℕ → Slot → ℕ → Bool → Bool → Bool → List Raw
@@ -70,7 +70,7 @@ value_raw z i u t a b c = Var u.var false ∷ x_is z i t (not a) ∷ x_is z u.j 
 unfoldable pub value_clause : Sizes → ℕ → Slot → ℕ → Bool → Bool → Bool → List (List ℤ)
 value_clause z i u t a b c = written (value_raw z i u t a b c)
 
--- the four clauses of a, and the eight of a row
+-- the four clauses with bit a, and the eight of a row
 unfoldable pub value_bit : Sizes → ℕ → Slot → ℕ → Bool → List (List ℤ)
 value_bit z i u t a = value_clause z i u t a false false ++ value_clause z i u t a false true ++ value_clause z i u t a true false ++ value_clause z i u t a true true
 
@@ -86,8 +86,8 @@ value_step z s = flat_map (value_slot z s.place) s.slots
 unfoldable pub values : Sizes → List StepSlots → List (List ℤ)
 values z steps = flat_map (value_step z) steps
 
--- ---- Each step's operator is a member of the basis: for step i and each operator that isn't, one
--- clause "i has another value at 00, or at 01, or at 10, or at 11".
+-- ---- Each step's operator is in the basis: for step i and each operator outside the basis, one clause "i has
+-- another value at 00, or at 01, or at 10, or at 11".
 
 unfoldable pub operator_raw : Sizes → ℕ → ℕ → List Raw
 operator_raw z i op = Var (f_var z i false false) (not (apply op false false)) ∷ Var (f_var z i false true) (not (apply op false true)) ∷ Var (f_var z i true false) (not (apply op true false)) ∷ Var (f_var z i true true) (not (apply op true true)) ∷ []
@@ -101,6 +101,6 @@ operators_at basis z i = flat_map (operator_clause basis z i) (range_with_len 0 
 unfoldable pub operators : ℕ → Sizes → List (List ℤ)
 operators basis z = flat_map (operators_at basis z) (places z)
 
--- ---- What a chain is: the five families in their order.
+-- ---- The clauses that define chains: the five families in their order.
 unfoldable pub common : Words → ℕ → Sizes → List StepSlots → List (List ℤ)
 common w basis z steps = out_exists z ++ out_values w z ++ pair_exists steps ++ values z steps ++ operators basis z

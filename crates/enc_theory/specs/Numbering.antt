@@ -1,4 +1,4 @@
--- The variables of a formula. Inputs have the places 1 to n, and the steps n + 1 to n + r.
+-- The numbers of a formula's variables. Inputs have the places 1 to n, steps the places n + 1 to n + r.
 use Rattle.std.specs.Prelude.{ℕ, ◌+◌, ◌-◌, ◌*◌, ◌^◌, leb, Bool, not, List, length, if◌then◌else◌}
 use Rattle.std.specs.List.{range_with_len}
 use Rattle.chain_theory.specs.Specification.{input}
@@ -7,7 +7,7 @@ use Rattle.clause_core.specs.declared.raw.Raw.{Raw}
 use Rattle.clause_core.specs.declared.raw.Raw.TheVariants.{Fixed, Var}
 use Rattle.enc_theory.specs.declared.data.Sizes.{Sizes}
 
--- a formula for the tables with r steps
+-- the sizes of the formula for the tables with r steps
 abbrev pub sizes_of : Words → ℕ → Sizes
 sizes_of w r = record { n = w.n; r = r; m = length w.on }
 
@@ -21,13 +21,12 @@ rows z = range_with_len 0 (2 ^ z.n)
 abbrev pub outputs : Sizes → List ℕ
 outputs z = range_with_len 1 z.m
 
--- Step i has the value 1 on row t: first all rows of the first step, then those of the next.
+-- Step i has the value 1 on row t. Numbered from 1: all rows of the first step, then those of the next.
 -- Example: with 2 inputs it is variable 1 for step 3 on row 0, and variable 5 for step 4 on row 0.
 unfoldable pub x_var : Sizes → ℕ → ℕ → ℕ
 x_var z i t = (i - (z.n + 1)) * 2 ^ z.n + t + 1
 
--- Output h is step i: after the variables of values, all steps for the first output, then for the
--- next.
+-- Step i drives output h. After the variables of values: all steps for the first output, then for the next.
 unfoldable pub g_var : Sizes → ℕ → ℕ → ℕ
 g_var z h i = z.r * 2 ^ z.n + (h - 1) * z.r + (i - z.n)
 
@@ -35,22 +34,20 @@ g_var z h i = z.r * 2 ^ z.n + (h - 1) * z.r + (i - z.n)
 abbrev pub f_first : Sizes → ℕ
 f_first z = z.r * 2 ^ z.n + z.m * z.r + 1
 
--- bits as the word that they spell
+-- the number with these two bits
 abbrev pub bits_word : Bool → Bool → ℕ
 bits_word b c = 2 * (if b then 1 else 0) + (if c then 1 else 0)
 
--- The operator of step i has the value 1 at (b, c): after those of outputs, four for each step, at
--- 00, 01, 10 and 11.
+-- The operator of step i has the value 1 at (b, c). After those of outputs: four for each step, at 00, 01, 10
+-- and 11.
 unfoldable pub f_var : Sizes → ℕ → Bool → Bool → ℕ
 f_var z i b c = f_first z + 4 * (i - (z.n + 1)) + bits_word b c
 
--- the first variable after those of operators; from it on come those of the pairs
+-- the first selection variable, after those of operators
 unfoldable pub s_first : Sizes → ℕ
 s_first z = f_first z + 4 * z.r
 
--- Place j has the given bit on row t. For an input that is true or false; for a step it is a
--- literal.
--- Example: with 2 inputs, "place 1 has the bit 1 on row 2" is true, so a clause that has it is a
--- tautology.
+-- Place j has the given bit on row t. For an input this is true or false; for a step it is a literal.
+-- Example: with 2 inputs, "place 1 has the bit 1 on row 2" is true, so a clause with it is a tautology.
 unfoldable pub x_is : Sizes → ℕ → ℕ → Bool → Raw
 x_is z j t bit = if leb j z.n then Fixed (if input z.n t j then bit else not bit) else Var (x_var z j t) bit

@@ -1,5 +1,4 @@
--- The parts of a size by fences (the subproblems, one for each fence), and what a part asks of a
--- chain.
+-- The subproblems of a size by fences, and what a subproblem requires of a chain.
 use Rattle.std.specs.Prelude.{ℕ, ⊤, List, [], map, length}
 use Rattle.chain_theory.specs.Chain.{Chain}
 use Rattle.chain_theory.specs.Levels.{HasLevels}
@@ -9,18 +8,18 @@ use Rattle.fence_core.specs.Fence.{listed_fences}
 use Rattle.enc_theory.specs.declared.part.Part.{Part}
 use Rattle.enc_theory.specs.declared.part.Part.TheVariants.{Whole, Levels}
 
--- one part for each fence that is listed for the live outputs, in their order
+-- one subproblem for each listed fence of the live outputs, in order
 unfoldable pub parts_for : Words → ℕ → List Part
 parts_for w r = map Levels (listed_fences r (length (live_words w).on))
 
--- the fence of a part; the whole has none
+-- the fence of a subproblem; empty for the whole size
 unfoldable pub fence_in : Part → List ℕ
 fence_in Whole = []
 fence_in (Levels fence) = fence
 
--- What a part asks of a chain besides its size: nothing where the size is searched whole, and with
--- a fence that the chain has at most the fence's levels.
--- Example: the fence 2, 1 asks for at most two levels.
+-- What a subproblem requires of a chain besides its size: nothing for the whole size, and at most the fence's
+-- number of levels for a fence.
+-- Example: the fence 2, 1 requires at most two levels.
 unfoldable pub FitsPart : Part → Chain → Type 0
 FitsPart Whole c = ⊤
 FitsPart (Levels fence) c = HasLevels (length fence) c

@@ -1,4 +1,4 @@
--- The plain encoding: what a chain is, over all pairs, and nothing else.
+-- The plain encoding: the clauses that define chains, over all pairs, and nothing else.
 use Rattle.std.specs.Prelude.{ℕ, false, List}
 use Rattle.chain_theory.specs.Chain.{Chain}
 use Rattle.sat_theory.specs.Formula.{Formula, Assignment}
@@ -10,18 +10,17 @@ use Rattle.enc_theory.specs.Pairs.{StepSlots, pairs_below, layout, vars_of}
 use Rattle.enc_theory.specs.Families.{common}
 use Rattle.enc_theory.specs.Decode.{decoded}
 
--- each step with all pairs of places below it
+-- each step with all pairs of lower places
 abbrev pub plain_layout : Sizes → List StepSlots
 plain_layout z = layout (pairs_below false) z
 
--- the formula of truth tables whose outputs are all live
+-- the formula for tables whose outputs are all live
 unfoldable pub plain_live : Words → ℕ → ℕ → Formula
 plain_live w basis r =
     let z = sizes_of w r in
     record { vars = vars_of z (plain_layout z); clauses = common w basis z (plain_layout z) }
 
--- The formula of truth tables, over a set of operators given as a number: that of the live outputs
--- alone.
+-- The formula for any tables, over a set of operators given as a number: that of the live outputs.
 unfoldable pub plain_formula : Words → ℕ → ℕ → Formula
 plain_formula w basis r = plain_live (live_words w) basis r
 

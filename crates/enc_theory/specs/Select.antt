@@ -1,8 +1,8 @@
--- The encoding with a selection variable for each single operand (MSV, multiple selection
--- variables), and with variables for the operands' values: fewer variables and clauses than with
--- one for each pair of operands (Kojevnikov, Kulikov and Yaroslavtsev, "Finding Efficient Circuits
--- Using SAT-solvers", 2009). Its cuts are those of the encoding by pairs, as far as they can be
--- expressed by single operands. Loops run in rising order, the first named is outermost.
+-- The encoding with a selection variable for each single operand (MSV, multiple selection variables), and with
+-- variables for the operands' values: fewer variables and clauses than with one for each pair (Kojevnikov,
+-- Kulikov and Yaroslavtsev, "Finding Efficient Circuits Using SAT-solvers", 2009). Its symmetry-breaking
+-- constraints are those of the encoding by pairs, as far as single operands can express them. Loops run in
+-- increasing order; the first one named is the outermost.
 use Rattle.std.specs.Prelude.{ℕ, zero, suc, ℤ, ◌+◌, ◌-◌, ◌*◌, ◌^◌, Bool, true, false, ◌&&◌, not, List, [], ◌∷◌, ◌++◌, map, min, max, nat_lt, ◌==◌, if◌then◌else◌}
 use Rattle.std.specs.List.{range_with_len, flat_map}
 use Rattle.chain_theory.specs.Chain.{Step, Chain}
@@ -22,11 +22,11 @@ use Rattle.enc_theory.specs.Families.{out_exists, out_values, operator_raw, oper
 use Rattle.enc_theory.specs.Cuts.{bears, not_idle, row_0}
 use Rattle.enc_theory.specs.Decode.{operator_in, with_outs}
 
--- ---- Variables: those of values, outputs and operators are as in an encoding by pairs; after them
--- come the choices of first operands, those of second operands, the values of first operands and
--- those of second operands.
+-- ---- Variables: those of values, outputs and operators are as in an encoding by pairs; after them come the
+-- selection variables of first operands, those of second operands, the values of first operands and those of
+-- second operands.
 
--- The number of places that the operands of the first steps may be: each may be any lower place.
+-- The number of selection variables of one side for the first steps: an operand may be any lower place.
 -- Example: with 2 inputs, 2 for the first step, and 5 for the first two.
 unfoldable pub operand_count : ℕ → ℕ → ℕ
 operand_count n zero = 0
@@ -44,8 +44,7 @@ unfoldable pub value_first : Sizes → Side → ℕ
 value_first z First = s_first z + 2 * operand_count z.n z.r
 value_first z Second = s_first z + 2 * operand_count z.n z.r + z.r * 2 ^ z.n
 
--- An operand of step i has the value 1 on row t: first all rows of the first step, then those of the
--- next.
+-- An operand of step i has the value 1 on row t: first all rows of the first step, then those of the next.
 unfoldable pub value_var : Sizes → Side → ℕ → ℕ → ℕ
 value_var z side i t = value_first z side + (i - (z.n + 1)) * 2 ^ z.n + t
 
@@ -53,15 +52,15 @@ value_var z side i t = value_first z side + (i - (z.n + 1)) * 2 ^ z.n + t
 unfoldable pub select_vars : Sizes → ℕ
 select_vars z = s_first z - 1 + 2 * operand_count z.n z.r + 2 * (z.r * 2 ^ z.n)
 
--- the places below one, and those of the steps above one
+-- the places below one, and the steps above one
 abbrev pub below : ℕ → List ℕ
 below i = range_with_len 1 (i - 1)
 
 abbrev pub above : Sizes → ℕ → List ℕ
 above z i = range_with_len (i + 1) (z.n + z.r - i)
 
--- ---- Each step has operands: for step i, one clause over all places below it that the first operand
--- is one of them, and one that the second is.
+-- ---- Each step has operands: for step i, one clause that the first operand is some place below it, and one
+-- that the second is.
 
 unfoldable pub chooses : Sizes → Side → ℕ → ℕ → Raw
 chooses z side i j = Var (choice_var z side i j) true
@@ -75,8 +74,8 @@ choices_exist z i = choice_exists z i First ++ choice_exists z i Second
 unfoldable pub operands_exist : Sizes → List (List ℤ)
 operands_exist z = flat_map (choices_exist z) (places z)
 
--- ---- An operand has the value of the place that is chosen: for step i, place j below it, row t and
--- bit e, "the operand isn't j, or its value is e, or j isn't e".
+-- ---- An operand has the value of the selected place: for step i, place j below it, row t and bit e, "the
+-- operand isn't j, or its value is e, or j isn't e".
 
 unfoldable pub copy_raw : Sizes → Side → ℕ → ℕ → ℕ → Bool → List Raw
 copy_raw z side i j t e = Var (choice_var z side i j) false ∷ Var (value_var z side i t) e ∷ x_is z j t (not e) ∷ []
@@ -93,7 +92,7 @@ copy_step z side i = flat_map (copy_place z side i) (below i)
 unfoldable pub copies : Sizes → Side → List (List ℤ)
 copies z side = flat_map (copy_step z side) (places z)
 
--- ---- A step has its operator's value of its operands' values: for step i, row t and bits a, b, c,
+-- ---- The value of a step is its operator's value at its operands' values: for step i, row t and bits a, b, c,
 -- "i isn't a, or its first operand isn't b, or its second isn't c, or the operator is a at (b, c)".
 
 unfoldable pub result_raw : Sizes → ℕ → ℕ → Bool → Bool → Bool → List Raw
@@ -114,11 +113,11 @@ result_step z i = flat_map (result_row z i) (rows z)
 unfoldable pub results : Sizes → List (List ℤ)
 results z = flat_map (result_step z) (places z)
 
--- ---- What a chain is: outputs and operators as in an encoding by pairs.
+-- ---- The clauses that define chains: outputs and operators as in an encoding by pairs.
 unfoldable pub chosen_chain : Words → ℕ → Sizes → List (List ℤ)
 chosen_chain w basis z = out_exists z ++ out_values w z ++ operands_exist z ++ copies z First ++ copies z Second ++ results z ++ operators basis z
 
--- ---- Operands rise, where the basis has each operator with its operands exchanged: for step i,
+-- ---- The first operand is at most the second, if the basis is closed under exchanging them: for step i,
 -- places j below it and k below j, "not j and k".
 
 -- "the step's operands aren't these"
@@ -137,8 +136,8 @@ rising_step z i = flat_map (rising_from z i) (below i)
 unfoldable pub rising : ℕ → Sizes → List (List ℤ)
 rising basis z = if swap_closed (members basis) then flat_map (rising_step z) (places z) else []
 
--- ---- All steps used: for step i, one clause "some output is i, or some later step has i for its
--- first operand, or for its second".
+-- ---- All steps used: for step i, one clause "i drives some output, or some later step has i as its first or
+-- as its second operand".
 
 unfoldable pub choosers : Sizes → ℕ → ℕ → List Raw
 choosers z p i = chooses z First i p ∷ chooses z Second i p ∷ []
@@ -149,17 +148,17 @@ used_step z i = written (map (bears z i) (outputs z) ++ flat_map (choosers z i) 
 unfoldable pub used_steps : Sizes → List (List ℤ)
 used_steps z = flat_map (used_step z) (places z)
 
--- ---- Non-trivial operators: no copy, and no constant where constants can be left out.
+-- ---- Non-trivial operators: no projection, and no constant for bases where constants aren't needed.
 
--- With both operands at place j the operator is a negation, where constants can be left out;
--- otherwise it is at least no copy.
+-- With both operands at place j the operator is a negation, for bases where constants aren't needed; for others
+-- it is at least not the identity.
 unfoldable pub equal_choice : Bool → Sizes → ℕ → ℕ → List (List ℤ)
 equal_choice constants z i j =
     if constants then written (not_these z i j j ++ Var (f_var z i false false) true ∷ []) ++ written (not_these z i j j ++ Var (f_var z i true true) false ∷ [])
     else written (not_these z i j j ++ Var (f_var z i false false) true ∷ Var (f_var z i true true) false ∷ [])
 
--- A negation of an operand has that operand twice: for a member 1010 or 1100 and different places j and
--- k below step i, "the operator isn't this one, or not j and k".
+-- A negation of an operand has that operand twice: for 1010 or 1100 in the basis and different places j and k
+-- below step i, "the operator isn't this one, or not j and k".
 unfoldable pub negation_pair : Sizes → ℕ → ℕ → ℕ → ℕ → List (List ℤ)
 negation_pair z i op j k = if j == k then [] else written (operator_raw z i op ++ not_these z i j k)
 
@@ -175,9 +174,8 @@ trivial_step constants basis z i = not_idle constants basis z i ++ flat_map (equ
 unfoldable pub trivial_steps : ℕ → Sizes → List (List ℤ)
 trivial_steps basis z = flat_map (trivial_step (const_closed (members basis)) basis z) (places z)
 
--- ---- Co-lexicographic order: second operands never decrease, where operands rise, so that the
--- second is the larger: for step i that isn't the last, places k below it and l below k, "i doesn't
--- have k, or step i + 1 doesn't have l".
+-- ---- Co-lexicographic order: second operands never decrease, if the second operand is the larger one: for
+-- step i except the last, places k below it and l below k, "i doesn't have k, or step i + 1 doesn't have l".
 
 unfoldable pub falling_pair : Sizes → ℕ → ℕ → ℕ → List (List ℤ)
 falling_pair z i k l = written (Var (choice_var z Second i k) false ∷ Var (choice_var z Second (i + 1) l) false ∷ [])
@@ -191,9 +189,9 @@ falling_step z i = flat_map (falling_from z i) (below i)
 unfoldable pub falling : ℕ → Sizes → List (List ℤ)
 falling basis z = if swap_closed (members basis) then flat_map (falling_step z) (range_with_len (z.n + 1) (z.r - 1)) else []
 
--- ---- No re-application, where the basis is closed under that: for step i, a later step l, places
--- j and k below i, and o among them, "not j and k, or l doesn't have o and i", and "or l doesn't
--- have i and o". Where operands rise, j is at most k, and there is only the first.
+-- ---- No re-application, if the basis is closed under it: for step i, a later step l, places j and k below i,
+-- and o one of them, "not j and k, or l doesn't have o and i", and "or l doesn't have i and o". Where j is at
+-- most k, only the first clause.
 
 -- the operands, each once, the smaller first
 abbrev pub different : ℕ → ℕ → List ℕ
@@ -217,23 +215,22 @@ again_step ordered z i = flat_map (again_after ordered z i) (above z i)
 unfoldable pub again_steps : ℕ → Sizes → List (List ℤ)
 again_steps basis z = if reapply_closed (members basis) then flat_map (again_step (swap_closed (members basis)) z) (places z) else []
 
--- ---- All cuts, in their order; the last one (normal steps) is that of an encoding by pairs.
+-- ---- All constraints, in their order; the last one (normal steps) is that of the encoding by pairs.
 unfoldable pub chosen_cuts : ℕ → Sizes → List (List ℤ)
 chosen_cuts basis z = rising basis z ++ used_steps z ++ trivial_steps basis z ++ falling basis z ++ again_steps basis z ++ row_0 basis z
 
--- ---- The formula of tables whose outputs are all live.
+-- ---- The formula for tables whose outputs are all live.
 unfoldable pub select_live : Words → ℕ → ℕ → Formula
 select_live w basis r =
     let z = sizes_of w r in
     record { vars = select_vars z; clauses = chosen_chain w basis z ++ chosen_cuts basis z }
 
--- The formula of truth tables, over a set of operators given as a number: that of the live outputs
--- alone.
+-- The formula for any tables, over a set of operators given as a number: that of the live outputs.
 unfoldable pub select_formula : Words → ℕ → ℕ → Formula
 select_formula w basis r = select_live (live_words w) basis r
 
--- ---- The chain that an assignment spells: each operand is the first of the places below the step whose
--- variable is true.
+-- ---- The chain that an assignment spells: each operand is the first lower place whose selection variable is
+-- true.
 
 unfoldable pub first_choice : Sizes → Assignment → Side → ℕ → List ℕ → ℕ
 first_choice z v side i [] = 1

@@ -1,5 +1,5 @@
--- The encoding with a variable for each pair of operands (SSV, single selection variable), and
--- cuts.
+-- The encoding with a selection variable for each pair of operands (SSV, single selection variable), with
+-- symmetry-breaking constraints.
 use Rattle.std.specs.Prelude.{ℕ, List, ◌++◌}
 use Rattle.chain_theory.specs.Chain.{Chain}
 use Rattle.op_basis.specs.Basis.{members}
@@ -14,19 +14,18 @@ use Rattle.enc_theory.specs.Families.{common}
 use Rattle.enc_theory.specs.Cuts.{cuts}
 use Rattle.enc_theory.specs.Decode.{decoded}
 
--- each step with all pairs of lower places; the first place is at most the second where the basis
--- has each operator with its operands exchanged
+-- each step with all pairs of lower places; only those with j <= k if the basis is closed under exchanging the
+-- operands
 abbrev pub ssv_layout : ℕ → Sizes → List StepSlots
 ssv_layout basis z = layout (pairs_below (swap_closed (members basis))) z
 
--- the formula of truth tables whose outputs are all live
+-- the formula for tables whose outputs are all live
 unfoldable pub ssv_live : Words → ℕ → ℕ → Formula
 ssv_live w basis r =
     let z = sizes_of w r in
     record { vars = vars_of z (ssv_layout basis z); clauses = common w basis z (ssv_layout basis z) ++ cuts w basis z (ssv_layout basis z) }
 
--- The formula of truth tables, over a set of operators given as a number: that of the live outputs
--- alone.
+-- The formula for any tables, over a set of operators given as a number: that of the live outputs.
 unfoldable pub ssv_formula : Words → ℕ → ℕ → Formula
 ssv_formula w basis r = ssv_live (live_words w) basis r
 

@@ -1,4 +1,4 @@
--- The encoding by pairs with cuts against the independent program.
+-- SSV with symmetry-breaking constraints against the independent program.
 use Rattle.std.specs.Prelude.{◌≡◌, List, [], ◌∷◌, map, refl}
 use Rattle.op_basis.specs.Closed.{swapped, complement, first_complemented, second_complemented, every_below, swaps, negates_both, has_no_negation_at, negates_one, keeps_constants, has_complements, is_allowed, left_on_first, left_on_second, right_on_first, right_on_second, reapplies, reapplies_all}
 use Rattle.chain_theory.specs.Rows.{row_of}

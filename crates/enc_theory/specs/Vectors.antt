@@ -1,4 +1,4 @@
--- What an independent program computes for some inputs, against the definitions.
+-- The definitions compared with an independent program.
 use Rattle.std.specs.Prelude.{ℕ, ◌+◌, ◌-◌, ◌*◌, ◌%◌, ℤ, pos, negsuc, List, [], ◌∷◌, length}
 use Rattle.sat_theory.specs.Formula.{Formula}
 use Rattle.tt_core.specs.Words.{Words}
@@ -11,8 +11,8 @@ unfoldable pub with_clause : ℕ → List ℤ → ℕ
 with_clause sum [] = with_literal sum (pos 0)
 with_clause sum (l ∷ ls) = with_clause (with_literal sum l) ls
 
--- over the literals in order, with a 0 after each clause, all as numbers of 32 bits: 31 times the
--- sum so far, plus the next one
+-- the checksum of a clause list: over the literals in order, with a 0 after each clause, modulo 2 ^ 32, 31
+-- times the sum so far plus the next number
 unfoldable pub with_clauses : ℕ → List (List ℤ) → ℕ
 with_clauses sum [] = sum
 with_clauses sum (c ∷ cs) = with_clauses (with_clause sum c) cs
@@ -21,7 +21,7 @@ unfoldable pub literal_count : List (List ℤ) → ℕ
 literal_count [] = 0
 literal_count (c ∷ cs) = length c + literal_count cs
 
--- a formula's number of variables, of clauses and of literals, and its checksum
+-- the outline of a formula: the numbers of variables, clauses and literals, and the checksum
 pub record Outline : Type 0 where
   pub vars : ℕ
   pub clauses : ℕ
@@ -31,8 +31,7 @@ pub record Outline : Type 0 where
 unfoldable pub outline : Formula → Outline
 outline f = record { vars = f.vars; clauses = length f.clauses; literals = literal_count f.clauses; checksum = with_clauses 0 f.clauses }
 
--- one of the independent program's lines: the tables, the set of operators, the number of steps, and
--- the outline of its formula
+-- a vector: the tables, the set of operators, the number of steps, and the independent program's outline
 pub record Vector : Type 0 where
   pub tables : Words
   pub basis : ℕ

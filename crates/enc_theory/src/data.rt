@@ -1,6 +1,6 @@
-//! What formulas are described by: sizes, pairs of operands and their variables.
+//! The data of formulas: sizes, pairs of operands, and selection variables.
 
-/// What a formula is made for: `n` inputs, `r` steps and `m` outputs.
+/// The sizes of a formula: `n` inputs, `r` steps and `m` outputs.
 #[derive(Clone, Copy)]
 pub struct Sizes {
     pub n: u32,
@@ -8,14 +8,14 @@ pub struct Sizes {
     pub m: u32,
 }
 
-/// The operands of a step, both places below it.
+/// The operands of a step: two places below its own.
 #[derive(Clone, Copy)]
 pub struct Pair {
     pub j: u32,
     pub k: u32,
 }
 
-/// A pair that a step may have, with its selection variable, which says that it has it.
+/// A pair that a step may have, with its selection variable, which is true if the step has this pair.
 #[derive(Clone, Copy)]
 pub struct Slot {
     pub j: u32,
@@ -23,7 +23,7 @@ pub struct Slot {
     pub var: u32,
 }
 
-/// Which of a step's two operands.
+/// The first or the second operand of a step.
 #[derive(Clone, Copy)]
 pub enum Side {
     First,

@@ -1,7 +1,6 @@
-//! The definitions against an independent program, written from the same description: formulas of
-//! the same numbers of variables, clauses and literals and of the same checksums, for the tables,
-//! sets of operators and sizes of the vectors. Each law is the contract of a function that does
-//! nothing.
+//! The definitions agree with an independent program, written from the same description: their formulas have
+//! the same numbers of variables, clauses and literals and the same checksums, for the tables, sets of
+//! operators and sizes of the vectors. Each law is the contract of a function that does nothing.
 ghost use Rattle.std.specs.Prelude.{◌≡◌, map};
 ghost use Rattle.enc_theory.specs.Vectors.{outline_by, expected};
 ghost use Rattle.enc_theory.specs.Plain.{plain_formula};
@@ -12,22 +11,22 @@ ghost use Rattle.enc_theory.specs.FenceVectors.{fence_vectors, outline_of, expec
 ghost use Rattle.enc_theory.specs.Select.{select_formula};
 ghost use Rattle.enc_theory.specs.SelectVectors.{select_vectors};
 
-/// The formulas of the plain encoding have the numbers of variables, clauses and literals and the checksum of another program's.
+/// The formulas of the plain encoding.
 pub fn plain_is_that_of_another_program()
     ensures { map (outline_by plain_formula) plain_vectors ≡ map expected plain_vectors }
 {}
 
-/// The same for the formulas with a variable for each pair of operands (SSV), with cuts.
+/// The formulas with a selection variable for each pair of operands (SSV) and symmetry-breaking constraints.
 pub fn ssv_is_that_of_another_program()
     ensures { map (outline_by ssv_formula) ssv_vectors ≡ map expected ssv_vectors }
 {}
 
-/// The same for the formulas by fences.
+/// The formulas of fences.
 pub fn fence_is_that_of_another_program()
     ensures { map outline_of fence_vectors ≡ map expected_of fence_vectors }
 {}
 
-/// The same for the formulas with a variable for each operand (MSV).
+/// The formulas with a selection variable for each operand (MSV).
 pub fn select_is_that_of_another_program()
     ensures { map (outline_by select_formula) select_vectors ≡ map expected select_vectors }
 {}

@@ -1,11 +1,11 @@
-//! The parts in which a size is searched (subproblems, each with a formula of its own).
+//! The subproblems of a size, each with a formula of its own.
 use fence_core::Fence;
 
-/// A part of a size: what one formula is made for.
+/// The chains of a size that one formula describes.
 #[derive(Drop)]
 pub enum Part {
     /// All chains of the size.
     Whole,
-    /// Those whose steps are ordered by levels, with the fence's numbers on each.
+    /// The chains whose steps are ordered by levels, with the fence's number of steps on each level.
     Levels(Fence),
 }

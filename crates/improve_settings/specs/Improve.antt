@@ -1,4 +1,4 @@
--- Settings of the improver of netlists.
+-- Settings of netlist improvement.
 use Rattle.std.specs.Prelude.{ℕ, ◌≤◌, ◌<◌, false}
 use Rattle.op_basis.specs.Text.{all_set}
 use Rattle.settings.specs.declared.methods.Method.TheVariants.{Ssv}

@@ -1,4 +1,4 @@
--- Names of methods.
+-- The names of the methods.
 use Rattle.std.specs.Prelude.{ℕ, List, codes, nat_eq, Bool, Option, Some, None, if◌then◌else◌}
 use Rattle.std.specs.Cmp.Lexicographic.{pointwise}
 use Rattle.settings.specs.declared.methods.Method.{Method}
@@ -13,7 +13,7 @@ method_text Fence = codes "fence"
 abbrev pub is_name : List ℕ → Method → Bool
 is_name word method = pointwise nat_eq word (method_text method)
 
--- the method of a name
+-- the method with a given name
 abbrev pub method_named : List ℕ → Option Method
 method_named word =
     if is_name word Plain then Some Plain

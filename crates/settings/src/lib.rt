@@ -1,13 +1,14 @@
-//! Settings of exact synthesis as data with ranges and defaults, for whoever parses them, searches
-//! by them or writes them into a certificate. The crate stands on `op_basis` for bases and on
-//! `chain_theory` for the most steps of a chain, and on nothing that encodes, searches or parses.
+//! Settings of exact synthesis and of netlist improvement as data, with ranges and defaults: shared by the code
+//! that parses them, that searches or improves by them, and that writes them into a certificate. The crate
+//! depends on `op_basis` for bases and on `chain_theory` for the greatest number of steps, and on nothing that
+//! encodes, searches or parses.
 //!
-//! `specs/Synth.antt` says which settings are in their ranges (`IsInRange`), and which are the
-//! defaults (`usual`); `specs/Methods.antt` has the name of each method. A name is that of one
-//! method, and each method has one name (`laws::names_are_of_one_method`).
+//! `specs/Synth.antt` and `specs/Improve.antt` define the valid ranges (`IsInRange`) and the defaults
+//! (`usual`); `specs/Methods.antt` names each method. Names and methods correspond one to one
+//! (`laws::names_are_of_one_method`).
 //!
 //! ```text
-//! let settings = SynthSettings { max: 3, ..SynthSettings::usual() };
+//! let settings = SynthSettings { max: 3, ..SynthSettings::defaults() };
 //! method_named(method_name(settings.method)) // Some(Method::Ssv)
 //! ```
 #![tactic(auto)]

@@ -2,17 +2,18 @@
 ghost use Rattle.std.specs.Prelude.{◌≡◌};
 ghost use Rattle.settings.specs.Methods as spec;
 
-/// The encoding of a size as a formula. With a single selection variable (SSV) for each pair of
-/// operands of a step, or with multiple ones (MSV), one for each operand.
+/// How "is there a chain of this size?" becomes a CNF formula. SSV has one selection variable for each pair of
+/// operands of a step (single selection variable); MSV has one for each operand (multiple selection variables).
 #[derive(Clone, Copy, PartialEq, Eq)]
 pub enum Method {
-    /// SSV without symmetry breaking: each chain of the size is an assignment.
+    /// SSV without symmetry breaking: every chain of the size is a satisfying assignment.
     Plain,
-    /// SSV with symmetry-breaking constraints, which some minimum chain meets.
+    /// SSV with symmetry-breaking constraints, which at least one minimum chain satisfies.
     Ssv,
     /// MSV with the same constraints.
     Select,
-    /// As `Ssv`, one formula for each fence: each way to distribute the steps over levels.
+    /// Like `Ssv`, but with one formula for each fence, that is, for each distribution of the steps over
+    /// levels.
     Fence,
 }
 
@@ -28,7 +29,7 @@ pub fn method_name(method: Method) -> &'static [u8]
     }
 }
 
-/// The method named `word`; None where no method has that name.
+/// The method named `word`; None if no method has that name.
 pub fn method_named(word: &[u8]) -> Option<Method>
     ensures { result ≡ spec.method_named word.now }
 {

@@ -9,23 +9,22 @@ use op_basis::Basis;
 /// The greatest `conflicts`.
 pub const MOST_CONFLICTS: u32 = 10_000_000;
 
-/// Settings of exact synthesis, beside the truth tables.
+/// Settings of exact synthesis, apart from the truth tables.
 #[derive(Clone, Copy, PartialEq, Eq)]
 pub struct SynthSettings {
-    /// The operators (gate types) that a chain may have; one at least.
+    /// The allowed operators (gate types); at least one.
     pub basis: Basis,
-    /// The encoding: how "is there a chain of this size?" becomes a formula.
+    /// The encoding.
     pub method: Method,
-    /// The greatest size that is tried, from 1 to 16.
+    /// The greatest size to try, from 1 to 16.
     pub max: u32,
-    /// The conflict limit: a formula is left open after at least `conflicts` learnt clauses, from 1
-    /// to 10,000,000.
+    /// The conflict limit of each formula: the search may give up and leave a formula open once it has learnt
+    /// at least this many clauses; from 1 to 10,000,000.
     pub conflicts: u32,
 }
 
 impl SynthSettings {
-    /// The defaults: all operators, the method `ssv`, sizes up to 16 and a limit of 100,000
-    /// conflicts.
+    /// The defaults: all operators, the method `ssv`, sizes up to 16, and a limit of 100,000 conflicts.
     pub fn usual() -> SynthSettings
         ensures value { result ≡ usual }
         ensures range { IsInRange result }

@@ -1,4 +1,4 @@
--- The laws of the definition, at the verdict that was judged.
+-- The laws of the definition, applied to the verdict.
 use Rattle.std.proofs.Common.{◌≡◌, List, ℕ, Result, Ok, Err, subst}
 use Rattle.std.specs.Prelude.{IfOk}
 use Rattle.text_core.specs.Lines.{lines_of}

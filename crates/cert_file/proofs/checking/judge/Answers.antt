@@ -1,4 +1,4 @@
--- A refusal of the text is that of the piece.
+-- The fault of the text is that of the piece.
 use Rattle.std.proofs.Common.{[]}
 use Rattle.cert_file.proofs.Standing.{gives_refused}
 use Rattle.cert_file.proofs.checking.judge.Goals as goal

@@ -1,4 +1,4 @@
--- The block begins without a step.
+-- The chain begins without a step.
 use Rattle.std.proofs.Common.{◌∙◌, ap, sym, List, []}
 use Rattle.chain_theory.specs.declared.data.Out.{Out}
 use Rattle.chain_core.specs.declared.frame.Frame.{Frame}

@@ -1,4 +1,4 @@
--- One step more.
+-- One more step.
 use Rattle.std.proofs.Common.{◌≡◌, ◌<◌, ◌∙◌, ap, sym, List, [], ◌∷◌, ◌++◌, length, arith}
 use Rattle.std.proofs.lemmas.List.{length-map, map-append, length-append}
 use Rattle.chain_theory.specs.declared.data.Out.{Out}

@@ -1,4 +1,4 @@
--- A number that was read is within its limit.
+-- A parsed number is within its limit.
 use Rattle.std.proofs.Common.{◌≡◌, ◌≤◌, ℕ, Option, Some, None, List, sym, arith}
 use Rattle.std.specs.Prelude.{IfSome}
 use Rattle.text_core.specs.Numbers.{number_up_to}

@@ -1,4 +1,4 @@
--- The part is one of the size's, and the only one that stands there.
+-- The subproblem is one of the size's: the one at this index.
 use Rattle.std.proofs.Common.{List, Contains, subst}
 use Rattle.enc_theory.specs.declared.part.Part.{Part}
 use Rattle.cert_file.specs.Stages.{later_of}

@@ -1,4 +1,4 @@
--- Where something is due, a line is missing; else what is handed out is the stage's.
+-- If something is due, a line is missing; otherwise the stage's claim is returned.
 use Rattle.std.proofs.Common.{◌≡◌, ℕ, ◌+◌, ◌∙◌, [], length, Some, ap, sym, subst, arith, length-append}
 use Rattle.cert_file.specs.Stages.{IsStage, told_in}
 use Rattle.cert_file.specs.Telling.{Tells, HasEnded}

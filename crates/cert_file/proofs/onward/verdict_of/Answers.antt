@@ -1,4 +1,4 @@
--- The verdict of what is handed out, or the same fault.
+-- The verdict of the claim, or the same fault.
 use Rattle.cert_file.proofs.Exits.{verdict_err}
 use Rattle.cert_file.proofs.onward.verdict_of.Goals as goal
 

@@ -1,4 +1,4 @@
--- The test of the checker is that of the line's literals.
+-- The checker tests the literals of the line.
 use Rattle.std.proofs.Common.{subst, sym}
 use Rattle.lrat_text.specs.declared.line.Line.{Line}
 use Rattle.lrat_text.specs.Values.{line_value}

@@ -1,4 +1,4 @@
--- A line is at fault as the definition says, or it is taken.
+-- A line has a fault as in the definition, or is accepted.
 use Rattle.std.proofs.Common.{◌∙◌, ap, Result, Ok, Err, cond, Bool, arith}
 use Rattle.sat_theory.specs.Line.{Line}
 use Rattle.cert_theory.specs.declared.data.PartError.{PartError}

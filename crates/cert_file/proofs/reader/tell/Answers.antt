@@ -1,4 +1,4 @@
--- What the stage at the end of the text hands out, or the fault of the last line.
+-- The claim of the stage at the end of the text, or the fault of the last line.
 use Rattle.text_core.specs.Lines.{lines_of}
 use Rattle.cert_theory.specs.Judging.{bundle_of}
 use Rattle.cert_file.proofs.Verdicts.{told_given, operators_given}

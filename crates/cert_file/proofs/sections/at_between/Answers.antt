@@ -1,4 +1,4 @@
--- What is due next keeps the heading.
+-- The next stage keeps the header.
 use Rattle.std.proofs.Common.{◌+◌}
 use Rattle.cert_file.proofs.sections.at_between.Goals as goal
 

@@ -1,4 +1,4 @@
--- After the last part stands the next size.
+-- The next size comes after the last subproblem.
 use Rattle.std.proofs.Common.{◌∙◌, List, ap, arith}
 use Rattle.enc_theory.specs.declared.part.Part.{Part}
 use Rattle.cert_theory.specs.Judging.{before, sections_of}

@@ -1,4 +1,4 @@
--- A title that is due was read, is at fault, or there is none.
+-- The name that is due was read, is at fault, or there is none.
 use Rattle.std.proofs.Common.{◌∙◌, ◌∷◌, List, Bool, Ok, Err, ap, refl, sym, subst}
 use Rattle.line_reader.specs.TextLines.{line_of}
 use Rattle.enc_theory.specs.declared.part.Part.{Part}

@@ -1,4 +1,4 @@
--- The answer of all lines, and what follows of the text.
+-- The result of all lines, and what follows for the text.
 use Rattle.text_core.specs.Lines.{lines_of}
 use Rattle.cert_theory.specs.Judging.{bundle_of}
 use Rattle.cert_file.specs.EndLaws.{ended}

@@ -1,4 +1,4 @@
--- All lines come next.
+-- All lines are to come.
 use Rattle.std.proofs.Common.{refl}
 use Rattle.cert_file.proofs.line_stage.StageLineStage.start.Goals as goal
 

@@ -1,4 +1,4 @@
--- The answer for which the stage stands, and what it keeps.
+-- The result that the stage determines, and what it keeps.
 use Rattle.std.proofs.Common.{◌+◌}
 use Rattle.cert_theory.specs.Judging.{bundle_of}
 use Rattle.cert_file.proofs.Standing.{taken_both}

@@ -1,4 +1,4 @@
--- A line is at fault as the definition says, ends the log, or is one more line of it.
+-- A line has a fault as in the definition, ends the log, or is one more line of it.
 use Rattle.std.proofs.Common.{◌≡◌, ◌==◌, ◌∙◌, ap, sym, subst, refl, Bool, Ok}
 use Rattle.cert_theory.specs.PartLines.{closed}
 use Rattle.cert_theory.specs.Gives.{PartFails}
