@@ -1,4 +1,4 @@
-//! The search: a chain of the fewest steps first, and then the fences with fewer levels than it has, level by level.
+//! The search: first a chain with the fewest steps, then the fences with fewer levels than it has, level by level.
 ghost use Rattle.std.specs.Prelude.{◌≡◌, ℕ, ◌≤◌, ◌<◌, ◌+◌, ◌++◌, Some, IfOk, OnOk};
 ghost use Rattle.settings.specs.Synth.{IsInRange};
 ghost use Rattle.chain_theory.specs.Levels.{depth};
