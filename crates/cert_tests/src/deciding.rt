@@ -1,5 +1,5 @@
-//! What was decided of a specification is found again by one that differs in the order of its inputs alone: the second
-//! question goes to a solver that answers nothing.
+//! The cache finds the result of a specification again for one that differs only by an input permutation: the
+//! second question goes to a solver that answers nothing.
 ghost use Rattle.std.specs.Prelude.{◌≡◌, IfSome};
 ghost use Rattle.cert_theory.specs.Bundle.{IsHeading};
 
@@ -12,7 +12,7 @@ use settings::Method;
 use std::alloc::{AllocError, Global};
 use tt_core::read_tables;
 
-/// A solver that never has the memory for an answer.
+/// A solver that always runs out of memory.
 #[derive(Drop)]
 struct Silent;
 
@@ -43,7 +43,8 @@ impl Solver for Silent {
     }
 }
 
-/// The question whether tables, of at most 1,000 bytes, have a chain of at most `max` steps, up to 16, over a basis.
+/// The question whether tables, of at most 1,000 bytes, have a chain of at most `max` steps, up to 16, over a
+/// basis.
 fn heading_of(alloc: Global, text: &[u8], basis: Basis, max: u32) -> Option<Heading>
     ensures heading { IfSome result IsHeading }
     ensures basis { IfSome result (λ heading. heading.basis ≡ basis) }
@@ -54,7 +55,7 @@ fn heading_of(alloc: Global, text: &[u8], basis: Basis, max: u32) -> Option<Head
     let Ok(tables) = read_tables(alloc, text) else {
         return None;
     };
-    // brings the type invariant into the proof
+    // for the prover: brings in the type invariant
     let _inputs = tables.spec.n();
     Some(Heading {
         spec: tables.spec,
@@ -74,7 +75,7 @@ enum Answer {
     Nothing,
 }
 
-/// The answer to a question of a memory for its basis.
+/// The answer to a question, with a cache for its basis.
 fn answer_of<S: Solver>(alloc: Global, memory: &mut Memory, heading: &Heading) -> Answer
     requires heading { IsHeading heading.now }
     requires basis { memory.old.basis ≡ heading.now.basis }
@@ -91,8 +92,8 @@ fn answer_of<S: Solver>(alloc: Global, memory: &mut Memory, heading: &Heading) -
 /// All operators.
 const ALL: u16 = 65_535;
 
-/// Whether tables have this answer by a solver, others the same one then without a solver, and neither one without a
-/// solver before.
+/// Whether tables have this answer by a solver, other tables then have the same one without a solver, and neither
+/// had one without a solver before.
 fn is_found_again(alloc: Global, first: &[u8], second: &[u8], max: u32, wanted: Answer) -> bool {
     let basis = Basis::new(ALL);
     let Some(heading) = heading_of(alloc, first, basis, max) else {
@@ -108,8 +109,8 @@ fn is_found_again(alloc: Global, first: &[u8], second: &[u8], max: u32, wanted: 
     before == Answer::Nothing && found == wanted && again == wanted
 }
 
-/// Tables, the same with their inputs in another order, the greatest number of steps, and the answer. Fewer steps than
-/// five are gone over without a search.
+/// Tables, the same tables with their inputs permuted, the greatest number of steps, and the answer. Fewer than
+/// five steps are enumerated without a search.
 const TURNED: &[(&[u8], &[u8], u32, Answer)] = &[
     // the full adder beside the AND of x1 and x2; beside that of x1 and x3
     (

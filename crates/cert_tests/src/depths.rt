@@ -1,4 +1,4 @@
-//! Depth bundles in pieces: wherever they are cut, the answer is that of the whole.
+//! Depth certificates in pieces: wherever they are cut, the answer is that of the whole.
 use crate::pieces::{MOST_BYTES, comes_in_pieces};
 use depth_file::{DepthError, DepthVerdict, Stage, check_depth};
 use std::alloc::{AllocError, Global};
@@ -11,7 +11,7 @@ const BUNDLE: &[u8] =
 const BY_PAIRS: &[u8] =
     b"chains 1\ninputs 1\n01\nbasis all\nmethod ssv\nconflicts 7\nmax 0\nchain 0\nout x1\nminimum 0\nend\n";
 
-/// A bundle and what stands after it.
+/// A certificate and the lines after it.
 fn text_of(alloc: Global, bundle: &[u8], behind: &[u8]) -> Result<Vec<u8>, AllocError> {
     let mut text = Vec::new(alloc);
     text.extend_from_slice(bundle)?;
@@ -19,7 +19,7 @@ fn text_of(alloc: Global, bundle: &[u8], behind: &[u8]) -> Result<Vec<u8>, Alloc
     Ok(text)
 }
 
-/// Bundles, what stands after them, and the answer.
+/// Certificates, the lines after them, and the answer.
 const JUDGED: &[(&[u8], &[u8], Result<DepthVerdict, DepthError>)] = &[
     (
         BUNDLE,
@@ -57,7 +57,7 @@ const JUDGED: &[(&[u8], &[u8], Result<DepthVerdict, DepthError>)] = &[
     ),
 ];
 
-/// Whether a bundle with what stands after it has this answer, whole and in pieces.
+/// Whether a certificate with the lines after it has this answer, whole and in pieces.
 fn is_judged(
     alloc: Global,
     bundle: &[u8],

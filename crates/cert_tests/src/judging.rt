@@ -1,10 +1,10 @@
-//! Certificates as texts, judged, whole and in pieces: wherever they are cut, the answer is that of the whole.
+//! Certificates as texts, judged whole and in pieces: wherever they are cut, the answer is that of the whole.
 use crate::pieces::{MOST_BYTES, comes_in_pieces};
 use cert_file::{BundleError, Stage, Verdict, check_bundle};
 use lrat_check::CheckError;
 use std::alloc::{AllocError, Global};
 
-/// Not by AND alone: no chain of at most one step, with a log for either size.
+/// NOT by AND alone: no chain of at most one step, with a log for either size.
 const NOT_BY_AND: &[&[u8]] = &[
     b"chains 1",
     b"inputs 1",
@@ -25,7 +25,7 @@ const NOT_BY_AND: &[&[u8]] = &[
     b"end",
 ];
 
-/// The prefix of that, as far as the log of one step.
+/// The prefix of that, up to the log of one step.
 const NOT_YET: &[&[u8]] = &[
     b"chains 1",
     b"inputs 1",
@@ -61,7 +61,7 @@ const XOR: &[&[u8]] = &[
     b"end",
 ];
 
-/// Not by AND alone, by fences: each size has one, and its parts bear titles.
+/// NOT by AND alone, by fences: each size has one, and its logs have their names.
 const NOT_BY_FENCES: &[&[u8]] = &[
     b"chains 1",
     b"inputs 1",
@@ -84,13 +84,13 @@ const NOT_BY_FENCES: &[&[u8]] = &[
     b"end",
 ];
 
-/// What stands in the place of a line: whole lines with their ends, or nothing. Lines are numbered from 1.
+/// The replacement of a line: whole lines with their ends, or nothing. Lines are numbered from 1.
 type Put = (usize, &'static [u8]);
 
-/// In the place of no line.
+/// No line is replaced.
 const NOTHING: Put = (0, b"");
 
-/// Adds a line with its end, or what stands in its place.
+/// Appends a line with its end, or its replacement.
 fn push_line(
     text: &mut Vec<u8>,
     number: usize,
@@ -108,7 +108,7 @@ fn push_line(
     text.extend_from_slice(b"\n")
 }
 
-/// The text of some lines, where two are replaced.
+/// The text of some lines, two of which are replaced.
 fn text_of(alloc: Global, lines: &[&[u8]], first: Put, second: Put) -> Result<Vec<u8>, AllocError> {
     let mut text = Vec::new(alloc);
     for (index, line) in lines.iter().enumerate() {
@@ -117,7 +117,7 @@ fn text_of(alloc: Global, lines: &[&[u8]], first: Put, second: Put) -> Result<Ve
     Ok(text)
 }
 
-/// Certificates, what stands in the place of two of their lines, and the answer.
+/// Certificates, the replacements of two of their lines, and the answer.
 const JUDGED: &[(&[&[u8]], Put, Put, Result<Verdict, BundleError>)] = &[
     // refutations
     (NOT_BY_AND, NOTHING, NOTHING, Ok(Verdict::NoChain(1))),
@@ -206,7 +206,7 @@ const JUDGED: &[(&[&[u8]], Put, Put, Result<Verdict, BundleError>)] = &[
         NOTHING,
         Err(BundleError::Syntax(4)),
     ),
-    // by `ssv` three clauses of cuts stand after the plain ones, and take the next three ids
+    // with `ssv` three symmetry-breaking clauses come after the plain ones, and take the next three ids
     (
         NOT_YET,
         (5, b"method ssv\n"),
@@ -269,7 +269,7 @@ const JUDGED: &[(&[&[u8]], Put, Put, Result<Verdict, BundleError>)] = &[
     ),
     (XOR, (15, b""), NOTHING, Err(BundleError::Syntax(15))),
     (XOR, (15, b"end\n\n"), NOTHING, Err(BundleError::Syntax(16))),
-    // titles are compared
+    // the names of fences are compared
     (NOT_BY_FENCES, NOTHING, NOTHING, Ok(Verdict::NoChain(1))),
     (
         NOT_BY_FENCES,

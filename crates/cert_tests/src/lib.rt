@@ -1,5 +1,6 @@
-//! Tests of the public calls of the crates from `bundle_core` to `synth_core`: certificates as texts, judged and
-//! written, the log of one part, the search, the memory of what was decided, and what `synth` makes of tables.
+//! Tests of the public functions of the crates from `bundle_core` to `synth_core`: certificates as texts, judged
+//! and written, the log of one subproblem, the search, the cache of decided specifications, and the results of
+//! `synth`.
 #![tactic(auto)]
 
 #[cfg(test)]

@@ -1,11 +1,11 @@
-//! The log of one part, line after line.
+//! The log of one subproblem, line by line.
 use cert_file::{Ended, PartError, PartReader, PartStep};
 use cnf_core::{Clause, Cnf};
 use lrat_check::CheckError;
 use lrat_text::{Line, read_line};
 use std::alloc::{AllocError, Global};
 
-/// The clauses 1: 1, 2 and 2: -1, 2 and 3: -2, as lines that add them.
+/// The clauses 1: `1 2`, 2: `-1 2` and 3: `-2`, as lines that add them.
 const CLAUSES: &[&[u8]] = &[b"1 1 2 0 0", b"2 -1 2 0 0", b"3 -2 0 0"];
 
 /// Adds the clause of a line, if it has one within the variables.
@@ -34,7 +34,7 @@ fn reader(alloc: Global, conflicts: u32, end: Ended) -> Result<PartReader, Alloc
     PartReader::new(alloc, formula(alloc)?, conflicts, end)
 }
 
-/// Whether a log goes on.
+/// Whether a log continues.
 fn is_more(step: &PartStep) -> bool {
     match step {
         PartStep::More(_) => true,
@@ -42,7 +42,7 @@ fn is_more(step: &PartStep) -> bool {
     }
 }
 
-/// Whether the log goes on after the second of two lines.
+/// Whether the log continues after the second of two lines.
 fn second(alloc: Global, reader: PartReader, first: &[u8], line: &[u8]) -> Result<bool, PartError> {
     match reader.feed(alloc, first, true)? {
         PartStep::More(reader) => Ok(is_more(&reader.feed(alloc, line, true)?)),
@@ -50,7 +50,7 @@ fn second(alloc: Global, reader: PartReader, first: &[u8], line: &[u8]) -> Resul
     }
 }
 
-/// How a log ends, how many additions an open one needs, two lines, and whether the log goes on after them.
+/// How a log ends, how many additions an open one needs, two lines, and whether the log continues after them.
 const LOGS: &[(Ended, u32, &[u8], &[u8], Result<bool, PartError>)] = &[
     // a refutation, and a log without the empty clause
     (Ended::Refuted, 9, b"4 0 3 1 2 0", b"done", Ok(false)),
@@ -61,7 +61,7 @@ const LOGS: &[(Ended, u32, &[u8], &[u8], Result<bool, PartError>)] = &[
         b"done",
         Err(PartError::NotRefuted),
     ),
-    // an open part: enough additions, too few, the empty clause, a clause that isn't new
+    // an open subproblem: enough additions, too few, the empty clause, a clause that isn't new
     (Ended::Open, 1, b"4 2 0 1 2 0", b"done", Ok(false)),
     (
         Ended::Open,
@@ -84,7 +84,7 @@ const LOGS: &[(Ended, u32, &[u8], &[u8], Result<bool, PartError>)] = &[
         b"5 2 0 4 0",
         Err(PartError::NotNew),
     ),
-    // one more line, one that doesn't hold, and one that is none
+    // one line more, one that doesn't hold, and one that isn't a line of a log
     (Ended::Refuted, 1, b"4 2 0 1 2 0", b"5 2 0 4 0", Ok(true)),
     (
         Ended::Refuted,

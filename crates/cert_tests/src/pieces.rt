@@ -6,7 +6,7 @@ ghost use Rattle.line_reader.specs.Seen.{seen};
 use line_reader::{LineStage, PieceReader};
 use std::alloc::Global;
 
-/// The most bytes of a text that is cut everywhere.
+/// The most bytes of a text that is cut at every position.
 pub(crate) const MOST_BYTES: usize = 10_000;
 
 /// Feeds two pieces.
@@ -32,7 +32,7 @@ fn by_bytes<S: LineStage>(reader: PieceReader<S>, text: &[u8]) -> Result<S::End,
     reader.finish()
 }
 
-/// Whether a text has this answer wherever it is cut in two, and byte by byte.
+/// Whether a text has this answer cut in two at any position, and byte by byte.
 pub(crate) fn comes_in_pieces<S: LineStage>(
     alloc: Global,
     text: &[u8],

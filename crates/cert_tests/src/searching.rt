@@ -12,7 +12,7 @@ const ALL: u16 = 65_535;
 /// NAND alone.
 const NAND: u16 = 16_384;
 
-/// What a search makes of tables, of at most 1,000 bytes.
+/// The search for tables of at most 1,000 bytes.
 fn searched(
     alloc: Global,
     text: &[u8],
@@ -48,10 +48,10 @@ const FREE: &[u8] = b"inputs 2\n----\n";
 /// The full adder.
 const ADDER: &[u8] = b"inputs 3\n01101001\n00010111\n";
 
-/// XOR and its complement: for NOT a constant step is needed.
+/// XOR and its complement: NOT needs a constant step.
 const XORS: u16 = 576;
 
-/// Tables, the basis, the method, and the fewest steps, which are the number of sections.
+/// Tables, the basis, the method, and the fewest steps, which is the number of sections.
 const FOUND: &[(&[u8], u16, Method, u32)] = &[
     (XOR, ALL, Method::Plain, 1),
     (XOR, ALL, Method::Ssv, 1),
@@ -65,8 +65,8 @@ const FOUND: &[(&[u8], u16, Method, u32)] = &[
     (FREE, ALL, Method::Plain, 0),
 ];
 
-/// Tables, the basis, the method, the most steps and the budget of clauses, the verdict, and how many sections there
-/// are. The last row has next to no work.
+/// Tables, the basis, the method, the most steps, the budget of learnt clauses, the verdict, and the number of
+/// sections. In the last row the budget is one clause.
 const LIMITED: &[(&[u8], u16, Method, u32, u32, Verdict, usize)] = &[
     (XOR, NAND, Method::Plain, 3, 100_000, Verdict::NoChain(3), 4),
     (AND, ALL, Method::Ssv, 1, 100_000, Verdict::NoChain(1), 2),
@@ -122,7 +122,7 @@ fn ends(alloc: Global, search: Search) -> bool {
     }
 }
 
-/// Whether the search for a chain for XOR goes on after size 0 and ends after size 1.
+/// Whether the search for a chain for XOR continues after size 0 and ends after size 1.
 fn goes_on(alloc: Global) -> bool {
     let Ok(tables) = read_tables(alloc, XOR) else {
         return false;

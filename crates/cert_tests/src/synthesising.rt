@@ -1,4 +1,4 @@
-//! What `synth` makes of tables.
+//! The certificates of `synth`.
 use bundle_core::Verdict;
 use cdcl_core::Cdcl;
 use op_basis::Basis;
@@ -13,21 +13,21 @@ const ALL: u16 = 65_535;
 /// NAND alone.
 const NAND: u16 = 16_384;
 
-/// What comes after a piece: the search that goes on, or the verdict.
+/// What comes after a piece: the continued search, or the verdict.
 #[derive(Drop)]
 enum Next {
     Size(Search),
     End(Verdict),
 }
 
-/// A certificate as it was handed out, and what it comes to.
+/// A certificate as it was handed out, and its verdict.
 #[derive(Drop)]
 struct Certificate {
     text: Vec<u8>,
     verdict: Verdict,
 }
 
-/// Appends the piece of the next size, and says what comes after it.
+/// Appends the piece of the next size, and returns what comes after it.
 fn push_piece(alloc: Global, search: Search, whole: &mut Vec<u8>) -> Result<Next, AllocError> {
     match go_on::<Cdcl>(alloc, search)? {
         Piece::Section { search, text } => {
@@ -41,7 +41,7 @@ fn push_piece(alloc: Global, search: Search, whole: &mut Vec<u8>) -> Result<Next
     }
 }
 
-/// Appends the pieces of all sizes, of which there are no more than 18.
+/// Appends the pieces of all sizes, at most 18.
 fn push_pieces(alloc: Global, search: Search, whole: &mut Vec<u8>) -> Result<Verdict, AllocError> {
     let mut search = search;
     for _size in 0..18u32 {
@@ -53,7 +53,7 @@ fn push_pieces(alloc: Global, search: Search, whole: &mut Vec<u8>) -> Result<Ver
     Err(AllocError)
 }
 
-/// What is certified of tables of at most 1,000 bytes.
+/// The certificate for tables of at most 1,000 bytes.
 fn certified(
     alloc: Global,
     text: &[u8],
@@ -80,17 +80,17 @@ fn certified(
     })
 }
 
-/// What is wanted of a text.
+/// The expected result of a text.
 #[derive(Clone, Copy)]
 enum Wanted {
-    /// A certificate that ends so.
+    /// A certificate with this end.
     Ends(&'static [u8]),
-    /// This certificate, by a chain of no step.
+    /// This certificate, with a chain without steps.
     Whole(&'static [u8]),
     Refused(SpecError),
 }
 
-/// Whether a certificate is the one that is wanted.
+/// Whether a certificate is the expected one.
 fn is_wanted(certificate: &Certificate, wanted: Wanted) -> bool {
     match wanted {
         Wanted::Ends(end) => certificate.text.ends_with(end),
@@ -101,7 +101,7 @@ fn is_wanted(certificate: &Certificate, wanted: Wanted) -> bool {
     }
 }
 
-/// Whether a refusal is the one that is wanted.
+/// Whether a refusal is the expected one.
 fn is_refusal(error: SpecError, wanted: Wanted) -> bool {
     match wanted {
         Wanted::Refused(told) => told == error,
@@ -109,7 +109,7 @@ fn is_refusal(error: SpecError, wanted: Wanted) -> bool {
     }
 }
 
-/// Texts, the basis, the method, and what is wanted.
+/// Texts, the basis, the method, and the expected result.
 const CERTIFIED: &[(&[u8], u16, Method, Wanted)] = &[
     (
         b"inputs 2\n0110\n",
@@ -117,21 +117,21 @@ const CERTIFIED: &[(&[u8], u16, Method, Wanted)] = &[
         Method::Ssv,
         Wanted::Ends(b"\nchain 1\nx3 x1 x2 0110\nout x3\nminimum 1\nend\n"),
     ),
-    // the cuts leave this chain alone
+    // the symmetry-breaking constraints leave this chain alone
     (
         b"inputs 3\n00000001\n",
         ALL,
         Method::Ssv,
         Wanted::Ends(b"\nchain 2\nx4 x1 x2 0001\nx5 x3 x4 0001\nout x5\nminimum 2\nend\n"),
     ),
-    // a complemented output isn't free
+    // a complemented output needs a step
     (
         b"inputs 2\n0110\n1001\n",
         ALL,
         Method::Ssv,
         Wanted::Ends(b"\nminimum 2\nend\n"),
     ),
-    // NOT by NAND, cells that are all free, a basis that isn't closed under exchanged operands
+    // NOT by NAND, cells that are all don't-cares, a basis that isn't closed under exchange of the operands
     (
         b"inputs 1\n10\n",
         NAND,
@@ -186,7 +186,7 @@ const CERTIFIED: &[(&[u8], u16, Method, Wanted)] = &[
     ),
 ];
 
-/// Whether what is certified of a text is what is wanted.
+/// Whether the result for a text is the expected one.
 fn is_certified(alloc: Global, text: &[u8], basis: u16, method: Method, wanted: Wanted) -> bool {
     match certified(alloc, text, basis, method, 16, 100_000) {
         Ok(certificate) => is_wanted(&certificate, wanted),

@@ -11,7 +11,7 @@ use std::alloc::{AllocError, Global};
 use std::test::Fail;
 use tt_core::read_tables;
 
-/// A section of size 0: the whole with no line, refuted, and a fence with one line, open.
+/// A section of size 0: the whole size with no line, refuted, and a fence with one line, open.
 fn section(alloc: Global) -> Result<Section, AllocError> {
     let mut log = Log::new(alloc);
     log.add(5, &[Lit::of(2, true)], &[1, 2])?;

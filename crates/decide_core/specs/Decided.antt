@@ -1,4 +1,4 @@
--- What is known of the chains of at most as many steps as a heading says.
+-- What is known about the chains of at most `max` steps of a header.
 use Rattle.std.specs.Prelude.{◌≡◌, ℕ, ◌+◌, Option, Some, None}
 use Rattle.chain_theory.specs.Chain.{Chain}
 use Rattle.chain_theory.specs.Agreement.{NoneBelow}
@@ -16,20 +16,20 @@ use Rattle.decide_core.specs.declared.deciding.Sized.{Sized}
 use Rattle.decide_core.specs.declared.deciding.Sized.TheVariants as sizes
 use Rattle.decide_core.specs.declared.deciding.Decided.TheVariants.{Shorter, Least, Open}
 
--- no chain of fewer steps than this agrees, over the basis
+-- no chain over the basis with fewer than `size` steps implements the tables
 abbrev pub Fewer : Heading → ℕ → Type 0
 Fewer h size = NoneBelow (specification h.spec) (members h.basis) size
 
--- no chain of at most `max` steps does
+-- no chain of at most `max` steps implements the tables
 abbrev pub HasNone : Heading → Type 0
 HasNone h = Fewer h (h.max + 1)
 
--- a chain that agrees, over the basis
+-- a chain over the basis that implements the tables, with at most `max` steps
 pub record IsShorter (h : Heading) (c : Chain) : Type 0 where
   pub size : ℕ
   pub found : IsFound h size c
 
--- no chain is remembered that the heading asks for
+-- no cached chain answers the header
 abbrev pub IsUseless : Heading → Option Chain → Type 0
 IsUseless h None = Unit {0}
 IsUseless h (Some c) = IsShorter h c → ⊥
@@ -38,7 +38,7 @@ pub record IsOpenVerdict (v : Verdict) : Type 0 where
   pub low : ℕ
   pub verdict_is : v ≡ verdicts.Open low
 
--- a valid certificate for the heading, which leaves a size open
+-- a valid certificate for the header that leaves a size open
 pub record IsLeftOpen (h : Heading) (b : Bundle) : Type 0 where
   pub heading : b.heading ≡ h
   pub valid : IsValid b
@@ -51,19 +51,19 @@ IsDecided h (Shorter c) = IsShorter h c
 IsDecided h Least = HasNone h
 IsDecided h (Open b) = IsLeftOpen h b
 
--- no size is left open
+-- the question is decided
 abbrev pub IsClosed : Decided → Type 0
 IsClosed (Shorter c) = Unit {0}
 IsClosed Least = Unit {0}
 IsClosed (Open b) = ⊥
 
--- what a search with a certificate says
+-- the result of a search with a certificate
 abbrev pub IsSearched : Heading → Searched → Type 0
 IsSearched h (searches.Found c fewest) = IsShorter h c × Fewer h fewest
 IsSearched h searches.Nothing = HasNone h
 IsSearched h (searches.Open b) = IsLeftOpen h b
 
--- what is known of sizes alone
+-- the result of a search without a certificate
 abbrev pub IsSized : Heading → Sized → Type 0
 IsSized h (sizes.Found c low) = IsShorter h c × Fewer h low
 IsSized h sizes.Nothing = HasNone h

@@ -1,4 +1,4 @@
--- What counting, a size and a whole search say of chains.
+-- What the lower bound, the search of a size and a whole search prove about chains.
 use Rattle.std.proofs.Common.{◌≡◌, ℕ, ◌+◌, ◌<◌, ◌≤◌, true, false, All, ap, List, [], ◌∷◌, length, Option, Some, None, refl, sym, subst, arith, ◌∙◌}
 use Rattle.std.proofs.lemmas.Grind.{common_steps}
 use Rattle.chain_theory.specs.Chain.{Step, Chain, IsChain}
@@ -36,7 +36,7 @@ size_refuted h size s heading few is refuted fewer =
 pub fewer_none : (h : Heading) → Fewer h 0
 fewer_none h q low has = absurd (omega (arith, low))
 
--- what counting says
+-- what the lower bound proves
 pub fewer_below : (h : Heading) (from : ℕ) → h.max < from → Fewer h from → HasNone h
 fewer_below h from high fewer q low has = fewer q (omega (arith, high, low)) has
 
@@ -64,7 +64,7 @@ whole_none h b same valid closed none =
 pub whole_found : (h : Heading) (b : Bundle) (c : Chain) → b.heading ≡ h → IsValid b → b.chain ≡ Some c → IsShorter h c
 whole_found h b c same valid has = record { size = length b.sections; found = subst (λ (k : Heading). IsFound k (length b.sections) c) same (ending_of b (Some c) has valid).0 }
 
--- what a verdict rules out fewer steps than
+-- the lower bound that each verdict proves
 pub minimum_fewest : (s : Specification) (basis : Basis) (v : Verdict) (r : ℕ) → v ≡ verdicts.Minimum r → Means s basis v → NoneBelow s basis r
 minimum_fewest s basis v r e means =
     let least : Means s basis (verdicts.Minimum r) = subst (Means s basis) e means in

@@ -1,10 +1,10 @@
--- Headings whose tables have their inputs in another order.
+-- Headers with permuted tables.
 use Rattle.std.specs.Prelude.{◌≡◌, ℕ, List}
 use Rattle.tt_core.specs.Words.{specification}
 use Rattle.cert_theory.specs.declared.data.Heading.{Heading}
 use Rattle.spec_order.specs.Order.{IsOrder, IsTurned}
 
--- k asks for the tables of h with their inputs in an order, and for as few steps over the same basis
+-- k has the tables of h with their inputs permuted, the same `max` and the same basis
 pub record IsTurnedTo (h k : Heading) (order : List ℕ) : Type 0 where
   pub numbers : IsOrder h.spec.n order
   pub turned : IsTurned (specification h.spec) (specification k.spec) order

@@ -1,4 +1,4 @@
--- What tables with their inputs in another order say of a heading.
+-- What permuted tables prove about a header.
 use Rattle.std.proofs.Common.{◌≡◌, ℕ, ◌+◌, ◌≤◌, List, length, sym, ◌∙◌, subst, arith}
 use Rattle.chain_theory.specs.Chain.{Chain}
 use Rattle.chain_theory.specs.Agreement.{IsOver, NoneBelow}
@@ -25,7 +25,7 @@ heading_turned h spec conflicts heading tables some few = record {
   };
 }
 
--- what the other tables have no chain of fewer steps for, these have none for
+-- a lower bound for the permuted tables holds for the original ones
 pub fewer_turned : (h k : Heading) (order : List ℕ) (size : ℕ) → IsTurnedTo h k order → Fewer k size → Fewer h size
 fewer_turned h k order size t none =
     none_turned (specification h.spec) (specification k.spec) order (members h.basis) size t.numbers t.turned
@@ -34,14 +34,14 @@ fewer_turned h k order size t none =
 pub least_turned : (h k : Heading) (order : List ℕ) → IsTurnedTo h k order → HasNone k → HasNone h
 least_turned h k order t none = fewer_turned h k order (h.max + 1) t (subst (λ (m : ℕ). Fewer k (m + 1)) t.max none)
 
--- where each bound holds of the other tables too
+-- and the other way round
 pub least_carried : (h k : Heading) (order : List ℕ) → IsTurnedTo h k order → ((size : ℕ) → Fewer h size → Fewer k size) → HasNone h → HasNone k
 least_carried h k order t carries none = carries (k.max + 1) (subst (λ (m : ℕ). Fewer h (m + 1)) (sym t.max) none)
 
 pub turned_to : (h k : Heading) (order : List ℕ) → IsPermuting h.spec.n order → IsTurned (specification h.spec) (specification k.spec) order → k.basis ≡ h.basis → k.max ≡ h.max → IsTurnedTo h k order
 turned_to h k order is turned basis_is max_is = record { numbers = is.numbers; turned = turned; basis = basis_is; max = max_is }
 
--- the order that goes back, by the clauses of `inverse`
+-- the inverse order, by the clauses of `inverse`
 pub turned_from : (h k : Heading) (order back : List ℕ) → IsPermuting h.spec.n order → IsOrder (length order) back → (IsPermuting (length order) order → GoesBack (length order) order back) → IsTurned (specification h.spec) (specification k.spec) order → k.basis ≡ h.basis → k.max ≡ h.max → IsTurnedTo k h back
 turned_from h k order back is is_back goes turned basis_is max_is =
     let size : length order ≡ h.spec.n = is.numbers.size in
@@ -55,7 +55,7 @@ turned_from h k order back is is_back goes turned basis_is max_is =
 pub chain_ordered : (h k : Heading) (order : List ℕ) (c : Chain) → IsTurnedTo h k order → IsShorter h c → IsOrder c.n order
 chain_ordered h k order c t short = subst (λ (n : ℕ). IsOrder n order) (sym short.found.agrees.inputs) t.numbers
 
--- a chain that one heading asks for, with its inputs in the order of the other's
+-- a solution for one header, with its inputs permuted, is a solution for the permuted header
 pub shorter_turned : (h k : Heading) (order : List ℕ) (c : Chain) → IsTurnedTo h k order → IsShorter h c → IsShorter k (turned_chain order c)
 shorter_turned h k order c t short =
     let is : IsOrder c.n order = chain_ordered h k order c t short in

@@ -1,4 +1,4 @@
--- What a memory and a chain that is judged say of a heading.
+-- What the cache and a checked chain prove about a header.
 use Rattle.std.proofs.Common.{◌≡◌, ℕ, ◌≤◌, ◌<◌, true, List, ◌∷◌, ◌++◌, length, Option, Some, None, refl, sym, ap, ◌∙◌, subst, arith, inl, inr}
 use Rattle.std.specs.Prelude.{All, max, slice_index_or}
 use Rattle.std.proofs.Math.Seq.{get_or-append_seam}
@@ -50,7 +50,7 @@ compared_differs c s o at is e agrees =
     missed_none : IsFirstDifference c s at.0 at.1 → ⊥
     missed_none differs = true≢false (sym (agrees.cells at.0 at.1 differs.output_from differs.output differs.row) ∙ differs.missed)
 
--- ---- what a chain that the heading asks for has
+-- ---- the properties of a solution
 
 pub shorter_inputs : (h : Heading) (c : Chain) → (c.n ≡ h.spec.n → ⊥) → IsShorter h c → ⊥
 shorter_inputs h c other short = other short.found.agrees.inputs
@@ -73,12 +73,12 @@ judged_shorter h c small few over agrees = record {
   found = record { chain = small.chain; size_is = refl; size_to = few; over = over; agrees = agrees };
 }
 
--- ---- facts
+-- ---- proved bounds
 
 pub recalled : (h : Heading) (basis fewest : ℕ) (key : List ℕ) → IsHeading h → basis ≡ h.basis → key ≡ spelled h.spec → IsFact (members basis) key fewest → Fewer h fewest
 recalled h basis fewest key heading same spells fact = subst (λ (b : ℕ). NoneBelow (specification h.spec) (members b) fewest) same (fact h.spec heading.tables (sym spells))
 
--- of two bounds the greater one
+-- the greater of two lower bounds
 pub fewer_both : (h : Heading) (counted known : ℕ) → Fewer h counted → Fewer h known → Fewer h (max counted known)
 fewer_both h counted known first second q low has = elim (cases_lt q counted) [
   | inl less ↦ first q less has

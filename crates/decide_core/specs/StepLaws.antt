@@ -1,4 +1,4 @@
--- What the walk over steps says of a heading that asks for few.
+-- What the enumeration of few steps proves about a header.
 use Rattle.std.specs.Prelude.{length, IfNone, IfSome}
 use Rattle.std.proofs.Common.{◌≡◌, Option, Some, None, subst}
 use Rattle.chain_theory.specs.Chain.{Chain}

@@ -1,4 +1,4 @@
-//! What searches say: of a size below which no chain agrees, and of all sizes with a certificate.
+//! The results of searches: from a given size on without a certificate, and of all sizes with one.
 ghost use Rattle.std.specs.Prelude.{◌≡◌, ◌≤◌, true, false, length, IfOk};
 ghost use Rattle.chain_theory.specs.Operator.{Basis};
 ghost use Rattle.chain_theory.specs.Specification.{Specification};
@@ -13,36 +13,36 @@ use sat_solve::Solver;
 use size_loop::{SizeOutcome, search, search_size};
 use std::alloc::{AllocError, Global};
 
-/// What is known of the chains of at most as many steps as a heading says.
+/// Whether some chain of at most `max` steps of the header implements its tables.
 #[derive(Drop)]
 pub enum Decided {
-    /// One agrees.
+    /// This chain does.
     Shorter(Chain),
-    /// None agrees.
+    /// No chain does.
     Least,
-    /// A search has spent its budget: its certificate.
+    /// Undecided: the certificate of a search that has spent its budget.
     Open(Bundle),
 }
 
-/// What a search with a certificate says.
+/// The result of a search with a certificate.
 #[derive(Drop)]
 pub enum Searched {
-    /// A chain agrees, and none of fewer than `fewest` steps.
+    /// This chain implements the tables, and no chain of fewer than `fewest` steps does.
     Found { chain: Chain, fewest: u32 },
-    /// No chain of at most as many steps as the heading says does.
+    /// No chain of at most `max` steps of the header does.
     Nothing,
-    /// It stays open: its certificate.
+    /// Undecided, with the certificate.
     Open(Bundle),
 }
 
-/// What is known where no certificate is asked for.
+/// The result of a search without a certificate.
 #[derive(Drop)]
 pub enum Sized {
-    /// A chain agrees, and none of fewer than `low` steps.
+    /// This chain implements the tables, and no chain of fewer than `low` steps does.
     Found { chain: Chain, low: u32 },
-    /// No chain of at most as many steps as the heading says does.
+    /// No chain of at most `max` steps of the header does.
     Nothing,
-    /// It stays open; none of fewer than `low` steps does.
+    /// Undecided; no chain of fewer than `low` steps does.
     Open { low: u32 },
 }
 
@@ -59,7 +59,7 @@ fn is_open(verdict: Verdict) -> bool
     }
 }
 
-/// A number of steps that no chain which agrees is below, by a verdict.
+/// The lower bound that a verdict proves: no chain of fewer steps implements the specification.
 #[tactic(auto, using(crate::specs::DecidedLaws::deciding))]
 fn fewest_of(verdict: Verdict) -> u32
     ensures { (s : Specification) (basis : Basis) → Means s basis verdict → NoneBelow s basis result }
@@ -72,7 +72,7 @@ fn fewest_of(verdict: Verdict) -> u32
     }
 }
 
-/// Searches all sizes with a certificate.
+/// Searches all sizes, with a certificate.
 #[tactic(auto, using(crate::specs::DecidedLaws::deciding))]
 pub fn search_whole<S: Solver>(alloc: Global, question: Question) -> Result<Searched, AllocError>
     ensures { IfOk result (λ searched. IsSearched question.entry.heading.now searched) }
@@ -102,7 +102,7 @@ pub fn search_whole<S: Solver>(alloc: Global, question: Question) -> Result<Sear
     }
 }
 
-/// What a search says that begins at a size, where no chain of fewer steps agrees.
+/// Searches the sizes from `from` on, where no chain of fewer steps implements the tables.
 #[tactic(auto, using(crate::specs::DecidedLaws::deciding))]
 pub fn search_from<S: Solver>(
     alloc: Global,
@@ -126,7 +126,7 @@ pub fn search_from<S: Solver>(
     Ok(Sized::Nothing)
 }
 
-/// The chain without steps and outs, where no output is asked for.
+/// The chain without steps and outputs, for tables without outputs.
 #[tactic(auto, using(crate::specs::DecidedLaws::deciding))]
 pub fn no_steps(alloc: Global, heading: &Heading) -> Chain
     requires output { length heading.now.spec.on ≡ 0 }

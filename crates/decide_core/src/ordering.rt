@@ -1,7 +1,8 @@
-//! Counting first, for at most four steps then a walk over steps, and else what is remembered and searched, with the inputs
-//! in a normal order (the P-class of the tables): so windows that differ in the order of their inputs share what was found.
-//! A chain goes back by the inverse order. The first search has few conflicts; what it leaves open is searched for the tables
-//! as they are asked for, with a certificate and the whole budget.
+//! The order of the methods: the lower bound first, then for at most four steps their enumeration, else the cache
+//! and the searches, with the inputs in normal order (the P-class of the tables). So windows that differ only by
+//! an input permutation share their results, and chains are permuted back by the inverse order. The first search
+//! has few conflicts; what it leaves open is searched for the original tables, with a certificate and the whole
+//! budget.
 ghost use Rattle.std.specs.Prelude.{◌≡◌, ℕ, ◌≤◌, IfOk};
 ghost use Rattle.tt_core.specs.Words.{specification};
 ghost use Rattle.cert_theory.specs.declared.data.Heading.{Heading as HeadingOf};
@@ -22,11 +23,11 @@ use spec_memory::{Key, Memory};
 use spec_order::{inverse, normal_order, turned_chain, turned_spec};
 use std::alloc::{AllocError, Global};
 
-/// The most conflicts of the first search of a size, which keeps no certificate. What isn't decided by then is searched
-/// with a certificate, with the whole budget.
+/// The conflict limit of the first search of a size, which keeps no certificate. What it leaves open is searched
+/// with a certificate and the whole budget.
 const FIRST_CONFLICTS: u32 = 10_000;
 
-/// The most steps that are gone over: for more, a search is faster.
+/// The most steps that are enumerated: for more, a search is faster.
 const FEW_STEPS: u32 = 4;
 
 /// The budget of the first search.
@@ -38,7 +39,7 @@ fn first_conflicts(conflicts: u32) -> u32
     conflicts.min(FIRST_CONFLICTS)
 }
 
-/// The heading for tables whose inputs are in another order, for the first search.
+/// The header for the tables with permuted inputs, for the first search.
 #[tactic(auto, using(crate::specs::OrderedLaws::ordering))]
 pub(crate) fn turned_heading(
     alloc: Global,
@@ -64,7 +65,7 @@ pub(crate) fn turned_heading(
     })
 }
 
-/// A chain that one heading asks for, with its inputs in the order of another one.
+/// Permutes the inputs of a chain, which turns a solution for one header into one for the permuted header.
 pub(crate) fn reordered(alloc: Global, chain: &Chain, order: &[u32]) -> Result<Chain, AllocError>
     requires { IsOrder chain.now.n order.now }
     ensures { IfOk result (λ turned. (h k : HeadingOf) → IsTurnedTo h k order.now → IsShorter h chain.now → IsShorter k turned) }
@@ -72,8 +73,8 @@ pub(crate) fn reordered(alloc: Global, chain: &Chain, order: &[u32]) -> Result<C
     turned_chain(alloc, chain, order)
 }
 
-/// Searches what the first search left open with a certificate and the whole budget. What it finds is noted for the tables
-/// with their inputs in the normal order.
+/// Searches what the first search left open, with a certificate and the whole budget. The result is cached for the
+/// tables with their inputs in normal order.
 #[tactic(auto, using(crate::specs::OrderedLaws::ordering))]
 fn search_open<S: Solver>(
     alloc: Global,
@@ -103,8 +104,8 @@ fn search_open<S: Solver>(
     }
 }
 
-/// Decides by the inputs in an order what counting leaves. Where the first search would have the whole budget, the search
-/// with a certificate is the only one.
+/// Decides, with the inputs permuted, what the lower bound leaves undecided. If the first search would have the
+/// whole budget, the search with a certificate is the only one.
 #[tactic(auto, using(crate::specs::OrderedLaws::ordering))]
 fn decide_turned<S: Solver>(
     alloc: Global,
@@ -131,9 +132,9 @@ fn decide_turned<S: Solver>(
     }
 }
 
-/// Decides whether a chain of at most `heading.max` steps agrees with the heading's tables, by counting, by a memory for
-/// the heading's basis, and for at most four steps by going over them, else by a search, from which the memory learns. A
-/// certificate comes only where a search has spent its budget.
+/// Decides whether a chain of at most `heading.max` steps implements the header's tables: by the lower bound, by a
+/// cache for the header's basis, for at most four steps by enumeration, else by a search, whose result is cached.
+/// A certificate comes only if a search has spent its budget.
 #[tactic(auto, using(crate::specs::OrderedLaws::ordering))]
 pub fn decide<S: Solver>(
     alloc: Global,
@@ -143,7 +144,7 @@ pub fn decide<S: Solver>(
     requires heading { IsHeading heading.now }
     requires basis { memory.old.basis ≡ heading.now.basis }
     ensures decided { IfOk result (λ decided. IsDecided heading.now decided) }
-    // Where at most four steps are asked for, nothing stays open.
+    // With at most four steps nothing stays open.
     ensures closed { heading.now.max ≤ 4 → IfOk result IsClosed }
     ensures basis { memory.new.basis ≡ memory.old.basis }
 {

@@ -1,11 +1,11 @@
-//! What is asked: a heading that was checked.
+//! A question: a header that was checked.
 ghost use Rattle.std.specs.Prelude.{◌≡◌, ◌<◌, length};
 ghost use Rattle.cert_theory.specs.Bundle.{IsHeading};
 
 use bundle_core::Heading;
 
-/// A heading whose settings are in their ranges, and whose tables have an output at least: whether a chain of at most
-/// `heading.max` steps over its basis agrees with its tables.
+/// A header whose settings are in range and whose tables have at least one output. The question is whether a chain
+/// of at most `heading.max` steps over its basis implements its tables.
 #[derive(Clone, Copy)]
 pub struct Question<'a> {
     pub heading: &'a Heading,

@@ -1,5 +1,5 @@
-//! What was found is remembered, so that a specification that was decided isn't searched again. A refutation is a
-//! fact of the memory; a chain that is remembered is judged before it is used.
+//! The cache in use: results are stored, so that a specification isn't searched twice. A lower bound of the cache
+//! is proved; a chain of the cache is checked before it is used.
 ghost use Rattle.std.specs.Prelude.{◌≡◌, ◌≤◌, true, false, length, IfSome, IfNone, IfOk};
 ghost use Rattle.tt_core.specs.Words.{specification};
 ghost use Rattle.op_basis.specs.Basis.{members};
@@ -26,7 +26,7 @@ fn is_over(chain: &Chain, basis: Basis) -> bool
     first_outside(chain, basis).is_none()
 }
 
-/// Whether a chain agrees with a specification.
+/// Whether a chain implements a specification.
 #[tactic(auto, using(crate::specs::RememberedLaws::remembering))]
 fn agrees(chain: &Chain, spec: &Spec) -> bool
     requires inputs { chain.now.n ≡ spec.now.n }
@@ -37,7 +37,8 @@ fn agrees(chain: &Chain, spec: &Spec) -> bool
     first_difference(chain, spec).is_none()
 }
 
-/// Whether a chain is one that the heading asks for.
+/// Whether a chain answers the header: its inputs, outputs, number of steps and basis fit, and it implements the
+/// tables.
 #[tactic(auto, using(crate::specs::RememberedLaws::remembering))]
 pub fn serves(chain: &Chain, heading: &Heading) -> bool
     ensures yes { result ≡ true → IsShorter heading.now chain.now }
@@ -68,7 +69,7 @@ pub(crate) fn copied(alloc: Global, chain: &Chain) -> Result<Chain, AllocError>
     Ok(Chain::new(chain.n(), steps, outs))
 }
 
-/// The chain that is remembered, if the heading asks for it.
+/// The cached chain, if it answers the header.
 pub(crate) fn remembered(
     alloc: Global,
     memory: &Memory,
@@ -89,7 +90,7 @@ pub(crate) fn remembered(
     }
 }
 
-/// What is noted where no chain was found.
+/// The entry for a search that found no chain.
 pub(crate) fn without_chain(fewest: u32, open: bool) -> Found
     ensures { result.fewest ≡ fewest }
 {
@@ -100,7 +101,7 @@ pub(crate) fn without_chain(fewest: u32, open: bool) -> Found
     }
 }
 
-/// What is noted where a chain was found.
+/// The entry for a chain that was found.
 pub(crate) fn with_chain(fewest: u32, chain: Chain) -> Found
     ensures { result.fewest ≡ fewest }
 {
@@ -111,7 +112,7 @@ pub(crate) fn with_chain(fewest: u32, chain: Chain) -> Found
     }
 }
 
-/// Searches, and notes what was found.
+/// Searches, and stores the result.
 #[tactic(auto, using(crate::specs::RememberedLaws::remembering))]
 fn search_new<S: Solver>(
     alloc: Global,
@@ -144,7 +145,7 @@ fn search_new<S: Solver>(
     }
 }
 
-/// Decides by memory, and searches what it doesn't know, if that is asked for; else it stays open.
+/// Decides by the cache. What that doesn't know is searched if `searches` holds; else it stays undecided.
 #[tactic(auto, using(crate::specs::RememberedLaws::remembering))]
 pub fn decide_sizes<S: Solver>(
     alloc: Global,

@@ -1,5 +1,6 @@
-//! Few steps are gone over, with no search and nothing left open. What the walk finds is remembered as what a search finds
-//! is, with the inputs in their normal order; one or two steps are gone over faster than they are remembered.
+//! Chains of few steps are enumerated, without a search, and nothing stays open. The results are cached like those
+//! of a search, with the inputs in normal order. Chains of one or two steps are enumerated faster than they are
+//! looked up.
 ghost use Rattle.std.specs.Prelude.{◌≡◌, ◌≤◌, length, IfSome, IfNone, IfOk};
 ghost use Rattle.spec_order.specs.Order.{IsPermuting};
 ghost use Rattle.decide_core.specs.Decided.{IsDecided, IsClosed, IsShorter, HasNone};
@@ -15,10 +16,10 @@ use spec_order::{inverse, normal_order};
 use std::alloc::{AllocError, Global};
 use step_core::few_steps;
 
-/// The most steps of which nothing is remembered.
+/// The most steps whose results aren't cached.
 const FORGOTTEN_STEPS: u32 = 2;
 
-/// Decides by going over steps.
+/// Decides by enumeration.
 #[tactic(auto, using(crate::specs::StepLaws::stepping))]
 fn walked(alloc: Global, heading: &Heading) -> Result<Decided, AllocError>
     requires few { heading.now.max ≤ 4 }
@@ -31,15 +32,14 @@ fn walked(alloc: Global, heading: &Heading) -> Result<Decided, AllocError>
     }
 }
 
-/// How many steps a chain has.
+/// The number of steps of a chain.
 fn size_of(chain: &Chain) -> u32
     ensures { result ≡ length chain.now.steps }
 {
     chain.steps().len() as u32
 }
 
-/// A chain that the heading asks for, or None where there is none, by memory, and by going over steps what it doesn't
-/// know.
+/// A chain that answers the header, or None if there is none: from the cache, or else by enumeration.
 #[tactic(auto, using(crate::specs::StepLaws::stepping))]
 fn known_steps(
     alloc: Global,
@@ -74,7 +74,7 @@ fn known_steps(
     }
 }
 
-/// Decides by going over steps, or by memory, with the inputs in an order.
+/// Decides by the cache or by enumeration, with the inputs permuted.
 #[tactic(auto, using(crate::specs::OrderedLaws::ordering))]
 fn walked_turned(
     alloc: Global,
@@ -97,7 +97,7 @@ fn walked_turned(
     }
 }
 
-/// Decides whether a chain of at most four steps agrees. Nothing stays open.
+/// Decides whether a chain of at most four steps implements the tables. Nothing stays open.
 #[tactic(auto, using(crate::specs::OrderedLaws::ordering))]
 pub(crate) fn decide_few(
     alloc: Global,

@@ -73,7 +73,7 @@ filter_is : (k : ℕ) (parts : List Part) (part : Part) → Contains (filter (at
 filter_is k [] part there = absurd (omega (arith, there.1))
 filter_is k (p ∷ ps) part there = head_is k p part (filter (at_level k) ps) (at_level k p) refl (filter_is k ps part) there
 
--- a part that was picked is one of the size, and has its levels
+-- a chosen subproblem is one of the size, and has the level
 pub level_part : (w : Words) (r k : ℕ) (own : List Part) (part : Part) → own ≡ filter (at_level k) (parts_for w r) → Contains own part → Contains (parts_for w r) part × (part_levels part ≡ k)
 level_part w r k own part is there =
     let inside : Contains (filter (at_level k) (parts_for w r)) part = subst (λ (xs : List Part). Contains xs part) is there in
@@ -105,7 +105,7 @@ level_found : (w : Words) (r k : ℕ) (part : Part) (c : Chain) → Contains (pa
 unfolding parts_for
 level_found w r k part c there same fits = let named = levels_part (fences_for w r) part there in fits_by part named.0 k c named.1 same fits
 
--- what comes of a fence
+-- the result of one fence
 pub tried_low : (h : Heading) (size : ℕ) (part : Part) (outcome : PartOutcome) → Contains (parts_for h.spec size) part → IsTried h size part outcome → IsTriedLow h size part outcome
 tried_low h size part (outcomes.Found c) there tried = (tried.0, level_found h.spec size (part_levels part) part c there refl tried.1)
 tried_low h size part (outcomes.Logged p) there tried = tried
@@ -250,7 +250,7 @@ open_below w size d l ps same opened =
     let below = flatter_is (fences_for w size) d named.0 named.1 in
     omega (arith, below.1, named.2)
 
--- ---- the bundle
+-- ---- the certificate
 
 minimum_by : (size count : ℕ) (o : Option ℕ) → verdicts.Minimum size ≡ found count o → (size ≡ count) × (o ≡ None)
 minimum_by size count None e = (cc, refl)

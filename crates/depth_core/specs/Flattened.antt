@@ -1,4 +1,4 @@
--- What the search for fewer levels comes to.
+-- The results of the search for fewer levels.
 use Rattle.std.specs.Prelude.{◌≡◌, ℕ, ◌==◌, Bool, nat_lt, List, length, map, All, Option, Some, None}
 use Rattle.chain_theory.specs.Chain.{Chain}
 use Rattle.chain_theory.specs.Levels.{HasLevels, depth}
@@ -19,7 +19,7 @@ use Rattle.depth_core.specs.declared.levels.Level.TheVariants as levels
 use Rattle.depth_core.specs.declared.searching.Deep.{Deep}
 use Rattle.depth_core.specs.declared.searching.Deep.TheVariants.{Least, Other}
 
--- whether the fence of a part has k levels
+-- whether the fence of a subproblem has k levels
 abbrev pub at_level : ℕ → Part → Bool
 at_level k part = part_levels part == k
 
@@ -27,16 +27,17 @@ at_level k part = part_levels part == k
 abbrev pub is_flatter : ℕ → PartLog → Bool
 is_flatter d p = nat_lt (part_levels p.part) d
 
--- a part has a chain of at most its fence's levels, or a log of its own that ends as it says, and is thrifty
+-- a chain with at most the levels of the subproblem's fence; or the subproblem's log, which ends as it states,
+-- with its bounds on live additions
 abbrev pub IsTriedLow : Heading → ℕ → Part → PartOutcome → Type 0
 IsTriedLow h size part (parts.Found c) = IsFound h size c × HasLevels (part_levels part) c
 IsTriedLow h size part (parts.Logged p) = (p.part ≡ part) × IsPartLog h size p × IsThriftyLog h size p
 
--- the logs of fences, in their order, which are thrifty
+-- the logs of fences, in their order, with their bounds on live additions
 abbrev pub AreLogs : Heading → ℕ → List (List ℕ) → List PartLog → Type 0
 AreLogs h size fences logs = AreLogged h size (map Levels fences) logs
 
--- the fences of k levels have a chain of at most k levels, or their logs
+-- for the fences with k levels: a chain with at most k levels, or their logs
 abbrev pub IsLevel : Heading → ℕ → ℕ → Level → Type 0
 IsLevel h size k (levels.Found c) = IsFound h size c × HasLevels k c
 IsLevel h size k (levels.Logged logs) = AreLogs h size (of_levels (fences_for h.spec size) k) logs.items
@@ -46,26 +47,26 @@ pub record IsFlat (h : Heading) (size : ℕ) (c : Chain) (logs : List PartLog) :
   pub found : IsFound h size c
   pub logged : AreLogs h size (flatter h.spec size (depth c)) logs
 
--- the sections of a bundle whose verdict is a minimum of `size` steps, and its chain
+-- the sections and the chain of a certificate whose verdict is a minimum of `size` steps
 pub record AreSearched (h : Heading) (sections : List Section) (c : Chain) (size : ℕ) : Type 0 where
   pub valid : IsValid (record { heading = h; sections = sections; chain = Some c; verdict = verdicts.Minimum size })
   pub thrifty : AreThrifty h sections
 
--- a depth bundle for the heading, whose logs are thrifty
+-- a depth certificate for the header, with the bounds on live additions of its logs
 pub record IsLeast (h : Heading) (b : DepthBundle) : Type 0 where
   pub heading : b.bundle.heading ≡ h
   pub is_depth : IsDepth b
   pub thrifty : AreThrifty h b.bundle.sections
   pub parts_thrifty : All (IsThriftyLog h (length b.bundle.sections)) b.parts
 
--- the fewest steps, where a verdict is a minimum
+-- the fewest steps, if a verdict is a minimum
 abbrev pub minimum_of : Verdict → Option ℕ
 minimum_of (verdicts.Minimum r) = Some r
 minimum_of (verdicts.NoChain x) = None
 minimum_of (verdicts.Bounded low r) = None
 minimum_of (verdicts.Open low) = None
 
--- a valid bundle for the heading whose verdict is no minimum, and whose logs are thrifty
+-- a valid certificate for the header whose verdict isn't a minimum, with the bounds on live additions of its logs
 pub record IsOther (h : Heading) (b : Bundle) : Type 0 where
   pub heading : b.heading ≡ h
   pub valid : IsValid b

@@ -1,4 +1,4 @@
--- The text of a depth bundle, by its parts.
+-- The text of a depth certificate, piece by piece.
 use Rattle.std.specs.Prelude.{ℕ, List}
 use Rattle.cert_theory.specs.Bundle.{PartLog, Bundle}
 use Rattle.depth_theory.specs.declared.data.DepthVerdict.{DepthVerdict}

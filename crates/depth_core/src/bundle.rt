@@ -1,9 +1,10 @@
-//! A depth bundle, as contracts see it.
+//! Depth certificates, as contracts see them.
 use bundle_core::{Bundle, PartLog};
 use depth_theory::DepthVerdict;
 use std::marker::Model;
 
-/// A bundle by fences, the logs `parts` of the fences with fewer levels than its chain, and the verdict on its levels.
+/// A certificate by fences, the logs `parts` of the fences with fewer levels than its chain, and the verdict on
+/// its levels.
 #[derive(Drop)]
 pub struct DepthBundle {
     pub bundle: Bundle,

@@ -1,5 +1,5 @@
-//! The fences of one number of levels, in their order: the first with a chain ends it; where none has one, there is a
-//! log for each of them.
+//! The fences with one number of levels, in their order. The first one with a chain ends the search; if none has
+//! one, there is a log for each.
 ghost use Rattle.std.specs.Prelude.{◌≡◌, ◌≤◌, ◌<◌, IfOk, Contains};
 ghost use Rattle.std.specs.List.{filter};
 ghost use Rattle.settings.specs.declared.methods.Method.TheVariants.{Fence};
@@ -16,16 +16,16 @@ use sat_solve::Solver;
 use size_loop::{PartOutcome, try_part};
 use std::alloc::{AllocError, Global};
 
-/// What the fences of `levels` levels come to.
+/// The result for the fences with `levels` levels.
 #[derive(Drop)]
 pub(crate) enum Level {
-    /// A chain of the size that has at most `levels` levels.
+    /// A chain of the size with at most `levels` levels.
     Found(Chain),
-    /// The logs of these fences, in which no chain was found.
+    /// The logs of these fences; none has a chain.
     Logged(Vec<PartLog>),
 }
 
-/// How many levels the fence of a part has.
+/// The number of levels of a subproblem's fence.
 pub(crate) fn levels_in(part: &Part) -> usize
     ensures { result ≡ part_levels part.now }
 {
@@ -35,7 +35,7 @@ pub(crate) fn levels_in(part: &Part) -> usize
     }
 }
 
-/// A copy of a part.
+/// A copy of a subproblem.
 fn copied(alloc: Global, part: &Part) -> Result<Part, AllocError>
     ensures { IfOk result (λ copy. copy ≡ part.now) }
 {
@@ -48,7 +48,7 @@ fn copied(alloc: Global, part: &Part) -> Result<Part, AllocError>
     }
 }
 
-/// Copies of the parts whose fences have `levels` levels, in their order.
+/// Copies of the subproblems whose fences have `levels` levels, in their order.
 #[tactic(auto, using(crate::proofs::LevelLogs::picked))]
 fn with_levels(alloc: Global, parts: &[Part], levels: usize) -> Result<Vec<Part>, AllocError>
     ensures { IfOk result (λ own. own.items ≡ filter (at_level levels) parts.now) }
@@ -64,7 +64,7 @@ fn with_levels(alloc: Global, parts: &[Part], levels: usize) -> Result<Vec<Part>
     Ok(own)
 }
 
-/// Searches a part of `size` by fences with the solver `S`.
+/// Searches a subproblem of `size` by fences with the solver `S`.
 fn try_fence<S: Solver>(
     alloc: Global,
     heading: &Heading,
@@ -81,7 +81,7 @@ fn try_fence<S: Solver>(
     Ok(outcome)
 }
 
-/// Searches those parts of `size` whose fences have `levels` levels, of all its `parts`, with the solver `S`.
+/// Searches those of the subproblems `parts` of `size` whose fences have `levels` levels, with the solver `S`.
 #[tactic(auto, using(crate::proofs::LevelLogs::levels))]
 pub(crate) fn search_level<S: Solver>(
     alloc: Global,
@@ -106,7 +106,7 @@ pub(crate) fn search_level<S: Solver>(
     Ok(Level::Logged(logs))
 }
 
-/// Those of the logs whose fences have fewer than `levels` levels.
+/// The logs whose fences have fewer than `levels` levels.
 #[tactic(auto, using(crate::proofs::LevelLogs::kept))]
 pub(crate) fn flatter_than(
     alloc: Global,
@@ -124,7 +124,7 @@ pub(crate) fn flatter_than(
     Ok(kept)
 }
 
-/// How many levels the first open fence has.
+/// The number of levels of the first open fence.
 #[tactic(auto, using(crate::proofs::LevelLogs::opened))]
 pub(crate) fn open_levels(parts: &[PartLog]) -> Option<usize>
     ensures { result ≡ open_levels_of parts.now }

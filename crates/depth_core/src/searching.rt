@@ -1,4 +1,4 @@
-//! The search: a chain of the fewest steps first, and then the fences with fewer levels than it has, level by level.
+//! The search: first a chain with the fewest steps, then the fences with fewer levels than it has, level by level.
 ghost use Rattle.std.specs.Prelude.{◌≡◌, ℕ, ◌≤◌, ◌<◌, ◌+◌, ◌++◌, Some, IfOk, OnOk};
 ghost use Rattle.settings.specs.Synth.{IsInRange};
 ghost use Rattle.chain_theory.specs.Levels.{depth};
@@ -22,16 +22,16 @@ use size_loop::search;
 use std::alloc::{AllocError, Global};
 use tt_core::Spec;
 
-/// What a search for the fewest steps and levels comes to.
+/// The result of a search for the fewest steps and levels.
 #[derive(Drop)]
 pub enum Deep {
-    /// A chain of the fewest steps was found, and the flatter fences were searched.
+    /// A chain with the fewest steps was found, and the fences with fewer levels were searched.
     Least(DepthBundle),
-    /// The fewest steps aren't known, or no chain is within `max`: a bundle whose verdict isn't a minimum.
+    /// The fewest steps aren't known, or no chain is within `max`: a certificate whose verdict isn't a minimum.
     Other(Bundle),
 }
 
-/// A chain of `levels` levels, and the logs `parts` of the fences with fewer.
+/// A chain of `levels` levels, and the logs `parts` of the fences with fewer levels.
 #[derive(Drop)]
 struct Flat {
     chain: Chain,
@@ -39,7 +39,7 @@ struct Flat {
     levels: u32,
 }
 
-/// Adds the logs of one more level.
+/// Appends the logs of one more level.
 fn add_logs(logs: &mut Vec<PartLog>, more: Vec<PartLog>) -> Result<(), AllocError>
     ensures { OnOk result (logs.new.items ≡ logs.old.items ++ more.items) }
 {
@@ -50,7 +50,7 @@ fn add_logs(logs: &mut Vec<PartLog>, more: Vec<PartLog>) -> Result<(), AllocErro
 }
 
 /// Searches the fences of `size` with fewer levels than `chain` has, level by level. The first chain found is the
-/// flattest, and the logs of all fences with fewer levels than it go with it.
+/// flattest. The result has it and the logs of all fences with fewer levels.
 #[tactic(auto, using(crate::proofs::LevelLogs::flattening))]
 fn flatten<S: Solver>(
     alloc: Global,
@@ -89,7 +89,7 @@ fn flatten<S: Solver>(
     })
 }
 
-/// The verdict on a chain of `levels` levels, by the logs `parts` of the flatter fences.
+/// The verdict on a chain of `levels` levels, from the logs `parts` of the fences with fewer levels.
 fn verdict_of(parts: &[PartLog], levels: u32) -> DepthVerdict
     requires below { (low : ℕ) → open_levels_of parts.now ≡ Some low → low < levels }
     ensures { result ≡ levels_found (open_levels_of parts.now) levels }
@@ -103,7 +103,7 @@ fn verdict_of(parts: &[PartLog], levels: u32) -> DepthVerdict
     }
 }
 
-/// The fewest steps, where the verdict of the bundle is a minimum.
+/// The fewest steps, if the certificate's verdict is a minimum.
 fn minimum_in(bundle: &Bundle) -> Option<u32>
     ensures { result ≡ minimum_of bundle.now.verdict }
 {
@@ -113,7 +113,7 @@ fn minimum_in(bundle: &Bundle) -> Option<u32>
     }
 }
 
-/// The depth bundle of a bundle whose verdict is a minimum.
+/// The depth certificate for a certificate whose verdict is a minimum.
 #[tactic(auto, using(crate::proofs::LevelLogs::bundling))]
 fn least<S: Solver>(
     alloc: Global,
@@ -145,7 +145,8 @@ fn least<S: Solver>(
     }))
 }
 
-/// The depth bundle of a bundle whose verdict is a minimum of `size` steps, taken apart.
+/// The depth certificate for a certificate whose verdict is a minimum of `size` steps: takes it apart and searches
+/// on.
 #[tactic(auto, using(crate::proofs::LevelLogs::searching))]
 fn deepened<S: Solver>(alloc: Global, bundle: Bundle, size: u32) -> Result<Deep, AllocError>
     requires by_fences { bundle.heading.method ≡ Fence }
@@ -166,10 +167,10 @@ fn deepened<S: Solver>(alloc: Global, bundle: Bundle, size: u32) -> Result<Deep,
     }
 }
 
-/// Searches the sizes from 0 to `max` by fences with the solver `S` for a chain of the fewest steps over the basis that
-/// implements the tables, and among the chains of that size for one of the fewest levels. A part is left open where the
-/// solver has learnt `budget` clauses or more. The basis isn't empty, and `max` and `budget` are in the ranges of
-/// `settings`.
+/// Searches the sizes from 0 to `max` by fences with the solver `S` for a chain of the fewest steps over the basis
+/// that implements the tables, and among the chains of that size for one of the fewest levels. A subproblem is
+/// left open once the solver has learnt at least `budget` clauses. The basis isn't empty, and `max` and `budget`
+/// are in the ranges of `settings`.
 #[tactic(auto, using(crate::proofs::LevelLogs::searching))]
 pub fn least_depth<S: Solver>(
     alloc: Global,

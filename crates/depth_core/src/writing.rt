@@ -1,4 +1,4 @@
-//! Depth bundles as they are written.
+//! Depth certificates as they are written.
 ghost use Rattle.std.specs.Prelude.{◌≡◌, ◌++◌, ◌∷◌, decimal, OnOk, OnErr};
 ghost use Rattle.text_core.specs.Lines.{line_bytes};
 ghost use Rattle.chain_core.specs.Spelling.{line};
@@ -14,7 +14,7 @@ use depth_theory::DepthVerdict;
 use std::alloc::AllocError;
 use text_core::push_number;
 
-/// How many levels the chain has, by the verdict.
+/// The number of levels of the chain, from the verdict.
 fn levels_of(verdict: DepthVerdict) -> u32
     ensures { result ≡ spelling.levels_of verdict }
 {
@@ -24,7 +24,7 @@ fn levels_of(verdict: DepthVerdict) -> u32
     }
 }
 
-/// Appends a line of a word and two numbers.
+/// Appends a line with a keyword and two numbers.
 fn push_two(text: &mut Vec<u8>, word: &[u8], first: u32, second: u32) -> Result<(), AllocError>
     ensures { OnOk result (text.new.items ≡ text.old.items ++ line_bytes (line (word.now ++ (decimal first ++ 32 ∷ decimal second)))) }
 {
@@ -33,7 +33,7 @@ fn push_two(text: &mut Vec<u8>, word: &[u8], first: u32, second: u32) -> Result<
     push_numbered(text, b" ", second)
 }
 
-/// Appends the line of the depth.
+/// Appends the line with the depth.
 #[tactic(auto, unfolding(depth_theory::specs::DepthSpelling::depth_line))]
 fn push_depth(text: &mut Vec<u8>, depth: u32) -> Result<(), AllocError>
     ensures { OnOk result (text.new.items ≡ text.old.items ++ line_bytes (line (spelling.depth_line depth))) }
@@ -52,7 +52,7 @@ fn push_levels(text: &mut Vec<u8>, verdict: DepthVerdict) -> Result<(), AllocErr
     }
 }
 
-/// Appends the lines of a depth bundle.
+/// Appends the lines of a depth certificate.
 fn push_all(
     text: &mut Vec<u8>,
     bundle: &Bundle,
@@ -71,7 +71,7 @@ fn push_all(
     Ok(())
 }
 
-/// Appends the one spelling of a depth bundle with an output. On an error nothing was written.
+/// Appends the unique text of a depth certificate whose tables have an output. On an error nothing was written.
 #[tactic(auto, using(crate::proofs::Written::pieces))]
 pub fn write_depth(value: &DepthBundle, out: &mut Vec<u8>) -> Result<(), AllocError>
     requires is_depth { IsDepth value.now }

@@ -1,4 +1,4 @@
--- The lines of the bundle, and what its end hands out.
+-- The lines of the certificate at the head, and what its reader returns at its end.
 use Rattle.std.proofs.Common.{◌≡◌, ℕ, ◌+◌, Bool, true, false, List, [], ◌∷◌, ◌++◌, length, Option, Some, None, Result, Ok, Err, refl, sym, ap, ◌∙◌, subst, arith, append_assoc, append-nil, length-append}
 use Rattle.std.proofs.lemmas.Grind.{common_steps, flat_map-append}
 use Rattle.text_core.specs.Lines.{Line, lines_of, line_bytes}
@@ -33,7 +33,7 @@ use Rattle.depth_file.proofs.Fronts.{front_again_of, end_here, no_end, nothing_l
 
 -- ---- answers
 
--- what holds of each answer is how the lines are judged
+-- a property of each answer is how the lines are judged
 pub judged_by : (r : Answer) (lines : List Line) → ((answer : Answer) → IsAnswer lines answer → Gives (λ (v : DepthVerdict). v) r answer) → judging.Judged (Gives (λ (v : DepthVerdict). v) r) lines
 judged_by r lines given = record {
   refused = λ e is. given (Err (errors.Bundle e)) (InFront e is);
@@ -68,7 +68,7 @@ answer_fails lines answer (bundle_errors.NotNew n) is fails = answer_told lines 
 answer_fails lines answer (bundle_errors.WrongVerdict n) is fails = answer_told lines answer (bundle_errors.WrongVerdict n) is fails
 answer_fails lines answer bundle_errors.Memory is fails = tt
 
--- ---- a line of the bundle
+-- ---- a line of the certificate
 
 text_on : (read : List Line) (l : Line) → text_of (read ++ l ∷ []) ≡ text_of read ++ line_bytes l
 text_on read l = flat_map-append line_bytes read (l ∷ []) ∙ ap (λ (bs : List ℕ). text_of read ++ bs) (append-nil (line_bytes l))
@@ -124,7 +124,7 @@ front_ends reader next number lines ls l answer is same last stands =
       answered = is.answered;
     }
 
--- no line was `end`, and none is left
+-- no line was `end`, and no line is left
 pub front_over : (reader : BundlePieces) (number : ℕ) (answer : Answer) → IsFront reader number [] answer → IsBehind reader number [] answer
 front_over reader number answer is =
     let all : front_of is.whole ≡ is.read = is.front_is ∙ ap (λ (xs : List Line). is.read ++ xs) nothing_left.0 ∙ append-nil is.read in
@@ -137,13 +137,13 @@ front_over reader number answer is =
       answered = is.answered;
     }
 
--- ---- after the bundle
+-- ---- after the certificate
 
 pub behind_fails : (reader : BundlePieces) (number : ℕ) (ls : List Line) (answer : Answer) (e : BundleError) → IsBehind reader number ls answer → ((text : List ℕ) → bundles.StandsFor (seen reader) text → cert.Fails e (bundle_of (lines_of text))) → Fails (as_whole e) answer
 behind_fails reader number ls answer e is exact =
     answer_fails is.whole answer e is.answered (subst (λ (xs : List Line). cert.Fails e (bundle_of xs)) is.again (exact (text_of (front_of is.whole)) is.stands))
 
--- what the reader reports, where it reports something
+-- what the reader returns, if it returns a certificate
 pub record WasTold (reader : BundlePieces) (t : Told) : Type 0 where
   pub exact : (text : List ℕ) → bundles.StandsFor (seen reader) text → bundle_of (lines_of text) ≡ Ok t.verdict
   pub told : (text : List ℕ) (b : Bundle) → bundles.StandsFor (seen reader) text → IsBundle text b → IsTold b t

@@ -88,7 +88,7 @@ front_again (b ∷ bs) front free = front_by front b bs (b == 10) refl free (fro
 pub front_again_of : (bytes : List ℕ) → lines_of (text_of (front_of (lines_of bytes))) ≡ front_of (lines_of bytes)
 front_again_of bytes = front_again bytes [] nothing_free
 
--- the first of some lines stands at the head
+-- the first line is at the head
 head_by : (l : Line) (ls : List Line) (t : Bool) → is_line end_text l ≡ t → (rest : List Line) × (front_of (l ∷ ls) ≡ l ∷ rest)
 unfolding front_of
 head_by l ls true is = ([], ap (λ (t : Bool). cond t (l ∷ []) (l ∷ front_of ls)) is)

@@ -34,12 +34,12 @@ use Rattle.depth_file.specs.declared.stage.Stage.{Stage}
 use Rattle.depth_file.specs.declared.stage.Stage.TheVariants as stages
 use Rattle.depth_file.specs.declared.stage.Flat.{Flat}
 
--- ---- fences and parts
+-- ---- fences and subproblems
 
 head_part : (p q : Part) (xs ys : List Part) → p ∷ xs ≡ q ∷ ys → q ≡ p
 head_part p q xs ys e = cc
 
--- the next of some parts that are fences
+-- the next subproblem, if they all are fences
 next_by : (fs : List (List ℕ)) (at : ℕ) (part : Part) (later : List Part) → drop at (map Levels fs) ≡ part ∷ later → (fence : List ℕ) × (drop at fs ≡ fence ∷ drop (at + 1) fs) × (part ≡ Levels fence) × Contains fs fence
 next_by [] zero part later e = absurd cc
 next_by [] (suc at) part later e = absurd cc
@@ -92,7 +92,7 @@ formula_by m w basis size part same = ap (λ (x : Method). (coding_of x).formula
 pub formula_is : (f : Flat) (part : Part) → IsFlat f → fence_formula f.heading.spec f.heading.basis f.size (fence_in part) ≡ (coding_of f.heading.method).formula f.heading.spec f.heading.basis f.size part
 formula_is f part is = formula_by f.heading.method f.heading.spec f.heading.basis f.size part is.by_fences
 
--- what stands next among the parts is the fence that is next
+-- the next subproblem is that of the next fence
 pub fence_next : (f : Flat) (part : Part) (fence : List ℕ) → IsRunning f → drop f.at f.fences.items ≡ part ∷ drop (f.at + 1) f.fences.items → ((named : List ℕ) → part ≡ Levels named → fence ≡ named) → IsNext f fence
 fence_next f part fence is at named =
     let next = next_is f part is.flat at in
@@ -147,12 +147,12 @@ fails_is (errors.OpenTooShort line) read answer same is = same ∙ is
 fails_is (errors.WrongLevels line) read answer same is = same ∙ is
 fails_is errors.Memory read answer same is = tt
 
--- ---- the lines of a part
+-- ---- the lines of a log
 
 abbrev pub flat : Flat → ℕ → Place → List Line → Answer
 flat f number place ls = flat_from f.heading f.size f.levels number f.low place ls
 
--- the title of the next fence
+-- the name of the next fence
 pub due_reads : (f : Flat) (fence : List ℕ) (number : ℕ) (l : Line) (ls : List Line) → IsNext f fence → flat f number (Due (due_of f)) (l ∷ ls) ≡ (at_line number (title_in (may_follow l) fence l) >>= λ titled. flat f (number + 1) (Begun fence (later_of f)) ls)
 unfolding flat_from
 due_reads f fence number l ls next = ap (λ (fs : List (List ℕ)). flat f number (Due fs) (l ∷ ls)) next
@@ -163,7 +163,7 @@ due_goes f fence number l ls next read = due_reads f fence number l ls next ∙ 
 pub due_fails : (f : Flat) (fence : List ℕ) (number : ℕ) (l : Line) (ls : List Line) (e : DepthError) → IsNext f fence → Fails e (at_line number (title_in (may_follow l) fence l)) → Fails e (flat f number (Due (due_of f)) (l ∷ ls))
 due_fails f fence number l ls e next fails = fails_is e _ _ (due_reads f fence number l ls next) (fails_bind e (at_line number (title_in (may_follow l) fence l)) (λ titled. flat f (number + 1) (Begun fence (later_of f)) ls) fails)
 
--- the verdict, where no fence is left
+-- the verdict, if no fence is left
 pub end_reads : (f : Flat) (number : ℕ) (l : Line) (ls : List Line) → due_of f ≡ [] → flat f number (Due (due_of f)) (l ∷ ls) ≡ (verdict_at number (levels_found f.low f.levels) l >>= λ v. end_of (number + 1) v ls)
 unfolding flat_from
 end_reads f number l ls none = ap (λ (fs : List (List ℕ)). flat f number (Due fs) (l ∷ ls)) none
@@ -174,7 +174,7 @@ end_goes f number l ls v none read = end_reads f number l ls none ∙ ap (λ (r 
 pub end_fails : (f : Flat) (number : ℕ) (l : Line) (ls : List Line) (e : DepthError) → due_of f ≡ [] → Fails e (verdict_at number (levels_found f.low f.levels) l) → Fails e (flat f number (Due (due_of f)) (l ∷ ls))
 end_fails f number l ls e none fails = fails_is e _ _ (end_reads f number l ls none) (fails_bind e (verdict_at number (levels_found f.low f.levels) l) (λ w. end_of (number + 1) w ls) fails)
 
--- after the title, the log is due
+-- after the name, the log is due
 pub due_begins : (f : Flat) (fence : List ℕ) (number : ℕ) (l : Line) (titled : Unit {0}) → IsNext f fence → at_line number (title_in (may_follow l) fence l) ≡ Ok titled → (lines ls : List Line) (answer : Answer) → answer ≡ flat f number (Due (due_of f)) lines → lines ≡ l ∷ ls → IsBegun f (number + 1) ls answer
 due_begins f fence number l titled next read = λ lines ls answer is same.
     record {
@@ -225,7 +225,7 @@ pub gives_err : (r : Answer) (e : DepthError) (answer : Answer) → IsErrAnd r (
 gives_err (Ok v) e answer is fails = absurd is
 gives_err (Err d) e answer is fails = subst (λ (x : DepthError). Fails x answer) (sym is) fails
 
--- what the lines come to where none is left
+-- the answer if no line is left
 abbrev pub closed_at : ℕ → Option DepthVerdict → Answer
 closed_at number None = Err (errors.Syntax number)
 closed_at number (Some verdict) = Ok verdict

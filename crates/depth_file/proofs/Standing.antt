@@ -1,4 +1,4 @@
--- What a stage says with one more line, and a refusal of a text that is one piece.
+-- What a stage says after one more line, and the refusal of a text that is one piece.
 use Rattle.std.proofs.Common.{◌≡◌, ℕ, List, [], Result, Ok, Err, sym, subst, append-nil}
 use Rattle.std.specs.Result.{IsErrAnd}
 use Rattle.text_core.specs.Lines.{Line, lines_of}

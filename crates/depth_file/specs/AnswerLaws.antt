@@ -1,4 +1,4 @@
--- Lines come to one answer.
+-- Lines have exactly one answer.
 use Rattle.std.proofs.Common.{◌≡◌, List, ◌+◌, length, Result, Ok, Err, refl, sym, ap, ◌∙◌}
 use Rattle.text_core.specs.Lines.{Line}
 use Rattle.cert_theory.specs.declared.data.BundleError.{BundleError}

@@ -1,4 +1,4 @@
--- What is judged as the definition says, has the verdicts of depth bundles.
+-- A text that is judged as in the definition has the verdict of a depth certificate.
 use Rattle.std.proofs.Common.{◌≡◌, List, ℕ, length, Ok, Err, refl, sym, subst}
 use Rattle.std.specs.Prelude.{IfOk}
 use Rattle.std.proofs.lemmas.Grind.{common_steps}

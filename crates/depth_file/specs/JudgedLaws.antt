@@ -1,4 +1,4 @@
--- The text of a depth bundle is judged to have its verdict.
+-- The text of a depth certificate is judged to have its verdict.
 use Rattle.std.proofs.Common.{◌≡◌, List, ℕ, ◌+◌, length, Result, Ok, Err, refl, sym, ap, ◌∙◌, subst}
 use Rattle.text_core.specs.Lines.{Line, lines_of}
 use Rattle.cert_theory.specs.declared.data.BundleError.{BundleError}
@@ -22,7 +22,7 @@ is_bundle b text valid output same = record { valid = valid; output = output; te
 pub read_again : (b : Bundle) → IsValid b → HasOutput b → bundle_of (bundle_lines b) ≡ Ok b.verdict
 read_again b valid output = ap bundle_of (sym (lines_again b valid)) ∙ text_again (text_of (bundle_lines b)) b (is_bundle b (text_of (bundle_lines b)) valid output refl)
 
--- what stands after a bundle is judged by its lines alone
+-- the lines after the certificate are judged by themselves
 pub same_behind : (b c : Bundle) (number : ℕ) (ls : List Line) → IsValid b → HasOutput b → IsValid c → HasOutput c → bundle_lines b ≡ bundle_lines c → behind_bundle b number ls ≡ behind_bundle c number ls
 same_behind b c number ls valid output others has same =
     let told = one_bundle (text_of (bundle_lines b)) b c (is_bundle b (text_of (bundle_lines b)) valid output refl) (is_bundle c (text_of (bundle_lines b)) others has (ap text_of same)) in

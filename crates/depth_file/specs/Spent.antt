@@ -1,4 +1,4 @@
--- What stands in the text of a depth bundle whose verdict states two numbers of levels.
+-- The open log in a depth certificate whose verdict is bounded (two numbers of levels).
 use Rattle.std.specs.Prelude.{◌≡◌, ℕ, List, ◌++◌, length, Contains}
 use Rattle.sat_theory.specs.Log.{IsSpent}
 use Rattle.enc_theory.specs.declared.part.Part.TheVariants.{Levels}
@@ -8,8 +8,9 @@ use Rattle.cert_theory.specs.Bundle.{PartLog, formula_of}
 use Rattle.cert_theory.specs.Spelling.{part_lines, text_of}
 use Rattle.depth_theory.specs.Flatter.{fences_for}
 
--- The log of a listed fence of `low` levels stands in the text. It leaves its fence open, and its budget is spent: it
--- holds over the formula of the fence without the empty clause, and has as many new additions as are asked.
+-- The text has the log of a listed fence with `low` levels, which leaves its fence open and has spent its budget:
+-- it holds over the formula of the fence without the empty clause, and has as many new additions as the budget
+-- asks.
 pub record IsLeftOpen (text : List ℕ) (h : Heading) (size low : ℕ) : Type 0 where
   pub fence : List ℕ
   pub listed : Contains (fences_for h.spec size) fence

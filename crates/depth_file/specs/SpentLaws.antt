@@ -1,4 +1,4 @@
--- Where the verdict of a depth bundle states two numbers of levels, the log of a fence of the lower number is spent.
+-- If the verdict of a depth certificate is bounded, the log of a fence with the lower number of levels is spent.
 use Rattle.std.proofs.Common.{◌≡◌, ℕ, Bool, true, false, cond, List, [], ◌∷◌, ◌++◌, length, map, Contains, Option, Some, None, refl, sym, ap, ◌∙◌, subst, append_assoc}
 use Rattle.std.specs.List.{flat_map, find, AllByRecursion}
 use Rattle.std.specs.Option.{option_map}
@@ -24,7 +24,7 @@ use Rattle.depth_theory.specs.DepthBundle.{DepthBundle, part_levels, open_levels
 use Rattle.depth_theory.specs.DepthSpelling.{levels_of, depth_line, levels_line, IsDepthText}
 use Rattle.depth_file.specs.Spent.{IsLeftOpen}
 
--- ---- the first log that leaves its part open
+-- ---- the first open log
 
 record HasOpen (logs : List PartLog) (low : ℕ) : Type 0 where
   front : List PartLog

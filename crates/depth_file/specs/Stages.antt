@@ -1,4 +1,4 @@
--- What a stage says of the lines that were read: which answer they have with the lines that come next.
+-- What a stage says about the lines that were read: the answer that they have together with any lines that follow.
 use Rattle.std.specs.Prelude.{◌≡◌, ℕ, ◌+◌, ◌≤◌, ◌<◌, List, ◌∷◌, length, map, drop, Option, Some, None, Result, Ok, Err}
 use Rattle.text_core.specs.Lines.{Line}
 use Rattle.sat_theory.specs.Line as theory
@@ -18,7 +18,7 @@ use Rattle.depth_file.specs.declared.stage.Flat.{Flat}
 use Rattle.depth_file.specs.declared.stage.Stage.{Stage}
 use Rattle.depth_file.specs.declared.stage.Stage.TheVariants as stages
 
--- the fences that are due, and how many of them stand before the next
+-- the fences that are due, and the index of the next one
 pub record IsFlat (f : Flat) : Type 0 where
   pub by_fences : f.heading.method ≡ Fence
   pub operators : 0 < f.heading.basis
@@ -26,7 +26,7 @@ pub record IsFlat (f : Flat) : Type 0 where
   pub fences : f.fences.items ≡ map Levels (flatter f.heading.spec f.size f.levels)
   pub at : f.at ≤ length f.fences.items
 
--- a fence is due or read
+-- a fence is due or being read
 pub record IsRunning (f : Flat) : Type 0 where
   pub flat : IsFlat f
   pub within : f.at < length f.fences.items
@@ -40,39 +40,39 @@ IsStage (stages.Within f reader) = IsRunning f
 IsStage (stages.End verdict) = Unit {0}
 IsStage (stages.Done verdict) = Unit {0}
 
--- how many bytes the reader of bundles was fed, where one is kept
+-- how many bytes the certificate reader was fed, if there is one
 abbrev pub fed_of : Stage → ℕ
 fed_of (stages.Front reader) = reader.fed
 fed_of stage = 0
 
--- it isn't among the lines of a bundle
+-- the stage isn't within the certificate at the head
 abbrev pub IsBehindFront : Stage → Type 0
 IsBehindFront (stages.Front reader) = ⊥
 IsBehindFront stage = Unit {0}
 
--- the verdict, where nothing is due
+-- the verdict, if nothing more is due
 abbrev pub verdict_in : Stage → Option DepthVerdict
 verdict_in (stages.Done verdict) = Some verdict
 verdict_in stage = None
 
--- the fences from the next one on, and those after it
+-- the fences from the current one on, and those after it
 abbrev pub due_of : Flat → List (List ℕ)
 due_of f = drop f.at (flatter f.heading.spec f.size f.levels)
 
 abbrev pub later_of : Flat → List (List ℕ)
 later_of f = drop (f.at + 1) (flatter f.heading.spec f.size f.levels)
 
--- the fence that is read or due
+-- the current fence
 abbrev pub IsNext : Flat → List ℕ → Type 0
 IsNext f fence = due_of f ≡ fence ∷ later_of f
 
--- After the title of a fence.
+-- After the name of a fence.
 pub record IsBegun (f : Flat) (number : ℕ) (lines : List Line) (answer : Answer) : Type 0 where
   pub fence : List ℕ
   pub is_next : IsNext f fence
   pub answer_is : answer ≡ flat_from f.heading f.size f.levels number f.low (Begun fence (later_of f)) lines
 
--- In a log: the reader has read the lines before.
+-- In a log: the reader has read the lines so far.
 pub record IsLogging (f : Flat) (reader : PartReader) (number : ℕ) (lines : List Line) (answer : Answer) : Type 0 where
   pub fence : List ℕ
   pub is_next : IsNext f fence
@@ -80,7 +80,7 @@ pub record IsLogging (f : Flat) (reader : PartReader) (number : ℕ) (lines : Li
   pub reading : IsReading (formula_of f.heading f.size (Levels fence)) f.heading.conflicts log reader
   pub answer_is : answer ≡ flat_from f.heading f.size f.levels number f.low (Within fence (later_of f) reader.ended log) lines
 
--- The answer, where these lines come next.
+-- The answer, if these lines follow.
 abbrev pub Stands : Stage → ℕ → List Line → Answer → Type 0
 Stands (stages.Front reader) number lines answer = IsFront reader number lines answer
 Stands (stages.Depth h size levels) number lines answer = answer ≡ behind_chain h size levels number lines
@@ -90,7 +90,7 @@ Stands (stages.Within f reader) number lines answer = IsLogging f reader number 
 Stands (stages.End verdict) number lines answer = answer ≡ end_of number verdict lines
 Stands (stages.Done verdict) number lines answer = answer ≡ nothing_behind number verdict lines
 
--- after one more line: a stage stands for what comes next, or the line is at fault, whatever comes next
+-- after one more line: the new stage has the answer, or the line is at fault whatever follows
 abbrev pub Judged : Result Stage DepthError → ℕ → List Line → Answer → Type 0
 Judged (Ok stage) number lines answer = Stands stage number lines answer
 Judged (Err e) number lines answer = Fails e answer

@@ -1,5 +1,5 @@
--- What a stage says of the lines to come and of all lines of the text: each answer that all of them may have; and what a
--- text comes to.
+-- What a stage says about the lines to come and about all lines of the text: each answer that all of them may
+-- have. And the promise about a whole text.
 use Rattle.std.specs.Prelude.{ℕ, List, length, Ok, Err, IfOk}
 use Rattle.text_core.specs.Lines.{Line, lines_of}
 use Rattle.op_basis.specs.Basis.{members}
@@ -16,20 +16,20 @@ use Rattle.depth_file.specs.Fronts.{IsAnswer}
 use Rattle.depth_file.specs.Stages.{Stands}
 use Rattle.depth_file.specs.declared.stage.Stage.{Stage}
 
--- It stands for each answer of all lines.
+-- The stage has each answer for all lines.
 abbrev pub StandsIn : Stage → ℕ → List Line → List Line → Type 0
 StandsIn stage number lines all = (answer : Answer) → IsAnswer all answer → Stands stage number lines answer
 
--- lines are refused so
+-- lines are refused with this error
 abbrev pub Refuses : DepthError → List Line → Type 0
 Refuses e all = judging.Judged (Gives (λ (v : DepthVerdict). v) (Err e)) all
 
--- What a text comes to.
+-- The promise about a whole text.
 pub record Ends (result : Answer) (text : List ℕ) : Type 0 where
-  -- It is refused exactly where the definition has a fault, with the first from the top.
+  -- It is refused exactly if the definition has a fault, and with the first one from the top.
   pub exact : judging.Judged (Gives (λ (v : DepthVerdict). v) result) (lines_of text)
-  -- What has a verdict is the text of a depth bundle that has it, and each such text has one.
+  -- A text with a verdict is that of a depth certificate with the same verdict, and each such text has one.
   pub verdict : IfOk result (λ v. HasDepth text v)
   pub accepted : (b : DepthBundle) → IsDepthText text b → Gives (λ (v : DepthVerdict). v) result (Ok b.verdict)
-  -- The verdict is true of the tables and the basis that the text states.
+  -- The verdict is true of the tables and the basis in the text.
   pub means : IfOk result (λ v. (b : DepthBundle) (is : IsDepthText text b) → Means (specification b.bundle.heading.spec) (members b.bundle.heading.basis) (length is.is_depth.chain.steps) v)

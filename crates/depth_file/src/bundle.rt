@@ -1,5 +1,5 @@
-//! The bundle of a depth bundle: its lines go to the reader of bundles, and with the first line `end` that hands out what
-//! the bundle asks, and its chain.
+//! The certificate at the head of a depth certificate. Its lines go to the certificate reader, which returns the
+//! header and the chain after the first line `end`.
 ghost use Rattle.std.specs.Prelude.{◌≡◌, ◌+◌, ◌^◌, ◌<◌, ◌≤◌, ℕ, List, ◌∷◌, length, IfOk};
 ghost use Rattle.text_core.specs.Lines.{Line, line_bytes};
 ghost use Rattle.line_reader.specs.Cuts.{HasNoEnd};
@@ -16,7 +16,7 @@ use depth_theory::DepthError;
 use settings::Method;
 use std::alloc::Global;
 
-/// A fault of the bundle, as one of the whole.
+/// A fault of the certificate, as a fault of the whole text.
 fn fault_of(error: BundleError) -> DepthError
     ensures { result ≡ as_whole error }
 {
@@ -26,7 +26,7 @@ fn fault_of(error: BundleError) -> DepthError
     }
 }
 
-/// What comes after a bundle that was read to its end.
+/// The next stage after the certificate was read to its end.
 #[tactic(auto, using(crate::proofs::Behind::behind))]
 pub(crate) fn behind_bundle(alloc: Global, reader: BundleReader) -> Result<Stage, DepthError>
     requires { IsReader (seen reader) }
@@ -61,7 +61,7 @@ pub(crate) fn behind_bundle(alloc: Global, reader: BundleReader) -> Result<Stage
     })
 }
 
-/// A line of the bundle.
+/// Reads a line of the certificate.
 #[tactic(auto, using(crate::proofs::Behind::behind))]
 pub(crate) fn at_front(
     alloc: Global,

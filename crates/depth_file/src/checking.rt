@@ -13,7 +13,7 @@ use crate::reader::DepthReader;
 use depth_theory::{DepthError, DepthVerdict};
 use std::alloc::Global;
 
-/// Judges as the definition says.
+/// Judges a text as the definition does.
 fn judge(alloc: Global, bytes: &[u8]) -> Result<DepthVerdict, DepthError>
     requires { length bytes.now < 2 ^ 31 }
     ensures { judging.Judged (Gives (λ v. v) result) (lines_of bytes.now) }
@@ -22,17 +22,17 @@ fn judge(alloc: Global, bytes: &[u8]) -> Result<DepthVerdict, DepthError>
     reader.finish()
 }
 
-/// Judges a text as a depth bundle: its verdict where it is the text of one, else its first fault.
+/// Judges a text as a depth certificate: returns its verdict, or else its first fault.
 #[tactic(auto, using(crate::specs::EndLaws::judges))]
 pub fn check_depth(alloc: Global, bytes: &[u8]) -> Result<DepthVerdict, DepthError>
     requires { length bytes.now < 2 ^ 31 }
-    // What has a verdict is the text of a depth bundle that has it, and each such text has one.
+    // A text with a verdict is that of a depth certificate with the same verdict, and each such text has one.
     ensures verdict { IfOk result (λ v. HasDepth bytes.now v) }
     ensures accepted { (b : DepthBundle) → IsDepthText bytes.now b → Gives (λ v. v) result (Ok b.verdict) }
-    // The verdict is true of the tables and the basis that the text states.
+    // The verdict is true of the tables and the basis in the text.
     ensures means { IfOk result (λ v. (b : DepthBundle) (is : IsDepthText bytes.now b) →
         Means (specification b.bundle.heading.spec) (members b.bundle.heading.basis) (length is.is_depth.chain.steps) v) }
-    // It is refused exactly where the definition has a fault, with the first from the top.
+    // A text is refused exactly if the definition has a fault, and with the first one from the top.
     ensures exact { judging.Judged (Gives (λ v. v) result) (lines_of bytes.now) }
 {
     judge(alloc, bytes)

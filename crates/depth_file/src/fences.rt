@@ -1,4 +1,4 @@
-//! The listed fences that are flatter than a chain, in their order.
+//! The listed fences with fewer levels than a chain, in their order.
 ghost use Rattle.std.specs.Prelude.{◌≡◌, ◌++◌, ◌≤◌, map, IfOk, OnOk};
 ghost use Rattle.enc_theory.specs.declared.part.Part.TheVariants.{Levels};
 ghost use Rattle.depth_theory.specs.Flatter.{of_levels, flatter};
@@ -16,7 +16,7 @@ fn copied(alloc: Global, fence: &Fence) -> Result<Fence, AllocError>
     Ok(Fence::new(levels))
 }
 
-/// Adds those of the fences that have `levels` levels, in their order.
+/// Appends those of the fences that have `levels` levels, in their order.
 #[tactic(auto, using(crate::proofs::FenceLists::fencing), unfolding(depth_theory::specs::Flatter::of_levels))]
 fn push_level(
     alloc: Global,
@@ -36,7 +36,7 @@ fn push_level(
     Ok(())
 }
 
-/// The listed fences of `size` steps that have fewer levels.
+/// The listed fences of `size` steps that have fewer than `levels` levels.
 #[tactic(auto, using(crate::proofs::FenceLists::flattening))]
 pub(crate) fn flatter_parts(
     alloc: Global,

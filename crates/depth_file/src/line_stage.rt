@@ -1,4 +1,4 @@
-//! Depth bundles as texts that are read line by line.
+//! Depth certificates as texts that are read line by line.
 ghost use Rattle.std.specs.Prelude.{Err};
 ghost use Rattle.depth_file.specs.EndLaws.{ended};
 ghost use Rattle.depth_file.specs.Stages.{IsStage, fed_of};

@@ -1,4 +1,4 @@
-//! Single lines after a bundle.
+//! Single lines after the certificate.
 ghost use Rattle.std.specs.Prelude.{◌≡◌};
 ghost use Rattle.cert_theory.specs.PartLines as parts;
 ghost use Rattle.line_reader.specs.TextLines.{line_of};
@@ -10,7 +10,7 @@ use cert_theory::{PartError, title_of};
 use depth_theory::{DepthError, DepthVerdict};
 use std::alloc::Global;
 
-/// A fault of a part, at a line.
+/// A fault of a log, with its line number.
 pub(crate) fn fault_at(number: u32, fault: PartError) -> DepthError
     ensures { result ≡ judging.fault_at number fault }
 {
@@ -25,7 +25,7 @@ pub(crate) fn fault_at(number: u32, fault: PartError) -> DepthError
     }
 }
 
-/// The verdict of a line.
+/// The verdict that a line states.
 fn levels_in(line: &TextLine) -> Option<DepthVerdict>
     ensures { result ≡ judging.levels_in (line_of line.now) }
 {
@@ -55,7 +55,7 @@ fn is_same(verdict: DepthVerdict, due: DepthVerdict) -> bool
     }
 }
 
-/// The verdict, where no fence is due any more: a title there is a fault of its own.
+/// Reads the verdict, where no fence is left. The name of a fence there is a fault of its own.
 #[tactic(auto, unfolding(depth_theory::specs::DepthJudging::verdict_at))]
 pub(crate) fn verdict_at(line: &TextLine, due: DepthVerdict) -> Result<DepthVerdict, DepthError>
     ensures { Gives (λ v. v) result (judging.verdict_at line.now.number due (line_of line.now)) }
@@ -72,7 +72,7 @@ pub(crate) fn verdict_at(line: &TextLine, due: DepthVerdict) -> Result<DepthVerd
     Ok(verdict)
 }
 
-/// Whether a line could stand where the title of a fence is due.
+/// Whether a line could follow where the name of a fence is due.
 #[tactic(auto, unfolding(depth_theory::specs::DepthJudging::may_follow))]
 fn may_follow(line: &TextLine) -> bool
     ensures { result ≡ judging.may_follow (line_of line.now) }
@@ -80,7 +80,7 @@ fn may_follow(line: &TextLine) -> bool
     is_title(line) || levels_in(line).is_some()
 }
 
-/// The title of a fence, with the number of steps on each level.
+/// Reads the name of a fence: the number of steps on each level.
 #[tactic(auto, unfolding(cert_theory::specs::PartLines::title_in))]
 pub(crate) fn title_at(alloc: Global, line: &TextLine, fence: &[u32]) -> Result<(), DepthError>
     ensures { Gives (λ x. x) result (judging.at_line line.now.number (parts.title_in (judging.may_follow (line_of line.now)) fence.now (line_of line.now))) }
@@ -95,7 +95,7 @@ pub(crate) fn title_at(alloc: Global, line: &TextLine, fence: &[u32]) -> Result<
     Err(DepthError::Syntax(line.number))
 }
 
-/// The line of the depth.
+/// Reads the line with the depth.
 #[tactic(auto, unfolding(depth_theory::specs::DepthJudging::depth_at))]
 pub(crate) fn depth_at(line: &TextLine, depth: u32) -> Result<(), DepthError>
     ensures { Gives (λ x. x) result (judging.depth_at line.now.number depth (line_of line.now)) }

@@ -1,5 +1,5 @@
-//! From stage to stage, a line at a time. The argument: a stage stands for the answer of all lines, whatever lines
-//! come next, so the first refusal is that of the lines; and at the end the stage is the answer.
+//! The steps from stage to stage, one line at a time. The argument: a stage determines the answer of the whole
+//! text, whatever lines follow. So the first refusal is that of the text, and the last stage has its answer.
 ghost use Rattle.std.specs.Prelude.{◌≡◌, ◌+◌, ◌^◌, ◌<◌, ◌≤◌, ℕ, List, [], ◌∷◌, length, drop, IfOk};
 ghost use Rattle.text_core.specs.Lines.{Line, line_bytes};
 ghost use Rattle.enc_theory.specs.declared.part.Part.TheVariants.{Levels};
@@ -28,7 +28,7 @@ use enc_frame::Encoding;
 use enc_theory::Part;
 use std::alloc::{AllocError, Global};
 
-/// How many steps stand on each level of a part's fence.
+/// The numbers of steps on the levels of a fence.
 fn levels_of(part: &Part) -> &[u32]
     ensures { (fence : List ℕ) → part.now ≡ Levels fence → result.now ≡ fence }
 {
@@ -38,7 +38,7 @@ fn levels_of(part: &Part) -> &[u32]
     }
 }
 
-/// The part of the fence that is read or due.
+/// The subproblem of the fence that is read or due.
 fn part_in(flat: &Flat) -> &Part
     requires { IsRunning flat.now }
     ensures { drop flat.now.at flat.now.fences.items ≡ result.now ∷ drop (flat.now.at + 1) flat.now.fences.items }
@@ -56,7 +56,7 @@ fn fence_of(flat: &Flat) -> &[u32]
     levels_of(part_in(flat))
 }
 
-/// The verdict that follows.
+/// The verdict that follows from the first open fence, if there is one.
 fn found(low: Option<u32>, levels: u32) -> DepthVerdict
     ensures { result ≡ levels_found low levels }
 {
@@ -66,7 +66,7 @@ fn found(low: Option<u32>, levels: u32) -> DepthVerdict
     }
 }
 
-/// The line of the depth.
+/// Reads the line with the depth.
 #[tactic(auto, unfolding(depth_theory::specs::DepthJudging::behind_chain))]
 fn at_depth(
     alloc: Global,
@@ -96,7 +96,7 @@ fn at_depth(
     })
 }
 
-/// The title of the next fence, or the verdict where none is left.
+/// Reads the name of the next fence, or the verdict if none is left.
 #[tactic(auto, using(crate::proofs::Going::going), unfolding(depth_theory::specs::DepthJudging::flat_from))]
 fn at_due(alloc: Global, flat: Flat, line: &TextLine) -> Result<Stage, DepthError>
     requires { IsFlat flat }
@@ -113,7 +113,7 @@ fn at_due(alloc: Global, flat: Flat, line: &TextLine) -> Result<Stage, DepthErro
     Ok(Stage::End { verdict })
 }
 
-/// The formula of the fence that is read.
+/// The formula of the current fence.
 #[tactic(auto, using(crate::proofs::Going::formulas))]
 fn formula_of(alloc: Global, flat: &Flat) -> Result<Cnf, AllocError>
     requires { IsRunning flat.now }
@@ -128,7 +128,7 @@ fn formula_of(alloc: Global, flat: &Flat) -> Result<Cnf, AllocError>
     )
 }
 
-/// The line that begins the log of a fence.
+/// Reads the line that begins the log of a fence.
 #[tactic(auto, unfolding(depth_theory::specs::DepthJudging::flat_from))]
 fn at_begun(alloc: Global, flat: Flat, line: &TextLine) -> Result<Stage, DepthError>
     requires { IsRunning flat }
@@ -145,7 +145,7 @@ fn at_begun(alloc: Global, flat: Flat, line: &TextLine) -> Result<Stage, DepthEr
     Ok(Stage::Within { flat, reader })
 }
 
-/// What comes after a fence whose log ends so.
+/// The stage after a fence whose log has ended.
 #[tactic(auto, using(crate::proofs::Going::going))]
 fn behind(flat: Flat, end: Ended) -> Stage
     requires { IsRunning flat }
@@ -176,7 +176,7 @@ fn behind(flat: Flat, end: Ended) -> Stage
     }
 }
 
-/// A line of a log, or its end.
+/// Reads a line of a log, or its end.
 #[tactic(auto, unfolding(depth_theory::specs::DepthJudging::flat_from))]
 fn at_within(
     alloc: Global,
@@ -198,7 +198,7 @@ fn at_within(
     }
 }
 
-/// The last line.
+/// Reads the last line.
 #[tactic(auto, unfolding(depth_theory::specs::DepthJudging::end_of))]
 fn at_end(verdict: DepthVerdict, line: &TextLine) -> Result<Stage, DepthError>
     ensures keeps { IfOk result (λ s. IsStage s) }
@@ -211,7 +211,7 @@ fn at_end(verdict: DepthVerdict, line: &TextLine) -> Result<Stage, DepthError>
     Ok(Stage::Done { verdict })
 }
 
-/// Takes the next line.
+/// Reads the next line.
 pub(crate) fn take(alloc: Global, stage: Stage, line: &TextLine) -> Result<Stage, DepthError>
     requires stage { IsStage stage }
     requires room { fed_of stage + length (line_bytes (line_of line.now)) < 2 ^ 31 }
@@ -235,7 +235,7 @@ pub(crate) fn take(alloc: Global, stage: Stage, line: &TextLine) -> Result<Stage
     }
 }
 
-/// The verdict, where nothing is due.
+/// The verdict, if nothing more is due.
 fn verdict_in(stage: &Stage) -> Option<DepthVerdict>
     ensures { result ≡ stages.verdict_in stage.now }
 {
@@ -245,7 +245,7 @@ fn verdict_in(stage: &Stage) -> Option<DepthVerdict>
     }
 }
 
-/// The stage where no line is left: a bundle without a line `end` ends with the text.
+/// The stage at the end of the text. A certificate without a line `end` ends with the text.
 #[tactic(auto, using(crate::proofs::Behind::closing))]
 fn closed(alloc: Global, stage: Stage) -> Result<Stage, DepthError>
     requires { IsStage stage }
@@ -258,7 +258,7 @@ fn closed(alloc: Global, stage: Stage) -> Result<Stage, DepthError>
     }
 }
 
-/// What the lines come to, where none is left.
+/// The verdict of the text, or its fault, where no line is left.
 pub(crate) fn verdict_of(
     alloc: Global,
     stage: Stage,

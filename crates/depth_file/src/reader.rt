@@ -1,8 +1,8 @@
-//! A depth bundle that comes in pieces, wherever it is cut. A reader keeps the stage that its whole lines have come to,
-//! and the unfinished line after them; so what is fed decides what it is, and not where the pieces end.
+//! Depth certificates in pieces, cut anywhere. A reader keeps the stage after the whole lines so far, and the
+//! unfinished line. So its state depends on the text so far alone, not on where the pieces end.
 use crate::stage::Stage;
 use line_reader::PieceReader;
 
-/// A depth bundle, as far as it was read. It keeps what its stage keeps, which of the logs is one part's checker,
-/// and the unfinished line; nothing of the lines before. At the end it gives the verdict (`specs/Standing`: `Ends`).
+/// A reader of a depth certificate. It keeps its stage, which has the checker of one log at most, and the
+/// unfinished line, but no earlier lines. At the end it returns the verdict (`specs/Standing`: `Ends`).
 pub type DepthReader = PieceReader<Stage>;

@@ -1,46 +1,46 @@
-//! How far the lines of a depth bundle have come: what is due next, and what is kept of the lines before. A stage stands
-//! for the answer of all lines, whatever lines come next (`specs/Stages.antt`).
+//! The stages of reading a depth certificate: what is due next, and what is kept of the lines so far. A stage
+//! determines the answer of the whole text, whatever lines follow (`specs/Stages.antt`).
 use cert_file::{BundleReader, PartReader};
 use cert_theory::Heading;
 use depth_theory::DepthVerdict;
 use enc_theory::Part;
 
-/// The fences that are flatter than the chain, and one of them.
+/// The fences with fewer levels than the chain, and the position of the current one.
 #[derive(Drop)]
 pub struct Flat {
     pub(crate) heading: Heading,
-    /// How many steps the chain has, and on how many levels.
+    /// The number of steps and of levels of the chain.
     pub(crate) size: u32,
     pub(crate) levels: u32,
     pub(crate) fences: Vec<Part>,
-    /// How many fences stand before this one.
+    /// The index of the current fence.
     pub(crate) at: usize,
-    /// How many levels the first open fence before it has.
+    /// The number of levels of the first open fence before it.
     pub(crate) low: Option<u32>,
 }
 
-/// What is due next of a depth bundle whose lines were good so far. Its variants are for this crate alone.
+/// What is due next in a depth certificate whose lines so far were right. The variants are for this crate alone.
 #[derive(Drop)]
 pub enum Stage {
-    /// A line of the bundle, which ends with the first line `end`.
+    /// A line of the certificate, which ends with the first line `end`.
     Front {
         reader: BundleReader,
     },
-    /// The line of the depth, after a bundle whose chain has `size` steps on `levels` levels.
+    /// The line with the depth, after a certificate whose chain has `size` steps on `levels` levels.
     Depth {
         heading: Heading,
         size: u32,
         levels: u32,
     },
-    /// The title of this fence, or the verdict where none is left.
+    /// The name of the current fence, or the verdict if none is left.
     Due {
         flat: Flat,
     },
-    /// How the log of this fence ends.
+    /// How the log of the current fence ends.
     Begun {
         flat: Flat,
     },
-    /// A line of the log of this fence.
+    /// A line of the log of the current fence.
     Within {
         flat: Flat,
         reader: PartReader,
@@ -49,7 +49,7 @@ pub enum Stage {
     End {
         verdict: DepthVerdict,
     },
-    /// Nothing.
+    /// Nothing more.
     Done {
         verdict: DepthVerdict,
     },

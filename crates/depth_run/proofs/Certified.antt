@@ -1,4 +1,4 @@
--- What a search for the fewest levels found, as a certificate.
+-- The result of a search for the fewest levels, as a certificate.
 use Rattle.std.proofs.Common.{◌≡◌, ℕ, ◌<◌, List, [], length, All, refl, sym, ap, ◌∙◌, subst}
 use Rattle.std.proofs.lemmas.Grind.{common_steps}
 use Rattle.text_core.specs.Lines.{lines_of}
@@ -18,7 +18,7 @@ use Rattle.depth_theory.specs.DepthSpelling.{depth_text}
 use Rattle.depth_core.specs.Flattened as found
 use Rattle.depth_run.specs.Certifying.{IsLeast, IsOther}
 
--- what is asked of the search, as the heading of a certificate by fences
+-- the header of a certificate by fences
 abbrev pub by_fences : Words → SynthSettings → Heading
 by_fences w asked = record { spec = w; basis = asked.basis; method = Fence; conflicts = asked.conflicts; max = asked.max }
 
@@ -32,7 +32,7 @@ own_heading : (h : Heading) (w : Words) (asked : SynthSettings) → asked.method
 own_heading h w asked fences is =
     is ∙ heading_same w asked fences ∙ ap (λ (x : Words). heading_of x asked) (sym (ap (λ (k : Heading). k.spec) is))
 
--- the tables have an output, and so has the bundle
+-- the tables have an output, and so has the certificate
 pub has_output : (h : Heading) (w : Words) (asked : SynthSettings) → h ≡ by_fences w asked → 0 < length w.on → 0 < length h.spec.on
 has_output h w asked is output = subst (λ (k : Heading). 0 < length k.spec.on) (sym is) output
 

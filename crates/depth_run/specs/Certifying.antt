@@ -15,9 +15,9 @@ use Rattle.depth_core.specs.Flattened.{minimum_of}
 use Rattle.depth_run.specs.declared.certificate.Found.{Found}
 use Rattle.depth_run.specs.declared.certificate.Found.TheVariants.{Least, Other}
 
--- The text is that of a depth bundle with this verdict. It is for the tables that the bytes spell, with nothing after
--- them, under the settings `asked`. Its logs are thrifty, and so are those of flatter fences: at least half of what an
--- open one adds stays live, and each deletes about a quarter of what it adds, or more.
+-- The text is a depth certificate with this verdict, for the tables that the bytes spell, with nothing after them,
+-- under the settings `asked`. In its logs, also those of fences with fewer levels, at least half of the additions
+-- of an open one stay live, and each deletes at least about a quarter of its additions.
 pub record IsLeast (bytes : List ℕ) (asked : SynthSettings) (text : List ℕ) (verdict : DepthVerdict) : Type 0 where
   pub bundle : DepthBundle
   pub is_text : IsDepthText text bundle
@@ -27,7 +27,7 @@ pub record IsLeast (bytes : List ℕ) (asked : SynthSettings) (text : List ℕ) 
   pub thrifty : AreThrifty bundle.bundle.heading bundle.bundle.sections
   pub parts_thrifty : All (IsThriftyLog bundle.bundle.heading (length bundle.bundle.sections)) bundle.parts
 
--- The text is that of a certificate of the fewest steps, whose verdict is no minimum.
+-- The text is a certificate of the search for the fewest steps, whose verdict isn't a minimum.
 pub record IsOther (bytes : List ℕ) (asked : SynthSettings) (text : List ℕ) (verdict : Verdict) : Type 0 where
   pub certificate : sizes.IsCertificate bytes asked text verdict
   pub no_minimum : minimum_of verdict ≡ None

@@ -1,4 +1,4 @@
-//! Tables read, the search, and the text of what it found.
+//! Reads tables, searches, and writes the certificate.
 ghost use Rattle.std.specs.Prelude.{◌≡◌, ◌^◌, ◌<◌, length, IfOk, IfErr};
 ghost use Rattle.text_core.specs.Lines.{lines_of};
 ghost use Rattle.settings.specs.declared.methods.Method.TheVariants.{Fence};
@@ -21,23 +21,23 @@ use std::alloc::{AllocError, Global};
 use synth_core::tables;
 use tt_core::SpecError;
 
-/// What a search for the fewest steps and levels comes to.
+/// The result of a search for the fewest steps and levels.
 #[derive(Clone, Copy)]
 pub enum Found {
-    /// A chain of the fewest steps, and what is known of its levels.
+    /// A chain with the fewest steps, and what is known of its levels.
     Least(DepthVerdict),
     /// The fewest steps aren't known, or no chain is within `max`: what is known of the steps.
     Other(Verdict),
 }
 
-/// A certificate as it is written, and what it comes to.
+/// A certificate as text, and its result.
 #[derive(Drop)]
 pub struct DepthCertificate {
     pub text: Vec<u8>,
     pub found: Found,
 }
 
-/// The text of a depth bundle.
+/// The text of a depth certificate.
 fn depth_written(alloc: Global, bundle: &DepthBundle) -> Result<Vec<u8>, AllocError>
     requires is_depth { IsDepth bundle.now }
     requires output { HasOutput bundle.now.bundle }
@@ -48,7 +48,7 @@ fn depth_written(alloc: Global, bundle: &DepthBundle) -> Result<Vec<u8>, AllocEr
     Ok(text)
 }
 
-/// The text of a bundle.
+/// The text of a certificate.
 fn bundle_written(alloc: Global, bundle: &Bundle) -> Result<Vec<u8>, AllocError>
     requires valid { IsValid bundle.now }
     requires output { HasOutput bundle.now }
@@ -59,9 +59,9 @@ fn bundle_written(alloc: Global, bundle: &Bundle) -> Result<Vec<u8>, AllocError>
     Ok(text)
 }
 
-/// Searches with the solver `S` for a chain of the fewest steps that implements the tables in the bytes, and among the
-/// chains of that size for one of the fewest levels, and writes the certificate. A line after the tables is refused as
-/// `BadRow`.
+/// Searches with the solver `S` for a chain of the fewest steps that implements the tables in the input, and among
+/// the chains of that size for one of the fewest levels, and writes the certificate. A line after the tables is
+/// refused as `BadRow`.
 #[tactic(auto, using(crate::proofs::Certified::certifying))]
 pub fn certify_depth<S: Solver>(
     alloc: Global,

@@ -1,4 +1,4 @@
--- Depth bundles that were written are read again.
+-- Depth certificates that were written are read again.
 use Rattle.std.proofs.Common.{◌≡◌, ℕ, ◌+◌, ◌<◌, ◌≤◌, ◌==◌, Bool, true, false, cond, List, [], ◌∷◌, ◌++◌, length, map, Contains, Option, Some, None, Result, Ok, Err, refl, sym, ap, ◌∙◌, subst, arith, append_assoc, append-nil}
 use Rattle.std.specs.Prelude.{codes, decimal}
 use Rattle.std.specs.List.{flat_map, AllByRecursion}
@@ -103,7 +103,7 @@ ending_again h size d number low v short is =
     ∙ ap (λ (r : Answer). r >>= λ w. end_of (number + 1) w (line end_text ∷ [])) (verdict_again number v short)
     ∙ end_again (number + 1) v
 
--- ---- parts
+-- ---- logs
 
 abbrev Onward : Heading → ℕ → ℕ → Option ℕ → List (List ℕ) → List Line → DepthVerdict → Type 0
 Onward h size d low later behind v = (number : ℕ) → flat_from h size d number low (Due later) behind ≡ Ok v
@@ -147,7 +147,7 @@ unfolding flat_from
 ended_step h size d number low fence later ended ls =
     ap (λ (o : Option Ended). or_syntax number o >>= λ e. flat_from h size d (number + 1) low (Within fence later e []) ls) (ended_again ended)
 
--- a part, with its title
+-- a log, with the name of its fence
 part_again : (h : Heading) (size d number : ℕ) (low : Option ℕ) (fence : List ℕ) (later : List (List ℕ)) (ended : Ended) (log : List theory.Line) (behind : List Line) (v : DepthVerdict) → IsFormula (formula_of h size (Levels fence)) → EndsAs (formula_of h size (Levels fence)) h.conflicts ended log → Onward h size d (low_with low ended (length fence)) later behind v
     → flat_from h size d number low (Due (fence ∷ later)) (title_lines (Levels fence) ++ (line (ended_text ended) ∷ (map log_line log ++ line done_text ∷ behind))) ≡ Ok v
 unfolding title_lines after
@@ -165,7 +165,7 @@ formula_by m w basis size fence same = subst (λ (x : Method). IsFormula ((codin
 head_part : (p : PartLog) (ps : List PartLog) (f : List ℕ) (fs : List (List ℕ)) → map part_of (p ∷ ps) ≡ map Levels (f ∷ fs) → (p.part ≡ Levels f) × (map part_of ps ≡ map Levels fs)
 head_part p ps f fs e = (cc, cc)
 
--- the parts, and the verdict after them
+-- the logs, and the verdict after them
 flat_again : (ps : List PartLog) (due : List (List ℕ)) (h : Heading) (size d number : ℕ) (low : Option ℕ) (v : DepthVerdict) → h.method ≡ Fence → IsShort v → map part_of ps ≡ map Levels due → AllByRecursion (IsPartLog h size) ps → v ≡ levels_found (low_or low (open_levels ps)) d → flat_from h size d number low (Due due) (flat_lines ps v) ≡ Ok v
 flat_again [] [] h size d number low v by_fences short same logs is = ending_again h size d number low v short (is ∙ ap (λ (o : Option ℕ). levels_found o d) (sym (low_same low)))
 flat_again [] (f ∷ fs) h size d number low v by_fences short same logs is = absurd cc
@@ -181,7 +181,7 @@ flat_again (p ∷ ps) (f ∷ fs) h size d number low v by_fences short same logs
     ∙ part_again h size d number low f fs p.ended p.log (flat_lines ps v) v (formula_by h.method h.spec h.basis size f by_fences) ends_as
     (λ n. flat_again ps fs h size d n (low_with low p.ended (length f)) v by_fences short each.1 logs.1 (is ∙ low_is))
 
--- ---- after the bundle
+-- ---- after the certificate at the head
 
 depth_again : (number d : ℕ) → d < 1000000000 → depth_at number d (line (depth_line d)) ≡ Ok tt
 unfolding depth_at depth_line
@@ -223,7 +223,7 @@ short b is =
 levels_is : (b : DepthBundle) (is : IsDepth b) → levels_of b.verdict ≡ depth is.chain
 levels_is b is = ap levels_of is.verdict_is ∙ found_depth (open_levels b.parts) (depth is.chain)
 
--- the lines after the bundle of a depth bundle are judged as its verdict
+-- the lines after the certificate at the head are judged to have the verdict
 pub behind_again : (b : DepthBundle) (number : ℕ) → IsDepth b → behind_bundle b.bundle number (line (depth_line (levels_of b.verdict)) ∷ flat_lines b.parts b.verdict) ≡ Ok b.verdict
 behind_again b number is =
     let h = b.bundle.heading in
@@ -278,14 +278,14 @@ depth_lines_again b is =
 abbrev behind_lines : DepthBundle → List Line
 behind_lines b = line (depth_line (levels_of b.verdict)) ∷ flat_lines b.parts b.verdict
 
--- lines of a depth bundle: those of its bundle, and the others after it
+-- the lines of a depth certificate: those of the certificate at its head, and the others after them
 pub depth_front : (bytes : List ℕ) (b : DepthBundle) → IsDepthText bytes b → front_of (lines_of bytes) ≡ bundle_lines b.bundle
 depth_front bytes b is = ap (λ (xs : List ℕ). front_of (lines_of xs)) is.text ∙ ap front_of (depth_lines_again b is.is_depth) ∙ front_is b.bundle (behind_lines b) is.is_depth.valid
 
 pub depth_behind : (bytes : List ℕ) (b : DepthBundle) → IsDepthText bytes b → behind_of (lines_of bytes) ≡ line (depth_line (levels_of b.verdict)) ∷ flat_lines b.parts b.verdict
 depth_behind bytes b is = ap (λ (xs : List ℕ). behind_of (lines_of xs)) is.text ∙ ap behind_of (depth_lines_again b is.is_depth) ∙ behind_is b.bundle (behind_lines b) is.is_depth.valid
 
--- The text of a depth bundle is judged as its verdict.
+-- The text of a depth certificate is judged to have its verdict.
 pub judged_again : (bytes : List ℕ) (b : DepthBundle) (answer : Answer) → IsDepthText bytes b → IsJudged (lines_of bytes) answer → answer ≡ Ok b.verdict
 judged_again bytes b answer is judged =
     judged.behind b.bundle is.is_depth.valid is.output (depth_front bytes b is)

@@ -1,4 +1,4 @@
--- Depth bundles, and when they are valid.
+-- Depth certificates, and when they are valid.
 use Rattle.std.specs.Prelude.{◌≡◌, ℕ, List, length, map, All, Option, Some, None}
 use Rattle.std.specs.List.{find}
 use Rattle.std.specs.Option.{option_map}
@@ -13,31 +13,30 @@ use Rattle.depth_theory.specs.declared.data.DepthVerdict.{DepthVerdict}
 use Rattle.depth_theory.specs.declared.data.DepthVerdict.TheVariants as verdicts
 use Rattle.depth_theory.specs.Flatter.{flatter}
 
--- a bundle, the logs of the fences that are flatter than its chain, and what they come to
+-- a certificate, the logs of the fences with fewer levels than its chain, and the verdict
 pub record DepthBundle : Type 0 where
   pub bundle : Bundle
   pub parts : List PartLog
   pub verdict : DepthVerdict
 
--- how many levels the fence of a part has
+-- the number of levels of a subproblem's fence
 abbrev pub part_levels : Part → ℕ
 part_levels Whole = 0
 part_levels (Levels sizes) = length sizes
 
--- How many levels the first fence has that is left open. Since fences stand by levels, no other open one has
--- fewer.
+-- The number of levels of the first open fence. Since the fences come by levels, no other open one has fewer.
 abbrev pub open_levels : List PartLog → Option ℕ
 open_levels parts = option_map (λ p. part_levels p.part) (find (λ p. is_open_end p.ended) parts)
 
--- the verdict of a chain of `d` levels, where the levels of the first open fence are given
+-- the verdict for a chain of `d` levels, given the number of levels of the first open fence
 abbrev pub levels_found : Option ℕ → ℕ → DepthVerdict
 levels_found None d = verdicts.Levels d
 levels_found (Some low) d = verdicts.Bounded low d
 
--- The bundle is valid, by fences, and its verdict is a minimum. Each listed fence of the chain's size with fewer
--- levels than the chain has a log, in their order, and the verdict follows.
--- Example: for x1 AND (x2 OR (x3 AND x4)) the bundle has a chain of three steps on three levels; the one listed
--- fence of fewer levels is 2 1, its log refutes it, and the verdict is Levels 3.
+-- The certificate at the head is valid, by fences, and its verdict is a minimum. Each listed fence of the chain's
+-- size with fewer levels than the chain has a log, in their order, and the verdict follows from them.
+-- Example: for x1 AND (x2 OR (x3 AND x4)) the certificate has a chain of three steps on three levels; the one
+-- listed fence with fewer levels is 2 1, its log refutes it, and the verdict is Levels 3.
 pub record IsDepth (b : DepthBundle) : Type 0 where
   pub valid : IsValid b.bundle
   pub by_fences : b.bundle.heading.method ≡ Fence

@@ -1,4 +1,4 @@
--- What the verdict of a depth bundle says of chains.
+-- What the verdict of a depth certificate says about chains.
 use Rattle.std.specs.Prelude.{◌≡◌, ℕ, ◌<◌, length}
 use Rattle.chain_theory.specs.Operator.{Basis}
 use Rattle.chain_theory.specs.Specification.{Specification}
@@ -8,7 +8,7 @@ use Rattle.chain_theory.specs.Levels.{depth}
 use Rattle.depth_theory.specs.declared.data.DepthVerdict.{DepthVerdict}
 use Rattle.depth_theory.specs.declared.data.DepthVerdict.TheVariants.{Levels, Bounded}
 
--- a chain of r steps over the basis that agrees and has d levels: its depth is d
+-- a chain of r steps over the basis that implements the tables and has d levels
 pub record HasDepthOf (s : Specification) (basis : Basis) (r d : ℕ) : Type 0 where
   pub chain : Chain
   pub is_chain : IsChain chain
@@ -17,17 +17,17 @@ pub record HasDepthOf (s : Specification) (basis : Basis) (r d : ℕ) : Type 0 w
   pub agrees : Agrees chain s
   pub depth_is : depth chain ≡ d
 
--- no agreeing chain of r steps over the basis has fewer than d levels
+-- no chain of r steps over the basis that implements the tables has fewer than d levels
 abbrev pub NoneFlatter : Specification → Basis → ℕ → ℕ → Type 0
 NoneFlatter s basis r d = (k : ℕ) → k < d → HasDepthOf s basis r k → ⊥
 
--- The fewest steps, and of chains of that number of steps the fewest levels. This speaks of all chains.
+-- The fewest steps, and the fewest levels among the chains of that number of steps. This ranges over all chains.
 pub record IsLeastDepth (s : Specification) (basis : Basis) (r d : ℕ) : Type 0 where
   pub minimum : IsMinimum s basis r
   pub reached : HasDepthOf s basis r d
   pub none_flatter : NoneFlatter s basis r d
 
--- The fewest steps, a chain of this number of steps with d levels, and none with fewer than low.
+-- The fewest steps, a chain of this number of steps with d levels, and none with fewer than low levels.
 pub record IsBoundedDepth (s : Specification) (basis : Basis) (r low d : ℕ) : Type 0 where
   pub minimum : IsMinimum s basis r
   pub reached : HasDepthOf s basis r d

@@ -1,5 +1,5 @@
--- The verdict of a depth bundle is true: a chain of fewer levels would satisfy the formula of a listed fence of at
--- most its levels, and each of these is refuted.
+-- The verdict of a depth certificate is true: a chain with fewer levels would satisfy the formula of a listed
+-- fence with at most its levels, and each of these is refuted.
 use Rattle.std.proofs.Common.{◌≡◌, ◌⊎◌, ℕ, ◌<◌, ◌≤◌, Bool, true, false, cond, List, [], ◌∷◌, length, map, Contains, Option, Some, None, refl, sym, ap, ◌∙◌, subst, arith, inl, inr}
 use Rattle.std.specs.List.{find, AllByRecursion}
 use Rattle.std.specs.Option.{option_map}
@@ -79,7 +79,7 @@ no_open : (b : Bool) (p : PartLog) (o : Option PartLog) → option_map (λ q. pa
 no_open true p o is = absurd cc
 no_open false p o is = refl
 
--- where no fence is left open each is refuted
+-- if no fence is left open, each is refuted
 all_unsolved : (h : Heading) (size : ℕ) (ps : List PartLog) (fs : List (List ℕ)) (f : List ℕ) → h.method ≡ Fence → AllByRecursion (IsPartLog h size) ps → map part_of ps ≡ map Levels fs → open_levels ps ≡ None → Contains fs f → Solved h size f → ⊥
 all_unsolved h size [] [] f by_fences logs same none there solved = omega (arith, there.1)
 all_unsolved h size [] (g ∷ fs) f by_fences logs same none there solved = cc
@@ -92,7 +92,7 @@ all_unsolved h size (p ∷ ps) (g ∷ fs) f by_fences logs same none there solve
     (λ (later : Contains fs f). all_unsolved h size ps fs f by_fences logs.1 each.1 (sym (open_later (is_open_end p.ended) p (find (λ q. is_open_end q.ended) ps) refuted) ∙ none) later solved)
     (contains_cases g f fs there)
 
--- the first of them, open or refuted, where the others are known
+-- the first fence, open or refuted, if the result for the others is known
 low_by : (h : Heading) (size low : ℕ) (p : PartLog) (ps : List PartLog) (g f : List ℕ) (fs : List (List ℕ)) (b : Bool) → is_open_end p.ended ≡ b → h.method ≡ Fence → IsPartLog h size p → p.part ≡ Levels g
     → ((x : List ℕ) → Contains fs x → length g ≤ length x) → open_levels (p ∷ ps) ≡ Some low → (open_levels ps ≡ Some low → Contains fs f → ⊥) → (g ≡ f) ⊎ Contains fs f → length f < low → Solved h size f → ⊥
 low_by h size low p ps g f fs true is by_fences log part rising opened rest (inl here) less solved =
@@ -109,7 +109,7 @@ low_by h size low p ps g f fs false is by_fences log part rising opened rest (in
 low_by h size low p ps g f fs false is by_fences log part rising opened rest (inr later) less solved =
     rest (sym (open_later (is_open_end p.ended) p (find (λ q. is_open_end q.ended) ps) is) ∙ opened) later
 
--- and each with fewer levels than the first open one
+-- and each fence with fewer levels than the first open one is refuted
 low_unsolved : (h : Heading) (size low : ℕ) (ps : List PartLog) (fs : List (List ℕ)) (f : List ℕ) → h.method ≡ Fence → AllByRecursion (IsPartLog h size) ps → map part_of ps ≡ map Levels fs → AreRising fs → open_levels ps ≡ Some low → Contains fs f → length f < low → Solved h size f → ⊥
 unfolding AreRising
 low_unsolved h size low [] fs f by_fences logs same rising opened there less solved = absurd cc
@@ -122,7 +122,8 @@ low_unsolved h size low (p ∷ ps) (g ∷ fs) f by_fences logs same rising opene
 
 -- ---- chains of fewer levels
 
--- a chain with `k` levels, where none of fewer steps agrees, has a fence among them that can be solved
+-- if no chain of fewer steps implements the tables, a chain with `k` levels has a listed fence whose formula is
+-- satisfiable
 solved_fence : (h : Heading) (size k : ℕ) → IsMinimum (specification h.spec) (members h.basis) size → HasDepthOf (specification h.spec) (members h.basis) size k → (fence : List ℕ) × Contains (fences_for h.spec size) fence × (length fence ≤ k) × Solved h size fence
 solved_fence h size k minimum has =
     let low : HasLevels k has.chain = subst (λ (d : ℕ). HasLevels d has.chain) has.depth_is (depth-bound has.chain) in
@@ -170,7 +171,7 @@ found_chain h count low (Some x) c v same ending = let is : x ≡ c = some_chain
     some_chain : (x y : Chain) → Some x ≡ Some y → x ≡ y
     some_chain x y e = cc
 
--- the chain of a depth bundle
+-- the chain of a depth certificate
 pub depth_found : (b : DepthBundle) (is : IsDepth b) → IsFound b.bundle.heading (length b.bundle.sections) is.chain
 depth_found b is = found_chain b.bundle.heading (length b.bundle.sections) (first_open b.bundle.sections) b.bundle.chain is.chain b.bundle.verdict is.chain_is is.valid.ending
 
@@ -195,7 +196,7 @@ means_by b is (Some low) e =
     let below = flatter_is (fences_for h.spec size) (depth is.chain) named.0 named.1 in
     record { minimum = least b is; reached = reached b is; none_flatter = none_flatter_opened h size (depth is.chain) low b.parts (omega (arith, below.1, named.2)) is.by_fences (least b is) logs is.parts_are e }
 
--- The verdict of a depth bundle is true.
+-- The verdict of a depth certificate is true.
 pub depth_means : (b : DepthBundle) (is : IsDepth b) → Means (specification b.bundle.heading.spec) (members b.bundle.heading.basis) (length is.chain.steps) b.verdict
 depth_means b is =
     subst (λ (v : DepthVerdict). Means (specification b.bundle.heading.spec) (members b.bundle.heading.basis) (length is.chain.steps) v) (sym is.verdict_is) (means_by b is (open_levels b.parts) refl)

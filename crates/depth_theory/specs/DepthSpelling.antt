@@ -1,5 +1,5 @@
--- How a depth bundle is written: its bundle, and after the line `end` of it, for the example of x1 AND (x2 OR
--- (x3 AND x4)),
+-- How a depth certificate is written: the certificate at its head and, after the line `end` of that, for the
+-- example of x1 AND (x2 OR (x3 AND x4)),
 --
 --     depth 3
 --     fence 2 1
@@ -18,7 +18,7 @@ use Rattle.depth_theory.specs.declared.data.DepthVerdict.{DepthVerdict}
 use Rattle.depth_theory.specs.declared.data.DepthVerdict.TheVariants as verdicts
 use Rattle.depth_theory.specs.DepthBundle.{DepthBundle, IsDepth}
 
--- the levels of the chain, by the verdict
+-- the number of levels of the chain, from the verdict
 abbrev pub levels_of : DepthVerdict → ℕ
 levels_of (verdicts.Levels d) = d
 levels_of (verdicts.Bounded low d) = d
@@ -30,7 +30,7 @@ unfoldable pub levels_line : DepthVerdict → List ℕ
 levels_line (verdicts.Levels d) = codes "levels " ++ decimal d
 levels_line (verdicts.Bounded low d) = codes "levels-bounded " ++ (decimal low ++ 32 ∷ decimal d)
 
--- what stands after the line of the depth
+-- the lines after that of the depth
 abbrev pub flat_lines : List PartLog → DepthVerdict → List Line
 flat_lines parts v = flat_map part_lines parts ++ line (levels_line v) ∷ line end_text ∷ []
 
@@ -40,13 +40,13 @@ depth_lines b = bundle_lines b.bundle ++ line (depth_line (levels_of b.verdict))
 abbrev pub depth_text : DepthBundle → List ℕ
 depth_text b = text_of (depth_lines b)
 
--- Bytes are the text of a depth bundle.
+-- Bytes are the text of a depth certificate.
 pub record IsDepthText (bytes : List ℕ) (b : DepthBundle) : Type 0 where
   pub is_depth : IsDepth b
   pub output : HasOutput b.bundle
   pub text : bytes ≡ depth_text b
 
--- Bytes are the text of a depth bundle that has this verdict.
+-- Bytes are the text of a depth certificate with this verdict.
 pub record HasDepth (bytes : List ℕ) (v : DepthVerdict) : Type 0 where
   pub bundle : DepthBundle
   pub is_text : IsDepthText bytes bundle

@@ -1,4 +1,4 @@
--- Depth bundles, as they are read.
+-- Depth certificates, as they are read.
 use Rattle.std.proofs.Common.{◌≡◌, ℕ, ◌+◌, ◌==◌, Bool, true, false, cond, List, [], ◌∷◌, ◌++◌, length, map, Option, Some, None, Result, Ok, Err, refl, sym, ap, ◌∙◌, subst, append_assoc, append-nil}
 use Rattle.std.specs.Prelude.{codes, decimal}
 use Rattle.std.specs.List.{flat_map, AllByRecursion}
@@ -59,7 +59,7 @@ same_is (verdicts.Bounded l d) (verdicts.Bounded low e) is =
     let parts = both_true (l == low) (d == e) is in
     ap (λ (n : ℕ). verdicts.Bounded n d) (eqb-true l low parts.0) ∙ ap (λ (n : ℕ). verdicts.Bounded low n) (eqb-true d e parts.1)
 
--- ---- the ending
+-- ---- the trailer
 
 nothing_is : (number : ℕ) (v w : DepthVerdict) (ls : List Line) → nothing_behind number v ls ≡ Ok w → (ls ≡ []) × (v ≡ w)
 nothing_is number v w [] e = (refl, cc)
@@ -89,7 +89,7 @@ verdict_spells number due v l e =
     let own : read.0 ≡ v = verdict_ok read.0 v (Ok read.0) refl tests.1 in
     (sym own ∙ same_is read.0 due tests.0, levels_spells l read.0 (read_ok number (levels_in l) read.0 read.1) ∙ ap (λ (w : DepthVerdict). line (levels_line w)) own)
 
--- ---- what is read from a place on
+-- ---- the lines from a given point on
 
 -- the logs of the fences that are due, and the verdict
 record FlatRest (h : Heading) (size d : ℕ) (low : Option ℕ) (due : List (List ℕ)) (ls : List Line) (v : DepthVerdict) : Type 0 where
@@ -122,13 +122,13 @@ IsAt h size (Due fences) = Unit {0}
 IsAt h size (Begun fence later) = Unit {0}
 IsAt h size (Within fence later ended log) = IsLog (formula_of h size (Levels fence)) ended log
 
--- the first open fence, with one fence more before it
+-- the first open fence, with one more fence before it
 pub low_step : (low : Option ℕ) (fence : List ℕ) (ended : Ended) (log : List theory.Line) (ps : List PartLog) → low_or (low_with low ended (length fence)) (open_levels ps) ≡ low_or low (open_levels (record { part = Levels fence; ended = ended; log = log } ∷ ps))
 low_step (Some low) fence ended log ps = refl
 low_step None fence ends.Refuted log ps = refl
 low_step None fence ends.Open log ps = refl
 
--- one fence more at the head
+-- one more fence at the head
 begun_more : (h : Heading) (size d : ℕ) (low : Option ℕ) (fence : List ℕ) (later : List (List ℕ)) (l : Line) (ls : List Line) (v : DepthVerdict) → l ≡ line (title_text fence) → BegunRest h size d low fence later ls v → FlatRest h size d low (fence ∷ later) (l ∷ ls) v
 unfolding title_lines
 begun_more h size d low fence later l ls v first begun =
@@ -146,7 +146,7 @@ begun_more h size d low fence later l ls v first begun =
           ∙ sym (append_assoc (part_lines p) (flat_map part_lines flat.parts) (line (levels_line v) ∷ line end_text ∷ []));
     }
 
--- one line of a log more at the head
+-- one more line of a log at the head
 logged_more : (h : Heading) (size d : ℕ) (low : Option ℕ) (fence : List ℕ) (later : List (List ℕ)) (ended : Ended) (log : List theory.Line) (x : theory.Line) (l : Line) (ls : List Line) (v : DepthVerdict) → l ≡ log_line x → LogRest h size d low fence later ended (log ++ x ∷ []) ls v → LogRest h size d low fence later ended log (l ∷ ls) v
 logged_more h size d low fence later ended log x l ls v first rest = record {
   more = x ∷ rest.more;
@@ -216,7 +216,7 @@ flat_spells (l ∷ ls) h size d number low (Within fence later ended log) v is e
     within_by h size d number low fence later ended log l ls v read.0 is (located_ok (fault_at number) part read.0 read.1) read.2
     (λ p o at next. flat_spells ls h size d (number + 1) o p v at next)
 
--- ---- after a bundle
+-- ---- after the certificate at the head
 
 depth_spells : (number d : ℕ) (l : Line) → depth_at number d l ≡ Ok tt → l ≡ line (depth_line d)
 unfolding depth_at depth_line
@@ -232,7 +232,7 @@ found_depth (Some low) d = refl
 unit_ok : (r : Result (Unit {0}) DepthError) (x : Unit {0}) → r ≡ Ok x → r ≡ Ok tt
 unit_ok r x e = e
 
--- the logs and the verdict after a bundle
+-- the logs and the verdict after the certificate at the head
 record ReadFlat (h : Heading) (size d : ℕ) (ls : List Line) (v : DepthVerdict) : Type 0 where
   parts : List PartLog
   parts_are : map part_of parts ≡ map Levels (flatter h.spec size d)
@@ -325,6 +325,6 @@ judged_by bytes v (Ok u) is judged =
     text_by bytes read.bundle v read.output (front_and_behind ls ∙ ap (λ (xs : List Line). xs ++ behind_of ls) read.lines)
     (behind_spells read.bundle (length (front_of ls) + 1) (behind_of ls) v read.valid (sym answer))
 
--- Bytes that are judged as a verdict are the text of a depth bundle that has it.
+-- Bytes that are judged to have a verdict are the text of a depth certificate with that verdict.
 pub judged_spelled : (bytes : List ℕ) (v : DepthVerdict) → IsJudged (lines_of bytes) (Ok v) → HasDepth bytes v
 judged_spelled bytes v judged = judged_by bytes v (bundle_of (front_of (lines_of bytes))) refl judged

@@ -1,4 +1,4 @@
--- Which fences are flatter, and in which order they stand.
+-- Which fences have fewer levels, and their order.
 use Rattle.std.proofs.Common.{◌≡◌, ◌⊎◌, ℕ, zero, suc, ◌+◌, ◌<◌, ◌≤◌, ◌==◌, Bool, true, false, cond, List, [], ◌∷◌, ◌++◌, length, Contains, refl, sym, ap, ◌∙◌, subst, arith, inl, inr, append-nil}
 use Rattle.std.specs.List.{filter, flat_map, range_with_len}
 use Rattle.std.proofs.Math.Logic.{⊎_elim}
@@ -11,7 +11,7 @@ use Rattle.depth_theory.specs.Flatter.{has_levels, of_levels, by_levels}
 
 -- ---- which
 
--- a head that passes, or doesn't
+-- a head that passes the filter, or doesn't
 kept_head : (p : List ℕ → Bool) (y x : List ℕ) (ys : List (List ℕ)) (b : Bool) → p y ≡ b → p x ≡ true → (y ≡ x) ⊎ Contains ys x → Contains (cond b (y ∷ ys) ys) x
 kept_head p y x ys true is passes (inl here) = subst (Contains (y ∷ ys)) here (contains_head y ys)
 kept_head p y x ys true is passes (inr later) = contains_tail y x ys later
@@ -35,7 +35,7 @@ filter_test p (y ∷ ys) x there = head_passes p y x (filter p ys) (p y) refl (f
 eq_same : (n : ℕ) → (n == n) ≡ true
 eq_same n = grind (arith, nat_tests)
 
--- each fence with fewer levels stands among them
+-- each fence with fewer levels is among them
 pub flatter_has : (fences : List (List ℕ)) (d : ℕ) (f : List ℕ) → Contains fences f → length f < d → Contains (by_levels fences d) f
 unfolding by_levels of_levels
 flatter_has fences d f there low =
@@ -73,7 +73,7 @@ by_levels_more fences k =
 
 -- ---- in which order
 
--- each has at most the levels of those after it
+-- each fence has at most as many levels as those after it
 unfoldable pub AreRising : List (List ℕ) → Type 0
 AreRising [] = Unit {0}
 AreRising (f ∷ fs) = ((g : List ℕ) → Contains fs g → length f ≤ length g) × AreRising fs
@@ -90,7 +90,7 @@ rising_both (x ∷ xs) ys one two low = (
   rising_both xs ys one.1 two (λ f g here later. low f g (contains_tail x f xs here) later),
 )
 
--- fences of equal levels
+-- fences with equally many levels
 rising_even : (k : ℕ) (xs : List (List ℕ)) → ((f : List ℕ) → Contains xs f → length f ≡ k) → AreRising xs
 unfolding AreRising
 rising_even k [] same = tt
@@ -109,7 +109,7 @@ rising_from fences a (suc n) =
     let inside = range_inside (a + 1) n from.source from.inside in
     omega (arith, level_is fences a f here, inside.0, level_is fences from.source g from.gives))
 
--- they stand by levels
+-- they are sorted by levels
 pub flatter_rise : (fences : List (List ℕ)) (d : ℕ) → AreRising (by_levels fences d)
 unfolding by_levels
 flatter_rise fences d = rising_from fences 0 d

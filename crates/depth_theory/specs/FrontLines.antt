@@ -1,4 +1,4 @@
--- The lines of a bundle end with its first line `end`.
+-- The lines of a certificate end with its first line `end`.
 use Rattle.std.proofs.Common.{◌≡◌, ℕ, ◌+◌, ◌==◌, Bool, true, false, cond, List, [], ◌∷◌, ◌++◌, length, map, Option, Some, None, Ok, refl, sym, ap, ◌∙◌, append_assoc}
 use Rattle.std.specs.Prelude.{codes, decimal}
 use Rattle.std.specs.Str.{bytes_eq}
@@ -36,7 +36,7 @@ use Rattle.cert_laws.specs.LineSpellings.{is_line_back}
 use Rattle.cert_laws.specs.SectionLists.{log_holds}
 use Rattle.depth_theory.specs.DepthJudging.{front_of, behind_of}
 
--- none of the lines is `end`, so that what stands after them is looked at
+-- none of the lines is `end`, so the search for `end` goes past them
 record IsEndless (ls : List Line) : Type 0 where
   front : (rest : List Line) → front_of (ls ++ rest) ≡ ls ++ front_of rest
   behind : (rest : List Line) → behind_of (ls ++ rest) ≡ behind_of rest
@@ -88,7 +88,7 @@ unfolding EachLine
 endless_log s [] each = endless_none
 endless_log s (x ∷ xs) each = endless_cons (log_line x) (map log_line xs) (endless_line (log_line x) (log_other x (bytes_eq (line_body x) (codes "end")) each.0.is_line refl)) (endless_log (next s x) xs each.1)
 
--- ---- the heading
+-- ---- the header
 
 cell_other : (c : Cell) → (first_byte (character c ∷ []) == 101) ≡ false
 cell_other Zero = refl
@@ -145,7 +145,7 @@ unfolding AreSections
 endless_sections h [] size are = endless_none
 endless_sections h (s ∷ ss) size are = endless_both (section_lines s) (flat_map section_lines ss) (endless_section h size s are.0) (endless_sections h ss (size + 1) are.1)
 
--- ---- the ending
+-- ---- the trailer
 
 endless_steps : (place : ℕ) (ss : List Step) → IsEndless (step_lines place ss)
 unfolding step_lines step_text
@@ -171,7 +171,7 @@ endless_verdict (verdicts.Open low) = endless_text (codes "open " ++ decimal low
 
 -- ---- the whole
 
--- all lines of a bundle but the last
+-- all lines of a certificate but the last
 abbrev opening : Bundle → List Line
 opening b = heading_lines b.heading ++ (flat_map section_lines b.sections ++ (block_lines b.chain ++ line (verdict_line b.verdict) ∷ []))
 
@@ -194,7 +194,7 @@ last_behind : (rest : List Line) → behind_of (line end_text ∷ rest) ≡ rest
 unfolding behind_of
 last_behind rest = ap (λ (t : Bool). cond t rest (behind_of rest)) (is_line_back end_text)
 
--- of a bundle's lines and others the first are the bundle's ..
+-- the lines of a certificate with others after them begin with the certificate ..
 pub front_is : (b : Bundle) (rest : List Line) → IsValid b → front_of (bundle_lines b ++ rest) ≡ bundle_lines b
 front_is b rest valid =
     let h = heading_lines b.heading in
@@ -206,7 +206,7 @@ front_is b rest valid =
     ∙ ap (λ (xs : List Line). opening b ++ xs) (last_front rest)
     ∙ regroup_all h s c v (line end_text)
 
--- .. and the others stand after it
+-- .. and the others come after it
 pub behind_is : (b : Bundle) (rest : List Line) → IsValid b → behind_of (bundle_lines b ++ rest) ≡ rest
 behind_is b rest valid =
     ap behind_of (regroup (heading_lines b.heading) (flat_map section_lines b.sections) (block_lines b.chain) (line (verdict_line b.verdict)) (line end_text) rest)

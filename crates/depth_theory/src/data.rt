@@ -1,9 +1,9 @@
-//! Verdicts of depth bundles, and what may be wrong with one.
+//! Verdicts of depth certificates, and the faults of a text that isn't one.
 use cert_theory::BundleError;
 use lrat_check::CheckError;
 use std::alloc::{AllocError, AllocFailed};
 
-/// What a depth bundle comes to.
+/// The verdict of a depth certificate.
 #[derive(Clone, Copy, PartialEq, Eq)]
 pub enum DepthVerdict {
     /// The chain has this number of levels, and no chain of its number of steps has fewer.
@@ -12,31 +12,33 @@ pub enum DepthVerdict {
     Bounded { low: u32, levels: u32 },
 }
 
-/// Why a text isn't a depth bundle. Lines are judged from the top and numbered from 1, over the whole text;
-/// where a text ends too early, the number is that of the line that would come next. The first fault is reported,
-/// and `Syntax` comes before the other faults of a line.
+/// Why a text isn't a depth certificate. Lines are judged from the top and numbered from 1 over the whole text; if
+/// a text ends too early, the number is that of the line that would come next. The first fault is reported, and
+/// `Syntax` precedes the other faults of a line.
 #[derive(Clone, Copy, PartialEq, Eq)]
 pub enum DepthError {
-    /// The lines up to the first line `end` aren't a valid bundle, with its fault. This is never want of memory.
+    /// The lines up to the first line `end` aren't a valid certificate, with its fault, which is never out of
+    /// memory.
     Bundle(BundleError),
-    /// The bundle isn't by fences, or its verdict isn't a minimum.
+    /// The certificate isn't by fences, or its verdict isn't a minimum.
     NotLeastForm,
-    /// The line isn't what may stand there, or has no LF, or is missing.
+    /// The line isn't allowed there, has no LF, or is missing.
     Syntax(u32),
-    /// The line states another depth than the chain has.
+    /// The line states another depth than that of the chain.
     WrongDepth(u32),
-    /// A line of a log doesn't hold, with its first fault. This is never want of memory.
+    /// A line of a log doesn't hold, with its first fault, which is never out of memory.
     StepRefused(u32, CheckError),
-    /// A line of an open part holds, and adds a clause that isn't new.
+    /// A line of an open fence's log holds, but the clause that it adds isn't new.
     NotNew(u32),
-    /// A refuted part is done without the empty clause, or another line stands where the title of a fence is
-    /// due, or a title where none is.
+    /// The log of a refuted fence ends without the empty clause; or there is another line where the name of a
+    /// fence is due, or the name of a fence where none is due.
     NotRefuted(u32),
-    /// An open part is done with fewer additions than the budget.
+    /// The log of an open fence ends with fewer additions than the budget.
     OpenTooShort(u32),
-    /// An open part is done although the empty clause stands; or the verdict isn't the one that follows.
+    /// The log of an open fence ends although it has derived the empty clause; or the verdict isn't the one that
+    /// follows.
     WrongLevels(u32),
-    /// Memory ran out.
+    /// Out of memory.
     Memory,
 }
 

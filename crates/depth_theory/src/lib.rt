@@ -1,19 +1,20 @@
-//! What a depth bundle is: the certificate that a chain of the fewest steps has the fewest levels too. Here is
-//! when one is valid, how it is written, what is wrong with a text, and what its verdict means.
+//! Depth certificates: they show that a chain of the fewest steps also has the fewest levels. This crate defines
+//! when one is valid, how it is written, which faults a text can have, and what the verdict means.
 //!
-//! A depth bundle is a bundle by fences whose verdict is a minimum. After it stand the levels of its chain, a
-//! part for each listed fence of that size with fewer levels, and the verdict that follows: this number of
-//! levels and no fewer, or, where a fence is left open, none of fewer than its levels.
+//! A depth certificate begins with a certificate by fences whose verdict is a minimum. Then come the number of
+//! levels of its chain, a log for each listed fence of that size with fewer levels, and the verdict: this number
+//! of levels and no fewer or, if a fence is left open, none with fewer levels than the first open fence.
 //!
 //! - `specs/Flatter.antt`: the listed fences with fewer levels, in their order.
-//! - `specs/DepthBundle.antt`: a depth bundle as a value, and when it is valid.
+//! - `specs/DepthBundle.antt`: a depth certificate as a value, and when it is valid.
 //! - `specs/DepthSpelling.antt`: how it is written.
-//! - `specs/DepthJudging.antt`: what lines say, and the first fault where they aren't a depth bundle.
-//! - `specs/DepthMeaning.antt`: what each verdict says of chains.
+//! - `specs/DepthJudging.antt`: how lines are judged, and the first fault if they aren't a depth certificate.
+//! - `specs/DepthMeaning.antt`: what each verdict says about chains.
 //!
-//! The theorems, in `laws`: lines are judged as a verdict exactly where they spell a depth bundle that has it,
-//! and the verdict of a depth bundle is true. It stands on `cert_theory` for bundles and for the lines of a
-//! part, on `cert_laws` for what these come to, and on `enc_laws` for what the formulas of fences mean.
+//! The theorems, in `laws`: lines are judged to have a verdict exactly if they spell a depth certificate with that
+//! verdict, and the verdict of a depth certificate is true. The crate rests on `cert_theory` for certificates and
+//! for the lines of a log, on `cert_laws` for their laws, and on `enc_laws` for the meaning of the formulas of
+//! fences.
 #![tactic(auto)]
 
 mod data;

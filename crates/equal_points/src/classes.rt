@@ -1,28 +1,29 @@
-//! Classes of points that may be equal or complementary: those of one mark after the first simulation. A class is listed
-//! in the order of its points, and only those that were visited and not merged are in it. What later assignments tell
-//! apart stays in one list, and its marks differ.
+//! Candidate classes: nodes that may be equal or complementary, because they had one signature after the first
+//! simulation. A class lists its nodes in order, and only those that were visited and not merged. Nodes that a
+//! later assignment tells apart stay in one list, but their signatures differ.
 
 use crate::patterns::Patterns;
 use crate::rows::{entry, put};
 use indexmap::IndexSet;
 use std::alloc::{AllocError, Global};
 
-/// No point.
+/// Not a node: the end of a list.
 const NONE: u32 = u32::MAX;
 
-/// Lists of points by class.
+/// The candidate classes, each a linked list of nodes.
 #[derive(Drop)]
 pub(crate) struct Classes {
-    /// The class of each point.
+    /// The class of each node.
     class: Vec<u32>,
-    /// The first and the last point of each class.
+    /// The first and the last node of each class.
     heads: Vec<u32>,
     lasts: Vec<u32>,
-    /// The next point of the class, by point.
+    /// The next node of the same class, by node.
     next: Vec<u32>,
 }
 
-/// The classes of all points, which are numbered in the order of their first points.
+/// Puts each node into the class of its signature. Classes are numbered in the order of their first nodes. Returns
+/// the class of each node and the number of classes.
 fn number(alloc: Global, patterns: &Patterns, count: u32) -> Result<(Vec<u32>, usize), AllocError> {
     let mut marks = IndexSet::with_capacity(alloc, count as usize)?;
     let mut class = Vec::with_capacity(alloc, count as usize)?;
@@ -34,7 +35,7 @@ fn number(alloc: Global, patterns: &Patterns, count: u32) -> Result<(Vec<u32>, u
 }
 
 impl Classes {
-    /// The classes of `count` points, with no point listed.
+    /// The classes of `count` nodes, each with an empty list.
     pub(crate) fn new(
         alloc: Global,
         patterns: &Patterns,
@@ -49,14 +50,14 @@ impl Classes {
         })
     }
 
-    /// Takes all points off the lists.
+    /// Empties all lists.
     pub(crate) fn clear(&mut self) {
         self.heads.fill(NONE);
         self.lasts.fill(NONE);
         self.next.fill(NONE);
     }
 
-    /// Lists a point as the last of its class.
+    /// Appends a node to the list of its class.
     pub(crate) fn push(&mut self, variable: u32) {
         let class = entry(&self.class, variable, NONE);
         let last = entry(&self.lasts, class, NONE);
@@ -68,7 +69,7 @@ impl Classes {
         put(&mut self.lasts, class, variable);
     }
 
-    /// The first point that is listed in the class of `variable` and has its mark.
+    /// The first node in the list of `variable`'s class that still has its signature.
     pub(crate) fn candidate(&self, patterns: &Patterns, variable: u32) -> Option<u32> {
         let mark = patterns.mark_of(variable);
         let mut point = entry(&self.heads, entry(&self.class, variable, NONE), NONE);

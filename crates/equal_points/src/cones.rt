@@ -1,24 +1,25 @@
-//! What a probe opens with a variable: the operands of its gate, the two signals of a sink's difference, or where the
-//! point was merged its representative alone. Of the open variables the last one is decided first: gates before their
-//! operands, and all that is open of the second net before what it was merged with in the first. So the cones of a
-//! pair are decided down to what they share, and not beyond.
+//! The decision variables of the solver's questions: deciding a variable makes its fanins decision variables too.
+//! These are the operands of a gate, the two signals of a sink's difference, or the representative alone if the
+//! node was merged. The last open variable is decided first, so a gate comes before its operands, and all open
+//! gates of the second net before the nodes of the first that they were merged with. So a question explores the
+//! fanin cones of a pair down to what the two share, and no further.
 
 use crate::points::Points;
 use crate::rows::put;
 use sat_solve::Cones;
 use std::alloc::{AllocError, Global};
 
-/// Rows by variable, as `sat_solve::Cones` has them.
+/// The fanins and the rank of each variable, as `sat_solve::Cones` takes them.
 #[derive(Drop)]
 pub(crate) struct ConeRows {
     first: Vec<u32>,
     second: Vec<u32>,
-    /// The number of each variable itself (the identity): of the open variables the last one is decided first.
+    /// The variable's own number: of the open variables the last one is decided first.
     rank: Vec<u32>,
 }
 
 impl ConeRows {
-    /// The cones of the points and of the sinks' differences, whose variables come after the points.
+    /// The fanins of the nodes, and of the sinks' differences, whose variables come after the nodes.
     pub(crate) fn new(alloc: Global, points: &Points) -> Result<ConeRows, AllocError> {
         let room = points.count().saturating_add(points.ones.len());
         let mut rows = ConeRows {
@@ -31,7 +32,7 @@ impl ConeRows {
         Ok(rows)
     }
 
-    /// Appends the rows of the next variable.
+    /// Appends the fanins of the next variable.
     fn push(&mut self, first: u32, second: u32) -> Result<(), AllocError> {
         self.first.push(first)?;
         self.second.push(second)?;
@@ -40,7 +41,7 @@ impl ConeRows {
         Ok(())
     }
 
-    /// Appends the rows of the points: sources have no cones.
+    /// Appends the fanins of the nodes. Sources have none.
     fn push_points(&mut self, points: &Points) -> Result<(), AllocError> {
         for (variable, point) in points.points.iter().enumerate() {
             if variable <= points.sources as usize {
@@ -52,7 +53,7 @@ impl ConeRows {
         Ok(())
     }
 
-    /// Appends the rows of the sinks' differences.
+    /// Appends the fanins of the sinks' differences.
     fn push_differences(&mut self, points: &Points) -> Result<(), AllocError> {
         for (one, other) in points.ones.iter().zip(points.others.iter()) {
             self.push(one.variable, other.variable)?;
@@ -60,13 +61,13 @@ impl ConeRows {
         Ok(())
     }
 
-    /// From now on `variable` has the cone of `representative`.
+    /// Replaces the fanins of a merged node by its representative.
     pub(crate) fn merge(&mut self, variable: u32, representative: u32) {
         put(&mut self.first, variable, representative);
         put(&mut self.second, variable, 0);
     }
 
-    /// The rows for a probe.
+    /// The arrays as the solver takes them.
     pub(crate) fn rows(&self) -> Cones<'_> {
         Cones {
             first: &self.first,

@@ -1,12 +1,13 @@
-//! Gates that are alike (structurally equal) over what was merged: one operator on the same representatives, up to the
-//! order of the operands and up to complements.
+//! Structural hashing over representatives: two gates are structurally equal if they have one operator on the same
+//! representatives, up to the order of the operands and up to complements.
 
 use crate::points::{Edge, Point, turned};
 use indexmap::IndexSet;
 use op_basis::swapped;
 use std::alloc::{AllocError, Global};
 
-/// A key of a gate: its operator's truth table with value 0 at (0,0), and its operands, the lesser first.
+/// The key of a gate in the hash table: its operator, complemented so that its value at (0,0) is 0, and its
+/// operands, the lesser first.
 #[derive(Clone, Copy, PartialEq, Eq, Hash)]
 struct Form {
     word: u8,
@@ -14,7 +15,7 @@ struct Form {
     high: u32,
 }
 
-/// The form of a gate whose operands have the representatives `a` and `b`.
+/// The key of a gate whose operands have the representatives `a` and `b`.
 fn form_of(point: Point, a: Edge, b: Edge) -> Form {
     let op = turned(point.op, a.turned, b.turned, false);
     let sorted = if a.variable <= b.variable {
@@ -30,16 +31,16 @@ fn form_of(point: Point, a: Edge, b: Edge) -> Form {
     }
 }
 
-/// The forms of the gates that were visited.
+/// The hash table of the gates visited so far.
 #[derive(Drop)]
 pub(crate) struct Forms {
     forms: IndexSet<Form>,
-    /// The first gate of each form.
+    /// The first gate with each key.
     owners: Vec<u32>,
 }
 
 impl Forms {
-    /// No forms.
+    /// An empty table.
     pub(crate) fn new(alloc: Global) -> Forms {
         Forms {
             forms: IndexSet::new(alloc),
@@ -47,13 +48,14 @@ impl Forms {
         }
     }
 
-    /// Forgets all forms.
+    /// Removes all keys.
     pub(crate) fn clear(&mut self) {
         self.forms.clear();
         self.owners.clear();
     }
 
-    /// The first gate of the form of the gate `variable`; it is that gate itself where there was none.
+    /// The first gate with the key of the gate `variable`. If there was none, it is that gate itself, which is
+    /// added.
     pub(crate) fn owner(
         &mut self,
         variable: u32,

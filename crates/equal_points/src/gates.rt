@@ -1,5 +1,5 @@
-//! The gates in the order of the variables. First the short clauses of each gate are derived, which the miter, with four
-//! clauses of three literals for a gate, lacks; then each gate is compared with an earlier point.
+//! The gates in topological order. First the solver derives the binary clauses of each gate, which the miter
+//! lacks: it has four ternary clauses for a gate. Then each gate is compared with earlier nodes.
 ghost use Rattle.std.specs.Prelude.{◌≡◌, ◌<◌, ◌^◌, OnOk};
 ghost use Rattle.equal_points.specs.Stays.{Stays};
 
@@ -10,26 +10,27 @@ use crate::state::Sweeping;
 use sat_solve::{Probed, Solver};
 use std::alloc::AllocError;
 
-/// How many conflicts the question for a short clause may take. They aren't counted against the budget.
+/// The conflict limit of the question for a binary clause. These conflicts don't count against the budget.
 const SHORT_LIMIT: u32 = 2;
 
-/// How many candidates a gate is compared with.
+/// The greatest number of candidates that a gate is compared with.
 const MOST_CANDIDATES: u32 = 1000;
 
-/// What a step of a sweep came to.
+/// What one step of a sweep found.
 #[derive(Clone, Copy, PartialEq, Eq)]
 pub(crate) enum Heard {
-    /// The sweep goes on.
+    /// Nothing that ends the sweep.
     Nothing,
-    /// The formula is refuted.
+    /// The miter is refuted.
     Refuted,
     /// The budget is spent.
     Spent,
-    /// A sink differs.
+    /// An assignment under which a sink differs.
     Difference,
 }
 
-/// The bit that a gate has wherever the operand has the bit `bit`, if there is one; the second operand where `second`.
+/// The value of a gate that is forced by the value `bit` of one operand, if it is. The operand is the second one
+/// if `second` holds.
 fn forced(point: Point, second: bool, bit: bool) -> Option<bool> {
     let (one, other) = if second {
         (point.op.apply(false, bit), point.op.apply(true, bit))
@@ -39,7 +40,8 @@ fn forced(point: Point, second: bool, bit: bool) -> Option<bool> {
     if one == other { Some(one) } else { None }
 }
 
-/// Has the solver derive the clause of a gate and one operand, if there is one: the operand's bit `bit` forces the gate.
+/// Has the solver derive the binary clause of a gate and one operand, if the operand's value `bit` forces the
+/// gate.
 fn shorten_one<S: Solver>(
     solver: &mut S,
     vars: u32,
@@ -77,13 +79,13 @@ fn shorten_one<S: Solver>(
     }
 }
 
-/// Whether a gate is on two different points that aren't constant.
+/// Whether the operands of a gate are two different nodes, neither of them constant.
 fn is_on_two(point: &Point) -> bool {
     point.a != point.b && point.a != 0 && point.b != 0
 }
 
-/// Has the solver derive the short clauses of a gate that is needed, if it is on two different points that aren't
-/// constant.
+/// Has the solver derive the binary clauses of a gate in the cone of an open sink, if its operands are two
+/// different nodes, neither of them constant.
 fn shorten<S: Solver>(
     solver: &mut S,
     vars: u32,
@@ -112,7 +114,7 @@ fn shorten<S: Solver>(
     Ok(Heard::Nothing)
 }
 
-/// Has the solver derive the short clauses of all gates that are needed.
+/// Has the solver derive the binary clauses of all gates in the cones of open sinks.
 pub(crate) fn shorten_gates<S: Solver>(
     solver: &mut S,
     vars: u32,
@@ -131,7 +133,8 @@ pub(crate) fn shorten_gates<S: Solver>(
     Ok(Heard::Nothing)
 }
 
-/// Compares a gate with its candidates in turn, the gate that it is alike with before those of its class.
+/// Compares a gate with its candidates in turn: first with the gate that it is structurally equal to, if there is
+/// one, then with those of its class.
 fn settle<S: Solver>(
     solver: &mut S,
     vars: u32,
@@ -161,7 +164,7 @@ fn settle<S: Solver>(
     Ok(Heard::Nothing)
 }
 
-/// Visits a gate: it is merged, or listed for those that come later.
+/// Visits a gate: it is merged, or listed as a candidate for later gates.
 fn visit<S: Solver>(
     solver: &mut S,
     vars: u32,
@@ -187,7 +190,7 @@ fn visit<S: Solver>(
     Ok(heard)
 }
 
-/// Visits all gates in order.
+/// Visits all gates in topological order.
 pub(crate) fn visit_gates<S: Solver>(
     solver: &mut S,
     vars: u32,

@@ -1,5 +1,5 @@
-//! The first round: gates that are alike (structural hashing), which are merged before any pair is guessed. Where that joins
-//! the sinks, as in a net beside a copy of itself, no other question is asked.
+//! The first round merges structurally equal gates, before any candidate is guessed from simulation. If that
+//! merges the two signals of every sink, as for a net and its copy, nothing else is asked.
 ghost use Rattle.std.specs.Prelude.{◌≡◌, ◌<◌, ◌^◌, OnOk};
 ghost use Rattle.equal_points.specs.Stays.{Stays};
 
@@ -10,10 +10,10 @@ use crate::state::Sweeping;
 use sat_solve::Solver;
 use std::alloc::AllocError;
 
-/// How many conflicts a question of this round may take: a few for each row of an operator.
+/// The conflict limit of a question of this round: a few for each row of an operator's table.
 const LIMIT: u32 = 20;
 
-/// Compares a gate that is needed with the one that it is alike with, if there is one.
+/// Compares a gate in the cone of an open sink with the gate that it is structurally equal to, if there is one.
 fn join<S: Solver>(
     solver: &mut S,
     vars: u32,
@@ -34,7 +34,7 @@ fn join<S: Solver>(
     Ok(heard)
 }
 
-/// Visits all gates in order.
+/// Visits all gates in topological order.
 fn join_gates<S: Solver>(
     solver: &mut S,
     vars: u32,
@@ -56,7 +56,7 @@ fn join_gates<S: Solver>(
     Ok(Heard::Nothing)
 }
 
-/// The first round: over all gates, and then over the sinks whose signals were merged.
+/// The first round: over all gates, and then over the sinks whose two signals were merged.
 pub(crate) fn join_alike<S: Solver>(
     solver: &mut S,
     vars: u32,

@@ -1,26 +1,28 @@
-//! Equal points of two nets: signals that have the same value, or complementary values, under every assignment of the
-//! sources (internal equivalences). A sweep finds them by simulation and has the solver of the nets' miter derive
-//! them, pair by pair (SAT sweeping, fraiging: Kuehlmann, Krohm, "Equivalence checking using cuts and heaps", 1997;
-//! Mishchenko, Chatterjee, Brayton, Eén, "Improvements to combinational equivalence checking", 2006). What was derived
-//! stays in the solver, so that its log goes on to refute the miter with short steps.
+//! SAT sweeping (fraiging) of two nets: it finds internal equivalences, signals that are equal or complementary
+//! under every assignment of the sources. Simulation proposes candidate pairs, and the solver of the nets' miter
+//! derives them one by one (Kuehlmann, Krohm, "Equivalence checking using cuts and heaps", 1997; Mishchenko,
+//! Chatterjee, Brayton, Eén, "Improvements to combinational equivalence checking", 2006). The derived clauses stay
+//! in the solver, so its log refutes the miter in short steps.
 //!
-//! Nothing rests on what a sweep finds: its one promise is that the solver is still one of its formula. So a pair may be
-//! guessed, a limit passed or a bit be chosen at random, and no answer is wrong for it.
+//! No answer rests on what a sweep finds. Its one promise is that the solver is still a solver of the same
+//! formula. So candidates may be guesses, limits may be chosen freely and assignments may be random.
 //!
 //! ```text
 //! let mut solver = S::new(alloc, &cnf, budget)?;       // of the miter of the two nets
 //! match sweep(alloc, &first, &second, &mut solver, budget / 2)? {
 //!     Swept::Differ(sources) => ..,                    // a sink may differ here: simulate it
-//!     Swept::Swept { spent } => ..,                    // solver.finish(alloc, what is left of the budget)
+//!     Swept::Swept { spent } => ..,                    // solver.finish(alloc, the rest of the budget)
 //! }
 //! ```
 //!
-//! - `src/points.rt`: both nets as one row of points, by the variables of the miter. `src/cones.rt`: what a probe opens.
-//! - `src/patterns.rt`: simulation; `src/classes.rt`: points that may be equal; `src/forms.rt`: points whose gates are
-//!   alike over what was merged.
-//! - `src/probing.rt`: questions to the solver. `src/joining.rt`: the first round, over gates that are alike;
-//!   `src/gates.rt`, `src/sinks.rt`, `src/sweeping.rt`: the order of the others.
-//!   `src/pairs.rt`: the question whether two points are equal; `src/patience.rt`: how long it is asked.
+//! - `src/points.rt`: the nodes of both nets in one array, by the variables of the miter. `src/cones.rt`: the
+//!   decision variables of a question.
+//! - `src/patterns.rt`: simulation and signatures. `src/classes.rt`: candidate classes. `src/forms.rt`: structural
+//!   hashing over representatives.
+//! - `src/probing.rt`: questions to the solver under assumptions. `src/joining.rt`: the first round, over
+//!   structurally equal gates. `src/gates.rt`, `src/sinks.rt`, `src/sweeping.rt`: the other rounds.
+//!   `src/pairs.rt`: whether two nodes are equal. `src/patience.rt`: conflict limits that adapt to the results so
+//!   far.
 #![tactic(auto)]
 
 mod classes;

@@ -1,5 +1,6 @@
-//! Whether a gate is equal to an earlier point, or complementary: it is merged where the solver derives that, and the
-//! classes are told apart where the solver finds an assignment. How pairs of a kind went decides whether more are asked.
+//! Whether a gate is equal or complementary to an earlier node. If the solver derives that, the gate is merged; if
+//! it finds an assignment that tells them apart, the signatures are refined. The results for pairs of one kind
+//! decide whether more such pairs are asked.
 ghost use Rattle.std.specs.Prelude.{◌≡◌, ◌<◌, ◌^◌, OnOk};
 ghost use Rattle.equal_points.specs.Stays.{Stays};
 
@@ -9,8 +10,8 @@ use crate::state::Sweeping;
 use sat_solve::{Probed, Solver};
 use std::alloc::AllocError;
 
-/// Compares a gate with an earlier point by up to `limit` conflicts. What is heard besides is
-/// whether to try another one.
+/// Compares a gate with an earlier node, with at most `limit` conflicts. The second result says whether to try
+/// another candidate.
 pub(crate) fn ask<S: Solver>(
     solver: &mut S,
     vars: u32,
@@ -43,8 +44,8 @@ pub(crate) fn ask<S: Solver>(
     }
 }
 
-/// Compares a gate with an earlier point; by a fifth of the conflicts, and only with patience, where the two are of one
-/// net and not alike. What is heard besides is whether to try another one.
+/// Compares a gate with an earlier node. A pair within one net that isn't structurally equal gets a fifth of the
+/// conflicts, and is asked only while such pairs pay. The second result says whether to try another candidate.
 pub(crate) fn compare<S: Solver>(
     solver: &mut S,
     vars: u32,

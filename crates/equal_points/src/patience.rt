@@ -1,34 +1,35 @@
-//! How long a sweep goes on asking about pairs of one kind that the solver gives up. Pairs of one net seldom matter and
-//! are asked while enough of them are derived. Pairs across the nets stand on earlier ones, so one that is given up makes
-//! those over it hard too: while far more are given up than derived they are asked with few conflicts, and the next
-//! round asks the first of them with more. Nothing rests on these numbers but time.
+//! How long a sweep goes on asking about pairs that the solver gives up on (conflict limit). Pairs within one net
+//! seldom matter, and are asked while enough of them are derived. A pair across the nets rests on earlier ones, so
+//! if one is given up, those above it become hard too: while far more are given up than derived, they are asked
+//! with few conflicts only, and the next round asks the first of them with more. These numbers affect the time
+//! alone.
 
-/// How many pairs of one net may be given up before any was derived.
+/// How many pairs within one net may be given up before any is derived.
 const INNER: u32 = 64;
 
-/// How many more may be for each that was derived.
+/// How many more of these may be given up for each one that is derived.
 const REFUND: u32 = 4;
 
-/// How many more pairs across the nets may be given up than are derived, before they are asked with few conflicts.
+/// Pairs across the nets get few conflicts once those given up outnumber the derived ones by this.
 const MOST_OVER: u32 = 30;
 
-/// How many more are counted at the most: from there on a pair has the round's conflicts again once 31 were derived.
+/// The excess is counted up to this number, so 31 derived pairs restore the round's limit.
 const MOST_COUNTED: u32 = 60;
 
-/// How many conflicts are few.
+/// The conflict limit while the excess is too great.
 const FEW: u32 = 2;
 
-/// What is left of patience in a round.
+/// The counters of one round.
 #[derive(Drop)]
 pub(crate) struct Patience {
-    /// How many pairs of one net may still be given up.
+    /// How many pairs within one net may still be given up.
     inner: u32,
-    /// How many more pairs across the nets were given up than derived.
+    /// By how many the pairs across the nets that were given up outnumber the derived ones.
     over: u32,
 }
 
 impl Patience {
-    /// That of a new round.
+    /// The counters at the start of a round.
     pub(crate) fn new() -> Patience {
         Patience {
             inner: INNER,
@@ -36,12 +37,12 @@ impl Patience {
         }
     }
 
-    /// Whether pairs of one net are asked.
+    /// Whether pairs within one net are still asked.
     pub(crate) fn has_inner(&self) -> bool {
         self.inner > 0
     }
 
-    /// The conflicts for a pair across the nets, where the round's are `limit`.
+    /// The conflict limit for a pair across the nets, where the round's is `limit`.
     pub(crate) fn limit(&self, limit: u32) -> u32 {
         if self.over < MOST_OVER {
             return limit;
@@ -49,7 +50,7 @@ impl Patience {
         limit.min(FEW)
     }
 
-    /// Takes in whether a pair was derived, or given up.
+    /// Counts the result of one pair: whether it is within one net, and whether it was merged or given up.
     pub(crate) fn take_in(&mut self, is_inner: bool, is_merged: bool) {
         match (is_inner, is_merged) {
             (true, true) => self.inner = self.inner.saturating_add(REFUND),

@@ -1,5 +1,6 @@
-//! Simulation of all points, 64 assignments at a time. Of what was seen each point keeps a mark: points of different
-//! marks are neither equal nor complementary. Its phase is its first bit, so that marks don't see complements.
+//! Bit-parallel simulation of all nodes, 64 assignments at a time. Each node has a signature, a hash of its
+//! values: nodes with different signatures are neither equal nor complementary. Values are hashed up to
+//! complement: the polarity of a node is its first value, and is removed from each word.
 
 use crate::points::{Edge, Points};
 use crate::random::Random;
@@ -8,22 +9,23 @@ use op_basis::on_words;
 use sat_solve::Solver;
 use std::alloc::{AllocError, Global};
 
-/// How many words of random assignments there are at first.
+/// The number of words of 64 random assignments that are simulated at first.
 const WORDS: u32 = 64;
 
-/// What simulation has shown. All rows are by variable.
+/// What simulation has shown so far. All arrays are indexed by variable.
 #[derive(Drop)]
 pub(crate) struct Patterns {
     random: Random,
     /// The values under the last 64 assignments.
     words: Vec<u64>,
-    /// All bits are the first bit that the point had.
+    /// The polarity of each node, in all bits: the first value that it had.
     phases: Vec<u64>,
-    /// A hash of all words, each with its phase taken off.
+    /// A hash of all words so far, with the polarity removed.
     marks: Vec<u64>,
 }
 
-/// A mark with a further word in it.
+/// A signature with one more word mixed in. The constants are those of `boost::hash_combine` and of the finalizer
+/// of MurmurHash3.
 fn mixed(mark: u64, word: u64) -> u64 {
     let spread = word
         .wrapping_add(0x9e37_79b9_7f4a_7c15)
@@ -33,12 +35,12 @@ fn mixed(mark: u64, word: u64) -> u64 {
     product ^ (product >> 29)
 }
 
-/// A word all of whose bits are the lowest of `word`.
+/// A word all of whose bits are the lowest bit of `word`.
 fn lowest(word: u64) -> u64 {
     if word & 1 == 1 { u64::MAX } else { 0 }
 }
 
-/// The values of all gates from those of the sources.
+/// Computes the values of all gates from those of the sources.
 fn simulate(points: &Points, words: &mut [u64]) {
     for (variable, point) in points.points.iter().enumerate() {
         if variable > points.sources as usize && variable < words.len() {
@@ -55,7 +57,7 @@ fn edge_word(words: &[u64], edge: Edge) -> u64 {
     if edge.turned { !word } else { word }
 }
 
-/// The first assignment under which a sink of the nets differs, as the one bit of a mask; 0 where there is none.
+/// The first assignment under which a sink differs, as a mask with one bit; 0 if there is none.
 fn differing(points: &Points, words: &[u64]) -> u64 {
     for (one, other) in points.ones.iter().zip(points.others.iter()) {
         let differ = edge_word(words, *one) ^ edge_word(words, *other);
@@ -67,7 +69,7 @@ fn differing(points: &Points, words: &[u64]) -> u64 {
 }
 
 impl Patterns {
-    /// The patterns of points under random assignments, or under the first of them that makes a sink differ.
+    /// Simulates random assignments, up to the first word in which a sink differs.
     pub(crate) fn new(alloc: Global, points: &Points) -> Result<Patterns, AllocError> {
         let count = points.count();
         let mut patterns = Patterns {
@@ -103,7 +105,8 @@ impl Patterns {
         }
     }
 
-    /// Gives each source the bit that it has in the solver, or a random one, and beside it 63 that are mostly the same.
+    /// Gives each source its value in the solver in the lowest lane, with 63 neighbours that mostly agree with it;
+    /// or a random word if it has no value.
     fn draw_near<S: Solver>(&mut self, sources: u32, solver: &S) {
         for source in 1..=sources {
             let word = match solver.bit(source) {
@@ -115,14 +118,14 @@ impl Patterns {
         }
     }
 
-    /// The phases, by the words.
+    /// Sets the polarities from the current words.
     fn take_phases(&mut self) {
         for (phase, word) in self.phases.iter_mut().zip(self.words.iter()) {
             *phase = lowest(*word);
         }
     }
 
-    /// Mixes the words into the marks.
+    /// Mixes the current words into the signatures.
     fn mark(&mut self) {
         let seen = self.words.iter().zip(self.phases.iter());
         for (mark, (word, phase)) in self.marks.iter_mut().zip(seen) {
@@ -130,19 +133,19 @@ impl Patterns {
         }
     }
 
-    /// Simulates the assignment that stands in the solver, and others near to it.
+    /// Simulates the solver's current assignment and its neighbours, and refines the signatures.
     pub(crate) fn learn<S: Solver>(&mut self, points: &Points, solver: &S) {
         self.draw_near(points.sources, solver);
         simulate(points, &mut self.words);
         self.mark();
     }
 
-    /// Whether a sink of the nets differs under one of the last assignments.
+    /// Whether a sink differs under one of the last 64 assignments.
     pub(crate) fn is_different(&self, points: &Points) -> bool {
         differing(points, &self.words) != 0
     }
 
-    /// The bits of the sources under the first of the last assignments that makes a sink differ.
+    /// The values of the sources under the first of the last 64 assignments at which a sink differs.
     pub(crate) fn difference(
         &self,
         alloc: Global,
@@ -160,12 +163,12 @@ impl Patterns {
         Ok(Some(bits))
     }
 
-    /// The mark of a point.
+    /// The signature of a node.
     pub(crate) fn mark_of(&self, variable: u32) -> u64 {
         entry(&self.marks, variable, 0)
     }
 
-    /// Whether two points, if they are equal or complementary, are complementary.
+    /// Whether two nodes with one signature are candidates for complementary rather than equal values.
     pub(crate) fn are_turned(&self, x: u32, y: u32) -> bool {
         entry(&self.phases, x, 0) != entry(&self.phases, y, 0)
     }

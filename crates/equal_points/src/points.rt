@@ -1,17 +1,17 @@
-//! The places of two nets as points, one for each variable of their miter: the sources, which the nets share, the gates
-//! of the first net and then those of the second. Point 0 is the constant 0, so that every signal is a point with a sign.
+//! The nodes of both nets in one array, by the variables of their miter: the shared sources, then the gates of the
+//! first net, then those of the second. Node 0 is the constant 0, so every signal is a node with a complement bit.
 
 use net_core::{Gate, Net, Op, Sig};
 use std::alloc::{AllocError, Global};
 
-/// A signal: a point, complemented where `turned`.
+/// A signal: a node, complemented if `turned` holds.
 #[derive(Clone, Copy)]
 pub(crate) struct Edge {
     pub variable: u32,
     pub turned: bool,
 }
 
-/// A gate: its operator on two points. A source has no gate, and its entry means nothing.
+/// A gate: its operator and its operand nodes. The entry of a source means nothing.
 #[derive(Clone, Copy)]
 pub(crate) struct Point {
     pub op: Op,
@@ -19,22 +19,22 @@ pub(crate) struct Point {
     pub b: u32,
 }
 
-/// The points of two nets.
+/// The nodes of two nets.
 #[derive(Drop)]
 pub(crate) struct Points {
-    /// By variable.
+    /// The gates, by variable.
     pub points: Vec<Point>,
     pub sources: u32,
-    /// The last point of the first net.
+    /// The last node of the first net.
     pub first_end: u32,
-    /// The first number after those of the points.
+    /// The number after the last node.
     end: u32,
-    /// The sinks of the first and of the second net.
+    /// The sinks of the first net, and those of the second.
     pub ones: Vec<Edge>,
     pub others: Vec<Edge>,
 }
 
-/// How the places of one of the nets are numbered: gates come after the `before` gates of the other.
+/// The numbering of one net's nodes: its gates come after the `before` gates of the other net.
 #[derive(Clone, Copy)]
 struct Numbering {
     sources: u32,
@@ -42,7 +42,7 @@ struct Numbering {
 }
 
 impl Numbering {
-    /// The point of a signal.
+    /// The signal as a node with a complement bit.
     fn edge(self, sig: Sig) -> Edge {
         match sig {
             Sig::Zero => Edge {
@@ -60,7 +60,7 @@ impl Numbering {
         }
     }
 
-    /// The variable of a place.
+    /// The variable of a node of the net.
     fn variable(self, place: u32) -> u32 {
         if place <= self.sources {
             return place;
@@ -68,7 +68,7 @@ impl Numbering {
         place.saturating_add(self.before)
     }
 
-    /// The point of a gate; operands that are 1 become the complement of point 0.
+    /// The gate over the common numbering. An operand that is the constant 1 becomes node 0, complemented.
     fn point(self, gate: &Gate) -> Point {
         let a = self.edge(gate.a);
         let b = self.edge(gate.b);
@@ -80,7 +80,7 @@ impl Numbering {
     }
 }
 
-/// An operator with its operands and its value complemented where `a`, `b` and `value` say so.
+/// The operator with its operands and its value complemented as `a`, `b` and `value` say.
 pub(crate) fn turned(op: Op, a: bool, b: bool, value: bool) -> Op {
     Op::with_values(
         op.apply(a, b) != value,
@@ -90,7 +90,7 @@ pub(crate) fn turned(op: Op, a: bool, b: bool, value: bool) -> Op {
     )
 }
 
-/// Appends the points of gates.
+/// Appends gates.
 fn push_points(
     points: &mut Vec<Point>,
     numbering: Numbering,
@@ -111,7 +111,7 @@ fn edges(alloc: Global, numbering: Numbering, sinks: &[Sig]) -> Result<Vec<Edge>
     Ok(edges)
 }
 
-/// The points of the sources and the gates of both nets, by variable.
+/// The sources and the gates of both nets, by variable.
 fn rows(
     alloc: Global,
     first: &Net,
@@ -130,7 +130,7 @@ fn rows(
 }
 
 impl Points {
-    /// The points of two nets with as many sources.
+    /// The nodes of two nets with equally many sources.
     pub(crate) fn new(alloc: Global, first: &Net, second: &Net) -> Result<Points, AllocError> {
         let sources = first.sources();
         let before = first.gates().len() as u32;
@@ -149,22 +149,22 @@ impl Points {
         })
     }
 
-    /// The number of points, with point 0.
+    /// The number of nodes, with node 0.
     pub(crate) fn count(&self) -> usize {
         self.points.len()
     }
 
-    /// The point of the first gate.
+    /// The first gate.
     pub(crate) fn first_gate(&self) -> u32 {
         self.sources.saturating_add(1)
     }
 
-    /// The first number after those of the points.
+    /// The number after the last node.
     pub(crate) fn end(&self) -> u32 {
         self.end
     }
 
-    /// The points of the two signals of a sink.
+    /// The nodes of the two signals of a sink.
     pub(crate) fn sink(&self, sink: usize) -> (u32, u32) {
         match (self.ones.get(sink), self.others.get(sink)) {
             (Some(one), Some(other)) => (one.variable, other.variable),
@@ -172,7 +172,7 @@ impl Points {
         }
     }
 
-    /// The gate of a point, if it is one.
+    /// The gate at a node; None for a source.
     pub(crate) fn gate(&self, variable: u32) -> Option<Point> {
         if variable <= self.sources {
             return None;
@@ -180,7 +180,7 @@ impl Points {
         self.points.get(variable as usize).copied()
     }
 
-    /// Whether two points are gates of one net.
+    /// Whether two nodes are gates of one net.
     pub(crate) fn are_of_one_net(&self, x: u32, y: u32) -> bool {
         let least = x.min(y);
         least > self.sources && (x <= self.first_end) == (y <= self.first_end)

@@ -1,4 +1,4 @@
-//! Questions to the solver of a miter.
+//! Questions to the solver of a miter, under one or two assumptions.
 ghost use Rattle.std.specs.Prelude.{◌≡◌, ◌<◌, ◌^◌, OnOk};
 ghost use Rattle.equal_points.specs.Stays.{Stays};
 
@@ -7,8 +7,8 @@ use cnf_core::Lit;
 use sat_solve::{Cones, Probed, Solver};
 use std::alloc::AllocError;
 
-/// Whether a variable of the solver can be true, or false where `bit` is false; a number that is none of its `vars`
-/// variables is given up.
+/// Asks whether the variable `x` can have the value `bit`. If `x` isn't one of the solver's `vars` variables, the
+/// question is given up.
 pub(crate) fn ask_one<S: Solver>(
     solver: &mut S,
     vars: u32,
@@ -27,7 +27,7 @@ pub(crate) fn ask_one<S: Solver>(
     solver.probe(&[Lit::of(x, bit)], cones, limit)
 }
 
-/// Whether two variables can have two bits.
+/// Asks whether two signals can both be true.
 pub(crate) fn ask_two<S: Solver>(
     solver: &mut S,
     vars: u32,
@@ -50,7 +50,8 @@ pub(crate) fn ask_two<S: Solver>(
     solver.probe(&targets, cones, limit)
 }
 
-/// Whether `x` can differ from the signal `y`: Clashed where the solver has derived that they are equal.
+/// Asks whether the variable `x` can differ from the signal `y`. If both assumptions are unsatisfiable, the solver
+/// has derived that they are equal.
 pub(crate) fn ask_equal<S: Solver>(
     solver: &mut S,
     vars: u32,

@@ -1,6 +1,6 @@
-//! Rows of numbers by variable. What would stand after the end of a row reads as nothing and isn't written.
+//! Arrays indexed by variable. Reading past the end gives a default, and writing past the end does nothing.
 
-/// The entry of a variable, and `other` where the row has none.
+/// The entry of a variable, or `other` past the end.
 pub(crate) fn entry<T: Copy>(row: &[T], variable: u32, other: T) -> T {
     match row.get(variable as usize) {
         Some(value) => *value,
@@ -8,7 +8,7 @@ pub(crate) fn entry<T: Copy>(row: &[T], variable: u32, other: T) -> T {
     }
 }
 
-/// Writes the entry of a variable.
+/// Writes the entry of a variable; does nothing past the end.
 pub(crate) fn put<T: Copy>(row: &mut [T], variable: u32, value: T) {
     let place = variable as usize;
     if place < row.len() {

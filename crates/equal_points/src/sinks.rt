@@ -1,4 +1,4 @@
-//! The sinks in order: of each that is open it is asked whether the nets can differ in it.
+//! The sinks in order: for each open one the solver is asked whether the nets can differ in it.
 ghost use Rattle.std.specs.Prelude.{◌≡◌, ◌<◌, ◌^◌, OnOk};
 ghost use Rattle.equal_points.specs.Stays.{Stays};
 
@@ -29,14 +29,14 @@ fn visit_sink<S: Solver>(
             if sweeping.learn(solver) {
                 return Ok(Heard::Difference);
             }
-            // To ask again would find the same: it is left to the search after the sweep.
+            // Asking again would find the same assignment, so the sink is left to the search after the sweep.
             sweeping.close(sink);
         }
     }
     Ok(Heard::Nothing)
 }
 
-/// Visits all open sinks in order, or where `joined` those whose signals were merged.
+/// Visits all open sinks in order; with `joined` only those whose two signals were merged.
 pub(crate) fn visit_sinks<S: Solver>(
     solver: &mut S,
     vars: u32,

@@ -1,4 +1,4 @@
-//! What a sweep knows besides the solver.
+//! The state of a sweep, apart from the solver.
 
 use crate::classes::Classes;
 use crate::cones::ConeRows;
@@ -11,7 +11,7 @@ use net_core::Net;
 use sat_solve::Solver;
 use std::alloc::{AllocError, Global};
 
-/// The points, what simulation has shown of them, which were merged, and what was spent.
+/// The nodes, their simulation, the merged ones, and the conflicts spent.
 #[derive(Drop)]
 pub(crate) struct Sweeping {
     pub points: Points,
@@ -20,18 +20,17 @@ pub(crate) struct Sweeping {
     pub patience: Patience,
     classes: Classes,
     forms: Forms,
-    /// The representative of each point: itself, where it wasn't merged.
+    /// The representative of each node: itself if it wasn't merged.
     same: Vec<Edge>,
-    /// Whether a point is in the cone of an open sink.
+    /// Whether a node is in the fanin cone of an open sink.
     needed: Vec<bool>,
-    /// Whether a sink is still asked: neither is it known that the nets agree in it, nor was it left to the search after
-    /// the sweep.
+    /// Whether a sink is still open: not known to be equal, and not left to the search after the sweep.
     open: Vec<bool>,
     spent: u32,
     budget: u32,
 }
 
-/// Each point as its own representative.
+/// Makes each node its own representative.
 fn themselves(alloc: Global, count: u32) -> Result<Vec<Edge>, AllocError> {
     let mut same = Vec::with_capacity(alloc, count as usize)?;
     for variable in 0..count {
@@ -44,7 +43,7 @@ fn themselves(alloc: Global, count: u32) -> Result<Vec<Edge>, AllocError> {
 }
 
 impl Sweeping {
-    /// The beginning of a sweep over two nets with as many sources, with random assignments simulated.
+    /// The initial state for two nets with equally many sources: random assignments are simulated.
     pub(crate) fn new(
         alloc: Global,
         first: &Net,
@@ -73,8 +72,8 @@ impl Sweeping {
         })
     }
 
-    /// Begins a round: the points in the cones of open sinks are needed, no form is known, of the points only the
-    /// constant and the sources are listed, and there is all patience.
+    /// Begins a round: marks the nodes in the cones of open sinks as needed, empties the hash table and the
+    /// candidate lists, lists the constant and the sources, and resets the counters of `patience`.
     pub(crate) fn begin_round(&mut self) {
         self.patience = Patience::new();
         self.needed.fill(false);
@@ -87,7 +86,7 @@ impl Sweeping {
         }
     }
 
-    /// Marks the signals of the open sinks.
+    /// Marks the signals of the open sinks as needed.
     fn need_sinks(&mut self) {
         for (sink, open) in self.open.iter().enumerate() {
             if !*open {
@@ -99,7 +98,7 @@ impl Sweeping {
         }
     }
 
-    /// Marks the operands of marked gates, the last gate first.
+    /// Marks the operands of needed gates as needed, from the last gate down.
     fn need_cones(&mut self) {
         for variable in (self.points.sources..self.points.end()).rev() {
             if !entry(&self.needed, variable, false) {
@@ -112,12 +111,12 @@ impl Sweeping {
         }
     }
 
-    /// Whether a point is in the cone of an open sink.
+    /// Whether a node is in the fanin cone of an open sink.
     pub(crate) fn is_needed(&self, variable: u32) -> bool {
         entry(&self.needed, variable, false)
     }
 
-    /// The representative of a point.
+    /// The representative of a node.
     fn representative(&self, variable: u32) -> Edge {
         let itself = Edge {
             variable,
@@ -126,12 +125,12 @@ impl Sweeping {
         entry(&self.same, variable, itself)
     }
 
-    /// Whether a point has another one for its representative.
+    /// Whether a node was merged into another one.
     pub(crate) fn is_merged(&self, variable: u32) -> bool {
         self.representative(variable).variable != variable
     }
 
-    /// Takes over the representative of the point that `variable` was merged into.
+    /// Path compression: replaces the representative of `variable` by that one's representative.
     pub(crate) fn follow(&mut self, variable: u32) {
         let edge = self.representative(variable);
         let root = self.representative(edge.variable);
@@ -144,14 +143,15 @@ impl Sweeping {
         }
     }
 
-    /// Lists a point that wasn't merged.
+    /// Lists a node as a candidate, unless it was merged.
     pub(crate) fn list(&mut self, variable: u32) {
         if !self.is_merged(variable) {
             self.classes.push(variable);
         }
     }
 
-    /// The representative of the first gate that is alike with the gate `variable`, if there is another one.
+    /// The representative of the first gate that is structurally equal to the gate `variable`, if it is another
+    /// gate.
     pub(crate) fn alike(&mut self, variable: u32) -> Result<Option<u32>, AllocError> {
         let Some(point) = self.points.gate(variable) else {
             return Ok(None);
@@ -165,17 +165,18 @@ impl Sweeping {
         Ok(Some(self.representative(owner).variable))
     }
 
-    /// The first point that may still be equal to `variable`, or complementary.
+    /// The first listed node that may be equal or complementary to `variable`.
     pub(crate) fn candidate(&self, variable: u32) -> Option<u32> {
         self.classes.candidate(&self.patterns, variable)
     }
 
-    /// Whether two points may still be equal or complementary.
+    /// Whether two nodes may be equal or complementary.
     pub(crate) fn may_be_equal(&self, x: u32, y: u32) -> bool {
         self.patterns.mark_of(x) == self.patterns.mark_of(y)
     }
 
-    /// `x` as `y` with a sign, if they are equal or complementary.
+    /// The signal that `x` equals if the two are equal or complementary: `y`, complemented if the polarities
+    /// differ.
     pub(crate) fn as_other(&self, x: u32, y: u32) -> Edge {
         Edge {
             variable: y,
@@ -189,7 +190,7 @@ impl Sweeping {
         self.cones.merge(x, y.variable);
     }
 
-    /// Learns from the assignment that stands in the solver; whether it makes a sink differ.
+    /// Simulates the solver's current assignment. Returns whether a sink differs near it.
     pub(crate) fn learn<S: Solver>(&mut self, solver: &S) -> bool {
         self.patterns.learn(&self.points, solver);
         self.patterns.is_different(&self.points)
@@ -200,12 +201,12 @@ impl Sweeping {
         self.spent = self.spent.saturating_add(conflicts);
     }
 
-    /// Whether a pair is two gates of one net, or a gate and the constant.
+    /// Whether a pair is within one net: two gates of it, or a gate and the constant.
     pub(crate) fn is_inner(&self, x: u32, y: u32) -> bool {
         y == 0 || self.points.are_of_one_net(x, y)
     }
 
-    /// The conflicts that count.
+    /// The conflicts that count against the budget.
     pub(crate) fn spent(&self) -> u32 {
         self.spent
     }
@@ -215,12 +216,12 @@ impl Sweeping {
         self.spent >= self.budget
     }
 
-    /// The conflicts that a question may take whose limit is `limit`: no more than what is left of the budget.
+    /// The conflict limit `limit`, cut to what is left of the budget.
     pub(crate) fn most_of(&self, limit: u32) -> u32 {
         limit.min(self.budget.saturating_sub(self.spent))
     }
 
-    /// How many sinks there are.
+    /// The number of sinks.
     pub(crate) fn sinks(&self) -> usize {
         self.open.len()
     }
@@ -230,7 +231,7 @@ impl Sweeping {
         self.open.get(sink).copied().unwrap_or(false)
     }
 
-    /// Whether the two signals of a sink have one representative.
+    /// Whether the two signals of a sink are merged, with equal polarity.
     fn is_joined(&self, sink: usize) -> bool {
         let (Some(one), Some(other)) = (self.points.ones.get(sink), self.points.others.get(sink))
         else {
@@ -242,7 +243,7 @@ impl Sweeping {
         first.variable == second.variable && !turned
     }
 
-    /// Whether a sink is asked: an open one, and where `joined`, only one whose signals have one representative.
+    /// Whether a sink is visited: it is open and, with `joined`, its two signals are merged.
     pub(crate) fn is_asked(&self, sink: usize, joined: bool) -> bool {
         self.is_open(sink) && (!joined || self.is_joined(sink))
     }

@@ -1,5 +1,5 @@
-//! A sweep: a round over gates that are alike, and then rounds over the gates and the sinks, each with ten times the
-//! conflicts for a question.
+//! A sweep: a round over structurally equal gates, and then rounds over all gates and sinks, each with ten times
+//! the conflict limit of the round before.
 ghost use Rattle.std.specs.Prelude.{◌≡◌, ℕ, ◌+◌, ◌<◌, ◌^◌, length, OnOk};
 ghost use Rattle.sat_theory.specs.Formula.{Formula};
 ghost use Rattle.equal_points.specs.Stays.{Stays};
@@ -12,20 +12,20 @@ use net_core::Net;
 use sat_solve::Solver;
 use std::alloc::{AllocError, Global};
 
-/// How many conflicts a question may take, round by round.
+/// The conflict limit of a question, round by round.
 const LIMITS: [u32; 4] = [20, 200, 2_000, 20_000];
 
-/// What a sweep over two nets came to.
+/// The result of a sweep over two nets.
 #[derive(Drop)]
 pub enum Swept {
-    /// Under these bits of the sources, source 1 first, a sink may differ: whoever asked checks it.
+    /// A sink may differ under these values of the sources, source 1 first. The caller has to check that.
     Differ(Vec<bool>),
-    /// Nothing of the kind is known. Of the conflicts `spent` are those that count against a budget: of questions that
-    /// were given up.
+    /// No counterexample was found. `spent` counts the conflicts of the questions that were given up, which count
+    /// against the budget.
     Swept { spent: u32 },
 }
 
-/// A round over the gates and the sinks.
+/// One round over the gates and the sinks.
 fn round<S: Solver>(
     solver: &mut S,
     vars: u32,
@@ -66,7 +66,7 @@ fn rounds<S: Solver>(
     Ok(Heard::Nothing)
 }
 
-/// The short clauses of the gates that are left, and then the rounds.
+/// Derives the binary clauses of the gates that are still needed, and then goes through the rounds.
 fn go_on<S: Solver>(solver: &mut S, vars: u32, sweeping: &mut Sweeping) -> Result<Heard, AllocError>
     requires vars { S.vars_of solver.old ≡ vars }
     requires small { vars < 2 ^ 31 }
@@ -80,7 +80,7 @@ fn go_on<S: Solver>(solver: &mut S, vars: u32, sweeping: &mut Sweeping) -> Resul
     rounds(solver, vars, sweeping)
 }
 
-/// Merges gates that are alike, and goes on where a sink is still open.
+/// Merges structurally equal gates, and goes on if a sink is still open.
 fn go<S: Solver>(solver: &mut S, vars: u32, sweeping: &mut Sweeping) -> Result<Heard, AllocError>
     requires vars { S.vars_of solver.old ≡ vars }
     requires small { vars < 2 ^ 31 }
@@ -94,9 +94,9 @@ fn go<S: Solver>(solver: &mut S, vars: u32, sweeping: &mut Sweeping) -> Result<H
     go_on(solver, vars, sweeping)
 }
 
-/// Sweeps over two nets with as many sources and as many sinks: finds signals that are equal or complementary, and has
-/// `solver`, a solver of the nets' miter, derive that they are, until the questions that were given up have taken
-/// `budget` conflicts. Whatever it finds, the solver stays one of its formula.
+/// Sweeps two nets with equally many sources and equally many sinks: finds signals that are equal or
+/// complementary, and has `solver`, a solver of the nets' miter, derive that. It stops when the questions that
+/// were given up have taken `budget` conflicts. Whatever it finds, the solver stays a solver of its formula.
 pub fn sweep<S: Solver>(
     alloc: Global,
     first: &Net,

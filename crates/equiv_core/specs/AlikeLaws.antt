@@ -1,4 +1,4 @@
--- Circuits whose miter is refuted do the same.
+-- Circuits whose miter is refuted are equivalent.
 use Rattle.sat_theory.specs.Log.{Refutes}
 use Rattle.sat_theory.specs.Soundness.{no_assignment}
 use Rattle.std.specs.Prelude.{◌≡◌, ℕ, ◌-◌, Bool, List}
@@ -21,17 +21,17 @@ equal_alike c k (Equal log) of_c of_k same refutes =
 equal_alike c k (Differ sink at) of_c of_k same refutes = tt
 equal_alike c k (Undecided log) of_c of_k same refutes = tt
 
--- nets whose miter is refuted have the same values of their sinks
+-- nets whose miter is refuted have the same values at their sinks
 pub equal_values : (first second : Net) (e : Equiv) (log : List Line) → e ≡ Equal log → AreComparable first second → IfEqual e (Refutes (miter first second)) → (given : ℕ → Bool) → sink_values first given ≡ sink_values second given
 equal_values first second e log is are refutes =
     refuted_values first second are (λ some. no_assignment (miter first second) log some.0 (miter_formula first second are) (subst (λ (x : Equiv). IfEqual x (Refutes (miter first second))) is refutes) some.1)
 
--- a difference that is answered is one of the nets
+-- the answer of a difference is a counterexample to the nets' equivalence
 pub difference_shown : (first second : Net) (e : Equiv) (sink : ℕ) (bits : List Bool) → e ≡ Differ sink bits → IfDiffer e (IsFirstDifference first second) → (given : ℕ → Bool) × (i : ℕ) × DifferAt first second given i
 difference_shown first second e sink bits is found =
     let shown : IsFirstDifference first second sink bits = subst (λ (x : Equiv). IfDiffer x (IsFirstDifference first second)) is found in
     (bit_of bits, sink - 1, shown.first_sink.here)
 
--- where an answer decides, none is left open
+-- if an answer decides, it isn't undecided
 pub none_undecided : (first second : Net) (e : Equiv) (log : List Line) → e ≡ Undecided log → IsDecided e → (given : ℕ → Bool) × (i : ℕ) × DifferAt first second given i
 none_undecided first second e log is decided = absurd (subst (λ (x : Equiv). IsDecided x) is decided)

@@ -4,13 +4,13 @@ use Rattle.sat_theory.specs.Line as theory
 use Rattle.equiv_core.specs.declared.answer.Equiv.{Equiv}
 use Rattle.equiv_core.specs.declared.answer.Equiv.TheVariants.{Equal, Differ, Undecided}
 
--- a fact about the lines of the log
+-- a property of the lines of the log
 abbrev pub IfEqual : Equiv → (List theory.Line → Type 0) → Type 0
 IfEqual (Equal log) P = P log
 IfEqual (Differ sink at) P = Unit {0}
 IfEqual (Undecided log) P = Unit {0}
 
--- about the sink, counted from 1, and the bits of the sources
+-- a property of the sink, counted from 1, and the values of the sources
 abbrev pub IfDiffer : Equiv → (ℕ → List Bool → Type 0) → Type 0
 IfDiffer (Equal log) P = Unit {0}
 IfDiffer (Differ sink at) P = P sink at
@@ -21,7 +21,7 @@ IfUndecided (Equal log) P = Unit {0}
 IfUndecided (Differ sink at) P = Unit {0}
 IfUndecided (Undecided log) P = P log
 
--- about the lines of either log
+-- a property of the lines of either log
 abbrev pub IfLogged : Equiv → (List theory.Line → Type 0) → Type 0
 IfLogged (Equal log) P = P log
 IfLogged (Differ sink at) P = Unit {0}

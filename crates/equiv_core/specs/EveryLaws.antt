@@ -1,4 +1,5 @@
--- All assignments of the sources are those under both bits of the next source, and at the end one.
+-- The assignments of the sources that extend given values are those that extend them by 0 and by 1 at the next
+-- source; if no source is left, there is one.
 use Rattle.std.proofs.Common.{◌≡◌, ◌≢◌, ℕ, suc, ◌+◌, ◌-◌, ◌≤◌, ◌<◌, Bool, true, false, List, [], ◌∷◌, ◌++◌, length, length-append, add-zero, refl, sym, ap, ◌∙◌, subst, arith, ⊎_elim}
 use Rattle.std.specs.Prelude.{slice_get, slice_index_or, Option, Some, IfSome}
 use Rattle.std.proofs.lemmas.Bool.{cases_eq, ne_eqb}
@@ -14,7 +15,7 @@ use Rattle.equiv_theory.specs.CircuitLaws.{refuted_values}
 use Rattle.equiv_core.specs.SinkLaws.{sig_same, signals_same}
 use Rattle.equiv_core.specs.Every.{HasNoneUnder}
 
--- ---- there is no place 0
+-- ---- there is no node 0
 
 gate_same : (f g : ℕ → Bool) (place : ℕ) (gate : Gate) → IsGateAt place gate → ((p : ℕ) → 1 ≤ p → p < place → f p ≡ g p) → gate_value f gate ≡ gate_value g gate
 gate_same f g place gate is same = rw (sig_same f g gate.a place is.first same, sig_same f g gate.b place is.second same) refl
@@ -31,7 +32,7 @@ places_same f g place (h ∷ gs) are same p some low =
     (cases_eq q place) in
     places_same (extended f place (gate_value f h)) (extended g place (gate_value g h)) (place + 1) gs later agree p some (omega (arith, low))
 
--- the sinks' values by the bits of the sources, which begin with place 1
+-- the values of the sinks depend only on the values of the sources, which begin with node 1
 every_sink_same : (n : Net) (f g : ℕ → Bool) → IsNet n → ((p : ℕ) → 1 ≤ p → p ≤ n.sources → f p ≡ g p) → sink_values n f ≡ sink_values n g
 every_sink_same n f g is same = signals_same (value n f) (value n g) n.sinks (end_of n) is.sinks (λ p some low. places_same f g (n.sources + 1) n.gates is.gates.each (λ q s l. same q s (omega (arith, l))) p some low)
 

@@ -1,4 +1,4 @@
--- How large the nets are of which a miter is made, so that its variables and clauses can be numbered.
+-- Size limits of the nets in a miter, so that its variables and clauses can be numbered.
 use Rattle.std.specs.Prelude.{◌≤◌, ◌<◌, length}
 use Rattle.net_theory.specs.Net.{Net}
 
@@ -7,7 +7,7 @@ pub record IsSmall (n : Net) : Type 0 where
   pub sources : n.sources < 300000000
   pub sinks : length n.sinks < 300000000
 
--- and of two nets few enough gates
+-- and two nets with few enough gates
 pub record AreSmall (first second : Net) : Type 0 where
   pub small : IsSmall first
   pub first_gates : length first.gates ≤ 100000

@@ -1,4 +1,4 @@
--- The four parts of a miter, one added after the other.
+-- The four parts of a miter, added one after the other.
 use Rattle.std.proofs.Common.{◌≡◌, ℕ, ◌+◌, ◌≤◌, ◌<◌, List, [], ◌∷◌, ◌++◌, All, length, refl, ap, ◌∙◌, arith}
 use Rattle.std.specs.List.{flat_map}
 use Rattle.sat_theory.specs.Formula.{Formula}
@@ -14,7 +14,7 @@ use Rattle.equiv_core.specs.Limits.{AreSmall}
 pub some_within : (vars d count : ℕ) (row : List Raw) → row ≡ some_row d count → 1 ≤ d → d + count ≤ vars + 1 → All (IsWithin vars) row
 some_within vars d count row is some room = rw is (row_within vars (some_row d count) (some_row_of vars d count some room))
 
--- the clauses that are there where all parts were added to none
+-- the clauses once all four parts were added to an empty formula
 pub miter_added : (first second : Net) (a b c d e : Formula) →
     a ≡ record { vars = variables first second; clauses = [] } →
     IsAdded a b (gates_rows (first_variable first) (first.sources + 1) first.gates) →

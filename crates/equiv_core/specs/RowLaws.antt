@@ -1,4 +1,4 @@
--- Clauses that are added one after the other, and that their variables are within.
+-- Clauses that are added one after the other, with their variables in range.
 use Rattle.std.proofs.Common.{◌≡◌, ℕ, ◌+◌, ◌≤◌, ◌<◌, suc, Bool, true, false, not, List, [], ◌∷◌, ◌++◌, All, length, slice_get, refl, sym, ap, subst, add-zero, ◌∙◌, arith, append_assoc, append-nil}
 use Rattle.std.specs.List.{flat_map}
 use Rattle.std.proofs.lemmas.Grind.{flat_map-append}
@@ -53,7 +53,7 @@ pub sink_within : (n m : Numbering) (vars d : ℕ) (u w : Sig) (bit : Bool) → 
 sink_within n m vars d u w bit room room' some low below below' =
     row_within vars (sink_row (numbered n) (numbered m) d u w bit) (sink_row_of vars (numbered n) (numbered m) n.end m.end d u w bit some low (numbered_within n vars room) (numbered_within m vars room') below below')
 
--- the same literal by literal
+-- the same for each literal
 pub gate_literals : (n : Numbering) (vars place : ℕ) (g : Gate) (a b : Bool) (x y z : Raw) → HasRoom n vars → (1 ≤ place) × (place < n.end) → IsGateAt place g → x ≡ signal_is (numbered n) g.a (not a) → y ≡ signal_is (numbered n) g.b (not b) → z ≡ Var (numbered n place) (apply g.op a b) → All (IsWithin vars) (x ∷ y ∷ z ∷ [])
 unfolding gate_row
 gate_literals n vars place g a b x y z room low is ex ey ez = rw (ex, ey, ez) (gate_within n vars place g a b room low.0 low.1 is)
@@ -67,7 +67,7 @@ sink_literals n m vars d u w bit x y z room room' low below below' ex ey ez = rw
 pub gate_added : (n : Numbering) (place : ℕ) (g : Gate) (a b c d e : Formula) → IsAdded a b (gate_row (numbered n) place g false false ∷ []) → IsAdded b c (gate_row (numbered n) place g false true ∷ []) → IsAdded c d (gate_row (numbered n) place g true false ∷ []) → IsAdded d e (gate_row (numbered n) place g true true ∷ []) → IsAdded a e (gate_rows (numbered n) place g)
 gate_added n place g a b c d e one two three four = added_both a b e _ _ one (added_both b c e _ _ two (added_both c d e _ _ three four))
 
--- one more gate before those that are added
+-- one more gate in front of those that are added
 pub gates_more : (n : Numbering) (place : ℕ) (gs rest : List Gate) (g : Gate) (a b c : Formula) → gs ≡ g ∷ rest → IsAdded a b (gate_rows (numbered n) place g) → IsAdded b c (gates_rows (numbered n) (place + 1) rest) → IsAdded a c (gates_rows (numbered n) place gs)
 unfolding gates_rows
 gates_more n place gs rest g a b c is one two = rw is (added_both a b c (gate_rows (numbered n) place g) (gates_rows (numbered n) (place + 1) rest) one two)
@@ -77,7 +77,7 @@ unfolding gates_rows
 gates_none n place [] f none = added_none f
 gates_none n place (g ∷ gs) f none = absurd (omega arith)
 
--- ---- gates at their places
+-- ---- gates at their nodes
 
 pub gate_at : (place : ℕ) (gs rest : List Gate) (g : Gate) → gs ≡ g ∷ rest → AreAt place gs → IsGateAt place g
 gate_at place gs rest g is are = subst (λ (q : ℕ). IsGateAt q g) (add-zero place) (are.each 0 g (ap (λ (xs : List Gate). slice_get xs 0) is))

@@ -1,4 +1,4 @@
--- How the places of one of two nets are numbered, and that clauses are added.
+-- The numbering of the nodes of one of two nets, and clauses that are added.
 use Rattle.std.specs.Prelude.{◌≡◌, ℕ, ◌+◌, ◌≤◌, ◌<◌, List, ◌++◌}
 use Rattle.std.specs.List.{flat_map}
 use Rattle.sat_theory.specs.Formula.{Formula}
@@ -7,16 +7,16 @@ use Rattle.clause_core.specs.Clauses.{written}
 use Rattle.equiv_theory.specs.Miter.{variable_at}
 use Rattle.equiv_core.specs.declared.numbering.Numbering.{Numbering}
 
--- the variable of a place
+-- the variable of a node
 abbrev pub numbered : Numbering → ℕ → ℕ
 numbered n place = variable_at n.sources n.before place
 
--- the places from 1 on and below the end have variables from 1 to `vars`
+-- the nodes from 1 on and below the end have variables from 1 to `vars`
 pub record HasRoom (n : Numbering) (vars : ℕ) : Type 0 where
   pub room : n.end + n.before ≤ vars + 1
   pub few : vars < 1000000000
 
--- the clauses that are written of `rows` are added, and nothing else changes
+-- the written clauses of `rows` are added, and nothing else changes
 pub record IsAdded (old new : Formula) (rows : List (List Raw)) : Type 0 where
   pub vars : new.vars ≡ old.vars
   pub clauses : new.clauses ≡ old.clauses ++ flat_map written rows

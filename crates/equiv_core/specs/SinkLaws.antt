@@ -1,4 +1,4 @@
--- Values of sinks, computed.
+-- The computed values of sinks.
 use Rattle.std.proofs.Common.{◌≡◌, ◌≢◌, ℕ, ◌+◌, ◌-◌, ◌≤◌, ◌<◌, Bool, false, List, [], ◌∷◌, ◌++◌, All, length, map, append_assoc, refl, sym, ap, ◌∙◌, subst, arith, ⊎_elim}
 use Rattle.std.specs.Prelude.{slice_index_or, take, Option, None, Some, IfNone}
 use Rattle.std.proofs.lemmas.Bool.{cases_eq, ne_eqb}
@@ -18,17 +18,17 @@ sig_same f g Zero bound below same = refl
 sig_same f g One bound below same = refl
 sig_same f g (Place p) bound below same = same p below.0 below.1
 
--- bits that agree at the places give all signals one value
+-- assignments that agree at the nodes give all signals the same values
 pub signals_same : (f g : ℕ → Bool) (ss : List Sig) (bound : ℕ) → All (IsSigBelow bound) ss → ((p : ℕ) → 1 ≤ p → p < bound → f p ≡ g p) → map (sig_value f) ss ≡ map (sig_value g) ss
 signals_same f g [] bound below same = refl
 signals_same f g (s ∷ ss) bound below same =
     rw (sig_same f g s bound (All-head (IsSigBelow bound) s ss below) same) (ap (λ (bs : List Bool). sig_value g s ∷ bs) (signals_same f g ss bound (All-tail (IsSigBelow bound) s ss below) same))
 
--- the sinks' values by the bits of the sources alone
+-- the values of the sinks depend only on the values of the sources
 pub sinks_same : (n : Net) (f g : ℕ → Bool) → IsNet n → ((p : ℕ) → p ≤ n.sources → f p ≡ g p) → sink_values n f ≡ sink_values n g
 sinks_same n f g is same = signals_same (value n f) (value n g) n.sinks (end_of n) is.sinks (λ p some low. values_after-same f g (n.sources + 1) n.gates is.gates.each (λ q l. same q (omega arith)) p low)
 
--- the bits of the sources stand first
+-- the values of the sources come first
 pub first_bits : (bits front : List Bool) (k p : ℕ) → front ≡ take k bits → p ≤ k → bit_of front p ≡ bits_of bits p
 first_bits bits front k p is low =
     ⊎_elim
@@ -36,7 +36,7 @@ first_bits bits front k p is low =
     (λ (some : p ≢ 0). rw (ne_eqb p 0 some, is) (get_or-take k bits (p - 1) false (omega (arith, some, low))))
     (cases_eq p 0)
 
--- Where an assignment that satisfies the miter gives the sources their bits, the nets differ somewhere.
+-- If an assignment satisfies the miter, the nets differ somewhere under its values of the sources.
 pub front_differs : (first second : Net) (bits front : List Bool) → AreComparable first second → front ≡ take first.sources bits → Satisfies (bits_of bits) (miter first second) → (i : ℕ) × DifferAt first second (bit_of front) i
 front_differs first second bits front are is satisfied =
     let found = satisfied_differ first second (bits_of bits) are satisfied in
@@ -65,7 +65,7 @@ pub found_none : (first second : Net) (f : ℕ → Bool) (xs ys : List Bool) (i 
 found_none first second f xs ys i ex ey all at =
     at.differ (ap (λ (zs : List Bool). slice_index_or zs i false) (sym ex) ∙ all i (omega (arith, at.below, ap length ex ∙ length-map first.sinks (sig_value (value first f)))) ∙ ap (λ (zs : List Bool). slice_index_or zs i false) ey)
 
--- a signal's bit goes from what is left to what is done
+-- the value of one signal moves from those left to those computed
 pub one_more : (f : ℕ → Bool) (old new all : List Bool) (left rest : List Sig) (s : Sig) (bit : Bool) → left ≡ s ∷ rest → new ≡ old ++ bit ∷ [] → bit ≡ sig_value f s → old ++ map (sig_value f) left ≡ all → new ++ map (sig_value f) rest ≡ all
 one_more f old new all left rest s bit is pushed value before = rw (pushed, value) (append_assoc old (sig_value f s ∷ []) (map (sig_value f) rest) ∙ ap (λ (ss : List Sig). old ++ map (sig_value f) ss) (sym is) ∙ before)
 
@@ -75,7 +75,7 @@ pub miter_variables : (first second : Net) → (miter first second).vars ≡ var
 unfolding miter
 miter_variables first second = refl
 
--- So the search for a difference finds one.
+-- So the simulation of an assignment that satisfies the miter finds a difference.
 pub solution_differs : (first second : Net) (bits front : List Bool) (x : Option ℕ) → x ≡ None → IfNone x ((i : ℕ) → DifferAt first second (bit_of front) i → ⊥) → AreComparable first second → front ≡ take first.sources bits → Satisfies (bits_of bits) (miter first second) → ⊥
 solution_differs first second bits front None none never are is satisfied = let found = front_differs first second bits front are is satisfied in never found.0 found.1
 solution_differs first second bits front (Some i) none never are is satisfied = absurd cc

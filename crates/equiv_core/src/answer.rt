@@ -1,4 +1,4 @@
-//! The three answers to two circuits, and the errors.
+//! The three answers of an equivalence check, and its errors.
 ghost use Rattle.std.specs.Prelude.{◌≡◌};
 ghost use Rattle.equiv_core.specs.declared.answer.EquivError.TheVariants.{Memory};
 
@@ -6,23 +6,24 @@ use cnf_core::Assign;
 use log_core::Log;
 use std::alloc::{AllocError, AllocFailed};
 
-/// Whether two circuits do the same.
+/// Whether two circuits are equivalent.
 #[derive(Drop)]
 pub enum Equiv {
-    /// They do: the log refutes their miter.
+    /// They are: the log refutes their miter.
     Equal(Log),
-    /// They don't: under the bits `at` of the sources, source 1 first, the values of the sink differ. Sinks are
-    /// counted from 1, and it is the first that differs.
+    /// They are not: under the values `at` of the sources, source 1 first, the values of `sink` differ. Sinks are
+    /// counted from 1, and it is the first one that differs.
     Differ { sink: u32, at: Assign },
-    /// It isn't known: the log has spent the budget on the miter, and keeps at least half of what it adds.
+    /// Undecided: the log has spent the budget on the miter, and at least half of its additions are live at the
+    /// end.
     Undecided(Log),
 }
 
 /// Why two circuits weren't compared.
 #[derive(Clone, Copy)]
 pub enum EquivError {
-    /// The inputs, outputs or clocks aren't the same names in the same order, or the latches don't agree in number,
-    /// order, output, control and initial value.
+    /// The inputs, outputs or clocks don't have the same names in the same order, or the latches differ in number,
+    /// order, output, control or initial value.
     DifferentInterface,
     /// Out of memory.
     Memory,

@@ -1,6 +1,6 @@
-//! Combinational equivalence of two circuits: their miter is given to the solver, which a sweep has derive the equal
-//! points of the two nets before it decides. Its log refutes the miter or has spent the budget; its assignment has an
-//! input at which the circuits differ. What the sweep finds is believed only where simulation shows a difference.
+//! Combinational equivalence of two circuits. A SAT sweep has the solver of their miter derive internal
+//! equivalences, and then the solver decides. Its log refutes the miter or has spent the budget; its assignment is
+//! an input at which the circuits differ. A counterexample from the sweep is believed only after simulation.
 ghost use Rattle.std.specs.Prelude.{◌≡◌, ◌≤◌, ◌<◌, ◌*◌, ◌^◌, ℕ, length, Err, IfOk, IfErr, IfSome, OnOk};
 ghost use Rattle.sat_theory.specs.Formula.{Formula, bits_of, Satisfies};
 ghost use Rattle.sat_theory.specs.Log.{Refutes, IsSpent, IsKept, IsThinned};
@@ -23,14 +23,14 @@ use net_core::{Circuit, Net};
 use sat_solve::{Solved, Solver};
 use std::alloc::{AllocError, Global};
 
-/// The bits `at` of the sources, under which the values of the sink `sink`, counted from 1, differ.
+/// A counterexample: under the values `at` of the sources the values of the sink `sink`, counted from 1, differ.
 #[derive(Drop)]
 struct Difference {
     sink: u32,
     at: Assign,
 }
 
-/// Where two nets differ, by an assignment that satisfies their miter.
+/// The counterexample in an assignment that satisfies the miter of two nets.
 fn difference_of(
     alloc: Global,
     first: &Net,
@@ -55,7 +55,7 @@ fn difference_of(
     })
 }
 
-/// The difference that the bits `at` of the sources show, if there is one.
+/// Simulates the values `at` of the sources. Returns the counterexample that they are, if they are one.
 fn shown(
     alloc: Global,
     first: &Net,
@@ -78,8 +78,8 @@ fn shown(
     }))
 }
 
-/// What a sweep over two nets shows with `solver`, a solver of their miter: a difference, or else how many conflicts
-/// of the budget it has spent. The solver stays one of its formula.
+/// Sweeps two nets with `solver`, a solver of their miter. Returns a counterexample, or else the number of
+/// conflicts of the budget that were spent. The solver stays a solver of its formula.
 fn swept<S: Solver>(
     alloc: Global,
     first: &Net,
@@ -103,14 +103,14 @@ fn swept<S: Solver>(
     }
 }
 
-/// What a sweep may spend of a budget: half of it, so that the search after it has the other half.
+/// The share of a budget that a sweep may spend: half of it, so that the search after it has the other half.
 fn share_of(budget: u32) -> u32
     ensures { 2 * result ≤ budget }
 {
     budget / 2
 }
 
-/// What is left of a budget after a sweep.
+/// What a sweep leaves of a budget.
 fn left_of(budget: u32, spent: u32) -> u32
     requires { 1 ≤ budget }
     ensures some { 1 ≤ result }
@@ -120,7 +120,7 @@ fn left_of(budget: u32, spent: u32) -> u32
     budget - spent.min(share_of(budget))
 }
 
-/// What `solver`, a solver of the miter of two nets, answers of it after a sweep that has spent `spent` conflicts.
+/// The answer of `solver`, a solver of the miter of two nets, after a sweep that has spent `spent` conflicts.
 #[tactic(auto, using(crate::specs::SinkLaws::miter_variables))]
 fn finished<S: Solver>(
     alloc: Global,
@@ -152,7 +152,7 @@ fn finished<S: Solver>(
     }
 }
 
-/// What the solver `S` answers of the miter `cnf` of two nets, once a sweep has shown it their equal points.
+/// The answer of the solver `S` on the miter `cnf` of two nets, after a sweep.
 #[tactic(auto, using(crate::specs::SinkLaws::miter_variables))]
 pub(crate) fn compare<S: Solver>(
     alloc: Global,
@@ -182,14 +182,14 @@ pub(crate) fn compare<S: Solver>(
     finished(alloc, first, second, solver, budget, spent)
 }
 
-/// Decides with the solver `S` whether two proper circuits of one interface, each of fewer than 300,000,000 sources
-/// and sinks (combinational inputs and outputs), do the same, unless that takes more than a `budget` from 1 to
-/// 10,000,000: for each pair of signals or sink that is given up its limit counts, up to half of the budget, and then
-/// the clauses that the last search learns.
+/// Decides with the solver `S` whether two proper circuits of one interface, each with fewer than 300,000,000
+/// sources and sinks (combinational inputs and outputs), are equivalent, unless that takes more than a `budget` of
+/// 1 to 10,000,000 conflicts. In the sweep each pair of signals or sink that is given up counts with its conflict
+/// limit, up to half of the budget; in the search after it each learnt clause counts.
 ///
-/// They are equal only with a log that refutes their miter, so that anybody can check it; they differ only at an
-/// input that shows it, at the first sink that does; and it is undecided only with a log that has spent the
-/// budget. Circuits of different interfaces aren't compared, and no others are refused but when memory is short.
+/// They are equal only with a log that refutes their miter, which anybody can check. They differ only with an
+/// input that shows it, at the first sink that differs. They are undecided only with a log that has spent the
+/// budget. Circuits of different interfaces aren't compared; no others are refused, but if memory runs out.
 #[tactic(auto, using(equiv_theory::specs::CircuitLaws::comparable))]
 pub fn equiv<S: Solver>(
     alloc: Global,
@@ -207,8 +207,8 @@ pub fn equiv<S: Solver>(
     ensures differ { IfOk result (λ e. IfDiffer e (IsFirstDifference first.now.net second.now.net)) }
     ensures undecided { IfOk result (λ e. IfUndecided e (λ lines. IsSpent (miter_of first.now.net second.now.net) lines budget)) }
     ensures kept { IfOk result (λ e. IfUndecided e (IsKept (miter_of first.now.net second.now.net))) }
-    // Of either log's additions at most three quarters, 2,000, and one for each variable of the miter are live at its
-    // end, and it deletes no clause of the miter.
+    // At the end of either log at most three quarters of its additions, plus 2,000, plus the number of the miter's
+    // variables, are live; and it deletes no clause of the miter.
     ensures thinned { IfOk result (λ e. IfLogged e (IsThinned (miter_of first.now.net second.now.net))) }
     ensures decides { 2 * 3 ^ variables first.now.net second.now.net ≤ budget → IfOk result IsDecided }
     ensures interface { IfOk result (λ _. HaveSameInterface first.now second.now) }

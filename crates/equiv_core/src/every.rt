@@ -1,5 +1,5 @@
-//! Two nets of few sources compared under all assignments, where that takes less time than a solver: each assignment is
-//! simulated in both.
+//! Exhaustive comparison of two nets with few sources, which takes less time than a solver: both are simulated
+//! under each assignment.
 ghost use Rattle.std.specs.Prelude.{◌≡◌, ◌≤◌, ◌↔◌, ◌++◌, ◌∷◌, [], ℕ, Bool, true, false, length, IfOk, IsTrue};
 ghost use Rattle.net_theory.specs.Net.{sink_values};
 ghost use Rattle.equiv_theory.specs.Difference.{AreComparable, Differ as AreDifferent};
@@ -9,13 +9,13 @@ use crate::values::first_difference;
 use net_core::Net;
 use std::alloc::{AllocError, Global};
 
-/// The most sources of nets that are compared so.
+/// The most sources of nets that are compared exhaustively.
 const MOST_SOURCES: u32 = 12;
 
-/// The most values of gates and sinks that are computed: some seconds at the most.
+/// The most values of gates and sinks that are computed: a few seconds at most.
 const MOST_VALUES: usize = 1_000_000_000;
 
-/// Whether two nets have few enough sources, gates and sinks to be compared under all assignments.
+/// Whether two nets have few enough sources, gates and sinks for exhaustive comparison.
 pub(crate) fn are_narrow(first: &Net, second: &Net) -> bool
     ensures { IsTrue result ↔ IsNarrow first.now second.now }
 {
@@ -28,7 +28,7 @@ pub(crate) fn are_narrow(first: &Net, second: &Net) -> bool
     gates.saturating_add(sinks).saturating_mul(1 << sources) <= MOST_VALUES
 }
 
-/// The bits with one more.
+/// A copy of `bits` with `bit` appended.
 fn with_bit(alloc: Global, bits: &[bool], bit: bool) -> Result<Vec<bool>, AllocError>
     ensures { IfOk result (λ longer. longer.items ≡ bits.now ++ bit ∷ []) }
 {
@@ -38,7 +38,7 @@ fn with_bit(alloc: Global, bits: &[bool], bit: bool) -> Result<Vec<bool>, AllocE
     Ok(longer)
 }
 
-/// Whether no sink of two nets differs where the sources have the bits `bits`.
+/// Whether all sinks of two nets agree if the sources have the values `bits`.
 #[tactic(auto, using(crate::specs::EveryLaws::none_at_all_bits, crate::specs::EveryLaws::difference_found))]
 fn agree_at(alloc: Global, first: &Net, second: &Net, bits: &[bool]) -> Result<bool, AllocError>
     requires comparable { AreComparable first.now second.now }
@@ -52,7 +52,7 @@ fn agree_at(alloc: Global, first: &Net, second: &Net, bits: &[bool]) -> Result<b
     }
 }
 
-/// Whether no sink of two nets differs under any assignment that gives the first sources the bits `bits`.
+/// Whether all sinks of two nets agree under every assignment that gives the first sources the values `bits`.
 fn agree_under(alloc: Global, first: &Net, second: &Net, bits: &[bool]) -> Result<bool, AllocError>
     requires comparable { AreComparable first.now second.now }
     requires bits { length bits.now ≤ first.now.sources }
@@ -71,7 +71,7 @@ fn agree_under(alloc: Global, first: &Net, second: &Net, bits: &[bool]) -> Resul
     Ok(agree)
 }
 
-/// Whether no sink of two nets differs under any assignment.
+/// Whether all sinks of two nets agree under every assignment.
 pub(crate) fn agree(alloc: Global, first: &Net, second: &Net) -> Result<bool, AllocError>
     requires comparable { AreComparable first.now second.now }
     ensures same { IfOk result (λ agree. agree ≡ true → (given : ℕ → Bool) → sink_values first.now given ≡ sink_values second.now given) }

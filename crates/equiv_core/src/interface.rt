@@ -1,4 +1,4 @@
-//! Whether two circuits have one interface, which they need to be compared.
+//! Whether two circuits have the same interface, which is required to compare them.
 ghost use Rattle.std.specs.Prelude.{◌≡◌, ◌↔◌, IsTrue};
 ghost use Rattle.equiv_theory.specs.Difference.{HaveSameInterface};
 
@@ -12,7 +12,7 @@ fn same_name(first: &Name, second: &Name) -> bool
     first == second
 }
 
-/// Whether two latches are controlled in the same way.
+/// Whether two latches have the same control.
 fn same_control(first: &Option<(Trigger, Name)>, second: &Option<(Trigger, Name)>) -> bool
     ensures { IsTrue result ↔ (first.now ≡ second.now) }
 {
@@ -33,7 +33,7 @@ fn same_latch(first: &Latch, second: &Latch) -> bool
         && first.init == second.init
 }
 
-/// Whether the names are the same in the same order.
+/// Whether two lists have the same names in the same order.
 fn same_names(first: &[Name], second: &[Name]) -> bool
     ensures { IsTrue result ↔ (first.now ≡ second.now) }
 {
@@ -71,7 +71,7 @@ fn same_latches(first: &[Latch], second: &[Latch]) -> bool
     right.is_empty()
 }
 
-/// Whether two circuits have one interface.
+/// Whether two circuits have the same interface.
 pub(crate) fn same_interface(first: &Circuit, second: &Circuit) -> bool
     ensures { IsTrue result ↔ HaveSameInterface first.now second.now }
 {

@@ -1,11 +1,11 @@
-//! Combinational equivalence checking (CEC): do two circuits do the same? Their miter, which `equiv_theory` defines,
-//! is written clause by clause and given to the solver `S`, any of the trait of `sat_solve`. A sweep (`equal_points`)
-//! has the solver derive which signals of the two are equal, so that the refutation is short.
+//! Combinational equivalence checking (CEC) of two circuits. Their miter, which `equiv_theory` defines, is written
+//! clause by clause and given to the solver `S`, any of the trait of `sat_solve`. SAT sweeping (`equal_points`)
+//! has the solver derive internal equivalences first, so that the refutation is short.
 //!
 //! The theorem is that of `equiv`: two circuits of one interface are equal only with a log that refutes their
-//! miter, which anybody can check, and then they do the same under every assignment; they differ only at bits
-//! of the sources under which a sink differs, and it is the first that does; and they are undecided only with a
-//! log that has spent the budget. `miter` is exactly the formula of the definition.
+//! miter, which anybody can check, and then they have the same values under every assignment; they differ only at
+//! values of the sources under which a sink differs, and it is the first that does; and they are undecided only
+//! with a log that has spent the budget. `miter` is exactly the formula of the definition.
 //!
 //! ```text
 //! match equiv::<Cdcl>(alloc, &first, &second, 100000)? {
@@ -16,8 +16,8 @@
 //! ```
 //!
 //! - `src/rows.rt`, `src/mitering.rt`: the clauses. `src/interface.rt`: whether two circuits have one interface.
-//! - `src/values.rt`: where two nets differ. `src/comparing.rt`: the three answers; `src/nets.rt`: of nets, without a log,
-//!   and of nets of few sources `src/every.rt`.
+//! - `src/values.rt`: where two nets differ. `src/comparing.rt`: the three answers. `src/nets.rt`: the answer for
+//!   nets, without a log. `src/every.rt`: nets with few sources, compared exhaustively.
 #![tactic(auto)]
 
 mod answer;

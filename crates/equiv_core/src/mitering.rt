@@ -61,11 +61,11 @@ pub(crate) fn miter_nets(alloc: Global, first: &Net, second: &Net) -> Result<Cnf
     list.into_cnf(alloc)
 }
 
-/// The miter of two proper circuits of one interface, each of fewer than 300,000,000 sources and sinks: a
-/// formula that some assignment satisfies exactly where some assignment of the sources gives some sink two
-/// different values (Brand, "Verification of large synthesized designs", 1993).
+/// The miter of two proper circuits of one interface, each with fewer than 300,000,000 sources and sinks: a
+/// formula that is satisfiable exactly if some assignment of the sources gives some sink two different values
+/// (Brand, "Verification of large synthesized designs", 1993).
 ///
-/// Its variables are the sources, the gates of the first and then of the second circuit, and one for each sink, each
+/// Its variables are the sources, the gates of the first circuit, those of the second, and one for each sink, each
 /// in order. The time is linear in the sizes of both.
 #[tactic(auto, using(equiv_theory::specs::CircuitLaws::comparable))]
 pub fn miter(alloc: Global, first: &Circuit, second: &Circuit) -> Result<Cnf, AllocError>

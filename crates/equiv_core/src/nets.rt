@@ -1,4 +1,4 @@
-//! Whether two nets do the same: the answers to their miter without its log, or under all assignments.
+//! Whether two nets are equivalent: exhaustively, or by their miter without keeping its log.
 ghost use Rattle.std.specs.Prelude.{◌≡◌, ◌≤◌, ◌*◌, ◌^◌, ℕ, Bool, true, false, IfOk};
 ghost use Rattle.sat_solve.specs.Budgets.{most_budget};
 ghost use Rattle.net_theory.specs.Net.{sink_values};
@@ -15,12 +15,14 @@ use net_core::Net;
 use sat_solve::Solver;
 use std::alloc::{AllocError, Global};
 
-/// Whether two nets of as many sources and as many sinks are found equivalent: true only where each sink has the same value
-/// in both under every assignment. Narrow nets, of at most 12 sources and, under all their assignments, 1,000,000,000 values
-/// of gates and sinks, are simulated under each, and false says that they differ. Of others the solver `S` decides, and it
-/// is false also where more than `budget` conflicts in vain, from 1 to 10,000,000, would be needed: so with a budget of at
-/// least twice 3 to the number of the miter's variables only where they differ. Each has at most 100,000 gates, and the
-/// first fewer than 300,000,000 sources and sinks.
+/// Whether two nets with equally many sources and equally many sinks are found equivalent. It is true only if each
+/// sink has the same value in both under every assignment.
+///
+/// Narrow nets have at most 12 sources and, over all their assignments, at most 1,000,000,000 values of gates and
+/// sinks. They are simulated exhaustively, and false says that they differ. For others the solver `S` decides with
+/// a `budget` of 1 to 10,000,000 conflicts, and false can also mean that the budget was spent. A budget of at
+/// least twice 3 to the number of the miter's variables is never spent. Each net has at most 100,000 gates, and
+/// the first has fewer than 300,000,000 sources and sinks.
 pub fn equal_nets<S: Solver>(
     alloc: Global,
     first: &Net,

@@ -1,4 +1,4 @@
-//! The variables of a net's places.
+//! The variables of a net's nodes.
 ghost use Rattle.std.specs.Prelude.{◌≡◌, ◌+◌, ◌<◌, ◌^◌};
 ghost use Rattle.net_theory.specs.Net.{IsSigBelow};
 ghost use Rattle.equiv_theory.specs.Miter.{signal_is as signal_is_of};
@@ -7,9 +7,8 @@ ghost use Rattle.equiv_core.specs.Rows.{numbered};
 use clause_core::Raw;
 use net_core::Sig;
 
-/// How the places (node indices) of one of two nets are numbered. The two share the variables of the `sources`; the
-/// variables of the gates come after those of the other net's `before` gates, if these are first. Places end before
-/// `end`.
+/// The numbering of the nodes of one of two nets. Both share the variables of the `sources`; the variables of the
+/// gates come after those of the other net's `before` gates, if these come first. All nodes are below `end`.
 #[derive(Clone, Copy)]
 pub(crate) struct Numbering {
     pub sources: u32,
@@ -18,7 +17,7 @@ pub(crate) struct Numbering {
 }
 
 impl Numbering {
-    /// The variable of a place.
+    /// The variable of a node.
     #[tactic(auto, unfolding(equiv_theory::specs::Miter::variable_at))]
     pub(crate) fn variable(self, place: u32) -> u32
         requires { place + self.before < 2 ^ 32 }
@@ -30,7 +29,7 @@ impl Numbering {
         place + self.before
     }
 
-    /// The literal that says that the signal `sig` has the value `bit`.
+    /// The literal that is true exactly if the signal `sig` has the value `bit`.
     pub(crate) fn signal_is(self, sig: Sig, bit: bool) -> Raw
         requires below { IsSigBelow self.end sig }
         requires room { self.end + self.before < 2 ^ 32 }

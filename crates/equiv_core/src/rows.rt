@@ -1,4 +1,4 @@
-//! The clauses of the miter, gate by gate and sink by sink.
+//! The clauses of the miter (Tseitin encoding), gate by gate and sink by sink.
 ghost use Rattle.std.specs.Prelude.{◌≡◌, ◌+◌, ◌≤◌, ◌<◌, ◌^◌, ◌-◌, [], ◌∷◌, length, All, OnOk, IfOk};
 ghost use Rattle.clause_core.specs.declared.raw.Raw.TheVariants.{Var};
 ghost use Rattle.net_theory.specs.Net.{IsGateAt, IsSigBelow};
@@ -11,7 +11,8 @@ use clause_core::{ClauseList, Raw};
 use net_core::{Gate, Sig};
 use std::alloc::{AllocError, Global};
 
-/// Adds the clause of the gate at `place` for the operand bits `a` and `b`: it has its operator's value there.
+/// Adds the clause of the gate at node `place` for the operand values `a` and `b`: the gate has its operator's
+/// value.
 #[tactic(auto, using(crate::specs::RowLaws::gate_within, crate::specs::RowLaws::added_one), unfolding(equiv_theory::specs::Miter::gate_row))]
 fn push_gate_row(
     alloc: Global,
@@ -33,7 +34,7 @@ fn push_gate_row(
     list.push(alloc, &[first, second, value])
 }
 
-/// Adds the four clauses of the gate at `place`: it has its operator's value for all operand bits.
+/// Adds the four clauses of the gate at node `place`, one for each pair of operand values.
 #[tactic(auto, using(crate::specs::RowLaws::gate_added))]
 fn push_gate(
     alloc: Global,
@@ -53,7 +54,7 @@ fn push_gate(
     push_gate_row(alloc, list, numbering, place, gate, true, true)
 }
 
-/// Adds the clauses of `gates`, the first of which is at the place `first`.
+/// Adds the clauses of `gates`, the first of which is the node `first`.
 pub(crate) fn push_gates(
     alloc: Global,
     list: &mut ClauseList,
@@ -76,7 +77,7 @@ pub(crate) fn push_gates(
     Ok(())
 }
 
-/// Adds that where the sink's variable `difference` is true, `signals` don't both have the value `!bit`.
+/// Adds the clause that `signals` don't both have the value `!bit` if the sink's variable `difference` is true.
 #[tactic(auto, using(crate::specs::RowLaws::added_one), unfolding(equiv_theory::specs::Miter::sink_row))]
 fn push_sink_row(
     alloc: Global,
@@ -99,7 +100,7 @@ fn push_sink_row(
     list.push(alloc, &[told, first, second])
 }
 
-/// Adds that where the sink's variable `difference` is true, the two `signals` differ.
+/// Adds the two clauses that `signals` differ if the sink's variable `difference` is true.
 #[tactic(auto, using(crate::specs::RowLaws::sink_added))]
 fn push_sink(
     alloc: Global,
@@ -119,7 +120,7 @@ fn push_sink(
     push_sink_row(alloc, list, numberings, difference, signals, true)
 }
 
-/// Adds the clauses of the sinks; the variable of the first one is `first`.
+/// Adds the clauses of the sinks. The variable of the first one is `first`.
 pub(crate) fn push_sinks(
     alloc: Global,
     list: &mut ClauseList,
@@ -150,7 +151,7 @@ pub(crate) fn push_sinks(
     Ok(())
 }
 
-/// The clause that some sink differs: the `count` variables from `difference` on.
+/// The clause that some sink differs: the disjunction of the `count` variables from `difference` on.
 #[tactic(auto, using(clause_core::specs::RangeLaws::loops), unfolding(equiv_theory::specs::Miter::some_row))]
 pub(crate) fn some_row(alloc: Global, difference: u32, count: u32) -> Result<Vec<Raw>, AllocError>
     requires { difference + count < 2 ^ 32 }

@@ -1,4 +1,4 @@
-//! The first sink at which two nets differ under given bits of the sources.
+//! Simulation of two nets: the first sink at which they differ for given values of the sources.
 ghost use Rattle.std.specs.Prelude.{◌≡◌, ◌≢◌, ℕ, ◌+◌, ◌≤◌, ◌<◌, false, map, length, slice_index_or, All, IfOk, IfSome, IfNone};
 ghost use Rattle.net_theory.specs.Net.{IsSigBelow, bit_of, sig_value, sink_values, value, end_of};
 ghost use Rattle.equiv_theory.specs.Difference.{AreComparable, DifferAt, DifferFirstAt};
@@ -6,7 +6,7 @@ ghost use Rattle.equiv_theory.specs.Difference.{AreComparable, DifferAt, DifferF
 use net_core::{Net, Sig, values};
 use std::alloc::{AllocError, Global};
 
-/// The value of `sig` by the values `places` of the places, place 1 first.
+/// The value of `sig`, given the values `places` of the nodes, node 1 first.
 fn signal_bit(places: &[bool], sig: Sig) -> bool
     requires { IsSigBelow (length places.now + 1) sig }
     ensures { result ≡ sig_value (bit_of places.now) sig }
@@ -18,7 +18,7 @@ fn signal_bit(places: &[bool], sig: Sig) -> bool
     }
 }
 
-/// The values of `signals` by the values `places` of the places.
+/// The values of `signals`, given the values `places` of the nodes.
 fn signal_bits(alloc: Global, places: &[bool], signals: &[Sig]) -> Result<Vec<bool>, AllocError>
     requires { All (IsSigBelow (length places.now + 1)) signals.now }
     ensures { IfOk result (λ bits. bits.items ≡ map (sig_value (bit_of places.now)) signals.now) }
@@ -32,7 +32,7 @@ fn signal_bits(alloc: Global, places: &[bool], signals: &[Sig]) -> Result<Vec<bo
     Ok(bits)
 }
 
-/// The values of a net's places, place 1 first, where the sources have the values `sources`.
+/// The values of a net's nodes, node 1 first, given the values `sources` of the sources.
 fn place_bits(alloc: Global, net: &Net, sources: &[bool]) -> Result<Vec<bool>, AllocError>
     requires { length sources.now ≡ net.now.sources }
     ensures long { IfOk result (λ bits. length bits.items + 1 ≡ end_of net.now) }
@@ -44,7 +44,7 @@ fn place_bits(alloc: Global, net: &Net, sources: &[bool]) -> Result<Vec<bool>, A
     Ok(places)
 }
 
-/// The values of a net's sinks, where the sources have the values `sources`.
+/// The values of a net's sinks, given the values `sources` of the sources.
 fn sink_bits(alloc: Global, net: &Net, sources: &[bool]) -> Result<Vec<bool>, AllocError>
     requires { length sources.now ≡ net.now.sources }
     ensures { IfOk result (λ bits. bits.items ≡ sink_values net.now (bit_of sources.now)) }
@@ -54,7 +54,7 @@ fn sink_bits(alloc: Global, net: &Net, sources: &[bool]) -> Result<Vec<bool>, Al
     Ok(bits)
 }
 
-/// The first index at which two lists of one length differ.
+/// The first index at which two lists of equal length differ.
 fn first_other(first: &[bool], second: &[bool]) -> Option<usize>
     requires { length first.now ≡ length second.now }
     ensures below { IfSome result (λ i. i < length first.now) }
@@ -70,7 +70,7 @@ fn first_other(first: &[bool], second: &[bool]) -> Option<usize>
     None
 }
 
-/// The first sink, counted from 0, whose values differ where the sources have the values `sources`.
+/// The first sink, counted from 0, whose values in the two nets differ, given the values `sources` of the sources.
 #[tactic(auto, using(crate::specs::SinkLaws::found_first, crate::specs::SinkLaws::found_none, crate::specs::SinkLaws::sinks_long))]
 pub(crate) fn first_difference(
     alloc: Global,

@@ -1,5 +1,5 @@
--- Bits of sources by their names: an assignment that gives different names any bits, and what a circuit makes of
--- bits by names and by places.
+-- Values of sources by their names: some assignment gives different names any values; and what a circuit computes
+-- from values by name and by node.
 use Rattle.std.specs.Prelude.{◌≡◌, ◌≢◌, ℕ, suc, ◌+◌, ◌-◌, ◌≤◌, ◌<◌, Bool, true, false, if◌then◌else◌, List, [], ◌∷◌, length, map, slice_get, Some, refl}
 use Rattle.std.proofs.Common.{arith, ap, sym, ◌∙◌, subst, add-zero, ⊎_elim}
 use Rattle.std.proofs.lemmas.Bool.{cases_eq, cond-true, cond-false, ne_eqb, false_from_ne_true, both_ways}
@@ -43,11 +43,11 @@ looked (m ∷ ms) (b ∷ bs) distinct long =
     let rest : map (look (m ∷ ms) (b ∷ bs)) ms ≡ map (look ms bs) ms = map_same (look (m ∷ ms) (b ∷ bs)) (look ms bs) ms (λ n there. look_other m n ms b bs (false_from_ne_true (is_same n m) (λ (same : is_same n m ≡ true). both_ways (has ms m) apart.0 (subst (λ (x : Name). has ms x ≡ true) (same_name n m same) there)))) in
     rw (look_here m ms b bs, rest) (ap (λ (xs : List Bool). b ∷ xs) (looked ms bs apart.1 (omega arith)))
 
--- Different names can have any bits.
+-- Different names can have any values.
 pub has_assignment : (names : List Name) (bits : List Bool) → are_distinct names ≡ true → length bits ≡ length names → (given : Name → Bool) × (map given names ≡ bits)
 has_assignment names bits distinct long = (look names bits, looked names bits distinct long)
 
--- ---- values where the bits agree from place 1 on
+-- ---- values if the bits agree from node 1 on
 
 sig_agree : (f g : ℕ → Bool) (s : Sig) (place : ℕ) → IsSigBelow place s → ((p : ℕ) → 1 ≤ p → p < place → f p ≡ g p) → sig_value f s ≡ sig_value g s
 sig_agree f g Zero place b same = refl
@@ -72,14 +72,14 @@ values_agree f g place (h ∷ gs) are same p some low =
 sinks_agree : (n : Net) (f g : ℕ → Bool) → IsNet n → ((p : ℕ) → 1 ≤ p → p ≤ n.sources → f p ≡ g p) → sink_values n f ≡ sink_values n g
 sinks_agree n f g is same = signals_same (value n f) (value n g) n.sinks (end_of n) is.sinks (λ p some low. values_agree f g (n.sources + 1) n.gates is.gates.each (λ q s l. same q s (omega arith)) p some low)
 
--- ---- bits by names and by places
+-- ---- bits by names and by nodes
 
 bit_at_place : (names : List Name) (given : Name → Bool) (p : ℕ) → 1 ≤ p → p ≤ length names → by_place names given p ≡ bit_of (map given names) p
 bit_at_place names given p some low =
     let other : p ≢ 0 = omega arith in
     sym (cond-false _ _ _ (ne_eqb p 0 other) ∙ get_or-map given names (p - 1) [] false (omega (arith, some, low)))
 
--- what a circuit does under an assignment of its sources' names is what its net does under their bits
+-- a circuit under an assignment of its sources' names has the values of its net under theirs
 pub values_are : (c : Circuit) (given : Name → Bool) (bits : List Bool) → IsProper c → map given (sources_of c) ≡ bits → values_by_name c given ≡ sink_values c.net (bit_of bits)
 values_are c given bits of is =
     sinks_agree c.net (by_place (sources_of c) given) (bit_of bits) of.net

@@ -1,5 +1,5 @@
--- An answer to two circuits is one to the texts that they were read of, and two texts have an answer or one
--- fault at most.
+-- An answer for two circuits is one for the texts that they were read from; a text has an answer or at most one
+-- fault.
 use Rattle.std.specs.Prelude.{◌≡◌, ℕ, ◌+◌, ◌-◌, Bool, false, List, ◌++◌, length, map, take, drop, slice_index_or, Option, Some, None, Result, Ok, Err, IsErrAnd, IfErr, refl}
 use Rattle.std.proofs.Common.{arith, ap, sym, ◌∙◌, subst, length-append}
 use Rattle.std.proofs.lemmas.List.{length-map}
@@ -53,7 +53,7 @@ sources_same c k same = ap (λ (ns : List Name). ns ++ map latch_output c.latche
 
 -- ---- differences
 
--- a map's bits at the sinks are the net's values
+-- the values of a map at the sinks are those of the net
 map_values : (d : Document) (c : Circuit) (given v : Name → Bool) (bits : List Bool) → IsProper c → Describes d c → map given (sources_of c) ≡ bits → IsMapOf d given v → map v (sink_names d) ≡ sink_values c.net (bit_of bits)
 map_values d c given v bits of describes is maps = describes.sinks given v maps ∙ values_are c given bits of is
 
@@ -147,7 +147,7 @@ other_refused bytes place c k NoSecond parted of_c of_k other = absurd other
 other_refused bytes place c k (First e) parted of_c of_k other = absurd other
 other_refused bytes place c k (Second e) parted of_c of_k other = absurd other
 
--- an error that goes out
+-- an error that is passed on
 pub error_other : (bytes : List ℕ) (place : ℕ) (c k : Circuit) (r : Result Compared CompareError) (e : CompareError) → IsErrAnd r (λ d. d ≡ e) → split_of bytes ≡ Some place → IsCircuitOfText blif_format (take place bytes) c → IsCircuitOfText blif_format (drop place bytes) k → IsOther c k e → IfErr r (IsRefusedPair bytes)
 error_other bytes place c k (Ok x) e is parted of_c of_k other = tt
 error_other bytes place c k (Err d) e is parted of_c of_k other = rw is (other_refused bytes place c k e parted of_c of_k other)
@@ -166,7 +166,7 @@ netlist_listed bytes d lists = record { listed = lists.listed; said = lists.said
 never : (bytes : List ℕ) (e : NetError) → IsNetlist blif_format bytes → HasNetFault blif_format bytes e → ⊥
 never bytes e is fault = faults.fault_never blif_format bytes e texts_list is fault
 
--- two netlists have no fault but another interface
+-- two netlists have no fault but different interfaces
 two_never_first : (bytes : List ℕ) (d e : Document) (x : NetError) → AreTwo bytes d e → HasFirstFault bytes x → ⊥
 two_never_first bytes d e x two fault =
     never (take two.place bytes) x (netlist_listed (take two.place bytes) d two.first)
@@ -177,7 +177,7 @@ two_never_second bytes d e x two fault =
     never (drop two.place bytes) x (netlist_listed (drop two.place bytes) e two.second)
     (subst (λ (p : ℕ). HasNetFault blif_format (drop p bytes) x) (place_one (split_of bytes) fault.place two.place fault.parted two.parted) fault.fault)
 
--- a text lists one document
+-- a text has one document
 ok_one : (r : Result Listed NetError) (k l : Listed) → r ≡ Ok k → r ≡ Ok l → k ≡ l
 ok_one r k l x y = cc
 

@@ -1,4 +1,4 @@
--- Two netlists in one text, one after the other: the answers, and the refusals.
+-- Two netlists in one text, one after the other: the answers and the refusals.
 use Rattle.std.specs.Prelude.{◌≡◌, ◌≢◌, ℕ, ◌-◌, ◌*◌, ◌^◌, ◌≤◌, ◌<◌, Bool, false, List, length, map, take, drop, slice_index_or, Some, None, Ok}
 use Rattle.sat_theory.specs.Line.{Line}
 use Rattle.sat_theory.specs.Log.{Refutes, IsSpent, IsKept, IsThinned}
@@ -19,7 +19,7 @@ use Rattle.equiv_run.specs.declared.answer.CompareError.TheVariants.{NoSecond, F
 use Rattle.equiv_run.specs.Split.{split_of}
 use Rattle.equiv_run.specs.Texts.{equal_text, undecided_text, differ_text}
 
--- the most bytes of two netlists that are read
+-- the most bytes of two netlists that are read: 32 MiB
 abbrev pub most_of_two : ℕ
 most_of_two = 33554432
 
@@ -32,7 +32,7 @@ pub record Lists (bytes : List ℕ) (d : Document) : Type 0 where
   pub is : listed.document ≡ d
   pub well : IsWellFormed d
 
--- The text is two BLIF netlists, the first of which ends where the text is split, and these are their documents.
+-- The text is two BLIF netlists with these documents; the first ends where the text is split.
 pub record AreTwo (bytes : List ℕ) (d e : Document) : Type 0 where
   pub place : ℕ
   pub parted : split_of bytes ≡ Some place
@@ -47,12 +47,13 @@ pub record ShareInterface (d e : Document) : Type 0 where
   pub clocks : d.clocks ≡ e.clocks
   pub latches : latches_of d ≡ latches_of e
 
--- the bit of the output or next state at a place, in a map of a document
+-- the value of the output or next state at index i, in a map of a document
 abbrev pub sink_in : Document → (Name → Bool) → ℕ → Bool
 sink_in d v i = slice_index_or (map v (sink_names d)) i false
 
--- Each of the two documents has one map for each assignment. Some assignment gives the sources these bits, and
--- whichever does, the two maps differ at this output or next state, counted from 1, and agree at each one before it.
+-- Each of the two documents has exactly one map for each assignment. Some assignment gives the sources these
+-- values; and under every one that does, the two maps differ at this output or next state, counted from 1, and
+-- agree at all before it.
 pub record DocumentsDiffer (d e : Document) (sink : ℕ) (bits : List Bool) : Type 0 where
   pub first_has_one : (given : Name → Bool) → HasOneMap d given
   pub second_has_one : (given : Name → Bool) → HasOneMap e given
@@ -70,7 +71,7 @@ pub record HasMiter (d e : Document) (first second : Net) : Type 0 where
 
 -- ---- the answers
 
--- They do the same, and the lines refute the miter of their nets, and are thinned.
+-- They are equivalent: the lines refute the miter of their nets, and are thinned.
 pub record IsEqualTold (d e : Document) (text : List ℕ) : Type 0 where
   pub same : Same d e
   pub first : Net
@@ -81,15 +82,15 @@ pub record IsEqualTold (d e : Document) (text : List ℕ) : Type 0 where
   pub thinned : IsThinned (miter first second) lines
   pub text_is : text ≡ equal_text lines
 
--- They differ under the bits of the text, at the sink of the text and at none before it.
+-- They differ under the values in the text, at the sink in the text and at none before it.
 pub record IsDifferTold (d e : Document) (text : List ℕ) : Type 0 where
   pub sink : ℕ
   pub bits : List Bool
   pub differ : DocumentsDiffer d e sink bits
   pub text_is : text ≡ differ_text d.outputs (latches_of d) sink bits
 
--- The lines have spent the budget on the miter of their nets, keep at least half of what they add, and are thinned. A
--- budget of twice three to the number of the miter's variables is never spent.
+-- The lines have spent the budget on the miter of their nets, at least half of their additions are live at the
+-- end, and they are thinned. A budget of twice three to the number of the miter's variables is never spent.
 pub record IsUndecidedTold (budget : ℕ) (d e : Document) (text : List ℕ) : Type 0 where
   pub first : Net
   pub second : Net
@@ -106,7 +107,7 @@ IsTold budget d e text Equal = IsEqualTold d e text
 IsTold budget d e text Differ = IsDifferTold d e text
 IsTold budget d e text Undecided = IsUndecidedTold budget d e text
 
--- The bytes are two netlists of one interface, and the text is an answer to them.
+-- The bytes are two netlists of one interface, and the text is the answer for them.
 pub record IsAnswer (budget : ℕ) (bytes text : List ℕ) (standing : Standing) : Type 0 where
   pub first : Document
   pub second : Document
@@ -116,7 +117,7 @@ pub record IsAnswer (budget : ℕ) (bytes text : List ℕ) (standing : Standing)
 
 -- ---- the refusals
 
--- a fault of the first text, and one of the second, whose lines are numbered from 1, after a first without one
+-- a fault of the first netlist; and one of the second, whose lines are numbered from 1, while the first has none
 pub record HasFirstFault (bytes : List ℕ) (e : NetError) : Type 0 where
   pub place : ℕ
   pub parted : split_of bytes ≡ Some place
@@ -135,7 +136,7 @@ pub record HasOtherInterface (bytes : List ℕ) : Type 0 where
   pub two : AreTwo bytes first second
   pub other : ShareInterface first second → ⊥
 
--- Why the bytes aren't two netlists that can be compared. Out of memory is no such reason.
+-- Why the bytes aren't two netlists that can be compared. Out of memory isn't such a reason.
 abbrev pub HasPairFault : List ℕ → CompareError → Type 0
 HasPairFault bytes NoSecond = split_of bytes ≡ None
 HasPairFault bytes (First e) = HasFirstFault bytes e
@@ -143,7 +144,7 @@ HasPairFault bytes (Second e) = HasSecondFault bytes e
 HasPairFault bytes DifferentInterface = HasOtherInterface bytes
 HasPairFault bytes Memory = ⊥
 
--- Out of memory may come anywhere.
+-- Running out of memory is always allowed.
 abbrev pub IsRefusedPair : List ℕ → CompareError → Type 0
 IsRefusedPair bytes NoSecond = HasPairFault bytes NoSecond
 IsRefusedPair bytes (First e) = HasPairFault bytes (First e)

@@ -1,4 +1,4 @@
--- Circuits that are read of texts have few sources and sinks.
+-- Circuits that are read from texts have few sources and sinks.
 use Rattle.std.specs.Prelude.{◌≡◌, ℕ, ◌+◌, ◌*◌, ◌≤◌, List, length, map, Option, Some, None, Result, Ok, Err}
 use Rattle.std.proofs.Common.{arith, ap, sym, ◌∙◌, refl, length-append}
 use Rattle.std.proofs.lemmas.List.{length-map}
@@ -28,7 +28,7 @@ said_by : (bytes : List ℕ) (l : Listed) → listed_of bytes ≡ Ok l → IsSai
 unfolding listed_of
 said_by bytes l e = said_parts bytes l (said_of bytes) refl e
 
--- what a document names isn't more than its text has bytes
+-- a document has at most as many names as its text has bytes
 record IsFew (bytes : List ℕ) (d : Document) : Type 0 where
   sources : 2 * source_count d + cost d ≤ length bytes
   outputs : length d.outputs ≤ length bytes

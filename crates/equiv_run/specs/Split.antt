@@ -1,5 +1,4 @@
--- Where the first of two BLIF texts ends that stand one after the other: after the first logical line whose first
--- word is `.end`.
+-- Where the first of two consecutive BLIF texts ends: after the first logical line whose first word is `.end`.
 use Rattle.std.specs.Prelude.{◌≡◌, ℕ, ◌+◌, Bool, true, false, List, [], ◌∷◌, ◌++◌, length, All, Option, Some, None, drop, codes, if◌then◌else◌}
 use Rattle.std.specs.List.{flat_map}
 use Rattle.text_core.specs.Lines.{Line, lines_of, line_bytes}
@@ -8,7 +7,7 @@ use Rattle.net_text.specs.Contents.{without_last, content_of}
 use Rattle.blif_text.specs.Words.{words_of}
 use Rattle.blif_text.specs.Logical.{Logical, begun_at, logical_from, logical_of}
 
--- whether the first of some words is `.end`; None where there is none
+-- whether the first of some words is `.end`; None without a word
 abbrev pub first_ends : List (List ℕ) → Option Bool
 first_ends [] = None
 first_ends (w ∷ ws) = Some (is_same w (codes ".end"))
@@ -21,13 +20,13 @@ is_told (Some b) = b
 abbrev pub says_end : Logical → Bool
 says_end l = is_told (first_ends (words_of l.text))
 
--- the logical lines of lines, of which the first has this number
+-- the logical lines of physical lines, the first of which has this number
 abbrev pub logical_lines : ℕ → List Line → List Logical
 logical_lines number lines = logical_from number (begun_at number) lines
 
--- The place after the first logical line of a text whose first word is `.end`: the lines before the place make that
--- logical line, as their last one, and others, and the lines after it begin a logical line of their own.
--- Example: of ".model a\n.end # a\n.model b\n" it is 18.
+-- The offset after the first logical line whose first word is `.end`. The physical lines before the offset make
+-- that logical line, as their last one, and others without `.end`; the lines after it begin a new logical line.
+-- Example: for ".model a\n.end # a\n.model b\n" it is 18.
 pub record IsSplit (bytes : List ℕ) (place : ℕ) : Type 0 where
   pub front : List Line
   pub behind : List Line
@@ -42,7 +41,7 @@ pub record IsSplit (bytes : List ℕ) (place : ℕ) : Type 0 where
   pub number : ℕ
   pub parted : logical_of 1 bytes ≡ logical_lines 1 front ++ logical_lines number behind
 
--- the first of two that is known
+-- the first of two values that is known
 abbrev pub or_first : Option Bool → Option Bool → Option Bool
 or_first None next = next
 or_first (Some b) next = Some b
@@ -51,8 +50,8 @@ abbrev pub piece_then : Option (List ℕ) → Option ℕ → (List ℕ → Optio
 piece_then None ended further = ended
 piece_then (Some front) ended further = further front
 
--- The same, line by line: `place` is the length of the lines so far, and `first` is what is known of the first word of
--- the current logical line.
+-- The same, line by line: `place` is the length of the lines so far, and `first` is what is known about the first
+-- word of the current logical line.
 unfoldable pub split_from : ℕ → Option Bool → List Line → Option ℕ
 split_from place first [] = if is_told first then Some place else None
 split_from place first (l ∷ ls) = piece_then (without_last 92 (content_of l))

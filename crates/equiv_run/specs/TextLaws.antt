@@ -1,4 +1,4 @@
--- Bits, one after the other.
+-- Characters of bits, one after the other.
 use Rattle.std.proofs.Common.{◌≡◌, Bool, List, [], ◌∷◌, length, refl, arith}
 use Rattle.std.proofs.lemmas.Grind.{common_steps}
 use Rattle.equiv_run.specs.Texts.{character, characters, bits_text}

@@ -9,7 +9,7 @@ use Rattle.net_theory.specs.Document.{Name, Latch, latch_output}
 unfoldable pub log_text : List Line → List ℕ
 log_text lines = flat_map line_text lines
 
--- a word, the lines of a log, and `done`
+-- a keyword, the lines of a log, and `done`
 abbrev pub logged_text : List ℕ → List Line → List ℕ
 logged_text word lines = word ++ (log_text lines ++ codes "done\n")
 
@@ -30,7 +30,7 @@ unfoldable pub bits_text : List Bool → List ℕ
 bits_text [] = codes "-"
 bits_text (b ∷ bs) = characters (b ∷ bs)
 
--- The name of a sink, counted from 1: an output's, or after the outputs that of a latch's output.
+-- The name of a sink, counted from 1: that of an output or, after the outputs, of a latch's output.
 unfoldable pub sink_text : List Name → List Latch → ℕ → List ℕ
 sink_text outputs latches sink =
     if nat_le sink (length outputs) then codes "output " ++ slice_index_or outputs (sink - 1) []

@@ -1,4 +1,4 @@
--- The answers to two circuits, before they are said of the texts that these were read of.
+-- The answers for two circuits, before they are carried over to the texts that these were read from.
 use Rattle.std.specs.Prelude.{◌≡◌, ℕ, ◌*◌, ◌^◌, ◌≤◌, ◌<◌, Bool, List}
 use Rattle.std.proofs.Common.{arith}
 use Rattle.sat_theory.specs.Line.{Line}
@@ -52,7 +52,7 @@ IsOther c k NoSecond = ⊥
 IsOther c k (First e) = ⊥
 IsOther c k (Second e) = ⊥
 
--- why the first text isn't read, and the second
+-- why the first netlist is refused, and the second
 abbrev pub IsFirstRefused : List ℕ → CompareError → Type 0
 IsFirstRefused bytes (First e) = HasNetFault blif_format bytes e
 IsFirstRefused bytes Memory = Unit {0}

@@ -1,4 +1,4 @@
--- The walk that looks for `.end`, a line at a time.
+-- The scan for `.end`, line by line.
 use Rattle.std.proofs.Common.{◌≡◌, ℕ, ◌+◌, ◌-◌, ◌≤◌, ◌==◌, Bool, true, false, List, [], ◌∷◌, ◌++◌, length, All, Option, Some, None, drop, refl, sym, ap, ◌∙◌, subst, arith, ⊎_elim, append_assoc, append-nil, length-append}
 use Rattle.std.specs.Prelude.{if◌then◌else◌}
 use Rattle.std.specs.Borrow.{Bor}
@@ -29,7 +29,7 @@ then_both : (front : List ℕ) (ws vs : List (List ℕ)) → word_then front (ws
 then_both [] ws vs = refl
 then_both (b ∷ bs) ws vs = refl
 
--- after a blank a word of its own begins
+-- a new word begins after a blank
 words_both : (front text more : List ℕ) → words_from front (text ++ 32 ∷ more) ≡ words_from front text ++ words_of more
 unfolding words_from
 words_both front [] more = then_both front [] (words_of more)
@@ -66,7 +66,7 @@ line_size l =
     (λ (e : l.ended ≡ false). rw e (let z : length l.text ≡ length l.text + 0 = omega arith in z))
     (cases_Bool l.ended)
 
--- what is known of a line that is taken from what is left
+-- the next line, split off from the rest of the text
 pub record IsTaken (left rest : List ℕ) (l : Line) : Type 0 where
   pub lines : lines_of left ≡ l ∷ lines_of rest
   pub size : length left ≡ length l.text + (if l.ended then 1 else 0) + length rest
@@ -75,7 +75,7 @@ pub record IsTaken (left rest : List ℕ) (l : Line) : Type 0 where
 taken_size : (left rest : List ℕ) (l : Line) → IsTaken left rest l → length left ≡ length (line_bytes l) + length rest
 taken_size left rest l taken = omega (arith, taken.size, line_size l)
 
--- a line that goes on, and one that ends the current logical line
+-- a continued line, and one that ends the current logical line
 logical_on : (number : ℕ) (j : Logical) (l : Line) (ls : List Line) (front : List ℕ) → without_last 92 (content_of l) ≡ Some front → logical_from number j (l ∷ ls) ≡ logical_from (number + 1) (going_on j l front) ls
 unfolding logical_from
 logical_on number j l ls front e = ap (λ (r : Option (List ℕ)). line_then r (ended_by j l ∷ logical_from (number + 1) (begun_at (number + 1)) ls) (λ front'. logical_from (number + 1) (going_on j l front') ls)) e
@@ -100,7 +100,7 @@ no_lines : lines_of [] ≡ []
 unfolding lines_from
 no_lines = refl
 
--- ---- the walk
+-- ---- the scan
 
 pub walked_start : (bytes : List ℕ) → IsWalked bytes bytes None
 walked_start bytes = record {
@@ -123,7 +123,7 @@ walked_start bytes = record {
 front_size : (front : List Line) (l : Line) → length (flat_map line_bytes (front ++ l ∷ [])) ≡ length (flat_map line_bytes front) + length (line_bytes l)
 front_size front l = ap length (flat_map-append line_bytes front (l ∷ []) ∙ ap (λ (xs : List ℕ). flat_map line_bytes front ++ xs) (append-nil (line_bytes l))) ∙ length-append (flat_map line_bytes front) (line_bytes l)
 
--- after one line more: the place, and the lines before it
+-- after one more line: the offset, and the lines before it
 record IsPassed (bytes rest : List ℕ) (front : List Line) : Type 0 where
   whole : lines_of bytes ≡ front ++ lines_of rest
   room : length rest ≤ length bytes
@@ -220,7 +220,7 @@ told_some : (first : Option Bool) → is_told first ≡ true → first ≡ None 
 told_some None told none = cc
 told_some (Some b) told none = cc
 
--- where nothing is left
+-- at the end of the text
 pub walked_whole : (bytes left : List ℕ) (first : Option Bool) → length left ≡ 0 → is_told first ≡ true → IsWalked bytes left first → IsSplit bytes (length bytes)
 walked_whole bytes left first none told w =
     let all : lines_of bytes ≡ w.front = w.whole ∙ ap (λ (ls : List Line). w.front ++ ls) (no_bytes left none) ∙ append-nil w.front in
@@ -246,11 +246,11 @@ walked_none bytes left first none told w =
     let all : logical_of 1 bytes ≡ w.others ++ logical_from w.number w.begun [] = ap (logical_lines 1) (w.whole ∙ ap (λ (ls : List Line). w.front ++ ls) (no_bytes left none)) ∙ w.lines [] in
     subst (λ (ls : List Logical). All (λ l. says_end l ≡ false) ls) (sym all) (All-append (λ l. says_end l ≡ false) w.others (logical_from w.number w.begun []) w.none_before (logical_last (λ l. says_end l ≡ false) w.number w.begun (ap is_told (sym w.first_is) ∙ told)))
 
--- nothing is left where no lines are
+-- without lines no bytes are left
 pub nothing_left : (left : List ℕ) → lines_of left ≡ [] → length left ≡ 0
 nothing_left left none = ap length (sym (lines_spell left) ∙ ap (flat_map line_bytes) none)
 
--- a line as it was taken
+-- the next line, as the reader splits it off
 pub taken_line : (left rest text : List ℕ) (ended : Bool) → lines_of left ≡ record { text = text; ended = ended } ∷ lines_of rest → length left ≡ length text + (if ended then 1 else 0) + length rest → IsRest left rest → IsTaken left rest (record { text = text; ended = ended })
 taken_line left rest text ended lines size rest_is = record { lines = lines; size = size; rest_is = rest_is }
 

@@ -1,4 +1,4 @@
--- The state of the walk over the lines of a text that looks for `.end`.
+-- The state of the scan for `.end` over the lines of a text.
 use Rattle.std.specs.Prelude.{◌≡◌, ℕ, ◌-◌, ◌≤◌, Bool, false, List, ◌++◌, length, All, Option, None, drop}
 use Rattle.std.specs.List.{flat_map}
 use Rattle.text_core.specs.Lines.{Line, lines_of, line_bytes}
@@ -6,8 +6,8 @@ use Rattle.blif_text.specs.Words.{words_of}
 use Rattle.blif_text.specs.Logical.{Logical, logical_from}
 use Rattle.equiv_run.specs.Split.{first_ends, says_end, logical_lines, or_first}
 
--- The lines so far make logical lines of which none begins with `.end`, and a current one, of whose first word `first`
--- is known. A text after the current one begins a word of its own.
+-- The lines so far make logical lines of which none begins with `.end`, and the current one; `first` is what is
+-- known about its first word. Text after the current logical line begins a new word.
 pub record IsWalked (bytes left : List ℕ) (first : Option Bool) : Type 0 where
   pub front : List Line
   pub whole : lines_of bytes ≡ front ++ lines_of left

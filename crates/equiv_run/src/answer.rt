@@ -1,22 +1,22 @@
-//! The answers to two netlists, and the errors.
+//! The answers to the comparison of two netlists, and the errors.
 ghost use Rattle.std.specs.Prelude.{◌≡◌};
 ghost use Rattle.equiv_run.specs.declared.answer.CompareError.TheVariants.{Memory};
 
 use blif_core::NetError;
 use std::alloc::{AllocError, AllocFailed};
 
-/// How two netlists compare.
+/// The result of comparing two netlists.
 #[derive(Clone, Copy)]
 pub enum Standing {
-    /// They do the same.
+    /// They are equivalent.
     Equal,
     /// They differ.
     Differ,
-    /// It isn't known.
+    /// The budget was spent.
     Undecided,
 }
 
-/// How two netlists compare, and the text that says and shows it.
+/// The result of comparing two netlists, and the text that reports it.
 #[derive(Drop)]
 pub struct Compared {
     pub text: Vec<u8>,
@@ -26,13 +26,13 @@ pub struct Compared {
 /// Why two netlists weren't compared.
 #[derive(Drop)]
 pub enum CompareError {
-    /// There is no line `.end`, after which the second could stand.
+    /// There is no line `.end` after which a second netlist could begin.
     NoSecond,
-    /// The first is refused.
+    /// The first netlist is refused.
     First(NetError),
-    /// The first is read, and the second is refused. Its lines are numbered from 1.
+    /// The first netlist is read, and the second is refused. The second's lines are numbered from 1.
     Second(NetError),
-    /// They have different inputs, outputs, clocks or latches.
+    /// The inputs, outputs, clocks or latches differ.
     DifferentInterface,
     /// Out of memory.
     Memory,

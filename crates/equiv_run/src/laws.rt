@@ -1,12 +1,12 @@
-//! What the definitions come to. Each law is the contract of a function that does nothing.
+//! Laws of the definitions, each as the contract of a function that does nothing.
 ghost use Rattle.std.specs.Prelude.{◌≡◌, ℕ, List};
 ghost use Rattle.net_theory.specs.Document.{Document};
 ghost use Rattle.equiv_run.specs.declared.answer.Standing.{Standing};
 ghost use Rattle.equiv_run.specs.declared.answer.CompareError.{CompareError};
 ghost use Rattle.equiv_run.specs.Pairs.{AreTwo, ShareInterface, IsAnswer, HasPairFault};
 
-/// Two texts have an answer or a fault and never both, and one fault at most; two netlists of one interface have
-/// none.
+/// A text has an answer or a fault, never both, and at most one fault. Two netlists of one interface have no
+/// fault.
 pub fn pairs_have_an_answer_or_a_fault()
     ensures apart { (budget : ℕ) (bytes text : List ℕ) (standing : Standing) (e : CompareError) → IsAnswer budget bytes text standing → HasPairFault bytes e → ⊥ }
     ensures one { (bytes : List ℕ) (a b : CompareError) → HasPairFault bytes a → HasPairFault bytes b → a ≡ b }

@@ -1,10 +1,12 @@
 //! Equivalence of two BLIF netlists that stand one after the other in one text: where the first ends, how they
-//! compare, and the text of the answer. It stands on `blif_core` for reading and on `equiv_core` for the comparison.
+//! compare, and the text of the answer. The crate rests on `blif_core` for reading and on `equiv_core` for the
+//! comparison.
 //!
-//! The theorem is that of `compare_texts`: `equal` is answered only of two netlists that do the same, with lines
-//! that refute the miter of their nets; `differ` only with bits of the sources under which an output or a next state
-//! differs, and it is the first that does; `undecided` only with lines that have spent the budget. What isn't two
-//! netlists of one interface is refused by its first fault, and nothing else is but out of memory.
+//! The theorem is that of `compare_texts`: `equal` is answered only for equivalent netlists, with lines that
+//! refute the miter of their nets; `differ` only with values of the sources under which an output or a next state
+//! differs, and it is the first that does; `undecided` only with lines that have spent the budget. A text that
+//! isn't two netlists of one interface is refused with its first fault. Nothing else is refused, but if memory
+//! runs out.
 //!
 //! ```text
 //! let compared = compare_texts::<Cdcl>(alloc, b".inputs a\n..\n.end\n.inputs a\n..\n.end\n", 100000)?;
@@ -12,7 +14,7 @@
 //! ```
 //!
 //! - `specs/Split.antt`: where the first text ends. `specs/Pairs.antt`: the answers and refusals of two texts.
-//! - `specs/PairLaws.antt`: two texts have an answer or one fault at most.
+//! - `specs/PairLaws.antt`: a text has an answer or at most one fault.
 #![tactic(auto)]
 
 mod answer;

@@ -1,4 +1,4 @@
-//! Two netlists read, and compared.
+//! Reads two netlists and compares them.
 ghost use Rattle.std.specs.Prelude.{◌≡◌, ◌≤◌, ◌<◌, ◌^◌, length, None, Err, IfOk, IfErr};
 ghost use Rattle.sat_solve.specs.Budgets.{most_budget};
 ghost use Rattle.net_theory.specs.Circuit.{IsProper};
@@ -93,13 +93,14 @@ fn compare_circuits<S: Solver>(
     }
 }
 
-/// Decides with the solver `S` whether two BLIF netlists do the same that stand one after the other in at most
-/// 33,554,432 bytes, the first up to the first line `.end`. The budget is 1 to 10,000,000 `conflicts`: for each pair of
-/// signals or sink that is given up its limit counts, and then the clauses that the last search learns.
+/// Decides with the solver `S` whether two BLIF netlists are equivalent that stand one after the other in at most
+/// 33,554,432 bytes (32 MiB). The first ends with the first line `.end`. The budget is 1 to 10,000,000
+/// `conflicts`: a pair of signals or a sink that is given up counts with its conflict limit, and in the last
+/// search each learnt clause counts.
 ///
-/// A text that isn't two netlists is refused by what comes first: no second, the first fault of the first, the first
-/// fault of the second, whose lines are numbered from 1, different interfaces. Two netlists of one interface are
-/// refused only out of memory. `NoSecond` is answered before any memory is taken.
+/// A text that isn't two netlists is refused with its first fault: no second netlist, the first fault of the
+/// first, the first fault of the second, whose lines are numbered from 1, or different interfaces. Two netlists of
+/// one interface are refused only if memory runs out. `NoSecond` is answered before any memory is allocated.
 pub fn compare_texts<S: Solver>(
     alloc: Global,
     bytes: &[u8],

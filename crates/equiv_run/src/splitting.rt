@@ -1,5 +1,5 @@
-//! Where the first of two texts ends. The walk keeps no more than whether the first word of the current logical line
-//! is `.end`: a line that goes on ends with a blank, so a word never spans two lines.
+//! Where the first of two texts ends. The scan over the lines keeps only whether the first word of the current
+//! logical line is `.end`: a continued line ends with a blank, so a word never spans two lines.
 ghost use Rattle.std.specs.Prelude.{◌≡◌, ◌≤◌, length, IfSome, IfNone};
 ghost use Rattle.blif_text.specs.Words.{words_of};
 ghost use Rattle.equiv_run.specs.Split.{first_ends, is_told, or_first, split_of, IsSplit, HasNoEnd};
@@ -8,7 +8,7 @@ use blif_text::next_word;
 use net_text::{content_of, without_last};
 use text_core::next_line;
 
-/// Whether the first word of a text is `.end`; None where it has no word.
+/// Whether the first word of a text is `.end`; None if it has no word.
 #[tactic(auto, using(crate::specs::WalkLaws::first_word))]
 fn first_word(text: &[u8]) -> Option<bool>
     ensures { result ≡ first_ends (words_of text.now) }
@@ -37,8 +37,8 @@ fn tells(first: Option<bool>) -> bool
     }
 }
 
-/// The length of a BLIF text up to the end of its first logical line whose first word is `.end`: there the first of
-/// two texts ends. None where there is no such line.
+/// The length of a BLIF text up to the end of its first logical line whose first word is `.end`, where the first
+/// of two texts ends. None if there is no such line.
 pub fn split(bytes: &[u8]) -> Option<usize>
     ensures exact { result ≡ split_of bytes.now }
     ensures place { IfSome result (IsSplit bytes.now) }

@@ -6,7 +6,7 @@ use log_core::{Log, write_log};
 use net_core::{Latch, Name};
 use std::alloc::{AllocError, Global};
 
-/// A word, the lines of a log, and `done`.
+/// The keyword `word` with its LF, the lines of a log, and `done`.
 #[tactic(auto, unfolding(crate::specs::Texts::log_text))]
 pub(crate) fn logged_text_of(alloc: Global, word: &[u8], log: &Log) -> Result<Vec<u8>, AllocError>
     ensures { IfOk result (λ text. text.items ≡ logged_text word.now log.now) }
@@ -64,7 +64,7 @@ fn push_sink(
     text.extend_from_slice(latch.output.get())
 }
 
-/// The answer that two netlists differ at `sink`, counted from 1, under the values `bits` of the sources.
+/// The answer that two netlists differ at `sink`, counted from 1, under the values `at` of the sources.
 #[tactic(auto, unfolding(crate::specs::Texts::differ_text))]
 pub(crate) fn differ_text(
     alloc: Global,

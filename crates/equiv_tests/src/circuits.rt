@@ -1,5 +1,5 @@
-//! The miter of two circuits, clause by clause, and how two circuits compare. The clauses and answers are made by
-//! hand from the description of the miter.
+//! The miter of two circuits, clause by clause, and the comparison of two circuits. The expected clauses and
+//! answers were derived by hand from the definition of the miter.
 ghost use Rattle.std.specs.Prelude.{IsTrue, IfSome};
 ghost use Rattle.net_theory.specs.Circuit.{IsProper};
 ghost use Rattle.equiv_theory.specs.Difference.{HaveSameInterface};
@@ -18,7 +18,7 @@ fn is_small(circuit: &Circuit) -> bool
     circuit.net.sources() < 100 && circuit.net.sinks().len() < 100
 }
 
-/// The circuit of a short text, where it has few sources and sinks.
+/// The circuit of a short text, if it has few sources and sinks.
 fn circuit(alloc: Global, text: &[u8]) -> Option<Circuit>
     ensures proper { IfSome result IsProper }
     ensures small { IfSome result (λ c. IsSmall c.net) }
@@ -64,18 +64,18 @@ fn has_clauses(cnf: &Cnf, wanted: &[&[i32]]) -> bool {
     true
 }
 
-/// What is wanted of two circuits.
+/// The expected result for two circuits.
 #[derive(Clone, Copy)]
 enum Wanted {
     Equal,
     Undecided,
     Differ(u32, &'static [bool]),
     DifferentInterface,
-    /// One interface, and a miter: the number of its variables, and its clauses.
+    /// The circuits have one interface, and this miter: the number of its variables, and its clauses.
     Miter(u32, &'static [&'static [i32]]),
 }
 
-/// Whether an answer is the one that is wanted; any is where the miter is.
+/// Whether an answer is the expected one. If the miter is expected, any answer is.
 fn meets(answer: &Equiv, wanted: Wanted) -> bool {
     match (answer, wanted) {
         (Equiv::Equal(_), Wanted::Equal) => true,
@@ -88,7 +88,7 @@ fn meets(answer: &Equiv, wanted: Wanted) -> bool {
     }
 }
 
-/// Whether a refusal is the one that is wanted.
+/// Whether a refusal is the expected one.
 fn is_refused(error: EquivError, wanted: Wanted) -> bool {
     match (error, wanted) {
         (EquivError::DifferentInterface, Wanted::DifferentInterface) => true,
@@ -96,7 +96,7 @@ fn is_refused(error: EquivError, wanted: Wanted) -> bool {
     }
 }
 
-/// Whether two circuits of one interface have the miter that is wanted, if one is.
+/// Whether two circuits of one interface have the expected miter, if one is expected.
 fn is_mitered(alloc: Global, first: &Circuit, second: &Circuit, wanted: Wanted) -> bool
     requires first { IsProper first.now }
     requires second { IsProper second.now }
@@ -112,7 +112,7 @@ fn is_mitered(alloc: Global, first: &Circuit, second: &Circuit, wanted: Wanted) 
     }
 }
 
-/// Whether two circuits compare as is wanted, and have the miter that is.
+/// Whether two circuits compare as expected, and have the expected miter.
 fn compare(alloc: Global, first: &Circuit, second: &Circuit, budget: u32, wanted: Wanted) -> bool
     requires first { IsProper first.now }
     requires second { IsProper second.now }
@@ -128,7 +128,7 @@ fn compare(alloc: Global, first: &Circuit, second: &Circuit, budget: u32, wanted
     }
 }
 
-/// Whether two short netlists compare as is wanted.
+/// Whether two short netlists compare as expected.
 fn are_compared(alloc: Global, first: &[u8], second: &[u8], budget: u32, wanted: Wanted) -> bool {
     let Some(one) = circuit(alloc, first) else {
         return false;
@@ -139,7 +139,7 @@ fn are_compared(alloc: Global, first: &[u8], second: &[u8], budget: u32, wanted:
     }
 }
 
-/// Two netlists, the budget, and what is wanted of their circuits.
+/// Two netlists, the budget, and the expected result.
 const COMPARED: &[(&[u8], &[u8], u32, Wanted)] = &[
     // miters: AND of two sources beside the constant 0
     (
@@ -188,7 +188,7 @@ const COMPARED: &[(&[u8], &[u8], u32, Wanted)] = &[
         100,
         Wanted::Differ(1, &[true, true]),
     ),
-    // the second output, and after the outputs a next state
+    // the second output, and a next state, which comes after the outputs
     (
         b".inputs a\n.outputs a y\n.names y\n.end\n",
         b".inputs a\n.outputs a y\n.names a y\n1 1\n.end\n",
@@ -201,14 +201,14 @@ const COMPARED: &[(&[u8], &[u8], u32, Wanted)] = &[
         100,
         Wanted::Differ(2, &[true, false]),
     ),
-    // a AND b by NOR of complements, whose names within don't matter
+    // a AND b by NOR of complements, whose internal names don't matter
     (
         b".inputs a b\n.outputs y\n.names a b y\n11 1\n.end\n",
         b".inputs a b\n.outputs y\n.names a p\n0 1\n.names b q\n0 1\n.names p q y\n00 1\n.end\n",
         100,
         Wanted::Equal,
     ),
-    // the names of latches' inputs are no part of the interface
+    // the names of latch inputs aren't part of the interface
     (
         b".latch d q\n.names q d\n0 1\n.end\n",
         b".latch e q\n.names q e\n0 1\n.end\n",
@@ -234,7 +234,7 @@ const COMPARED: &[(&[u8], &[u8], u32, Wanted)] = &[
         100,
         Wanted::DifferentInterface,
     ),
-    // latches: their order, their number, how and by what one is controlled, a first value
+    // latches: their order, their number, the kind and the name of the control, an initial value
     (
         b".latch p p\n.latch q q\n.end\n",
         b".latch q q\n.latch p p\n.end\n",
@@ -265,21 +265,21 @@ const COMPARED: &[(&[u8], &[u8], u32, Wanted)] = &[
         100,
         Wanted::DifferentInterface,
     ),
-    // XOR of four as a tree and as a row, whose equal points take few conflicts
+    // XOR of four inputs as a tree and as a row, whose internal equivalences take few conflicts
     (
         b".inputs a b c d\n.outputs y\n.names a b p\n10 1\n01 1\n.names c d q\n10 1\n01 1\n.names p q y\n10 1\n01 1\n.end\n",
         b".inputs a b c d\n.outputs y\n.names a b p\n10 1\n01 1\n.names p c q\n10 1\n01 1\n.names q d y\n10 1\n01 1\n.end\n",
         10,
         Wanted::Equal,
     ),
-    // XOR of six in two orders without equal points, on a budget that is spent
+    // XOR of six inputs in two orders without internal equivalences, on a budget that is spent
     (
         b".inputs a b c d e f\n.outputs y\n.names a b p\n10 1\n01 1\n.names p c q\n10 1\n01 1\n.names q d r\n10 1\n01 1\n.names r e s\n10 1\n01 1\n.names s f y\n10 1\n01 1\n.end\n",
         b".inputs a b c d e f\n.outputs y\n.names f b p\n10 1\n01 1\n.names p d q\n10 1\n01 1\n.names q a r\n10 1\n01 1\n.names r e s\n10 1\n01 1\n.names s c y\n10 1\n01 1\n.end\n",
         1,
         Wanted::Undecided,
     ),
-    // a point that is the complement of one of the other netlist, and one that is constant
+    // a node that is the complement of one of the other netlist, and one that is constant
     (
         b".inputs a b c\n.outputs y\n.names a b p\n11 1\n.names p c y\n01 1\n10 1\n.end\n",
         b".inputs a b c\n.outputs y\n.names a b p\n0- 1\n-0 1\n.names a r\n0 1\n.names a r q\n11 1\n\

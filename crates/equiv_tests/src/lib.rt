@@ -1,5 +1,5 @@
-//! Tests of the crates that compare netlists: where two texts part, what is told of two netlists and of the miter
-//! of two nets, and what is refused.
+//! Tests of the crates that compare netlists: where the first of two texts ends, the answers for two netlists and
+//! the miter of two nets, and the refusals.
 #![tactic(auto)]
 
 #[cfg(test)]

@@ -1,11 +1,11 @@
-//! Two netlists in one text: where they part, the three answers, and what is refused. The expected answers are
+//! Two netlists in one text: where the first ends, the three answers, and the refusals. The expected answers were
 //! read off the netlists by hand.
 
 use cdcl_core::Cdcl;
 use equiv_run::{CompareError, NetError, compare_texts, split};
 use std::alloc::Global;
 
-/// What is wanted of two netlists.
+/// The expected result for two netlists.
 #[derive(Clone, Copy)]
 enum Wanted {
     /// This text.
@@ -19,7 +19,7 @@ enum Wanted {
     DifferentInterface,
 }
 
-/// A fault's name, with the line that it tells, of those that are wanted.
+/// The name of a fault, with its line number if the fault has one, of the expected ones.
 fn fault(error: &NetError) -> &'static [u8] {
     match error {
         NetError::NotSupported(6, word) => model_or_not(word.get()),
@@ -39,7 +39,7 @@ fn model_or_not(word: &[u8]) -> &'static [u8] {
     b"NotSupported 6"
 }
 
-/// Whether a text is the one that is wanted.
+/// Whether a text is the expected one.
 fn is_answer(text: &[u8], wanted: Wanted) -> bool {
     match wanted {
         Wanted::Text(whole) => text == whole,
@@ -48,7 +48,7 @@ fn is_answer(text: &[u8], wanted: Wanted) -> bool {
     }
 }
 
-/// Whether a refusal is the one that is wanted.
+/// Whether a refusal is the expected one.
 fn is_refusal(error: &CompareError, wanted: Wanted) -> bool {
     match (error, wanted) {
         (CompareError::NoSecond, Wanted::NoSecond) => true,
@@ -59,7 +59,7 @@ fn is_refusal(error: &CompareError, wanted: Wanted) -> bool {
     }
 }
 
-/// Whether of two netlists, on a budget of `conflicts`, is told what is wanted.
+/// Whether two netlists compare as expected, on a budget of `conflicts`.
 fn is_told(alloc: Global, bytes: &[u8], conflicts: u32, wanted: Wanted) -> bool {
     if bytes.len() > 100_000 || conflicts == 0 || conflicts > 10_000_000 {
         return false;
@@ -70,9 +70,9 @@ fn is_told(alloc: Global, bytes: &[u8], conflicts: u32, wanted: Wanted) -> bool 
     }
 }
 
-/// Texts, budgets, and what is wanted.
+/// Texts, budgets, and the expected results.
 const TOLD: &[(&[u8], u32, Wanted)] = &[
-    // netlists differ at the first sink that does
+    // netlists differ at the first sink that differs
     (
         b".model p\n.inputs a b\n.outputs y\n.names a b y\n11 1\n.end\n.model q\n.inputs a b\n.outputs y\n.names y\n.end\n",
         1000,
@@ -96,14 +96,13 @@ const TOLD: &[(&[u8], u32, Wanted)] = &[
         1000,
         Wanted::Text(b"differ latch q\nat 1\n"),
     ),
-    // equal and undecided netlists are told with a log
-    // XOR of four as a tree and as a row
+    // equal and undecided netlists are answered with a log XOR of four inputs as a tree and as a row
     (
         b".inputs a b c d\n.outputs y\n.names a b p\n10 1\n01 1\n.names c d q\n10 1\n01 1\n.names p q y\n10 1\n01 1\n.end\n.inputs a b c d\n.outputs y\n.names a b p\n10 1\n01 1\n.names p c q\n10 1\n01 1\n.names q d y\n10 1\n01 1\n.end\n",
         1000,
         Wanted::Log(b"equal\n"),
     ),
-    // XOR of six in two orders
+    // XOR of six inputs in two orders
     (
         b".inputs a b c d e f\n.outputs y\n.names a b p\n10 1\n01 1\n.names p c q\n10 1\n01 1\n.names q d r\n10 1\n01 1\n.names r e s\n10 1\n01 1\n.names s f y\n10 1\n01 1\n.end\n.inputs a b c d e f\n.outputs y\n.names f b p\n10 1\n01 1\n.names p d q\n10 1\n01 1\n.names q a r\n10 1\n01 1\n.names r e s\n10 1\n01 1\n.names s c y\n10 1\n01 1\n.end\n",
         1,
@@ -112,7 +111,7 @@ const TOLD: &[(&[u8], u32, Wanted)] = &[
     // no sink at all, and a second without a line
     (b".end\n.end\n", 1, Wanted::Log(b"equal\n")),
     (b".end", 1, Wanted::Log(b"equal\n")),
-    // lines between that say nothing, line ends of two bytes, and a second without its end
+    // lines between the netlists without effect, line ends of two bytes, and a second netlist without its `.end`
     (
         b".inputs a\r\n.outputs a\r\n.end\r\n\r\n# between\r\n.inputs a\r\n.outputs a",
         1,
@@ -127,7 +126,7 @@ const TOLD: &[(&[u8], u32, Wanted)] = &[
         1000,
         Wanted::Log(b"equal\n"),
     ),
-    // a line that goes on, an output that is an input, a latch, rows of value 0, two outputs on one gate
+    // a continued line, an output that is an input, a latch, rows of value 0, two outputs on one gate
     (
         b".model m\n.inputs a b \\\nclk\n.outputs a y z\n.latch d q re clk 2\n.names a b w\n00 0\n\
             .names w q d\n11 1\n.names d y\n1 1\n.names d z\n1 1\n.end\n\
@@ -150,7 +149,7 @@ const TOLD: &[(&[u8], u32, Wanted)] = &[
         1000,
         Wanted::DifferentInterface,
     ),
-    // without the first `.end` all is the first document
+    // without the first `.end` everything is the first document
     (
         b".model p\n.inputs a b\n.outputs y\n.names a b y\n11 1\n.model q\n.inputs a b\n.outputs y\n.names y\n.end\n",
         1000,
@@ -174,13 +173,13 @@ const TOLD: &[(&[u8], u32, Wanted)] = &[
         1000,
         Wanted::Second(b"Undriven"),
     ),
-    // the first's fault is told before the second's
+    // the fault of the first is reported before that of the second
     (
         b".inputs\nx y\n.end\nx\n.end\n",
         1000,
         Wanted::First(b"Syntax 2"),
     ),
-    // what stands between belongs to the second
+    // what stands between the netlists belongs to the second
     (
         b".inputs\n.end\nx\n.inputs\n.end\n",
         1000,
@@ -191,13 +190,13 @@ const TOLD: &[(&[u8], u32, Wanted)] = &[
         1000,
         Wanted::Second(b"Syntax 3"),
     ),
-    // after the `.end` of the second nothing may follow
+    // nothing may follow after the `.end` of the second
     (
         b".inputs\n.end\n.inputs\n.end\nx\n",
         1000,
         Wanted::Second(b"Syntax 3"),
     ),
-    // the latches have different first values
+    // the latches have different initial values
     (
         b".latch d q 0\n.names d\n.end\n.latch d q 1\n.names d\n.end\n",
         1000,
@@ -212,11 +211,11 @@ fn netlists_are_compared(rt: HostRuntime) {
     }
 }
 
-/// Texts, and where they part.
+/// Texts, and where the first ends.
 const PARTED: &[(&[u8], Option<usize>)] = &[
     (b".model a\n.end # a\n.model b\n", Some(18)),
     (b".inputs .end\n .end\nx", Some(19)),
-    // a line that goes on has one first word
+    // a continued line has one first word
     (b".inputs \\\n.end\n\\\n.end\n", Some(22)),
     (b".end", Some(4)),
     (b".end \\\n", Some(7)),

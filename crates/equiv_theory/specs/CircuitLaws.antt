@@ -45,11 +45,11 @@ values_same first second given sinks never =
     same_bits (sink_values first given) (sink_values second given) (first_long ∙ sinks ∙ sym (second_long))
     (λ i low. same_or_other (sink_bit first given i) (sink_bit second given i) (λ apart. never (given, i, record { below = omega (arith, low, first_long); differ = apart })))
 
--- Where the miter of two nets is unsatisfiable, their sinks have the same values under every assignment.
+-- If the miter of two nets is unsatisfiable, their sinks have the same values under every assignment.
 pub refuted_values : (first second : Net) → AreComparable first second → (IsSatisfiable (miter first second) → ⊥) → (given : ℕ → Bool) → sink_values first given ≡ sink_values second given
 refuted_values first second are none given = values_same first second given are.sinks (λ differ. none (miter_complete first second are differ))
 
--- Where the miter of two circuits of one interface is unsatisfiable, they are equivalent.
+-- If the miter of two circuits of one interface is unsatisfiable, the circuits are equivalent.
 pub refuted_alike : (c k : Circuit) → IsProper c → IsProper k → HaveSameInterface c k → (IsSatisfiable (miter c.net k.net) → ⊥) → AreAlike c k
 refuted_alike c k of_c of_k same none =
     let are : AreComparable c.net k.net = comparable c k of_c of_k same in

@@ -1,26 +1,25 @@
--- Differences between nets (counterexamples), and which circuits can be compared.
+-- Counterexamples to the equivalence of nets, and which circuits can be compared.
 use Rattle.std.specs.Prelude.{◌≡◌, ◌≢◌, ℕ, ◌-◌, ◌<◌, ◌≤◌, Bool, false, List, length, slice_index_or}
 use Rattle.net_theory.specs.Net.{Net, IsNet, bit_of, sink_values}
 use Rattle.net_theory.specs.Circuit.{Circuit}
 
--- the value of the sink at index i, where the sources have the bits `given`
+-- the value of the sink at index i under the assignment `given` of the sources
 abbrev pub sink_bit : Net → (ℕ → Bool) → ℕ → Bool
 sink_bit n given i = slice_index_or (sink_values n given) i false
 
--- Nets that can be compared have as many sources and as many sinks.
+-- Nets that can be compared: equally many sources and equally many sinks.
 pub record AreComparable (first second : Net) : Type 0 where
   pub first_net : IsNet first
   pub second_net : IsNet second
   pub sources : first.sources ≡ second.sources
   pub sinks : length first.sinks ≡ length second.sinks
 
--- The sink at index i has different values in the two nets, where the sources have the bits
--- `given`.
+-- Under the assignment `given` of the sources the sink at index i has different values in the two nets.
 pub record DifferAt (first second : Net) (given : ℕ → Bool) (i : ℕ) : Type 0 where
   pub below : i < length first.sinks
   pub differ : sink_bit first given i ≢ sink_bit second given i
 
--- And it is the first such sink.
+-- It is the first sink with different values.
 pub record DifferFirstAt (first second : Net) (given : ℕ → Bool) (i : ℕ) : Type 0 where
   pub here : DifferAt first second given i
   pub least : (j : ℕ) → j < i → sink_bit first given j ≡ sink_bit second given j

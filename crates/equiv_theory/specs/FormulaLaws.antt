@@ -19,7 +19,7 @@ use Rattle.net_theory.specs.ValueLaws.{below_later}
 use Rattle.equiv_theory.specs.Miter.{variable_at, first_variable, second_variable, first_difference, variables, signal_is, gate_row, gate_rows, gates_rows, sink_row, sink_rows, sinks_rows, some_row, miter_rows, miter}
 use Rattle.equiv_theory.specs.Difference.{AreComparable}
 
--- ---- variables of places
+-- ---- variables of nodes
 
 pub variable_at-source : (sources before p : ℕ) → p ≤ sources → variable_at sources before p ≡ p
 unfolding variable_at
@@ -29,7 +29,7 @@ pub variable_at-gate : (sources before p : ℕ) → sources < p → variable_at 
 unfolding variable_at
 variable_at-gate sources before p high = rw (lt-leb p sources high) refl
 
--- the places from 1 on and below a bound have variables from 1 to `vars`
+-- the nodes from 1 on and below a bound have variables from 1 to `vars`
 abbrev pub VariablesWithin : ℕ → (ℕ → ℕ) → ℕ → Type 0
 VariablesWithin vars var bound = (p : ℕ) → 1 ≤ p → p < bound → (1 ≤ var p) × (var p ≤ vars)
 
@@ -112,7 +112,7 @@ pub some_row_of : (vars d count : ℕ) → 1 ≤ d → d + count ≤ vars + 1 �
 unfolding some_row
 some_row_of vars d count some room = are_of-map vars (λ x. Var x true) (range_with_len d count) (λ x c. let within = range_inside d count x c in (omega (arith, within.0), omega (arith, within.1)))
 
--- the variables of the two nets' places are the miter's
+-- the variables of the two nets' nodes are variables of the miter
 pub first_within : (first second : Net) → VariablesWithin (variables first second) (first_variable first) (end_of first)
 first_within first second = variables_within (variables first second) first.sources 0 (end_of first) (omega arith)
 

@@ -1,6 +1,5 @@
--- The clauses of all gates of a net, and those of all sinks: they are true exactly where the
--- variables of the places have the places' values, and those of sinks are true only where the
--- values differ.
+-- The clauses of all gates of a net are true exactly if the variables of the nodes have the nodes' values. The
+-- clauses of all sinks are true only if the two values of a sink differ wherever its variable is true.
 use Rattle.std.proofs.Common.{◌≡◌, ◌≢◌, ℕ, zero, suc, ◌+◌, ◌≤◌, ◌<◌, Bool, true, List, [], ◌∷◌, Some, length, slice_get, refl, sym, ap, ◌∙◌, subst, arith, add-zero, ⊎_elim}
 use Rattle.std.proofs.lemmas.Bool.{cases_eq}
 use Rattle.chain_theory.specs.Value.{extended}
@@ -15,7 +14,7 @@ use Rattle.equiv_theory.specs.RowLaws.{are_true, true_both, both_true, none_true
 
 -- ---- gates
 
--- `bits` has each gate's operator's value at its place
+-- at each gate's node `bits` has the value of the gate's operator
 abbrev pub GatesHold : (ℕ → Bool) → ℕ → List Gate → Type 0
 GatesHold bits place gs = (i : ℕ) (g : Gate) → slice_get gs i ≡ Some g → bits (place + i) ≡ gate_value bits g
 
@@ -45,7 +44,7 @@ gates_made v var place (g ∷ gs) hold =
     (gate_made v var place g (hold_first (seen_by v var) place g gs hold))
     (gates_made v var (place + 1) gs (hold_later (seen_by v var) place g gs hold))
 
--- Such bits are the values that the gates give.
+-- Such bits are the values of the gates.
 pub determined : (bits : ℕ → Bool) (place : ℕ) (gs : List Gate) → ((i : ℕ) (h : Gate) → slice_get gs i ≡ Some h → IsGateAt (place + i) h) → GatesHold bits place gs → (p : ℕ) → p < place + length gs → values_after bits place gs p ≡ bits p
 unfolding values_after
 determined bits place [] are hold p low = refl
@@ -59,14 +58,13 @@ determined bits place (g ∷ gs) are hold p low =
     values_after-same (extended bits place (gate_value bits g)) bits (place + 1) gs later agree p (omega arith)
     ∙ determined bits (place + 1) gs later (hold_later bits place g gs hold) p (omega arith)
 
--- So the values of a net's places are the bits of their variables, where the net's clauses are
--- true.
+-- So if the net's clauses are true, the variables of its nodes have the nodes' values.
 pub values_true : (n : Net) (given bits : ℕ → Bool) → IsNet n → ((p : ℕ) → p ≤ n.sources → bits p ≡ given p) → GatesHold bits (n.sources + 1) n.gates → (p : ℕ) → p < end_of n → value n given p ≡ bits p
 values_true n given bits is agree hold p low =
     values_after-same given bits (n.sources + 1) n.gates is.gates.each (λ q l. sym (agree q (omega arith))) p low
     ∙ determined bits (n.sources + 1) n.gates is.gates.each hold p low
 
--- Conversely the values of a net's places have each gate's operator's value at its place.
+-- Conversely the values of a net's nodes satisfy each gate.
 pub values_hold : (n : Net) (given bits : ℕ → Bool) → IsNet n → ((p : ℕ) → p < end_of n → bits p ≡ value n given p) → GatesHold bits (n.sources + 1) n.gates
 values_hold n given bits is agree i g at =
     let there : IsGateAt (n.sources + 1 + i) g = is.gates.each i g at in
@@ -95,7 +93,7 @@ sinks_true v var other d (x ∷ us) (y ∷ ws) all (suc i) u w at at' is =
     let e : (d + 1) + i ≡ d + suc i = omega arith in
     sinks_true v var other (d + 1) us ws both.1 i u w at at' (ap v e ∙ is)
 
--- where the variable of a sink is true, its two signals differ
+-- the variable of each sink is true exactly if its two signals differ
 abbrev pub SinksTell : Assignment → (ℕ → Bool) → (ℕ → Bool) → ℕ → List Sig → List Sig → Type 0
 SinksTell v f g d us ws = (i : ℕ) (u w : Sig) → slice_get us i ≡ Some u → slice_get ws i ≡ Some w → v (d + i) ≡ is_other (sig_value f u) (sig_value g w)
 

@@ -1,6 +1,6 @@
--- The miter of two nets (Brand, "Verification of large synthesized designs", 1993): a formula (the
--- Tseitin encoding of both nets) that asks for an assignment of the sources under which some sink
--- has two different values.
+-- The miter of two nets (Brand, "Verification of large synthesized designs", 1993): a formula, the Tseitin
+-- encoding of both nets, that asks for an assignment of the sources under which some sink has two different
+-- values.
 use Rattle.std.specs.Prelude.{ℕ, ◌+◌, nat_le, if◌then◌else◌, Bool, true, false, not, List, [], ◌∷◌, ◌++◌, length, map}
 use Rattle.std.specs.List.{flat_map, range_with_len}
 use Rattle.chain_theory.specs.Operator.{apply}
@@ -15,10 +15,9 @@ use Rattle.net_theory.specs.Net.{Net}
 
 -- ---- variables
 
--- The variable of a place of one of the nets: a source has its own number, so that the nets share
--- the sources; the gates come after them, and after the `before` gates of the other net.
--- Example: with two sources and three gates before, places 1, 2 and 3 have the variables 1, 2 and
--- 6.
+-- The variable of a node of one of the nets. A source has its own number, so the nets share the sources. The gates
+-- come after them, and after the `before` gates of the other net.
+-- Example: with two sources and three gates before, the nodes 1, 2 and 3 have the variables 1, 2 and 6.
 unfoldable pub variable_at : ℕ → ℕ → ℕ → ℕ
 variable_at sources before place = if nat_le place sources then place else place + before
 
@@ -29,8 +28,7 @@ first_variable first place = variable_at first.sources 0 place
 abbrev pub second_variable : Net → Net → ℕ → ℕ
 second_variable first second place = variable_at second.sources (length first.gates) place
 
--- the variable of the first sink, which says that the nets differ there; those of the other sinks
--- follow
+-- the variable of the first sink, true only if the nets differ there; those of the other sinks follow
 abbrev pub first_difference : Net → Net → ℕ
 first_difference first second = first.sources + length first.gates + length second.gates + 1
 
@@ -39,26 +37,25 @@ variables first second = first.sources + length first.gates + length second.gate
 
 -- ---- clauses, as they are listed
 
--- the literal that a signal has the bit `bit`
+-- the literal that is true exactly if a signal has the value `bit`
 abbrev pub signal_is : (ℕ → ℕ) → Sig → Bool → Raw
 signal_is var Zero bit = Fixed (not bit)
 signal_is var One bit = Fixed bit
 signal_is var (Place p) bit = Var (var p) bit
 
--- where the operands of the gate at `place` have the bits a and b, the gate has its operator's
--- value
+-- if the operands of the gate at node `place` have the values a and b, the gate has its operator's value
 unfoldable pub gate_row : (ℕ → ℕ) → ℕ → Gate → Bool → Bool → List Raw
 gate_row var place g a b = signal_is var g.a (not a) ∷ signal_is var g.b (not b) ∷ Var (var place) (apply g.op a b) ∷ []
 
 abbrev pub gate_rows : (ℕ → ℕ) → ℕ → Gate → List (List Raw)
 gate_rows var place g = gate_row var place g false false ∷ gate_row var place g false true ∷ gate_row var place g true false ∷ gate_row var place g true true ∷ []
 
--- the gates in order, the first at `place`
+-- the gates in order, the first at node `place`
 unfoldable pub gates_rows : (ℕ → ℕ) → ℕ → List Gate → List (List Raw)
 gates_rows var place [] = []
 gates_rows var place (g ∷ gs) = gate_rows var place g ++ gates_rows var (place + 1) gs
 
--- where the variable d of a sink is true, its two signals aren't both 1 and aren't both 0
+-- if the variable d of a sink is true, its two signals don't both have the value `not bit`
 unfoldable pub sink_row : (ℕ → ℕ) → (ℕ → ℕ) → ℕ → Sig → Sig → Bool → List Raw
 sink_row var other d u w bit = Var d false ∷ signal_is var u bit ∷ signal_is other w bit ∷ []
 
@@ -75,7 +72,8 @@ sinks_rows var other d (u ∷ us) (w ∷ ws) = sink_rows var other d u w ++ sink
 unfoldable pub some_row : ℕ → ℕ → List Raw
 some_row d count = map (λ x. Var x true) (range_with_len d count)
 
--- The gates of the first net, those of the second, the sinks, and that some sink differs.
+-- The clauses of the first net's gates, of the second net's gates, of the sinks, and the clause that some sink
+-- differs.
 unfoldable pub miter_rows : Net → Net → List (List Raw)
 miter_rows first second =
     gates_rows (first_variable first) (first.sources + 1) first.gates
@@ -83,10 +81,9 @@ miter_rows first second =
     ++ (sinks_rows (first_variable first) (second_variable first second) (first_difference first second) first.sinks second.sinks
     ++ (some_row (first_difference first second) (length first.sinks) ∷ [])))
 
--- The miter, each of its clauses as it is written: false literals are left out, and a clause with a
--- true literal is not written.
--- Example: of AND and of the constant 0 on two sources, which both have one sink, it is the formula
--- of the variables 1 to 4 with the clauses 1 2 -3, 1 -2 -3, -1 2 -3, -1 -2 3 and -4 3 and 4. It is
--- satisfied by 1 1 1 1.
+-- The miter: its clauses as they are written, where false literals are left out and clauses with a true literal
+-- are dropped.
+-- Example: for AND and for the constant 0 on two sources, each with one sink, it is the formula over the variables
+-- 1 to 4 with the clauses 1 2 -3, 1 -2 -3, -1 2 -3, -1 -2 3, -4 3, and 4. The assignment 1 1 1 1 satisfies it.
 unfoldable pub miter : Net → Net → Formula
 miter first second = record { vars = variables first second; clauses = flat_map written (miter_rows first second) }

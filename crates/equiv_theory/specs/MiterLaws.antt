@@ -1,5 +1,4 @@
--- The miter is satisfiable exactly where some assignment of the sources gives some sink two
--- different values.
+-- The miter is satisfiable exactly if some assignment of the sources gives some sink two different values.
 use Rattle.std.proofs.Common.{◌≡◌, ◌≢◌, ℕ, ◌+◌, ◌-◌, ◌≤◌, ◌<◌, Bool, true, false, [], length, slice_get, Some, refl, sym, ap, ◌∙◌, arith, ⊎_elim}
 use Rattle.std.specs.Prelude.{nat_lt, if◌then◌else◌, slice_index_or}
 use Rattle.std.specs.List.{flat_map, range_with_len}
@@ -56,7 +55,7 @@ some_told v d count is =
     let e : d + (found.element - d) ≡ found.element = omega (arith, inside.0) in
     record { at = found.element - d; below = omega (arith, inside.0, inside.1); is = ap v e ∙ sym (var_true v found.element) ∙ found.passes }
 
--- the four parts of the miter are true
+-- all four parts of the miter are true
 record AreParts (v : Assignment) (first second : Net) : Type 0 where
   ones : are_true v (gates_rows (first_variable first) (first.sources + 1) first.gates) ≡ true
   twos : are_true v (gates_rows (second_variable first second) (second.sources + 1) second.gates) ≡ true
@@ -87,13 +86,12 @@ unfolding miter
 true_miter v first second are parts =
     satisfied_holds v (record { vars = variables first second; clauses = flat_map written (miter_rows first second) }) (written_true v (miter_rows first second) (miter_positive first second are) ∙ made_of v first second parts)
 
--- a sink's value from the variables
+-- the value of a sink, from the variables
 seen_sink : (n : Net) (given bits : ℕ → Bool) (i : ℕ) (u : Sig) → IsNet n → ((p : ℕ) → p < end_of n → value n given p ≡ bits p) → slice_get n.sinks i ≡ Some u → sink_bit n given i ≡ sig_value bits u
 seen_sink n given bits i u is agree at =
     sink_bit_is n given i u at ∙ sig_value-same (value n given) bits u (end_of n) (all_at (IsSigBelow (end_of n)) n.sinks i u is.sinks at) agree
 
--- Where an assignment satisfies the miter, the nets differ at some sink under its bits of the
--- sources.
+-- If an assignment satisfies the miter, the nets differ at some sink under its values of the sources.
 pub satisfied_differ : (first second : Net) (v : Assignment) → AreComparable first second → Satisfies v (miter first second) → (i : ℕ) × DifferAt first second v i
 satisfied_differ first second v are satisfied =
     let parts = miter_true v first second are satisfied in
@@ -109,7 +107,7 @@ satisfied_differ first second v are satisfied =
 
 -- ---- a difference gives a model
 
--- the values of the places of both nets, and where sinks differ
+-- the values of the nodes of both nets, and which sinks differ
 unfoldable pub assigned : Net → Net → (ℕ → Bool) → Assignment
 assigned first second given x =
     if nat_lt x (end_of first) then value first given x else (if nat_lt x (first_difference first second) then value second given (x - length first.gates) else is_other (sink_bit first given (x - first_difference first second)) (sink_bit second given (x - first_difference first second)))
@@ -155,7 +153,7 @@ other_true true false d = refl
 other_true false true d = refl
 other_true false false d = absurd (d refl)
 
--- Where the nets differ, the values of their places satisfy the miter.
+-- If the nets differ, the values of their nodes satisfy the miter.
 pub differ_satisfied : (first second : Net) (given : ℕ → Bool) (i : ℕ) → AreComparable first second → DifferAt first second given i → Satisfies (assigned first second given) (miter first second)
 unfolding some_row
 differ_satisfied first second given i are at = true_miter v first second are record {

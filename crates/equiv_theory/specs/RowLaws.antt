@@ -1,5 +1,4 @@
--- Listed clauses that are true together, and what the clauses of a gate and of a sink mean for
--- bits.
+-- Lists of clauses that are all true, and what the clauses of a gate and of a sink mean for values.
 use Rattle.std.proofs.Common.{◌≡◌, ◌≢◌, ◌⊎◌, ℕ, Bool, true, false, not, ◌&&◌, ◌||◌, if◌then◌else◌, List, [], ◌∷◌, ◌++◌, Contains, refl, sym, ap, ◌∙◌, inl, inr, ⊎_elim}
 use Rattle.std.specs.List.{list_all, flat_map}
 use Rattle.std.proofs.lemmas.Bool.{and_from, and_parts, or_left, or_right}
@@ -18,11 +17,11 @@ use Rattle.equiv_theory.specs.Miter.{signal_is, gate_row, gate_rows, sink_row, s
 
 -- ---- listed clauses
 
--- each listed clause is true
+-- all listed clauses are true
 unfoldable pub are_true : Assignment → List (List Raw) → Bool
 are_true v rows = list_all (raws_bit v) rows
 
--- the clauses that are written are true exactly where the listed ones are
+-- the written clauses are true exactly if the listed ones are
 pub written_true : (v : Assignment) (rows : List (List Raw)) → ((row : List Raw) → Contains rows row → ArePositive row) → holds v (flat_map written rows) ≡ are_true v rows
 unfolding are_true holds
 written_true v [] positive = refl
@@ -77,7 +76,7 @@ which true false = inr refl
 which false true = inr refl
 which false false = inl refl
 
--- the bits of places in an assignment, by the variables of the places
+-- the values of nodes in an assignment, through the variables of the nodes
 abbrev pub seen_by : Assignment → (ℕ → ℕ) → ℕ → Bool
 seen_by v var place = v (var place)
 
@@ -130,7 +129,7 @@ four_rows v var place g all a b =
       choose true false p q r s = r
       choose true true p q r s = s
 
--- The clauses of a gate are true exactly where its variable has its operator's value.
+-- The clauses of a gate are true exactly if its variable has its operator's value.
 pub gate_true : (v : Assignment) (var : ℕ → ℕ) (place : ℕ) (g : Gate) → are_true v (gate_rows var place g) ≡ true → v (var place) ≡ gate_value (seen_by v var) g
 gate_true v var place g all =
     let x : Bool = sig_value (seen_by v var) g.a in
@@ -177,8 +176,8 @@ pair_made true false true false is = refl
 pair_made true false false bit is = absurd cc
 pair_made false x y bit is = refl
 
--- Where the clauses and the variable of a sink are true the two signals differ; and the clauses are
--- true where the variable is true only if they do.
+-- If the clauses and the variable of a sink are true, the two signals differ; and the clauses are true if the
+-- variable is true exactly when they differ.
 pub sink_true : (v : Assignment) (var other : ℕ → ℕ) (d : ℕ) (u w : Sig) → are_true v (sink_rows var other d u w) ≡ true → v d ≡ true → sig_value (seen_by v var) u ≢ sig_value (seen_by v other) w
 sink_true v var other d u w all is =
     let one = true_first v (sink_row var other d u w false) (sink_row var other d u w true ∷ []) all in

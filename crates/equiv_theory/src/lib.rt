@@ -1,13 +1,12 @@
-//! Combinational equivalence of two netlists as a question to a solver. Two nets on the same
-//! sources give a formula, the miter (Brand, "Verification of large synthesized designs", 1993),
-//! which the values of their places satisfy exactly where some sink has two different values. So a
-//! refutation shows that the nets are equivalent, and a model is a counterexample.
+//! Combinational equivalence of two netlists as a question to a SAT solver. Two nets on the same sources give a
+//! formula, the miter (Brand, "Verification of large synthesized designs", 1993). The values of their nodes
+//! satisfy it exactly if some sink has two different values. So a refutation shows that the nets are equivalent,
+//! and a model is a counterexample.
 //!
-//! It stands on `clause_core` for clauses as they are listed and written, and on `net_theory` for
-//! nets.
+//! The crate rests on `clause_core` for clauses as they are listed and written, and on `net_theory` for nets.
 //!
-//! - `specs/Miter.antt`: the variables and clauses. `specs/Difference.antt`: where nets differ, and
-//!   which circuits can be compared.
+//! - `specs/Miter.antt`: the variables and clauses. `specs/Difference.antt`: counterexamples, and which circuits
+//!   can be compared.
 //! - `specs/MiterLaws.antt`, on `RowLaws`, `GateLaws` and `FormulaLaws`: what the formula means.
 //!   `specs/CircuitLaws.antt`: what that means for circuits.
 #![tactic(auto)]

@@ -1,4 +1,4 @@
--- Operators that gates may have in a net's stead.
+-- The operators that the gates of a candidate may have.
 use Rattle.std.specs.Prelude.{◌≡◌, true, List, All, ◌⊎◌}
 use Rattle.chain_theory.specs.Operator.{Basis}
 use Rattle.net_theory.specs.declared.data.Gate.{Gate}

@@ -1,4 +1,4 @@
--- A candidate whose sinks have the net's values can stand in the net's place.
+-- A candidate whose sinks have the net's values can replace the net.
 use Rattle.std.specs.Prelude.{◌≡◌, ℕ, ◌≤◌, Bool, true, List, ◌∷◌, length, slice_get, Some, ◌⊎◌, refl}
 use Rattle.std.proofs.Common.{arith, sym, ◌∙◌, subst, ap}
 use Rattle.std.proofs.lemmas.List.Elements.{All-cons}
@@ -55,11 +55,11 @@ allowed_more basis n g rest left split here all = subst (AreAllowed basis n) (sy
 pub small_with : (n c m : Net) → AreSmall n c → m.gates ≡ c.gates → AreSmall n m
 small_with n c m small same = record { small = small.small; first_gates = small.first_gates; second_gates = omega (arith, small.second_gates, ap (length {A = Gate}) same) }
 
--- what is left of a candidate that was fit, has the net's sinks and their values
+-- the cleaned-up candidate, if it fits and has the net's sinks with their values
 pub judged_is : (basis : Basis) (n c m k : Net) → IsFit basis n c → IsNet m → m.gates ≡ c.gates → HasSinksOf n m → ((given : ℕ → Bool) → sink_values n given ≡ sink_values m given) → IsPruned m k → IsPruned n k
 judged_is basis n c m k fit net gates has same pruned = judged_pruned n m k net has (omega (arith, fit.fewer, ap (length {A = Gate}) gates)) same pruned
 
--- what is left of a candidate after both cleanups has no more gates than the candidate
+-- after both cleanups the candidate has no more gates than before
 pub judged_lean : (n c m k : Net) → IsPruned n c → m.gates ≡ c.gates → IsPruned m k → length k.gates ≤ length n.gates
 judged_lean n c m k first gates second = omega (arith, first.answers.fewer, ap (length {A = Gate}) gates, second.answers.fewer)
 

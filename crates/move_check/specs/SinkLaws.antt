@@ -1,4 +1,4 @@
--- Sinks that are mapped.
+-- Mapped sinks.
 use Rattle.std.specs.Prelude.{◌≡◌, ℕ, ◌≤◌, ◌<◌, List, length, map, slice_get, slice_set, slice_index_or, Some, All, refl}
 use Rattle.std.proofs.Common.{arith, sym, ◌∙◌, ◌≢◌, ap, subst, ⊎_elim, get_or, set}
 use Rattle.std.proofs.lemmas.Bool.{cases_eq, cases_lt, le-leb, lt-leb}

@@ -1,17 +1,17 @@
--- Sinks of one net as signals of another: each place of the first has a signal of the second in its stead.
+-- The sinks of one net as signals of another one: each node of the first is replaced by a signal of the second.
 use Rattle.std.specs.Prelude.{◌≡◌, ℕ, ◌≤◌, length, slice_get, slice_index_or, Some, ◌<◌}
 use Rattle.net_theory.specs.declared.data.Sig.{Sig}
 use Rattle.net_theory.specs.declared.data.Sig.TheVariants.{Place}
 use Rattle.net_theory.specs.Net.{Net, IsSigBelow}
 use Rattle.net_theory.specs.Answers.{IsStill}
 
--- sources stay, and each place has a signal below `end`
+-- sources stay, and each node has a signal below `end`
 pub record IsSinkMap (sources end : ℕ) (places : ℕ → Sig) : Type 0 where
   pub stay : (p : ℕ) → p ≤ sources → places p ≡ Place p
   pub below : (p : ℕ) → 1 ≤ p → IsSigBelow end (places p)
 
--- The second net has as many sources and sinks as the first; where a sink of the first is a constant or a source, it is
--- the same in the second, and equal sinks are equal.
+-- The second net has equally many sources and sinks; a sink of the first that is a constant or a source is the
+-- same in the second, and equal sinks stay equal.
 pub record HasSinksOf (n m : Net) : Type 0 where
   pub sources : m.sources ≡ n.sources
   pub sink_count : length m.sinks ≡ length n.sinks

@@ -1,4 +1,4 @@
-//! What may be said of a candidate.
+//! Checks a candidate before it replaces a net.
 ghost use Rattle.std.specs.Prelude.{◌≡◌, ◌≤◌, true, length, IfOk, IfSome};
 ghost use Rattle.sat_solve.specs.Budgets.{most_budget};
 ghost use Rattle.net_theory.specs.Answers.{IsPruned};
@@ -15,9 +15,10 @@ use op_basis::Basis;
 use sat_solve::Solver;
 use std::alloc::{AllocError, Global};
 
-/// The most gates, and the most sources or sinks, of nets that are compared.
+/// The most gates of nets that are compared (`AreSmall`).
 const MOST_GATES: usize = 100_000;
 
+/// The most sources, and the most sinks, of nets that are compared: fewer than 300,000,000 (`IsSmall`).
 const MOST_ENDS: usize = 299_999_999;
 
 /// Whether both nets are small enough for a miter.
@@ -30,7 +31,7 @@ fn are_small(first: &Net, second: &Net) -> bool
         && second.gates().len() <= MOST_GATES
 }
 
-/// Whether a candidate may be compared at all.
+/// Whether a candidate may be compared at all: sources, sinks, gates, operators and sizes fit.
 fn is_fit(net: &Net, candidate: &Net, basis: Basis) -> bool
     ensures { result ≡ true → IsFit (members basis) net.now candidate.now }
 {
@@ -41,9 +42,9 @@ fn is_fit(net: &Net, candidate: &Net, basis: Basis) -> bool
         && has_operators_within(net, candidate, basis)
 }
 
-/// The candidate without its dead gates, where it may take the net's place: it is found to be equivalent with at most
-/// `budget` conflicts, from 1 to 10,000,000, it has no more gates, and operators of the basis or of the net. None
-/// where it may not.
+/// The candidate without its dangling gates, if it may replace the net: it is found to be equivalent within a
+/// budget of `budget` conflicts, from 1 to 10,000,000, it has no more gates than the net, and each operator is of
+/// the basis or of the net. None if it may not.
 #[tactic(auto, using(crate::specs::JudgingLaws::judging))]
 pub fn judged<S: Solver>(
     alloc: Global,
@@ -62,7 +63,7 @@ pub fn judged<S: Solver>(
         return Ok(None);
     }
     let judged = with_sinks_of(alloc, net, lean)?;
-    // bring the type invariants into the proof
+    // for the prover: bring in the type invariants
     let _gates = net.gates();
     let _sinks = judged.sinks();
     let same = equal_nets::<S>(alloc, net, &judged, budget)?;

@@ -1,4 +1,4 @@
-//! Whether all operators of a candidate may stand there.
+//! Whether all operators of a candidate are allowed: of the basis, or operators that the net has already.
 ghost use Rattle.std.specs.Prelude.{◌≡◌, ◌⊎◌, true};
 ghost use Rattle.op_basis.specs.Basis.{members};
 ghost use Rattle.net_theory.specs.Operators.{HasOperator, HasOperatorsWithin};
@@ -11,7 +11,7 @@ use op_basis::Basis;
 fn has_operator(net: &Net, op: Op) -> bool
     ensures { result ≡ true → HasOperator net.now op }
 {
-    // brings the type invariant into the proof
+    // for the prover: brings in the type invariant
     let _gates = net.gates();
     for gate in net.gates() {
         if gate.op == op {
@@ -21,14 +21,14 @@ fn has_operator(net: &Net, op: Op) -> bool
     false
 }
 
-/// Whether an operator is of the basis, or one of the net's.
+/// Whether an operator is of the basis or of the net.
 fn is_allowed(net: &Net, op: Op, basis: Basis) -> bool
     ensures { result ≡ true → (members basis op ≡ true) ⊎ HasOperator net.now op }
 {
     basis.contains(op) || has_operator(net, op)
 }
 
-/// Whether each gate's operator is of the basis, or one of the net's.
+/// Whether each gate's operator is of the basis or of the net.
 fn are_allowed(net: &Net, gates: &[Gate], basis: Basis) -> bool
     ensures { result ≡ true → AreAllowed (members basis) net.now gates.now }
 {
@@ -42,7 +42,7 @@ fn are_allowed(net: &Net, gates: &[Gate], basis: Basis) -> bool
     true
 }
 
-/// Whether each operator of the candidate is of the basis, or one of the net's.
+/// Whether each operator of the candidate is of the basis or of the net.
 #[tactic(auto, using(crate::specs::JudgingLaws::within))]
 pub(crate) fn has_operators_within(net: &Net, candidate: &Net, basis: Basis) -> bool
     ensures { result ≡ true → HasOperatorsWithin (members basis) net.now candidate.now }

@@ -1,5 +1,5 @@
-//! The sinks of a candidate, so that equal sinks of the net stay equal and trivial ones stay what they are: each is the
-//! signal that the candidate has for one sink at the same place.
+//! The candidate with normalized sinks: equal sinks of the net stay equal, and a sink that is a constant or a
+//! source stays that. Every sink of the net at one node gets one signal, that of the candidate's sink there.
 ghost use Rattle.std.specs.Prelude.{◌≡◌, ℕ, length, vec_len, IfOk};
 ghost use Rattle.net_theory.specs.Net.{IsSigBelow, end_of};
 ghost use Rattle.net_core.specs.Marks.{places_of};
@@ -8,7 +8,7 @@ ghost use Rattle.move_check.specs.Sinks.{IsSinkMap, HasSinksOf};
 use net_core::{Net, Sig, moved_sinks, start_places};
 use std::alloc::{AllocError, Global};
 
-/// Puts the signal of the candidate's sink in the place of the net's, if that is a gate.
+/// Maps the node of a net's sink to the signal of the candidate's sink, if the node is a gate.
 #[tactic(auto, using(crate::specs::SinkLaws::mapping))]
 fn put_sink(sources: u32, places: &mut [Sig], sink: Sig, other: Sig)
     requires within { IsSigBelow (length places.old) sink }
@@ -26,7 +26,7 @@ fn put_sink(sources: u32, places: &mut [Sig], sink: Sig, other: Sig)
     }
 }
 
-/// By the net's places, which signals of the candidate stand in the sinks there.
+/// For each node of the net, the signal of the candidate that replaces it in the sinks.
 #[tactic(auto, using(crate::specs::SinkLaws::mapping))]
 fn sink_map(alloc: Global, net: &Net, candidate: &Net) -> Result<Vec<Sig>, AllocError>
     requires sources { candidate.now.sources ≡ net.now.sources }
@@ -44,7 +44,7 @@ fn sink_map(alloc: Global, net: &Net, candidate: &Net) -> Result<Vec<Sig>, Alloc
     Ok(places)
 }
 
-/// The candidate with sinks as the net has them.
+/// The candidate with its sinks given by that map.
 #[tactic(auto, using(crate::specs::SinkLaws::mapping))]
 pub(crate) fn with_sinks_of(alloc: Global, net: &Net, candidate: Net) -> Result<Net, AllocError>
     requires sources { candidate.sources ≡ net.now.sources }

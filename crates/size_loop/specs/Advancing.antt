@@ -1,4 +1,4 @@
--- What a step of the search comes to.
+-- The result of one step of the search.
 use Rattle.std.specs.Prelude.{ℕ, ◌+◌, if◌then◌else◌, Option, Some, None}
 use Rattle.chain_theory.specs.Chain.{Chain}
 use Rattle.cert_theory.specs.declared.data.Verdict.{Verdict}
@@ -7,7 +7,7 @@ use Rattle.size_loop.specs.declared.advancing.Advance.{Advance}
 use Rattle.size_loop.specs.declared.advancing.Advance.TheVariants as advances
 use Rattle.size_loop.specs.State.{State}
 
--- the first open size of those before and of one more
+-- the first open size, after one more section
 abbrev pub open_with : Option ℕ → Section → Option ℕ
 open_with (Some low) section = Some low
 open_with None section = if is_open section then Some section.size else None
@@ -16,12 +16,12 @@ open_with None section = if is_open section then Some section.size else None
 abbrev pub behind : State → Section → State
 behind s section = record s { next = s.next + 1; low = open_with s.low section }
 
--- a fact about a section and the search that goes on after it
+-- a property of the section and of the search that goes on after it
 abbrev pub IfSection : Advance → (State → Section → Type 0) → Type 0
 IfSection (advances.Section rest section) P = P rest section
 IfSection (advances.Ended chain verdict) P = Unit {0}
 
--- and about an ending
+-- a property of the end of the search
 abbrev pub IfEnded : Advance → (Option Chain → Verdict → Type 0) → Type 0
 IfEnded (advances.Section rest section) P = Unit {0}
 IfEnded (advances.Ended chain verdict) P = P chain verdict

@@ -1,4 +1,4 @@
--- The logs of parts, one part after the other, and chains found without a formula.
+-- The logs of subproblems, one after the other, and chains found without a formula.
 use Rattle.std.proofs.Common.{◌≡◌, ℕ, ◌≤◌, List, [], ◌∷◌, ◌++◌, length, map, Option, Some, None, refl, ap, ◌∙◌, subst, arith}
 use Rattle.std.proofs.lemmas.Grind.{common_steps}
 use Rattle.std.proofs.lemmas.List.{map-append}
@@ -13,7 +13,7 @@ use Rattle.cert_theory.specs.Bundle.{PartLog, IsPartLog, part_of, IsFound, IsEnd
 use Rattle.size_loop.specs.Thrift.{IsThriftyLog}
 use Rattle.size_loop.specs.Outcomes.{AreLogged, IsWalked, HasSize}
 
--- without parts there are no logs
+-- without subproblems there are no logs
 pub logged_none : (h : Heading) (size : ℕ) → AreLogged h size [] []
 logged_none h size = record { parts_are = refl; ends = All-nil (IsPartLog h size); thrifty = All-nil (IsThriftyLog h size) }
 
@@ -23,7 +23,7 @@ parts_more parts logs part p are same =
     ∙ ap (λ (xs : List Part). xs ++ p.part ∷ []) are
     ∙ ap (λ (x : Part). parts ++ x ∷ []) same
 
--- one more part has its log
+-- one more subproblem with its log
 pub logged_more : (h : Heading) (size : ℕ) (parts : List Part) (logs : List PartLog) (part : Part) (p : PartLog) → AreLogged h size parts logs → p.part ≡ part → IsPartLog h size p → IsThriftyLog h size p → AreLogged h size (parts ++ part ∷ []) (logs ++ p ∷ [])
 logged_more h size parts logs part p are same is thrifty = record {
   parts_are = parts_more parts logs part p are.parts_are same;
@@ -31,16 +31,16 @@ logged_more h size parts logs part p are same is thrifty = record {
   thrifty = All-push (IsThriftyLog h size) logs p are.thrifty thrifty;
 }
 
--- whatever going over few steps comes to is kept
+-- the result of an enumeration is kept
 pub walked_few : (h : Heading) (most : ℕ) (found : Option Chain) → IsAnswer (specification h.spec) (members h.basis) most found → most ≤ h.max → IsWalked h found
 walked_few h most None answer room = tt
 walked_few h most (Some c) short room = record { chain = short.small.chain; size_is = refl; size_to = omega (arith, short.few, room); over = short.over; agrees = short.agrees }
 
--- it is of the size that its steps count to
+-- its size is the number of its steps
 pub walked_found : (h : Heading) (size : ℕ) (c : Chain) → IsFound h (length c.steps) c → length c.steps ≡ size → IsFound h size c
 walked_found h size c is count = subst (λ (n : ℕ). IsFound h n c) count is
 
--- and ends the search where its size comes
+-- and it ends the search at that size
 pub walked_ending : (h : Heading) (next : ℕ) (low : Option ℕ) (found : Option Chain) → IsWalked h found → HasSize next found → IsEnding h next low found (found_at next low)
 walked_ending h next low None is has = absurd has
 walked_ending h next low (Some c) is has = (walked_found h next c is has, refl)

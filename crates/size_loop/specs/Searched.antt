@@ -1,10 +1,10 @@
--- The sections that a search has made so far.
+-- The sections of a search so far.
 use Rattle.std.specs.Prelude.{◌≡◌, ◌+◌, ◌≤◌, List, length}
 use Rattle.cert_theory.specs.Bundle.{Section, AreSections, first_open}
 use Rattle.size_loop.specs.Thrift.{AreThrifty}
 use Rattle.size_loop.specs.State.{State}
 
--- they are those of all sizes below the next one, and their logs are thrifty
+-- the sections of all sizes below the next one, with the bounds on live additions of their logs
 pub record HasSearched (s : State) (sections : List Section) : Type 0 where
   pub are_sections : AreSections s.heading 0 sections
   pub next_is : s.next ≡ length sections

@@ -1,5 +1,5 @@
--- What a caller of `advance` needs: before the first size there is no section, each step adds one, and with an
--- ending they are a certificate.
+-- The laws for callers of `advance`: before the first size there is no section, each step adds one, and with a
+-- trailer they are a certificate.
 use Rattle.std.proofs.Common.{◌≡◌, ℕ, ◌+◌, ◌≤◌, List, [], ◌∷◌, ◌++◌, length, Option, None, refl, subst, sym, arith, zero-add, ◌∙◌}
 use Rattle.std.proofs.lemmas.Grind.{common_steps}
 use Rattle.std.proofs.lemmas.List.Elements.{All-push}
@@ -22,7 +22,7 @@ pub searched_none : (h : Heading) → HasSearched (record { heading = h; next = 
 unfolding AreSections
 searched_none h = record { are_sections = tt; next_is = refl; next_to = omega arith; low_is = refl; thrifty = λ k d inside. absurd (omega (arith, inside)) }
 
--- a section of the next size joins
+-- the section of the next size is appended
 pub searched_more : (s : State) (ss : List Section) (section : Section) → HasSearched s ss → s.next ≤ s.heading.max → IsSection s.heading s.next section → IsThriftySection s.heading section → HasSearched (behind s section) (ss ++ section ∷ [])
 searched_more s ss section searched within is_section is_thrifty =
     record {
@@ -33,7 +33,7 @@ searched_more s ss section searched within is_section is_thrifty =
       thrifty = All-push (IsThriftySection s.heading) ss section searched.thrifty is_thrifty;
     }
 
--- and with an ending they are a valid bundle
+-- with a trailer they are a valid certificate
 pub searched_valid : (s : State) (ss : List Section) (chain : Option Chain) (verdict : Verdict) → IsHeading s.heading → HasSearched s ss → IsEnding s.heading s.next s.low chain verdict → IsValid (record { heading = s.heading; sections = ss; chain = chain; verdict = verdict })
 searched_valid s ss chain verdict is_heading searched ending =
     record {

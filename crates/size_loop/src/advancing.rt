@@ -1,6 +1,6 @@
-//! A search as a value that goes on a size at a time. The contract of a step is enough to build a certificate of
-//! all steps (`specs/SearchedLaws.antt`), whether the caller keeps the sections or writes and drops them. Before the
-//! first size it goes over chains of few steps once, and keeps the least one for when its size comes.
+//! The search as a value that advances size by size. The contract of one step is enough to build a certificate
+//! from all steps (`specs/SearchedLaws.antt`), whether the caller keeps the sections or writes and drops them.
+//! Before the first size it enumerates chains of few steps once, and keeps the shortest one until its size comes.
 ghost use Rattle.std.specs.Prelude.{◌≡◌, ◌≤◌, None, IsTrue, IfOk};
 ghost use Rattle.settings.specs.Synth.{IsInRange};
 ghost use Rattle.cert_theory.specs.Bundle.{IsHeading, IsSection, IsEnding};
@@ -19,13 +19,13 @@ use std::alloc::{AllocError, Global};
 use std::marker::Model;
 use tt_core::Spec;
 
-/// A search under way: the sizes below `next` are done, and `low` is the first open one among them.
+/// A search in progress: the sizes below `next` are done, and `low` is the first open one among them.
 #[derive(Drop)]
 pub struct Search {
     heading: Heading,
     next: u32,
     low: Option<u32>,
-    // the chain that going over few steps came to, from the first size on
+    // the chain found by enumeration before the first size, if any
     walked: Option<Chain>,
 }
 
@@ -40,15 +40,15 @@ impl Model for Search {
     ghost invariant = { λ s. IsState (record { heading = s.heading; next = s.next; low = s.low }) × IsWalked s.heading s.walked };
 }
 
-/// What the next size comes to.
+/// The result of the next size.
 #[derive(Drop)]
 pub enum Advance {
-    /// No chain was found: the logs of its parts, and the search that goes on after it.
+    /// No chain was found: the logs of its subproblems, and the search that goes on after it.
     Section {
         rest: Search,
         section: Section,
     },
-    /// The search ends, with a chain of that size or, after the greatest size, without one.
+    /// The search ends with a chain of that size or, after the greatest size, without one.
     Ended {
         chain: Option<Chain>,
         verdict: Verdict,
@@ -57,9 +57,9 @@ pub enum Advance {
 
 #[tactic(auto, using(crate::specs::OutcomeLaws::walking))]
 impl Search {
-    /// A search for a chain over the basis that implements the tables, from size 0 on. `max` is the greatest
-    /// size, and `budget` is how many clauses at least the solver learns before it leaves a formula open. The
-    /// basis isn't empty, and `max` and `budget` are in the ranges of `settings`.
+    /// A search for a chain over the basis that implements the tables, from size 0 on. `max` is the greatest size.
+    /// A formula is left open once the solver has learnt at least `budget` clauses of it. The basis isn't empty,
+    /// and `max` and `budget` are in the ranges of `settings`.
     pub fn new(spec: Spec, basis: Basis, method: Method, max: u32, budget: u32) -> Search
         requires asked { IsInRange (record { basis = basis; method = method; max = max; conflicts = budget }) }
         ensures heading { result.heading ≡ record { spec = spec; basis = basis; method = method; conflicts = budget; max = max } }
@@ -67,7 +67,7 @@ impl Search {
         ensures low { result.low ≡ None }
         ensures whole { IsState result }
     {
-        // bring the type invariants into the proof
+        // for the prover: bring in the type invariants
         let _inputs = spec.n();
         let _operators = basis.get();
         Search {
@@ -129,7 +129,7 @@ impl Search {
     }
 }
 
-/// The chain of few steps: before the first size steps are gone over, and afterwards it is there.
+/// The chain of few steps: enumerated before the first size, and kept afterwards.
 fn walked_from(
     alloc: Global,
     heading: &Heading,
@@ -146,7 +146,7 @@ fn walked_from(
     walked(alloc, heading, heading.max)
 }
 
-/// Whether there is a chain, and it has `size` steps.
+/// Whether there is a chain and it has `size` steps.
 fn has_size(chain: &Option<Chain>, size: u32) -> bool
     ensures { IsTrue result → HasSize size chain.now }
 {
@@ -156,8 +156,8 @@ fn has_size(chain: &Option<Chain>, size: u32) -> bool
     }
 }
 
-/// The first open size up to that of `section`, where `low` is the first open one before it. A size is open where
-/// one of its parts is.
+/// The first open size up to that of `section`, where `low` is the first open one before it. A size is open if one
+/// of its subproblems is.
 fn first_open(low: Option<u32>, section: &Section) -> Option<u32>
     ensures { result ≡ open_with low section.now }
 {

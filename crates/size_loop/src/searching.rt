@@ -1,5 +1,5 @@
 //! The whole search: it advances until it ends, and keeps the sections. Its invariant `HasSearched` says that the
-//! sections so far are those of all sizes below the next one; with the ending they are a valid certificate.
+//! sections so far are those of all sizes below the next one; with the trailer they are a valid certificate.
 ghost use Rattle.std.specs.Prelude.{◌≡◌, IfOk};
 ghost use Rattle.settings.specs.Synth.{IsInRange};
 ghost use Rattle.cert_theory.specs.Bundle.{IsValid};
@@ -13,9 +13,9 @@ use settings::Method;
 use std::alloc::{AllocError, Global};
 use tt_core::Spec;
 
-/// Searches the sizes from 0 to `max` for a chain of the fewest steps over the basis that implements the tables,
-/// with the solver `S`, and answers the certificate of what it found. A part of a size is left open where the
-/// solver has learnt `budget` clauses or more. The basis isn't empty, and `max` and `budget` are in the ranges of
+/// Searches the sizes from 0 to `max` with the solver `S` for a chain of the fewest steps over the basis that
+/// implements the tables, and returns the certificate of what it found. A subproblem is left open once the solver
+/// has learnt at least `budget` clauses. The basis isn't empty, and `max` and `budget` are in the ranges of
 /// `settings`.
 #[tactic(auto, using(crate::specs::SearchedLaws::steps))]
 pub fn search<S: Solver>(

@@ -1,6 +1,6 @@
-//! A size, part by part in their order. The first part with a chain ends it; where none has one, there is a log
-//! for each part, in the same order. A chain of a few steps over few inputs is found by going over steps
-//! (`step_core`), in less time than the formula of its size takes to be written.
+//! One size, subproblem by subproblem in order. The first one with a chain ends it; if none has one, there is a
+//! log for each, in the same order. A chain of few steps over few inputs is found by enumeration (`step_core`), in
+//! less time than it takes to write the formula of its size.
 ghost use Rattle.std.specs.Prelude.{◌≤◌, IfOk, IfSome};
 ghost use Rattle.cert_theory.specs.Bundle.{IsHeading, IsFound};
 ghost use Rattle.cert_theory.specs.Coding.{coding_of};
@@ -19,21 +19,21 @@ use settings::Method;
 use std::alloc::{AllocError, Global};
 use step_core::few_steps;
 
-/// The most inputs of tables whose chains are looked for by going over steps.
+/// The most inputs of tables whose chains are enumerated.
 const WALKED_INPUTS: u32 = 4;
-/// The most steps that are gone over.
+/// The most steps that are enumerated.
 const WALKED_STEPS: u32 = 3;
 
-/// What a size comes to.
+/// The result of a size.
 #[derive(Drop)]
 pub enum SizeOutcome {
     /// A chain of the size.
     Found(Chain),
-    /// The logs of its parts, in which no chain was found.
+    /// The logs of its subproblems; none has a chain.
     Logged(Section),
 }
 
-/// A chain of the fewest steps, where these are at most `most` and few, and going over the sizes comes to it.
+/// A shortest chain, if it has at most `most` steps and the enumeration covers it.
 #[tactic(auto, using(crate::specs::OutcomeLaws::walking))]
 pub(crate) fn walked(
     alloc: Global,
@@ -50,7 +50,7 @@ pub(crate) fn walked(
     few_steps(alloc, &heading.spec, heading.basis, WALKED_STEPS.min(most))
 }
 
-/// A chain of `size` steps, where that is the least number and going over the sizes comes to it.
+/// A chain of `size` steps, if that is the least number and the enumeration covers it.
 #[tactic(auto, using(crate::specs::OutcomeLaws::walking))]
 fn walked_chain(alloc: Global, heading: &Heading, size: u32) -> Result<Option<Chain>, AllocError>
     requires heading { IsHeading heading.now }
@@ -66,8 +66,8 @@ fn walked_chain(alloc: Global, heading: &Heading, size: u32) -> Result<Option<Ch
     }
 }
 
-/// Searches `size`: by going over steps where they are few, then its parts in their order with the solver `S`, by the
-/// encoding of the heading's method.
+/// Searches `size`: by enumeration if it has few steps, else its subproblems in order with the solver `S`, by the
+/// encoding of the header's method.
 pub fn search_size<S: Solver>(
     alloc: Global,
     heading: &Heading,
@@ -83,7 +83,7 @@ pub fn search_size<S: Solver>(
     search_formulas::<S>(alloc, heading, size)
 }
 
-/// Searches the parts of `size` in their order with the solver `S`, by the encoding of the heading's method.
+/// Searches the subproblems of `size` in order with the solver `S`, by the encoding of the header's method.
 #[tactic(auto, unfolding(cert_theory::specs::Coding::coding_of))]
 pub(crate) fn search_formulas<S: Solver>(
     alloc: Global,
@@ -102,7 +102,7 @@ pub(crate) fn search_formulas<S: Solver>(
     }
 }
 
-/// Searches the parts of `size` by any encoding that writes the formulas of the heading's method.
+/// Searches the subproblems of `size` by any encoding that writes the formulas of the header's method.
 fn search_parts<S: Solver, E: Encoding>(
     alloc: Global,
     encoding: &E,

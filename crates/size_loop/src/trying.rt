@@ -1,5 +1,5 @@
-//! A part of a size: its formula is encoded and given to the solver. An assignment is decoded to a chain; a log
-//! shows what the solver promises of it, over the same formula.
+//! One subproblem of a size: its formula is encoded and given to the solver. An assignment is decoded to a chain;
+//! the log has what the solver promises of it, over the same formula.
 ghost use Rattle.std.specs.Prelude.{◌≤◌, IfOk, Contains};
 ghost use Rattle.cert_theory.specs.Bundle.{IsHeading};
 ghost use Rattle.cert_theory.specs.Coding.{coding_of};
@@ -13,16 +13,16 @@ use enc_theory::Part;
 use sat_solve::{Solved, Solver};
 use std::alloc::{AllocError, Global};
 
-/// What a part of a size comes to.
+/// The result of a subproblem.
 #[derive(Drop)]
 pub enum PartOutcome {
     /// A chain of the size.
     Found(Chain),
-    /// A log that refutes the part, or has spent the budget on it.
+    /// A log that refutes the subproblem, or has spent the budget on it.
     Logged(PartLog),
 }
 
-/// Searches the part `part` of `size` with the solver `S`.
+/// Searches the subproblem `part` of `size` with the solver `S`.
 pub fn try_part<S: Solver, E: Encoding>(
     alloc: Global,
     encoding: &E,
@@ -40,7 +40,7 @@ pub fn try_part<S: Solver, E: Encoding>(
     match S::solve(alloc, &cnf, heading.conflicts)? {
         Solved::Sat(assign) => {
             let chain = encoding.decode(alloc, &heading.spec, heading.basis, size, &part, &assign)?;
-            // brings the type invariant into the proof
+            // for the prover: brings in the type invariant
             let _steps = chain.steps();
             Ok(PartOutcome::Found(chain))
         }

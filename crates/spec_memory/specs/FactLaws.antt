@@ -1,4 +1,4 @@
--- Facts of keys.
+-- Proved bounds of keys.
 use Rattle.std.proofs.Common.{◌≡◌, ℕ, nat_eq, arith, true, cond, List, [], ◌∷◌, ◌++◌, length, Some, refl, sym, ap, ◌∙◌, subst, inl, inr}
 use Rattle.std.proofs.lemmas.Grind.{common_steps}
 use Rattle.std.proofs.lemmas.Bool.{cases_Bool, cond-true, cond-false}
@@ -30,7 +30,7 @@ parts_same (x ∷ xs) (y ∷ ys) us vs long e =
 abbrev words : ℕ → List ℕ → List ℕ → Words
 words n on care = record { n = n; on = on; care = care }
 
--- a key spells one specification
+-- a key determines the specification
 spelled_once : (v w : Words) → IsSpec v → IsSpec w → spelled v ≡ spelled w → v ≡ w
 spelled_once v w is_v is_w e =
     let long : length v.on ≡ length w.on = omega (arith, ap (λ (zs : List ℕ). length zs) e, length-append (v.n ∷ v.on) v.care, length-append (w.n ∷ w.on) w.care, is_v.together, is_w.together) in
@@ -42,11 +42,11 @@ spelled_once v w is_v is_w e =
 pub known_fact : (basis : Basis) (v : Words) (fewest : ℕ) → IsSpec v → NoneBelow (specification v) basis fewest → IsFact basis (spelled v) fewest
 known_fact basis v fewest is none = λ w spec same. subst (λ (x : Words). NoneBelow (specification x) basis fewest) (spelled_once v w is spec (sym same)) none
 
--- no number is below 0
+-- the bound 0 is always true
 pub nothing_known : (basis : Basis) (key : List ℕ) (fewest : ℕ) → fewest ≡ 0 → IsFact basis key fewest
 nothing_known basis key fewest none = λ w spec same q low has. absurd (omega (arith, low, none))
 
--- ---- the memory
+-- ---- the cache
 
 abbrev pub remembered : ℕ → List (List ℕ × Found) → Remembered
 remembered basis entries = record { basis = basis; entries = entries }
@@ -57,7 +57,7 @@ some_same x y e = cc
 same_key : (a b : List ℕ) → pointwise nat_eq a b ≡ true → a ≡ b
 same_key a b e = (bytes_decides a b).0 e
 
--- each key has what an update gives it
+-- each key has the entry that an update gives it
 abbrev pub Updated : List (List ℕ × Found) → List (List ℕ × Found) → List ℕ → Found → Type 0
 Updated old new key found = (q : List ℕ) → lookup (pointwise nat_eq q) new ≡ cond (pointwise nat_eq key q) (Some found) (lookup (pointwise nat_eq q) old)
 

@@ -1,4 +1,4 @@
-//! Specifications by their words, which are compared and hashed.
+//! The keys of the cache: specifications as lists of words, which are compared and hashed.
 ghost use Rattle.std.specs.Prelude.{◌≡◌, nat_eq, IfOk};
 ghost use Rattle.std.specs.Cmp.Lexicographic.{pointwise};
 ghost use Rattle.std.specs.Cmp.Rules.{comparing, hashing};
@@ -11,7 +11,7 @@ use std::hash::{Hash, Hasher};
 use std::marker::Model;
 use tt_core::Spec;
 
-/// The words of a specification: the number of inputs, and then its outputs' words.
+/// A specification as a list of words: the number of inputs, the outputs' values, and their care sets.
 #[derive(Drop)]
 pub struct Key(Vec<u64>);
 

@@ -1,14 +1,14 @@
-//! A cache of results by specification, over a basis: a lower bound of the steps of a chain that agrees, and a chain.
+//! A cache of search results by specification, over one basis: a lower bound for the number of steps, and a chain.
 //!
-//! The words of `tt_core`'s specifications are the keys. What was noted with a key is found at it until something else is
-//! noted there. The `fewest` of a key is a lower bound, below which no chain over the memory's basis agrees. About its
-//! chains it claims nothing else; whoever takes one has to judge it.
+//! The keys are the words of `tt_core`'s specifications. An entry stays until another one replaces it. The
+//! `fewest` of an entry is a proved lower bound: no chain of fewer steps over the cache's basis implements the
+//! specification. Nothing is claimed about the chain of an entry, so whoever takes one has to check it.
 //!
 //! ```text
-//! let key = Key::of(alloc, &spec)?;
+//! let key = SpecKey::of(alloc, &spec)?;
 //! let found = Found { fewest: 3, chain: None, open: false };
-//! memory.note(key, found)?;    // where no chain of fewer than 3 steps agrees with the specification
-//! memory.fewest(&key);         // 3, and 0 of what it doesn't know
+//! cache.note(key, found)?;    // if no chain of fewer than 3 steps implements the specification
+//! cache.fewest(&key);         // 3; 0 for a specification without an entry
 //! ```
 #![tactic(auto)]
 

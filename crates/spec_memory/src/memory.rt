@@ -1,4 +1,4 @@
-//! The cache: a map from the keys to what was found.
+//! The cache: a hash map from keys to entries.
 ghost use Rattle.std.specs.Prelude.{◌≡◌, ℕ, List, None, OnOk, OnErr};
 ghost use Rattle.std.specs.Option.{option_copied};
 ghost use Rattle.op_basis.specs.Basis.{members};
@@ -11,8 +11,8 @@ use std::alloc::{AllocError, Global};
 use std::collections::HashMap;
 use std::marker::Model;
 
-/// What was found for a specification: a lower bound `fewest` for the number of steps, a chain that
-/// may agree, and whether the search at that number was left open (conflict limit).
+/// An entry: a proved lower bound `fewest` for the number of steps, a chain that may implement the specification,
+/// and whether the search at that number was left open (conflict limit).
 #[derive(Drop)]
 pub struct Found {
     pub fewest: u32,
@@ -20,7 +20,7 @@ pub struct Found {
     pub open: bool,
 }
 
-/// What was found for specifications over a basis. Contracts see the basis and what was noted with each key.
+/// A cache of search results over a basis. Contracts see the basis and the entries.
 #[derive(Drop)]
 pub struct Memory {
     basis: Basis,
@@ -38,7 +38,7 @@ impl Model for Memory {
 }
 
 impl Memory {
-    /// An empty memory for a basis.
+    /// An empty cache for a basis.
     #[tactic(auto, using(crate::specs::FactLaws::remembering))]
     pub fn new(alloc: Global, basis: Basis) -> Memory
         ensures basis { result.basis ≡ basis }
@@ -50,8 +50,8 @@ impl Memory {
         }
     }
 
-    /// A lower bound: no chain of fewer steps over the basis agrees with the specification of `key`. It is the one that was
-    /// noted with the key, or 0.
+    /// A lower bound: no chain of fewer steps over the basis implements the specification of `key`. It is that of
+    /// the entry, or 0 if there is none.
     #[tactic(auto, using(crate::specs::FactLaws::remembering))]
     pub fn fewest(&self, key: &Key) -> u32
         ensures fact { IsFact (members self.now.basis) key.now result }
@@ -63,7 +63,7 @@ impl Memory {
         }
     }
 
-    /// The chain that was noted with the key, if one was.
+    /// The chain of the entry, if it has one.
     #[tactic(auto, using(crate::specs::FactLaws::remembering))]
     pub fn chain(&self, key: &Key) -> Option<&Chain>
         ensures { option_copied result ≡ chain_of (found_at self.now key.now) }
@@ -74,7 +74,7 @@ impl Memory {
         }
     }
 
-    /// Whether a search that was left open was noted with the key. This says nothing about chains.
+    /// Whether the entry says that a search was left open. This says nothing about chains.
     #[tactic(auto, using(crate::specs::FactLaws::remembering))]
     pub fn is_open(&self, key: &Key) -> bool
         ensures { result ≡ open_of (found_at self.now key.now) }
@@ -85,8 +85,8 @@ impl Memory {
         }
     }
 
-    /// Notes what was found for the specification of a key, in place of what was noted before: no chain of fewer than
-    /// `found.fewest` steps agrees.
+    /// Stores an entry for a key, in place of the former one. No chain of fewer than `found.fewest` steps may
+    /// implement the specification.
     #[tactic(auto, using(crate::specs::FactLaws::remembering))]
     pub fn note(&mut self, key: Key, found: Found) -> Result<(), AllocError>
         requires { IsFact (members self.old.basis) key found.fewest }

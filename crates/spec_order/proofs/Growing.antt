@@ -1,4 +1,4 @@
--- Rows and words that grow by a bit.
+-- Rows and words that grow bit by bit.
 use Rattle.std.proofs.Common.{◌≡◌, ℕ, ◌+◌, ◌*◌, ◌^◌, ◌<◌, ◌≤◌, Bool, cond, refl, arith, add-one}
 use Rattle.std.proofs.lemmas.Grind.{common_steps}
 use Rattle.std.proofs.Math.Pow.{pow_mono}
@@ -10,12 +10,12 @@ pub row_none : (bits : ℕ → Bool) → row_of 0 bits ≡ 0
 unfolding row_of
 row_none bits = refl
 
--- one bit more
+-- one more bit
 pub row_more : (bits : ℕ → Bool) (k : ℕ) → row_of (k + 1) bits ≡ 2 * row_of k bits + cond (bits (k + 1)) 1 0
 unfolding row_of
 row_more bits k = rw add-one refl
 
--- there is room for one more
+-- there is room for one more bit
 pub row_small : (bits : ℕ → Bool) (k : ℕ) → k ≤ 6 → row_of k bits < 64
 row_small bits k few = let wide : 2 ^ k ≤ 2 ^ 6 = pow_mono few in omega (arith, row_low bits k)
 

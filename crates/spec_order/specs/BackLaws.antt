@@ -1,4 +1,4 @@
--- Inputs in another order, and back.
+-- Permuting the inputs and undoing it.
 use Rattle.std.proofs.Common.{◌≡◌, ℕ, zero, suc, ◌-◌, ◌^◌, ◌≤◌, ◌<◌, ◌==◌, List, refl, sym, ap, ◌∙◌, subst, arith}
 use Rattle.std.specs.Int.{bit_at}
 use Rattle.std.proofs.lemmas.Nat.Bits.{bit_at-lt, same_from_bits_below}
@@ -17,7 +17,7 @@ same_bit (suc (suc x)) y low_x low_y e = absurd (omega (arith, low_x))
 same_bit zero (suc (suc y)) low_x low_y e = absurd (omega (arith, low_y))
 same_bit (suc zero) (suc (suc y)) low_x low_y e = absurd (omega (arith, low_y))
 
--- rows that give each input the same bit are one row
+-- rows that give each input the same value are equal
 same_row : (n t u : ℕ) → t < 2 ^ n → u < 2 ^ n → ((j : ℕ) → 1 ≤ j → j ≤ n → input n t j ≡ input n u j) → t ≡ u
 same_row n t u low_t low_u same = same_from_bits_below n t u low_t low_u (λ i below.
     let place : n - (n - i) ≡ i = omega (arith, below) in

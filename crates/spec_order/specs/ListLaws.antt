@@ -1,4 +1,4 @@
--- Orders as lists that grow, and chains by their lists.
+-- Permutations of lists of steps, and chains with permuted lists.
 use Rattle.std.proofs.Common.{◌≡◌, ℕ, List, [], ◌∷◌, map, refl, sym, ap, ◌∙◌, subst}
 use Rattle.std.proofs.lemmas.Grind.{common_steps}
 use Rattle.chain_theory.specs.Chain.{Step, Chain}

@@ -1,4 +1,4 @@
--- Inputs in another order.
+-- Orders of inputs.
 use Rattle.std.specs.Prelude.{◌≡◌, ℕ, ◌-◌, ◌^◌, ◌≤◌, ◌<◌, List, length, slice_index, All}
 use Rattle.chain_theory.specs.Operator.{digit}
 use Rattle.chain_theory.specs.Rows.{row_of}
@@ -7,7 +7,7 @@ use Rattle.chain_theory.specs.Specification.{Specification, input}
 abbrev pub IsInput : ℕ → ℕ → Type 0
 IsInput n j = (1 ≤ j) × (j ≤ n)
 
--- Each of n inputs gets the number of an input, the first of the list for input 1.
+-- Each of n inputs gets the number of an input; the first entry is that of input 1.
 -- Example: 2 ∷ 1 ∷ [] exchanges two inputs.
 pub record IsOrder (n : ℕ) (order : List ℕ) : Type 0 where
   pub size : length order ≡ n
@@ -21,21 +21,21 @@ pub record IsPermuting (n : ℕ) (order : List ℕ) : Type 0 where
   pub numbers : IsOrder n order
   pub different : (i j : ℕ) → 1 ≤ i → i < j → j ≤ n → number order i ≡ number order j → ⊥
 
--- An order gives each new number of another one the input back that has it.
--- Example: 2 ∷ 3 ∷ 1 ∷ [] goes back by 3 ∷ 1 ∷ 2 ∷ [].
+-- The inverse of an order: it maps each new number back to the input that has it.
+-- Example: 3 ∷ 1 ∷ 2 ∷ [] is the inverse of 2 ∷ 3 ∷ 1 ∷ [].
 pub record GoesBack (n : ℕ) (order back : List ℕ) : Type 0 where
   pub each : (j : ℕ) → 1 ≤ j → j ≤ n → number back (number order j) ≡ j
 
--- the row that gives input j the bit that row t gives the input of its new number
+-- the row that gives input j the value that row t gives the new number of j
 abbrev pub turned_row : ℕ → List ℕ → ℕ → ℕ
 turned_row n order t = row_of n (λ j. input n t (number order j))
 
--- the word whose digit t is digit turned_row t of a word, of the 2 ^ n rows
+-- the word of 2 ^ n rows whose digit t is digit turned_row t of the given word
 abbrev pub turned_word : ℕ → List ℕ → ℕ → ℕ
 turned_word n order word = row_of (2 ^ n) (λ i. digit word (turned_row n order (2 ^ n - i)))
 
--- r is s with its inputs in another order.
--- Example: with the inputs of 0010 exchanged it is 0100.
+-- r is s with its inputs permuted.
+-- Example: 0010 with its inputs exchanged is 0100.
 pub record IsTurned (s r : Specification) (order : List ℕ) : Type 0 where
   pub inputs : r.inputs ≡ s.inputs
   pub outputs : r.outputs ≡ s.outputs

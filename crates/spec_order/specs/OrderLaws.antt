@@ -1,4 +1,4 @@
--- Chains whose inputs are in another order.
+-- Chains with permuted inputs.
 use Rattle.std.proofs.Common.{◌≡◌, ℕ, zero, suc, ◌+◌, ◌-◌, ◌^◌, ◌≤◌, ◌<◌, Bool, true, List, [], ◌∷◌, length, map, Some, leb, refl, sym, ap, ◌∙◌, arith, subst, ⊎_elim}
 use Rattle.std.specs.Prelude.{slice_get, slice_index_or, if◌then◌else◌, All, option_map}
 use Rattle.std.proofs.lemmas.Bool.{cases_lt, cond-true, cond-false, le-leb, lt-leb}
@@ -24,7 +24,7 @@ use Rattle.spec_order.specs.Order.{IsInput, IsOrder, number, turned_row, IsTurne
 
 -- ---- places
 
--- an input's place by its new number, and each other place as it was
+-- an input gets its new number, and each other place stays
 abbrev pub placed : ℕ → List ℕ → ℕ → ℕ
 placed n order p = if leb p n then number order p else p
 

@@ -1,4 +1,4 @@
--- Orders that are built a number after another: that of ranks is a permutation, and how it goes back.
+-- Orders that are built number by number: the order of the ranks is a permutation, and the inverse undoes it.
 use Rattle.std.proofs.Common.{◌≡◌, ℕ, ◌+◌, ◌-◌, ◌<◌, ◌≤◌, List, [], ◌∷◌, ◌++◌, length, refl, sym, subst, arith, inl, inr}
 use Rattle.std.specs.Prelude.{slice_index}
 use Rattle.std.proofs.lemmas.Grind.{common_steps, get_or_default_zero}
@@ -30,7 +30,7 @@ each_more P xs count x are here = record {
 
 -- ---- the order of ranks
 
--- the number of an index is its rank, counted from 1
+-- the number at an index is its rank, counted from 1
 abbrev pub IsRanked : List ℕ → ℕ → ℕ → Type 0
 IsRanked ws i x = x ≡ rank ws i + 1
 
@@ -48,13 +48,13 @@ ranked_permuting ws order count some same = let are : AreEach (IsRanked ws) orde
       (omega (arith, are.each (i - 1) (omega (arith, from, less, to)), are.each (j - 1) (omega (arith, from, less, to)), same));
 }
 
--- ---- the order that goes back
+-- ---- the inverse order
 
--- the place has a number, if some place has it
+-- this place has the number x, if any place has it
 abbrev pub IsPlaceOf : List ℕ → ℕ → ℕ → Type 0
 IsPlaceOf order x place = (j : ℕ) → 1 ≤ j → j ≤ length order → number order j ≡ x → number order place ≡ x
 
--- an input, which is the place of the number i + 1
+-- an input whose number is i + 1, if there is one
 pub record IsBackOf (order : List ℕ) (i x : ℕ) : Type 0 where
   pub input : IsInput (length order) x
   pub place : IsPlaceOf order (i + 1) x
@@ -65,7 +65,7 @@ back_orders order back count some same = let are : AreEach (IsBackOf order) back
   inputs = λ i d low. subst (IsInput (length order)) (sym (get_or_default_zero back i d low)) (are.each i (omega (arith, low, are.size))).input;
 }
 
--- one place has a number alone
+-- no two places have one number
 only_place : (n : ℕ) (order : List ℕ) (i j : ℕ) → IsPermuting n order → IsInput n i → IsInput n j → number order i ≡ number order j → i ≡ j
 only_place n order i j is first second same = elim (cases_lt i j) [
   | inl less ↦ absurd (is.different i j first.0 less second.1 same)

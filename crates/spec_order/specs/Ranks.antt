@@ -1,4 +1,4 @@
--- The ranks of weights, of which no two are equal.
+-- The ranks of weights, no two of which are equal.
 use Rattle.std.proofs.Common.{◌≡◌, ℕ, zero, suc, ◌+◌, ◌<◌, ◌≤◌, ◌⊎◌, Bool, true, false, ◌||◌, ◌&&◌, ◌==◌, List, length, refl, sym, ap, ◌∙◌, arith, inl, inr, add-one}
 use Rattle.std.specs.Prelude.{nat_lt, slice_index}
 use Rattle.std.proofs.lemmas.Grind.{common_steps}
@@ -6,12 +6,12 @@ use Rattle.std.proofs.lemmas.Bool.{cases_lt, cases_eq, or_cases, or_left, or_rig
 use Rattle.op_basis.specs.Closed.{number}
 use Rattle.chain_laws.specs.Tallies.{tally, tally_all, number_true, number_false}
 
--- the weight of another index comes before that of an index: it is smaller, or it is equal and stands before
+-- the weight at the index `other` sorts before that at `index`: it is smaller, or equal with a smaller index
 unfoldable pub comes_before : List ℕ → ℕ → ℕ → Bool
 comes_before ws index other = nat_lt (slice_index ws other) (slice_index ws index) || (slice_index ws other == slice_index ws index && nat_lt other index)
 
--- how many weights come before that of an index
--- Example: of the weights 7, 3, 7 the ranks are 1, 0, 2.
+-- how many weights sort before that at an index
+-- Example: the ranks of the weights 7, 3, 7 are 1, 0, 2.
 abbrev pub rank : List ℕ → ℕ → ℕ
 rank ws index = tally (comes_before ws index) (length ws)
 
@@ -43,7 +43,7 @@ not_itself ws index = false_from_ne_true (comes_before ws index index) (λ e. el
   | inr both ↦ absurd (omega (arith, both.1))
 ])
 
--- what comes before a weight comes before each weight after it
+-- sorting before is transitive
 still_before : (ws : List ℕ) (i j k : ℕ) → comes_before ws j i ≡ true → comes_before ws i k ≡ true → comes_before ws j k ≡ true
 still_before ws i j k first second = is_before ws j k (joined (before_is ws j i first) (before_is ws i k second))
   where
@@ -53,7 +53,7 @@ still_before ws i j k first second = is_before ws j k (joined (before_is ws j i 
     joined (inr a) (inl b) = inl (omega (arith, a.0, b))
     joined (inr a) (inr b) = inr (omega (arith, a.0, b.0), omega (arith, a.1, b.1))
 
--- of two different indices one comes before the other
+-- of two different indices one sorts before the other
 one_before : (ws : List ℕ) (i j : ℕ) → i < j → (comes_before ws j i ≡ true) ⊎ (comes_before ws i j ≡ true)
 one_before ws i j less = elim (cases_lt (slice_index ws j) (slice_index ws i)) [
   | inl smaller ↦ inr (is_before ws i j (inl smaller))
@@ -71,7 +71,7 @@ one_before ws i j less = elim (cases_lt (slice_index ws j) (slice_index ws i)) [
 
 -- ---- counts
 
--- a test that passes wherever another does, and once more
+-- a test that passes wherever another one does, and at one more index
 tally_strict : (f g : ℕ → Bool) (n i : ℕ) → i < n → f i ≡ false → g i ≡ true → ((k : ℕ) → f k ≡ true → g k ≡ true) → tally f n < tally g n
 unfolding tally
 tally_strict f g zero i low fails passes more = absurd (omega (arith, low))

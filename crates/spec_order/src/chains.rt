@@ -1,4 +1,4 @@
-//! A chain with its inputs in another order.
+//! Chains with permuted inputs.
 ghost use Rattle.std.specs.Prelude.{◌≡◌, map, IfOk};
 ghost use Rattle.chain_core.specs.Steps.{steps_of};
 ghost use Rattle.spec_order.specs.Order.{IsOrder};
@@ -9,7 +9,7 @@ use chain_core::{Chain, Step};
 use chain_theory::Out;
 use std::alloc::{AllocError, Global};
 
-/// The place that stands for a place: of an input that of its new number.
+/// The place after the permutation: an input gets its new number, a step keeps its place.
 #[tactic(auto, using(crate::specs::ListLaws::placing))]
 fn placed(n: u32, order: &[u32], place: u32) -> u32
     ensures { result ≡ placed_of n order.now place }
@@ -86,7 +86,7 @@ fn turned_outs(alloc: Global, n: u32, order: &[u32], outs: &[Out]) -> Result<Vec
     Ok(turned)
 }
 
-/// The chain whose inputs have the numbers of an order.
+/// The chain with its inputs renumbered by an order.
 #[tactic(auto, using(crate::specs::ListLaws::placing))]
 pub fn turned_chain(alloc: Global, chain: &Chain, order: &[u32]) -> Result<Chain, AllocError>
     requires { IsOrder chain.now.n order.now }

@@ -1,15 +1,16 @@
-//! Specifications with their inputs in a normal order, so that those that differ in the order of inputs alone mostly
-//! become one: a canonical form under input permutation (of P-classes), as far as counts of minterms tell inputs apart.
+//! Specifications with their inputs in a normal order, so that those that differ only by an input permutation
+//! mostly become one. It is a canonical form of P-classes, as far as counts of minterms tell the inputs apart.
 //!
-//! It stands on `tt_core` for specifications and on `chain_laws` for chains whose places are renamed. The one law: a
-//! specification has a chain of `q` steps over a basis where it has one of `q` with its inputs in any order. The normal
-//! order is a permutation, and its inverse goes back; which permutation it is is no part of any promise.
+//! The crate rests on `tt_core` for specifications and on `chain_laws` for chains with renamed places. The one
+//! law: if a chain of `q` steps over a basis implements a specification, one of `q` steps implements it with its
+//! inputs in any order. The normal order is a permutation, and its inverse undoes it. No promise says which
+//! permutation it is.
 //!
 //! ```text
 //! let order = normal_order(alloc, &spec)?;
-//! let turned = turned_spec(alloc, &spec, &order)?;  // no chain of fewer steps agrees with one than with the other
+//! let permuted = permuted_spec(alloc, &spec, &order)?;  // both have the same least number of steps
 //! let back = inverse(alloc, &order)?;
-//! turned_chain(alloc, &chain, &back)?;              // of a chain for `turned`, one that may agree with `spec`
+//! permuted_chain(alloc, &chain, &back)?;  // if `chain` implements `permuted`, this implements `spec`
 //! ```
 #![tactic(auto)]
 

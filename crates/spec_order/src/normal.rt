@@ -1,5 +1,5 @@
-//! The normal order of inputs: by counts of rows, their signatures, that don't depend on the numbers of the inputs. It decides how often two
-//! specifications become one, and nothing else.
+//! The normal order of inputs. It sorts them by signatures, counts of rows that don't depend on the numbering of
+//! the inputs. It affects only how often two specifications become one.
 ghost use Rattle.std.specs.Prelude.{◌≡◌, ◌<◌, ◌≤◌, length, IfOk};
 ghost use Rattle.spec_order.specs.Order.{IsInput, IsOrder, IsPermuting, GoesBack};
 ghost use Rattle.spec_order.specs.Ranks.{comes_before as comes_before_of, rank as rank_of};
@@ -9,16 +9,17 @@ use op_basis::input_word;
 use std::alloc::{AllocError, Global};
 use tt_core::{MOST_INPUTS, Spec};
 
-/// The radix of the count of rows with the value 1: a count has at most the 64 rows of a word.
+/// The radix of the third count: a prime above the 64 rows of a word.
 const RADIX: u64 = 67;
 
-/// The radix of the count of specified rows.
+/// The radix of the first count, above every value of the other two together.
 const HIGH_RADIX: u64 = 4099;
 
-/// The radix of outputs, of which the first counts most.
+/// The radix of outputs: the first output counts most. A greater sum wraps around, which affects only the quality
+/// of the order.
 const OUTPUT_RADIX: u64 = 1_000_003;
 
-/// 2^k: how far apart two rows are that differ in one input alone. For the prover by cases, so that it is below 64.
+/// 2^k, the distance of two rows that differ in one input alone. By cases for the prover, so that it is below 64.
 fn step_of(k: u32) -> u32
     ensures { result < 64 }
 {
@@ -32,8 +33,9 @@ fn step_of(k: u32) -> u32
     }
 }
 
-/// What one output, with the values `on` and the specified rows `care`, counts of the input that stands for 2^k: its
-/// specified rows where the input is 1, those with the value 1, and those where the input turns the value.
+/// The signature of the input with weight 2^k in the row number, for one output with the values `on` and the
+/// specified rows `care`. It combines three counts: the specified rows where the input is 1, those of them with
+/// the value 1, and the specified pairs of rows where flipping the input flips the value.
 fn counts(on: u64, care: u64, k: u32) -> u64
     requires { k < 6 }
 {
@@ -48,7 +50,7 @@ fn counts(on: u64, care: u64, k: u32) -> u64
         .wrapping_add(turns)
 }
 
-/// What all outputs count of the input that stands for 2^k.
+/// The signature of the input with weight 2^k over all outputs.
 fn weight(spec: &Spec, k: u32) -> u64
     requires { k < 6 }
 {
@@ -61,7 +63,7 @@ fn weight(spec: &Spec, k: u32) -> u64
     weight
 }
 
-/// The weights of the inputs, the first input's first.
+/// The signatures of the inputs, that of input 1 first.
 fn weights(alloc: Global, spec: &Spec) -> Result<Vec<u64>, AllocError>
     ensures { IfOk result (λ weights. length weights.items ≡ spec.now.n) }
 {
@@ -73,7 +75,7 @@ fn weights(alloc: Global, spec: &Spec) -> Result<Vec<u64>, AllocError>
     Ok(weights)
 }
 
-/// Whether the weight at `other` comes before that at `index`: it is smaller, or it is equal and stands before.
+/// Whether the signature at `other` sorts before that at `index`: it is smaller, or equal with a smaller index.
 #[tactic(auto, unfolding(crate::specs::Ranks::comes_before))]
 fn comes_before(weights: &[u64], index: u32, other: u32) -> bool
     requires index { index < length weights.now }
@@ -85,7 +87,7 @@ fn comes_before(weights: &[u64], index: u32, other: u32) -> bool
     weight < own || (weight == own && other < index)
 }
 
-/// How many weights come before that at `index`.
+/// How many signatures sort before that at `index`.
 #[tactic(auto, using(crate::specs::Ranks::ranking))]
 fn rank(weights: &[u64], index: u32) -> u32
     requires few { length weights.now ≤ 6 }
@@ -100,7 +102,7 @@ fn rank(weights: &[u64], index: u32) -> u32
     rank
 }
 
-/// The numbers that stand for weights: each weight's rank, counted from 1.
+/// The rank of each signature, counted from 1.
 #[tactic(auto, using(crate::specs::Permuting::permuting))]
 fn ranked(alloc: Global, weights: &[u64]) -> Result<Vec<u32>, AllocError>
     requires { length weights.now ≤ 6 }
@@ -113,17 +115,17 @@ fn ranked(alloc: Global, weights: &[u64]) -> Result<Vec<u32>, AllocError>
     Ok(order)
 }
 
-/// The normal order: each input by its new number.
+/// The normal order: the new number of each input.
 pub fn normal_order(alloc: Global, spec: &Spec) -> Result<Vec<u32>, AllocError>
     ensures { IfOk result (λ order. IsPermuting spec.now.n order.items) }
 {
-    // brings the specification's invariant into the proof
+    // for the prover: brings in the specification's invariant
     let _inputs = spec.n();
     let weights = weights(alloc, spec)?;
     Ok(ranked(alloc, &weights)?)
 }
 
-/// Where a number stands in an order, counted from 1; the number itself where it stands nowhere.
+/// The position of a number in an order, counted from 1; the number itself if it isn't in it.
 #[tactic(auto, using(crate::specs::Permuting::permuting))]
 fn place_of(order: &[u32], number: u32) -> u32
     requires few { length order.now ≤ 6 }
@@ -139,7 +141,7 @@ fn place_of(order: &[u32], number: u32) -> u32
     number
 }
 
-/// The order that goes back.
+/// The inverse of an order.
 #[tactic(auto, using(crate::specs::Permuting::permuting))]
 pub fn inverse(alloc: Global, order: &[u32]) -> Result<Vec<u32>, AllocError>
     requires { length order.now ≤ 6 }

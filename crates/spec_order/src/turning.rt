@@ -1,4 +1,4 @@
-//! A specification with its inputs in another order, word by word.
+//! Specifications with permuted inputs, word by word.
 ghost use Rattle.std.specs.Prelude.{◌≡◌, ◌^◌, ◌<◌, ◌≤◌, map, IfOk};
 ghost use Rattle.chain_theory.specs.Operator.{digit as digit_of};
 ghost use Rattle.chain_theory.specs.Specification.{input as input_of};
@@ -8,7 +8,7 @@ ghost use Rattle.spec_order.specs.Order.{IsOrder, turned_row as turned_row_of, t
 use std::alloc::{AllocError, Global};
 use tt_core::Spec;
 
-/// The bit that row `t` gives input `j` of `n`.
+/// The value of input `j` of `n` in row `t`.
 fn input(n: u32, t: u32, j: u32) -> bool
     requires inputs { n ≤ 6 }
     requires input { j ≤ n }
@@ -17,7 +17,7 @@ fn input(n: u32, t: u32, j: u32) -> bool
     (t >> (n - j)) & 1 == 1
 }
 
-/// The row that gives each input the bit that row `t` gives the input of its new number.
+/// The row that gives each input the value that row `t` gives its new number.
 #[tactic(auto, using(crate::proofs::Growing::growing))]
 fn turned_row(n: u32, order: &[u32], t: u32) -> u32
     requires inputs { n ≤ 6 }
@@ -32,7 +32,7 @@ fn turned_row(n: u32, order: &[u32], t: u32) -> u32
     row
 }
 
-/// Digit `t` of a word.
+/// Bit `t` of a word.
 fn digit(word: u64, t: u32) -> bool
     requires { t < 64 }
     ensures { result ≡ digit_of word t }
@@ -40,7 +40,7 @@ fn digit(word: u64, t: u32) -> bool
     (word >> t) & 1 == 1
 }
 
-/// The word whose rows are those of another one, turned.
+/// The word with its rows permuted by an order of the inputs.
 #[tactic(auto, using(crate::proofs::Growing::growing))]
 fn turned_word(n: u32, order: &[u32], word: u64) -> u64
     requires inputs { n ≤ 6 }
@@ -56,7 +56,7 @@ fn turned_word(n: u32, order: &[u32], word: u64) -> u64
     turned
 }
 
-/// Words, each turned.
+/// Each of the words with its rows permuted.
 fn turned_words(alloc: Global, n: u32, order: &[u32], words: &[u64]) -> Result<Vec<u64>, AllocError>
     requires inputs { n ≤ 6 }
     requires order { IsOrder n order.now }
@@ -71,7 +71,7 @@ fn turned_words(alloc: Global, n: u32, order: &[u32], words: &[u64]) -> Result<V
     Ok(turned)
 }
 
-/// The specification with its inputs in another order: each input gets the number that stands at its place.
+/// The specification with its inputs permuted: input j gets the number at position j of `order`.
 #[tactic(auto, using(crate::specs::WordLaws::turning))]
 pub fn turned_spec(alloc: Global, spec: &Spec, order: &[u32]) -> Result<Spec, AllocError>
     requires { IsOrder spec.now.n order.now }

@@ -1,4 +1,4 @@
--- A certificate with one piece more.
+-- A certificate with one more piece.
 use Rattle.std.proofs.Common.{◌≡◌, ℕ, ◌≤◌, ◌<◌, List, [], ◌∷◌, ◌++◌, length, Option, None, refl, sym, ap, subst, ◌∙◌, append_assoc}
 use Rattle.std.specs.List.{flat_map}
 use Rattle.std.proofs.lemmas.Grind.{common_steps, flat_map-append}
@@ -54,7 +54,7 @@ section_more bytes asked s rest before text section under within is_section thri
     subst (λ (t : State). IsUnderWay bytes asked t (before ++ text)) (sym is)
     (subst (λ (xs : List ℕ). IsUnderWay bytes asked (behind s section) (before ++ xs)) (sym spelled) (section_joins bytes asked s before section under within is_section thrifty))
 
--- with an ending
+-- with a trailer
 whole_text : (h : Heading) (sections : List Section) (before : List ℕ) (chain : Option Chain) (verdict : Verdict) → before ≡ text_of (begun_lines h sections) → before ++ text_of (ending_lines chain verdict) ≡ bundle_text (record { heading = h; sections = sections; chain = chain; verdict = verdict })
 whole_text h sections before chain verdict is =
     ap (λ (xs : List ℕ). xs ++ text_of (ending_lines chain verdict)) is

@@ -10,9 +10,9 @@ use Rattle.size_loop.specs.Thrift.{AreThrifty}
 use Rattle.settings.specs.declared.synth.SynthSettings.{SynthSettings}
 use Rattle.synth_core.specs.Asking.{heading_of}
 
--- The text is that of a valid certificate with this verdict. It is for the tables that the bytes spell, with nothing
--- after them, under the settings `asked`. Its logs are thrifty: at least half of what an open one adds stays live,
--- and each deletes about a quarter of what it adds, or more.
+-- The text is a valid certificate with this verdict, for the tables that the bytes spell, with nothing after them,
+-- under the settings `asked`. In its logs at least half of the additions of an open one stay live, and each
+-- deletes at least about a quarter of its additions.
 pub record IsCertificate (bytes : List ℕ) (asked : SynthSettings) (text : List ℕ) (verdict : Verdict) : Type 0 where
   pub bundle : Bundle
   pub is_bundle : IsBundle text bundle

@@ -13,8 +13,8 @@ use Rattle.synth_core.specs.Certifying.{IsCertificate}
 use Rattle.synth_core.specs.declared.pieces.Piece.{Piece}
 use Rattle.synth_core.specs.declared.pieces.Piece.TheVariants as pieces
 
--- A search for the tables that the bytes spell, with nothing after them, under the settings `asked`. `text` is the
--- prefix of its certificate that is written so far: the heading, and the sections of all sizes that are done.
+-- A search in progress for the tables that the bytes spell, with nothing after them, under the settings `asked`.
+-- `text` is the prefix of its certificate written so far: the header, and the sections of all finished sizes.
 pub record IsUnderWay (bytes : List ℕ) (asked : SynthSettings) (s : State) (text : List ℕ) : Type 0 where
   pub heading_is : s.heading ≡ heading_of s.heading.spec asked
   pub tables : SpellsTables (specification s.heading.spec) (lines_of bytes) []
@@ -22,12 +22,13 @@ pub record IsUnderWay (bytes : List ℕ) (asked : SynthSettings) (s : State) (te
   pub searched : HasSearched s sections
   pub begun : IsBegun s.heading sections text
 
--- A piece after the prefix `before`: the search is under way with one section more, or the whole is a certificate.
+-- A piece after the prefix `before`: either the search goes on with one more section, or the whole is a
+-- certificate.
 abbrev pub GoesOn : List ℕ → SynthSettings → List ℕ → Piece → Type 0
 GoesOn bytes asked before (pieces.Section next text) = IsUnderWay bytes asked next (before ++ text.items)
 GoesOn bytes asked before (pieces.Ending text verdict) = IsCertificate bytes asked (before ++ text.items) verdict
 
--- the size that was searched is at most the greatest, and the next one is one more
+-- the searched size is at most the greatest one, and the next size is one more
 abbrev pub GoesUp : State → Piece → Type 0
 GoesUp s (pieces.Section next text) = (s.next ≤ s.heading.max) × (next.next ≡ s.next + 1) × (next.heading ≡ s.heading)
 GoesUp s (pieces.Ending text verdict) = Unit {0}

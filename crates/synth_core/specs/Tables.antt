@@ -15,7 +15,7 @@ abbrev pub words_alone : Result Read SpecError → Result Words SpecError
 words_alone (Ok read) = nothing_behind read.words read.rest
 words_alone (Err fault) = Err fault
 
--- the tables that lines are, or the first fault
+-- the tables that lines spell, or the first fault
 -- Example: the lines `inputs 1`, `01`, `end` have the fault BadRow 3.
 abbrev pub tables_alone : List Line → Result Words SpecError
 tables_alone ls = words_alone (tables_of ls)

@@ -1,5 +1,5 @@
-//! A certificate that is written while it is searched: the heading, each section as soon as its size is done, and
-//! the ending. Nothing of a section is kept once its text is handed out.
+//! A certificate that is written while it is searched: the header, each section as soon as its size is done, and
+//! the trailer. Nothing of a section is kept once its text is handed out.
 ghost use Rattle.std.specs.Prelude.{◌≡◌, ◌^◌, ◌<◌, List, ℕ, length, IfOk, IfErr};
 ghost use Rattle.text_core.specs.Lines.{lines_of};
 ghost use Rattle.settings.specs.Synth.{IsInRange};
@@ -21,7 +21,7 @@ use tt_core::SpecError;
 #[derive(Drop)]
 pub struct Begun {
     pub search: Search,
-    /// The heading of its certificate, as it is written.
+    /// The text of its certificate's header.
     pub text: Vec<u8>,
 }
 
@@ -30,12 +30,12 @@ pub struct Begun {
 pub enum Piece {
     /// A section, and the search that goes on after it.
     Section { search: Search, text: Vec<u8> },
-    /// The ending.
+    /// The trailer.
     Ending { text: Vec<u8>, verdict: Verdict },
 }
 
-/// Begins a search for a chain of the fewest steps that implements the tables in the bytes. A line after the tables
-/// is refused as `BadRow`.
+/// Begins a search for a chain of the fewest steps that implements the tables in the input. A line after the
+/// tables is refused as `BadRow`.
 #[tactic(auto, using(crate::proofs::UnderWay::under_way))]
 pub fn begin(alloc: Global, bytes: &[u8], asked: &SynthSettings) -> Result<Begun, SpecError>
     requires length { length bytes.now < 2 ^ 31 }

@@ -1,4 +1,4 @@
-//! Tables that stand alone in a text.
+//! An input that consists of tables alone.
 ghost use Rattle.std.specs.Prelude.{◌^◌, ◌<◌, length, [], IfOk};
 ghost use Rattle.text_core.specs.Lines.{lines_of};
 ghost use Rattle.tt_core.specs.Gives.{Gives};
@@ -10,7 +10,7 @@ use std::alloc::Global;
 use text_core::next_line;
 use tt_core::{Spec, SpecError, read_tables};
 
-/// The tables that the bytes are, with nothing after them.
+/// The tables in the input, with nothing after them.
 pub fn tables(alloc: Global, bytes: &[u8]) -> Result<Spec, SpecError>
     requires { length bytes.now < 2 ^ 31 }
     ensures exact { Gives (λ spec. spec) result (tables_alone (lines_of bytes.now)) }

@@ -1,4 +1,4 @@
--- A reader that has room for what is left.
+-- The reader has room for the rest.
 use Rattle.std.proofs.Common.{◌+◌, ◌<◌, ◌^◌, length}
 use Rattle.line_reader.specs.Reader.{IsReader}
 use Rattle.line_reader.specs.Seen.{seen}

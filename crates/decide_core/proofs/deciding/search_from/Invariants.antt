@@ -1,4 +1,4 @@
--- No chain of fewer steps agrees than the sizes so far.
+-- No chain with fewer steps than the current size implements the tables.
 use Rattle.decide_core.specs.Decided.{Fewer}
 use Rattle.decide_core.proofs.deciding.search_from.Given as goal
 

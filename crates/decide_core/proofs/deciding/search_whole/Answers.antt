@@ -1,4 +1,4 @@
--- A valid certificate, and no size of it open: what it says with a chain and without one.
+-- A valid certificate without an open size: what it proves with a chain and without one.
 use Rattle.std.proofs.Common.{◌≡◌, sym, ◌∙◌, ap, subst}
 use Rattle.cert_theory.specs.Bundle.{Bundle, IsValid}
 use Rattle.decide_core.specs.DecidedLaws.{whole_none, whole_found, whole_fewer}

@@ -1,4 +1,4 @@
--- What counting says.
+-- What the lower bound proves.
 use Rattle.std.proofs.Common.{sym, subst, arith}
 use Rattle.op_basis.specs.Basis.{members}
 use Rattle.cert_theory.specs.declared.data.Heading.{Heading}

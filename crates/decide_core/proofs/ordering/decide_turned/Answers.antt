@@ -1,4 +1,5 @@
--- Counting holds of the turned tables too, and what they have none of the others have none of.
+-- The lower bound holds for the permuted tables too; and if no chain implements these, none implements the
+-- original ones.
 use Rattle.std.proofs.Common.{ℕ, List, sym, subst}
 use Rattle.cert_theory.specs.declared.data.Heading.{Heading}
 use Rattle.spec_order.specs.Order.{IsOrder}

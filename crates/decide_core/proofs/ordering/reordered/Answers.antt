@@ -1,4 +1,4 @@
--- A chain with its inputs in the other order agrees with the other tables.
+-- A chain with permuted inputs implements the permuted tables.
 use Rattle.std.proofs.Common.{◌≡◌, sym, subst}
 use Rattle.std.proofs.lemmas.Result.{IfOk-weaker}
 use Rattle.chain_theory.specs.Chain.{Chain}

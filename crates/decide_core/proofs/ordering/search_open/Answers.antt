@@ -1,4 +1,4 @@
--- What is found for the tables as they are asked for is noted for the turned ones.
+-- The result for the original tables is stored for the permuted ones.
 use Rattle.std.specs.Prelude.{◌+◌}
 use Rattle.decide_core.specs.RememberedLaws.{noted, whole_least, whole_shorter, whole_fewest}
 use Rattle.decide_core.specs.OrderedLaws.{chain_ordered, least_carried}

@@ -1,4 +1,4 @@
--- Of what counting and the memory say the greater number holds.
+-- The greater of the lower bound and the cached bound holds.
 use Rattle.std.proofs.Common.{sym, subst}
 use Rattle.decide_core.specs.Decided.{Fewer}
 use Rattle.decide_core.specs.DecidedLaws.{fewer_below}

@@ -1,4 +1,4 @@
--- What is noted is what the search says.
+-- The entry is the result of the search.
 use Rattle.std.specs.Prelude.{◌+◌}
 use Rattle.decide_core.specs.RememberedLaws.{noted, found_none, found_low, found_open}
 use Rattle.decide_core.proofs.remembering.search_new.Goals as goal

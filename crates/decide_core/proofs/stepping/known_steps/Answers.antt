@@ -1,4 +1,4 @@
--- What is known already, and what is noted of a walk.
+-- The cached result, and the stored result of an enumeration.
 use Rattle.std.specs.Prelude.{◌+◌, length}
 use Rattle.decide_core.specs.DecidedLaws.{fewer_below}
 use Rattle.decide_core.specs.RememberedLaws.{noted, recalled}

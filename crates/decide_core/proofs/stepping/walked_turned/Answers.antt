@@ -1,4 +1,4 @@
--- What the turned tables have none of the others have none of, and a chain is turned back.
+-- If no chain implements the permuted tables, none implements the original ones; and a chain is permuted back.
 use Rattle.std.proofs.Common.{ℕ, List, sym, subst}
 use Rattle.spec_order.specs.Order.{IsOrder}
 use Rattle.decide_core.specs.Ordered.{IsTurnedTo}

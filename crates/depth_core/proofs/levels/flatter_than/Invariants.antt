@@ -1,4 +1,4 @@
--- Of the logs so far those of flatter fences are kept.
+-- Of the logs so far those of fences with fewer levels are kept.
 use Rattle.std.proofs.Common.{◌≡◌}
 use Rattle.std.specs.List.{filter}
 use Rattle.depth_core.specs.Flattened.{is_flatter}

@@ -1,4 +1,4 @@
--- The first open fence is among those that are left.
+-- The first open fence is among those left.
 use Rattle.std.proofs.Common.{◌≡◌, length}
 use Rattle.depth_theory.specs.DepthBundle.{open_levels}
 use Rattle.depth_core.proofs.levels.open_levels.Given as goal

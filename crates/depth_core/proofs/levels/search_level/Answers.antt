@@ -1,4 +1,4 @@
--- Each fence of the level has its log or a chain, as it was tried.
+-- Each fence of the level has its log or a chain, as its search found.
 use Rattle.std.proofs.Common.{◌≡◌, ℕ, List, Contains, length, sym, ap, ◌∙◌, subst}
 use Rattle.std.proofs.lemmas.List.{map-id}
 use Rattle.std.proofs.lemmas.Iterator.Adapters.{YieldsList-from_vec}

@@ -1,4 +1,4 @@
--- What was tried fits the fence.
+-- The result fits the fence.
 use Rattle.depth_core.proofs.LevelLogs.{coded_by_fences, tried_low}
 use Rattle.depth_core.proofs.levels.try_fence.Goals as goal
 

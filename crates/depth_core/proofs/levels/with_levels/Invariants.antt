@@ -1,4 +1,4 @@
--- The parts of the level so far, and those that are left, are all of the level.
+-- The subproblems of the level so far, and those left, are all of the level.
 use Rattle.std.proofs.Common.{◌≡◌, ◌++◌, length}
 use Rattle.std.specs.List.{filter}
 use Rattle.depth_core.specs.Flattened.{at_level}

@@ -1,4 +1,4 @@
--- The logs so far stand after the others.
+-- The logs so far come after the others.
 use Rattle.std.proofs.Common.{◌≡◌, ◌++◌}
 use Rattle.depth_core.proofs.searching.add_logs.Given as goal
 

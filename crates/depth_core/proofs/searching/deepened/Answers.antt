@@ -1,4 +1,4 @@
--- The bundle, taken apart.
+-- The certificate, taken apart.
 use Rattle.std.proofs.Common.{◌≡◌, Some, sym, subst}
 use Rattle.cert_theory.specs.Bundle.{Bundle, IsValid}
 use Rattle.size_loop.specs.Thrift.{AreThrifty}

@@ -1,4 +1,4 @@
--- A level has a chain, or its logs join the others.
+-- A level has a chain, or its logs are appended.
 use Rattle.std.proofs.Common.{◌≡◌, ℕ, ◌+◌, List, sym, ap, ◌∙◌, subst}
 use Rattle.std.specs.List.{filter}
 use Rattle.chain_theory.specs.Levels.{depth}

@@ -1,4 +1,4 @@
--- All fences of fewer levels have their logs.
+-- All fences with fewer levels have their logs.
 use Rattle.depth_theory.specs.Flatter.{flatter}
 use Rattle.depth_core.specs.Flattened.{AreLogs}
 use Rattle.depth_core.proofs.searching.flatten.Given as goal

@@ -1,4 +1,4 @@
--- A line of the bundle is at fault, ends it, or is one of those before.
+-- A line of the certificate is at fault, ends it, or is within it.
 use Rattle.std.proofs.Common.{◌∙◌, ◌+◌, sym, subst}
 use Rattle.cert_theory.specs.Spelling.{text_of}
 use Rattle.line_reader.specs.TextLines.{line_of}

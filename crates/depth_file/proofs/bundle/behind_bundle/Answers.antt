@@ -1,4 +1,4 @@
--- What the reader of the bundle hands out decides what comes after it.
+-- What the reader of the certificate returns decides what comes after it.
 use Rattle.std.proofs.Common.{◌≡◌, ◌∙◌, List, length, ap, sym, subst}
 use Rattle.std.proofs.lemmas.List.{length-map}
 use Rattle.chain_theory.specs.Chain as chains

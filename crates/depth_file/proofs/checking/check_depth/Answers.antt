@@ -1,4 +1,4 @@
--- The laws of the definition, at the verdict that was judged.
+-- The laws of the definition, for the verdict that was found.
 use Rattle.depth_file.specs.EndLaws.{verdict_told, text_accepted, verdict_holds}
 use Rattle.depth_file.proofs.checking.check_depth.Goals as goal
 

@@ -1,4 +1,4 @@
--- Each turn adds the fences of one level more.
+-- Each turn adds the fences with one level more.
 use Rattle.std.proofs.Common.{refl}
 use Rattle.depth_file.proofs.FenceLists.{level_more}
 use Rattle.depth_file.proofs.fences.flatter_parts.Goals as goal

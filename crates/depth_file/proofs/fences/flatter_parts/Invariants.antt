@@ -1,4 +1,4 @@
--- The fences of the levels so far.
+-- The fences with the levels so far.
 use Rattle.std.proofs.Common.{◌≡◌, map}
 use Rattle.enc_theory.specs.declared.part.Part.TheVariants.{Levels}
 use Rattle.depth_theory.specs.Flatter.{by_levels}

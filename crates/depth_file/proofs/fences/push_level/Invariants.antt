@@ -1,4 +1,4 @@
--- The fences of `levels` levels that were added, and those that are left, are all of these levels.
+-- The fences with `levels` levels added so far, and those left, are all with that number of levels.
 use Rattle.std.proofs.Common.{◌≡◌, ◌++◌, length, map}
 use Rattle.std.specs.List.{filter}
 use Rattle.enc_theory.specs.declared.part.Part.TheVariants.{Levels}

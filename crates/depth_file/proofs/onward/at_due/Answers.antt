@@ -1,4 +1,4 @@
--- A title, or the verdict.
+-- The name of a fence, or the verdict.
 use Rattle.std.proofs.Common.{◌≤◌, sym, ap, ◌∙◌, subst, arith, length}
 use Rattle.line_reader.specs.TextLines.{line_of}
 use Rattle.depth_theory.specs.declared.data.DepthVerdict.{DepthVerdict}

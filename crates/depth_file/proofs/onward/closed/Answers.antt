@@ -1,4 +1,4 @@
--- After the lines of a bundle, or another stage as it is.
+-- After the lines of the certificate, or another stage unchanged.
 use Rattle.std.proofs.Common.{[], subst}
 use Rattle.depth_file.specs.Stages.{Stands}
 use Rattle.depth_file.specs.declared.stage.Stage.{Stage}

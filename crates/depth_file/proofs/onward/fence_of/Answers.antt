@@ -1,4 +1,4 @@
--- The part that is next is the fence that is next.
+-- The next subproblem is that of the next fence.
 use Rattle.depth_file.proofs.Going.{fence_next}
 use Rattle.depth_file.proofs.onward.fence_of.Goals as goal
 

@@ -1,4 +1,4 @@
--- The part is the fence that is next.
+-- The subproblem is that of the next fence.
 use Rattle.depth_file.proofs.Going.{part_known, formula_given}
 use Rattle.depth_file.proofs.onward.formula_of.Goals as goal
 

@@ -1,4 +1,4 @@
--- The fault of the end is that of the lines, and where something is due a line is missing.
+-- The fault at the end is that of the lines; if something is due, a line is missing.
 use Rattle.std.proofs.Common.{sym, ap, ◌∙◌}
 use Rattle.depth_file.proofs.Going.{closed_at, ended_as, gives_err}
 use Rattle.depth_file.proofs.onward.verdict_of.Goals as goal

@@ -1,4 +1,4 @@
--- What the search found is for the tables and for what is asked.
+-- The result of the search is for the given tables and settings.
 use Rattle.std.proofs.Common.{rules, ◌≡◌, ◌<◌, length, subst}
 use Rattle.std.proofs.lemmas.Grind.{common_steps}
 use Rattle.cert_theory.specs.declared.data.Verdict.{Verdict}

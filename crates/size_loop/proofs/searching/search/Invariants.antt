@@ -1,4 +1,4 @@
--- The sections so far are those that the search has made.
+-- The sections so far are those of the search.
 use Rattle.std.proofs.Common.{◌≡◌, ◌+◌, ◌-◌}
 use Rattle.size_loop.specs.Searched.{HasSearched}
 use Rattle.size_loop.proofs.searching.search.Given as goal

@@ -1,4 +1,4 @@
--- A part without a chain has its log, as it was tried.
+-- A subproblem without a chain has its log, as its search found.
 use Rattle.std.proofs.Common.{subst}
 use Rattle.size_loop.specs.declared.trying.PartOutcome.{PartOutcome}
 use Rattle.size_loop.specs.Outcomes.{IsTried}

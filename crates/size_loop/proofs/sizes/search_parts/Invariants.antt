@@ -1,4 +1,4 @@
--- The parts so far have logs, which are theirs.
+-- The subproblems so far have their logs.
 use Rattle.size_loop.specs.Outcomes.{AreLogged}
 use Rattle.size_loop.proofs.sizes.search_parts.Given as goal
 

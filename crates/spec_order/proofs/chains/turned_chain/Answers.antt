@@ -1,4 +1,4 @@
--- What is made is the chain with its inputs in another order.
+-- The result is the chain with permuted inputs.
 use Rattle.std.proofs.Common.{◌∙◌}
 use Rattle.chain_core.specs.Steps.{steps_of}
 use Rattle.spec_order.specs.ListLaws.{chain_is, chain_small}

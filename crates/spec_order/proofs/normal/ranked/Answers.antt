@@ -1,4 +1,4 @@
--- All weights have their ranks.
+-- All weights have ranks.
 use Rattle.std.proofs.Common.{◌≡◌, length, arith}
 use Rattle.spec_order.specs.Permuting.{ranked_permuting}
 use Rattle.spec_order.proofs.normal.ranked.Goals as goal

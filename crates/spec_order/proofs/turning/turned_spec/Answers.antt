@@ -1,4 +1,4 @@
--- What is made is the specification with its inputs in another order.
+-- The result is the specification with permuted inputs.
 use Rattle.spec_order.specs.WordLaws.{spec_turned}
 use Rattle.spec_order.proofs.turning.turned_spec.Goals as goal
 

@@ -1,4 +1,4 @@
--- Before the first size the heading was written.
+-- Before the first size the header was written.
 use Rattle.std.proofs.Common.{◌≡◌, ◌<◌, length, refl, subst, rules}
 use Rattle.std.proofs.lemmas.Grind.{common_steps}
 use Rattle.cert_theory.specs.declared.data.Heading.{Heading}

@@ -1,4 +1,4 @@
--- What the search says of its step, with the text of what it adds.
+-- The result of one step of the search, with the text that it adds.
 use Rattle.std.proofs.Common.{◌≡◌, ◌≤◌, ap, subst, rules}
 use Rattle.std.proofs.lemmas.Grind.{common_steps}
 use Rattle.cert_theory.specs.Bundle.{IsSection, IsEnding}

@@ -1,4 +1,4 @@
--- What holds of each answer is how the lines are judged, and what follows of the text.
+-- A property of each answer is how the lines are judged, and what follows for the text.
 use Rattle.text_core.specs.Lines.{lines_of}
 use Rattle.depth_file.specs.EndLaws.{ended}
 use Rattle.depth_file.proofs.Behind.{judged_by}

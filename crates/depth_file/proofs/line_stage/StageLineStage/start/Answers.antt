@@ -1,4 +1,4 @@
--- The reader of the bundle stands for nothing yet.
+-- The reader of the certificate has read nothing yet.
 use Rattle.depth_file.proofs.Behind.{front_begins}
 use Rattle.depth_file.proofs.line_stage.StageLineStage.start.Goals as goal
 

@@ -1,4 +1,4 @@
--- What is found is a lower bound.
+-- The bound of the entry is proved.
 use Rattle.std.proofs.Common.{sym, ap, ◌∙◌, subst}
 use Rattle.spec_memory.specs.Facts.{Remembered, HasFacts, found_at}
 use Rattle.spec_memory.proofs.memory.Memory.fewest.Goals as goal

@@ -1,4 +1,4 @@
--- The new entry is a fact too.
+-- The new entry has a proved bound too.
 use Rattle.std.proofs.Common.{sym, subst}
 use Rattle.op_basis.specs.Basis.{members}
 use Rattle.spec_memory.specs.Facts.{Remembered, IsFact}
