@@ -1,15 +1,14 @@
--- BENCH as a format.
+-- BENCH as a value of `Format`.
 use Rattle.std.specs.Prelude.{ℕ, Bool, ◌==◌, ◌||◌}
 use Rattle.net_document.specs.Format.{Format}
 use Rattle.bench_text.specs.Statements.{listed_of}
 use Rattle.bench_core.specs.Gates.{bench_written}
 use Rattle.bench_core.specs.Spelling.{circuit_text}
 
--- AND, XOR, OR and their complements
+-- whether an operator is AND, XOR, OR or a complement of these
 unfoldable pub is_gate_word : ℕ → Bool
 is_gate_word op = op == 1 || op == 6 || op == 7 || op == 8 || op == 9 || op == 14
 
--- what a text lists, the document that the writer makes of a circuit, the text of a circuit, and
--- the operators that gates may have
+-- the parser, the writer's document and the text of a circuit, and the operators that gates may have
 abbrev pub bench_format : Format
 bench_format = record { listed = listed_of; written = bench_written; text = circuit_text; operators = is_gate_word }

@@ -1,4 +1,4 @@
--- Circuits that BENCH can say.
+-- Circuits that BENCH can express.
 use Rattle.std.specs.Prelude.{◌≡◌, ◌≢◌, ℕ, ◌<◌, ◌⊎◌, true, [], All, None, codes}
 use Rattle.net_theory.specs.declared.data.Sig.TheVariants.{Place}
 use Rattle.net_theory.specs.declared.data.Gate.{Gate}
@@ -7,19 +7,19 @@ use Rattle.net_theory.specs.Document.{Latch}
 use Rattle.bench_text.specs.SaidLaws.{IsPlainName}
 use Rattle.bench_core.specs.Bench.{is_gate_word}
 
--- a latch without a control and an initial value
+-- a latch without control and initial value
 pub record IsPlainState (l : Latch) : Type 0 where
   pub output : IsPlainName l.output
   pub control : l.control ≡ None
   pub init : l.init ≡ None
 
--- a gate of two different places is AND, OR, XOR or the complement of one
+-- a gate with two distinct fanins is AND, OR, XOR or a complement of these
 abbrev pub HasGateWord : Gate → Type 0
 HasGateWord g = (p q : ℕ) → g.a ≡ Place p → g.b ≡ Place q → p ≢ q → is_gate_word g.op ≡ true
 
--- A circuit that BENCH can say: it is called `top` and has no clocks, its names have no marks in them, its latches
--- have no controls and initial values, and its gates of two different places have operators of the format. It has a
--- source, over which constants are written, or it is empty.
+-- A circuit that BENCH can express: the model's name is `top`, there are no clocks, names contain no marks,
+-- latches have no controls and initial values, and gates with two distinct fanins have operators of the format.
+-- It has a source, over which constants are written, or it is empty.
 pub record IsBenchCircuit (c : Circuit) : Type 0 where
   pub proper : IsProper c
   pub model : c.model ≡ codes "top"

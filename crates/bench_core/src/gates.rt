@@ -1,4 +1,4 @@
-//! Tables of at most two inputs, written as gates.
+//! Writing tables of at most two inputs as gates.
 
 ghost use Rattle.std.specs.Prelude.{◌≡◌, ◌++◌, OnOk};
 ghost use Rattle.std.specs.Option.{option_copied};
@@ -12,7 +12,7 @@ use net_core::{Body, Connective, body_value};
 use net_document::Table;
 use std::alloc::AllocError;
 
-/// A key.
+/// The key of a gate.
 fn key(connective: Connective, on: bool, is_single: bool) -> GateKey
     ensures { result ≡ key_by connective on is_single }
 {
@@ -23,7 +23,7 @@ fn key(connective: Connective, on: bool, is_single: bool) -> GateKey
     }
 }
 
-/// The word of a key.
+/// The keyword of a key.
 fn key_text(key: GateKey) -> &'static [u8]
     ensures { result.now ≡ key_text_of key }
 {
@@ -39,7 +39,7 @@ fn key_text(key: GateKey) -> &'static [u8]
     }
 }
 
-/// Adds a gate.
+/// Adds the line of a gate.
 #[tactic(auto, unfolding(crate::specs::Spelling::gate_text))]
 fn push_gate(
     text: &mut Vec<u8>,
@@ -63,7 +63,7 @@ fn push_gate(
     Ok(())
 }
 
-/// Adds a constant, as a gate over `name`.
+/// Adds a constant, as XOR or XNOR of `name` with itself.
 fn push_constant(
     text: &mut Vec<u8>,
     output: &[u8],
@@ -99,7 +99,7 @@ fn push_unary(
     }
 }
 
-/// The key of two operands, by their truth table `word`.
+/// The key of a gate of two operands, by the truth table `word`.
 #[tactic(auto, unfolding(crate::specs::Gates::binary_key))]
 fn binary_key(word: u8) -> GateKey
     ensures { result ≡ binary_key_of word }
@@ -127,7 +127,7 @@ fn binary_word(body: &Body) -> u8
     8 * first + 4 * second + 2 * third + fourth
 }
 
-/// Adds a table of at most two inputs as a gate; a constant is a gate over `source`.
+/// Adds a table of at most two inputs as a gate; a constant is written over the name `source`.
 #[tactic(auto, unfolding(crate::specs::Gates::line_of))]
 pub fn push_table(text: &mut Vec<u8>, source: &[u8], table: &Table) -> Result<(), AllocError>
     requires { IsSmallTable table.now }

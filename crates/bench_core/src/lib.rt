@@ -1,11 +1,10 @@
-//! BENCH netlists (the ISCAS benchmark files) read and written. `read_bench` answers the circuit of
-//! a text exactly where the text lists a well-formed document, and else the first fault;
-//! `write_bench` appends the text of a circuit that BENCH can say (`specs/Writable`): the tables of its
-//! BLIF document, each as a gate of the same function. The definitions are those of `net_theory` and
-//! `bench_text`.
+//! Reading and writing BENCH netlists (the ISCAS benchmark files). `read_bench` returns the circuit of a text
+//! exactly if the text lists a well-formed document, and else the first fault; `write_bench` appends the text of
+//! a circuit that BENCH can express (`specs/Writable`): the tables of its BLIF document, each as a gate of the
+//! same function. The definitions are those of `net_theory` and `bench_text`.
 //!
-//! The one theorem: the circuit that is read computes what its text's document says, under every
-//! assignment of inputs and latches, with as many gates as the document costs.
+//! The main theorem: the circuit is equivalent to the document that its text lists, with as many gates as the
+//! document costs.
 //!
 //! ```text
 //! let circuit = read_bench(alloc, b"INPUT(a)\nINPUT(b)\nOUTPUT(y)\ny = NAND(a, b)\n")?;

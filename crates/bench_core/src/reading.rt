@@ -1,5 +1,4 @@
-//! The one reader: first the lines, then the document. The text is refused with the error of the
-//! part that refuses it.
+//! The reader: parsing, then elaboration. A text is refused with the error of the stage that fails.
 
 ghost use Rattle.std.specs.Prelude.{◌≡◌, ◌<◌, ◌^◌, length, IfOk, IfErr};
 ghost use Rattle.net_core.specs.declared.error.NetError.TheVariants.{Memory};
@@ -11,13 +10,12 @@ use net_build::circuit_of;
 use net_core::{Circuit, NetError};
 use std::alloc::Global;
 
-/// Reads the circuit of a BENCH text (the ISCAS benchmark files), or reports why it is refused.
+/// Reads the circuit of a BENCH text (the ISCAS benchmark files), or returns the error.
 ///
-/// Lines are checked in their order, and the first fault is reported; then more than 100,000 gates,
-/// a name that is driven twice, one that is used and not driven, and a combinational loop. A text
-/// that lists a well-formed document is refused for lack of memory alone. The circuit has the
-/// document's names and computes what the document says; its model's name is `top`. The time is
-/// linear in the text, but for combinational loops.
+/// Lines are checked in order, and the first fault is reported; then more than 100,000 gates, a name that is
+/// driven twice, an undriven name, and a combinational loop. For a text that lists a well-formed document the
+/// only possible error is out of memory. The circuit has the document's names and is equivalent to it; its
+/// model's name is `top`. Takes time linear in the text, except for combinational loops.
 #[tactic(auto, using(blif_core::specs::RefusedLaws::refusals))]
 pub fn read_bench(alloc: Global, bytes: &[u8]) -> Result<Circuit, NetError>
     requires { length bytes.now < 2 ^ 31 }

@@ -1,4 +1,4 @@
-//! The text of a document.
+//! Writing the BENCH text of a document.
 
 ghost use Rattle.std.specs.Prelude.{◌≡◌, ◌++◌, All, OnOk};
 ghost use Rattle.std.specs.List.{flat_map};
@@ -52,9 +52,9 @@ fn push_tables(text: &mut Vec<u8>, source: &[u8], tables: &[Table]) -> Result<()
     Ok(())
 }
 
-/// Adds the BENCH text of a document whose tables have at most two inputs: the inputs, the outputs,
-/// the latches without their controls and initial values, and the tables as gates. A table without
-/// inputs is a gate over `source`.
+/// Adds the BENCH text of a document whose tables have at most two inputs: the inputs, the outputs, the latches
+/// without their controls and initial values, and the tables as gates. A table without inputs becomes a gate over
+/// `source`.
 #[tactic(auto, unfolding(crate::specs::Spelling::spelled))]
 pub(crate) fn write_document(
     text: &mut Vec<u8>,

@@ -1,5 +1,5 @@
-//! The one writer: the BLIF document of a circuit, written as gates and appended at once, so that
-//! nothing is appended where memory runs out.
+//! The writer: the BLIF document of a circuit with its tables as gates, appended at once, so that nothing is
+//! appended if memory runs out.
 
 ghost use Rattle.std.specs.Prelude.{◌≡◌, ◌++◌, OnOk, OnErr};
 ghost use Rattle.net_core.specs.Names.{HasRoom};
@@ -14,8 +14,7 @@ use net_core::Circuit;
 use net_document::Document;
 use std::alloc::AllocError;
 
-/// The name of the first source: an input, or the output of a latch where there is no input. It is empty
-/// where there is neither.
+/// The name of the first source: an input, or else the output of a latch; empty if there is neither.
 #[tactic(auto, using(crate::proofs::Firsts::firsts))]
 pub fn first_source(circuit: &Circuit) -> &[u8]
     ensures { result.now ≡ first_source_of circuit.now }
@@ -29,8 +28,8 @@ pub fn first_source(circuit: &Circuit) -> &[u8]
     }
 }
 
-/// Appends the BENCH text of a circuit that BENCH can say, whose BLIF document is `document`. The text is made
-/// apart and appended at once, so that nothing is appended where memory runs out.
+/// Appends the BENCH text of a circuit that BENCH can express and whose BLIF document is `document`. The text is
+/// built separately and appended at once, so that nothing is appended if memory runs out.
 #[tactic(auto, using(crate::proofs::Small::smalls))]
 pub fn write_gates(
     text: &mut Vec<u8>,
@@ -47,14 +46,14 @@ pub fn write_gates(
     text.extend_from_slice(&whole)
 }
 
-/// Appends the BENCH text of a circuit that BENCH can say: the inputs, the outputs, the latches, the gates in
-/// the order of their places with the names of `gate_names`, the constants that latches need, and the outputs
-/// whose names neither a source nor a gate has. A constant is a gate over the first source.
+/// Appends the BENCH text of a circuit that BENCH can express: the inputs, the outputs, the latches, the gates in
+/// the order of their nodes with the names of `gate_names`, the constants that latches read, and the outputs that
+/// no source or gate names. A constant is written as a gate over the first source.
 ///
-/// The circuit is called `top` and has no clocks, its names have none of the marks `(`, `)`, `,`, `=` in them, its
-/// latches have no controls and initial values, a gate that reads two different places is AND, OR, XOR or the
-/// complement of one, and it has a source, or neither gates nor sinks. So the text says all of it, and is read back as
-/// a circuit that does the same (`circuits_are_read_back` of `bench_laws`).
+/// Preconditions: the model's name is `top`; there are no clocks; names don't contain the marks `(`, `)`, `,`,
+/// `=`; latches have no controls and initial values; a gate with two distinct fanins is AND, OR, XOR or a
+/// complement of these; and there is a source, unless there are neither gates nor sinks. So the text loses
+/// nothing and is read back as an equivalent circuit (`circuits_are_read_back` of `bench_laws`).
 pub fn write_bench(circuit: &Circuit, out: &mut Vec<u8>) -> Result<(), AllocError>
     requires { IsBenchCircuit circuit.now }
     ensures ok { OnOk result (out.new.items ≡ out.old.items ++ circuit_text circuit.now) }

@@ -1,4 +1,4 @@
--- A document whose tables are replaced by others of the same functions computes the same.
+-- Replacing the tables of a document by tables of the same functions keeps its behaviour.
 use Rattle.std.proofs.Common.{◌≡◌, ℕ, Bool, true, List, [], ◌∷◌, ◌++◌, map, Some, refl, ap, ◌∙◌, sym, subst, arith, inl, inr, ⊎_elim}
 use Rattle.std.specs.Prelude.{All, slice_get, sum_by, ◌⊎◌}
 use Rattle.std.specs.List.{flat_map}
@@ -14,12 +14,11 @@ use Rattle.net_theory.specs.Dependence.{Reads, DependsOn, at_once, by_way_of}
 use Rattle.net_theory.specs.Behaviour.{HoldsIn, IsMapOf}
 use Rattle.net_theory.specs.Circuit.{Circuit, Describes}
 
--- the document with each table replaced
+-- the document with every table replaced
 abbrev pub with_tables : Document → (Table → Table) → Document
 with_tables d f = record { model = d.model; inputs = d.inputs; outputs = d.outputs; clocks = d.clocks; latches = d.latches; tables = map f d.tables }
 
--- u can stand in the place of t: it has the same output, value and cost, and its inputs are those
--- of t or the source
+-- u can replace t: it has the same output, function and cost, and its inputs are inputs of t or the source
 pub record DoesLike (source : Name) (t u : Table) : Type 0 where
   pub table : IsTable u
   pub output : u.output ≡ t.output
@@ -59,7 +58,7 @@ driven_same source f d are = ap (λ (ns : List Name). source_names d ++ ns) (out
 
 -- ---- reading and depending
 
--- a source is no table's output
+-- no table drives a source
 no_output : (d : Document) (n : Name) (k : ℕ) (t : Table) → are_distinct (driven_names d) ≡ true → has (source_names d) n ≡ true → slice_get d.tables k ≡ Some t → t.output ≡ n → ⊥
 no_output d n k t distinct source at same =
     both_ways (has (map table_output d.tables) n)

@@ -1,4 +1,4 @@
--- The text of a circuit that can be written describes it.
+-- The text of a writable circuit lists a document that describes the circuit.
 use Rattle.std.proofs.Common.{◌≡◌, ◌<◌, ◌≤◌, true, List, [], ◌∷◌, ◌++◌, length, map, ap, ◌∙◌, sym, subst, arith, ⊎_elim}
 use Rattle.std.specs.Prelude.{slice_index_or, All}
 use Rattle.std.proofs.lemmas.List.Elements.{All-nil, All-cons, All-head, All-tail, All-append}
@@ -38,7 +38,7 @@ source_plain c can some = all_has IsPlainName (sources_of c) (first_source c) (A
 pub interface_sources : (d : Document) (c : Circuit) → Describes d c → source_names d ≡ sources_of c
 interface_sources d c is = ap (λ (ns : List Name). ns ++ map latch_output (latches_of d)) is.inputs ∙ ap (λ (ls : List Latch). c.inputs ++ map latch_output ls) is.latches
 
--- what is needed of the document `e` of gates
+-- what the document `e` of gates must satisfy
 record IsGood (c : Circuit) (d e : Document) : Type 0 where
   well : IsWellFormed e
   describes : Describes e c

@@ -1,4 +1,4 @@
--- No name of a circuit that can be written has a mark in it.
+-- The names of a writable circuit contain no marks.
 use Rattle.std.proofs.Common.{◌≡◌, ℕ, zero, suc, ◌+◌, ◌<◌, ◌≤◌, ◌^◌, ◌%◌, Bool, true, false, List, [], ◌∷◌, ◌++◌, map, Option, Some, None, refl, subst, arith}
 use Rattle.std.specs.Prelude.{◌==◌, ◌||◌, ◌-◌, not, nat_le, slice_index_or, All}
 use Rattle.std.specs.List.{list_any, range_with_len}

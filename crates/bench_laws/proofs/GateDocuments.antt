@@ -1,4 +1,4 @@
--- A document with its tables as gates computes the same.
+-- Replacing the tables of a document by gates keeps its behaviour.
 use Rattle.std.proofs.Common.{◌≡◌, true, map, subst, ⊎_elim}
 use Rattle.std.specs.Prelude.{All}
 use Rattle.net_theory.specs.Document.{Name, IsName, has, Table, Document, latch_of, latch_output, latches_of, source_names}

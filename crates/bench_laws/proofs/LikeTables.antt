@@ -1,4 +1,4 @@
--- The gate of a table can stand in the table's place.
+-- The gate of a table can replace the table.
 use Rattle.std.proofs.Common.{◌≡◌, ℕ, ◌+◌, ◌*◌, ◌<◌, ◌≤◌, Bool, true, false, List, [], ◌∷◌, length, map, refl, ap, ◌∙◌, sym, subst, arith, inl, inr, ⊎_elim}
 use Rattle.std.specs.Prelude.{not, ◌==◌, ◌||◌, if◌then◌else◌, All}
 use Rattle.std.proofs.lemmas.Bool.{cond-true, eqb-true}
@@ -111,7 +111,7 @@ unfolding table_cost merged_table cover_value matches
 single_cost a output true = refl
 single_cost a output false = refl
 
--- by the values at 0 and 1
+-- a table of one input, by its values at 0 and 1
 one_by : (source : Name) (t : Table) (a : Name) (z o : Bool) → IsTable t → IsName a → t.inputs ≡ a ∷ [] → cover_value t.cover (false ∷ []) ≡ z → cover_value t.cover (true ∷ []) ≡ o → DoesLike source t (line_table (unary_line t.output a z o))
 one_by source t a z o is name e f g = record {
   table = is_table z o;
@@ -228,7 +228,7 @@ two_cost t u a b e f same word =
     ∙ cost_by t u a b (is_same a b) e f same word
     ∙ sym (ap (λ (ns : List Name). cost_of (merged t ns)) e)
 
--- covers with one truth table have the same values
+-- covers with the same truth table have the same values
 word_values : (c k : Cover) (x y : Bool) → binary_word c ≡ binary_word k → cover_value c (x ∷ y ∷ []) ≡ cover_value k (x ∷ y ∷ [])
 word_values c k x y e = sym (binary_word_value c x y) ∙ ap (λ (w : ℕ). apply w x y) e ∙ binary_word_value k x y
 

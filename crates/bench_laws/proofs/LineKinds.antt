@@ -1,4 +1,4 @@
--- Lines of each kind are parsed as what they were written for.
+-- Written lines of each kind are parsed back.
 use Rattle.std.proofs.Common.{◌≡◌, ℕ, ◌+◌, ◌≤◌, Bool, true, false, List, [], ◌∷◌, ◌++◌, length, Option, Some, None, refl, ap, ◌∙◌, sym, arith, append_assoc, length-append}
 use Rattle.std.specs.Prelude.{◌==◌, ◌&&◌, not, nat_lt, All, Result, Ok, codes, option_to_list}
 use Rattle.std.specs.List.{list_all}
@@ -166,7 +166,7 @@ latch_read line s l rest is =
 
 -- ---- gates
 
--- a keyword of plain bytes, of at least one and at most four, with nothing that a comment begins with
+-- a keyword of one to four plain bytes without `#`
 abbrev IsShortKey : List ℕ → Type 0
 IsShortKey text = (list_all is_plain_byte text ≡ true) × (is_nothing text ≡ false) × (list_all is_clean_byte text ≡ true) × (length text ≤ 4)
 
@@ -180,7 +180,7 @@ key_is Or false single = (refl, refl, refl, omega arith)
 key_is Xor true single = (refl, refl, refl, omega arith)
 key_is Xor false single = (refl, refl, refl, omega arith)
 
--- the items of the operands after the opening bracket
+-- the items of the operands after the opening parenthesis
 abbrev operand_items : Name → Option Name → List (List ℕ)
 operand_items a None = a ∷ (41 ∷ []) ∷ []
 operand_items a (Some b) = a ∷ (44 ∷ []) ∷ b ∷ (41 ∷ []) ∷ []

@@ -1,4 +1,4 @@
--- Lines that were written are parsed as what they were written for.
+-- Written lines are parsed back.
 use Rattle.std.proofs.Common.{◌≡◌, ℕ, ◌+◌, ◌≤◌, Bool, true, false, List, [], ◌∷◌, ◌++◌, length, Option, refl, ap, ◌∙◌, sym, subst, append_assoc, append-nil}
 use Rattle.std.specs.Prelude.{◌==◌, ◌||◌, not, nat_lt, Result, Ok}
 use Rattle.std.specs.List.{list_any}
@@ -66,7 +66,7 @@ name_clean (b ∷ c ∷ bs) e = let p = and_parts (is_name_byte b) (is_name (c �
 
 -- ---- words and marks
 
--- a word of a line: it has at least one byte, and no blank and no mark
+-- a word of a line: nonempty, without blanks and marks
 pub record IsText (w : List ℕ) : Type 0 where
   pub first : ℕ
   pub rest : List ℕ
@@ -142,7 +142,7 @@ unfolding is_free
 clean_free [] is = refl
 clean_free (b ∷ bs) is = cond-false (b == 10) _ _ is.1 ∙ clean_free bs is.2
 
--- a line that ends with a bracket is its own content
+-- a line that ends with a parenthesis is its own content
 bracket_content : (front : List ℕ) → AreClean (front ++ 41 ∷ []) → content_of (record { text = front ++ 41 ∷ []; ended = true }) ≡ front ++ 41 ∷ []
 bracket_content front is =
     ap (λ (r : Option (List ℕ)). trimmed (before_comment (or_whole (front ++ 41 ∷ []) r))) (without_last-push 13 front 41)
@@ -161,7 +161,7 @@ step_on line s t front items clean short is long said =
 shape : (front rest : List ℕ) → (front ++ 41 ∷ 10 ∷ []) ++ rest ≡ (front ++ 41 ∷ []) ++ 10 ∷ rest
 shape front rest = append_assoc front (41 ∷ 10 ∷ []) rest ∙ sym (append_assoc front (41 ∷ []) (10 ∷ rest))
 
--- one step of the parser over a line in brackets
+-- one step of the parser, on a line that ends with a parenthesis
 pub line_on : (line : ℕ) (s t : Listed) (front rest : List ℕ) (items : List (List ℕ)) → AreClean (front ++ 41 ∷ []) → length (front ++ 41 ∷ []) ≤ 1048576 → items_of (front ++ 41 ∷ []) ≡ items → has_long items ≡ false → stated line s items ≡ Ok t → steps line s (lines_of ((front ++ 41 ∷ 10 ∷ []) ++ rest)) ≡ steps (line + 1) t (lines_of rest)
 unfolding steps
 line_on line s t front rest items clean short is long said =

@@ -46,7 +46,7 @@ complement_word op e =
     (complement_of op 9 refl))
     (complement_of op 14 refl)
 
--- ---- gates that are joined
+-- ---- joined gates
 
 join_words : (word : Bool → Bool → ℕ) (sources : ℕ) (j : Joined) (inputs : List Sig) → is_gate_word (word false false) ≡ true → j.out.turned ≡ false → All IsGateWord j.gates → All IsGateWord (join_from word sources j (unsigned inputs)).gates
 unfolding join_from unsigned

@@ -18,12 +18,12 @@ use Rattle.bench_laws.proofs.LineKinds.{input_read, output_read, latch_read, gat
 
 -- ---- lists of lines
 
--- the document after each element of a list was listed
+-- the document after all elements of a list are added
 abbrev pub all_said : {X : Type 0} → (Listed → X → Listed) → Listed → List X → Listed
 all_said add s [] = s
 all_said add s (x ∷ xs) = all_said add (add s x) xs
 
--- each element has a line that lists it
+-- each element has a line that adds it
 abbrev AreSaid : {X : Type 0} → (X → List ℕ) → (Listed → X → Listed) → (X → Type 0) → Type 0
 AreSaid {X} text add P = (line : ℕ) (s : Listed) (x : X) (rest : List ℕ) → P x → steps line s (lines_of (text x ++ rest)) ≡ steps (line + 1) (add s x) (lines_of rest)
 

@@ -1,4 +1,4 @@
--- BENCH is a format.
+-- BENCH satisfies `IsFormat`.
 use Rattle.std.proofs.Common.{◌≡◌, ℕ, zero, suc, ◌+◌, ◌<◌, true, List, [], ◌∷◌, length, map, Some, refl, ap, ◌∙◌, sym, subst, arith, inl, inr, ⊎_elim, length-append}
 use Rattle.std.specs.Prelude.{All, slice_get, sum_by, ◌⊎◌}
 use Rattle.std.specs.List.{flat_map}
@@ -31,7 +31,7 @@ use Rattle.bench_laws.proofs.CircuitTexts.{interface_sources, text_is}
 
 -- ---- documents without sources
 
--- a table that comes first reads no table
+-- the first table in topological order reads no table
 first_reads : (d : Document) (k : ℕ) (t : Table) → IsWellFormed d → IsGateTable t → slice_get d.tables k ≡ Some t → Comes (graph_of d.tables) (length (graph_of d.tables)) [] k → source_names d ≡ [] → ⊥
 first_reads d k t well is at comes none = by t.inputs refl is.some where
   by : (ns : List Name) → t.inputs ≡ ns → 0 < length t.inputs → ⊥
@@ -83,7 +83,7 @@ sinks_none d well empty none =
     (λ table. has_none n (subst (λ (ts : List Table). has (map table_output ts) n ≡ true) empty table))
     (has_either (source_names d) (map table_output d.tables) n driven))
 
--- ---- a circuit that was read can be written
+-- ---- the circuit of a text can be written
 
 states_of : (ls : List LatchLine) → All IsPlainLatch ls → All IsPlainState (map latch_of ls)
 states_of [] all = All-nil IsPlainState
@@ -111,7 +111,7 @@ empty_circuit bytes c is zero_sources =
     let latches : length d.latches ≡ length c.latches = sym (length-map d.latches latch_of) ∙ ap (length {A = Latch}) is.circuit.describes.latches in
     (list_none c.net.gates (sym is.circuit.gates ∙ cost_none d empty), list_none c.net.sinks (omega (arith, is.circuit.proper.sink_count, sinks, count, outs, latches)))
 
--- an operator of the format serves whatever a gate reads
+-- an operator of the format can be written for any operands
 gate_words : (gs : List Gate) → All IsGateWord gs → All HasGateWord gs
 gate_words [] all = All-nil HasGateWord
 gate_words (g ∷ gs) all = All-cons HasGateWord g gs (λ p q a b other. All-head IsGateWord g gs all) (gate_words gs (All-tail IsGateWord g gs all))

@@ -1,4 +1,4 @@
--- The document that the writer makes of a circuit can be spelled, where the circuit can be written.
+-- The writer's document of a writable circuit has a BENCH text.
 use Rattle.std.proofs.Common.{zero, ◌≡◌, ℕ, Bool, true, false, List, [], ◌∷◌, ◌++◌, None, refl, ◌∙◌, sym, subst, drop, length, ap, suc}
 use Rattle.std.specs.Prelude.{◌≢◌, ◌==◌, ◌||◌, All}
 use Rattle.std.specs.List.{list_any}

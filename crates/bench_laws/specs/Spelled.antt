@@ -1,4 +1,4 @@
--- Tables that can be written as a gate of the same function.
+-- Tables that can be written as gates of the same function.
 use Rattle.std.specs.Prelude.{◌≡◌, true, false, List, [], ◌∷◌, All, option_to_list, codes}
 use Rattle.std.specs.List.{list_any}
 use Rattle.net_theory.specs.declared.data.Gate.{Gate}
@@ -23,11 +23,11 @@ CanSpellBy t (a ∷ []) = Unit {0}
 CanSpellBy t (a ∷ b ∷ []) = is_gate_word (binary_word t.cover) ≡ true
 CanSpellBy t (a ∷ b ∷ c ∷ ns) = ⊥
 
--- A table of at most two inputs; one of two is AND, OR, XOR or the complement of one.
+-- A table of at most two inputs; with two inputs it is AND, OR, XOR or a complement of these.
 abbrev pub CanSpell : Table → Type 0
 CanSpell t = CanSpellBy t t.inputs
 
--- a line of plain names, whose key is parsed as it is written
+-- a line of plain names whose key is read back
 pub record IsPlainLine (l : GateLine) : Type 0 where
   pub output : IsPlainName l.output
   pub first : IsPlainName l.first
@@ -35,8 +35,8 @@ pub record IsPlainLine (l : GateLine) : Type 0 where
   pub key : keyword_of (key_text l.key) ≡ GateWord l.key
   pub counted : is_counted l.key (l.first ∷ option_to_list l.second) ≡ true
 
--- A document that can be spelled: it is called `top` and has no clocks, its names have no marks in
--- them, its latches have no controls and initial values, and its tables have at most two inputs.
+-- A document with a BENCH text: the model's name is `top`, there are no clocks, names contain no marks, latches
+-- have no controls and initial values, and tables have at most two inputs.
 pub record IsSpelled (source : Name) (d : Document) : Type 0 where
   pub model : d.model ≡ codes "top"
   pub inputs : All IsPlainName d.inputs
@@ -45,11 +45,11 @@ pub record IsSpelled (source : Name) (d : Document) : Type 0 where
   pub latches : All IsPlainLatch d.latches
   pub tables : All (λ (t : Table). IsPlainLine (line_of source t)) d.tables
 
--- a name without a mark in it
+-- a name without marks
 abbrev pub IsFree : Name → Type 0
 IsFree n = list_any is_mark n ≡ false
 
--- A circuit that BENCH can say, whose gates can be given names.
+-- A circuit that BENCH can express and whose gates can be named.
 pub record IsWritable (c : Circuit) : Type 0 where
   pub fits : IsBenchCircuit c
   pub room : HasRoom c
@@ -58,12 +58,12 @@ pub record IsWritable (c : Circuit) : Type 0 where
 abbrev pub IsGateWord : Gate → Type 0
 IsGateWord g = is_gate_word g.op ≡ true
 
--- One of which every gate has an operator of the format, as those of a text's circuit have.
+-- such a circuit whose gates all have operators of the format, as in the circuit of a text
 pub record CanWrite (c : Circuit) : Type 0 where
   pub writable : IsWritable c
   pub operators : All IsGateWord c.net.gates
 
--- the faults of lines; there are no cover lines that could be mixed or too many
+-- the errors of lines; BENCH has no cover lines, which could be mixed or too many
 abbrev pub IsLineFault : NetError → Type 0
 IsLineFault (Syntax line) = Unit {0}
 IsLineFault (NotSupported line word) = Unit {0}

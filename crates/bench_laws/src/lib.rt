@@ -1,5 +1,5 @@
-//! Laws of BENCH texts, each the contract of a function that does nothing. The definitions are
-//! those of `net_theory`, `net_document`, `bench_text` and `bench_core`.
+//! Theorems about BENCH texts, each the contract of a function with an empty body. The definitions are those of
+//! `net_theory`, `net_document`, `bench_text` and `bench_core`.
 #![tactic(auto)]
 
 ghost use Rattle.std.specs.Prelude.{◌≡◌, ℕ, List, All, true, slice_get, Some, IfErr};
@@ -19,55 +19,54 @@ ghost use Rattle.bench_core.specs.Writable.{IsBenchCircuit};
 
 use blif_laws::blif_is_a_format;
 
-/// Each gate of the circuit of a BENCH text has an operator of the format: AND, OR, XOR or the
-/// complement of one.
+/// Each gate of the circuit of a BENCH text has an operator of the format: AND, OR, XOR or a complement of these.
 pub fn gates_have_operators_of_gates()
     ensures { (bytes : List ℕ) (c : Circuit) (i : ℕ) (g : Gate) → IsCircuitOfText bench_format bytes c → slice_get c.net.gates i ≡ Some g → is_gate_word g.op ≡ true }
 {}
 
-/// A well-formed document of tables that can each be written as a gate computes the same and costs
-/// the same with its tables as gates, where constants are gates over one of its sources.
+/// If each table of a well-formed document can be written as a gate, replacing the tables by gates (constants by
+/// gates over one of its sources) keeps the document's functions and its cost.
 pub fn documents_of_gates_do_the_same()
     ensures well { (source : Name) (d : Document) → IsWellFormed d → All CanSpell d.tables → has (source_names d) source ≡ true → IsWellFormed (as_gates source d) }
     ensures describes { (source : Name) (d : Document) (c : Circuit) → IsWellFormed d → All CanSpell d.tables → has (source_names d) source ≡ true → Describes d c → Describes (as_gates source d) c }
     ensures cost { (source : Name) (d : Document) → IsWellFormed d → All CanSpell d.tables → has (source_names d) source ≡ true → cost (as_gates source d) ≡ cost d }
 {}
 
-/// A document that can be spelled is read back from its text, with its tables as gates.
+/// A document with a BENCH text is read back from it, with its tables as gates.
 pub fn documents_are_read_back()
     ensures { (source : Name) (d : Document) → IsSpelled source d → IsReadBack bench_format (spelled source d) (as_gates source d) }
 {}
 
-/// BENCH can say the circuit of each of its texts.
+/// The circuit of every BENCH text can be written in BENCH.
 pub fn circuits_of_texts_can_be_written()
     ensures { (bytes : List ℕ) (c : Circuit) → IsCircuitOfText bench_format bytes c → IsBenchCircuit c }
 {}
 
-/// The text that `write_bench` writes of a circuit lists a well-formed document that computes what the
-/// circuit does, under every assignment, and costs no more than the circuit has gates.
+/// The text that `write_bench` writes lists a well-formed document that is equivalent to the circuit and costs at
+/// most as many gates as the circuit has.
 pub fn circuits_are_read_back()
     ensures { (c : Circuit) → IsWritable c → IsTextOf bench_format (circuit_text c) c }
 {
     blif_is_a_format();
 }
 
-/// A circuit that can be written costs in BENCH what it costs in BLIF.
+/// The cost of a writable circuit is the same in BENCH as in BLIF.
 pub fn circuits_cost_the_same()
     ensures { (c : Circuit) → IsWritable c → cost (bench_written c) ≡ cost (written c) }
 {
     blif_is_a_format();
 }
 
-/// BENCH is a format: its texts list documents of gates, the text of a circuit that can be written
-/// is read back, and the circuit of each text can be written, also with another net of gates of the
-/// format that answers the same.
+/// BENCH is a format: its texts list documents of gates, the text of a writable circuit is read back, and the
+/// circuit of every text is writable, also after its net is replaced by one that implements it with operators of
+/// the format.
 pub fn bench_is_a_format()
     ensures { IsFormat bench_format CanWrite }
 {
     blif_is_a_format();
 }
 
-/// The lines of a BENCH text are refused as Syntax, NotSupported, TooWide, LineTooLong or NameTooLong alone.
+/// The errors of the lines of a BENCH text are Syntax, NotSupported, TooWide, LineTooLong and NameTooLong.
 pub fn lines_have_few_faults()
     ensures { (bytes : List ℕ) → IfErr (listed_of bytes) IsLineFault }
 {}

@@ -1,4 +1,4 @@
--- The items (tokens) of a line: words, and the marks between them.
+-- The items (tokens) of a line: words and punctuation marks.
 use Rattle.std.specs.Prelude.{ℕ, Bool, false, ◌||◌, ◌==◌, if◌then◌else◌, List, [], ◌∷◌, ◌++◌}
 use Rattle.net_text.specs.Contents.{is_blank}
 use Rattle.blif_text.specs.Words.{word_then}
@@ -7,12 +7,12 @@ use Rattle.blif_text.specs.Words.{word_then}
 abbrev pub is_mark : ℕ → Bool
 is_mark b = b == 40 || b == 41 || b == 44 || b == 61
 
--- the items of `front` ++ `text`, where `front` has no blank and no mark
+-- the items of `front` ++ `text`; `front` has no blank and no mark
 unfoldable pub items_from : List ℕ → List ℕ → List (List ℕ)
 items_from front [] = word_then front []
 items_from front (b ∷ bs) = if is_blank b then word_then front (items_from [] bs) else (if is_mark b then word_then front ((b ∷ []) ∷ items_from [] bs) else items_from (front ++ b ∷ []) bs)
 
--- The items of a text: each mark, and the non-empty runs between marks and blanks.
+-- The items of a text: each mark, and the nonempty runs between marks and blanks.
 -- Example: `y = NAND(a, b)` has the eight items `y`, `=`, `NAND`, `(`, `a`, `,`, `b` and `)`.
 abbrev pub items_of : List ℕ → List (List ℕ)
 items_of text = items_from [] text

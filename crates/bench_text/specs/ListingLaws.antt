@@ -1,5 +1,5 @@
--- What a text lists is a document of gates and of latches without control and initial value, no
--- larger than the text.
+-- A text lists a document of gates, and of latches without control and initial value, that is no larger than the
+-- text.
 use Rattle.std.proofs.Common.{◌≡◌, ℕ, suc, ◌+◌, ◌*◌, ◌≤◌, Bool, true, false, List, [], ◌∷◌, ◌++◌, length, map, refl, ap, ◌∙◌, sym, subst, arith, length-append}
 use Rattle.std.specs.Prelude.{◌==◌, ◌||◌, nat_lt, if◌then◌else◌, Result, Ok, Err, IfOk, All, sum_by, codes}
 use Rattle.std.specs.List.{list_any, flat_map}
@@ -179,7 +179,7 @@ listed_by_fine bytes = steps_fine 1 nothing (lines_of bytes) 0 nothing_fine
 pub text_fine : (bytes : List ℕ) (l : Listed) → listed_of bytes ≡ Ok l → IsFine l (length bytes)
 text_fine bytes l e = fine_more l (0 + sum_by line_size (lines_of bytes)) (length bytes) (omega (arith, lines_size [] bytes)) (subst (Fine (0 + sum_by line_size (lines_of bytes))) e (listed_by_fine bytes))
 
--- ---- what is listed
+-- ---- the listed document
 
 all_names : (ns : List Name) → All IsPlainName ns → All IsName ns
 all_names ns all = at_all IsName ns (λ k n e. (all_at IsPlainName ns k n all e).name)

@@ -26,7 +26,7 @@ use Rattle.bench_text.specs.Statements.{nothing, with_input, with_output, with_l
 
 -- ---- items, names, latches and gates
 
--- a word: within the limit of length, and without a mark in it
+-- a word: within the limit of length and without marks
 pub record IsWord (w : List ℕ) : Type 0 where
   pub short : length w ≤ 1024
   pub plain : list_any is_mark w ≡ false
@@ -40,7 +40,7 @@ abbrev pub AreItems : List (List ℕ) → Type 0
 AreItems [] = Unit {0}
 AreItems (w ∷ ws) = IsItem w × AreItems ws
 
--- a name without a mark in it
+-- a name without marks
 pub record IsPlainName (n : Name) : Type 0 where
   pub name : IsName n
   pub plain : list_any is_mark n ≡ false
@@ -52,7 +52,7 @@ pub record IsPlainLatch (l : LatchLine) : Type 0 where
   pub control : l.latch.control ≡ None
   pub init : l.latch.init ≡ None
 
--- a table that joins its inputs, at least one
+-- a table that joins its inputs, of which it has at least one
 pub record IsGateTable (t : Table) : Type 0 where
   pub inputs : All IsPlainName t.inputs
   pub output : IsPlainName t.output
@@ -78,7 +78,7 @@ gate_is_table t is =
       few = omega (arith, is.narrow, whole_few whole is.some, ap (λ (c : Cover). length c.cubes) is.cover);
     }
 
--- ---- what is listed so far
+-- ---- the document so far
 
 unfoldable pub table_width : Table → ℕ
 table_width t = length t.inputs
@@ -110,7 +110,7 @@ nothing_fine = record {
   named = omega arith;
 }
 
--- a longer text
+-- the document of a prefix is within the size of a longer text
 pub fine_more : (s : Listed) (size more : ℕ) → size ≤ more → IsFine s size → IsFine s more
 fine_more s size more h is = record { model = is.model; inputs = is.inputs; outputs = is.outputs; clocks = is.clocks; latches = is.latches; tables = is.tables; driven = is.driven; used = is.used; small = omega (arith, is.small, h); named = omega (arith, is.named, h) }
 
@@ -179,7 +179,7 @@ table_fine s size more t is gate h =
 
 -- ---- operands
 
--- words, at least one, and at most half as many as there are items
+-- words, at least one, and at most half as many as the items
 pub record AreWords (ns : List Name) (room : ℕ) : Type 0 where
   pub words : All IsWord ns
   pub some : 0 < length ns

@@ -1,5 +1,5 @@
--- The lines of a BENCH text (the ISCAS benchmark files), in their order, or the first fault. One
--- line is checked in the order of the tests below. A line without items is skipped.
+-- The grammar of BENCH (the ISCAS benchmark files): the document after the lines of a text, or the first fault.
+-- Each line is checked in the order of the tests below. A line without items is skipped.
 use Rattle.std.specs.Prelude.{ℕ, ◌+◌, Bool, true, false, not, ◌&&◌, ◌||◌, ◌==◌, nat_lt, nat_le, if◌then◌else◌, List, [], ◌∷◌, ◌++◌, length, map, Option, Some, None, Result, Ok, Err, codes}
 use Rattle.std.specs.List.{list_all}
 use Rattle.text_core.specs.Lines.{Line, lines_of}
@@ -19,9 +19,9 @@ use Rattle.bench_text.specs.declared.keywords.Keyword.{Keyword}
 use Rattle.bench_text.specs.declared.keywords.Keyword.TheVariants.{Input, Output, Gate, Dff, Lut, Constant, Unknown}
 use Rattle.bench_text.specs.Items.{is_mark_item, items_of}
 
--- ---- what is listed so far
+-- ---- the document so far
 
--- The model's name is `top`. A BENCH text has no clocks.
+-- The document before the first line. The model's name is `top`, and there are no clocks.
 abbrev pub nothing : Listed
 nothing = record { document = record { model = codes "top"; inputs = []; outputs = []; clocks = []; latches = []; tables = [] }; driven = []; used = [] }
 
@@ -39,19 +39,19 @@ with_table s t = record s { document = record s.document { tables = s.document.t
 
 -- ---- keywords
 
--- a capital letter as a lower-case one
+-- an upper-case letter in lower case
 abbrev pub lower : ℕ → ℕ
 lower b = if nat_le 65 b && nat_le b 90 then b + 32 else b
 
--- Whether a word is the key given in lower case: keys are read without regard to case.
+-- whether a word is the given key, ignoring case; the key is in lower case
 unfoldable pub is_key : List ℕ → List ℕ → Bool
 is_key word key = is_same (map lower word) key
 
 abbrev pub gate_key : Connective → Bool → Bool → Keyword
 gate_key connective on is_single = Gate (record { connective = connective; on = on; is_single = is_single })
 
--- The key of a gate is AND, OR or XOR of its operands, or the complement. NOT is the complement of
--- AND of one operand, and BUFF is AND of one.
+-- The keyword of a gate: AND, OR or XOR of its operands, or the complement. BUFF is AND of one operand, and NOT
+-- is its complement.
 unfoldable pub gate_key_of : List ℕ → Keyword
 gate_key_of w = if is_key w (codes "and") then gate_key And true false else (if is_key w (codes "nand") then gate_key And false false else (if is_key w (codes "or") then gate_key Or true false else (if is_key w (codes "nor") then gate_key Or false false else (if is_key w (codes "xor") then gate_key Xor true false else (if is_key w (codes "xnor") then gate_key Xor false false else (if is_key w (codes "not") then gate_key And false true else (if is_key w (codes "buff") || is_key w (codes "buf") then gate_key And true true else Unknown)))))))
 
@@ -60,19 +60,18 @@ keyword_of w = if is_key w (codes "input") then Input else (if is_key w (codes "
 
 -- ---- operands
 
--- `names` ++ the words up to the closing bracket, separated by commas; nothing may follow the
--- bracket
+-- `names` ++ the words up to the closing parenthesis, separated by commas; nothing may follow the parenthesis
 unfoldable pub operands_from : List Name → List (List ℕ) → Option (List Name)
 operands_from names [] = None
 operands_from names (w ∷ []) = None
 operands_from names (w ∷ m ∷ rest) = if is_mark_item w then None else (if is_same m (codes ")") then (if is_nothing rest then Some (names ++ w ∷ []) else None) else (if is_same m (codes ",") then operands_from (names ++ w ∷ []) rest else None))
 
--- Example: of `(`, `a`, `,`, `b` and `)` they are a and b.
+-- Example: `(`, `a`, `,`, `b` and `)` give a and b.
 unfoldable pub operands_of : List (List ℕ) → Option (List Name)
 operands_of [] = None
 operands_of (m ∷ rest) = if is_same m (codes "(") then operands_from [] rest else None
 
--- too many operands are the first fault, then a word that isn't a name
+-- too many operands are reported first, then a word that isn't a name
 abbrev pub names_by : ℕ → Option (List Name) → Result (List Name) NetError
 names_by line None = Err (Syntax line)
 names_by line (Some names) = if nat_lt 256 (length names) then Err (TooWide line) else (if list_all is_name names then Ok names else Err (Syntax line))
@@ -105,7 +104,7 @@ latch_of line output inputs = alone line inputs >>= λ n. (if is_name output the
 
 -- ---- lines
 
--- `INPUT(a)` and `OUTPUT(a)`; with more than one name the line is malformed
+-- `INPUT(a)` and `OUTPUT(a)`; a line with more than one name is malformed
 abbrev pub port_by : ℕ → Option (List Name) → Result Name NetError
 port_by line None = Err (Syntax line)
 port_by line (Some names) = alone line names >>= λ n. (if is_name n then Ok n else Err (Syntax line))
@@ -122,8 +121,8 @@ ported line s items Lut = Err (Syntax line)
 ported line s items Constant = Err (Syntax line)
 ported line s items Unknown = Err (Syntax line)
 
--- A line `output = word ..`. A LUT isn't supported, whatever follows it, and neither is `vdd` or
--- `gnd` where nothing does.
+-- A line `output = word ..`. `LUT` isn't supported, whatever follows it; `vdd` and `gnd` aren't supported if
+-- nothing follows.
 unfoldable pub driven : ℕ → Listed → Name → Name → List (List ℕ) → Keyword → Result Listed NetError
 driven line s output word items (Gate key) = names_of line items >>= λ inputs. table_of line key output inputs >>= λ t. Ok (with_table s t)
 driven line s output word items Dff = names_of line items >>= λ inputs. latch_of line output inputs >>= λ l. Ok (with_latch s l)
@@ -145,12 +144,11 @@ stated line s (w ∷ m ∷ items) = if is_mark_item w then Err (Syntax line) els
 unfoldable pub step : ℕ → Listed → Line → Result Listed NetError
 step line s l = if is_long_line (length l.text) then Err (LineTooLong line) else (if has_long (items_of (content_of l)) then Err (NameTooLong line) else stated line s (items_of (content_of l)))
 
--- the first line has the number given
+-- all lines; the first one has the given number
 unfoldable pub steps : ℕ → Listed → List Line → Result Listed NetError
 steps line s [] = Ok s
 steps line s (l ∷ ls) = step line s l >>= λ t. steps (line + 1) t ls
 
--- The document of a text, or the first fault of its lines. Whether the document is well formed
--- isn't checked here.
+-- The document of a text, or the first fault of its lines. Well-formedness isn't checked here.
 unfoldable pub listed_of : List ℕ → Result Listed NetError
 listed_of bytes = steps 1 nothing (lines_of bytes)

@@ -1,4 +1,4 @@
-//! Items (tokens) of a line. A line is scanned several times, without an index of its items.
+//! The items (tokens) of a line. A line is scanned once for each use; no list of its items is stored.
 
 ghost use Rattle.std.specs.Prelude.{◌≡◌, ◌<◌, [], ◌∷◌, length, IfSome};
 ghost use Rattle.net_theory.specs.Document.{is_same};
@@ -15,7 +15,7 @@ fn is_mark(byte: u8) -> bool
     byte == b'(' || byte == b')' || byte == b',' || byte == b'='
 }
 
-/// The first item of a text, and the rest after it; None where the text has no item.
+/// The first item of a text and the rest after it; None if the text has no item.
 #[tactic(auto, using(text_core::specs::Cuts::cuts), unfolding(crate::specs::Items::items_from))]
 pub fn next_item(text: &[u8]) -> Option<(&[u8], &[u8])>
     ensures items { items_of text.now ≡ items_in result }
@@ -47,7 +47,7 @@ pub fn next_item(text: &[u8]) -> Option<(&[u8], &[u8])>
     Some((start, left))
 }
 
-/// Whether an item is a mark.
+/// Whether an item is a punctuation mark.
 pub fn is_mark_item(item: &[u8]) -> bool
     ensures { result ≡ is_mark_item_of item.now }
 {

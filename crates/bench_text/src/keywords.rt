@@ -1,12 +1,12 @@
-//! Keys, which are read without regard to case.
+//! Keywords, which are case-insensitive.
 
 ghost use Rattle.std.specs.Prelude.{◌≡◌};
 ghost use Rattle.bench_text.specs.Statements.{gate_key, lower as lower_of, is_key as is_key_of, gate_key_of as gate_key_of_word, keyword_of as keyword_of_word};
 
 use net_core::Connective;
 
-/// The function of a gate: AND, OR or XOR of its operands, or the complement where `on` is false.
-/// With `is_single` it has one operand.
+/// The function of a gate: AND, OR or XOR of its operands, or the complement if `on` is false. With `is_single`
+/// it has exactly one operand.
 #[derive(Clone, Copy)]
 pub struct GateKey {
     pub connective: Connective,
@@ -29,11 +29,11 @@ pub enum Keyword {
     Lut,
     /// `vdd` or `gnd`, which aren't supported.
     Constant,
-    /// Another word.
+    /// Any other word.
     Unknown,
 }
 
-/// A capital letter as a lower-case one.
+/// An upper-case letter in lower case; other bytes stay.
 fn lower(byte: u8) -> u8
     ensures { result ≡ lower_of byte }
 {
@@ -44,7 +44,7 @@ fn lower(byte: u8) -> u8
     }
 }
 
-/// Whether `word` is `key`, which is in lower case.
+/// Whether `word` is `key`, ignoring case; `key` is in lower case.
 #[tactic(auto, unfolding(crate::specs::Statements::is_key))]
 fn is_key(word: &[u8], key: &[u8]) -> bool
     ensures { result ≡ is_key_of word.now key.now }
@@ -64,7 +64,7 @@ fn is_key(word: &[u8], key: &[u8]) -> bool
     wanted.is_empty()
 }
 
-/// A gate's key.
+/// The keyword of a gate.
 fn gate(connective: Connective, on: bool, is_single: bool) -> Keyword
     ensures { result ≡ gate_key connective on is_single }
 {
@@ -75,7 +75,7 @@ fn gate(connective: Connective, on: bool, is_single: bool) -> Keyword
     })
 }
 
-/// The keyword of a word that is the key of a gate.
+/// The keyword of a word that names a gate.
 #[tactic(auto, unfolding(crate::specs::Statements::gate_key_of))]
 fn gate_key_of(word: &[u8]) -> Keyword
     ensures { result ≡ gate_key_of_word word.now }
@@ -101,7 +101,7 @@ fn gate_key_of(word: &[u8]) -> Keyword
     }
 }
 
-/// What a word asks for.
+/// The keyword of a word.
 #[tactic(auto, unfolding(crate::specs::Statements::keyword_of))]
 pub fn keyword_of(word: &[u8]) -> Keyword
     ensures { result ≡ keyword_of_word word.now }

@@ -1,7 +1,6 @@
-//! The text of BENCH netlists (the ISCAS benchmark files): items (tokens), keys and lines, and the
-//! document that they list. Every fault of a line is reported with the number of its line, in an
-//! order that the definitions in `specs/` fix; whether the document is well formed is checked by
-//! whoever makes a circuit of it.
+//! The parser of BENCH netlists (the ISCAS benchmark files): items (tokens), keywords and lines, and the document
+//! that they list. Every fault of a line is reported with its line number, in an order that the definitions in
+//! `specs/` fix. Whether the document is well formed is checked later, by the elaboration (`net_build`).
 //!
 //! ```text
 //! let listed = read_listed(alloc, b"INPUT(a)\nINPUT(b)\nOUTPUT(y)\ny = NAND(a, b)\n")?;

@@ -1,5 +1,5 @@
-//! Lines, one function for each kind. Each changes the document so far as its definition says, and
-//! not at all where the line is refused.
+//! Lines, one function for each kind. Each updates the document so far as defined, and leaves it unchanged if the
+//! line is refused.
 
 ghost use Rattle.std.specs.Prelude.{◌≡◌, ℕ, ◌<◌, ◌≤◌, List, [], ◌∷◌, ◌++◌, length, OnOk};
 ghost use Rattle.blif_text.specs.Reading.{Gives};
@@ -37,7 +37,7 @@ fn take_output(alloc: Global, line: u32, listed: &mut Listed, text: &[u8]) -> Re
     Ok(())
 }
 
-/// A line that begins with a word and has no `=` after it.
+/// A line that begins with a word without an `=` after it.
 #[tactic(auto, unfolding(crate::specs::Statements::ported))]
 fn port(
     alloc: Global,
@@ -55,7 +55,7 @@ fn port(
     }
 }
 
-/// Whether a gate with `key` can have as many operands as `inputs`.
+/// Whether a gate of kind `key` may have as many operands as `inputs`.
 fn is_counted(key: GateKey, inputs: &[Name]) -> bool
     ensures { result ≡ is_counted_of key inputs.now }
 {
@@ -90,7 +90,7 @@ fn table_of(
     })
 }
 
-/// Adds the names that a table drives and uses.
+/// Adds the names that a table drives and reads.
 fn add_names(driven: &mut Vec<Name>, used: &mut Vec<Name>, table: &Table) -> Result<(), AllocError>
     ensures driven { OnOk result (driven.new.items ≡ driven.old.items ++ table.now.output ∷ []) }
     ensures used { OnOk result (used.new.items ≡ used.old.items ++ table.now.inputs) }
@@ -100,7 +100,7 @@ fn add_names(driven: &mut Vec<Name>, used: &mut Vec<Name>, table: &Table) -> Res
     Ok(())
 }
 
-/// Lists a table.
+/// Adds a table to the document.
 fn list_table(listed: &mut Listed, table: Table) -> Result<(), AllocError>
     ensures { OnOk result (listed.new ≡ with_table listed.old table) }
 {
@@ -109,7 +109,7 @@ fn list_table(listed: &mut Listed, table: Table) -> Result<(), AllocError>
     Ok(())
 }
 
-/// A gate.
+/// A line `output = KEY(..)` of a gate.
 #[tactic(auto, unfolding(crate::specs::Statements::driven))]
 fn take_gate(
     alloc: Global,
@@ -151,7 +151,7 @@ fn latch_of(
     })
 }
 
-/// Adds the names that a latch drives and uses.
+/// Adds the names that a latch drives and reads.
 fn add_ends(
     driven: &mut Vec<Name>,
     used: &mut Vec<Name>,
@@ -165,7 +165,7 @@ fn add_ends(
     Ok(())
 }
 
-/// Lists a latch.
+/// Adds a latch to the document.
 fn list_latch(listed: &mut Listed, latch: LatchLine) -> Result<(), AllocError>
     ensures { OnOk result (listed.new ≡ with_latch listed.old latch) }
 {
@@ -234,7 +234,7 @@ fn drive_by(
     drive(alloc, line, listed, output, word, rest)
 }
 
-/// A line, from its items.
+/// Handles a line, by its items.
 #[tactic(auto, unfolding(crate::specs::Statements::stated))]
 fn state(alloc: Global, line: u32, listed: &mut Listed, text: &[u8]) -> Result<(), NetError>
     ensures { Gives (λ _. listed.new) result (stated line listed.old (items_of text.now)) }
@@ -255,7 +255,7 @@ fn state(alloc: Global, line: u32, listed: &mut Listed, text: &[u8]) -> Result<(
     }
 }
 
-/// The line with the number `line`, without its LF; `ended` where an LF follows it.
+/// Handles the line with number `line`, without its LF; `ended` tells whether an LF follows it.
 #[tactic(auto, unfolding(crate::specs::Statements::step))]
 pub fn take_line(
     alloc: Global,

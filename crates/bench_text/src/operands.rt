@@ -1,4 +1,4 @@
-//! Operands in brackets.
+//! Operands in parentheses.
 
 ghost use Rattle.std.specs.Prelude.{◌≡◌, ◌<◌, ◌≤◌, true, Some, None, [], length, if◌then◌else◌, IfOk, IfSome};
 ghost use Rattle.std.specs.List.{list_all};
@@ -14,8 +14,8 @@ use net_document::{Name, NetError};
 use net_text::is_name;
 use std::alloc::{AllocError, Global};
 
-/// Adds the words up to the closing bracket to `names`, and answers whether they are separated by
-/// commas and the bracket ends the text.
+/// Adds the words up to the closing parenthesis to `names`, and returns whether they are separated by commas and
+/// the parenthesis ends the text.
 #[tactic(auto, unfolding(crate::specs::Statements::operands_from))]
 fn add_operands(alloc: Global, names: &mut Vec<Name>, text: &[u8]) -> Result<bool, AllocError>
     ensures operands { IfOk result (λ closed. (if closed then Some names.new.items else None) ≡ operands_from names.old.items (items_of text.now)) }
@@ -45,8 +45,7 @@ fn add_operands(alloc: Global, names: &mut Vec<Name>, text: &[u8]) -> Result<boo
     Ok(false)
 }
 
-/// The words up to the closing bracket, which ends the text; None where they aren't separated by
-/// commas.
+/// The words up to the closing parenthesis, which must end the text; None if they aren't separated by commas.
 fn closed_operands(alloc: Global, text: &[u8]) -> Result<Option<Vec<Name>>, AllocError>
     ensures operands { IfOk result (λ found. option_map (λ names. names.items) found ≡ operands_from [] (items_of text.now)) }
     ensures some { IfOk result (λ found. IfSome found (λ names. 0 < length names.items)) }
@@ -59,7 +58,7 @@ fn closed_operands(alloc: Global, text: &[u8]) -> Result<Option<Vec<Name>>, Allo
     }
 }
 
-/// The words in brackets.
+/// The words in parentheses.
 #[tactic(auto, unfolding(crate::specs::Statements::operands_of))]
 fn operands_of(alloc: Global, text: &[u8]) -> Result<Option<Vec<Name>>, AllocError>
     ensures operands { IfOk result (λ found. option_map (λ names. names.items) found ≡ operands_of_items (items_of text.now)) }
@@ -81,7 +80,7 @@ fn are_names(names: &[Name]) -> bool
     names.iter().all(|name| is_name(name.get()))
 }
 
-/// The names in brackets, at most `MOST_WIDTH`.
+/// The names in parentheses, at most `MOST_WIDTH`.
 #[tactic(auto, unfolding(crate::specs::Statements::names_of))]
 pub fn names_of(alloc: Global, line: u32, text: &[u8]) -> Result<Vec<Name>, NetError>
     ensures names { Gives (λ names. names.items) result (names_of_items line (items_of text.now)) }
@@ -100,7 +99,7 @@ pub fn names_of(alloc: Global, line: u32, text: &[u8]) -> Result<Vec<Name>, NetE
     Ok(names)
 }
 
-/// The one name of `names`.
+/// The only name of `names`; an error if there are others.
 pub fn alone(line: u32, names: Vec<Name>) -> Result<Name, NetError>
     ensures { Gives (λ n. n) result (alone_of line names.items) }
 {
@@ -115,7 +114,7 @@ pub fn alone(line: u32, names: Vec<Name>) -> Result<Name, NetError>
     }
 }
 
-/// The one name in brackets.
+/// The only name in parentheses.
 #[tactic(auto, unfolding(crate::specs::Statements::port_of))]
 pub fn port_of(alloc: Global, line: u32, text: &[u8]) -> Result<Name, NetError>
     ensures { Gives (λ n. n) result (port_of_items line (items_of text.now)) }

@@ -30,7 +30,7 @@ fn nothing(alloc: Global) -> Result<Listed, AllocError>
     })
 }
 
-/// What a text lists.
+/// The document of a text, line by line.
 #[tactic(auto, unfolding(crate::specs::Statements::listed_of, crate::specs::Statements::steps))]
 fn read_lines(alloc: Global, bytes: &[u8]) -> Result<Listed, NetError>
     requires { length bytes.now < 2 ^ 31 }
@@ -47,10 +47,10 @@ fn read_lines(alloc: Global, bytes: &[u8]) -> Result<Listed, NetError>
     Ok(listed)
 }
 
-/// The document of a text, with the names that the text drives and uses in its order.
+/// Parses a BENCH text: its document, with the names that it drives and reads in the order of the text.
 ///
-/// Lines are checked in their order, and the first fault is reported with its line. Whether the
-/// document is well formed isn't checked here.
+/// Lines are checked in order, and the first fault is reported with its line. Whether the document is well formed
+/// isn't checked here.
 #[tactic(auto, using(crate::specs::ListingLaws::listings))]
 pub fn read_listed(alloc: Global, bytes: &[u8]) -> Result<Listed, NetError>
     requires { length bytes.now < 2 ^ 31 }

@@ -1,4 +1,4 @@
--- A number that was read is within its limit.
+-- A parsed number is within its limit.
 use Rattle.std.proofs.Common.{◌≡◌, ℕ, ◌<◌, List, Option, Some, None, IfSome, arith, sym}
 use Rattle.text_core.specs.Numbers.{number_up_to}
 use Rattle.text_core.specs.ReadBack.{number_spells}

@@ -1,4 +1,4 @@
--- A gate stands at each place after the sources.
+-- Every node after the sources is a gate.
 use Rattle.std.proofs.Common.{◌≡◌, ℕ, ◌+◌, ◌≤◌, ◌<◌, List, length, ap, arith}
 use Rattle.net_theory.specs.declared.data.Gate.{Gate}
 use Rattle.net_theory.specs.Net.{Net}

@@ -1,4 +1,4 @@
-//! Formulas, and how large they are.
+//! The sizes of formulas.
 ghost use Rattle.std.specs.Prelude.{◌≤◌, length};
 
 use cnf_core::Cnf;
@@ -10,16 +10,16 @@ use op_basis::Basis;
 use std::alloc::Global;
 use tt_core::{Spec, read_tables};
 
-/// How large the formulas of a size are.
+/// The sizes of the formulas for one number of steps.
 #[derive(Clone, Copy)]
 pub struct Size {
-    /// How many formulas there are, one for each part of the size.
+    /// The number of formulas, one for each subproblem.
     pub formulas: u32,
-    /// The variables of the one that has most.
+    /// The largest number of variables of a formula.
     pub vars: u32,
-    /// The clauses of all together.
+    /// The total number of clauses.
     pub clauses: usize,
-    /// The literals of all together.
+    /// The total number of literals.
     pub literals: usize,
 }
 
@@ -33,7 +33,7 @@ fn count(size: &mut Size, cnf: &Cnf) {
     }
 }
 
-/// How large the formulas of an encoding are, over all operators.
+/// The sizes of the formulas of an encoding, over all operators.
 fn size_by<E: Encoding>(alloc: Global, encoding: &E, spec: &Spec, r: u32) -> Option<Size>
     requires { r ≤ 16 }
 {
@@ -51,7 +51,7 @@ fn size_by<E: Encoding>(alloc: Global, encoding: &E, spec: &Spec, r: u32) -> Opt
     Some(size)
 }
 
-/// How large the formulas of a size are by the method of a word.
+/// The sizes of the formulas by the method that a word names.
 fn size_of(alloc: Global, method: &[u8], spec: &Spec, r: u32) -> Option<Size>
     requires { r ≤ 16 }
 {
@@ -64,8 +64,8 @@ fn size_of(alloc: Global, method: &[u8], spec: &Spec, r: u32) -> Option<Size>
     }
 }
 
-/// How large the formulas of at most 16 steps are, where the text is one of tables and the word is a
-/// method.
+/// The sizes of the formulas for `r` steps, at most 16; None if the text isn't one of truth tables or the word
+/// isn't a method.
 pub fn build(alloc: Global, method: &[u8], text: &[u8], r: u32) -> Option<Size>
     requires { length text.now ≤ 65536 }
 {

@@ -1,4 +1,4 @@
-//! Checks a refutation log: `bench/make_log.py` writes what it reads.
+//! Checks a refutation log. The inputs are written by `bench/make_log.py`.
 ghost use Rattle.std.specs.Prelude.{◌<◌, IfSome};
 
 use cnf_core::{Clause, Cnf};
@@ -7,16 +7,16 @@ use lrat_text::{Line, LineError, read_line};
 use std::alloc::{AllocError, Global};
 use text_core::{after, next_item, next_line, number_up_to};
 
-/// Why a log has no verdict.
+/// Why a log wasn't checked to its end.
 #[derive(Clone, Copy, Debug)]
 pub enum Fault {
-    /// The formula isn't of its form.
+    /// The formula is malformed.
     Formula,
-    /// A line can't be read.
+    /// A line can't be parsed.
     Unread(LineError),
     /// A line is refused.
     Refused(CheckError),
-    /// Memory ran out.
+    /// Out of memory.
     Memory,
 }
 
@@ -57,7 +57,7 @@ fn count_in(text: &[u8]) -> Option<u32>
     number_up_to(999_999_999, text)
 }
 
-/// One more clause, which a line spells as an addition without hints.
+/// Adds a clause, which is written as an addition without hints.
 fn add(alloc: Global, cnf: &mut Cnf, text: &[u8]) -> Result<(), Fault> {
     let Line::Add { lits, .. } = read_line(alloc, text)? else {
         return Err(Fault::Formula);
@@ -70,7 +70,7 @@ fn add(alloc: Global, cnf: &mut Cnf, text: &[u8]) -> Result<(), Fault> {
     Ok(())
 }
 
-/// The formula at the beginning of a text, and what stands after it.
+/// The formula at the beginning of a text, and the rest of the text.
 pub fn formula(alloc: Global, text: &[u8]) -> Result<(Cnf, &[u8]), Fault> {
     let Some((first, _, rest)) = next_line(text) else {
         return Err(Fault::Formula);
@@ -90,7 +90,7 @@ pub fn formula(alloc: Global, text: &[u8]) -> Result<(Cnf, &[u8]), Fault> {
     Ok((cnf, left))
 }
 
-/// Feeds the lines of a log, where each of them holds.
+/// Feeds the lines of a log to the checker; each line must hold.
 fn feed_all(alloc: Global, checker: &mut Checker, log: &[u8]) -> Result<(), Fault> {
     let mut left = log;
     while let Some((line, _, rest)) = next_line(left) {
@@ -100,7 +100,7 @@ fn feed_all(alloc: Global, checker: &mut Checker, log: &[u8]) -> Result<(), Faul
     Ok(())
 }
 
-/// Whether the log after a formula refutes it, where each of its lines holds.
+/// Whether the log after a formula refutes it; each of its lines must hold.
 pub fn check(alloc: Global, text: &[u8]) -> Result<bool, Fault> {
     let (cnf, log) = formula(alloc, text)?;
     let mut checker = Checker::new(alloc, cnf)?;

@@ -1,4 +1,4 @@
-//! Counts what all windows of a net have.
+//! Counts the windows of a net, with their inputs, gates and outputs.
 
 ghost use Rattle.std.specs.Prelude.{◌≤◌, ◌<◌, Some};
 ghost use Rattle.window_theory.specs.Paths.{IsGate};
@@ -9,7 +9,7 @@ use net_core::Net;
 use std::alloc::{AllocError, Global};
 use window_core::{Readers, partners_by, readers_of, spec_of, window_by};
 
-/// How many windows there are, and what they have together.
+/// The number of windows, and totals over all of them.
 #[derive(Clone, Copy)]
 pub struct Count {
     pub windows: u64,
@@ -19,7 +19,7 @@ pub struct Count {
     pub rows: u64,
 }
 
-/// The windows of a root and a partner or none, with these counts.
+/// Counts the windows of a root, with a partner or without, for these numbers of gates.
 fn count_windows(
     alloc: Global,
     net: &Net,
@@ -34,7 +34,7 @@ fn count_windows(
     requires partner { IsPartnerOrNone net.now root partner }
     requires first { 1 ≤ first }
 {
-    let _sources = net.sources();
+    let _sources = net.sources(); // for the prover
     for size in first..6 {
         let Some(window) = window_by(alloc, net, readers, root, partner, size)? else {
             continue;
@@ -51,7 +51,7 @@ fn count_windows(
     Ok(())
 }
 
-/// The windows of a root, alone and with each of its partners.
+/// Counts the windows of a root, alone and with each partner.
 fn count_root(
     alloc: Global,
     net: &Net,
@@ -70,7 +70,7 @@ fn count_root(
     Ok(())
 }
 
-/// The windows of all roots.
+/// Counts the windows of all roots.
 pub fn count_all(alloc: Global, net: &Net) -> Result<Count, AllocError> {
     let mut count = Count {
         windows: 0,

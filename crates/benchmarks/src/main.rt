@@ -1,5 +1,5 @@
-//! The program `benchmarks`: the first word names the benchmark, whose input stands on the standard input. What
-//! it prints says that the work was done; how long that took is measured from outside.
+//! The program `benchmarks`: the first argument names the benchmark, whose input comes from standard input. The
+//! output shows that the work was done; the time is measured from outside.
 #![tactic(auto)]
 
 mod building;
@@ -15,16 +15,16 @@ use std::alloc::{AllocError, Global};
 use std::{env, io};
 use text_core::number_up_to;
 
-/// The most bytes that a benchmark reads.
+/// The maximal number of bytes that a benchmark reads.
 const MOST_BYTES: usize = 1_000_000_000;
 
-/// The most bytes of a netlist.
+/// The maximal number of bytes of a netlist.
 const MOST_OF_A_NETLIST: usize = 100_000_000;
 
-/// The most bytes of tables.
+/// The maximal number of bytes of truth tables.
 const MOST_OF_TABLES: usize = 65_536;
 
-/// What `check` found, in words.
+/// The report of `check`.
 fn report_check(alloc: Global, bytes: &[u8]) -> Result<String, AllocError> {
     match check::check(alloc, bytes) {
         Ok(refuted) => format!(in alloc; "refuted: {refuted}"),
@@ -32,7 +32,7 @@ fn report_check(alloc: Global, bytes: &[u8]) -> Result<String, AllocError> {
     }
 }
 
-/// What `new` found, in words.
+/// The report of `new`.
 fn report_new(alloc: Global, bytes: &[u8]) -> Result<String, AllocError> {
     match newness::count_new(alloc, bytes) {
         Ok(counted) => {
@@ -43,7 +43,7 @@ fn report_new(alloc: Global, bytes: &[u8]) -> Result<String, AllocError> {
     }
 }
 
-/// What `solve` found, in words.
+/// The report of `solve`.
 fn report_solve(alloc: Global, bytes: &[u8]) -> Result<String, AllocError> {
     match solving::solve_front(alloc, bytes) {
         Ok(outcome) => {
@@ -54,7 +54,7 @@ fn report_solve(alloc: Global, bytes: &[u8]) -> Result<String, AllocError> {
     }
 }
 
-/// What the windows of a netlist have, in words.
+/// The report of `windows`.
 fn report_windows(alloc: Global, bytes: &[u8]) -> Result<String, AllocError> {
     if bytes.len() > MOST_OF_A_NETLIST {
         return String::from_str(alloc, "too long");
@@ -69,7 +69,7 @@ fn report_windows(alloc: Global, bytes: &[u8]) -> Result<String, AllocError> {
     )
 }
 
-/// How large the formulas of tables are by a method and for a number of steps, in words.
+/// The report of the sizes of formulas, by a method and a number of steps.
 fn report_formulas(
     alloc: Global,
     method: &str,
@@ -91,7 +91,7 @@ fn report_formulas(
     }
 }
 
-/// How many gates there are after the changes that a word names, at a place, in words.
+/// The report of the number of gates after the changes that a word names, at a node.
 fn report_changes(alloc: Global, word: &str, place: &str) -> Result<String, AllocError> {
     let root = match place.parse::<u32>() {
         Ok(root) => root,
@@ -101,7 +101,7 @@ fn report_changes(alloc: Global, word: &str, place: &str) -> Result<String, Allo
     format!(in alloc; "{found}")
 }
 
-/// What the benchmark of a name found in a text, in words.
+/// The report of the benchmark with this name, on a text.
 fn report(alloc: Global, name: &str, bytes: &[u8]) -> Result<String, AllocError> {
     if name == "check" {
         return report_check(alloc, bytes);
@@ -121,7 +121,7 @@ fn report(alloc: Global, name: &str, bytes: &[u8]) -> Result<String, AllocError>
     )
 }
 
-/// What the benchmark that the words name found, in words.
+/// The report of the benchmark that the arguments name.
 fn report_words(alloc: Global, words: &[String], bytes: &[u8]) -> Result<String, AllocError> {
     if words.len() == 1 {
         return report(alloc, words[0].as_str(), bytes);
@@ -135,7 +135,7 @@ fn report_words(alloc: Global, words: &[String], bytes: &[u8]) -> Result<String,
     report(alloc, "", bytes)
 }
 
-/// Runs the benchmark that the words name.
+/// Runs the benchmark that the arguments name.
 fn main(rt: HostRuntime) -> io::Result<()> {
     let alloc = rt.alloc();
     let words: Vec<String> = env::args(&rt)?.skip(1).collect(alloc)?;

@@ -1,14 +1,14 @@
-//! Asks of each addition of a log whether its clause is new, of a checker with lists by literals.
+//! Counts the additions of a log whose clause is new, with a checker that keeps lists of clauses by literals.
 use crate::check::{Fault, formula};
 use lrat_check::Checker;
 use lrat_text::{Line, read_line};
 use std::alloc::Global;
 use text_core::next_line;
 
-/// How many additions a log has, and how many were of a new clause.
+/// The number of additions of a log, and of those with a new clause.
 #[derive(Clone, Copy)]
 pub struct Counted {
-    /// The additions of a new clause.
+    /// The additions with a new clause.
     pub new: u64,
     /// All additions.
     pub additions: u64,
@@ -22,7 +22,7 @@ impl Counted {
     }
 }
 
-/// Feeds one line, where it holds, and counts it where it is an addition.
+/// Feeds one line, which must hold, and counts it if it is an addition.
 fn feed_line(
     alloc: Global,
     checker: &mut Checker,
@@ -36,7 +36,7 @@ fn feed_line(
     Ok(checker.feed(line)?)
 }
 
-/// Counts the additions of a log, where each of its lines holds.
+/// Counts the additions of a log; each of its lines must hold.
 fn count_log(alloc: Global, checker: &mut Checker, log: &[u8]) -> Result<Counted, Fault> {
     let mut counted = Counted {
         new: 0,
@@ -50,7 +50,7 @@ fn count_log(alloc: Global, checker: &mut Checker, log: &[u8]) -> Result<Counted
     Ok(counted)
 }
 
-/// Counts them in the log after a formula, where each of its lines holds.
+/// Counts the additions of the log after a formula; each of its lines must hold.
 pub fn count_new(alloc: Global, text: &[u8]) -> Result<Counted, Fault> {
     let (cnf, log) = formula(alloc, text)?;
     let mut checker = Checker::indexed(alloc, cnf)?;

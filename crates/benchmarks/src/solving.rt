@@ -1,4 +1,4 @@
-//! Solves the formula at the front of a text, of the same form as `check` reads.
+//! Solves the formula at the beginning of a text, in the format that `check` reads.
 use crate::check::{Fault, formula};
 use cdcl_core::{Cdcl, Solved};
 use cnf_core::Cnf;
@@ -7,7 +7,7 @@ use lrat_text::Line;
 use sat_solve::Solver;
 use std::alloc::{AllocError, Global};
 
-/// The most clauses that the solver may learn.
+/// The maximal number of clauses that the solver may learn.
 const BUDGET: u32 = 10_000_000;
 
 /// How a formula was decided.
@@ -17,22 +17,22 @@ pub enum Answer {
     Satisfied,
     /// A log refutes it.
     Refuted,
-    /// The budget was spent.
+    /// The budget is exhausted.
     Open,
 }
 
-/// What a search came to.
+/// The outcome of a search.
 #[derive(Clone, Copy)]
 pub struct Outcome {
     /// How the formula was decided.
     pub answer: Answer,
-    /// The additions of the log, one for each conflict; 0 where the formula is satisfied.
+    /// The number of conflicts, which are the additions of the log; 0 if the formula is satisfied.
     pub conflicts: u64,
-    /// The hints of the log, one for each clause that the analysis went over.
+    /// The number of hints of the log, one for each clause that a conflict analysis resolved.
     pub hints: u64,
 }
 
-/// What a log of the solver shows.
+/// The outcome that a log of the solver shows.
 fn outcome_of(alloc: Global, answer: Answer, log: &Log) -> Result<Outcome, AllocError> {
     let mut conflicts = 0u64;
     let mut hints = 0u64;
@@ -63,7 +63,7 @@ fn solve_cnf(alloc: Global, cnf: &Cnf) -> Result<Outcome, AllocError> {
     }
 }
 
-/// Solves the formula at the front of a text.
+/// Solves the formula at the beginning of a text.
 pub fn solve_front(alloc: Global, text: &[u8]) -> Result<Outcome, Fault> {
     let (cnf, _log) = formula(alloc, text)?;
     Ok(solve_cnf(alloc, &cnf)?)

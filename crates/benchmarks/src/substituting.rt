@@ -1,5 +1,6 @@
-//! Measures what a change of a net costs: a chain of one step in the place of a gate (`splice`), dropping dead gates
-//! (`drop`), and the index of a net (`index`), each done 200 times on a net of 100,000 gates that a fixed generator makes.
+//! Measures the cost of changing a net: substituting a chain of one step for a gate (`splice`), removing dangling
+//! gates (`drop`), and building the index of a net (`index`), each 200 times on a fixed pseudorandom net of
+//! 100,000 gates.
 ghost use Rattle.std.specs.Prelude.{◌≡◌, ◌+◌, ◌≤◌, ◌<◌, ◌^◌, length, vec_len, IfOk, All};
 ghost use Rattle.net_theory.specs.Net.{AreGates, IsNet, IsSigBelow};
 ghost use Rattle.window_theory.specs.Window.{Belongs};
@@ -10,12 +11,12 @@ use std::alloc::{AllocError, Global};
 use subst_core::{WindowLists, splice};
 use window_core::{Window, readers_of, window};
 
-/// The next number of the generator.
+/// The next number of a linear congruential generator (Numerical Recipes).
 fn next(seed: u32) -> u32 {
     seed.wrapping_mul(1664525).wrapping_add(1013904223)
 }
 
-/// One of the last 2,000 places below an end.
+/// A pseudorandom node of the last 2,000 below `end`.
 fn place_below(seed: u32, end: u32) -> Sig
     requires { 2 ≤ end }
     ensures { IsSigBelow end result }
@@ -24,7 +25,7 @@ fn place_below(seed: u32, end: u32) -> Sig
     Sig::Place(end - 1 - (seed >> 4) % span)
 }
 
-/// Gates XOR on places below them.
+/// XOR gates on earlier nodes.
 fn gates(alloc: Global, sources: u32, count: u32) -> Result<Vec<Gate>, AllocError>
     requires some { 1 ≤ sources }
     requires few { sources + count < 2 ^ 31 }
@@ -48,7 +49,7 @@ fn gates(alloc: Global, sources: u32, count: u32) -> Result<Vec<Gate>, AllocErro
     Ok(gates)
 }
 
-/// Sinks on the last places.
+/// Sinks that are the last nodes.
 fn sinks(alloc: Global, end: u32, count: u32) -> Result<Vec<Sig>, AllocError>
     requires { count < end }
     ensures { IfOk result (λ sinks. All (IsSigBelow end) sinks.items) }
@@ -67,7 +68,7 @@ fn random_net(alloc: Global) -> Result<Net, AllocError> {
     Ok(Net::new(1000, gates, sinks))
 }
 
-/// The net in which the chain of a block has taken the place of a window.
+/// The net with the chain of a block substituted for a window.
 fn replaced(
     alloc: Global,
     net: &Net,
@@ -94,7 +95,7 @@ fn replaced(
     Ok(Some(splice(alloc, net, &lists, &chain)?))
 }
 
-/// The net in which the chain of a block has taken the place of the window of a root and a count.
+/// The net with the chain of a block substituted for the window of a root and a number of gates.
 fn spliced_net(
     alloc: Global,
     net: &Net,
@@ -115,7 +116,7 @@ fn spliced_net(
     replaced(alloc, net, &window, block)
 }
 
-/// The net in which XOR has taken the place of a gate, where it can.
+/// The net with XOR substituted for a gate, if possible.
 fn spliced(alloc: Global, net: Net, root: u32) -> Result<Net, AllocError> {
     match spliced_net(
         alloc,
@@ -129,13 +130,13 @@ fn spliced(alloc: Global, net: Net, root: u32) -> Result<Net, AllocError> {
     }
 }
 
-/// Makes the index of a net, and drops it.
+/// Builds the index of a net and drops it.
 fn indexed(alloc: Global, net: &Net) -> Result<(), AllocError> {
     let _readers = readers_of(alloc, net)?;
     Ok(())
 }
 
-/// Does what a word says 200 times, and tells how many gates there are then.
+/// Does what a word names 200 times, and returns the number of gates afterwards.
 pub fn substitute(alloc: Global, word: &str, root: u32) -> Result<usize, AllocError> {
     let mut net = random_net(alloc)?;
     if word == "splice" {

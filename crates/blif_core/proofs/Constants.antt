@@ -1,4 +1,4 @@
--- Constants that latches need, names that are written, and initial values.
+-- Constants that latches read, written names, and initial values.
 use Rattle.std.proofs.Common.{◌≡◌, List, [], ◌∷◌, ◌++◌, refl}
 use Rattle.std.specs.Prelude.{if◌then◌else◌}
 use Rattle.std.proofs.lemmas.Grind.{common_steps}
@@ -8,7 +8,7 @@ use Rattle.blif_core.specs.WrittenLaws.{written_init}
 
 pub ruleset names = (common_steps)
 
--- names in two lists, each once
+-- the set of the names of two lists
 pub each_once-append : (seen xs ys : List Name) → each_once (each_once seen xs) ys ≡ each_once seen (xs ++ ys)
 unfolding each_once
 each_once-append seen [] ys = refl

@@ -1,11 +1,11 @@
--- The cubes of tables that join all their inputs, one after the other.
+-- The cubes of AND and OR of all inputs, one after the other.
 use Rattle.std.proofs.Common.{◌≡◌, ℕ, zero, suc, ◌+◌, ◌<◌, List, [], ◌∷◌, ◌++◌, map, refl, sym, ap, ◌∙◌, arith, append_assoc}
 use Rattle.std.specs.Prelude.{◌-◌, replicate, slice_set}
 use Rattle.std.specs.List.{flat_map}
 use Rattle.std.proofs.lemmas.Grind.{common_steps}
 use Rattle.net_theory.specs.Whole.{ones, dashes, single_ones}
 
--- cubes of equal bytes, and with one byte changed
+-- cubes of equal bytes, with one byte changed
 pub same-ones : (width : ℕ) → replicate width 49 ≡ ones width
 same-ones zero = refl
 same-ones (suc width) = ap (λ (xs : List ℕ). 49 ∷ xs) (same-ones width)
@@ -32,7 +32,7 @@ dashes-push i cube =
     let e : suc i ≡ i + 1 = omega arith in
     sym (append_assoc (dashes i) (45 ∷ []) cube) ∙ ap (λ (xs : List ℕ). xs ++ cube) (dashes-last i ∙ ap dashes e)
 
--- the cubes, each after n dashes
+-- the cubes, each prefixed by n dashes
 abbrev pub behind : ℕ → List (List ℕ) → List (List ℕ)
 behind i cubes = map (λ (cube : List ℕ). dashes i ++ cube) cubes
 
@@ -44,7 +44,7 @@ behind-zero : (cubes : List (List ℕ)) → behind 0 cubes ≡ cubes
 behind-zero [] = refl
 behind-zero (c ∷ cubes) = ap (λ (cs : List (List ℕ)). c ∷ cs) (behind-zero cubes)
 
--- the cover lines of OR that are left to write
+-- the remaining cover lines of OR
 abbrev pub lines_left : (List ℕ → List ℕ) → ℕ → ℕ → List ℕ
 lines_left line width i = flat_map line (behind i (single_ones (width - i)))
 

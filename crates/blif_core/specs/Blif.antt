@@ -1,4 +1,4 @@
--- BLIF as a format.
+-- BLIF as a value of `Format`.
 use Rattle.std.specs.Prelude.{true}
 use Rattle.net_theory.specs.Circuit.{Circuit, IsProper}
 use Rattle.net_core.specs.Names.{HasRoom}
@@ -7,12 +7,10 @@ use Rattle.blif_text.specs.Statements.{listed_of}
 use Rattle.blif_core.specs.Written.{written}
 use Rattle.blif_core.specs.Spelling.{circuit_text}
 
--- what a text lists, the document that the writer makes of a circuit, and the text of a circuit;
--- gates may have any operator
+-- the parser, the writer's document and the text of a circuit; gates may have any operator
 abbrev pub blif_format : Format
 blif_format = record { listed = listed_of; written = written; text = circuit_text; operators = λ op. true }
 
--- Proper circuits can be written. Their names are fewer than 2^63, as in every circuit that fits
--- into a memory.
+-- Proper circuits can be written. They have fewer than 2^63 names, as every circuit that fits into memory.
 abbrev pub CanWrite : Circuit → Type 0
 CanWrite c = IsProper c × HasRoom c

@@ -1,4 +1,4 @@
--- Refusals of the parts of a text are refusals of the text, in each format.
+-- The errors of parsing and of elaboration are errors of the text, in each format.
 use Rattle.std.proofs.Common.{◌≡◌, ◌∙◌, ℕ, List, inl, inr}
 use Rattle.std.proofs.lemmas.Grind.{common_steps}
 use Rattle.std.specs.Prelude.{Result, Ok, Err, IfErr, None}
@@ -24,7 +24,7 @@ document_refused f bytes l e said h = inr (l, said, h)
 pub text_circuit : (f : Format) (bytes : List ℕ) (l : Listed) (c : Circuit) → f.listed bytes ≡ Ok l → fault_of l ≡ None → IsWellFormed l.document → IsCircuitOf l.document c → IsCircuitOfText f bytes c
 text_circuit f bytes l c said good well circuit = record { listed = l; said = said; good = good; well = well; circuit = circuit }
 
--- so a netlist is refused for lack of memory alone, by the lines as by the document
+-- so the only error of a netlist is out of memory, in both stages
 pub line_memory : {A : Type 0} (f : Format) (bytes : List ℕ) (r : Result A NetError) (e : NetError) → ListsWell f → IsErrAnd r (λ d. d ≡ e) → Fails e (f.listed bytes) → IfErr r (λ d. IsNetlist f bytes → d ≡ Memory)
 line_memory f bytes (Ok x) e lists is h = absurd is
 line_memory f bytes (Err d) e lists is h = λ netlist. is ∙ refused_memory f bytes e lists netlist (line_refused f bytes e h)

@@ -15,12 +15,12 @@ word_text name = 32 ∷ name
 abbrev pub words_text : List Name → List ℕ
 words_text names = flat_map word_text names
 
--- Names after a keyword, 16 on a line; the line has `count` of them already.
+-- Names after a keyword, 16 on a line; the current line already has `count` of them.
 unfoldable pub rest_text : List ℕ → ℕ → List Name → List ℕ
 rest_text keyword count [] = 10 ∷ []
 rest_text keyword count (n ∷ ns) = if count == 16 then 10 ∷ (keyword ++ word_text n ++ rest_text keyword 1 ns) else word_text n ++ rest_text keyword (count + 1) ns
 
--- Example: `.inputs a b`; with no name it is `.inputs`.
+-- Example: `.inputs a b`; without names it is `.inputs`.
 abbrev pub list_text : List ℕ → List Name → List ℕ
 list_text keyword names = keyword ++ rest_text keyword 0 names
 
@@ -43,7 +43,7 @@ abbrev pub init_text : Option ℕ → List ℕ
 init_text None = []
 init_text (Some init) = 32 ∷ (48 + init) ∷ []
 
--- an initial value of one digit
+-- the initial value has one digit
 abbrev pub HasInit : LatchLine → Type 0
 HasInit l = IsInit l.latch.init
 
@@ -55,12 +55,12 @@ abbrev pub digit_text : Bool → ℕ
 digit_text true = 49
 digit_text false = 48
 
--- a cube and a blank, or nothing where the table has no inputs
+-- a cube and a blank; nothing if the table has no inputs
 abbrev pub cube_text : List ℕ → List ℕ
 cube_text [] = []
 cube_text (b ∷ bs) = (b ∷ bs) ++ 32 ∷ []
 
--- a cover line; that of a table without inputs has its value alone
+-- a cover line; in a table without inputs it has only the value
 abbrev pub row_text : Bool → List ℕ → List ℕ
 row_text on cube = cube_text cube ++ digit_text on ∷ 10 ∷ []
 
@@ -75,7 +75,7 @@ model_text model = codes ".model" ++ word_text model ++ 10 ∷ []
 abbrev pub heading_text : Document → List ℕ
 heading_text d = model_text d.model ++ list_text (codes ".inputs") d.inputs ++ list_text (codes ".outputs") d.outputs ++ clocks_text d.clocks
 
--- model, inputs, outputs, clocks, latches, tables and the end
+-- the whole text: model, inputs, outputs, clocks, latches, tables and `.end`
 unfoldable pub spelled : Document → List ℕ
 spelled d = heading_text d ++ flat_map latch_text d.latches ++ flat_map table_text d.tables ++ codes ".end\n"
 

@@ -36,7 +36,7 @@ binary_table op first second output = table_with (first ∷ second ∷ []) (bina
 
 -- ---- gates
 
--- a gate whose first operand is a place
+-- a gate whose first operand is a node
 abbrev pub with_place : (ℕ → Name) → Name → ℕ → ℕ → Sig → Table
 with_place name output op p (Place q) = if p == q then unary_table (apply op false false) (apply op true true) (name p) output else binary_table op (name p) (name q) output
 with_place name output op p Zero = unary_table (apply op false false) (apply op true false) (name p) output
@@ -53,18 +53,17 @@ table_by name output op (Place p) b = with_place name output op p b
 table_by name output op Zero b = with_bit name output op false b
 table_by name output op One b = with_bit name output op true b
 
--- A gate is written as a function of the different places that it reads, in the order of its
--- operands.
+-- A gate is written as a function of its distinct fanins, in the order of its operands.
 unfoldable pub gate_table : (ℕ → Name) → Name → Gate → Table
 gate_table name output g = table_by name output g.op g.a g.b
 
--- the tables of gates, with their names, in the order of their places
+-- the tables of gates, with their names, in the order of their nodes
 unfoldable pub gate_tables : (ℕ → Name) → List Gate → List Name → List Table
 gate_tables name [] ns = []
 gate_tables name (g ∷ gs) [] = []
 gate_tables name (g ∷ gs) (n ∷ ns) = gate_table name n g ∷ gate_tables name gs ns
 
--- ---- constants that latches need
+-- ---- constants that latches read
 
 abbrev pub is_zero : Sig → Bool
 is_zero Zero = true
@@ -80,7 +79,7 @@ is_one (Place p) = false
 abbrev pub next_states : Circuit → List Sig
 next_states c = drop (length c.outputs) c.net.sinks
 
--- the name of the constant 1; that of 0, where a latch needs it, comes first
+-- the name of the constant 1, the one after the name of 0 if a latch reads 0
 abbrev pub one_name : Circuit → Name
 one_name c = if list_any is_zero (next_states c) then second_spare c else first_spare c
 
@@ -103,7 +102,7 @@ latch_lines name (l ∷ ls) (s ∷ sinks) = record { input = name s; latch = l }
 
 -- ---- outputs
 
--- the table of an output: a constant, or a copy of a place
+-- the table of an output: a constant, or a copy of a node
 abbrev pub output_table : (ℕ → Name) → Name → Sig → Table
 output_table name output Zero = constant_table false output
 output_table name output One = constant_table true output
@@ -117,20 +116,19 @@ output_tables name written (o ∷ os) (s ∷ sinks) = if has written o then outp
 
 -- ---- the document
 
--- the names that sources and gates drive
+-- the names of the sources and the gates
 abbrev pub driven_before : Circuit → List Name
 driven_before c = each_once [] (sources_of c ++ gate_names c)
 
 abbrev pub tables_of : Circuit → List Table
 tables_of c = gate_tables (place_name c) c.net.gates (gate_names c) ++ constant_tables c ++ output_tables (place_name c) (driven_before c) c.outputs c.net.sinks
 
--- the document of a circuit, but for its latches and tables
+-- the document of a circuit, without its latches and tables
 abbrev pub heading : Circuit → Document
 heading c = record { model = c.model; inputs = c.inputs; outputs = c.outputs; clocks = c.clocks; latches = []; tables = [] }
 
--- The gates in the order of their places, then the constants that latches need, then the outputs
--- whose names neither a source nor a gate has. A gate that is an output has the first such output's
--- name.
+-- The gates in the order of their nodes, then the constants that latches read, then the outputs that no source or
+-- gate names. A gate that drives outputs has the name of the first of them.
 -- Example: for XOR of a and b with the outputs y and z it is `.names a b y` with `01 1` and `10 1`,
 -- and `.names y z` with `1 1`.
 unfoldable pub written : Circuit → Document

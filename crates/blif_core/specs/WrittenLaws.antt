@@ -1,4 +1,4 @@
--- The latches of a document that the writer makes have initial values of one digit.
+-- In the writer's document the latches' initial values have one digit.
 use Rattle.std.proofs.Common.{List, [], ◌∷◌}
 use Rattle.std.specs.Prelude.{All}
 use Rattle.std.proofs.lemmas.List.Elements.{All-nil, All-cons, All-head, All-tail}

@@ -1,5 +1,5 @@
-//! The cover lines of tables that join all their inputs: one for AND, and one for each input for
-//! OR. A parity has none here.
+//! The cover lines of tables that are AND or OR of all their inputs: one line for AND, and one for each input for
+//! OR. Parities aren't written here.
 
 ghost use Rattle.std.specs.Prelude.{◌≡◌, ◌-◌, ◌<◌, ◌∷◌, ◌++◌, OnOk, IfOk};
 ghost use Rattle.std.specs.List.{flat_map};
@@ -11,7 +11,7 @@ use crate::spelling::push_row;
 use net_core::{Connective, Whole};
 use std::alloc::{AllocError, Global};
 
-/// The cube that asks each input for 1.
+/// The cube with a `1` for each input.
 #[tactic(auto, using(crate::proofs::JoinedRows::cubes))]
 fn ones(alloc: Global, width: u32) -> Result<Vec<u8>, AllocError>
     ensures { IfOk result (λ cube. cube.items ≡ ones_of width) }
@@ -19,7 +19,7 @@ fn ones(alloc: Global, width: u32) -> Result<Vec<u8>, AllocError>
     Ok(vec![in alloc; b'1'; width as usize]?)
 }
 
-/// The cube that asks the input `place`, counted from 0, for 1, and no other.
+/// The cube whose only literal is the input with this index, counted from 0.
 #[tactic(auto, using(crate::proofs::JoinedRows::cubes))]
 fn single(alloc: Global, width: u32, place: u32) -> Result<Vec<u8>, AllocError>
     requires { place < width }
@@ -50,7 +50,7 @@ fn push_singles(text: &mut Vec<u8>, on: bool, width: u32) -> Result<(), AllocErr
     Ok(())
 }
 
-/// Adds the cover lines of a table that joins all its inputs.
+/// Adds the cover lines of AND or OR of all inputs.
 pub fn push_joined(text: &mut Vec<u8>, whole: Whole) -> Result<(), AllocError>
     ensures { OnOk result (text.new.items ≡ text.old.items ++ flat_map (spelling.row_text (whole_cover whole).on) (whole_cover whole).cubes) }
 {

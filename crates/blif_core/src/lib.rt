@@ -1,9 +1,9 @@
-//! BLIF netlists (the Berkeley BLIF manual) read and written. `read_blif` answers the circuit of a
-//! text exactly where the text lists a well-formed document, and else the first fault; `write_blif`
-//! appends the text of a circuit. The definitions are those of `net_theory` and `blif_text`.
+//! Reading and writing BLIF netlists (the Berkeley BLIF manual). `read_blif` returns the circuit of a text
+//! exactly if the text lists a well-formed document, and else the first fault; `write_blif` appends the text of a
+//! circuit. The definitions are those of `net_theory` and `blif_text`.
 //!
-//! The one theorem: the circuit that is read computes what its text's document says, under every
-//! assignment of inputs and latches, with as many gates as the document costs.
+//! The main theorem: the circuit is equivalent to the document that its text lists, with as many gates as the
+//! document costs.
 //!
 //! ```text
 //! let circuit = read_blif(alloc, b".model m\n.inputs a b\n.outputs y\n.names a b y\n11 1\n.end\n")?;

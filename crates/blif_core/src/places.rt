@@ -1,4 +1,4 @@
-//! The names of places.
+//! The names of nodes.
 
 ghost use Rattle.std.specs.Prelude.{◌≡◌};
 ghost use Rattle.net_theory.specs.Circuit.{sources_of};
@@ -7,7 +7,7 @@ ghost use Rattle.std.specs.Prelude.{[], slice_index_or};
 
 use net_core::{Circuit, Name};
 
-/// The name at an index; nothing where there is none.
+/// The name at an index; empty if out of range.
 fn name_at(names: &[Name], at: usize) -> &[u8]
     ensures { result.now ≡ slice_index_or names.now at [] }
 {
@@ -36,7 +36,7 @@ fn source_name(circuit: &Circuit, at: usize) -> &[u8]
     }
 }
 
-/// The name of a place, where the gates have the names `names`.
+/// The name of a node; `names` are the names of the gates.
 #[tactic(auto, unfolding(net_theory::specs::Naming::place_name))]
 pub fn place_name<'a>(circuit: &'a Circuit, names: &'a [Name], place: u32) -> &'a [u8]
     requires { names.now ≡ gate_names circuit.now }

@@ -1,4 +1,4 @@
-//! The text of a document.
+//! Writing the BLIF text of a document.
 
 ghost use Rattle.std.specs.Prelude.{◌≡◌, ◌≤◌, ◌∷◌, ◌++◌, List, All, IfOk, OnOk, OnErr};
 ghost use Rattle.std.specs.List.{flat_map};
@@ -33,7 +33,7 @@ fn push_words(text: &mut Vec<u8>, names: &[Name]) -> Result<(), AllocError>
     Ok(())
 }
 
-/// Adds a name to a line of `count` names, or to a new line after 16, and answers the new count.
+/// Adds a name to a line of `count` names, or to a new line after 16 names, and returns the new count.
 #[tactic(auto, unfolding(crate::specs::Spelling::rest_text))]
 fn push_name(
     text: &mut Vec<u8>,
@@ -57,7 +57,7 @@ fn push_name(
     Ok(1)
 }
 
-/// Adds names under a keyword, 16 on a line.
+/// Adds names after a keyword, 16 on a line.
 #[tactic(auto, unfolding(crate::specs::Spelling::rest_text))]
 fn push_list(text: &mut Vec<u8>, keyword: &[u8], names: &[Name]) -> Result<(), AllocError>
     ensures { OnOk result (text.new.items ≡ text.old.items ++ spelling.list_text keyword.now names.now) }
@@ -73,7 +73,7 @@ fn push_list(text: &mut Vec<u8>, keyword: &[u8], names: &[Name]) -> Result<(), A
     Ok(())
 }
 
-/// Adds the clocks, where there are any.
+/// Adds the clocks, if there are any.
 fn push_clocks(text: &mut Vec<u8>, clocks: &[Name]) -> Result<(), AllocError>
     ensures { OnOk result (text.new.items ≡ text.old.items ++ spelling.clocks_text clocks.now) }
 {
@@ -96,7 +96,7 @@ fn trigger_word(trigger: Trigger) -> &'static [u8]
     }
 }
 
-/// Adds a control, where there is one.
+/// Adds a control, if there is one.
 fn push_control(text: &mut Vec<u8>, control: &Option<(Trigger, Name)>) -> Result<(), AllocError>
     ensures { OnOk result (text.new.items ≡ text.old.items ++ spelling.control_text control.now) }
 {
@@ -107,7 +107,7 @@ fn push_control(text: &mut Vec<u8>, control: &Option<(Trigger, Name)>) -> Result
     Ok(())
 }
 
-/// Adds an initial value, where there is one.
+/// Adds an initial value, if there is one.
 fn push_init(text: &mut Vec<u8>, init: Option<u8>) -> Result<(), AllocError>
     requires { IsInit init }
     ensures { OnOk result (text.new.items ≡ text.old.items ++ spelling.init_text init) }
@@ -141,7 +141,7 @@ fn digit(on: bool) -> u8
     if on { b'1' } else { b'0' }
 }
 
-/// Adds a cube and a blank; nothing where the table has no inputs.
+/// Adds a cube and a blank; nothing if the table has no inputs.
 fn push_cube(text: &mut Vec<u8>, cube: &[u8]) -> Result<(), AllocError>
     ensures { OnOk result (text.new.items ≡ text.old.items ++ spelling.cube_text cube.now) }
 {
@@ -213,7 +213,7 @@ fn push_latches(text: &mut Vec<u8>, latches: &[LatchLine]) -> Result<(), AllocEr
     Ok(())
 }
 
-/// Adds the line of the model's name.
+/// Adds the model's line.
 fn push_model(text: &mut Vec<u8>, model: &[u8]) -> Result<(), AllocError>
     ensures { OnOk result (text.new.items ≡ text.old.items ++ spelling.model_text model.now) }
 {
@@ -223,7 +223,7 @@ fn push_model(text: &mut Vec<u8>, model: &[u8]) -> Result<(), AllocError>
     Ok(())
 }
 
-/// Adds the lines of the model and of inputs, outputs and clocks.
+/// Adds the lines of the model, the inputs, the outputs and the clocks.
 fn push_heading(text: &mut Vec<u8>, document: &Document) -> Result<(), AllocError>
     ensures { OnOk result (text.new.items ≡ text.old.items ++ spelling.heading_text document.now) }
 {
@@ -247,9 +247,9 @@ fn push_document(text: &mut Vec<u8>, document: &Document) -> Result<(), AllocErr
     Ok(())
 }
 
-/// Appends the BLIF text of a document (the Berkeley BLIF manual): the model, the inputs, outputs
-/// and clocks, 16 on a line, the latches, the tables with their cover lines, and `.end`. The text
-/// is made apart and appended at once, so that nothing is appended where memory runs out.
+/// Appends the BLIF text of a document (the Berkeley BLIF manual): the model, the inputs, outputs and clocks (16
+/// names on a line), the latches, the tables with their cover lines, and `.end`. The text is built separately and
+/// appended at once, so that nothing is appended if memory runs out.
 pub fn write_document(text: &mut Vec<u8>, document: &Document) -> Result<(), AllocError>
     requires { All HasInit document.now.latches }
     ensures ok { OnOk result (text.new.items ≡ text.old.items ++ spelling.spelled document.now) }

@@ -1,4 +1,4 @@
-//! Gates and constants as tables.
+//! The tables of gates and constants.
 
 ghost use Rattle.std.specs.Prelude.{◌≡◌, ◌++◌, OnOk, IfOk};
 ghost use Rattle.net_theory.specs.Naming.{gate_names, place_name as place_name_of};
@@ -10,7 +10,7 @@ use net_core::{Body, Circuit, Cover, Cube, Gate, Name, Op, Sig};
 use net_document::Table;
 use std::alloc::{AllocError, Global};
 
-/// Adds the cube `row`, where `is_wanted`.
+/// Adds the cube `row`, if `is_wanted`.
 fn push_row(
     alloc: Global,
     cubes: &mut Vec<Cube>,
@@ -68,7 +68,7 @@ pub fn unary_table(
     })
 }
 
-/// The rows on which an operator is 1.
+/// The cubes of the rows on which an operator is 1.
 #[tactic(auto, unfolding(crate::specs::Written::binary_cubes))]
 fn binary_cubes(alloc: Global, op: Op) -> Result<Vec<Cube>, AllocError>
     ensures { IfOk result (λ cubes. cubes.items ≡ binary_cubes_of op) }
@@ -106,7 +106,7 @@ fn binary_table(
     })
 }
 
-/// The table of a gate whose first operand is a place.
+/// The table of a gate whose first operand is a node.
 fn with_place(
     alloc: Global,
     circuit: &Circuit,
@@ -168,7 +168,7 @@ fn with_bit(
     }
 }
 
-/// The table of a gate: a function of the different places that it reads.
+/// The table of a gate: a function of its distinct fanins.
 #[tactic(auto, unfolding(crate::specs::Written::gate_table))]
 pub fn gate_table(
     alloc: Global,

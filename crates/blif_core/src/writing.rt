@@ -1,5 +1,4 @@
-//! The one writer: the document of a circuit, whose text is appended at once, so that nothing is
-//! appended where memory runs out.
+//! The writer: the text of a circuit's document, appended at once, so that nothing is appended if memory runs out.
 
 ghost use Rattle.std.specs.Prelude.{◌≡◌, ◌++◌, OnOk, OnErr};
 ghost use Rattle.net_theory.specs.Circuit.{IsProper};
@@ -11,9 +10,9 @@ use crate::written::document_of;
 use net_core::Circuit;
 use std::alloc::AllocError;
 
-/// Appends the BLIF text of a circuit: the model, the inputs, outputs and clocks, the latches, the
-/// gates in the order of their places with the names of `gate_names`, the constants that latches
-/// need, and the outputs whose names neither a source nor a gate has.
+/// Appends the BLIF text of a circuit: the model, the inputs, outputs and clocks, the latches, the gates in the
+/// order of their nodes with the names of `gate_names`, the constants that latches read, and the outputs that no
+/// source or gate names.
 #[tactic(auto, using(crate::proofs::Constants::inits))]
 pub fn write_blif(circuit: &Circuit, out: &mut Vec<u8>) -> Result<(), AllocError>
     requires { IsProper circuit.now }

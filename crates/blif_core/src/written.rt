@@ -63,7 +63,7 @@ fn copies(alloc: Global, names: &[Name]) -> Result<Vec<Name>, AllocError>
     Ok(copies)
 }
 
-/// Adds the tables of `gates`, with the names `outputs`.
+/// Adds the tables of `gates`; `outputs` are the names of the gates.
 #[tactic(auto, unfolding(crate::specs::Written::gate_tables))]
 fn push_gates(
     alloc: Global,
@@ -98,7 +98,7 @@ fn latch_sinks(circuit: &Circuit) -> &[Sig]
     &circuit.net.sinks()[outputs..]
 }
 
-/// The name of a signal: a place or a constant.
+/// The name of a signal: a node or a constant.
 #[tactic(auto, using(crate::proofs::Constants::names))]
 fn sig_name<'a>(
     circuit: &'a Circuit,
@@ -119,7 +119,7 @@ fn sig_name<'a>(
     }
 }
 
-/// The name of the constant 1, which comes after that of 0.
+/// The name of the constant 1, the one after the name of 0 if that is needed.
 fn one_name(names: &GateNames, is_zero_needed: bool) -> &[u8]
     ensures { result.now ≡ (if is_zero_needed then names.now.second_spare else names.now.first_spare) }
 {
@@ -186,7 +186,7 @@ fn push_latches(
     Ok(())
 }
 
-/// Adds the table of a constant, where `is_needed`.
+/// Adds the table of a constant, if `is_needed`.
 fn push_constant(
     alloc: Global,
     is_needed: bool,
@@ -202,7 +202,7 @@ fn push_constant(
     Ok(())
 }
 
-/// Adds the tables of the constants that latches need.
+/// Adds the tables of the constants that latches read.
 #[tactic(auto, unfolding(crate::specs::Written::constant_tables))]
 fn push_constants(
     alloc: Global,
@@ -228,7 +228,7 @@ fn push_constants(
     push_constant(alloc, has_one(sinks), true, one, tables)
 }
 
-/// The table of an output: a constant, or a copy of a place.
+/// The table of an output: a constant, or a copy of a node.
 fn output_table(
     alloc: Global,
     circuit: &Circuit,
@@ -322,7 +322,7 @@ fn take_written(
     Ok(())
 }
 
-/// Adds the tables of the outputs whose names neither a source nor a gate has.
+/// Adds the tables of the outputs that no source or gate names.
 fn push_others(
     alloc: Global,
     circuit: &Circuit,
@@ -348,8 +348,7 @@ fn push_others(
     )
 }
 
-/// Adds the tables of a circuit: gates, constants that latches need, and outputs whose names
-/// neither a source nor a gate has.
+/// Adds the tables of a circuit: gates, constants that latches read, and outputs that no source or gate names.
 fn push_tables(
     alloc: Global,
     circuit: &Circuit,
@@ -387,7 +386,7 @@ fn push_lists(
     push_latches(alloc, circuit, &names, &circuit.latches, lines)
 }
 
-/// The document of a circuit, but for its latches and tables.
+/// The document of a circuit, without its latches and tables.
 fn heading(alloc: Global, circuit: &Circuit) -> Result<Document, AllocError>
     ensures { IfOk result (λ d. d ≡ written.heading circuit.now) }
 {
@@ -401,9 +400,8 @@ fn heading(alloc: Global, circuit: &Circuit) -> Result<Document, AllocError>
     })
 }
 
-/// The document that the writer makes of a circuit: the gates in the order of their places with the
-/// names of `gate_names`, the constants that latches need, and the outputs whose names neither a
-/// source nor a gate has.
+/// The document that the writer makes of a circuit: the gates in the order of their nodes with the names of
+/// `gate_names`, the constants that latches read, and the outputs that no source or gate names.
 #[tactic(auto, unfolding(crate::specs::Written::written))]
 pub fn document_of(alloc: Global, circuit: &Circuit) -> Result<Document, AllocError>
     requires { IsProper circuit.now }

@@ -1,4 +1,4 @@
--- The names of a circuit's places where it is written: they are valid, and differ.
+-- In the written text the names of a circuit's nodes are valid and distinct.
 use Rattle.std.specs.Prelude.{◌≡◌, ℕ, zero, suc, ◌+◌, ◌-◌, ◌^◌, ◌≤◌, ◌<◌, true, false, nat_le, List, [], ◌∷◌, ◌++◌, length, map, slice_get, slice_index_or, Option, Some, ◌⊎◌, refl}
 use Rattle.std.specs.List.{filter_map}
 use Rattle.std.proofs.Common.{arith, sym, ◌∙◌, ap, subst, inl, inr, ⊎_elim, length-append}
@@ -18,14 +18,14 @@ use Rattle.net_core.specs.Names.{HasRoom}
 use Rattle.blif_laws.proofs.FreeNames.{AreFree, free_are, free_enough}
 use Rattle.blif_laws.proofs.GivenNames.{AreSeated, Given, given_all}
 
--- ---- outputs at places
+-- ---- outputs of nodes
 
 is_at_place : (s : Sig) (p : ℕ) → is_at s p ≡ true → s ≡ Place p
 is_at_place Zero p e = absurd cc
 is_at_place One p e = absurd cc
 is_at_place (Place q) p e = ap Place (eqb-true q p e)
 
--- an output at a place is one of the outputs, and its sink is that place
+-- an output of a node is one of the outputs, and its sink is that node
 pub output_found : (outs : List Name) (sinks : List Sig) (p : ℕ) (o : Name) → output_on outs sinks p ≡ Some o → (i : ℕ) × (slice_get outs i ≡ Some o) × (slice_get sinks i ≡ Some (Place p))
 unfolding output_on
 output_found [] sinks p o e = absurd cc
@@ -39,14 +39,14 @@ output_found (x ∷ os) (s ∷ sinks) p o e =
 index_at : {A : Type 0} (xs : List A) (i : ℕ) (x d : A) → slice_get xs i ≡ Some x → slice_index_or xs i d ≡ x
 index_at xs i x d e = get_or_from_slice_get xs i x d e
 
--- outputs of one name have one sink
+-- outputs with the same name have the same sink
 pub outputs_same : (c : Circuit) (i j : ℕ) (o : Name) (s t : Sig) → IsProper c → slice_get c.outputs i ≡ Some o → slice_get c.outputs j ≡ Some o → slice_get c.net.sinks i ≡ Some s → slice_get c.net.sinks j ≡ Some t → s ≡ t
 outputs_same c i j o s t is at_i at_j sink_i sink_j =
     sym (index_at c.net.sinks i s Zero sink_i)
     ∙ is.equal_outputs i j (slice_get_within c.outputs i o at_i) (slice_get_within c.outputs j o at_j) (index_at c.outputs i o [] at_i ∙ sym (index_at c.outputs j o [] at_j))
     ∙ index_at c.net.sinks j t Zero sink_j
 
--- an output with a source's name is that source
+-- an output with a source's name is driven by that source
 pub output_source : (c : Circuit) (i j : ℕ) (o : Name) (s : Sig) → IsProper c → slice_get c.outputs i ≡ Some o → slice_get (sources_of c) j ≡ Some o → slice_get c.net.sinks i ≡ Some s → s ≡ Place (j + 1)
 output_source c i j o s is at_i at_j sink_i =
     sym (index_at c.net.sinks i s Zero sink_i)
@@ -139,7 +139,7 @@ two_in (x ∷ y ∷ xs) low = record { first = x; second = y; more = xs; is = re
 not_taken : (c : Circuit) (n : Name) → has (taken_set c) n ≡ false → has (taken_names c) n ≡ false
 not_taken c n e = sym (has_all_once (taken_names c) n) ∙ e
 
--- the free names that are left are no gate's
+-- no gate has one of the remaining free names
 left_spare : (c : Circuit) (n : Name) (is : IsProper c) (small : HasRoom c) → has (all_named c).free n ≡ true → IsSpare c n
 left_spare c n is small left =
     let free = free_is c is small in
@@ -207,9 +207,9 @@ circuit_named c is small =
           (subst (λ (x : Name). has (two.second ∷ two.more) x ≡ true) (sym (sym at_first ∙ same ∙ at_second)) (has_first two.second two.more));
     }
 
--- ---- places
+-- ---- nodes
 
--- the names of all places, in order
+-- the names of all nodes, in order
 abbrev pub placed : Circuit → List Name
 placed c = sources_of c ++ gate_names c
 

@@ -1,4 +1,4 @@
--- The free numbered names are valid, differ, and are enough.
+-- There are enough free numbered names, and they are valid and distinct.
 use Rattle.std.specs.Prelude.{◌≡◌, ℕ, zero, suc, ◌+◌, ◌^◌, ◌≤◌, ◌<◌, Bool, true, false, not, if◌then◌else◌, List, [], ◌∷◌, length, map, filter, count_by, refl}
 use Rattle.std.specs.List.{range_with_len}
 use Rattle.std.proofs.Common.{arith, sym, ◌∙◌, ap, subst, ⊎_elim}
@@ -21,7 +21,7 @@ numbered_name k low = letter_name 103 k (omega arith) (omega arith) low
 numbered_same : (j k : ℕ) → j < 2 ^ 64 → k < 2 ^ 64 → numbered j ≡ numbered k → j ≡ k
 numbered_same j k low_j low_k e = (letters_same 103 103 j k low_j low_k e).1
 
--- ---- and differ
+-- ---- and distinct
 
 abbrev numbered_from : ℕ → ℕ → List Name
 numbered_from from count = map numbered (range_with_len from count)
@@ -45,7 +45,7 @@ numbered_distinct from (suc count) low =
     omega (arith, same, r.1)))
     (numbered_distinct (from + 1) count (omega (arith, low)))
 
--- ---- what a filter keeps
+-- ---- filters
 
 kept_had : (test : Name → Bool) (ns : List Name) (n : Name) → has (filter test ns) n ≡ true → has ns n ≡ true
 kept_had test [] n e = e
@@ -63,7 +63,7 @@ kept_distinct test (m ∷ ns) e =
     (λ kept. cons_distinct m (filter test ns) (false_from_ne_true (has (filter test ns) m) (λ there. both_ways (has ns m) parts.0 (kept_had test ns m there))) (kept_distinct test ns parts.1))
     (λ passed. kept_distinct test ns parts.1)
 
--- ---- how many names of a list are in another
+-- ---- the number of names of a list that are in another list
 
 count_cons : (p : Name → Bool) (n : Name) (ns : List Name) → count_by p (n ∷ ns) ≡ (if p n then 1 else 0) + count_by p ns
 count_cons p n ns = sum_by-cons (λ (x : Name). if p x then 1 else 0) n ns
@@ -86,7 +86,7 @@ times_is : (m : Name) (ns : List Name) → count_by (is_same m) ns ≡ times m n
 unfolding times
 times_is m ns = refl
 
--- one more name among those that are counted
+-- one more counted name
 count_more : (m : Name) (ms ns : List Name) → count_by (has (m ∷ ms)) ns ≤ count_by (has ms) ns + count_by (is_same m) ns
 count_more m ms [] = omega arith
 count_more m ms (n ∷ ns) =
@@ -105,7 +105,7 @@ no_count : (ns : List Name) → count_by (has []) ns ≡ 0
 no_count [] = refl
 no_count (n ∷ ns) = omega (arith, count_no (has []) n ns (false_from_ne_true (has [] n) (λ e. has_none n e)), no_count ns)
 
--- of names that differ at most as many are in a list as it has
+-- a list has at most as many of distinct names as it has elements
 count_few : (ms ns : List Name) → are_distinct ns ≡ true → count_by (has ms) ns ≤ length ms
 count_few [] ns e = omega (arith, no_count ns)
 count_few (m ∷ ms) ns e = omega (arith, count_more m ms ns, times_is m ns, distinct_times ns m e, count_few ms ns e)
@@ -116,7 +116,7 @@ range_length : (from count : ℕ) → length (range_with_len from count) ≡ cou
 range_length from zero = refl
 range_length from (suc count) = ap suc (range_length (from + 1) count)
 
--- free names: they are valid, differ, and none is taken
+-- free names are valid and distinct, and none is taken
 pub record AreFree (taken free : List Name) : Type 0 where
   pub names : (n : Name) → has free n ≡ true → IsName n
   pub apart : (n : Name) → has free n ≡ true → has taken n ≡ false

@@ -1,4 +1,4 @@
--- A gate and an output as tables: their inputs, costs and values.
+-- The tables of gates and outputs: their inputs, costs and values.
 use Rattle.std.specs.Prelude.{◌≡◌, ℕ, ◌≤◌, ◌<◌, Bool, true, false, ◌&&◌, ◌||◌, ◌==◌, if◌then◌else◌, List, [], ◌∷◌, ◌++◌, length, map, All, refl}
 use Rattle.std.specs.List.{list_any}
 use Rattle.std.proofs.Common.{arith, sym, ◌∙◌, ap, ⊎_elim, length-append}
@@ -199,7 +199,7 @@ binary_table_cost op first second output =
 
 -- ---- a gate
 
--- t has the value of the gate g, reads places below `place`, and costs at most a gate
+-- t has the value of the gate g, reads nodes below `place`, and costs at most one gate
 pub record IsGateTable (name : ℕ → Name) (place : ℕ) (output : Name) (g : Gate) (t : Table) : Type 0 where
   pub drives : t.output ≡ output
   pub table : IsSpelledTable t
@@ -289,7 +289,7 @@ gate_is name place output g names is at = gate_by name place output g.op g.a g.b
 
 -- ---- an output
 
--- t has the value of the signal s, reads places below `place`, and costs nothing
+-- t has the value of the signal s, reads nodes below `place`, and costs nothing
 pub record IsOutputTable (name : ℕ → Name) (place : ℕ) (output : Name) (s : Sig) (t : Table) : Type 0 where
   pub drives : t.output ≡ output
   pub table : IsSpelledTable t
@@ -321,6 +321,6 @@ output_is name place output (Place p) names is below = record {
   value = λ v. unary_value false true (v (name p)) (name p) output ∙ pick_copy (v (name p));
 }
 
--- a constant that a latch needs
+-- a constant that a latch reads
 pub constant_hold : (v : Name → Bool) (bit : Bool) (output : Name) → v output ≡ cover_value (constant_table bit output).cover (map v []) → v output ≡ bit
 constant_hold v bit output holds = holds ∙ constant_value bit output

@@ -1,4 +1,4 @@
--- Each gate has the name of the first output at its place, or a free name.
+-- Each gate has the name of its first output, or a free name.
 use Rattle.std.specs.Prelude.{◌≡◌, ℕ, zero, suc, ◌+◌, ◌≤◌, true, false, List, [], ◌∷◌, ◌++◌, length, slice_get, Option, Some, None, ◌⊎◌, refl}
 use Rattle.std.proofs.Common.{arith, sym, ◌∙◌, ap, subst, inl, inr, ⊎_elim, append_assoc, append-nil}
 use Rattle.std.proofs.lemmas.Bool.{both_ways, false_from_ne_true}
@@ -7,12 +7,12 @@ use Rattle.net_theory.specs.Document.{Name, has, are_distinct}
 use Rattle.net_theory.specs.NameLaws.{has_place, has_first, has_later, has_left, cons_distinct, distinct_cons}
 use Rattle.net_theory.specs.Naming.{Naming, named, names_after}
 
--- outputs at places: each name is taken, and is at one place
+-- the outputs of nodes: their names are taken, and each name belongs to one node
 pub record AreSeated (output_at : ℕ → Option Name) (taken : List Name) : Type 0 where
   pub had : (p : ℕ) (o : Name) → output_at p ≡ Some o → has taken o ≡ true
   pub once : (p q : ℕ) (o : Name) → output_at p ≡ Some o → output_at q ≡ Some o → p ≡ q
 
--- free names: they differ, and none is taken
+-- free names are distinct, and none is taken
 pub record MayBeGiven (taken free : List Name) : Type 0 where
   pub apart : (n : Name) → has free n ≡ true → has taken n ≡ false
   pub distinct : are_distinct free ≡ true
@@ -20,7 +20,7 @@ pub record MayBeGiven (taken free : List Name) : Type 0 where
 abbrev naming : List Name → List Name → Naming
 naming names free = record { names = names; free = free }
 
--- the names that were given to gates, the first of them at `place`
+-- the names given to gates, of which the first is the node `place`
 pub record Given (output_at : ℕ → Option Name) (free : List Name) (place : ℕ) (gs : List Gate) (done : List Name) (r : Naming) : Type 0 where
   pub new : List Name
   pub names : r.names ≡ done ++ new

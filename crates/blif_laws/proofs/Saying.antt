@@ -1,4 +1,4 @@
--- Lines of words change the parser state one after the other.
+-- How lines of words change the parser state, one after the other.
 use Rattle.std.specs.Prelude.{◌≡◌, ℕ, zero, suc, ◌+◌, ◌≤◌, ◌<◌, Bool, true, false, not, ◌&&◌, ◌||◌, ◌==◌, nat_le, nat_lt, if◌then◌else◌, List, [], ◌∷◌, ◌++◌, length, map, All, Option, Some, None, Result, Ok, Err, codes, refl}
 use Rattle.std.specs.List.{flat_map, list_all}
 use Rattle.std.proofs.Common.{arith, sym, ◌∙◌, ap, subst, append_assoc, append-nil, length-append}
@@ -23,7 +23,7 @@ use Rattle.blif_laws.proofs.WordLines.{line_of, logical_line, step_line}
 
 -- ---- lines
 
--- the words of a line, at least one
+-- the words of a line, of which there is at least one
 pub record WordLine : Type 0 where
   pub first : Name
   pub rest : List Name
@@ -38,7 +38,7 @@ pub record IsLine (l : WordLine) : Type 0 where
   pub names : All IsName (l.first ∷ l.rest)
   pub few : length l.rest ≤ 1000
 
--- the state after lines, the first of which has the number given
+-- the state after lines, whose first one has the given number
 unfoldable pub said_by : ℕ → Said → List WordLine → Result Said NetError
 said_by n s [] = Ok (closed s)
 said_by n s (l ∷ ls) = stated n s (l.first ∷ l.rest) >>= λ t. said_by (n + 1) t ls
@@ -51,7 +51,7 @@ no_lines : (n : ℕ) → logical_of n [] ≡ []
 unfolding logical_from lines_from
 no_lines n = cond-true (n == n) _ _ (eq-eqb n n refl)
 
--- lines that were written are parsed as their words
+-- written lines are parsed as their words
 pub lines_said : (n : ℕ) (s : Said) (ls : List WordLine) → All IsLine ls → steps s (logical_of n (flat_map line_text ls)) ≡ said_by n s ls
 unfolding steps said_by
 lines_said n s [] all = ap (steps s) (no_lines n)
@@ -62,7 +62,7 @@ lines_said n s (l ∷ ls) all =
     ∙ ap (λ (r : Result Said NetError). r >>= λ t. steps t (logical_of (n + 1) (flat_map line_text ls))) (step_line s n l.first l.rest is.names is.few)
     ∙ bind_same (stated n s (l.first ∷ l.rest)) (λ t. steps t (logical_of (n + 1) (flat_map line_text ls))) (λ t. said_by (n + 1) t ls) (λ t. lines_said (n + 1) t ls (All-tail IsLine l ls all))
 
--- lines lead from the state `s` to one with the property P
+-- parsing the lines leads from the state `s` to a state with the property P
 pub record Says (n : ℕ) (lines : List WordLine) (s : Said) (P : Said → Type 0) : Type 0 where
   pub next : ℕ
   pub end : Said
@@ -88,8 +88,7 @@ says_then n first second s P Q a b =
 
 -- ---- states
 
--- Once the last table is complete, the state `s` has the document `d`, and further lines may
--- follow.
+-- The state `s`, with its current table completed, has the document `d`, and further lines may follow.
 pub record Has (d : Document) (s : Said) : Type 0 where
   pub document : (listed_by (closed s)).document ≡ d
   pub begun : s.is_begun ≡ true
@@ -100,7 +99,7 @@ unfolding are_names
 names_are [] all = refl
 names_are (w ∷ ws) all = and_from (is_name w) (list_all is_name ws) (All-head IsName w ws all).spelled (names_are ws (All-tail IsName w ws all))
 
--- a statement, once the text has begun
+-- a statement after the first line
 directs : (n : ℕ) (s : Said) (word : Name) (ws : List Name) → s.is_ended ≡ false → begins_dot word ≡ true → s.is_begun ≡ true → stated n s (word ∷ ws) ≡ directed n (closed s) false word ws (keyword_of word)
 directs n s word ws going dot begun =
     cond-false s.is_ended _ _ going
@@ -124,7 +123,7 @@ model_said model is =
 
 -- ---- lists
 
--- names after a keyword, 16 on a line; the line has some already
+-- names after a keyword, 16 on a line; the current line already has some
 unfoldable pub rest_lines : Name → List Name → ℕ → List Name → List WordLine
 rest_lines keyword names count [] = line keyword names ∷ []
 rest_lines keyword names count (n ∷ ns) = if count == 16 then line keyword names ∷ rest_lines keyword (n ∷ []) 1 ns else rest_lines keyword (names ++ n ∷ []) (count + 1) ns
@@ -165,7 +164,7 @@ add_outputs ws d = record d { outputs = d.outputs ++ ws }
 abbrev pub add_clocks : List Name → Document → Document
 add_clocks ws d = record d { clocks = d.clocks ++ ws }
 
--- the document of a state whose last table is complete, with its tables as they are parsed again
+-- the document of a state whose current table is complete, with its tables as parsed back
 abbrev behind : Said → Document
 behind s = record (listed_by (closed s)).document { tables = (closed s).tables ++ [] }
 
@@ -272,7 +271,7 @@ latches_said n (l ∷ ls) d s all has =
 abbrev pub names_line : Table → WordLine
 names_line t = line (codes ".names") (t.inputs ++ t.output ∷ [])
 
--- a cover line: the output value alone in a table without inputs
+-- a cover line; in a table without inputs it has only the output value
 abbrev pub row_line : List ℕ → WordLine
 row_line [] = line (49 ∷ []) []
 row_line (b ∷ bs) = line (b ∷ bs) ((49 ∷ []) ∷ [])
@@ -280,7 +279,7 @@ row_line (b ∷ bs) = line (b ∷ bs) ((49 ∷ []) ∷ [])
 abbrev pub table_lines : Table → List WordLine
 table_lines t = names_line t ∷ map row_line t.cover.cubes
 
--- a table with the cubes given, for the on-set
+-- a table with the given cubes of the on-set
 abbrev with_cubes : Table → List (List ℕ) → Table
 with_cubes t cubes = record { inputs = t.inputs; output = t.output; cover = record { width = t.cover.width; cubes = cubes; on = true; parity = false } }
 

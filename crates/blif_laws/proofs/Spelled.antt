@@ -54,7 +54,7 @@ table_part d = latch_part d ++ flat_map table_lines d.tables
 abbrev document_lines : Document → List WordLine
 document_lines d = table_part d ++ end_line ∷ []
 
--- ---- the text is that of the lines
+-- ---- the text consists of these lines
 
 abbrev lines_text : List WordLine → List ℕ
 lines_text ls = flat_map line_text ls
@@ -62,7 +62,7 @@ lines_text ls = flat_map line_text ls
 words_push : (ws : List Name) (n : Name) → words_text (ws ++ n ∷ []) ≡ words_text ws ++ word_text n
 words_push ws n = flat_map-append word_text ws (n ∷ []) ∙ ap (λ (xs : List ℕ). words_text ws ++ xs) (append-nil (word_text n))
 
--- a line that begins, and one that continues
+-- the first line of a list, and a continued one
 first_word : (keyword n : Name) (rest : List ℕ) → line_of keyword (n ∷ []) ++ rest ≡ (keyword ++ word_text n) ++ rest
 first_word keyword n rest = ap (λ (xs : List ℕ). (keyword ++ xs) ++ rest) (append-nil (word_text n))
 
@@ -72,7 +72,7 @@ next_word keyword names n rest =
     ∙ ap (λ (xs : List ℕ). xs ++ rest) (sym (append_assoc keyword (words_text names) (word_text n)))
     ∙ append_assoc (line_of keyword names) (word_text n) rest
 
--- one more name, on a new line or not
+-- one more name, on the current or a new line
 rest_by : (keyword : Name) (names : List Name) (count : ℕ) (n : Name) (ns : List Name) (full : Bool) →
     line_of keyword (n ∷ []) ++ rest_text keyword 1 ns ≡ lines_text (rest_lines keyword (n ∷ []) 1 ns) →
     line_of keyword (names ++ n ∷ []) ++ rest_text keyword (count + 1) ns ≡ lines_text (rest_lines keyword (names ++ n ∷ []) (count + 1) ns) →
@@ -168,7 +168,7 @@ document_spelled d is =
     (tables_spelled d.tables is.tables))
     refl
 
--- ---- each is a line of words
+-- ---- each line is a line of words
 
 keyword_name : (keyword : Name) → is_name keyword ≡ true → length keyword ≤ 1024 → IsName keyword
 keyword_name keyword e short = record { spelled = e; short = short }
@@ -302,7 +302,7 @@ document_are d is =
     (tables_are d.tables is.tables))
     end_are
 
--- ---- the state after them
+-- ---- the state after the lines
 
 clocks_said : (n : ℕ) (clocks : List Name) (d : Document) (s : Said) → All IsName clocks → Has d s → Says n (clock_lines clocks) s (Has (add_clocks clocks d))
 clocks_said n [] d s all has =
@@ -366,7 +366,7 @@ controls_free : (s : Said) (size : ℕ) → IsWhole s size → AreFree (listed_b
 controls_free s size is free =
     no_fault (map table_output s.tables) s.controls (subst (λ (ms : List Name). AreNone (map table_output s.tables) ms) (sym is.said.controls) (free_all (map table_output s.tables) s.latches free))
 
--- a document that can be spelled is read back
+-- a document with a BLIF text is read back
 pub read_back : (d : Document) → IsSpelled d → AreFree d → IsReadBack blif_format (spelled d) d
 unfolding listed_of
 read_back d is free =

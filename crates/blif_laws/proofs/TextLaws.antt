@@ -1,4 +1,4 @@
--- The text of a circuit describes it.
+-- The text of a circuit lists a document that describes the circuit.
 use Rattle.std.specs.Prelude.{◌≡◌, ◌≤◌, length, refl}
 use Rattle.std.proofs.Common.{sym, ◌∙◌, ap, subst}
 use Rattle.net_theory.specs.Document.{Document}

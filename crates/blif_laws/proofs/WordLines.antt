@@ -14,13 +14,13 @@ use Rattle.blif_text.specs.Statements.{Said, stated, step}
 use Rattle.net_text.specs.EndLaws.{trimmed-other, without_last-push}
 use Rattle.blif_core.specs.Spelling.{words_text}
 
--- a line of words: the first one, and each other after a blank
+-- a line of words, separated by blanks
 abbrev pub line_of : Name → List Name → List ℕ
 line_of w ws = w ++ words_text ws
 
 -- ---- bytes
 
--- the last byte isn't one that is dropped at the end of a line
+-- the last byte isn't removed at the end of a line
 record EndsWell (text : List ℕ) : Type 0 where
   front : List ℕ
   last : ℕ
@@ -45,7 +45,7 @@ line_end : (w : Name) (ws : List Name) → All IsName (w ∷ ws) → EndsWell (l
 line_end w [] all = subst EndsWell (sym (append-nil w)) (name_end w (All-head IsName w [] all).spelled)
 line_end w (v ∷ ws) all = end_behind w (words_text (v ∷ ws)) (end_more 32 (line_of v ws) (line_end v ws (All-tail IsName w (v ∷ ws) all)))
 
--- a byte that isn't one of names is in no name
+-- a byte that names can't contain is in no name
 other_byte : (byte b : ℕ) → is_name_byte byte ≡ false → is_name_byte b ≡ true → (b == byte) ≡ false
 other_byte byte b never is = false_from_ne_true (b == byte) (λ same. both_ways (is_name_byte byte) never (subst (λ (x : ℕ). is_name_byte x ≡ true) (eqb-true b byte same) is))
 
@@ -101,7 +101,7 @@ content_same w ws all =
     ∙ ap trimmed (before_free [] (line_of w ws) (line_free 35 w ws refl refl all))
     ∙ trimmed_end (line_of w ws) e
 
--- a line that was written is one logical line
+-- a written line is one logical line
 pub logical_line : (n : ℕ) (w : Name) (ws : List Name) (rest : List ℕ) → All IsName (w ∷ ws) →
     logical_of n (line_of w ws ++ 10 ∷ rest) ≡ record { first = n; size = 0 + length (line_of w ws); text = line_of w ws } ∷ logical_of (n + 1) rest
 unfolding logical_from
@@ -142,7 +142,7 @@ words_blank : (w : Name) (rest : List ℕ) → is_name w ≡ true → words_from
 unfolding words_from
 words_blank w rest e = then_name w (words_of rest) e
 
--- the words of a line that was written
+-- the words of a written line
 pub words_back : (w : Name) (ws : List Name) → All IsName (w ∷ ws) → words_of (line_of w ws) ≡ w ∷ ws
 words_back w [] all =
     let e = (All-head IsName w [] all).spelled in
@@ -172,7 +172,7 @@ line_size w ws all =
     let rest = words_size ws (All-tail IsName w ws all) in
     omega (arith, short, rest, length-append w (words_text ws))
 
--- one step of the parser over a line that was written
+-- one step of the parser, on a written line
 pub step_line : (s : Said) (n : ℕ) (w : Name) (ws : List Name) → All IsName (w ∷ ws) → length ws ≤ 1000 → step s (record { first = n; size = 0 + length (line_of w ws); text = line_of w ws }) ≡ stated n s (w ∷ ws)
 unfolding step
 step_line s n w ws all few =

@@ -1,5 +1,5 @@
--- The document that the writer makes of a circuit is well formed and computes what the circuit
--- does, at no greater cost.
+-- The writer's document of a circuit is well formed, equivalent to the circuit, and costs no more gates than it
+-- has.
 use Rattle.std.specs.Prelude.{◌≡◌, ℕ, zero, suc, ◌+◌, ◌-◌, ◌≤◌, ◌<◌, Bool, true, false, List, [], ◌∷◌, ◌++◌, length, map, slice_get, slice_index_or, sum_by, All, Option, Some, None, ◌⊎◌, refl}
 use Rattle.std.specs.List.{list_any, flat_map, filter_map, cons_option}
 use Rattle.std.specs.Option.{option_map}
@@ -119,7 +119,7 @@ place_had c p is named low high = has_at (placed c) (p - 1) (place_name c p) (pl
 abbrev before_outputs : Circuit → List Name
 before_outputs c = sources_of c ++ map table_output (fixed_part c)
 
--- a name that comes before the outputs is that of a place, or of a constant
+-- each name before the outputs is the name of a node or of a constant
 before_cases : (c : Circuit) (n : Name) → IsProper c → AreNamed c → has (before_outputs c) n ≡ true → (has (placed c) n ≡ true) ⊎ (IsSpare c n)
 before_cases c n is named e =
     ⊎_elim
@@ -217,7 +217,7 @@ written_spelled c is named = record {
   tables = subst (All IsSpelledTable) (sym (tables_are c)) (all_spelled c is named);
 }
 
--- ---- names that are driven
+-- ---- driven names
 
 pub line_latches : (c : Circuit) → IsProper c → map latch_of (all_lines c) ≡ c.latches
 line_latches c is = lines_latches (sig_name c) c.latches (next_states c) (omega (arith, states_count c is))

@@ -1,5 +1,4 @@
--- The parts of a document that the writer makes: tables of gates, of constants and of outputs, and
--- latches.
+-- The parts of the writer's document: the tables of gates, constants and outputs, and the latches.
 use Rattle.std.specs.Prelude.{◌≡◌, ℕ, zero, suc, ◌+◌, ◌≤◌, ◌<◌, Bool, true, false, if◌then◌else◌, List, [], ◌∷◌, ◌++◌, length, map, slice_get, sum_by, All, Some, ◌⊎◌, refl}
 use Rattle.std.specs.List.{list_any}
 use Rattle.std.proofs.Common.{add-zero, arith, sym, ◌∙◌, ap, subst, inl, inr, ⊎_elim, drop}
@@ -21,7 +20,7 @@ use Rattle.blif_laws.proofs.GateTables.{AreNamesBelow, IsGateTable, gate_is, IsO
 
 -- ---- gates
 
--- gates, the first at `place`, and their names
+-- gates, of which the first is the node `place`, and their names
 pub record AreToBeWritten (name : ℕ → Name) (place : ℕ) (gs : List Gate) (ns : List Name) : Type 0 where
   pub below : AreNamesBelow name place
   pub gates : (i : ℕ) (g : Gate) → slice_get gs i ≡ Some g → IsGateAt (place + i) g
@@ -115,7 +114,7 @@ one_of z first second = if z then second else first
 abbrev pub constants : Bool → Bool → Name → Name → List Table
 constants z o first second = table_if z (constant_table false first) ++ table_if o (constant_table true (one_of z first second))
 
--- two names that differ from all before, and from one another
+-- two distinct new names
 pub record AreSpare (before : List Name) (first second : Name) : Type 0 where
   pub first_name : IsName first
   pub second_name : IsName second
@@ -165,7 +164,7 @@ constants_cost false true first second = one_cost true first
 constants_cost true false first second = one_cost false first
 constants_cost true true first second = omega (arith, sum_by-cons table_cost (constant_table false first) (constant_table true second ∷ []), constant_cost false first, one_cost true second)
 
--- where a constant is needed, its name has its value, and is driven
+-- if a constant is needed, its name is driven and has its value
 pub constants_zero : (z o : Bool) (first second : Name) (v : Name → Bool) → z ≡ true → All (HoldsIn v) (constants z o first second) → v first ≡ false
 constants_zero false o first second v e hold = absurd cc
 constants_zero true o first second v e hold = constant_hold v false first (All-head (HoldsIn v) (constant_table false first) (table_if o (constant_table true second)) hold)
@@ -187,7 +186,7 @@ one_driven true true first second e = has_later first (second ∷ []) second (ha
 
 -- ---- outputs
 
--- outputs and their sinks, with the names of places
+-- outputs and their sinks, with the names of nodes
 pub record AreOutputs (name : ℕ → Name) (place : ℕ) (outs : List Name) (sinks : List Sig) : Type 0 where
   pub names : (n : Name) → has outs n ≡ true → IsName n
   pub below : (i : ℕ) (s : Sig) → slice_get sinks i ≡ Some s → IsSigBelow place s
@@ -242,7 +241,7 @@ outputs_cost name place written (o ∷ os) (s ∷ ss) are =
     (λ there. outputs_cost name place written os ss (next_outputs name place o os s ss are))
     (λ new. omega (arith, sum_by-cons table_cost (output_table name o s) (output_tables name (written ++ o ∷ []) os ss), (first_output name place o os s ss are).cost, outputs_cost name place (written ++ o ∷ []) os ss (next_outputs name place o os s ss are)))
 
--- each of the tables drives an output that wasn't written yet
+-- each table drives an output that wasn't written before
 pub outputs_new : (name : ℕ → Name) (place : ℕ) (written outs : List Name) (sinks : List Sig) (n : Name) → AreOutputs name place outs sinks → has (map table_output (output_tables name written outs sinks)) n ≡ true → (has outs n ≡ true) × (has written n ≡ false)
 unfolding output_tables
 outputs_new name place written [] sinks n are e = absurd (has_none n e)
@@ -260,7 +259,7 @@ outputs_new name place written (o ∷ os) (s ∷ ss) n are e =
     (has_cases (output_table name o s).output (map table_output (output_tables name (written ++ o ∷ []) os ss)) n f))
     e
 
--- each output was written, or one of the tables drives it
+-- each output was written before, or one of the tables drives it
 pub outputs_driven : (name : ℕ → Name) (place : ℕ) (written outs : List Name) (sinks : List Sig) (n : Name) → AreOutputs name place outs sinks → length outs ≤ length sinks → has outs n ≡ true → (has written n ≡ true) ⊎ (has (map table_output (output_tables name written outs sinks)) n ≡ true)
 unfolding output_tables
 outputs_driven name place written [] sinks n are few e = absurd (has_none n e)
@@ -285,11 +284,11 @@ outputs_driven name place written (o ∷ os) (s ∷ ss) n are few e =
     (outputs_driven name place (written ++ o ∷ []) os ss n (next_outputs name place o os s ss are) (omega (arith, few)) later))
     (has_cases o os n e))
 
--- outputs of one name have one sink
+-- outputs with the same name have the same sink
 abbrev pub HaveOneSink : List Name → List Sig → Type 0
 HaveOneSink outs sinks = (i j : ℕ) (o : Name) (s t : Sig) → slice_get outs i ≡ Some o → slice_get outs j ≡ Some o → slice_get sinks i ≡ Some s → slice_get sinks j ≡ Some t → s ≡ t
 
--- the value of a sink, from the values of names
+-- the value of a sink, by the values of names
 abbrev pub named_value : (ℕ → Name) → (Name → Bool) → Sig → Bool
 named_value name v s = sig_value (λ p. v (name p)) s
 
@@ -298,7 +297,7 @@ first_holds name place o os s ss v are hold =
     let table = first_output name place o os s ss are in
     ap v (sym table.drives) ∙ hold ∙ table.value v
 
--- Each output has its sink's value, where the outputs that were written before have it.
+-- Each output has its sink's value, if the outputs that were written before do.
 pub outputs_hold : (name : ℕ → Name) (place : ℕ) (written outs : List Name) (sinks : List Sig) (v : Name → Bool) → AreOutputs name place outs sinks → All (HoldsIn v) (output_tables name written outs sinks) → HaveOneSink outs sinks →
     ((i : ℕ) (o : Name) (s : Sig) → slice_get outs i ≡ Some o → slice_get sinks i ≡ Some s → has written o ≡ true → v o ≡ named_value name v s) →
     (i : ℕ) (o : Name) (s : Sig) → slice_get outs i ≡ Some o → slice_get sinks i ≡ Some s → v o ≡ named_value name v s

@@ -1,4 +1,4 @@
--- The document that the writer makes of a circuit has the circuit's values.
+-- The writer's document of a circuit has the circuit's values.
 use Rattle.std.specs.Prelude.{◌≡◌, ℕ, zero, suc, ◌+◌, ◌-◌, ◌≤◌, ◌<◌, Bool, true, List, [], ◌∷◌, ◌++◌, length, map, slice_get, All, Some, refl}
 use Rattle.std.proofs.Common.{arith, sym, ◌∙◌, ap, subst, ⊎_elim}
 use Rattle.std.proofs.lemmas.Bool.{both_ways, cases_eq}
@@ -35,7 +35,7 @@ something_at [] i low = absurd (omega (arith, low))
 something_at (x ∷ xs) zero low = (x, refl)
 something_at (x ∷ xs) (suc i) low = something_at xs i (omega (arith, low))
 
--- ---- bits that agree at places
+-- ---- valuations that agree on nodes
 
 pub sig_same : (f g : ℕ → Bool) (s : Sig) (place : ℕ) → IsSigBelow place s → ((p : ℕ) → 1 ≤ p → p < place → f p ≡ g p) → sig_value f s ≡ sig_value g s
 sig_same f g Zero place below same = refl
@@ -45,12 +45,12 @@ sig_same f g (Place p) place below same = same p below.0 below.1
 gate_same : (f g : ℕ → Bool) (h : Gate) (place : ℕ) → IsGateAt place h → ((p : ℕ) → 1 ≤ p → p < place → f p ≡ g p) → gate_value f h ≡ gate_value g h
 gate_same f g h place is same = rw (sig_same f g h.a place is.first same, sig_same f g h.b place is.second same) refl
 
--- ---- the values of places
+-- ---- the values of nodes
 
 abbrev values_in : Circuit → (Name → Bool) → ℕ → Bool
 values_in c given = values_of (by_place (sources_of c) given) c.net.sources c.net.gates
 
--- a map of the document, by its tables
+-- a valuation of the document, by its tables
 record IsMap (c : Circuit) (given v : Name → Bool) : Type 0 where
   sources : (i : ℕ) (n : Name) → slice_get (sources_of c) i ≡ Some n → v n ≡ given n
   tables : All (HoldsIn v) (all_tables c)
@@ -85,14 +85,14 @@ place_value c given v (suc k) p is named maps low from to =
     (λ other. place_value c given v k p is named maps (omega (arith, low)) from (omega (arith, to, other)))
     (cases_eq p (c.net.sources + 1 + k))
 
--- a signal has the value that the names of places give it
+-- the value of a signal, by the names of nodes
 sink_value : (c : Circuit) (given v : Name → Bool) (s : Sig) → IsProper c → AreNamed c → IsMap c given v → IsSigBelow (end_of c.net) s → named_value (place_name c) v s ≡ sig_value (values_in c given) s
 sink_value c given v s is named maps below =
     sig_same (λ p. v (place_name c p)) (values_in c given) s (end_of c.net) below (λ p one high. place_value c given v (length c.net.gates) p is named maps (omega arith) one (omega (arith, high)))
 
 -- ---- the values of sinks
 
--- an output whose name is that of a place has that place as sink
+-- an output with the name of a node is driven by that node
 output_old : (c : Circuit) (v : Name → Bool) (i : ℕ) (o : Name) (s : Sig) → IsProper c → AreNamed c → slice_get c.outputs i ≡ Some o → slice_get c.net.sinks i ≡ Some s → has (names_written c) o ≡ true → v o ≡ named_value (place_name c) v s
 output_old c v i o s is named at_o at_s old =
     ⊎_elim
@@ -118,7 +118,7 @@ output_value c given v i o s is named maps at_o at_s =
     i o s at_o at_s
     ∙ sink_value c given v s is named maps (all_at (IsSigBelow (end_of c.net)) c.net.sinks i s is.net.sinks at_s)
 
--- the constants hold
+-- the tables of constants hold
 constants_in : (c : Circuit) (v : Name → Bool) → All (HoldsIn v) (all_tables c) → All (HoldsIn v) (constant_part c)
 constants_in c v hold = all_behind (HoldsIn v) (gate_part c) (constant_part c) (all_front (HoldsIn v) (fixed_part c) (output_part c) hold)
 

@@ -1,5 +1,5 @@
--- Tables in topological order, each of which reads only names before it: they have one map, and
--- none depends on itself.
+-- Tables in topological order, each of which reads only names driven before it: they have exactly one valuation,
+-- and none depends on itself.
 use Rattle.std.specs.Prelude.{◌≡◌, ℕ, zero, suc, ◌<◌, Bool, true, false, if◌then◌else◌, List, [], ◌∷◌, ◌++◌, map, slice_get, All, Some, refl}
 use Rattle.std.specs.List.{flat_map}
 use Rattle.std.proofs.Common.{arith, sym, ◌∙◌, ap, subst, ⊎_elim, append_assoc, append-nil}
@@ -12,7 +12,7 @@ use Rattle.net_theory.specs.NetLaws.{map_same}
 use Rattle.net_theory.specs.Behaviour.{HoldsIn, HasOneMap}
 use Rattle.net_theory.specs.Dependence.{Reads, DependsOn, at_once, by_way_of, IsAcyclic}
 
--- a table that reads names of `before`, and drives another
+-- the table reads only names of `before` and drives a new name
 pub record IsLayer (before : List Name) (t : Table) : Type 0 where
   pub fresh : has before t.output ≡ false
   pub inputs : (n : Name) → has t.inputs n ≡ true → has before n ≡ true
@@ -34,7 +34,7 @@ no_name : (n : Name) → has [] n ≡ false
 unfolding has
 no_name n = refl
 
--- one more name that differs from all before
+-- appending a new name keeps the names distinct
 pub distinct_push : (before : List Name) (n : Name) → are_distinct before ≡ true → has before n ≡ false → are_distinct (before ++ n ∷ []) ≡ true
 distinct_push before n d apart =
     append_distinct before (n ∷ []) d (cons_distinct n [] (no_name n) no_names)
@@ -46,7 +46,7 @@ layered_distinct before (t ∷ ts) d a =
     subst (λ (ns : List Name). are_distinct ns ≡ true) (append_assoc before (t.output ∷ []) (map table_output ts))
     (layered_distinct (before ++ t.output ∷ []) ts (distinct_push before t.output d a.0.fresh) a.1)
 
--- what the tables read is driven
+-- every name that the tables read is driven
 pub layered_inputs : (before : List Name) (ts : List Table) (n : Name) → AreLayered before ts → has (flat_map table_inputs ts) n ≡ true → has (before ++ map table_output ts) n ≡ true
 layered_inputs before [] n a e = absurd (has_none n e)
 layered_inputs before (t ∷ ts) n a e =
@@ -80,7 +80,7 @@ layered_acyclic d distinct a i depends =
     let low = depends_earlier d (λ x y r. reads_earlier (source_names d) d.tables x y r.reader r.driver (layered_distinct (source_names d) d.tables distinct a) a r.is_reader r.is_driver r.read) i i depends in
     omega (arith, low)
 
--- ---- there is one map
+-- ---- there is exactly one valuation
 
 abbrev with_bit : (Name → Bool) → Name → Bool → Name → Bool
 with_bit v name bit n = if is_same name n then bit else v n

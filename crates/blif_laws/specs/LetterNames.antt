@@ -1,4 +1,4 @@
--- A letter followed by a number is a valid name, and each such name has one letter and one number.
+-- A letter followed by a number is a valid name, and the name determines both.
 use Rattle.std.specs.Prelude.{◌≡◌, ℕ, ◌+◌, ◌%◌, ◌^◌, ◌≤◌, ◌<◌, true, false, not, ◌&&◌, ◌==◌, nat_le, List, [], ◌∷◌, ◌++◌, length, decimal}
 use Rattle.std.proofs.Common.{arith}
 use Rattle.std.proofs.lemmas.Bool.{and_parts, and_from, not_from_false, le-leb, ne_eqb}

@@ -1,15 +1,15 @@
--- Documents that can be spelled.
+-- Documents with a BLIF text.
 use Rattle.std.specs.Prelude.{◌≡◌, true, false, All}
 use Rattle.net_theory.specs.Document.{IsName, Table, Document}
 use Rattle.net_theory.specs.WellFormed.{IsTable, IsLatchLine}
 
--- a table by cubes of the on-set
+-- a table given by cubes
 pub record IsSpelledTable (t : Table) : Type 0 where
   pub table : IsTable t
   pub on : t.cover.on ≡ true
   pub cubes : t.cover.parity ≡ false
 
--- names, latches and tables are within their limits
+-- names, latches and tables are within their limits, and tables are given by cubes
 pub record IsSpelled (d : Document) : Type 0 where
   pub model : IsName d.model
   pub inputs : All IsName d.inputs

@@ -1,4 +1,4 @@
--- The answers of the readers of the parts of a line, as values of the definitions.
+-- The results of the parsers of parts of a line, as values of the definitions.
 use Rattle.std.specs.Prelude.{ℕ, Bool, List, Option, Some, None}
 use Rattle.std.specs.Borrow.{Bor}
 use Rattle.net_theory.specs.declared.data.Trigger.{Trigger}

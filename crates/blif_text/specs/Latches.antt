@@ -6,7 +6,7 @@ use Rattle.net_theory.specs.Document.{Name, is_name, is_same, LatchLine}
 use Rattle.net_core.specs.declared.error.NetError.{NetError}
 use Rattle.net_core.specs.declared.error.NetError.TheVariants.{Syntax}
 
--- the trigger of a word
+-- the trigger that a word names
 unfoldable pub trigger_in : List ℕ → Option Trigger
 trigger_in word = if is_same word (codes "fe") then Some Fe else (if is_same word (codes "re") then Some Re else (if is_same word (codes "ah") then Some Ah else (if is_same word (codes "al") then Some Al else (if is_same word (codes "as") then Some As else None))))
 
@@ -36,7 +36,7 @@ abbrev pub tail_by_both : Option (Trigger × Name) → Option ℕ → Option Tai
 tail_by_both None init = None
 tail_by_both (Some control) init = tail_with (Some control) init
 
--- nothing, an initial value, a control, or both
+-- a control, an initial value, both, or nothing
 unfoldable pub tail_in : List (List ℕ) → Option Tail
 tail_in [] = Some (record { control = None; init = None })
 tail_in (init ∷ []) = tail_with None (init_in init)

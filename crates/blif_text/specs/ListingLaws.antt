@@ -1,4 +1,4 @@
--- What a text lists is well made.
+-- What a text lists is within the limits and consistent.
 use Rattle.std.proofs.Common.{◌≡◌, ℕ, ◌+◌, ◌*◌, ◌≤◌, true, false, List, [], ◌∷◌, ◌++◌, length, map, Option, Some, None, refl, ap, ◌∙◌, sym, subst, arith, length-append, inl, inr}
 use Rattle.std.specs.Prelude.{◌-◌, ◌==◌, Result, Ok, Err, IfOk, All, sum_by}
 use Rattle.std.specs.List.{flat_map, filter_map, cons_option}
@@ -167,7 +167,7 @@ few_said s size is = omega (arith, is.said.small, ap (λ (ts : List Table). sum_
 pub text_few : (bytes : List ℕ) (s : Said) → said_of bytes ≡ Ok s → length (listed_by s).document.tables ≤ length bytes
 text_few bytes s e = omega (arith, few_said s _ (said_whole bytes s e), text_short 1 bytes)
 
--- the outputs and the clocks are no more than the bytes
+-- there are no more outputs and clocks than bytes
 pub text_named : (bytes : List ℕ) (s : Said) → said_of bytes ≡ Ok s → length s.outputs + length s.clocks ≤ length bytes
 text_named bytes s e = omega (arith, (said_whole bytes s e).said.named, text_short 1 bytes)
 
@@ -191,6 +191,6 @@ listed_said : (bytes : List ℕ) (l : Listed) → listed_of bytes ≡ Ok l → I
 unfolding listed_of
 listed_said bytes l e = said_by_parts bytes l (said_of bytes) refl e
 
--- its names, latches and tables are within their limits
+-- the listed names, latches and tables are within their limits
 pub texts_list : (bytes : List ℕ) (l : Listed) → listed_of bytes ≡ Ok l → IsListed l
 texts_list bytes l e = let s = listed_said bytes l e in subst IsListed s.same (text_listed bytes s.state s.said)

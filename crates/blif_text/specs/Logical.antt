@@ -14,7 +14,7 @@ pub record Logical : Type 0 where
 abbrev pub begun_at : ℕ → Logical
 begun_at number = record { first = number; size = 0; text = [] }
 
--- A line that is continued has a blank in place of its `\`.
+-- In a continued line a blank replaces the `\`.
 abbrev pub going_on : Logical → Line → List ℕ → Logical
 going_on j l front = record { first = j.first; size = j.size + length l.text; text = j.text ++ (front ++ 32 ∷ []) }
 
@@ -25,8 +25,7 @@ abbrev pub line_then : Option (List ℕ) → List Logical → (List ℕ → List
 line_then None ended further = ended
 line_then (Some front) ended further = further front
 
--- the logical lines of `j`, what was joined so far, and of further lines, the first of which has
--- the number `number`
+-- the logical lines of `j`, the lines joined so far, and of further lines, whose first one has the number `number`
 unfoldable pub logical_from : ℕ → Logical → List Line → List Logical
 logical_from number j [] = if number == j.first then [] else j ∷ []
 logical_from number j (l ∷ ls) = line_then (without_last 92 (content_of l)) (ended_by j l ∷ logical_from (number + 1) (begun_at (number + 1)) ls) (λ front. logical_from (number + 1) (going_on j l front) ls)

@@ -1,4 +1,4 @@
--- What the parser answers, against the grammar.
+-- The parser's results, compared with the grammar's.
 use Rattle.std.specs.Prelude.{◌≡◌, Result, Ok, Err}
 use Rattle.net_core.specs.declared.error.NetError.{NetError}
 use Rattle.net_core.specs.declared.error.NetError.TheVariants.{Memory}
@@ -8,12 +8,12 @@ abbrev pub ◌>>=◌ : {A B : Type 0} → Result A NetError → (A → Result B 
 (Ok x) >>= f = f x
 (Err e) >>= f = Err e
 
--- Each refusal is that of the grammar, with its line or name. Out of memory may come anywhere.
+-- The error is the grammar's, with its line or name. Out of memory is always possible.
 abbrev pub Fails : {Y : Type 0} → NetError → Result Y NetError → Type 0
 Fails Memory read = Unit {0}
 Fails e read = read ≡ Err e
 
--- The answer, mapped by `view`, is what the grammar gives, unless memory runs out.
+-- The result, mapped by `view`, is the grammar's, unless the error is out of memory.
 abbrev pub Gives : {X Y : Type 0} → (X → Y) → Result X NetError → Result Y NetError → Type 0
 Gives view (Ok x) read = read ≡ Ok (view x)
 Gives view (Err e) read = Fails e read

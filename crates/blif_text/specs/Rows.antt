@@ -10,7 +10,7 @@ pub record Row : Type 0 where
   pub cube : List ℕ
   pub on : Bool
 
--- the one byte `0` or `1`
+-- the bit of a word of the one byte `0` or `1`
 unfoldable pub bit_in : List ℕ → Option Bool
 bit_in (b ∷ []) = if b == 49 then Some true else (if b == 48 then Some false else None)
 bit_in other = None
@@ -19,8 +19,7 @@ abbrev pub row_with : List ℕ → Option Bool → Option Row
 row_with cube None = None
 row_with cube (Some on) = Some (record { cube = cube; on = on })
 
--- the cube of a cover line in a table of the given width, and its output value; None where it is
--- malformed
+-- the cube and the output value of a cover line, in a table of the given width; None if it is malformed
 unfoldable pub row_in : ℕ → List (List ℕ) → Option Row
 row_in width (value ∷ []) = if width == 0 then row_with [] (bit_in value) else None
 row_in width (cube ∷ value ∷ []) = if is_cube width cube then row_with cube (bit_in value) else None
@@ -35,7 +34,7 @@ abbrev pub with_row : ℕ → Table → Option Row → Result Table NetError
 with_row line t None = Err (Syntax line)
 with_row line t (Some row) = if nat_le 4096 (length t.cover.cubes) then Err (TooManyRows line) else (if is_nothing t.cover.cubes || agrees row.on t.cover.on then Ok (record { inputs = t.inputs; output = t.output; cover = record { width = t.cover.width; cubes = t.cover.cubes ++ row.cube ∷ []; on = row.on; parity = false } }) else Err (MixedCover line))
 
--- A malformed line is the first fault, then a line past the 4,096th, and then an output value other
--- than that of the table's first line.
+-- Adds a cover line to a table. A malformed line is refused first, then a line past the 4,096th, then an output
+-- value that differs from that of the table's first line.
 unfoldable pub row_of : ℕ → Table → List (List ℕ) → Result Table NetError
 row_of line t words = with_row line t (row_in t.cover.width words)

@@ -1,4 +1,4 @@
--- The parser state is made of names, tables and latches, and is no larger than the text.
+-- The parser state has only valid names, tables and latches, and is no larger than the text.
 use Rattle.std.proofs.Common.{◌≡◌, ℕ, suc, ◌+◌, ◌*◌, ◌≤◌, Bool, true, false, List, [], ◌∷◌, ◌++◌, length, map, Option, Some, None, refl, ap, ◌∙◌, sym, subst, arith, length-append, append-nil}
 use Rattle.std.specs.Prelude.{nat_lt, ◌||◌, Result, Ok, Err, IfOk, All, option_to_list, sum_by}
 use Rattle.std.specs.List.{list_any, flat_map, filter_map, cons_option}
@@ -24,14 +24,14 @@ use Rattle.blif_text.specs.Statements.{Control, Said, nothing, closed, with_tabl
 abbrev pub control_name : Control → Name
 control_name c = c.name
 
--- the fewest bytes of text that a table takes
+-- the least number of bytes of a table's text
 unfoldable pub table_size : Table → ℕ
 table_size t = 1 + literal_sum t.cover.cubes
 
 abbrev pub tables_of : Said → List Table
 tables_of s = s.tables ++ option_to_list s.current
 
--- a table by cubes, the only ones of BLIF
+-- a table by cubes, the only kind in BLIF
 pub record IsCubeTable (t : Table) : Type 0 where
   pub table : IsTable t
   pub parity : t.cover.parity ≡ false
@@ -113,7 +113,7 @@ closed_said s size is =
       named = is.named;
     }
 
--- a longer text
+-- the state of a prefix is within the size of a longer text
 pub said_more : (s : Said) (size more : ℕ) → size ≤ more → IsSaid s size → IsSaid s more
 said_more s size more h is = record { model = is.model; inputs = is.inputs; outputs = is.outputs; clocks = is.clocks; latches = is.latches; tables = is.tables; current = is.current; driven = is.driven; used = is.used; controls = is.controls; small = omega (arith, is.small, h); named = omega (arith, is.named, h) }
 

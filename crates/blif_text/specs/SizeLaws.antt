@@ -56,7 +56,7 @@ said_size-cons l ls = said_cons l ls
 
 -- ---- words
 
--- the bytes of words, with a blank each
+-- the number of bytes of words, with one blank for each
 abbrev pub words_size : List (List ℕ) → ℕ
 words_size ws = sum_by (λ (w : List ℕ). length w + 1) ws
 

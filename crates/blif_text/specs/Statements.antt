@@ -1,7 +1,5 @@
--- The statements of a BLIF text, in the order of its logical lines, or the first fault. Lines are
--- checked in their order, and one line in the order of the tests below. A line without words is
--- skipped.
--- words is passed over.
+-- The grammar of BLIF: the state after the logical lines of a text, or the first fault. Lines are checked in
+-- order, and each line in the order of the tests below. A line without words is skipped.
 use Rattle.std.specs.Prelude.{ℕ, Bool, true, false, not, ◌&&◌, ◌==◌, nat_lt, if◌then◌else◌, List, [], ◌∷◌, ◌++◌, length, map, Option, Some, None, Result, Ok, Err, codes, option_to_list}
 use Rattle.std.specs.List.{list_all}
 use Rattle.net_theory.specs.declared.data.Trigger.{Trigger}
@@ -24,8 +22,7 @@ pub record Control : Type 0 where
   pub line : ℕ
   pub name : Name
 
--- The parser state: what the lines so far list. The last table is kept apart as long as its cover
--- lines may follow.
+-- The parser state: what the lines so far list. The current table is kept apart while its cover lines may follow.
 pub record Said : Type 0 where
   pub model : Name
   pub inputs : List Name
@@ -41,11 +38,11 @@ pub record Said : Type 0 where
   pub is_begun : Bool
   pub is_ended : Bool
 
--- The model's name is `top` where the text names none.
+-- The state before the first line. The model's default name is `top`.
 abbrev pub nothing : Said
 nothing = record { model = codes "top"; inputs = []; outputs = []; clocks = []; latches = []; tables = []; current = None; driven = []; used = []; controls = []; has_model = false; is_begun = false; is_ended = false }
 
--- a statement begins, so that the cover of the last table is complete
+-- completes the current table, since a statement begins
 abbrev pub closed : Said → Said
 closed s = record s { tables = s.tables ++ option_to_list s.current; current = None; is_begun = true }
 
@@ -61,7 +58,7 @@ begins_dot (b ∷ bs) = b == 46
 unfoldable pub are_names : List (List ℕ) → Bool
 are_names words = list_all is_name words
 
--- `.model NAME`; the name may be missing
+-- `.model NAME`; the name is optional
 unfoldable pub with_model : ℕ → Said → List (List ℕ) → Result Said NetError
 with_model line s [] = Ok (record s { has_model = true })
 with_model line s (w ∷ []) = if is_name w then Ok (record s { model = w; has_model = true }) else Err (Syntax line)
@@ -84,11 +81,11 @@ unfoldable pub table_of : ℕ → List (List ℕ) → Result Table NetError
 table_of line [] = Err (Syntax line)
 table_of line (w ∷ ws) = if nat_lt 256 (length ws) then Err (TooWide line) else (if are_names (w ∷ ws) then Ok (empty_table (front_of w ws) (last_of w ws)) else Err (Syntax line))
 
--- the names that a table drives and uses
+-- adds the names that a table drives and reads
 abbrev pub with_table_names : Said → Table → Said
 with_table_names s t = record s { driven = s.driven ++ t.output ∷ []; used = s.used ++ t.inputs }
 
--- and its cover lines may follow
+-- and makes it the current table, whose cover lines may follow
 abbrev pub with_table : Said → Table → Said
 with_table s t = record (with_table_names s t) { current = Some t }
 
@@ -96,14 +93,14 @@ abbrev pub control_at : ℕ → Option (Trigger × Name) → List Control
 control_at line None = []
 control_at line (Some c) = record { line = line; name = c.1 } ∷ []
 
--- the names that a latch drives and uses, and its control
+-- adds the names that a latch drives and reads, and its control
 abbrev pub with_latch_names : ℕ → Said → LatchLine → Said
 with_latch_names line s l = record s { driven = s.driven ++ l.latch.output ∷ []; used = s.used ++ l.input ∷ []; controls = s.controls ++ control_at line l.latch.control }
 
 abbrev pub with_latch : ℕ → Said → LatchLine → Said
 with_latch line s l = record (with_latch_names line s l) { latches = s.latches ++ l ∷ [] }
 
--- `.inputs NAMES`, which are driven, `.outputs NAMES` and `.clock NAMES`
+-- `.inputs NAMES` (these are driven), `.outputs NAMES` and `.clock NAMES`
 abbrev pub with_inputs : ℕ → Said → List (List ℕ) → Result Said NetError
 with_inputs line s ws = if are_names ws then Ok (record s { inputs = s.inputs ++ ws; driven = s.driven ++ ws }) else Err (Syntax line)
 
@@ -124,7 +121,7 @@ with_latch_line line s ws = latch_of line ws >>= λ l. Ok (with_latch line s l)
 abbrev pub with_end : ℕ → Said → List (List ℕ) → Result Said NetError
 with_end line s ws = if is_nothing ws then Ok (record s { is_ended = true }) else Err (Syntax line)
 
--- a line that begins with a dot; `first` where it is the first statement
+-- a line that begins with a dot; `first` tells whether it is the first statement
 unfoldable pub directed : ℕ → Said → Bool → List ℕ → List (List ℕ) → Keyword → Result Said NetError
 directed line s first word ws Model = if s.has_model then Err (NotSupported line word) else (if first then with_model line s ws else Err (Syntax line))
 directed line s first word ws Inputs = with_inputs line s ws
@@ -135,7 +132,7 @@ directed line s first word ws Latch = with_latch_line line s ws
 directed line s first word ws End = with_end line s ws
 directed line s first word ws Unknown = Err (NotSupported line word)
 
--- a cover line: the last statement must be a table
+-- a cover line, which must follow a table
 abbrev pub covered : ℕ → Said → Option Table → List (List ℕ) → Result Said NetError
 covered line s None words = Err (Syntax line)
 covered line s (Some t) words = row_of line t words >>= λ u. Ok (record s { current = Some u })
@@ -165,7 +162,7 @@ said_of bytes = steps nothing (logical_of 1 bytes)
 abbrev pub listed_by : Said → Listed
 listed_by s = record { document = record { model = s.model; inputs = s.inputs; outputs = s.outputs; clocks = s.clocks; latches = s.latches; tables = s.tables }; driven = s.driven; used = s.used }
 
--- the first control whose name is among those of a list, the outputs of tables
+-- the error for the first control whose name a table drives
 unfoldable pub control_fault : List Name → List Control → Option NetError
 control_fault driven [] = None
 control_fault driven (c ∷ cs) = if has driven c.name then Some (NotSupported c.line c.name) else control_fault driven cs
@@ -174,7 +171,7 @@ abbrev pub unless : {A : Type 0} → Option NetError → A → Result A NetError
 unless None x = Ok x
 unless (Some e) x = Err e
 
--- The document of a text, or the first fault of its lines, or else the first control that a table
--- drives. Whether the document is well formed isn't checked here.
+-- The document of a text, or the first fault of its lines, or else the first control that a table drives. The
+-- other conditions of well-formedness aren't checked here.
 unfoldable pub listed_of : List ℕ → Result Listed NetError
 listed_of bytes = said_of bytes >>= λ s. unless (control_fault (map table_output s.tables) s.controls) (listed_by s)

@@ -336,7 +336,7 @@ step_fine s l size is =
     (λ f. tt)
     (λ f. stated_fine l.first s (words_of l.text) size (size + length l.text) is (short_words (words_of l.text) f) (omega arith) (omega (arith, words_fit l.text))))
 
--- the state is valid, and its last table is complete
+-- the state is valid, and the current table is complete
 pub record IsWhole (s : Said) (size : ℕ) : Type 0 where
   pub said : IsSaid s size
   pub whole : s.current ≡ None

@@ -8,7 +8,7 @@ abbrev pub word_then : List ℕ → List (List ℕ) → List (List ℕ)
 word_then [] ws = ws
 word_then (b ∷ bs) ws = (b ∷ bs) ∷ ws
 
--- the words of `front` ++ `text`, where `front` has no blank
+-- the words of `front` ++ `text`; `front` has no blank
 unfoldable pub words_from : List ℕ → List ℕ → List (List ℕ)
 words_from front [] = word_then front []
 words_from front (b ∷ bs) = if is_blank b then word_then front (words_from [] bs) else words_from (front ++ b ∷ []) bs

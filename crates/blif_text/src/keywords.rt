@@ -1,11 +1,11 @@
-//! Keywords, with which statements begin, and a variant for all other words.
+//! The keywords of statements, with a variant for all other words.
 
 ghost use Rattle.std.specs.Prelude.{◌≡◌};
 ghost use Rattle.blif_text.specs.Statements.{keyword_of as keyword_of_word};
 
 use crate::words::is_word;
 
-/// The first words of BLIF statements.
+/// The keyword of a BLIF statement, its first word.
 #[derive(Clone, Copy)]
 pub enum Keyword {
     /// `.model`
@@ -22,7 +22,7 @@ pub enum Keyword {
     Latch,
     /// `.end`
     End,
-    /// Any other word, which isn't supported.
+    /// Any other word. Such statements aren't supported.
     Unknown,
 }
 

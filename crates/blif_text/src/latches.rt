@@ -1,4 +1,4 @@
-//! Latch lines.
+//! Latch lines (`.latch`).
 
 ghost use Rattle.std.specs.Prelude.{◌≡◌, IfOk};
 ghost use Rattle.blif_text.specs.Reading.{Gives};
@@ -12,7 +12,7 @@ use net_document::{Latch, LatchLine, Name, NetError, Trigger};
 use net_text::is_name;
 use std::alloc::{AllocError, Global};
 
-/// The trigger of a word.
+/// The trigger that a word names.
 #[tactic(auto, unfolding(crate::specs::Latches::trigger_in))]
 fn trigger_in(word: &[u8]) -> Option<Trigger>
     ensures { result ≡ trigger_in_of word.now }
@@ -32,7 +32,7 @@ fn trigger_in(word: &[u8]) -> Option<Trigger>
     }
 }
 
-/// An initial value.
+/// The initial value that a word spells, 0 to 3.
 #[tactic(auto, unfolding(crate::specs::Latches::init_in))]
 fn init_in(word: &[u8]) -> Option<u8>
     ensures { result ≡ init_in_of word.now }
@@ -59,7 +59,7 @@ fn control_in<'a>(trigger: &[u8], name: &'a [u8]) -> Option<(Trigger, &'a [u8])>
     }
 }
 
-/// The end of a latch line, after its two names: nothing, an initial value, a control, or both.
+/// The end of a latch line, after its two names: a control, an initial value, both, or nothing.
 #[tactic(auto, unfolding(crate::specs::Latches::tail_in))]
 fn tail_in(text: &[u8]) -> Option<(Option<(Trigger, &[u8])>, Option<u8>)>
     ensures { tail_found result ≡ tail_in_of (words_of text.now) }
@@ -80,7 +80,7 @@ fn tail_in(text: &[u8]) -> Option<(Option<(Trigger, &[u8])>, Option<u8>)>
     Some((Some(control), Some(init_in(third)?)))
 }
 
-/// A control with a name of its own.
+/// A control with an owned copy of its name.
 fn owned_control(
     alloc: Global,
     control: Option<(Trigger, &[u8])>,

@@ -1,7 +1,6 @@
-//! The text of BLIF netlists (the Berkeley BLIF manual): logical lines, words and statements, and
-//! the document that they list. Every fault of a line is reported with the number of its line, in
-//! an order that the definitions in `specs/` fix; whether the document is well formed is checked by
-//! whoever makes a circuit of it.
+//! The parser of BLIF netlists (the Berkeley BLIF manual): logical lines, words and statements, and the document
+//! that they list. Every fault of a line is reported with its line number, in an order that the definitions in
+//! `specs/` fix. Whether the document is well formed is checked later, by the elaboration (`net_build`).
 //!
 //! ```text
 //! let listed = read_listed(alloc, b".model m\n.inputs a\n.outputs y\n.names a y\n0 1\n.end\n")?;

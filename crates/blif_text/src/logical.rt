@@ -1,5 +1,5 @@
-//! Logical lines: a line that ends with `\` is joined with the next one. The content of a line
-//! follows the rules that the netlist formats share.
+//! Logical lines: a line that ends with `\` is continued by the next one. The content of a line follows the rules
+//! shared by the netlist formats (`net_text`).
 
 ghost use Rattle.std.specs.Prelude.{◌≡◌, ◌+◌, ◌≤◌, ◌<◌, ◌^◌, length, IfOk, IfSome};
 ghost use Rattle.blif_text.specs.Logical.{logical_of};
@@ -10,8 +10,8 @@ use std::alloc::{AllocError, Global};
 use std::marker::Model;
 use text_core::next_line;
 
-/// A logical line: the number of its first line, how many bytes its lines have without their LFs,
-/// and its content.
+/// A logical line: the number of its first line, the total number of bytes of its lines without LFs, and its
+/// content.
 #[derive(Drop)]
 pub struct LogicalLine {
     pub first: u32,
@@ -27,8 +27,8 @@ impl Model for LogicalLine {
     ghost view = { λ l. record { first = l.first; size = l.size; text = l.text.items } };
 }
 
-/// The first logical line, the number of the line after it, and the rest of the text; None where no
-/// line is left. The first line of `bytes` has the number `number`.
+/// The first logical line, the number of the line after it, and the rest of the text; None if no line is left. The
+/// first line of `bytes` has the number `number`.
 #[tactic(auto, unfolding(crate::specs::Logical::logical_from))]
 pub fn next_logical(
     alloc: Global,

@@ -1,4 +1,4 @@
-//! The parser state, which each statement changes.
+//! The state of the parser, which each statement updates.
 
 ghost use Rattle.std.specs.Prelude.{◌≡◌, OnOk, IfOk};
 ghost use Rattle.blif_text.specs.Statements.{nothing, closed as closed_of};
@@ -22,7 +22,7 @@ impl Model for Control {
     ghost view = { λ c. record { line = c.line; name = c.name } };
 }
 
-/// A table with its cover, as long as cover lines of it may follow.
+/// A table whose cover lines may still follow.
 #[derive(Drop)]
 pub struct CoverTable {
     pub inputs: Vec<Name>,
@@ -39,7 +39,7 @@ impl Model for CoverTable {
 }
 
 impl CoverTable {
-    /// The table, complete.
+    /// The complete table.
     fn closed(self) -> Table
         ensures { result ≡ self }
     {
@@ -56,8 +56,8 @@ impl CoverTable {
     }
 }
 
-/// The parser state: what the lines so far list. The last table is kept apart as long as its cover
-/// lines may follow.
+/// The state of the parser: what the lines so far list. The current table is kept apart while its cover lines may
+/// follow.
 #[derive(Drop)]
 pub struct Reading {
     pub model: Name,
@@ -119,7 +119,7 @@ impl Reading {
         })
     }
 
-    /// A statement begins, so that the cover of the last table is complete.
+    /// Completes the current table, since a statement begins.
     pub fn close(&mut self) -> Result<(), AllocError>
         ensures { OnOk result (self.new ≡ closed_of self.old) }
     {

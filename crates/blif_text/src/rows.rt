@@ -1,4 +1,4 @@
-//! Cover lines.
+//! Cover lines (`1-0 1`).
 
 ghost use Rattle.std.specs.Prelude.{◌≡◌};
 ghost use Rattle.std.specs.List.{list_all};
@@ -13,10 +13,10 @@ use crate::words::next_word;
 use net_document::{Cube, NetError};
 use std::alloc::Global;
 
-/// The most cover lines of a table.
+/// The maximal number of cover lines of a table.
 pub const MOST_CUBES: usize = 4096;
 
-/// The byte 0 or 1 alone.
+/// The bit that a word of the one byte `0` or `1` spells.
 #[tactic(auto, unfolding(crate::specs::Rows::bit_in))]
 fn bit_in(word: &[u8]) -> Option<bool>
     ensures { result ≡ bit_in_of word.now }
@@ -28,7 +28,7 @@ fn bit_in(word: &[u8]) -> Option<bool>
     }
 }
 
-/// Whether all bytes may be part of a cube.
+/// Whether all bytes are `0`, `1` or `-`.
 fn are_cube_bytes(bytes: &[u8]) -> bool
     ensures { result ≡ list_all is_cube_byte bytes.now }
 {
@@ -37,14 +37,14 @@ fn are_cube_bytes(bytes: &[u8]) -> bool
         .all(|byte| *byte == b'0' || *byte == b'1' || *byte == b'-')
 }
 
-/// Whether the bytes are a cube of `width` inputs.
+/// Whether the bytes form a cube of `width` inputs.
 fn is_cube(width: u32, bytes: &[u8]) -> bool
     ensures { result ≡ is_cube_of width bytes.now }
 {
     bytes.len() == width as usize && are_cube_bytes(bytes)
 }
 
-/// The cube and the value of a cover line in a table of `width` inputs.
+/// The cube and the output value of a cover line, in a table of `width` inputs.
 #[tactic(auto, unfolding(crate::specs::Rows::row_in))]
 fn row_in(width: u32, text: &[u8]) -> Option<(&[u8], bool)>
     ensures { row_found result ≡ row_in_of width (words_of text.now) }
@@ -62,7 +62,7 @@ fn row_in(width: u32, text: &[u8]) -> Option<(&[u8], bool)>
     Some((first, bit_in(value)?))
 }
 
-/// For the prover: `one == other`, by cases as the definition has it.
+/// `one == other`, by cases as in the definition; for the prover.
 fn agrees(one: bool, other: bool) -> bool
     ensures { result ≡ agrees_of one other }
 {

@@ -1,5 +1,5 @@
-//! Statements, one function each. Each changes the parser state as the definition for its keyword
-//! says, and not at all where the line is refused.
+//! The statements, one function each. Each updates the parser state as defined for its keyword, and leaves it
+//! unchanged if the line is refused.
 
 ghost use Rattle.std.specs.Prelude.{◌≡◌, ◌++◌, length, OnOk, IfOk};
 ghost use Rattle.blif_text.specs.Reading.{Gives};
@@ -23,10 +23,10 @@ use net_document::{Cover, LatchLine, Name, NetError, Trigger, add_copies};
 use net_text::{is_long_line, is_name};
 use std::alloc::{AllocError, Global};
 
-/// The most inputs of a table.
+/// The maximal number of inputs of a table.
 pub const MOST_WIDTH: usize = 256;
 
-/// The name of the model, which may be missing.
+/// The name of the model, which is optional.
 #[tactic(auto, unfolding(crate::specs::Statements::with_model))]
 fn name_model(alloc: Global, line: u32, reading: &mut Reading, text: &[u8]) -> Result<(), NetError>
     ensures { Gives (λ _. reading.new) result (with_model line reading.old (words_of text.now)) }
@@ -98,7 +98,7 @@ fn take_clocks(line: u32, reading: &mut Reading, text: &[u8]) -> Result<(), NetE
     Ok(())
 }
 
-/// All words but the last one, and that one; `first` is the first word and `text` has the others.
+/// All words but the last one, and the last one; `first` is the first word, and `text` has the others.
 #[tactic(auto, unfolding(crate::specs::Statements::front_of, crate::specs::Statements::last_of))]
 fn split_last_word(
     alloc: Global,
@@ -120,7 +120,7 @@ fn split_last_word(
     Ok((inputs, Name::of(alloc, word)?))
 }
 
-/// A table without cover lines.
+/// The table of a `.names` statement, before its cover lines.
 #[tactic(auto, unfolding(crate::specs::Statements::table_of))]
 fn table_of(alloc: Global, line: u32, text: &[u8]) -> Result<CoverTable, NetError>
     ensures { Gives (λ t. t) result (table_of_words line (words_of text.now)) }
@@ -147,7 +147,7 @@ fn table_of(alloc: Global, line: u32, text: &[u8]) -> Result<CoverTable, NetErro
     })
 }
 
-/// Notes the names that a table drives and uses.
+/// Records the names that a table drives and reads.
 fn note_table(reading: &mut Reading, table: &CoverTable) -> Result<(), AllocError>
     ensures { OnOk result (reading.new ≡ with_table_names reading.old table.now) }
 {
@@ -166,7 +166,7 @@ fn take_table(alloc: Global, line: u32, reading: &mut Reading, text: &[u8]) -> R
     Ok(())
 }
 
-/// Notes the control of a latch.
+/// Records the control of a latch.
 fn note_control(
     controls: &mut Vec<Control>,
     line: u32,
@@ -184,7 +184,7 @@ fn note_control(
     Ok(())
 }
 
-/// Notes the names that a latch drives and uses, and its control.
+/// Records the names that a latch drives and reads, and its control.
 fn note_latch(line: u32, reading: &mut Reading, latch: &LatchLine) -> Result<(), AllocError>
     ensures { OnOk result (reading.new ≡ with_latch_names line reading.old latch.now) }
 {
@@ -214,7 +214,7 @@ fn take_end(line: u32, reading: &mut Reading, text: &[u8]) -> Result<(), NetErro
     Ok(())
 }
 
-/// A line that begins with a dot.
+/// Handles a line that begins with a dot.
 #[tactic(auto, unfolding(crate::specs::Statements::directed))]
 fn direct(
     alloc: Global,
@@ -238,7 +238,7 @@ fn direct(
     }
 }
 
-/// A cover line.
+/// Handles a cover line.
 fn cover(alloc: Global, line: u32, reading: &mut Reading, text: &[u8]) -> Result<(), NetError>
     ensures { Gives (λ _. reading.new) result (covered line reading.old reading.old.current (words_of text.now)) }
 {
@@ -258,7 +258,7 @@ fn begins_dot(word: &[u8]) -> bool
     }
 }
 
-/// The fault of a line after `.end`.
+/// The error of a line after `.end`.
 fn behind_end(alloc: Global, line: u32, reading: &Reading, word: &[u8]) -> Result<(), NetError>
     ensures { Gives (λ _. reading.now) result (behind_end_of line reading.now word.now) }
 {
@@ -268,7 +268,7 @@ fn behind_end(alloc: Global, line: u32, reading: &Reading, word: &[u8]) -> Resul
     Err(NetError::Syntax(line))
 }
 
-/// A statement or a cover line, from its words.
+/// Handles a statement or a cover line, by its words.
 fn state(alloc: Global, line: u32, reading: &mut Reading, text: &[u8]) -> Result<(), NetError>
     ensures { Gives (λ _. reading.new) result (stated line reading.old (words_of text.now)) }
 {
@@ -286,7 +286,7 @@ fn state(alloc: Global, line: u32, reading: &mut Reading, text: &[u8]) -> Result
     direct(alloc, line, reading, is_first, word, rest)
 }
 
-/// A logical line.
+/// Handles a logical line.
 #[tactic(auto, unfolding(crate::specs::Statements::step))]
 pub fn take_line(alloc: Global, reading: &mut Reading, line: &LogicalLine) -> Result<(), NetError>
     ensures { Gives (λ _. reading.new) result (step reading.old line.now) }

@@ -18,7 +18,7 @@ use indexmap::IndexSet;
 use net_document::{Document, Listed, Name, NetError, Table};
 use std::alloc::{AllocError, Global};
 
-/// Takes the logical lines of a text, one after the other.
+/// Handles the logical lines of a text, one after the other.
 #[tactic(auto, unfolding(crate::specs::Statements::steps))]
 fn take_lines(alloc: Global, reading: &mut Reading, bytes: &[u8]) -> Result<(), NetError>
     requires { length bytes.now < 2 ^ 31 }
@@ -59,7 +59,7 @@ fn add_driven(driven: &mut IndexSet<Name>, tables: &[Table]) -> Result<(), Alloc
     Ok(())
 }
 
-/// Refuses the first of `controls` whose name is in `driven`.
+/// Refuses the first control whose name is in `driven`.
 #[tactic(auto, unfolding(crate::specs::Statements::control_fault, net_theory::specs::Document::has))]
 fn refuse_driven(driven: &IndexSet<Name>, controls: &[Control]) -> Result<(), NetError>
     ensures good { IfOk result (λ _. control_fault_of driven.now.keys controls.now ≡ None) }
@@ -119,10 +119,10 @@ fn listed_by(reading: Reading) -> Listed
     }
 }
 
-/// The document of a text, with the names that the text drives and uses in its order.
+/// Parses a BLIF text: its document, with the names that it drives and reads in the order of the text.
 ///
-/// Lines are checked in their order, and the first fault is reported with its line. Whether the
-/// document is well formed isn't checked here, but for controls, which no table may drive.
+/// Lines are checked in order, and the first fault is reported with its line. Of well-formedness only one
+/// condition is checked here: no table may drive a latch's control.
 #[tactic(auto, unfolding(crate::specs::Statements::listed_of))]
 pub fn read_listed(alloc: Global, bytes: &[u8]) -> Result<Listed, NetError>
     requires { length bytes.now < 2 ^ 31 }

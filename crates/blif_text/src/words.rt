@@ -1,4 +1,4 @@
-//! Words of a logical line. A line is scanned several times, without an index of its words.
+//! The words of a logical line. A line is scanned once for each use; no list of its words is stored.
 
 ghost use Rattle.std.specs.Prelude.{◌≡◌, ◌<◌, ◌++◌, length, IfSome, OnOk};
 ghost use Rattle.net_theory.specs.Document.{is_same};
@@ -10,7 +10,7 @@ use net_document::Name;
 use net_text::{is_blank, is_long_word, is_name};
 use std::alloc::AllocError;
 
-/// The first word of a text, and the rest after it; None where the text has no word.
+/// The first word of a text and the rest after it; None if the text has no word.
 #[tactic(auto, using(text_core::specs::Cuts::cuts), unfolding(crate::specs::Words::words_from))]
 pub fn next_word(text: &[u8]) -> Option<(&[u8], &[u8])>
     ensures words { words_of text.now ≡ words_in result }
@@ -38,7 +38,7 @@ pub fn next_word(text: &[u8]) -> Option<(&[u8], &[u8])>
     Some((start, left))
 }
 
-/// For the prover: `word == this` of two slices, as a function of its own.
+/// `word == this`, as a separate function; for the prover.
 pub fn is_word(word: &[u8], this: &[u8]) -> bool
     ensures { result ≡ is_same word.now this.now }
 {

@@ -1,5 +1,5 @@
--- A netlist of any number of blocks, of three kinds in turn. The blocks cost 3, 3 and 4 gates,
--- where 1, 2 and 3 are enough.
+-- A netlist of any number of blocks, of three kinds in turn. The blocks cost 3, 3 and 4 gates; 1, 2 and 3 gates
+-- are enough.
 use Rattle.std.specs.Prelude.{ℕ, zero, suc, ◌%◌, true, false, ◌==◌, if◌then◌else◌, List, [], ◌∷◌, ◌++◌, length, map, Option, Some, None, option_to_list, codes, decimal}
 use Rattle.net_theory.specs.Document.{Name, Table, Document}
 use Rattle.blif_core.specs.Spelling.{spelled}
@@ -36,7 +36,7 @@ block_outputs block = name_of block 121 ∷ []
 abbrev pub block_tables : ℕ → List Table
 block_tables block = if block % 3 == 0 then exclusive block else (if block % 3 == 1 then conjunction block else choice block)
 
--- the lists of n blocks joined, block 0 first
+-- the concatenation of the lists of n blocks, block 0 first
 unfoldable pub of_blocks : {A : Type 0} → (ℕ → List A) → ℕ → List A
 of_blocks f zero = []
 of_blocks f (suc n) = of_blocks f n ++ f n
@@ -52,6 +52,6 @@ generated blocks = record {
   tables = of_blocks block_tables blocks;
 }
 
--- its text
+-- its BLIF text
 abbrev pub generated_text : ℕ → List ℕ
 generated_text blocks = spelled (generated blocks)

@@ -1,4 +1,4 @@
-//! Blocks: the names and the tables of each.
+//! The names and the tables of one block.
 
 ghost use Rattle.std.specs.Prelude.{◌≡◌, ◌<◌, ◌^◌, [], ◌∷◌, ◌++◌, IfOk, OnOk, length, option_to_list};
 ghost use Rattle.std.specs.Option.{option_copied};
@@ -8,7 +8,7 @@ use net_document::{Body, Cover, Cube, Name, Table};
 use std::alloc::{AllocError, Global};
 use text_core::push_number;
 
-/// The name of `letter` in `block`.
+/// The name of `letter` in `block`: the letter, then the block's number in decimal.
 pub fn name_of(alloc: Global, block: u32, letter: u8) -> Result<Name, AllocError>
     ensures { IfOk result (λ name. name ≡ name_of_letter block letter) }
 {
@@ -40,7 +40,7 @@ pub fn append_names(names: &mut Vec<Name>, more: Vec<Name>) -> Result<(), AllocE
     Ok(())
 }
 
-/// A cube, and a second one where it is given.
+/// The cubes of a table: one, or two.
 fn cubes_of(alloc: Global, first: &[u8], second: Option<&[u8]>) -> Result<Vec<Cube>, AllocError>
     ensures { IfOk result (λ cubes. cubes.items ≡ first.now ∷ option_to_list (option_copied second.entry)) }
 {
@@ -94,7 +94,7 @@ fn add_table(
     Ok(())
 }
 
-/// Adds the tables of XOR.
+/// Adds the tables of a block that computes XOR.
 fn push_exclusive(block: u32, tables: &mut Vec<Table>) -> Result<(), AllocError>
     ensures { OnOk result (tables.new.items ≡ tables.old.items ++ exclusive block) }
 {
@@ -104,7 +104,7 @@ fn push_exclusive(block: u32, tables: &mut Vec<Table>) -> Result<(), AllocError>
     Ok(())
 }
 
-/// Adds the tables of AND.
+/// Adds the tables of a block that computes AND.
 fn push_conjunction(block: u32, tables: &mut Vec<Table>) -> Result<(), AllocError>
     ensures { OnOk result (tables.new.items ≡ tables.old.items ++ conjunction block) }
 {
@@ -114,7 +114,7 @@ fn push_conjunction(block: u32, tables: &mut Vec<Table>) -> Result<(), AllocErro
     Ok(())
 }
 
-/// Adds the tables of the multiplexer that a controls.
+/// Adds the tables of a multiplexer with the select input `a`.
 fn push_choice(block: u32, tables: &mut Vec<Table>) -> Result<(), AllocError>
     ensures { OnOk result (tables.new.items ≡ tables.old.items ++ choice block) }
 {
@@ -138,7 +138,7 @@ pub fn push_tables(block: u32, tables: &mut Vec<Table>) -> Result<(), AllocError
     }
 }
 
-/// The inputs of a block.
+/// The names of a block's inputs.
 pub fn inputs_of(alloc: Global, block: u32) -> Result<Vec<Name>, AllocError>
     ensures { IfOk result (λ names. names.items ≡ block_inputs block) }
 {

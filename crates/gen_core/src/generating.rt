@@ -1,4 +1,4 @@
-//! The netlist of `blocks` blocks.
+//! The netlist of any number of blocks.
 
 ghost use Rattle.std.specs.Prelude.{◌≡◌, ◌++◌, IfOk, OnOk, OnErr};
 ghost use Rattle.gen_core.specs.Generated.{block_inputs, block_outputs, block_tables, of_blocks, generated, generated_text};
@@ -59,8 +59,8 @@ fn document(alloc: Global, blocks: u32) -> Result<Document, AllocError>
     })
 }
 
-/// Appends the BLIF text of the netlist of `blocks` blocks, of three kinds in turn: XOR of two
-/// inputs, AND of three, and a multiplexer of two inputs and a third that controls it.
+/// Appends the BLIF text of the netlist of `blocks` blocks, of three kinds in turn: XOR of two inputs, AND of
+/// three inputs, and a multiplexer with two data inputs and a select input.
 #[tactic(auto, using(crate::proofs::Counting::texts))]
 pub fn generate(blocks: u32, out: &mut Vec<u8>) -> Result<(), AllocError>
     ensures ok { OnOk result (out.new.items ≡ out.old.items ++ generated_text blocks) }

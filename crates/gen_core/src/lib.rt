@@ -1,7 +1,7 @@
-//! A test netlist of any size: blocks of three kinds in turn, each with more gates than it needs.
-//! It stands on `blif_core` for the text.
+//! Generates a test netlist of any size: blocks of three kinds in turn, each with redundant gates. It builds on
+//! `blif_core` for the text.
 //!
-//! The one theorem is that of `generate`: it appends exactly the BLIF text of the netlist that
+//! The main theorem is the contract of `generate`: it appends exactly the BLIF text of the netlist that
 //! `specs/Generated.antt` defines.
 //!
 //! ```text

@@ -1,5 +1,5 @@
--- Lists that are joined from blocks: what holds of each block's part holds of all, and elements by
--- their blocks.
+-- Lists that concatenate the parts of blocks: properties of all parts are properties of the list, and each element
+-- belongs to a block.
 use Rattle.std.specs.Prelude.{◌≡◌, ℕ, zero, suc, ◌*◌, ◌≤◌, ◌<◌, true, List, length, map, All}
 use Rattle.std.proofs.Common.{arith, sym, subst, inl, inr, ⊎_elim, length-append}
 use Rattle.std.proofs.lemmas.Bool.{cases_lt}
@@ -39,7 +39,7 @@ of_has_name f (suc n) k m low there = elim (cases_lt k n) [
   | inr past ↦ let same : k ≡ n = omega (arith, low, past) in has_right (of_blocks f n) (f n) m (subst (λ (j : ℕ). has (f j) m ≡ true) same there)
 ]
 
--- the block in whose part a name is
+-- the block to whose part a name belongs
 pub of_found : (f : ℕ → List Name) (n : ℕ) (m : Name) → has (of_blocks f n) m ≡ true → (k : ℕ) × (k < n) × (has (f k) m ≡ true)
 unfolding of_blocks
 of_found f zero m there = absurd (has_none m there)

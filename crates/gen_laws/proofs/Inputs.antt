@@ -1,4 +1,4 @@
--- The inputs of blocks: they are valid names, differ, and have letters before those of tables.
+-- The inputs of blocks are valid, distinct names, with letters before those of tables.
 use Rattle.std.specs.Prelude.{◌≡◌, ℕ, zero, suc, ◌%◌, ◌^◌, ◌≤◌, ◌<◌, Bool, true, false, ◌&&◌, ◌==◌, nat_le, List, [], ◌∷◌, All, codes, refl}
 use Rattle.std.proofs.Common.{arith, sym, ◌∙◌, inl, ⊎_elim}
 use Rattle.std.proofs.lemmas.Bool.{and_parts, cond_both, false_from_ne_true, leb-true}
@@ -10,7 +10,7 @@ use Rattle.gen_core.specs.Generated.{name_of, names_of, block_inputs, of_blocks}
 use Rattle.gen_laws.proofs.Blocks.{of_all, of_found}
 use Rattle.gen_laws.proofs.Rows.{IsOlder}
 
--- letters up to o, before those that tables drive
+-- letters up to `o`, which come before the letters that tables drive
 abbrev pub are_letters : List ℕ → Bool
 are_letters [] = true
 are_letters (l ∷ ls) = (nat_le 97 l && nat_le l 122) && are_letters ls
@@ -34,7 +34,7 @@ names_older k (l ∷ ls) low good =
     let first : IsOlder 0 112 (name_of k l) = record { block = k; letter = l; low = low; is = refl; before = inl (omega (arith, up)) } in
     All-cons (IsOlder 0 112) (name_of k l) (names_of k ls) first (names_older k ls low p.1)
 
--- what holds of both kinds of inputs holds of a block's
+-- a property of both lists of inputs holds of a block's inputs
 pub of_inputs : (P : List Name → Type 0) (k : ℕ) → P (names_of k (codes "ab")) → P (names_of k (codes "abc")) → P (block_inputs k)
 of_inputs P k two three = cond_both (k % 3 == 0) (names_of k (codes "ab")) (names_of k (codes "abc")) P (λ e. two) (λ e. three)
 
@@ -48,7 +48,7 @@ inputs_older n low =
     of_all (IsOlder 0 112) block_inputs n (λ k below. let k_low : k < 2 ^ 64 = omega (arith, low, below) in
     of_inputs (λ (ns : List Name). All (IsOlder 0 112) ns) k (names_older k (codes "ab") k_low refl) (names_older k (codes "abc") k_low refl))
 
--- ---- they differ
+-- ---- they are distinct
 
 named_found : (k : ℕ) (ls : List ℕ) (m : Name) → has (names_of k ls) m ≡ true → (l : ℕ) × (m ≡ name_of k l)
 named_found k [] m there = absurd (has_none m there)

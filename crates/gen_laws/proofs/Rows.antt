@@ -1,5 +1,4 @@
--- The tables of a block by their letters: each reads known letters, and drives one after all of
--- them.
+-- The tables of a block, by letters: each reads known letters and drives a later letter.
 use Rattle.std.specs.Prelude.{◌≡◌, ℕ, suc, ◌^◌, ◌≤◌, ◌<◌, ◌⊎◌, Bool, true, false, ◌&&◌, ◌||◌, ◌==◌, nat_le, List, [], ◌∷◌, ◌++◌, map, All, Option, refl}
 use Rattle.std.proofs.Common.{arith, sym, ◌∙◌, ap, subst, inl, inr, ⊎_elim, append_assoc, append-nil}
 use Rattle.std.proofs.lemmas.Bool.{and_parts, false_from_ne_true, leb-true, eqb-true}
@@ -30,8 +29,7 @@ pub record Row : Type 0 where
 abbrev pub row_table : ℕ → Row → Table
 row_table block r = table_of block r.inputs r.output r.first r.second
 
--- each table reads known letters and letters driven before, and drives one from `least` on and
--- after those
+-- each table reads known letters and letters that are driven before, and drives a later letter, from `least` on
 abbrev pub are_rows : List ℕ → ℕ → List Row → Bool
 are_rows known least [] = true
 are_rows known least (r ∷ rs) = (all_known known r.inputs && nat_le least r.output) && are_rows (r.output ∷ known) (suc r.output) rs
@@ -83,7 +81,7 @@ pushed k l least before low up older =
 
 -- ---- known letters
 
--- the names of the letters `known` are in `before`
+-- `before` has the names of the letters `known`
 abbrev pub Knows : ℕ → List ℕ → List Name → Type 0
 Knows k known before = (l : ℕ) → is_known known l ≡ true → has before (name_of k l) ≡ true
 
@@ -107,8 +105,8 @@ knows_more k o known before knows l e = known_by k o known before l (l == o) ref
 
 -- ---- layers
 
--- The tables are in topological order after the names `before`, and the names they drive are older
--- for the next block.
+-- The tables are in topological order after the names `before`, and the next block may read the names that they
+-- drive.
 pub record Layered (k : ℕ) (before : List Name) (ts : List Table) : Type 0 where
   pub layers : AreLayered before ts
   pub older : All (IsOlder (suc k) 112) (before ++ map table_output ts)

@@ -47,7 +47,7 @@ list_short keyword ns word short = omega (arith, length-append keyword (rest_tex
 
 -- ---- their texts
 
--- a text of pieces of at most `most` bytes
+-- the length of a concatenation of pieces of at most `most` bytes
 pieces : {A : Type 0} (text : A → List ℕ) (most : ℕ) (P : A → Type 0) → ((x : A) → P x → length (text x) ≤ most) → (xs : List A) → All P xs → length (flat_map text xs) ≤ length xs * most
 pieces text most P each [] all = omega arith
 pieces text most P each (x ∷ xs) all =

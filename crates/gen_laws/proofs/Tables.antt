@@ -1,5 +1,5 @@
--- The tables of blocks: they are tables of cubes, in topological order after the inputs, and cost
--- at most a gate each.
+-- The tables of blocks are given by cubes, are in topological order after the inputs, and cost at most one gate
+-- each.
 use Rattle.std.specs.Prelude.{◌≡◌, ℕ, zero, suc, ◌%◌, ◌^◌, ◌≤◌, ◌<◌, Bool, true, false, ◌&&◌, ◌||◌, ◌==◌, nat_le, List, [], ◌∷◌, ◌++◌, length, map, All, Option, Some, None, option_to_list, codes, if◌then◌else◌, sum_by, refl}
 use Rattle.std.proofs.Common.{arith, sym, ◌∙◌, ap, subst, append_assoc, append-nil}
 use Rattle.std.proofs.lemmas.Bool.{cond_both, both_ways, and_parts, leb-true, eqb-true}
@@ -33,7 +33,7 @@ conjunction_rows = row (codes "ab") 112 (codes "11") None ∷ row (codes "ac") 1
 abbrev choice_rows : List Row
 choice_rows = row (codes "a") 112 (codes "0") None ∷ row (codes "ab") 113 (codes "11") None ∷ row (codes "pc") 114 (codes "11") None ∷ row (codes "qr") 121 (codes "1-") (Some (codes "-1")) ∷ []
 
--- what holds of each kind holds of a block
+-- a property of each kind holds of every block
 pub of_kind : (P : List Table → Type 0) (k : ℕ) → ((k % 3 == 0) ≡ true → P (exclusive k)) → ((k % 3 == 0) ≡ false → P (conjunction k)) → ((k % 3 == 0) ≡ false → P (choice k)) → P (block_tables k)
 of_kind P k x c h =
     cond_both (k % 3 == 0) (exclusive k) (if k % 3 == 1 then conjunction k else choice k) P x
@@ -55,7 +55,7 @@ two_inputs k m e there = cond_both (k % 3 == 0) (names_of k (codes "ab")) (names
 three_inputs : (k : ℕ) (m : Name) → (k % 3 == 0) ≡ false → has (names_of k (codes "abc")) m ≡ true → has (block_inputs k) m ≡ true
 three_inputs k m e there = cond_both (k % 3 == 0) (names_of k (codes "ab")) (names_of k (codes "abc")) (λ (ns : List Name). has ns m ≡ true) (λ is. absurd (both_ways (k % 3 == 0) e is)) (λ no. there)
 
--- a block's tables after names that have its inputs
+-- a block's tables, after names that include its inputs
 kind_layered : (k : ℕ) (before : List Name) → k < 2 ^ 64 → All (IsOlder k 112) before → ((m : Name) → has (block_inputs k) m ≡ true → has before m ≡ true) → Layered k before (block_tables k)
 kind_layered k before low older here =
     of_kind (λ (ts : List Table). Layered k before ts) k
@@ -63,7 +63,7 @@ kind_layered k before low older here =
     (λ e. rows_layered k before (codes "abc") 112 conjunction_rows low (omega arith) refl older (knows_names k (codes "abc") before (λ m there. here m (three_inputs k m e there))))
     (λ e. rows_layered k before (codes "abc") 112 choice_rows low (omega arith) refl older (knows_names k (codes "abc") before (λ m there. here m (three_inputs k m e there))))
 
--- the tables of k blocks after the inputs of n
+-- the tables of k blocks, after the inputs of n blocks
 pub record AllLayered (n k : ℕ) : Type 0 where
   pub layers : AreLayered (of_blocks block_inputs n) (of_blocks block_tables k)
   pub older : All (IsOlder k 112) (of_blocks block_inputs n ++ map table_output (of_blocks block_tables k))
@@ -132,7 +132,7 @@ block_spelled k low =
 pub all_spelled : (n : ℕ) → n ≤ 2 ^ 64 → All IsSpelledTable (of_blocks block_tables n)
 all_spelled n low = of_all IsSpelledTable block_tables n (λ k below. block_spelled k (omega (arith, low, below)))
 
--- at most four in a block
+-- a block has at most four tables
 pub block_few : (k : ℕ) → length (block_tables k) ≤ 4
 block_few k = of_kind (λ (ts : List Table). length ts ≤ 4) k (λ e. omega arith) (λ e. omega arith) (λ e. omega arith)
 
@@ -226,7 +226,7 @@ tables_cheap (t ∷ ts) narrow = omega (arith, sum_by-cons table_cost t ts, tabl
 
 -- ---- outputs
 
--- y is 121
+-- 121 is the letter y
 pub output_driven : (k : ℕ) → has (map table_output (block_tables k)) (name_of k 121) ≡ true
 output_driven k =
     of_kind (λ (ts : List Table). has (map table_output ts) (name_of k 121) ≡ true) k

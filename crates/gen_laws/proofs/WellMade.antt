@@ -1,4 +1,4 @@
--- Generated netlists are well formed, and read back.
+-- Generated netlists are well formed and are read back.
 use Rattle.std.specs.Prelude.{◌≡◌, ℕ, ◌^◌, ◌≤◌, ◌<◌, true, List, [], map, All, codes, refl}
 use Rattle.std.specs.List.{flat_map}
 use Rattle.std.proofs.Common.{arith, sym, subst, ⊎_elim, append-nil}
@@ -57,7 +57,7 @@ layers n low = subst (λ (ns : List Name). AreLayered ns (tables_of n)) (sym (ap
 sources_differ : (n : ℕ) → n < 2 ^ 64 → are_distinct (source_names (generated n)) ≡ true
 sources_differ n low = subst (λ (ns : List Name). are_distinct ns ≡ true) (sym (sources_are n)) (inputs_differ n (omega (arith, low)))
 
--- ---- what is used is driven
+-- ---- every used name is driven
 
 output_is : (n : ℕ) (m : Name) → has (outputs_of n) m ≡ true → has (map table_output (tables_of n)) m ≡ true
 output_is n m there =

@@ -1,6 +1,6 @@
-//! Laws of generated netlists, each the contract of a function that does nothing. The definitions
-//! are those of `gen_core` and `net_document`. The lemmas are on blocks: the names of a block, that
-//! its tables are in topological order, their costs and the length of their text.
+//! Theorems about generated netlists, each the contract of a function with an empty body. The definitions are
+//! those of `gen_core` and `net_document`. The lemmas treat one block at a time: its names, the topological
+//! order of its tables, their costs and the length of their text.
 #![tactic(auto)]
 
 ghost use Rattle.std.specs.Prelude.{ℕ, ◌≤◌, length};
@@ -10,15 +10,15 @@ ghost use Rattle.gen_core.specs.Generated.{generated_text};
 
 use blif_laws::documents_are_read_back;
 
-/// A netlist of at most 10,000 blocks is well formed: no name is driven twice, each used name is
-/// driven, there is no combinational loop, and there are at most 100,000 gates.
+/// A generated netlist of at most 10,000 blocks is well formed: no name is driven twice, each used name is driven,
+/// there is no combinational loop, and there are at most 100,000 gates.
 pub fn generated_netlists_are_netlists()
     ensures { (blocks : ℕ) → blocks ≤ 10000 → IsNetlist blif_format (generated_text blocks) }
 {
     documents_are_read_back();
 }
 
-/// Its text has at most 16,777,216 bytes.
+/// The text of a generated netlist of at most 10,000 blocks has at most 16,777,216 bytes.
 pub fn generated_netlists_are_small()
     ensures { (blocks : ℕ) → blocks ≤ 10000 → length (generated_text blocks) ≤ 16777216 }
 {}

@@ -1,4 +1,4 @@
--- Where the numbers fall from a node to what it reads, the node is on no cycle.
+-- A node whose fanins all have smaller numbers is on no cycle.
 use Rattle.std.proofs.Common.{◌≡◌, ℕ, zero, suc, ◌+◌, ◌≤◌, ◌<◌, true, List, [], ◌∷◌, ◌++◌, length, refl, ap, ◌∙◌, sym, subst, arith, ⊎_elim, eqb, inl, inr, get_or, length-append}
 use Rattle.std.specs.Prelude.{slice_index, slice_get, Option, Some, unwrap_or, if◌then◌else◌, nat_eq, ◌⊎◌}
 use Rattle.std.specs.List.{IsDistinct}
@@ -20,7 +20,7 @@ at_front [] ys i x e = absurd cc
 at_front (z ∷ xs) ys zero x e = e
 at_front (z ∷ xs) ys (suc i) x e = at_front xs ys i x e
 
--- A node whose reads all have lower numbers leads to lower ones alone.
+-- A node whose fanins all have smaller numbers reaches only nodes with smaller numbers.
 leads_below : (g : Graph) (numbers : List ℕ) (t v : ℕ) → Fall g numbers → ((u : ℕ) → has_ended (reads_of g t) u ≡ true → slice_index numbers u < slice_index numbers t) → LeadsTo g t v → slice_index numbers v < slice_index numbers t
 leads_below g numbers _ _ fall below (at_once t u r) = below u r
 leads_below g numbers _ _ fall below (by_way_of t u v r more) = omega (arith, leads_fall g numbers u v fall more, below u r)
@@ -28,7 +28,7 @@ leads_below g numbers _ _ fall below (by_way_of t u v r more) = omega (arith, le
 pub apart : (g : Graph) (numbers : List ℕ) (t : ℕ) → Fall g numbers → ((u : ℕ) → has_ended (reads_of g t) u ≡ true → slice_index numbers u < slice_index numbers t) → LeadsTo g t t → ⊥
 apart g numbers t fall below leads = omega (arith, leads_below g numbers t t fall below leads)
 
--- ---- nodes that are added
+-- ---- adding nodes
 
 added_keeps : (seen ts : List ℕ) (u : ℕ) → has_ended seen u ≡ true → has_ended (added seen ts) u ≡ true
 unfolding added
@@ -68,9 +68,9 @@ added_at seen (u ∷ ts) k t e =
     (λ was. added_at seen ts k t e)
     (λ fresh. added_at (seen ++ u ∷ []) ts k t (at_front seen (u ∷ []) k t e))
 
--- ---- all to which a node leads
+-- ---- all nodes that a node reaches
 
--- `set` has some of the nodes to which `node` leads, and all that its first `at` elements read.
+-- The loop invariant: `set` has only nodes that `node` reaches, and all fanins of its first `at` elements.
 pub record Reaches (g : Graph) (node at : ℕ) (set : List ℕ) : Type 0 where
   pub low : at ≤ length set
   pub leads : (u : ℕ) → has_ended set u ≡ true → LeadsTo g node u
@@ -148,19 +148,19 @@ reaches_end g node at set r high = record {
   all = λ u leads. keeps_in g set node u (λ v w h reads. let p : (k : ℕ) × ((k < length set) × (slice_get set k ≡ Some v)) = place_of set v h in r.closed p.0 v w (omega (arith, p.1.0, high)) p.1.1 reads) r.first leads;
 }
 
--- ---- how many there are
+-- ---- the number of nodes
 
 last_read : (g : Graph) (t u : ℕ) → LeadsTo g t u → (v : ℕ) × (has_ended (reads_of g v) u ≡ true)
 last_read g _ _ (at_once t u r) = (t, r)
 last_read g _ _ (by_way_of t u v r more) = last_read g u v more
 
--- nodes that are led to are nodes of the graph
+-- reached nodes are nodes of the graph
 pub reached_few : (g : Graph) (node at : ℕ) (set : List ℕ) → IsClosed g (length g) → IsDistinct eqb set → Reaches g node at set → length set ≤ length g
 reached_few g node at set closed distinct r = length-le_from_distinct_below set (length g) distinct (λ q h. let last : (v : ℕ) × (has_ended (reads_of g v) q ≡ true) = last_read g node q (r.leads q h) in closed last.0 q last.1)
 
 pub ruleset searches = (common_steps, reaches_start, reaches_next, reaches_end)
 
--- ---- the first node that leads to itself
+-- ---- the first node on a cycle
 
 -- no node below `node` is on a cycle
 pub record AreApart (g : Graph) (node : ℕ) : Type 0 where

@@ -10,19 +10,19 @@ use Rattle.graph_core.specs.Frames.{Entered, ended, all_ended, turns, frame_turn
 
 -- ---- one node
 
--- a node that has ended
+-- a finished node
 pub visit_seen : (g : Graph) (depth : ℕ) (order : List ℕ) (t : ℕ) → has_ended order t ≡ true → visit g depth order t ≡ Some order
 unfolding visit
 visit_seen g zero order t e = cond-true (has_ended order t) (Some order) None e
 visit_seen g (suc depth) order t e = cond-true (has_ended order t) (Some order) _ e
 
--- a node that may not be entered, since the depth is used up
+-- a node that isn't entered, since the depth is used up
 pub visit_deep : (g : Graph) (depth : ℕ) (order : List ℕ) (t : ℕ) → has_ended order t ≡ false → depth ≡ 0 → visit g depth order t ≡ None
 unfolding visit
 visit_deep g zero order t e none = cond-false (has_ended order t) (Some order) None e
 visit_deep g (suc depth) order t e none = absurd (omega arith)
 
--- a node that is entered
+-- an entered node
 pub visit_new : (g : Graph) (depth : ℕ) (order : List ℕ) (t : ℕ) → has_ended order t ≡ false → depth ≢ 0 → visit g depth order t ≡ ended g (record { node = t; left = reads_of g t; depth = depth - 1 }) (Some order)
 unfolding visit ended
 visit_new g zero order t e some = absurd (some refl)
@@ -55,13 +55,13 @@ unfolding all_ended
 all_ended-none g [] = refl
 all_ended-none g (f ∷ fs) = ap (ended g f) (all_ended-none g fs) ∙ ended-none g f
 
--- a node whose last input was visited ends
+-- after its last fanin, a node is finished
 pub ended-last : (g : Graph) (node depth : ℕ) (left order : List ℕ) → length left ≡ 0 → ended g (record { node = node; left = left; depth = depth }) (Some order) ≡ put_last node (Some order)
 unfolding ended each
 ended-last g node depth [] order e = refl
 ended-last g node depth (t ∷ left) order e = absurd (omega arith)
 
--- the next input
+-- the next fanin
 pub ended-next : (g : Graph) (node depth next : ℕ) (left rest order : List ℕ) → left ≡ next ∷ rest → ended g (record { node = node; left = left; depth = depth }) (Some order) ≡ ended g (record { node = node; left = rest; depth = depth }) (visit g depth order next)
 unfolding ended each
 ended-next g node depth next left rest order e = ap (λ (xs : List ℕ). put_last node (each (visit g depth) (Some order) xs)) e
@@ -105,12 +105,12 @@ last_next g stack fs node depth next left rest order e l =
     ∙ ap (all_ended g fs) (ended-next g node depth next left rest order l)
     ∙ sym (all_ended-push g fs (entered node rest depth) (visit g depth order next))
 
--- its next fanin has ended
+-- its next fanin is already finished
 pub last_seen : (g : Graph) (stack fs : List Entered) (node depth next : ℕ) (left rest order : List ℕ) → stack ≡ fs ++ entered node left depth ∷ [] → left ≡ next ∷ rest → has_ended order next ≡ true → all_ended g (fs ++ entered node rest depth ∷ []) (Some order) ≡ all_ended g stack (Some order)
 last_seen g stack fs node depth next left rest order e l seen =
     sym (last_next g stack fs node depth next left rest order e l ∙ ap (all_ended g (fs ++ entered node rest depth ∷ [])) (visit_seen g depth order next seen))
 
--- its next fanin may not be entered
+-- its next fanin isn't entered, since the depth is used up
 pub last_deep : (g : Graph) (stack fs : List Entered) (node depth next : ℕ) (left rest order : List ℕ) → stack ≡ fs ++ entered node left depth ∷ [] → left ≡ next ∷ rest → has_ended order next ≡ false → depth ≡ 0 → None ≡ all_ended g stack (Some order)
 last_deep g stack fs node depth next left rest order e l new none =
     sym (last_next g stack fs node depth next left rest order e l ∙ ap (all_ended g (fs ++ entered node rest depth ∷ [])) (visit_deep g depth order next new none) ∙ all_ended-none g (fs ++ entered node rest depth ∷ []))
@@ -121,7 +121,7 @@ last_new g stack fs node depth next left rest order e l new some =
     all_ended-push g (fs ++ entered node rest depth ∷ []) (entered next (reads_of g next) (depth - 1)) (Some order)
     ∙ sym (last_next g stack fs node depth next left rest order e l ∙ ap (all_ended g (fs ++ entered node rest depth ∷ [])) (visit_new g depth order next new some))
 
--- one step less is left
+-- the number of remaining steps decreases
 pub last_turns : (g : Graph) (stack fs : List Entered) (node depth next : ℕ) (left rest : List ℕ) → stack ≡ fs ++ entered node left depth ∷ [] → left ≡ next ∷ rest → all_turns g (fs ++ entered node rest depth ∷ []) < all_turns g stack
 last_turns g stack fs node depth next left rest e l =
     omega (arith, ap (all_turns g) e, all_turns-push g fs (entered node left depth), all_turns-push g fs (entered node rest depth), frame_turns-next g node depth next left rest l, turns-some g depth next)
@@ -149,7 +149,7 @@ pub order_start : (g : Graph) → order_from g 0 [] ≡ order_of g
 unfolding order_of
 order_start g = let whole : length g - 0 ≡ length g = omega arith in ap (λ k. each (visit g (length g)) (Some []) (range_with_len 0 k)) whole
 
--- one node more was visited
+-- one more node is visited
 pub order_next : (g : Graph) (node : ℕ) (old new : List ℕ) → node < length g → Some new ≡ visit g (length g) old node → order_from g (node + 1) new ≡ order_from g node old
 order_next g node old new low e = ap (λ o. each (visit g (length g)) o (range_with_len (node + 1) (length g - (node + 1)))) e ∙ sym (each-next g (length g) node old low)
 

@@ -1,4 +1,4 @@
--- Nodes that lead to themselves (are on a cycle), and numbers that fall.
+-- Nodes on cycles, and node numbers that never rise along an edge.
 use Rattle.std.specs.Prelude.{◌≡◌, ℕ, ◌≤◌, ◌<◌, true, if◌then◌else◌, List, [], ◌∷◌, ◌++◌, Option, Some, None, slice_index}
 use Rattle.graph_core.specs.Visit.{Graph, reads_of, has_ended}
 use Rattle.graph_core.specs.VisitLaws.{LeadsTo}
@@ -8,7 +8,7 @@ unfoldable pub added : List ℕ → List ℕ → List ℕ
 added seen [] = seen
 added seen (t ∷ ts) = added (if has_ended seen t then seen else seen ++ t ∷ []) ts
 
--- no number rises from a node to one that it reads
+-- no node has a smaller number than one of its fanins
 pub record Fall (g : Graph) (numbers : List ℕ) : Type 0 where
   pub within : (t u : ℕ) → has_ended (reads_of g t) u ≡ true → slice_index numbers u ≤ slice_index numbers t
 
@@ -17,7 +17,7 @@ abbrev pub IsFirstLeading : Graph → Option ℕ → Type 0
 IsFirstLeading g None = (t : ℕ) → LeadsTo g t t → ⊥
 IsFirstLeading g (Some t) = LeadsTo g t t × ((u : ℕ) → u < t → LeadsTo g u u → ⊥)
 
--- `set` has the nodes to which `node` leads, and no others
+-- `set` has exactly the nodes that `node` reaches
 pub record AreLedTo (g : Graph) (node : ℕ) (set : List ℕ) : Type 0 where
   pub leads : (u : ℕ) → has_ended set u ≡ true → LeadsTo g node u
   pub all : (u : ℕ) → LeadsTo g node u → has_ended set u ≡ true

@@ -1,4 +1,4 @@
--- The stack of a depth-first search: nodes that were entered and haven't ended.
+-- The stack of a depth-first search: nodes that were entered and aren't finished.
 use Rattle.std.specs.Prelude.{ℕ, ◌+◌, zero, suc, Bool, true, false, List, [], ◌∷◌, Option, Some, None, sum_by}
 use Rattle.graph_core.specs.Visit.{Graph, reads_of, each, put_last, visit}
 
@@ -7,21 +7,21 @@ pub record Entered : Type 0 where
   pub left : List ℕ
   pub depth : ℕ
 
--- the report of a visit: the order where it ended, none where it didn't
+-- the result of a visit: the order if it succeeded, else none
 abbrev pub told : Bool → List ℕ → Option (List ℕ)
 told true order = Some order
 told false order = None
 
--- what is left to do for a frame: visit its fanins that are left, then end its node
+-- the rest of a frame's visit: visit its remaining fanins, then finish its node
 unfoldable pub ended : Graph → Entered → Option (List ℕ) → Option (List ℕ)
 ended g f order = put_last f.node (each (visit g f.depth) order f.left)
 
--- and for a stack of frames, the last one first
+-- the rest of the visits of a stack of frames, the last one first
 unfoldable pub all_ended : Graph → List Entered → Option (List ℕ) → Option (List ℕ)
 all_ended g [] order = order
 all_ended g (f ∷ fs) order = ended g f (all_ended g fs order)
 
--- the most steps that a visit takes
+-- an upper bound on the steps of a visit
 unfoldable pub turns : Graph → ℕ → ℕ → ℕ
 turns g zero t = 1
 turns g (suc depth) t = 2 + sum_by (turns g depth) (reads_of g t)

@@ -1,19 +1,19 @@
--- The order in which a depth-first search ends the nodes.
+-- The order in which a depth-first search finishes the nodes (postorder).
 use Rattle.std.specs.Prelude.{ℕ, zero, suc, Bool, nat_eq, if◌then◌else◌, List, [], ◌∷◌, ◌++◌, length, Option, Some, None}
 use Rattle.std.specs.List.{list_any, range_with_len, slice_index_or}
 
--- For each node its fanins: the nodes that it reads, in the order of its inputs.
+-- For each node its fanins (the nodes that it reads), in the order of its inputs.
 abbrev pub Graph : Type 0
 Graph = List (List ℕ)
 
 abbrev pub reads_of : Graph → ℕ → List ℕ
 reads_of g t = slice_index_or g t []
 
--- whether a node has ended
+-- whether a node is finished: it is in the order so far
 abbrev pub has_ended : List ℕ → ℕ → Bool
 has_ended order t = list_any (nat_eq t) order
 
--- a visit of several nodes, one after the other
+-- visits several nodes, one after the other
 unfoldable pub each : (List ℕ → ℕ → Option (List ℕ)) → Option (List ℕ) → List ℕ → Option (List ℕ)
 each visit order [] = order
 each visit None (t ∷ ts) = None
@@ -23,14 +23,13 @@ abbrev pub put_last : ℕ → Option (List ℕ) → Option (List ℕ)
 put_last t None = None
 put_last t (Some order) = Some (if has_ended order t then order else order ++ t ∷ [])
 
--- Visiting a node visits the nodes that it reads, from the left, and then ends it; one that has
--- ended is passed over. None where a path of more than `depth` nodes is met; where `depth` is the
--- number of nodes that means a cycle.
+-- Visits a node: visits its fanins from the left, then finishes it; a finished node is skipped. None if there is
+-- a path of more than `depth` nodes; if `depth` is the number of nodes, that is a cycle.
 unfoldable pub visit : Graph → ℕ → List ℕ → ℕ → Option (List ℕ)
 visit g zero order t = if has_ended order t then Some order else None
 visit g (suc depth) order t = if has_ended order t then Some order else put_last t (each (visit g depth) (Some order) (reads_of g t))
 
--- all nodes, visited in their order
+-- visits all nodes, in their order
 -- Example: where node 0 reads node 2 and then node 1, and these read nothing, it is 2, 1, 0.
 unfoldable pub order_of : Graph → Option (List ℕ)
 order_of g = each (visit g (length g)) (Some []) (range_with_len 0 (length g))

@@ -25,20 +25,20 @@ ended_itself t xs = or_left (nat_eq t t) (has_ended xs t) (eq-eqb t t refl)
 pub ended_last : (xs : List ℕ) (t : ℕ) → has_ended (xs ++ t ∷ []) t ≡ true
 ended_last xs t = ended_right xs (t ∷ []) t (ended_itself t [])
 
--- what is in a list with one more element
+-- an element of a list with one more appended is of the list or is the new one
 pub ended_cases : (xs : List ℕ) (t u : ℕ) → has_ended (xs ++ t ∷ []) u ≡ true → (has_ended xs u ≡ true) ⊎ (u ≡ t)
 ended_cases xs t u e =
     ⊎_elim (λ l. inl l) (λ r. ⊎_elim (λ here. inr (eqb-true u t here)) (λ none. absurd cc) (or_cases (nat_eq u t) false r)) (or_cases (has_ended xs u) (has_ended (t ∷ []) u) (sym (ended_append xs (t ∷ []) u) ∙ e))
 
 -- ---- orders
 
--- `t` may come next: it hasn't come, and what it reads has.
+-- node `t` may finish next: it isn't finished, and its fanins are
 pub record Comes (g : Graph) (n : ℕ) (done : List ℕ) (t : ℕ) : Type 0 where
   pub low : t < n
   pub fresh : has_ended done t ≡ false
   pub ready : (u : ℕ) → has_ended (reads_of g t) u ≡ true → has_ended done u ≡ true
 
--- Each of a list of nodes in turn may come next.
+-- each node of the list, in turn, may finish next
 abbrev pub IsRun : Graph → ℕ → List ℕ → List ℕ → Type 0
 IsRun g n done [] = Unit {0}
 IsRun g n done (t ∷ ts) = Comes g n done t × IsRun g n (done ++ t ∷ []) ts
@@ -48,11 +48,11 @@ run_push g n done [] t run comes = (subst (λ (xs : List ℕ). Comes g n xs t) (
 run_push g n done (u ∷ order) t run comes =
     (run.0, run_push g n (done ++ u ∷ []) order t run.1 (subst (λ (xs : List ℕ). Comes g n xs t) (sym (append_assoc done (u ∷ []) order)) comes))
 
--- each node that is read is below `n`
+-- every fanin is below `n`
 abbrev pub IsClosed : Graph → ℕ → Type 0
 IsClosed g n = (t u : ℕ) → has_ended (reads_of g t) u ≡ true → u < n
 
--- a visit extends `old` to `new` by nodes that may come next
+-- a visit extends the order `old` to `new` by nodes that may finish next
 pub record IsVisited (g : Graph) (n : ℕ) (old new : List ℕ) : Type 0 where
   pub run : IsRun g n [] new
   pub keeps : (t : ℕ) → has_ended old t ≡ true → has_ended new t ≡ true
@@ -94,13 +94,13 @@ each_does g n step does old new (t ∷ ts) low run e =
 abbrev EndsVisit : Graph → ℕ → List ℕ → List ℕ → ℕ → Type 0
 EndsVisit g n old new t = IsVisited g n old new × (has_ended new t ≡ true)
 
--- a node that has ended is passed over
+-- a finished node is skipped
 ends_at_once : (g : Graph) (n : ℕ) (old new : List ℕ) (t : ℕ) → IsRun g n [] old → has_ended old t ≡ true → Some old ≡ Some new → EndsVisit g n old new t
 ends_at_once g n old new t run ended e =
     let same : old ≡ new = cc in
     (visited_none g n old new same run, subst (λ (xs : List ℕ). has_ended xs t ≡ true) same ended)
 
--- a node ends after those that it reads
+-- a node finishes after its fanins
 ends_last : (g : Graph) (n : ℕ) (old mid new : List ℕ) (t : ℕ) → t < n → AreVisited g n old mid (reads_of g t) → (if has_ended mid t then mid else mid ++ t ∷ []) ≡ new → EndsVisit g n old new t
 ends_last g n old mid new t low reads e =
     cond_both (has_ended mid t) mid (mid ++ t ∷ []) (λ (xs : List ℕ). xs ≡ new → EndsVisit g n old new t)
@@ -149,7 +149,7 @@ range_out a (suc n) t e =
     (λ later. omega (arith, range_out (a + 1) n t later))
     (or_cases (nat_eq t a) (has_ended (range_with_len (a + 1) n) t) e)
 
--- a topological order: all nodes, each after those that it reads
+-- a topological order: all nodes, each after its fanins
 pub record IsOrder (g : Graph) (order : List ℕ) : Type 0 where
   pub run : IsRun g (length g) [] order
   pub whole : (t : ℕ) → t < length g → has_ended order t ≡ true
@@ -162,12 +162,12 @@ order_is g order closed e =
 
 -- ---- cycles
 
--- a node leads to another: it reads it, or a node that leads to it
+-- there is a path of one or more edges, from a node to its fanins, from the first node to the second
 pub data LeadsTo (g : Graph) : ℕ → ℕ → Type 0 where
   at_once : (t u : ℕ) → has_ended (reads_of g t) u ≡ true → LeadsTo g t u
   by_way_of : (t u v : ℕ) → has_ended (reads_of g t) u ≡ true → LeadsTo g u v → LeadsTo g t v
 
--- In a topological order a node leads to earlier ones alone.
+-- In a topological order a node reaches only earlier nodes.
 record Ends (g : Graph) (done : List ℕ) : Type 0 where
   closed : (t u : ℕ) → has_ended done t ≡ true → has_ended (reads_of g t) u ≡ true → has_ended done u ≡ true
   apart : (t : ℕ) → has_ended done t ≡ true → LeadsTo g t t → ⊥
@@ -212,7 +212,7 @@ reads_low [] t u e = absurd cc
 reads_low (r ∷ g) zero u e = omega arith
 reads_low (r ∷ g) (suc t) u e = omega (arith, reads_low g t u e)
 
--- Where there is a topological order, no node is on a cycle.
+-- If there is a topological order, no node is on a cycle.
 pub order_apart : (g : Graph) (order : List ℕ) (t : ℕ) → IsOrder g order → LeadsTo g t t → ⊥
 order_apart g order t is leads =
     let from = leads_from g t t leads in
@@ -221,7 +221,7 @@ order_apart g order t is leads =
 
 -- ---- paths
 
--- each node reads the next
+-- each node of the path reads the next
 abbrev IsPath : Graph → ℕ → List ℕ → Type 0
 IsPath g t [] = Unit {0}
 IsPath g t (u ∷ us) = (has_ended (reads_of g t) u ≡ true) × IsPath g u us
@@ -238,7 +238,7 @@ put_fails : (t : ℕ) (r : Option (List ℕ)) → put_last t r ≡ None → r �
 put_fails t None e = refl
 put_fails t (Some order) e = absurd cc
 
--- A visit that fails met a path of more nodes than its depth.
+-- If a visit fails, there is a path of more nodes than its depth.
 visit_fails : (g : Graph) (depth : ℕ) (order : List ℕ) (t : ℕ) → visit g depth order t ≡ None → (us : List ℕ) × (length us ≡ depth) × IsPath g t us
 unfolding visit
 visit_fails g zero order t e = ([], refl, tt)
@@ -263,7 +263,7 @@ none_same : (t : ℕ) (us : List ℕ) → has_ended us t ≡ false → AllByRecu
 none_same t [] e = tt
 none_same t (u ∷ us) e = let parts = or_parts (nat_eq t u) (has_ended us t) e in (parts.0, none_same t us parts.1)
 
--- either the nodes of a path are distinct, or some node is on a cycle
+-- the nodes of a path are distinct, or some node is on a cycle
 path_apart : (g : Graph) (t : ℕ) (us : List ℕ) → IsPath g t us → IsDistinct eqb (t ∷ us) ⊎ ((u : ℕ) × LeadsTo g u u)
 unfolding IsDistinct
 path_apart g t [] path = inl (tt, tt)
@@ -278,7 +278,7 @@ path_low g n t [] closed low path u e = ⊎_elim (λ here. omega (arith, eqb-tru
 path_low g n t (v ∷ us) closed low path u e =
     ⊎_elim (λ here. omega (arith, eqb-true u t here)) (λ later. path_low g n v us closed (closed t v path.0) path.1 u later) (or_cases (eqb u t) (list_any (eqb u) (v ∷ us)) e)
 
--- Where there is no topological order, some node is on a cycle.
+-- If there is no topological order, some node is on a cycle.
 pub no_order : (g : Graph) → IsClosed g (length g) → order_of g ≡ None → (t : ℕ) × LeadsTo g t t
 unfolding order_of
 no_order g closed e =

@@ -1,18 +1,18 @@
-//! Strongly connected components, numbered in the order in which Tarjan's algorithm ends them: the
-//! numbers fall from a node to those that it reads, and are equal on a cycle. Nothing is proved of
-//! them; whoever uses them checks that they fall.
+//! Strongly connected components, numbered in the order in which Tarjan's algorithm completes them: a fanin in
+//! another component has a smaller number, and nodes on a cycle have the same number. Nothing is proved about
+//! the numbers; `cycles.rt` checks them.
 
 use crate::visiting::{Reads, reads_of};
 use std::alloc::{AllocError, Global};
 
-/// A node that was entered, and the index of its next fanin.
+/// A node on the stack of the search, and the index of its next fanin.
 #[derive(Clone, Copy)]
 struct Call {
     node: u32,
     at: usize,
 }
 
-/// The state of Tarjan's algorithm. An index or a number of 0 says that none was given yet.
+/// The state of Tarjan's algorithm. An index or a number of 0 isn't assigned yet.
 #[derive(Drop)]
 struct Search {
     indices: Vec<u32>,
@@ -24,19 +24,19 @@ struct Search {
     next_number: u32,
 }
 
-/// `cells[at]`, or 0 where there is none.
+/// `cells[at]`, or 0 if out of range.
 fn cell(cells: &[u32], at: u32) -> u32 {
     cells.get(at as usize).copied().unwrap_or(0)
 }
 
-/// Sets `cells[at]`, where there is one.
+/// Sets `cells[at]`, if in range.
 fn write(cells: &mut [u32], at: u32, value: u32) {
     if (at as usize) < cells.len() {
         cells[at as usize] = value;
     }
 }
 
-/// Lowers `cells[at]` to `value` at most.
+/// Sets `cells[at]` to the minimum of itself and `value`.
 fn lower(cells: &mut [u32], at: u32, value: u32) {
     let least = cell(cells, at).min(value);
     write(cells, at, least);
@@ -65,7 +65,7 @@ impl Search {
         Ok(())
     }
 
-    /// Gives a component its number: the open nodes from the last one back to `first`.
+    /// Numbers a component: the open nodes from the last one back to `first`.
     fn close(&mut self, first: u32) {
         while let Some(node) = self.open.pop() {
             write(&mut self.numbers, node, self.next_number);
@@ -76,7 +76,7 @@ impl Search {
         self.next_number = self.next_number.saturating_add(1);
     }
 
-    /// Leaves `node`, all of whose fanins were looked at.
+    /// Leaves `node` after all its fanins.
     fn leave(&mut self, node: u32) {
         let low = cell(&self.lows, node);
         if low == cell(&self.indices, node) {
@@ -87,7 +87,7 @@ impl Search {
         }
     }
 
-    /// Looks at `read`, the next fanin of the node of `call`.
+    /// Handles `read`, the next fanin of the node of `call`.
     fn look(&mut self, call: Call, read: u32) -> Result<(), AllocError> {
         self.calls.push(Call {
             node: call.node,
@@ -101,7 +101,7 @@ impl Search {
         Ok(())
     }
 
-    /// One step of the call on top of the stack. False where the stack is empty.
+    /// One step of the call on top of the stack. Returns false if the stack is empty.
     fn step(&mut self, graph: &[Reads]) -> Result<bool, AllocError> {
         let Some(call) = self.calls.pop() else {
             return Ok(false);
@@ -116,7 +116,7 @@ impl Search {
         Ok(true)
     }
 
-    /// Searches from `root`, which wasn't entered yet.
+    /// Searches from `root`, which wasn't visited yet.
     fn search(&mut self, graph: &[Reads], root: u32) -> Result<(), AllocError> {
         self.calls.push(Call { node: root, at: 0 })?;
         for _ in 0..u64::MAX {

@@ -1,6 +1,6 @@
-//! The first node on a cycle. A node is on none where the component numbers, checked never to rise
-//! from a node to what it reads, fall from it to each of its fanins; any other node is decided by a
-//! search of all that it leads to.
+//! The first node on a cycle. The component numbers are checked: they may never rise from a node to a fanin.
+//! Then a node whose fanins all have smaller numbers is on no cycle; any other node is decided by a search of
+//! all nodes that it reaches.
 
 ghost use Rattle.std.specs.Prelude.{◌≡◌, ℕ, ◌+◌, ◌≤◌, ◌<◌, ◌^◌, ◌↔◌, true, length, IsTrue, IfNone, OnOk, IfOk, slice_index, slice_get, nat_eq};
 ghost use Rattle.std.specs.List.{IsDistinct};
@@ -13,7 +13,7 @@ use crate::visiting::{Reads, reads_of};
 use indexmap::IndexSet;
 use std::alloc::{AllocError, Global};
 
-/// Whether each node of `reads` has a number below `number`.
+/// Whether all nodes of `reads` have numbers below `number`.
 fn are_below(numbers: &[u32], reads: &[u32], number: u32) -> bool
     ensures { IsTrue result → ((u : ℕ) → has_ended reads.now u ≡ true → slice_index numbers.now u < number) }
 {
@@ -25,7 +25,7 @@ fn are_below(numbers: &[u32], reads: &[u32], number: u32) -> bool
     true
 }
 
-/// Whether each node of `reads` has a number of at most `number`.
+/// Whether all nodes of `reads` have numbers of at most `number`.
 fn are_within(numbers: &[u32], reads: &[u32], number: u32) -> bool
     ensures { IsTrue result → ((u : ℕ) → has_ended reads.now u ≡ true → slice_index numbers.now u ≤ number) }
 {
@@ -37,7 +37,7 @@ fn are_within(numbers: &[u32], reads: &[u32], number: u32) -> bool
     true
 }
 
-/// The number of `node`; 0 where it has none.
+/// The number of `node`, or 0 if it has none.
 fn number_of(numbers: &[u32], node: u32) -> u32
     ensures { result ≡ slice_index numbers.now node }
 {
@@ -48,7 +48,7 @@ fn number_of(numbers: &[u32], node: u32) -> u32
     }
 }
 
-/// Whether no number rises from a node to one that it reads.
+/// Whether no node has a smaller number than one of its fanins.
 fn fall(graph: &[Reads], numbers: &[u32]) -> bool
     requires { length graph.now < 2 ^ 32 }
     ensures { IsTrue result → Fall graph.now numbers.now }
@@ -61,7 +61,7 @@ fn fall(graph: &[Reads], numbers: &[u32]) -> bool
     true
 }
 
-/// Whether the numbers fall from `node` to each node that it reads, so that it is on no cycle.
+/// Whether all fanins of `node` have smaller numbers, so that it is on no cycle.
 fn is_apart(graph: &[Reads], numbers: &[u32], node: u32) -> bool
     requires { Fall graph.now numbers.now }
     ensures { IsTrue result → LeadsTo graph.now node node → ⊥ }
@@ -96,7 +96,7 @@ fn node_at(set: &IndexSet<u32>, at: usize) -> Option<u32>
     }
 }
 
-/// All nodes to which `node` leads.
+/// All nodes that `node` reaches, by one or more edges.
 #[tactic(auto, using(crate::proofs::CycleLemmas::searches))]
 fn reached(alloc: Global, graph: &[Reads], node: u32) -> Result<IndexSet<u32>, AllocError>
     requires { IsClosed graph.now (length graph.now) }
@@ -112,7 +112,7 @@ fn reached(alloc: Global, graph: &[Reads], node: u32) -> Result<IndexSet<u32>, A
     Ok(set)
 }
 
-/// Whether `node` leads to itself, by a search.
+/// Whether `node` reaches itself, by a search.
 fn leads_back(alloc: Global, graph: &[Reads], node: u32) -> Result<bool, AllocError>
     requires { IsClosed graph.now (length graph.now) }
     ensures { IfOk result (λ answer. IsTrue answer ↔ LeadsTo graph.now node node) }
@@ -121,7 +121,7 @@ fn leads_back(alloc: Global, graph: &[Reads], node: u32) -> Result<bool, AllocEr
     Ok(set.contains(&node))
 }
 
-/// The first node that is on a cycle; None where the graph has none.
+/// The first node (of the least index) that is on a cycle; None if the graph is acyclic.
 #[tactic(auto, using(crate::proofs::CycleLemmas::firsts))]
 pub fn first_cyclic(alloc: Global, graph: &[Reads]) -> Result<Option<u32>, AllocError>
     requires small { length graph.now < 2 ^ 32 }

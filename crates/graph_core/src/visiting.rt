@@ -1,5 +1,5 @@
-//! Topological order: the order in which a depth-first search ends the nodes. The stack is on the
-//! heap.
+//! Topological order: the order in which a depth-first search finishes the nodes (postorder). The stack is on
+//! the heap.
 
 ghost use Rattle.std.specs.Prelude.{◌≡◌, ℕ, ◌<◌, ◌^◌, [], length, slice_index_or, Some, None, Option, IfOk};
 ghost use Rattle.std.specs.Option.{option_map};
@@ -10,7 +10,7 @@ use indexmap::IndexSet;
 use std::alloc::{AllocError, Global};
 use std::marker::Model;
 
-/// The fanins of a node, the nodes that it reads, in the order of its inputs.
+/// The fanins of a node: the nodes that it reads, in the order of its inputs.
 #[derive(Drop)]
 pub struct Reads(Vec<u32>);
 
@@ -23,14 +23,14 @@ impl Model for Reads {
 }
 
 impl Reads {
-    /// The reads `nodes`.
+    /// The list of these fanins.
     pub fn new(nodes: Vec<u32>) -> Reads
         ensures { result ≡ nodes.items }
     {
         Reads(nodes)
     }
 
-    /// The nodes.
+    /// The fanins.
     pub fn get(&self) -> &[u32]
         ensures { result.now ≡ self.now }
     {
@@ -38,7 +38,7 @@ impl Reads {
     }
 }
 
-/// What `node` reads; nothing where the graph has no such node.
+/// The fanins of `node`; none if the graph has no such node.
 pub fn reads_of(graph: &[Reads], node: u32) -> &[u32]
     ensures { result.now ≡ slice_index_or graph.now node [] }
 {
@@ -49,8 +49,8 @@ pub fn reads_of(graph: &[Reads], node: u32) -> &[u32]
     }
 }
 
-/// A node that was entered: its fanins that are left to visit, and how many nodes deep the search
-/// may still go below it.
+/// A node on the stack: its fanins that aren't visited yet, and how many nodes deep the search may still go below
+/// it.
 #[derive(Drop)]
 struct Frame<'a> {
     node: u32,
@@ -66,7 +66,7 @@ impl<'a> Model for Frame<'a> {
     ghost view = { λ f. record { node = f.node; left = f.left.now; depth = f.depth } };
 }
 
-/// Visits `node`. False where a path of more than `depth` nodes was met; `order` is of no use then.
+/// Visits `node`. Returns false if there is a path of more than `depth` nodes; then `order` is meaningless.
 #[tactic(auto, using(crate::proofs::Visits::visits))]
 fn visit_from(
     alloc: Global,
@@ -122,8 +122,8 @@ fn in_order(alloc: Global, set: &IndexSet<u32>) -> Result<Vec<u32>, AllocError>
     set.iter().copied().collect(alloc)
 }
 
-/// A topological order of all nodes, each after those that it reads: as a depth-first search over
-/// the nodes in their order ends them. None where some node is on a cycle.
+/// A topological order of all nodes, each after its fanins: the postorder of a depth-first search that starts from
+/// the nodes in order. None if some node is on a cycle.
 #[tactic(auto, using(crate::proofs::Visits::orders))]
 pub fn visit_all(alloc: Global, graph: &[Reads]) -> Result<Option<Vec<u32>>, AllocError>
     requires { length graph.now < 2 ^ 32 }

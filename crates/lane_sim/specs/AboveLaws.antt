@@ -1,4 +1,4 @@
--- Words of a cone with gates above it: how the gates' rows are appended again.
+-- Appending the rows of gates above a cone.
 use Rattle.std.proofs.Common.{◌≡◌, ◌∙◌, ℕ, ◌+◌, ◌*◌, ◌^◌, ◌≤◌, ◌<◌, Bool, List, [], ◌∷◌, ◌++◌, length, map, take, Some, refl, ap, sym, subst, arith, get_or, append_assoc, length-take-le, get_or-take, length-append, mul-le-mul_right, pow_mono}
 use Rattle.std.specs.Prelude.{slice_get, if◌then◌else◌, nat_eq}
 use Rattle.std.specs.List.{list_any}
@@ -20,7 +20,7 @@ use Rattle.lane_sim.specs.Words.{Words, AreWords, width_of}
 
 -- ---- words that begin with a cone's
 
--- words begin with themselves
+-- the words of a cone begin with the words of the cone
 pub words_begin : (c : Cone) (w : Words) → AreWords c w → HasWords c w
 words_begin c w are = record { rows = are.rows; room = omega (arith, are.size); values = are.values }
 
@@ -54,7 +54,7 @@ words_below c above w cone are =
           omega (arith, cone.apart k (length (places c) + i) p there later, slice_get_within (places c) k p at));
     }
 
--- what is left of the words where the rest is cut off
+-- the cone's words after the rest is truncated
 pub base_done : (c : Cone) (above : List (ℕ × Gate)) (w : Words) (width start : ℕ) (lanes : List ℕ) → HasWords c w → width ≡ width_of w.rows → start ≡ length (places c) * width → lanes ≡ take start w.lanes → AreDone (with_gates c above) width lanes above
 base_done c above w width start lanes has width_is start_is lanes_is =
     let here : start ≡ length (places c) * width_of w.rows = start_is ∙ ap (λ (n : ℕ). length (places c) * n) width_is in
@@ -84,7 +84,7 @@ base_done c above w width start lanes has width_is start_is lanes_is =
         let split : (k + 1) * width ≡ k * width + width = omega arith in
         omega (arith, rows_end, split, within, low, width_is, start_is)
 
--- the same by the code's own numbers
+-- the same, with the numbers as the code computes them
 pub base_code : (c : Cone) (above : List (ℕ × Gate)) (w : Words) (width a b : ℕ) (items lanes : List ℕ) → HasWords c w → width ≡ width_of w.rows → a ≡ length c.leaves → b ≡ length c.gates → items ≡ w.lanes → lanes ≡ take ((a + b) * width) items → AreDone (with_gates c above) width lanes above
 base_code c above w width a b items lanes has width_is a_is b_is items_are lanes_are =
     let count : a + b ≡ length (places c) = omega (arith, places_count c, a_is, b_is) in
@@ -107,22 +107,22 @@ pub next_operand : (c : Cone) (width rows : ℕ) (ks ls keys : List ℕ) (x : �
 next_operand c width rows ks ls keys x rest s o are keys_are small known found =
     found ks (x.0 ∷ map place_of rest) (keys_are ∙ places_next c width rows ks ls x rest are) (omega (arith, small, are.lanes.size)) known
 
--- and it ends before the rows do
+-- and it lies within the rows
 pub next_ends : (c : Cone) (width rows : ℕ) (ks ls : List ℕ) (left : List (ℕ × Gate)) (s : Sig) (o : Operand) → AreGatesOf c width rows ks ls left → IsOperandOf ks width s o → EndsBefore (length ls) width o
 next_ends c width rows ks ls left s o are is = operand_ends ks width (length ls) s o is (omega (arith, are.lanes.size))
 
--- a gate more is done
+-- one more gate is simulated
 pub done_more : (c : Cone) (width rows : ℕ) (ks ls : List ℕ) (x : ℕ × Gate) (rest : List (ℕ × Gate)) (new : List ℕ) (a b : Operand) → rows ≤ 64 * width → IsCone c → AreGatesOf c width rows ks ls (x ∷ rest) → IsOperandOf ks width x.1.a a → IsOperandOf ks width x.1.b b → IsCombinedPut x.1.op a b width ls new → (ps : List ℕ) × AreGatesOf c width rows ps new rest
 done_more c width rows ks ls x rest new a b wide cone are first second put =
     (ks ++ x.0 ∷ [], gates_more c width rows ks ls x rest new wide cone are (gate_put ks x.1 width ls new a b first second put))
 
--- all gates are done
+-- all gates are simulated
 pub done_all : (c : Cone) (width : ℕ) (lanes : List ℕ) (w : Words) → AreDone c width lanes [] → w.lanes ≡ lanes → w.rows ≡ 2 ^ length c.leaves → width ≡ width_of w.rows → AreWords c w
 done_all c width lanes w done lanes_are rows_are width_is = all_words c width (2 ^ length c.leaves) done.0 lanes w done.1 lanes_are rows_are width_is (omega (arith, rows_are))
 
 -- ---- the index
 
--- A place more is noted.
+-- one more node is added
 pub noted : (keys now new : List ℕ) (p : ℕ) (left rest more : List ℕ) → AreApart (keys ++ more) → left ≡ p ∷ rest → now ++ left ≡ keys ++ more → new ≡ (if list_any (nat_eq p) now then now else now ++ p ∷ []) → new ++ rest ≡ keys ++ more
 noted keys now new p left rest more apart parts was is =
     let whole : now ++ p ∷ rest ≡ keys ++ more = ap (λ (xs : List ℕ). now ++ xs) (sym parts) ∙ was in

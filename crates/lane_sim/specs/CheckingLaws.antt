@@ -1,4 +1,4 @@
--- Leaves and gates whose places are new and whose operands stand before are a cone, and only those.
+-- The conditions of `Checking` hold exactly for cones.
 use Rattle.std.specs.Prelude.{◌≡◌, ℕ, zero, suc, ◌+◌, ◌≤◌, ◌<◌, List, [], ◌∷◌, ◌++◌, length, map, take, slice_get, slice_index_or, Some, ◌⊎◌, refl}
 use Rattle.std.proofs.Common.{arith, sym, ◌∙◌, ap, subst, inl, inr, ⊎_elim}
 use Rattle.std.proofs.lemmas.Bool.{cases_lt}
@@ -11,7 +11,7 @@ use Rattle.lane_sim.specs.LaneLaws.{at_front}
 use Rattle.lane_sim.specs.PatternLaws.{at_behind, gate_operand, no_operand}
 use Rattle.lane_sim.specs.Checking.{placed, IsNext, AreNew, AreNext}
 
--- ---- where a place stands
+-- ---- the index of a node
 
 abbrev cone_of : List ℕ → List (ℕ × Gate) → Cone
 cone_of leaves gates = record { leaves = leaves; gates = gates }
@@ -27,9 +27,9 @@ pub none_placed :
     ((i : ℕ) (d : ℕ × Gate) → i < length gates → place_of (slice_index_or gates i d) ≡ p → ⊥) → IsSigAmong (placed leaves gates) (Place p) → ⊥
 none_placed leaves gates p leaf gate known = no_operand (cone_of leaves gates) p known leaf gate
 
--- ---- lists by their beginnings
+-- ---- prefixes of lists
 
--- a place before an index is in the list up to there
+-- an element before an index is in the prefix of that length
 taken_at : {A : Type 0} (xs : List A) (i k : ℕ) (x : A) → k < i → slice_get xs k ≡ Some x → slice_get (take i xs) k ≡ Some x
 taken_at [] i k x low e = absurd cc
 taken_at (y ∷ xs) zero k x low e = absurd (omega (arith, low))
@@ -43,7 +43,7 @@ taken_back (y ∷ xs) zero k x e = absurd cc
 taken_back (y ∷ xs) (suc i) zero x e = (omega arith, e)
 taken_back (y ∷ xs) (suc i) (suc k) x e = let r = taken_back xs i k x e in (omega (arith, r.0), r.1)
 
--- what stands in one list after another stands in one of them
+-- an element of a concatenation is in one of its parts
 in_parts : {A : Type 0} (xs ys : List A) (k : ℕ) (x : A) → slice_get (xs ++ ys) k ≡ Some x → (slice_get xs k ≡ Some x) ⊎ ((j : ℕ) × (k ≡ length xs + j) × (slice_get ys j ≡ Some x))
 in_parts [] ys k x e = inr (k, omega arith, e)
 in_parts (y ∷ xs) ys zero x e = inl e
@@ -57,7 +57,7 @@ map_taken (x ∷ gates) (suc i) = ap (λ (ps : List ℕ). x.0 ∷ ps) (map_taken
 
 -- ---- both ways
 
--- each place is none of those before it
+-- each node differs from all before it
 abbrev AreFresh : List ℕ → Type 0
 AreFresh ps = (i k p : ℕ) → slice_get ps i ≡ Some p → slice_get ps k ≡ Some p → k < i → ⊥
 
@@ -68,7 +68,7 @@ fresh_apart ps fresh i j p a b =
     (λ (high : j ≤ i). ⊎_elim (λ (less : j < i). absurd (fresh i j p a b less)) (λ (more : i ≤ j). omega (arith, high, more)) (cases_lt j i))
     (cases_lt i j)
 
--- a gate's place is none of the leaves and of the gates before
+-- a gate's node differs from the leaves and from the gates before it
 gate_fresh : (leaves : List ℕ) (gates : List (ℕ × Gate)) (i k p : ℕ) → AreNext leaves gates → slice_get (map place_of gates) i ≡ Some p → slice_get (placed leaves gates) k ≡ Some p → k < length leaves + i → ⊥
 gate_fresh leaves gates i k p next at e low =
     let x = at_map place_of gates i p at in
@@ -104,7 +104,7 @@ cone_new leaves gates cone =
           omega (arith, back.0, same);
     }
 
--- a place of the leaves and the first gates is one of all, before the next gate's
+-- a node among the leaves and the first gates is among all nodes, at a smaller index
 first_at : (leaves : List ℕ) (gates : List (ℕ × Gate)) (i k p : ℕ) → slice_get (placed leaves (take i gates)) k ≡ Some p → (k < length leaves + i) × (slice_get (placed leaves gates) k ≡ Some p)
 first_at leaves gates i k p e =
     ⊎_elim
@@ -127,9 +127,9 @@ cone_next leaves gates cone =
       };
     }
 
--- ---- the walks
+-- ---- the loops
 
--- the leaves before an index are new
+-- the leaves before an index are distinct
 abbrev pub AreNewTo : List ℕ → ℕ → Type 0
 AreNewTo leaves i = (k p : ℕ) → k < i → slice_get leaves k ≡ Some p → IsSigAmong (take k leaves) (Place p) → ⊥
 

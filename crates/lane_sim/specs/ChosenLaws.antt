@@ -1,4 +1,4 @@
--- The patterns of some assignments: word after word, and of signals.
+-- The patterns under chosen assignments: the loop over words, and the result for signals.
 use Rattle.std.proofs.Common.{◌≡◌, ◌∙◌, ℕ, ◌+◌, ◌-◌, ◌*◌, ◌/◌, ◌%◌, ◌^◌, ◌≤◌, ◌<◌, Bool, true, ◌&&◌, List, length, take, refl, ap, sym, subst, arith, min, ⊎_elim}
 use Rattle.std.specs.Prelude.{bit_and, bit_or, slice_index_or, ◌==◌}
 use Rattle.std.proofs.lemmas.Bool.{cases_lt}
@@ -82,7 +82,7 @@ four_more n at words o rows j end seen mask x y z w more are low end_is mask_is 
           (cases_lt k j);
     }
 
--- where all patterns were seen, no further word has another
+-- once all patterns were seen, further words add none
 pub chosen_full : (lanes : List ℕ) (os : List Operand) (when : ℕ → ℕ → Bool) (rows count count' found : ℕ) → length os ≤ 6 → found ≡ 2 ^ (1 * 2 ^ length os % 4294967296) - 1 → AreChosenBelow (length os) (pattern_at lanes os) when rows count found → AreChosenBelow (length os) (pattern_at lanes os) when rows count' found
 chosen_full lanes os when rows count count' found few full are =
     let ones : found ≡ 2 ^ 2 ^ length os - 1 = full ∙ ap (λ (k : ℕ). 2 ^ k - 1) (step_is (length os) few) in
@@ -94,7 +94,7 @@ chosen_full lanes os when rows count count' found few full are =
 
 -- ---- of signals
 
--- the rows of the signals show what the signals show
+-- the patterns of the rows are the patterns of the signals
 chosen_are : (c : Cone) (w : Words) (signals : List Sig) (os : List Operand) (when : ℕ → ℕ → Bool) (test : ℕ → Bool) (n found : ℕ) → AreWords c w → AreOperands (places c) (width_of w.rows) signals (length signals) os → length signals ≤ length os
     → ((j b : ℕ) → b < 64 → 64 * j + b < w.rows → when j b ≡ test (64 * j + b))
     → AreChosenBelow n (pattern_at w.lanes (take (length signals) os)) when w.rows (width_of w.rows) found → ArePatternsOf c signals test found
@@ -124,9 +124,9 @@ chosen_shown c w signals os used lanes when test rows width found words rows_is 
     (subst (λ (ls : List ℕ). AreChosenBelow (length used) (pattern_at ls used) when w.rows (width_of w.rows) found) lanes_is
     (subst (λ (r : ℕ). AreChosenBelow (length used) (pattern_at lanes used) when r (width_of r) found) rows_is seen)))
 
--- ---- what chooses
+-- ---- the rows that choose assignments
 
--- words of their own
+-- a row of separate words
 pub word_chosen : (chosen : List ℕ) (j b : ℕ) → b < 64 → digit (slice_index_or chosen (0 + j) 0) b ≡ digit (slice_index_or chosen ((64 * j + b) / 64) 0) ((64 * j + b) % 64)
 word_chosen chosen j b low =
     let word : 0 + j ≡ (64 * j + b) / 64 = omega (arith, low) in

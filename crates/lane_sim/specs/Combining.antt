@@ -12,7 +12,7 @@ combined_four m a b = zip2 bit_xor (zip2 bit_xor (zip2 bit_xor (replicate 4 m.no
 
 -- ---- operands
 
--- word j of an operand, which is a constant or a row that begins at a place of the lanes
+-- word j of an operand, which is a constant or a row that begins at a node of the lanes
 abbrev pub operand_word : List ℕ → Operand → ℕ → ℕ
 operand_word lanes Zero j = 0
 operand_word lanes One j = 18446744073709551615

@@ -1,4 +1,4 @@
--- The values of a cone's places without the recursion.
+-- The values of a cone's nodes, as equations.
 use Rattle.std.proofs.Common.{◌≡◌, ◌∙◌, ℕ, zero, suc, ◌+◌, ◌-◌, ◌≢◌, Bool, List, [], ◌∷◌, ◌++◌, length, map, take, Some, refl, ap, sym, subst, arith, append_assoc, eq-eqb}
 use Rattle.std.specs.Prelude.{slice_get, ◌==◌}
 use Rattle.std.proofs.lemmas.Bool.{cond-true, cond-false, ne_eqb}
@@ -13,7 +13,7 @@ use Rattle.lane_sim.specs.Cone.{Cone, IsCone, IsGateOver, IsSigAmong, AreApart, 
 use Rattle.lane_sim.specs.LaneLaws.{at_front, at_next}
 use Rattle.lane_sim.specs.PatternLaws.{at_behind}
 
--- a place that is none of the gates' keeps its bit
+-- a node without a gate keeps its bit
 pub gates_keep : (bits : ℕ → Bool) (xs : List (ℕ × Gate)) (p : ℕ) → ((k q : ℕ) → slice_get (map place_of xs) k ≡ Some q → p ≢ q) → gates_after bits xs p ≡ bits p
 unfolding gates_after
 gates_keep bits [] p other = refl
@@ -40,7 +40,7 @@ leaf_at (q ∷ qs) row (suc i) p apart e =
     first_only : {i : ℕ} → 0 ≡ suc i → ⊥
     first_only e = omega (arith, e)
 
--- The bit of a leaf is its digit of the assignment, the first leaf's the most significant.
+-- The value of a leaf is its bit of the assignment, the first leaf's being the most significant.
 pub cone_leaf : (c : Cone) (row i p : ℕ) → IsCone c → slice_get c.leaves i ≡ Some p → value_in c row p ≡ digit row (length c.leaves - 1 - i)
 cone_leaf c row i p cone at =
     gates_keep (leaf_bits c.leaves row) c.gates p
@@ -55,7 +55,7 @@ same_sig f g ps sigs.Zero among same = refl
 same_sig f g ps sigs.One among same = refl
 same_sig f g ps (sigs.Place p) among same = same among.0 p among.1
 
--- the gate at an index, where the places `ps` stand before all gates
+-- the gate at an index, where the nodes `ps` precede all gates
 gate_holds : (bits : ℕ → Bool) (ps : List ℕ) (xs : List (ℕ × Gate)) (i : ℕ) (x : ℕ × Gate) → AreApart (ps ++ map place_of xs) → slice_get xs i ≡ Some x → IsGateOver (ps ++ map place_of (take i xs)) x.1 → gates_after bits xs x.0 ≡ gate_value (gates_after bits xs) x.1
 unfolding gates_after
 gate_holds bits ps [] i x apart e over = absurd cc
@@ -99,6 +99,6 @@ gate_holds bits ps (y ∷ xs) (suc i) x apart e over =
     (subst AreApart (sym (append_assoc ps (y.0 ∷ []) (map place_of xs))) apart) e
     (subst (λ (qs : List ℕ). IsGateOver qs x.1) (sym (append_assoc ps (y.0 ∷ []) (map place_of (take i xs)))) over)
 
--- The bit of a gate's place is the gate's operator on the bits of its operands.
+-- The value of a gate is its operator on the values of its operands.
 pub cone_gate : (c : Cone) (row i : ℕ) (x : ℕ × Gate) → IsCone c → slice_get c.gates i ≡ Some x → value_in c row x.0 ≡ gate_value (value_in c row) x.1
 cone_gate c row i x cone at = gate_holds (leaf_bits c.leaves row) c.leaves c.gates i x cone.apart at (cone.gates i x at)

@@ -1,4 +1,4 @@
--- Patterns that are seen in four words at a time.
+-- Patterns in four words at a time.
 use Rattle.std.proofs.Common.{◌≡◌, ◌∙◌, ℕ, zero, suc, ◌+◌, ◌-◌, ◌*◌, ◌%◌, ◌^◌, ◌≤◌, ◌<◌, ◌≢◌, Bool, true, false, not, ◌&&◌, List, [], ◌∷◌, length, refl, ap, sym, subst, arith, w64, pow-add, ⊎_elim, true≢false}
 use Rattle.std.specs.Prelude.{bit_and, bit_or, ◌==◌, if◌then◌else◌}
 use Rattle.std.specs.Int.{bit_not}
@@ -17,7 +17,7 @@ use Rattle.lane_sim.specs.WordLaws.{some_bit}
 
 -- ---- one of four
 
--- a digit of one of them is a digit of all together
+-- a bit of one of four words is a bit of their OR
 pub or_has : (a b c d l t : ℕ) → digit (four_of a b c d l) t ≡ true → digit (bit_or (bit_or (bit_or a b) c) d) t ≡ true
 or_has a b c d zero t e = digit_or_left (bit_or (bit_or a b) c) d t (digit_or_left (bit_or a b) c t (digit_or_left a b t e))
 or_has a b c d (suc zero) t e = digit_or_left (bit_or (bit_or a b) c) d t (digit_or_left (bit_or a b) c t (digit_or_right a b t e))
@@ -30,7 +30,7 @@ IsOneOf a b c d t = (l : ℕ) × (l < 4) × (digit (four_of a b c d l) t ≡ tru
 one_of : (a b c d t l : ℕ) → l < 4 → digit (four_of a b c d l) t ≡ true → IsOneOf a b c d t
 one_of a b c d t l low e = (l, low, e)
 
--- and a digit of all together is one of some of them
+-- and a bit of the OR is a bit of one of them
 or_from : (a b c d t : ℕ) → digit (bit_or (bit_or (bit_or a b) c) d) t ≡ true → IsOneOf a b c d t
 or_from a b c d t e =
     ⊎_elim
@@ -46,7 +46,7 @@ or_from a b c d t e =
     (λ (in_d : digit d t ≡ true). one_of a b c d t 3 (omega arith) in_d)
     (digit_or (bit_or (bit_or a b) c) d t e)
 
--- what holds of each of four holds of one of them
+-- AND of the words at one index of two groups of four
 each_and : (a b c d x y z w l : ℕ) → bit_and (four_of a b c d l) (four_of x y z w l) ≡ four_of (bit_and a x) (bit_and b y) (bit_and c z) (bit_and d w) l
 each_and a b c d x y z w zero = refl
 each_and a b c d x y z w (suc zero) = refl
@@ -102,7 +102,7 @@ four_end at j a b c d some low zero_at =
       all = λ l b low_l low_b e. ap (digit 1) (zero_at (j + l) b);
     }
 
--- by a signal: where it is 1 the pattern has a digit more
+-- splitting by a signal, which is the next bit of the pattern
 four_split : (n : ℕ) (at at' : ℕ → ℕ → ℕ) (j : ℕ) (masks words : ℕ → ℕ) (high low : ℕ) → n ≤ 5 → ((l : ℕ) → words l < 2 ^ 64) → ((l b : ℕ) → l < 4 → at' (j + l) b ≡ (if digit (words l) b then 2 ^ n else 0) + at (j + l) b)
     → AreSeenFour n at j (λ l. bit_and (masks l) (words l)) high → AreSeenFour n at j (λ l. bit_and (masks l) (bit_not w64 (words l))) low → AreSeenFour (n + 1) at' j masks (bit_or (high * 2 ^ 2 ^ n % 2 ^ 64) low)
 four_split n at at' j masks words high low few fits split is_high is_low =
@@ -156,7 +156,7 @@ four_split n at at' j masks words high low few fits split is_high is_low =
     and_true true b ea eb = eb
     and_true false b ea eb = absurd (true≢false (sym ea))
 
--- by the first operand, whose four words split the masks
+-- splitting the four masks by the first operand's four words
 pub four_first : (lanes : List ℕ) (os : List Operand) (o : Operand) (rest : List Operand) (j a b c d x y z w high low : ℕ) → os ≡ o ∷ rest → length os ≤ 6
     → x ≡ operand_word lanes o j → y ≡ operand_word lanes o (j + 1) → z ≡ operand_word lanes o (j + 2) → w ≡ operand_word lanes o (j + 3)
     → x < 2 ^ 64 → y < 2 ^ 64 → z < 2 ^ 64 → w < 2 ^ 64

@@ -1,4 +1,4 @@
--- Rows that are appended one after the other are right.
+-- The rows appended by the simulation hold the values of the cone.
 use Rattle.std.proofs.Common.{◌≡◌, ◌∙◌, ℕ, zero, suc, ◌+◌, ◌-◌, ◌*◌, ◌^◌, replicate, take_all, take_at, ◌≤◌, ◌<◌, ◌≢◌, Bool, true, false, List, [], ◌∷◌, ◌++◌, length, map, take, Some, refl, ap, sym, subst, arith, get_or, length-append, append_assoc, append-nil, ⊎_elim, inl, inr, add-mul, one-mul, suc-mul, mul_comm, mul-le-mul_right, ◌⊎◌, ◌||◌, eq-eqb}
 use Rattle.std.specs.Prelude.{slice_get, if◌then◌else◌, ◌==◌, nat_eq}
 use Rattle.std.specs.List.{list_any}
@@ -23,12 +23,12 @@ use Rattle.lane_sim.specs.RowLaws.{row_put}
 use Rattle.op_basis.specs.WordOperatorLaws.{combined_bit, digit_spread}
 use Rattle.lane_sim.specs.Words.{Words, AreWords, width_of}
 
--- ---- places in lists
+-- ---- nodes in lists
 
 some_same : {A : Type 0} (x y : A) → Some x ≡ Some y → x ≡ y
 some_same x y e = cc
 
--- what stands in a list with one more is in the list or is the last
+-- an element of a list with one more appended is of the list or is the last
 pub at_last : {A : Type 0} (xs : List A) (x y : A) (k : ℕ) → slice_get (xs ++ x ∷ []) k ≡ Some y → ((k < length xs) × (slice_get xs k ≡ Some y)) ⊎ ((k ≡ length xs) × (y ≡ x))
 at_last [] x y zero e = inr (refl, sym (some_same x y e))
 at_last [] x y (suc k) e = absurd cc
@@ -39,18 +39,18 @@ at_last (z ∷ xs) x y (suc k) e =
     (λ (r : (k ≡ length xs) × (y ≡ x)). inr (ap suc r.0, r.1))
     (at_last xs x y k e)
 
--- what stands at an index of a list stands there with more after it
+-- appending doesn't change the elements at earlier indices
 pub at_front : {A : Type 0} (xs ys : List A) (k : ℕ) (x : A) → slice_get xs k ≡ Some x → slice_get (xs ++ ys) k ≡ Some x
 at_front [] ys k x e = absurd cc
 at_front (z ∷ xs) ys zero x e = e
 at_front (z ∷ xs) ys (suc k) x e = at_front xs ys k x e
 
--- the first of what is left
+-- the first remaining element
 pub at_next : {A : Type 0} (xs : List A) (x : A) (ys : List A) → slice_get (xs ++ x ∷ ys) (length xs) ≡ Some x
 at_next [] x ys = refl
 at_next (z ∷ xs) x ys = at_next xs x ys
 
--- A place that comes next isn't among those before it.
+-- the next node isn't among those before it
 pub is_new : (xs : List ℕ) (p : ℕ) (ys : List ℕ) → AreApart (xs ++ p ∷ ys) → (k q : ℕ) → slice_get xs k ≡ Some q → q ≢ p
 is_new xs p ys apart k q at same =
     let here : slice_get (xs ++ p ∷ ys) k ≡ Some p = at_front xs (p ∷ ys) k q at ∙ ap Some same in
@@ -63,7 +63,7 @@ not_among (x ∷ xs) p new =
     let other : nat_eq p x ≡ false = ne_eqb p x (λ e. new 0 x refl (sym e)) in
     ap (λ (b : Bool). b || list_any (nat_eq p) xs) other ∙ not_among xs p (λ k q e. new (suc k) q e)
 
--- ---- one row more
+-- ---- one more row
 
 pub one_more : (ps : List ℕ) (p : ℕ) (bits bits' : ℕ → ℕ → Bool) (width rows : ℕ) (old new : List ℕ) → rows ≤ 64 * width → AreLanes ps bits width rows old → length new ≡ length old + width
     → ((j b : ℕ) → j < width → b < 64 → 64 * j + b < rows → digit (get_or new (length old + j) 0) b ≡ bits' (64 * j + b) p) → ((k : ℕ) → k < length old → get_or new k 0 ≡ get_or old k 0) → ((row k q : ℕ) → slice_get ps k ≡ Some q → bits' row q ≡ bits row q)
@@ -144,7 +144,7 @@ operand_bit ps bits width rows lanes sigs.Zero o j b are is low within = ap (λ 
 operand_bit ps bits width rows lanes sigs.One o j b are is low within = ap (λ (x : Operand). digit (operand_word lanes x j) b) is ∙ digit_spread true b low
 operand_bit ps bits width rows lanes (sigs.Place p) o j b are is low within = ap (λ (x : Operand). digit (operand_word lanes x j) b) is.2 ∙ are.values is.0 p j b is.1 low within
 
--- an operand's row ends where the rows end
+-- an operand's row lies within the rows
 pub operand_ends : (ps : List ℕ) (width end : ℕ) (s : Sig) (o : Operand) → IsOperandOf ps width s o → length ps * width ≤ end → EndsBefore end width o
 operand_ends ps width end sigs.Zero o is room = subst (EndsBefore end width) (sym is) tt
 operand_ends ps width end sigs.One o is room = subst (EndsBefore end width) (sym is) tt
@@ -164,13 +164,13 @@ gate_bit op x y b g bits low same first second =
     ∙ ap (λ (z : Bool). apply g.op z (digit y b)) first
     ∙ ap (apply g.op (sig_value bits g.a)) second
 
--- zeros after the rows change no operand
+-- appending zeros doesn't change any operand
 resized_word : (old : List ℕ) (more : List ℕ) (end count : ℕ) (o : Operand) (j : ℕ) → EndsBefore end count o → end ≡ length old → j < count → operand_word (old ++ more) o j ≡ operand_word old o j
 resized_word old more end count operands.Zero j ends e low = refl
 resized_word old more end count operands.One j ends e low = refl
 resized_word old more end count (operands.Row s) j ends e low = get_or_append_left old more 0 (s + j) (omega (arith, ends, e))
 
--- the words that are written where there was room for them
+-- writing into appended words is appending the written row
 combined_put : (op width : ℕ) (old more new : List ℕ) (a b : Operand) → length more ≡ width → EndsBefore (length old) width a → EndsBefore (length old) width b → IsWritten (masks_of op) a b (length old) width (old ++ more) new → IsCombinedPut op a b width old new
 combined_put op width old more new a b long ends_a ends_b is =
     record {
@@ -182,7 +182,7 @@ combined_put op width old more new a b long ends_a ends_b is =
       before = λ k low. is.before k low ∙ get_or_append_left old more 0 k low;
     }
 
--- what the rows of a gate's operands combine to is the gate's row
+-- the operator applied to the operands' rows gives the gate's row
 pub gate_put : (ps : List ℕ) (g : Gate) (width : ℕ) (old new : List ℕ) (a b : Operand) → IsOperandOf ps width g.a a → IsOperandOf ps width g.b b → IsCombinedPut g.op a b width old new → IsGatePut ps g width old new
 gate_put ps g width old new a b first second is =
     record {
@@ -195,7 +195,7 @@ gate_put ps g width old new a b first second is =
       before = is.before;
     }
 
--- the gates begin where the leaves end
+-- after all leaves, the gates begin
 pub gates_none : (c : Cone) (width : ℕ) (keys lanes : List ℕ) → AreLeaves c width keys lanes [] → AreGatesOf c width (64 * width) keys lanes c.gates
 unfolding gates_after
 gates_none c width keys lanes are =
@@ -206,7 +206,7 @@ map_parts : (xs ys : List (ℕ × Gate)) → map place_of (xs ++ ys) ≡ map pla
 map_parts [] ys = refl
 map_parts (x ∷ xs) ys = ap (λ (ps : List ℕ). x.0 ∷ ps) (map_parts xs ys)
 
--- the places of a cone, where a gate is next
+-- the nodes of a cone, split at the next gate
 pub places_next : (c : Cone) (width rows : ℕ) (keys lanes : List ℕ) (x : ℕ × Gate) (rest : List (ℕ × Gate)) → AreGatesOf c width rows keys lanes (x ∷ rest) → places c ≡ keys ++ (x.0 ∷ map place_of rest)
 places_next c width rows keys lanes x rest are =
     ap (λ (gs : List (ℕ × Gate)). c.leaves ++ map place_of gs) (sym are.parts)
@@ -259,15 +259,15 @@ all_words c width rows keys lanes w are lanes_are rows_are width_is enough =
           ∙ ap (λ (gs : List (ℕ × Gate)). gates_after (leaf_bits c.leaves (64 * j + b)) gs p) done;
     }
 
--- words are lanes of all places
+-- the words are the lanes of all nodes
 pub words_are_lanes : (c : Cone) (w : Words) → AreWords c w → AreLanes (places c) (value_in c) (width_of w.rows) w.rows w.lanes
 words_are_lanes c w are = record { size = are.size; values = are.values }
 
--- a place that is inserted among others that it isn't
+-- inserting a new node into the index appends it
 pub with_new : (xs : List ℕ) (p : ℕ) → ((k q : ℕ) → slice_get xs k ≡ Some q → q ≢ p) → (if list_any (nat_eq p) xs then xs else xs ++ p ∷ []) ≡ xs ++ p ∷ []
 with_new xs p new = cond-false (list_any (nat_eq p) xs) xs (xs ++ p ∷ []) (not_among xs p new)
 
--- A row that was written where the lanes had been filled up was appended to them.
+-- Writing a row into lanes that were extended by its width appends the row.
 filled : (old slice : List ℕ) (start width total : ℕ) → start ≡ length old → total ≡ start + width → slice ≡ take (start + width) old ++ replicate (start + width - start) 0 → slice ≡ old ++ replicate width 0
 filled old slice start width total at whole is =
     let room : start + width - start ≡ width = omega arith in

@@ -51,7 +51,7 @@ pattern_same f g (x ∷ xs) (y ∷ ys) long same =
     ∙ ap (λ (n : ℕ). (if g y then 2 ^ n else 0) + pattern f xs) rest
     ∙ ap (λ (n : ℕ). (if g y then 2 ^ length ys else 0) + n) (pattern_same f g xs ys rest (λ i a b ea eb. same (suc i) a b ea eb))
 
--- the patterns of no signal are 0
+-- without signals the pattern is 0
 pub at_nothing : (lanes : List ℕ) (os : List Operand) (j b : ℕ) → os ≡ [] → pattern_at lanes os j b ≡ 0
 unfolding pattern
 at_nothing lanes os j b none = ap (pattern (λ (o : Operand). digit (operand_word lanes o j) b)) none
@@ -77,7 +77,7 @@ rows_are k rows e = record {
       (cases_lt k 6);
 }
 
--- ---- operands that end before the end
+-- ---- operands within the lanes
 
 pub all_end_less : (end count count' : ℕ) (os : List Operand) → count' ≤ count → AllEnd end count os → AllEnd end count' os
 unfolding AllEnd
@@ -91,7 +91,7 @@ pub all_end_rest : (end count : ℕ) (os : List Operand) (o : Operand) (rest : L
 unfolding AllEnd
 all_end_rest end count os o rest parts all = λ i x e. all (suc i) x (ap (λ (xs : List Operand). slice_get xs (suc i)) parts ∙ e)
 
--- ---- where signals have their rows
+-- ---- the rows of signals
 
 slice_get_map : (xs : List (ℕ × Gate)) (k p : ℕ) → k < length xs → ((d : ℕ × Gate) → place_of (get_or xs k d) ≡ p) → slice_get (map place_of xs) k ≡ Some p
 slice_get_map [] k p low same = absurd (omega (arith, low))
@@ -120,7 +120,7 @@ row_room c k width low room = omega (arith, room, mul-le k (length (places c)) w
   mul-le : (k n w : ℕ) → k < n → k * w ≤ n * w
   mul-le k n w lt = mul-le-mul_right w (omega (arith, lt))
 
--- a place that is neither a leaf nor a gate isn't among the places
+-- a node that is neither a leaf nor a gate isn't among the nodes
 nowhere : (xs : List ℕ) (ys : List (ℕ × Gate)) (p k : ℕ) → ((i d : ℕ) → i < length xs → get_or xs i d ≡ p → ⊥) → ((i : ℕ) (d : ℕ × Gate) → i < length ys → place_of (get_or ys i d) ≡ p → ⊥) → slice_get (xs ++ map place_of ys) k ≡ Some p → ⊥
 nowhere [] [] p k none_x none_y e = cc
 nowhere [] (y ∷ ys) p zero none_x none_y e = none_y 0 y (omega arith) (some_same (place_of y) p e)
@@ -133,7 +133,7 @@ no_operand c p known none_x none_y = nowhere c.leaves c.gates p known.0 none_x n
 
 -- ---- operands of all signals
 
--- the operand of each signal that is used
+-- the operand of each signal
 used_at : (ps : List ℕ) (width : ℕ) (signals : List Sig) (os : List Operand) (i : ℕ) (o : Operand) (s : Sig) → AreOperands ps width signals (length signals) os → length signals ≤ length os → slice_get (take (length signals) os) i ≡ Some o → slice_get signals i ≡ Some s → IsOperandOf ps width s o
 used_at ps width signals os i o s are room at_o at_s =
     let low : i < length signals = slice_get_within signals i s at_s in
@@ -155,7 +155,7 @@ same_pattern c w signals os j b words are room low within =
     pattern_same (λ (o : Operand). digit (operand_word w.lanes o j) b) (sig_value (value_in c (64 * j + b))) (take (length signals) os) signals (length-take-le (length signals) os room)
     (λ i o s at_o at_s. operand_bit (places c) (value_in c) (width_of w.rows) w.rows w.lanes s o j b (words_are_lanes c w words) (used_at (places c) (width_of w.rows) signals os i o s are room at_o at_s) low within)
 
--- ---- how many words there are
+-- ---- the number of words
 
 pub cone_rows : (n : ℕ) → n ≤ 12 → 1 * 2 ^ n % 4294967296 ≡ 2 ^ n
 cone_rows n few = one_shl n 32 (omega (arith, few))

@@ -1,4 +1,4 @@
--- Places that are found again.
+-- Looking up nodes in the index.
 use Rattle.std.proofs.Common.{◌≡◌, ◌∙◌, ℕ, ◌*◌, ◌^◌, ◌≤◌, ◌<◌, List, ◌++◌, length, Some, None, ap, sym, subst, arith, get_or, eqb-true, eq-eqb, ⊎_elim, true≢false, lt-ltb, mul-le-mul_right}
 use Rattle.std.specs.Prelude.{slice_get, nat_eq, nat_lt, position}
 use Rattle.std.specs.List.{position_or_len}
@@ -18,7 +18,7 @@ use Rattle.lane_sim.specs.Rows.{IsOperandOf}
 some_value : (x y : ℕ) → Some x ≡ Some y → x ≡ y
 some_value x y e = cc
 
--- A search among more places gives the index of a place that is among the first of them.
+-- A node of the first part is found at its index there.
 found_in : (keys ps more : List ℕ) (p k : ℕ) → keys ≡ ps ++ more → ((i : ℕ) × (slice_get ps i ≡ Some p)) → position (nat_eq p) keys ≡ Some k → (k < length ps) × (slice_get ps k ≡ Some p)
 found_in keys ps more p k parts at e =
     let r = position-Some (nat_eq p) keys k 0 e in
@@ -32,14 +32,14 @@ found_in keys ps more p k parts at e =
     let within : k < length ps = omega (arith, first, low) in
     (within, slice_get-get_or ps k 0 within ∙ ap Some (sym (same k within) ∙ sym (eqb-true p (get_or keys k 0) r.1)))
 
--- so the row that is found is the operand's
+-- so the row at that index is the operand's
 pub operand_row : (keys ps more : List ℕ) (width p k : ℕ) (s : Sig) (o : Operand) → s ≡ sigs.Place p → keys ≡ ps ++ more → length ps * width < 2 ^ 64 → IsSigAmong ps s → position (nat_eq p) keys ≡ Some k → (k * width < 2 ^ 64 → o ≡ operands.Row (k * width)) → IsOperandOf ps width s o
 operand_row keys ps more width p k s o is parts room known e row =
     let found = found_in keys ps more p k parts (subst (IsSigAmong ps) is known) e in
     let less : k * width ≤ length ps * width = mul-le-mul_right width (omega (arith, found.0)) in
     subst (λ (x : Sig). IsOperandOf ps width x o) (sym is) (k, found.1, row (omega (arith, less, room)))
 
--- a place that is among the others is found
+-- a node of the index is always found
 pub not_found : (keys ps more : List ℕ) (p : ℕ) (s : Sig) → keys ≡ ps ++ more → IsSigAmong ps s → s ≡ sigs.Place p → position (nat_eq p) keys ≡ None → ⊥
 not_found keys ps more p s parts known is none =
     let among : IsSigAmong ps (sigs.Place p) = subst (IsSigAmong ps) is known in

@@ -1,4 +1,4 @@
--- Rows that are written word by word, and four words at a time.
+-- Writing rows word by word, and four words at a time.
 use Rattle.std.proofs.Common.{◌≡◌, ◌∙◌, ℕ, ◌+◌, ◌-◌, ◌≤◌, ◌<◌, List, length, refl, ap, sym, arith, get_or, set, length-set, get_or-set_same, get_or-set_other, length-append, ⊎_elim, ◌*◌, Bool, ◌++◌}
 use Rattle.std.specs.Prelude.{replicate, bit_and, bit_xor}
 use Rattle.std.proofs.lemmas.Bool.{cases_lt}
@@ -88,7 +88,7 @@ four_at xs (Row s) j k low =
     let place : s + j + k ≡ s + (j + k) = omega arith in
     get_or-chunk (s + j) 4 xs k 0 low ∙ ap (λ (i : ℕ). get_or xs i 0) place
 
--- what stands before a row that is written stays, and with it the words of its operands
+-- writing a row doesn't change the words before it, so its operands keep theirs
 kept_word : (m : Masks) (a b : Operand) (start count : ℕ) (old new : List ℕ) (o : Operand) (j : ℕ) → IsWritten m a b start count old new → EndsBefore start (j + 1) o → operand_word new o j ≡ operand_word old o j
 kept_word m a b start count old new Zero j is ends = refl
 kept_word m a b start count old new One j is ends = refl
@@ -126,7 +126,7 @@ ends_later end end' count Zero more ends = tt
 ends_later end end' count One more ends = tt
 ends_later end end' count (Row s) more ends = omega (arith, ends)
 
--- one of the four words that are written
+-- one of the four written words
 four_here : (m : Masks) (a b : Operand) (start j k i : ℕ) (old new : List ℕ) → IsWritten m a b start j old new → length (operand_four new a j) ≡ 4 → length (operand_four new b j) ≡ 4 → length (combined_four m (operand_four new a j) (operand_four new b j)) ≡ 4
     → EndsBefore start (j + 4) a → EndsBefore start (j + 4) b → start + j + 4 ≤ length new → k < 4 → i ≡ j + k
     → get_or (put_chunk (start + j) new (combined_four m (operand_four new a j) (operand_four new b j))) (start + i) 0 ≡ combined m (operand_word old a i) (operand_word old b i)
@@ -168,7 +168,7 @@ written_four m a b start j old new is room first second =
 
 pub ruleset writing = (common_steps, written_none, written_one, written_four, ends_less)
 
--- ---- rows whose bits are given
+-- ---- rows with given bits
 
 pub row_none : (right : ℕ → Bool) (start : ℕ) (old : List ℕ) → IsRow right start 0 old old
 row_none right start old = record { size = refl; here = λ j b low_j low. absurd (omega arith); before = λ k low. refl }

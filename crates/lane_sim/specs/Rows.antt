@@ -1,4 +1,4 @@
--- What it means that rows of words were written, and that they are right.
+-- Written rows of words, and the values that they hold.
 use Rattle.std.specs.Prelude.{◌≡◌, ℕ, ◌+◌, ◌*◌, ◌<◌, Bool, List, ◌++◌, length, map, slice_get, slice_index_or, Some}
 use Rattle.chain_theory.specs.Operator.{digit}
 use Rattle.net_theory.specs.declared.data.Sig.{Sig}
@@ -12,53 +12,53 @@ use Rattle.op_basis.specs.WordOperator.{masks_of, combined}
 use Rattle.lane_sim.specs.Combining.{operand_word}
 use Rattle.lane_sim.specs.Cone.{Cone, place_of, leaf_bits, gates_after}
 
--- The first words of a gate's row are written from a place on, and what stands before it is as it was.
+-- The first `count` words of a gate's row are written from index `start` on; the words before are unchanged.
 pub record IsWritten (m : Masks) (a b : Operand) (start count : ℕ) (old new : List ℕ) : Type 0 where
   pub size : length new ≡ length old
   pub here : (j : ℕ) → j < count → slice_index_or new (start + j) 0 ≡ combined m (operand_word old a j) (operand_word old b j)
   pub before : (k : ℕ) → k < start → slice_index_or new k 0 ≡ slice_index_or old k 0
 
--- The same of a row whose bit r is `right r`.
+-- The same for a row whose bit r is `right r`.
 pub record IsRow (right : ℕ → Bool) (start count : ℕ) (old new : List ℕ) : Type 0 where
   pub size : length new ≡ length old
   pub here : (j b : ℕ) → j < count → b < 64 → digit (slice_index_or new (start + j) 0) b ≡ right (64 * j + b)
   pub before : (k : ℕ) → k < start → slice_index_or new k 0 ≡ slice_index_or old k 0
 
--- A row was appended to the others.
+-- A row whose bit r is `right r` was appended.
 pub record IsPut (right : ℕ → Bool) (width : ℕ) (old new : List ℕ) : Type 0 where
   pub size : length new ≡ length old + width
   pub here : (j b : ℕ) → j < width → b < 64 → digit (slice_index_or new (length old + j) 0) b ≡ right (64 * j + b)
   pub before : (k : ℕ) → k < length old → slice_index_or new k 0 ≡ slice_index_or old k 0
 
--- The rows of the places `ps` have their bits under the first `rows` assignments.
+-- The rows of the nodes `ps` hold their values under the first `rows` assignments.
 pub record AreLanes (ps : List ℕ) (bits : ℕ → ℕ → Bool) (width rows : ℕ) (lanes : List ℕ) : Type 0 where
   pub size : length lanes ≡ length ps * width
   pub values : (k p j b : ℕ) → slice_get ps k ≡ Some p → b < 64 → 64 * j + b < rows → digit (slice_index_or lanes (k * width + j) 0) b ≡ bits (64 * j + b) p
 
--- where a signal's row begins, among the rows of the places `ps`
+-- the operand of a signal: a constant, or its row among the rows of the nodes `ps`
 abbrev pub IsOperandOf : List ℕ → ℕ → Sig → Operand → Type 0
 IsOperandOf ps width sigs.Zero o = o ≡ operands.Zero
 IsOperandOf ps width sigs.One o = o ≡ operands.One
 IsOperandOf ps width (sigs.Place p) o = (k : ℕ) × (slice_get ps k ≡ Some p) × (o ≡ operands.Row (k * width))
 
--- The row that operands combine to was appended.
+-- The row of an operator applied to two operands was appended.
 pub record IsCombinedPut (op : ℕ) (a b : Operand) (width : ℕ) (old new : List ℕ) : Type 0 where
   pub size : length new ≡ length old + width
   pub here : (j : ℕ) → j < width → slice_index_or new (length old + j) 0 ≡ combined (masks_of op) (operand_word old a j) (operand_word old b j)
   pub before : (k : ℕ) → k < length old → slice_index_or new k 0 ≡ slice_index_or old k 0
 
--- The row of a gate was appended to the rows of the places `ps`, whatever their bits are.
+-- The row of a gate was appended to the rows of the nodes `ps`, for any values of these.
 pub record IsGatePut (ps : List ℕ) (g : Gate) (width : ℕ) (old new : List ℕ) : Type 0 where
   pub size : length new ≡ length old + width
   pub here : (bits : ℕ → ℕ → Bool) (rows : ℕ) → AreLanes ps bits width rows old → (j b : ℕ) → j < width → b < 64 → 64 * j + b < rows → digit (slice_index_or new (length old + j) 0) b ≡ gate_value (bits (64 * j + b)) g
   pub before : (k : ℕ) → k < length old → slice_index_or new k 0 ≡ slice_index_or old k 0
 
--- The first leaves have their rows, and the leaves `left` remain.
+-- All leaves but the remaining `left` have their rows.
 pub record AreLeaves (c : Cone) (width : ℕ) (ks ls left : List ℕ) : Type 0 where
   pub parts : ks ++ left ≡ c.leaves
   pub lanes : AreLanes ks (leaf_bits c.leaves) width (64 * width) ls
 
--- The leaves and the gates that are done have their rows, under the first `rows` assignments, and the gates `left` remain.
+-- The leaves, and all gates but the remaining `left`, have their rows under the first `rows` assignments.
 pub record AreGatesOf (c : Cone) (width rows : ℕ) (ks ls : List ℕ) (left : List (ℕ × Gate)) : Type 0 where
   pub done : List (ℕ × Gate)
   pub parts : done ++ left ≡ c.gates

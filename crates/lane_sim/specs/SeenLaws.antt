@@ -1,4 +1,4 @@
--- Patterns that are seen: a word split by one signal after the other, and word after word.
+-- Correctness of the search for patterns: a word is split by one signal after the other.
 use Rattle.std.proofs.Common.{◌≡◌, ◌∙◌, ℕ, zero, suc, ◌+◌, ◌-◌, ◌*◌, ◌%◌, ◌^◌, ◌≤◌, ◌<◌, ◌≢◌, Bool, true, false, not, ◌&&◌, refl, ap, sym, subst, arith, min, max, w64, pow_mono, pow_pos, pow-add, ⊎_elim, ◌⊎◌, inl, inr, true≢false}
 use Rattle.std.specs.Prelude.{bit_and, bit_or, ◌==◌, if◌then◌else◌}
 use Rattle.std.specs.Int.{bit_at, bit_not}
@@ -24,7 +24,7 @@ at_most_32 k few = pow_mono few
 pub no_digit : (t : ℕ) → digit 0 t ≡ true → ⊥
 no_digit t e = true≢false (sym e ∙ ap (λ (x : ℕ). x == 1) (bit_at-zero t))
 
--- a digit that is 1 stands below the number's end
+-- a bit that is 1 is below the number's length
 pub digit_below : (n k t : ℕ) → n < 2 ^ k → digit n t ≡ true → t < k
 digit_below n k t low e =
     ⊎_elim
@@ -93,7 +93,7 @@ seen_end at mask some low zero_at =
 pub zero_plus : (n : ℕ) → 0 + n ≡ n
 zero_plus n = omega arith
 
--- by a signal: where it is 1 the pattern has a digit more
+-- splitting by a signal, which is the next bit of the pattern
 pub seen_split : (n : ℕ) (at at' : ℕ → ℕ) (mask word high low : ℕ) → n ≤ 5 → word < 2 ^ 64 → ((b : ℕ) → at' b ≡ (if digit word b then 2 ^ n else 0) + at b)
     → AreSeen n at (bit_and mask word) high → AreSeen n at (bit_and mask (bit_not w64 word)) low → AreSeen (n + 1) at' mask (bit_or (high * 2 ^ 2 ^ n % 2 ^ 64) low)
 seen_split n at at' mask word high low few fits split is_high is_low =
@@ -149,7 +149,7 @@ seen_split n at at' mask word high low few fits split is_high is_low =
 
 -- ---- the mask of a word
 
--- the mask of a word has a digit for each assignment that there is
+-- the mask of a word has a bit for each of its assignments
 pub mask_only : (rows count b : ℕ) → AreRows rows → count < width_of rows → b < 64 → digit (2 ^ min rows 64 - 1) b ≡ true → 64 * count + b < rows
 mask_only rows count b are within low e =
     ⊎_elim

@@ -12,7 +12,7 @@ pub use Rattle.op_basis.specs.WordOperatorLaws.{digit_and, digit_xor}
 
 -- ---- leaves
 
--- a digit of 64 * j + b that stands among the last six is b's, and one before them is j's
+-- the last six bits of 64 * j + b are those of b, and the bits before are those of j
 low_digits : (k j b : ℕ) → k < 6 → bit_at (64 * j + b) k ≡ bit_at b k
 low_digits zero j b low = omega arith
 low_digits (suc zero) j b low = omega arith
@@ -27,11 +27,11 @@ high_digit k j b low high =
     let whole : 64 * j + b ≡ j * 2 ^ 6 + b = omega arith in
     ap (λ (x : ℕ). digit x k) whole ∙ ap (λ (x : ℕ). x == 1) (bit_at_cat_high j 6 b k low high)
 
--- a word of a leaf whose digit is one of the last six
+-- a word of a leaf that varies within words
 pub leaf_low : (k j b : ℕ) → b < 64 → k < 6 → digit (input_word k) b ≡ digit (64 * j + b) k
 leaf_low k j b within low = input_digit k b low within ∙ sym (ap (λ (x : ℕ). x == 1) (low_digits k j b low))
 
--- a word of a leaf whose digit stands before the last six
+-- a word of a leaf that is constant in each word
 pub leaf_high : (k j b : ℕ) → b < 64 → 6 ≤ k → digit (spread (digit j (k - 6))) b ≡ digit (64 * j + b) k
 leaf_high k j b low high = digit_spread (digit j (k - 6)) b low ∙ sym (high_digit k j b low high)
 

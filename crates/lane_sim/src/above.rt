@@ -1,6 +1,6 @@
-//! Gates above a cone whose words there are. The cone's rows stay, and those of the gates come after them, so that other
-//! gates can be simulated above the same cone again and again: a transitive fanout, say, under each number in the place of
-//! what it reads.
+//! Simulation of further gates above a cone that is already simulated. The cone's rows are kept and the gates'
+//! rows are appended, so that different gates can be simulated above the same cone, such as a transitive fanout
+//! with different values at its inputs.
 
 ghost use Rattle.std.specs.Prelude.{◌≡◌, ◌*◌, ◌≤◌, ◌^◌, [], ◌++◌, length, map, IfOk, OnOk};
 ghost use Rattle.lane_sim.specs.Above.{with_gates, HasWords, AreDone};
@@ -15,10 +15,10 @@ use net_theory::Gate;
 use std::alloc::{AllocError, Global};
 use std::marker::Model;
 
-/// For how many places there is room from the beginning.
+/// The initial capacity of the index, in nodes.
 const ROOM: usize = 32;
 
-/// The places of a cone and of gates above it, in order, by which the rows of their words are found.
+/// The nodes of a cone and of gates above it, in the order of their rows.
 #[derive(Drop)]
 pub struct Index {
     places: IndexSet<u32>,
@@ -32,7 +32,7 @@ impl Model for Index {
     ghost view = { λ i. i.places.keys };
 }
 
-/// Notes places that are new.
+/// Adds new nodes to the index.
 fn note(places: &mut IndexSet<u32>, more: &[u32]) -> Result<(), AllocError>
     requires { AreApart (places.old.keys ++ more.now) }
     ensures { OnOk result (places.new.keys ≡ places.old.keys ++ more.now) }
@@ -45,7 +45,7 @@ fn note(places: &mut IndexSet<u32>, more: &[u32]) -> Result<(), AllocError>
     Ok(())
 }
 
-/// Notes the places of gates, which are new.
+/// Adds the nodes of gates, which are new.
 fn note_gates(places: &mut IndexSet<u32>, gates: &[(u32, Gate)]) -> Result<(), AllocError>
     requires { AreApart (places.old.keys ++ map place_of gates.now) }
     ensures { OnOk result (places.new.keys ≡ places.old.keys ++ map place_of gates.now) }
@@ -58,7 +58,7 @@ fn note_gates(places: &mut IndexSet<u32>, gates: &[(u32, Gate)]) -> Result<(), A
     Ok(())
 }
 
-/// The index of a cone's places and of those of gates above it.
+/// The index of a cone's nodes, followed by the nodes `above`.
 pub fn index_of(alloc: Global, cone: &Cone, above: &[u32]) -> Result<Index, AllocError>
     requires { AreApart (places_in cone.now ++ above.now) }
     ensures { IfOk result (λ index. index ≡ places_in cone.now ++ above.now) }
@@ -70,7 +70,7 @@ pub fn index_of(alloc: Global, cone: &Cone, above: &[u32]) -> Result<Index, Allo
     Ok(Index { places })
 }
 
-/// The words again, with room for `more` further ones.
+/// A copy of the words, with capacity for `more` further words.
 pub fn copy_words(alloc: Global, words: &Words, more: usize) -> Result<Words, AllocError>
     ensures { IfOk result (λ copy. copy ≡ words.now) }
 {
@@ -82,7 +82,7 @@ pub fn copy_words(alloc: Global, words: &Words, more: usize) -> Result<Words, Al
     })
 }
 
-/// Appends the rows of gates to those below them.
+/// Appends the rows of gates to the rows of their fanins.
 fn simulate_rest(
     lanes: &mut Vec<u64>,
     places: &IndexSet<u32>,
@@ -107,8 +107,8 @@ fn simulate_rest(
     Ok(())
 }
 
-/// Simulates gates above a cone whose words there are: the cone's rows stay, and the rows of `above` come in the place of
-/// all that stood after them. The places of the index are those of the cone and then those of `above`.
+/// Simulates the gates `above` a simulated cone: the cone's rows are kept, and all rows after them are replaced
+/// by the rows of `above`. The index has the nodes of the cone, followed by those of `above`.
 pub fn simulate_above(
     words: &mut Words,
     index: &Index,
@@ -121,7 +121,7 @@ pub fn simulate_above(
     ensures words { OnOk result (AreWords (with_gates cone.now above.now) words.new) }
     ensures below { OnOk result (HasWords cone.now words.new) }
 {
-    let _gates = cone.gates(); // says that the cone is one
+    let _gates = cone.gates(); // for the prover: the cone's invariant
     let width = width_of(words.rows);
     let start = (cone.leaves().len() + cone.gates().len()) * width;
     words.lanes.truncate(start);

@@ -1,5 +1,5 @@
-//! Whether leaves and gates are a cone. Each place is looked for among those before it, and so is each operand;
-//! a cone is small, so that no table of places is made.
+//! Checks whether leaves and gates form a cone. Each node and each operand is searched linearly among the earlier
+//! nodes; cones are small enough that a hash table doesn't pay.
 
 ghost use Rattle.std.specs.Prelude.{IsTrue, IsFalse};
 ghost use Rattle.net_theory.specs.declared.data.Sig.TheVariants.{Place};
@@ -9,7 +9,7 @@ ghost use Rattle.lane_sim.specs.Checking.{placed, IsNext, AreNew, AreNext};
 use crate::showing::{gate_at, leaf_at};
 use net_theory::{Gate, Sig};
 
-/// Whether `place` is one of `leaves` or the place of one of `gates`.
+/// Whether the node `place` is one of `leaves` or of `gates`.
 fn is_placed(leaves: &[u32], gates: &[(u32, Gate)], place: u32) -> bool
     ensures yes { IsTrue result → IsSigAmong (placed leaves.now gates.now) (Place place) }
     ensures no { IsFalse result → IsSigAmong (placed leaves.now gates.now) (Place place) → ⊥ }
@@ -23,7 +23,7 @@ fn is_placed(leaves: &[u32], gates: &[(u32, Gate)], place: u32) -> bool
     }
 }
 
-/// Whether `sig` is a constant, one of `leaves` or one of `gates`.
+/// Whether `sig` is a constant or one of `leaves` or `gates`.
 pub fn is_known(leaves: &[u32], gates: &[(u32, Gate)], sig: Sig) -> bool
     ensures yes { IsTrue result → IsSigAmong (placed leaves.now gates.now) sig }
     ensures no { IsFalse result → IsSigAmong (placed leaves.now gates.now) sig → ⊥ }
@@ -35,7 +35,7 @@ pub fn is_known(leaves: &[u32], gates: &[(u32, Gate)], sig: Sig) -> bool
     }
 }
 
-/// Whether `gate` may come after `leaves` and `gates`: its place is none of theirs, and its operands are known.
+/// Whether `gate` may follow `leaves` and `gates`: its node is new, and its operands are known.
 fn is_next(leaves: &[u32], gates: &[(u32, Gate)], gate: &(u32, Gate)) -> bool
     ensures yes { IsTrue result → IsNext (placed leaves.now gates.now) gate.now }
     ensures no { IsFalse result → IsNext (placed leaves.now gates.now) gate.now → ⊥ }
@@ -47,7 +47,7 @@ fn is_next(leaves: &[u32], gates: &[(u32, Gate)], gate: &(u32, Gate)) -> bool
     is_known(leaves, gates, gate.a) && is_known(leaves, gates, gate.b)
 }
 
-/// Whether each gate may come after the leaves and the gates before it, which makes the order topological.
+/// Whether each gate may follow the leaves and the gates before it, so that the order is topological.
 pub fn are_next(leaves: &[u32], gates: &[(u32, Gate)]) -> bool
     ensures yes { IsTrue result → AreNext leaves.now gates.now }
     ensures no { IsFalse result → AreNext leaves.now gates.now → ⊥ }
@@ -61,7 +61,7 @@ pub fn are_next(leaves: &[u32], gates: &[(u32, Gate)]) -> bool
     true
 }
 
-/// Whether no leaf stands twice.
+/// Whether the leaves are distinct.
 pub fn are_new(leaves: &[u32]) -> bool
     ensures yes { IsTrue result → AreNew leaves.now }
     ensures no { IsFalse result → AreNew leaves.now → ⊥ }

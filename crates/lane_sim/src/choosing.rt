@@ -1,4 +1,5 @@
-//! Which patterns signals show under all assignments, or under those that words name. Four words are taken at a time, and where all patterns were seen the search ends.
+//! The patterns (value combinations) of signals that occur under all assignments, or under those that a row of
+//! bits chooses. Four words are handled at a time, and the search ends once all patterns were seen.
 
 ghost use Rattle.std.specs.Prelude.{◌*◌, ◌/◌, ◌%◌, ◌≤◌, ◌<◌, length, slice_index_or, All};
 ghost use Rattle.chain_theory.specs.Operator.{digit};
@@ -14,11 +15,11 @@ use crate::showing::{fill_operands, ones, seen, seen_four, word_mask};
 use crate::words::{Words, lanes_of, rows_of, width_of};
 use net_theory::Sig;
 
-/// The most signals whose patterns are asked for: their 2^6 patterns are the bits of one word.
+/// The maximal number of signals: the 2^6 patterns of 6 signals are the bits of one word.
 pub const MOST_SIGNALS: usize = 6;
 
-/// The patterns of whole fours of words of the operands' rows, under the assignments at which the chosen row, which
-/// stands among other words, is 1.
+/// The patterns of the operands' rows, in groups of four words, under the assignments at which the chosen row, a
+/// row of other words, is 1.
 fn seen_in_fours(
     lanes: &[u64],
     rows: u32,
@@ -53,8 +54,8 @@ fn seen_in_fours(
     found
 }
 
-/// The patterns of the operands' rows under the assignments at which the chosen row is 1. What is left of whole fours of
-/// words goes word by word.
+/// The patterns of the operands' rows under the assignments at which the chosen row is 1: groups of four words,
+/// then the remaining words one by one.
 fn seen_chosen(
     lanes: &[u64],
     rows: u32,
@@ -76,8 +77,8 @@ fn seen_chosen(
     found
 }
 
-/// The mask of the patterns that the signals show: digit `t` is 1 exactly where some assignment of the leaves
-/// gives the signals the bits of `t`, the first signal's the most significant.
+/// The mask of the patterns that occur: bit `t` is 1 exactly if some assignment of the leaves gives the signals
+/// the bits of `t`, the first signal's being the most significant. At most 6 signals.
 pub fn patterns(words: &Words, cone: &Cone, signals: &[Sig]) -> u64
     requires few { length signals.now ≤ 6 }
     requires known { All (IsSigAmong (places cone.now)) signals.now }
@@ -93,7 +94,8 @@ pub fn patterns(words: &Words, cone: &Cone, signals: &[Sig]) -> u64
     seen_chosen(lanes, rows, used, lanes, Operand::One)
 }
 
-/// The mask of the patterns that the signals show under the assignments that the words `chosen` name: bit `b` of word `j` is 1 for the assignment `64 * j + b`.
+/// The mask of the patterns that occur under the assignments that `chosen` selects: bit `b` of its word `j`
+/// stands for the assignment `64 * j + b`.
 pub fn patterns_on(words: &Words, cone: &Cone, signals: &[Sig], chosen: &[u64]) -> u64
     requires few { length signals.now ≤ 6 }
     requires known { All (IsSigAmong (places cone.now)) signals.now }

@@ -1,4 +1,4 @@
-//! An operator on vectors of four words: the expression of `combine`, with each mask in all four words.
+//! A two-input operator on vectors of four words: the expression of `combine`, with each mask in all four words.
 
 ghost use Rattle.std.specs.Prelude.{◌≡◌, length};
 ghost use Rattle.lane_sim.specs.Combining.{combined_four};
@@ -6,7 +6,7 @@ ghost use Rattle.lane_sim.specs.Combining.{combined_four};
 use op_basis::Masks;
 use std::simd::prelude::*;
 
-/// The operator whose coefficients are `masks` on each of 256 pairs of bits.
+/// Applies the operator with the coefficients `masks` to 256 pairs of bits.
 #[tactic(auto, unfolding(crate::specs::Combining::combined_four))]
 pub fn combine_four(masks: Masks, a: u64x4, b: u64x4) -> u64x4
     requires first { length a ≡ 4 }

@@ -1,5 +1,5 @@
-//! Cones. That operands are leaves or earlier gates and that no place stands twice is the invariant of the
-//! type, so that a walk over the gates in order has each operand before it is read.
+//! Cones. By the type's invariant the nodes are distinct, and operands are leaves or earlier gates, so that one
+//! pass over the gates finds each operand simulated.
 
 ghost use Rattle.std.specs.Prelude.{◌≡◌, IsTrue, IsFalse, IfSome, IfNone};
 ghost use Rattle.lane_sim.specs.Cone.{IsCone, IsSigAmong, places};
@@ -8,11 +8,11 @@ use crate::checking::{are_new, are_next, is_known};
 use net_theory::{Gate, Sig};
 use std::marker::Model;
 
-/// The most leaves of a cone: with 12 the bits of a signal under all assignments are 64 words.
+/// The maximal number of leaves of a cone. With 12 leaves a signal has 2^12 bits, which are 64 words.
 pub const MOST_LEAVES: usize = 12;
 
-/// Leaves, at most 12, and gates above them in topological order, each with its
-/// place. All places differ, and a gate's operands are constants, leaves or places of earlier gates.
+/// A part of a net: at most 12 leaves, and gates above them in topological order, each with its node. All nodes
+/// are distinct, and a gate's operands are constants, leaves or earlier gates.
 #[derive(Drop)]
 pub struct Cone {
     leaves: Vec<u32>,
@@ -31,7 +31,7 @@ impl Model for Cone {
 }
 
 impl Cone {
-    /// The cone of the leaves and gates that are handed in.
+    /// The cone of these leaves and gates.
     pub fn new(leaves: Vec<u32>, gates: Vec<(u32, Gate)>) -> Cone
         requires { IsCone (record { leaves = leaves.items; gates = gates.items }) }
         ensures { result ≡ record { leaves = leaves.items; gates = gates.items } }
@@ -39,8 +39,8 @@ impl Cone {
         Cone { leaves, gates }
     }
 
-    /// The cone of the leaves and gates that are handed in, where they are one. It takes no memory, and time that grows with the
-    /// square of the number of places.
+    /// The cone of these leaves and gates, or None if they form none. Allocates nothing and takes time quadratic
+    /// in the number of nodes.
     #[tactic(auto, using(crate::specs::CheckingLaws::checked_cone, crate::specs::CheckingLaws::cone_next))]
     pub fn checked(leaves: Vec<u32>, gates: Vec<(u32, Gate)>) -> Option<Cone>
         ensures some { IfSome result (λ c. c ≡ record { leaves = leaves.items; gates = gates.items }) }
@@ -59,7 +59,7 @@ impl Cone {
         Some(Cone { leaves, gates })
     }
 
-    /// The places of the leaves.
+    /// The leaves, by their nodes.
     pub fn leaves(&self) -> &[u32]
         ensures value { result.now ≡ self.now.leaves }
         ensures whole { IsCone self.now }
@@ -67,7 +67,7 @@ impl Cone {
         &self.leaves
     }
 
-    /// The gates with their places.
+    /// The gates with their nodes.
     pub fn gates(&self) -> &[(u32, Gate)]
         ensures value { result.now ≡ self.now.gates }
         ensures whole { IsCone self.now }

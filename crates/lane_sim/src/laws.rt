@@ -1,4 +1,4 @@
-//! What the definitions come to. Each law is the contract of a function that does nothing.
+//! Theorems about the definitions. Each is the contract of a function with an empty body.
 
 ghost use Rattle.std.specs.Prelude.{◌≡◌, ℕ, ◌-◌, length, slice_get, Some};
 ghost use Rattle.chain_theory.specs.Operator.{digit};
@@ -6,8 +6,8 @@ ghost use Rattle.net_theory.specs.declared.data.Gate.{Gate};
 ghost use Rattle.net_theory.specs.Net.{gate_value};
 ghost use Rattle.lane_sim.specs.Cone.{Cone, IsCone, value_in};
 
-/// The value of a leaf is its digit of the assignment, the first leaf's the most significant, and the value of
-/// a gate is its operator on the values of its operands.
+/// The value of a leaf is its bit of the assignment's number, the first leaf's being the most significant; the
+/// value of a gate is its operator applied to the values of its operands.
 #[tactic(auto, using(crate::specs::ConeLaws::cone_leaf, crate::specs::ConeLaws::cone_gate))]
 pub fn values_of_cones()
     ensures leaf { (c : Cone) (row i p : ℕ) → IsCone c → slice_get c.leaves i ≡ Some p →

@@ -1,5 +1,5 @@
-//! Rows of leaves. A leaf's bit under an assignment is a digit of the assignment's number, so the words of the
-//! last six leaves are six fixed patterns, and those of the leaves before are all ones or all zeros.
+//! The rows of leaves. A leaf's value under an assignment is a bit of the assignment's number. So the words of the
+//! last six leaves are six fixed words, and each word of an earlier leaf is all ones or all zeros.
 
 ghost use Rattle.std.specs.Prelude.{◌≡◌, ℕ, ◌+◌, ◌*◌, ◌≤◌, ◌<◌, [], length, OnOk};
 ghost use Rattle.chain_theory.specs.Operator.{digit};
@@ -10,10 +10,10 @@ use indexmap::IndexSet;
 use op_basis::{input_word, spread};
 use std::alloc::AllocError;
 
-/// How many leaves, the last ones, vary within a word of 64 assignments; the others are constant in each word.
+/// The number of leaves, the last ones, that vary within a word (2^6 = 64); the others are constant in each word.
 const LEAVES_OF_WORD: usize = 6;
 
-/// Word `j` of a leaf whose bit is digit `k` of the assignment.
+/// Word `j` of a leaf whose value is bit `k` of the assignment.
 #[tactic(auto, using(crate::specs::WordLaws::leaves))]
 fn leaf_word(j: usize, k: usize) -> u64
     requires { k < 64 }
@@ -26,7 +26,7 @@ fn leaf_word(j: usize, k: usize) -> u64
     }
 }
 
-/// Writes the row of a leaf whose bit is digit `k` of the assignment.
+/// Writes the row of a leaf whose value is bit `k` of the assignment.
 #[tactic(auto, using(crate::specs::RowLaws::filling))]
 fn write_leaf(lanes: &mut [u64], start: usize, width: usize, k: usize)
     requires room { start + width ≡ length lanes.old }
@@ -38,7 +38,7 @@ fn write_leaf(lanes: &mut [u64], start: usize, width: usize, k: usize)
     }
 }
 
-/// Appends the row of a leaf whose bit is digit `k` of the assignment.
+/// Appends the row of a leaf whose value is bit `k` of the assignment.
 #[tactic(auto, using(crate::specs::RowLaws::filling))]
 fn push_leaf(lanes: &mut Vec<u64>, width: usize, k: usize) -> Result<(), AllocError>
     requires width { width ≤ 64 }
@@ -51,7 +51,7 @@ fn push_leaf(lanes: &mut Vec<u64>, width: usize, k: usize) -> Result<(), AllocEr
     Ok(())
 }
 
-/// Appends the rows of all leaves, and notes their places.
+/// Appends the rows of all leaves and adds their nodes to the index.
 pub fn simulate_leaves(
     lanes: &mut Vec<u64>,
     places: &mut IndexSet<u32>,

@@ -1,10 +1,10 @@
-//! Bit-parallel simulation of a part of a net, a cone: the values of its gates under all assignments of its leaves at
-//! once, 64 assignments in a word and four words at a time. What a cone is, and what its values are, is said in `specs/Cone.antt` by a walk over its
-//! gates; what words hold and which patterns signals show is said in `specs/Words.antt`.
+//! Bit-parallel simulation of a cone, a part of a net: the values of its gates under all assignments of its
+//! leaves, with 64 assignments in a word and four words in a vector. `specs/Cone.antt` defines cones and their
+//! values; `specs/Words.antt` defines words and patterns.
 //!
-//! The one theorem: the words are the plain values for every number of leaves from 0 to 12, and a mask of
-//! patterns leaves none out and adds none. Patterns may be asked for of some assignments alone: those that give a
-//! further signal the bit 1, or those that words name.
+//! The main theorem: the words hold exactly the values of the cone, for 0 to 12 leaves, and a mask of patterns has
+//! exactly those that occur. Patterns can be restricted to chosen assignments: those at which a further signal
+//! is 1, or those that given words select.
 #![tactic(auto)]
 
 mod above;

@@ -1,5 +1,5 @@
-//! Rows of words: what operands are, and the row that a gate makes of its operands' rows, four words at a
-//! time and the rest one by one.
+//! Rows of words: operands, and the row of a gate computed from its operands' rows, four words at a time and the
+//! rest one by one.
 
 ghost use Rattle.std.specs.Prelude.{◌≡◌, ◌+◌, ◌≤◌, ◌<◌, ◌^◌, length, slice_set};
 ghost use Rattle.std.specs.Simd.Lanes.{put_chunk};
@@ -11,7 +11,7 @@ use crate::combining::combine_four;
 use op_basis::{Masks, combine};
 use std::simd::prelude::*;
 
-/// What a gate reads: a constant, or the row that begins at this place of the lanes.
+/// An operand of a gate: a constant, or the row that begins at this index of the lanes.
 #[derive(Clone, Copy)]
 pub enum Operand {
     Zero,
@@ -19,7 +19,7 @@ pub enum Operand {
     Row(usize),
 }
 
-/// A word of an operand.
+/// Word `j` of an operand.
 pub fn word(lanes: &[u64], operand: Operand, j: usize) -> u64
     requires { EndsBefore (length lanes.now) (j + 1) operand }
     ensures value { result ≡ operand_word lanes.now operand j }
@@ -41,7 +41,7 @@ pub struct Quad {
     pub fourth: u64,
 }
 
-/// Four words of an operand from word `j` on, each by itself.
+/// Four words of an operand from word `j` on, as separate words.
 pub fn four_words(lanes: &[u64], operand: Operand, j: usize) -> Quad
     requires { EndsBefore (length lanes.now) (j + 4) operand }
     ensures first { result.first ≡ operand_word lanes.now operand j }
@@ -115,7 +115,7 @@ fn write_one(lanes: &mut [u64], masks: Masks, a: Operand, b: Operand, start: usi
     lanes[start + j] = combine(masks, a, b);
 }
 
-/// Writes a gate's row: whole vectors of words, and then the rest.
+/// Writes a gate's row: whole vectors first, then the remaining words.
 #[tactic(auto, using(crate::specs::RowLaws::writing))]
 pub fn write_gate(
     lanes: &mut [u64],

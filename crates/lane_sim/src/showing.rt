@@ -1,5 +1,5 @@
-//! Which patterns operands show under the assignments of a word, or of four words. They are split by one operand after
-//! the other, and where none is left the search stops.
+//! The patterns of operands that occur under the assignments of one word, or of four words. The set of
+//! assignments is split by one operand after the other; a branch without assignments ends.
 
 ghost use Rattle.std.specs.Prelude.{◌≡◌, ℕ, ◌+◌, ◌-◌, ◌*◌, ◌≤◌, ◌<◌, ◌^◌, length, min, slice_get, slice_index_or, All, IfSome, IfNone};
 ghost use Rattle.net_theory.specs.declared.data.Gate.{Gate as GateValue};
@@ -20,7 +20,7 @@ pub(crate) fn ones(count: u32) -> u64
     u64::MAX >> (64 - count)
 }
 
-/// A digit for each assignment of a word that there is: all 64, or as many as there are rows.
+/// The mask of the assignments in a word: all 64, or the lowest `rows` if there are fewer.
 pub(crate) fn word_mask(rows: u32) -> u64
     requires { 1 ≤ rows }
     ensures { result ≡ 2 ^ min rows 64 - 1 }
@@ -28,7 +28,7 @@ pub(crate) fn word_mask(rows: u32) -> u64
     ones(rows.min(64))
 }
 
-/// The patterns of the operands' words under the assignments of a mask.
+/// The patterns of the operands' words `j` under the assignments of a mask.
 pub(crate) fn seen(mask: u64, lanes: &[u64], operands: &[Operand], j: usize) -> u64
     requires few { length operands.now ≤ 6 }
     requires ends { AllEnd (length lanes.now) (j + 1) operands.now }
@@ -47,7 +47,7 @@ pub(crate) fn seen(mask: u64, lanes: &[u64], operands: &[Operand], j: usize) -> 
     (high << step) | low
 }
 
-/// The patterns of four of the operands' words, one after the other, under the assignments of four masks.
+/// The patterns of four consecutive words of the operands under the assignments of four masks.
 pub(crate) fn seen_four(
     first: u64,
     second: u64,
@@ -90,7 +90,7 @@ pub(crate) fn seen_four(
     (high << step) | low
 }
 
-/// Where a place stands among the leaves.
+/// The index of a node among the leaves.
 pub fn leaf_at(leaves: &[u32], place: u32) -> Option<usize>
     ensures some { IfSome result (λ k. slice_get leaves.now k ≡ Some place) }
     ensures none { IfNone result ((k d : ℕ) → k < length leaves.now → slice_index_or leaves.now k d ≡ place → ⊥) }
@@ -103,7 +103,7 @@ pub fn leaf_at(leaves: &[u32], place: u32) -> Option<usize>
     None
 }
 
-/// Where a place stands among those of the gates.
+/// The index of the gate with a node.
 pub fn gate_at(gates: &[(u32, Gate)], place: u32) -> Option<usize>
     ensures some { IfSome result (λ k. (k < length gates.now) × ((d : ℕ × GateValue) → place_of (slice_index_or gates.now k d) ≡ place)) }
     ensures none { IfNone result ((k : ℕ) (d : ℕ × GateValue) → k < length gates.now → place_of (slice_index_or gates.now k d) ≡ place → ⊥) }
@@ -116,7 +116,7 @@ pub fn gate_at(gates: &[(u32, Gate)], place: u32) -> Option<usize>
     None
 }
 
-/// The row of a signal among those of a cone.
+/// The row of a cone's signal.
 pub(crate) fn operand_in(cone: &Cone, width: usize, sig: Sig) -> Operand
     requires known { IsSigAmong (places cone.now) sig }
     requires room { length (places cone.now) * width < 2 ^ 64 }
@@ -137,7 +137,7 @@ pub(crate) fn operand_in(cone: &Cone, width: usize, sig: Sig) -> Operand
     }
 }
 
-/// Writes the rows of signals, in order.
+/// Writes the operands of signals, in order.
 pub(crate) fn fill_operands(operands: &mut [Operand], cone: &Cone, width: usize, signals: &[Sig])
     requires count { length signals.now ≤ length operands.old }
     requires known { All (IsSigAmong (places cone.now)) signals.now }

@@ -1,5 +1,5 @@
-//! The words of a cone's signals: a row for each leaf, and then a row for each gate from the rows of its
-//! operands, which stand before it.
+//! The simulation of a cone: a row for each leaf, then a row for each gate, computed from the earlier rows of its
+//! operands.
 
 ghost use Rattle.std.specs.Prelude.{◌≡◌, ℕ, ◌+◌, ◌*◌, ◌≤◌, ◌<◌, ◌^◌, List, [], ◌++◌, length, IfOk, OnOk, vec_len};
 ghost use Rattle.lane_sim.specs.declared.rows.Operand.TheVariants as operands;
@@ -17,7 +17,7 @@ use net_theory::{Gate, Sig};
 use op_basis::{Op, masks_for};
 use std::alloc::{AllocError, Global};
 
-/// For how many signals there is room from the beginning; few cones have more.
+/// The initial capacity of the index, in signals; few cones have more.
 const ROOM: usize = 32;
 
 /// The row after `k` others.
@@ -27,7 +27,7 @@ fn row_behind(k: usize, width: usize) -> Operand
     Operand::Row(k.saturating_mul(width))
 }
 
-/// The row of a signal, by the places whose rows there are. The index may have further places.
+/// The row of a signal, found by the index of nodes. The index may have further nodes.
 pub(crate) fn operand(places: &IndexSet<u32>, width: usize, sig: Sig) -> Operand
     ensures { (ps more : List ℕ) → places.now.keys ≡ ps ++ more → length ps * width < 2 ^ 64 → IsSigAmong ps sig → IsOperandOf ps width sig result }
 {
@@ -41,7 +41,7 @@ pub(crate) fn operand(places: &IndexSet<u32>, width: usize, sig: Sig) -> Operand
     }
 }
 
-/// Appends the row that operands combine to.
+/// Appends the row of an operator applied to two operands.
 pub(crate) fn push_row(
     lanes: &mut Vec<u64>,
     width: usize,
@@ -78,7 +78,7 @@ fn push_gate(
     Ok(())
 }
 
-/// Appends the rows of all gates to those of the leaves.
+/// Appends the rows of all gates after those of the leaves.
 fn simulate_gates(
     lanes: &mut Vec<u64>,
     places: &mut IndexSet<u32>,
@@ -98,9 +98,9 @@ fn simulate_gates(
     Ok(())
 }
 
-/// The words of all signals of a cone, the leaves in order and then the gates in order: bit `b` of word `j` of
-/// a signal is its plain value under the assignment `64 * j + b`, whose most significant digit is the first
-/// leaf's bit.
+/// Simulates a cone: the words of the leaves, then of the gates, in order. Bit `b` of word `j` of a signal is its
+/// value under the assignment `64 * j + b`; the most significant bit of an assignment's number is the first
+/// leaf's value.
 pub fn cone_words(alloc: Global, cone: &Cone) -> Result<Words, AllocError>
     ensures { IfOk result (λ words. AreWords cone.now words) }
 {

@@ -1,11 +1,11 @@
-//! Words of 64 assignments.
+//! The values of signals in words of 64 assignments.
 
 ghost use Rattle.std.specs.Prelude.{◌≡◌, ◌<◌, ◌^◌, length};
 ghost use Rattle.lane_sim.specs.Words.{width_of as width_of_rows};
 
 use std::marker::Model;
 
-/// For each signal the words of `rows` assignments, one signal after the other.
+/// For each signal the values under `rows` assignments, in words of 64, one signal after the other.
 #[derive(Drop)]
 pub struct Words {
     pub lanes: Vec<u64>,
@@ -20,7 +20,7 @@ impl Model for Words {
     ghost view = { λ w. record { lanes = w.lanes.items; rows = w.rows } };
 }
 
-/// How many words one signal has.
+/// The number of words of one signal, for `rows` assignments.
 pub fn width_of(rows: u32) -> usize
     ensures { result ≡ width_of_rows rows }
 {

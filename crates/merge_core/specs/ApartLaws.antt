@@ -1,4 +1,4 @@
--- Forms are looked up, so that no two gates of the result have one form.
+-- Each key is looked up before a gate is appended, so no two gates of the result have the same key.
 use Rattle.std.specs.Prelude.{◌≡◌, ℕ, zero, suc, ◌&&◌, not, Bool, true, false, List, [], ◌∷◌, ◌++◌, map, slice_get, Some, nat_eq, refl, if◌then◌else◌, ◌⊎◌}
 use Rattle.std.specs.List.{list_any}
 use Rattle.std.proofs.Common.{sym, ◌∙◌, ap, subst, inl, inr, ⊎_elim, eqb-true, eq-eqb}
@@ -11,7 +11,7 @@ use Rattle.merge_core.specs.declared.form.Form.{Form}
 use Rattle.merge_core.specs.Form.{form_of}
 use Rattle.merge_core.specs.Merging.{AreApart, IsPut, AreForms}
 
--- ---- forms
+-- ---- keys
 
 abbrev made : ℕ → ℕ → ℕ → Form
 made word low high = record { word = word; low = low; high = high }
@@ -32,7 +32,7 @@ form_itself x =
     and_from (nat_eq x.word x.word) (nat_eq x.low x.low && nat_eq x.high x.high) (eq-eqb x.word x.word refl)
     (and_from (nat_eq x.low x.low) (nat_eq x.high x.high) (eq-eqb x.low x.low refl) (eq-eqb x.high x.high refl))
 
--- a form that is among others is found
+-- a key of the table is found
 found : (forms : List Form) (f : Form) (i : ℕ) → slice_get forms i ≡ Some f → list_any (form_eq f) forms ≡ true
 found [] f i at = absurd cc
 found (x ∷ forms) f zero at =
@@ -40,19 +40,19 @@ found (x ∷ forms) f zero at =
     or_left (form_eq f x) (list_any (form_eq f) forms) (subst (λ (y : Form). form_eq f y ≡ true) (sym same) (form_itself f))
 found (x ∷ forms) f (suc i) at = or_right (form_eq f x) (list_any (form_eq f) forms) (found forms f i at)
 
--- ---- gates that are appended
+-- ---- appended gates
 
 nothing_there : {G : Type 0} (i : ℕ) (g : Gate) → slice_get [] i ≡ Some g → G
 nothing_there i g at = absurd cc
 
--- nothing yet
+-- the empty table
 pub forms_none : (forms : List Form) (gates : List Gate) → forms ≡ [] → gates ≡ [] → AreForms forms gates
 forms_none forms gates no_forms none = record {
   forms_are = no_forms ∙ sym (ap (λ (gs : List Gate). map form_of gs) none);
   apart = record { apart = λ i j g h at. nothing_there i g (ap (λ (gs : List Gate). slice_get gs i) (sym none) ∙ at) };
 }
 
--- a gate of a new form is appended
+-- a gate with a new key is appended
 apart_push : (gates : List Gate) (g : Gate) → AreApart gates → list_any (form_eq (form_of g)) (map form_of gates) ≡ false → AreApart (gates ++ g ∷ [])
 apart_push gates g are none =
     let new : (i : ℕ) (h : Gate) → slice_get gates i ≡ Some h → form_of h ≡ form_of g → ⊥ = λ i h at same.
@@ -73,7 +73,7 @@ apart_push gates g are none =
 abbrev inserted : List Form → Form → List Form
 inserted forms f = if list_any (form_eq f) forms then forms else forms ++ f ∷ []
 
--- ---- a form that is there
+-- ---- a key that is found
 
 not_false : (b : Bool) → false ≡ not b → b ≡ true
 not_false true e = refl
@@ -95,7 +95,7 @@ pub put_known : (before after : List Form) (gates : List Gate) (g : Gate) (index
 put_known before after gates g index f k is_new are form e added old at same =
     stored_put after gates gates g index f k (inl refl) (after_known before after f is_new e added old ∙ are.forms_are) form at same
 
--- ---- a new one
+-- ---- a new key
 
 after_new : (before after : List Form) (gates all : List Gate) (g : Gate) (f : Form) (is_new : Bool) → AreForms before gates → all ≡ gates ++ g ∷ [] → f ≡ form_of g → after ≡ inserted before f → is_new ≡ not (list_any (form_eq f) before) → is_new ≡ true → after ≡ map form_of all
 after_new before after gates all g f is_new are more form e added new =

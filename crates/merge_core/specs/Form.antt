@@ -1,4 +1,4 @@
--- The form of a gate: its key for structural hashing.
+-- The key of a gate for structural hashing.
 use Rattle.std.specs.Prelude.{ℕ, ◌+◌, nat_le, if◌then◌else◌}
 use Rattle.op_basis.specs.Closed.{swapped}
 use Rattle.net_theory.specs.declared.data.Sig.{Sig}
@@ -6,16 +6,16 @@ use Rattle.net_theory.specs.declared.data.Sig.TheVariants.{Zero, One, Place}
 use Rattle.net_theory.specs.declared.data.Gate.{Gate}
 use Rattle.merge_core.specs.declared.form.Form.{Form}
 
--- a signal as a number: the constants, and then the places
+-- a signal as a number: the constants, then the nodes
 abbrev pub code : Sig → ℕ
 code Zero = 0
 code One = 1
 code (Place p) = 2 + p
 
--- The operator and the operands as numbers, in ascending order: where the operands are exchanged,
--- the operator's middle two values are too.
--- Example: AND of the places 3 and 2 and AND of 2 and 3 have the form 1, 4, 5; 3 and not 2 and not
--- 2 and 3 have the form 4, 4, 5.
+-- The operator, and the operands as numbers in ascending order. If the operands are swapped, so are the values
+-- of the operator at (0,1) and (1,0).
+-- Example: AND of the nodes 3 and 2 and AND of 2 and 3 have the key 1, 4, 5; `3 and not 2` and `not 2 and 3`
+-- have the key 4, 4, 5.
 unfoldable pub form_of : Gate → Form
 form_of g =
     if nat_le (code g.a) (code g.b)

@@ -1,4 +1,4 @@
--- Gates of one form have one value: hashing by form is sound.
+-- Gates with the same key have the same value: structural hashing is sound.
 use Rattle.std.specs.Prelude.{◌≡◌, ℕ, ◌+◌, ◌-◌, ◌==◌, nat_le, if◌then◌else◌, Bool, true, false, refl}
 use Rattle.std.proofs.Common.{arith, sym, ◌∙◌, ap}
 use Rattle.std.proofs.lemmas.Bool.{cond_both, cond-false, ne_eqb}

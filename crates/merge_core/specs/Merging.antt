@@ -1,4 +1,4 @@
--- Nets without structurally equal gates.
+-- Structural hashing: the state of the pass, and nets without structurally equal gates.
 use Rattle.std.specs.Prelude.{◌≡◌, ℕ, ◌+◌, ◌≤◌, ◌<◌, List, [], ◌∷◌, ◌++◌, length, map, slice_get, Some, ◌⊎◌}
 use Rattle.net_theory.specs.declared.data.Sig.TheVariants.{Place}
 use Rattle.net_theory.specs.declared.data.Gate.{Gate}
@@ -9,36 +9,36 @@ use Rattle.net_theory.specs.MovingLaws.{Moves}
 use Rattle.merge_core.specs.declared.form.Form.{Form}
 use Rattle.merge_core.specs.Form.{form_of}
 
--- no two of the gates have one form
+-- no two gates have the same key (are structurally equal)
 pub record AreApart (gates : List Gate) : Type 0 where
   pub apart : (i j : ℕ) (g h : Gate) → slice_get gates i ≡ Some g → slice_get gates j ≡ Some h → form_of g ≡ form_of h → i ≡ j
 
--- each operator of the gates is that of a gate of the net
+-- each gate has the operator of a gate of the net
 pub record HaveOperatorsOf (n : Net) (gates : List Gate) : Type 0 where
   pub each : (j : ℕ) (h : Gate) → slice_get gates j ≡ Some h → HasOperator n h.op
 
--- ---- the walk
+-- ---- the pass
 
--- `after` is `before`, or has the gate appended; at `index` is a gate of the same form.
+-- `after` is `before`, or has the gate appended; the gate at `index` has the same key
 pub record IsPut (gate : Gate) (before after : List Gate) (index : ℕ) : Type 0 where
   pub grown : (after ≡ before) ⊎ (after ≡ before ++ gate ∷ [])
   pub there : Gate
   pub at : slice_get after index ≡ Some there
   pub same : form_of there ≡ form_of gate
 
--- One step: the gate at `place` with its operands mapped; the place is mapped to a gate of that
--- form.
+-- One step: the gate `place` has its operands mapped, and its node is mapped to a gate with the key of the
+-- result.
 pub record IsPassed (sources place : ℕ) (g : Gate) (k m : Kept) : Type 0 where
   pub index : ℕ
   pub put : IsPut (moved_gate k.places g) k.gates m.gates index
   pub places : m.places ≡ put_sig k.places place (Place (sources + 1 + index))
 
--- the places before `place`
+-- the nodes below `place`
 abbrev pub IsPlaceBelow : ℕ → ℕ → Type 0
 IsPlaceBelow place p = (1 ≤ p) × (p < place)
 
--- All places below `place` have new signals with their values, and the sources stay; each gate so
--- far has the operator of a gate of the net.
+-- All nodes below `place` have new signals with their values, the sources keep their nodes, and each gate so far
+-- has the operator of a gate of the net.
 pub record IsMerged (n : Net) (place : ℕ) (k : Kept) : Type 0 where
   pub moves : Moves n.sources (value n) (IsPlaceBelow place) k
   pub stay : (p : ℕ) → p ≤ n.sources → k.places p ≡ Place p
@@ -49,7 +49,7 @@ pub record IsMerged (n : Net) (place : ℕ) (k : Kept) : Type 0 where
 abbrev pub net_with : Net → Kept → Net
 net_with n k = record { sources = n.sources; gates = k.gates; sinks = map (moved k.places) n.sinks }
 
--- the forms of the gates, each once
+-- the keys of the gates, all distinct
 pub record AreForms (forms : List Form) (gates : List Gate) : Type 0 where
   pub forms_are : forms ≡ map form_of gates
   pub apart : AreApart gates

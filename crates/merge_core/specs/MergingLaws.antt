@@ -1,4 +1,4 @@
--- Merging keeps the values of the sinks.
+-- Merging gates with equal keys keeps the values of the sinks.
 use Rattle.std.specs.Prelude.{◌≡◌, ℕ, suc, ◌+◌, ◌-◌, ◌≤◌, ◌<◌, ◌==◌, Bool, List, [], ◌∷◌, length, map, slice_get, slice_set, Some, refl}
 use Rattle.std.proofs.Common.{arith, sym, ◌∙◌, ◌≢◌, ap, subst, ⊎_elim, get_or, set}
 use Rattle.std.proofs.lemmas.Bool.{cond-true, cond-false, eq-eqb, ne_eqb, cases_eq}
@@ -26,7 +26,7 @@ put_other places place s p other = cond-false (p == place) s (places p) (ne_eqb 
 
 -- ---- one gate
 
--- an operand of a gate is a place below it
+-- an operand of a gate is a node below it
 operands_known : (place : ℕ) (s : Sig) → IsSigBelow place s → (p : ℕ) → s ≡ Place p → IsPlaceBelow place p
 operands_known place s below p e = subst (IsSigBelow place) e below
 
@@ -50,7 +50,7 @@ operand_value n place k m s given is grown below =
     grown_sig n.sources k.gates m.gates (moved k.places s) given grown (moved_below n.sources (value n) (IsPlaceBelow place) k s is.moves (operands_known place s below))
     ∙ moved_value n.sources (value n) (IsPlaceBelow place) k s given is.moves (operands_known place s below)
 
--- and the new signal of the gate's place has its value
+-- and the new signal of the gate's node has its value
 place_value : (n : Net) (i : ℕ) (k m : Kept) (g : Gate) (index : ℕ) (given : ℕ → Bool) → IsNet n → slice_get n.gates i ≡ Some g → IsMerged n (n.sources + 1 + i) k → IsGrown n.sources k.gates m.gates → IsPut (moved_gate k.places g) k.gates m.gates index → values_of given n.sources m.gates (n.sources + 1 + index) ≡ value n given (n.sources + 1 + i)
 place_value n i k m g index given net at is grown put =
     let stands : IsGateAt (n.sources + 1 + i) g = net.gates.each i g at in
@@ -102,7 +102,7 @@ put_old n gate xs ys index old own put =
     }))
     put.grown
 
--- One gate more is merged.
+-- one more gate
 pub merged_more : (n : Net) (i : ℕ) (k m : Kept) (g : Gate) → IsNet n → slice_get n.gates i ≡ Some g → IsMerged n (n.sources + 1 + i) k → IsPassed n.sources (n.sources + 1 + i) g k m → IsMerged n (n.sources + 1 + i + 1) m
 merged_more n i k m g net at is passed =
     record {
@@ -115,7 +115,7 @@ merged_more n i k m g net at is passed =
       old = put_old n (moved_gate k.places g) k.gates m.gates passed.index is.old (record { index = i; gate = g; at = at; same = refl }) passed.put;
     }
 
--- ---- from the first to the last
+-- ---- all gates
 
 pub merged_start : (n : Net) → IsMerged n (n.sources + 1) (nothing_kept n.sources)
 merged_start n =
@@ -149,7 +149,7 @@ still_moved n k Zero is still = refl
 still_moved n k One is still = refl
 still_moved n k (Place p) is still = is.stay p still
 
--- The merged net answers what the net answers.
+-- The merged net implements the net.
 pub merged_answers : (n : Net) (k : Kept) → IsNet n → IsMerged n (end_of n) k → Answers n (net_with n k)
 merged_answers n k net is =
     record {
@@ -163,7 +163,7 @@ merged_answers n k net is =
       equal = λ i j d low_i low_j same. index_map (moved k.places) n.sinks i d low_i ∙ ap (moved k.places) same ∙ sym (index_map (moved k.places) n.sinks j d low_j);
     }
 
--- the net that is put together
+-- the resulting net
 abbrev net_put : ℕ → List Gate → List Sig → Net
 net_put s gs ss = record { sources = s; gates = gs; sinks = ss }
 
@@ -172,7 +172,7 @@ merged_whole n sources places gates sinks net is same_sources same_sinks =
     let same : record { sources = sources; gates = gates; sinks = sinks } ≡ net_with n (kept places gates) = ap (λ (s : ℕ). net_put s gates sinks) same_sources ∙ ap (λ (ss : List Sig). net_put n.sources gates ss) same_sinks in
     subst (Answers n) (sym same) (merged_answers n (kept places gates) net is)
 
--- ---- the gates that are left to merge
+-- ---- the remaining gates
 
 pub left_start : (n : Net) (place : ℕ) (left : List Gate) → place ≡ n.sources + 1 → left ≡ n.gates → AreLeft n place left
 left_start n place left first same = record {

@@ -1,13 +1,13 @@
-//! The form of a gate, its key for structural hashing: two gates of one form have the same value,
-//! whatever the values of the places.
+//! The key of a gate in the hash table of structural hashing: gates with equal keys are structurally equal, so
+//! they have the same value under every assignment.
 ghost use Rattle.std.specs.Prelude.{◌≡◌};
 ghost use Rattle.merge_core.specs.Form.{code, form_of as form};
 
 use net_core::{Gate, Sig};
 use op_basis::swapped;
 
-/// A key of a gate that doesn't depend on the order of its operands: its operator's truth table,
-/// and its operands as numbers, the lesser first.
+/// The key of a gate: its operator's truth table and its operands as numbers, in ascending order, so that it
+/// doesn't depend on the order of the operands.
 #[derive(Clone, Copy, PartialEq, Eq, Hash)]
 pub struct Form {
     pub word: u8,
@@ -15,7 +15,7 @@ pub struct Form {
     pub high: u64,
 }
 
-/// A signal as a number.
+/// A signal as a number: 0 and 1 for the constants, then the nodes.
 fn code_of(sig: Sig) -> u64
     ensures { result ≡ code sig }
 {
@@ -26,7 +26,7 @@ fn code_of(sig: Sig) -> u64
     }
 }
 
-/// The form of a gate.
+/// The key of a gate.
 #[tactic(auto, unfolding(crate::specs::Form::form_of))]
 pub fn form_of(gate: &Gate) -> Form
     ensures { result ≡ form gate.now }

@@ -1,15 +1,14 @@
-//! Structural hashing (strash): gates with one operator on the same operands become one, up to the
-//! order of the operands.
+//! Structural hashing (strash): gates with the same operator on the same operands, in either order, are merged.
 //!
-//! It stands on `net_core` for nets. One pass over the gates in topological order maps the operands
-//! of each to their new signals, and looks up the form of the result: where no gate before has that
-//! form, the gate is kept, and else its place is mapped to the gate that has.
+//! It builds on `net_core`. One pass over the gates in topological order maps the operands of each gate to their
+//! new signals and looks up the key of the result. If no earlier gate has that key, the gate is kept; otherwise
+//! its node is mapped to the gate that has it.
 //!
-//! The one theorem is that of `merge_alike`: the merged net answers what the net answers, each of
-//! its gates has the operator of a gate of the net, and no two of its gates have one form.
+//! The main theorem is the contract of `merge_alike`: the merged net implements the net, each of its gates has
+//! the operator of a gate of the net, and no two of its gates are structurally equal.
 //!
 //! ```text
-//! let merged = merge_alike(alloc, &net)?; // of AND of 1 and 2 and AND of 2 and 1, the first is left
+//! let merged = strash(alloc, &net)?; // of AND of 1 and 2 and AND of 2 and 1, the first is kept
 //! ```
 #![tactic(auto)]
 

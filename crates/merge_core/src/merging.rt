@@ -1,6 +1,5 @@
-//! The pass over the gates. `places` maps each old place to its new signal; the forms of the gates
-//! that are kept are a set in the order of these gates, so that the index of a form is that of its
-//! gate.
+//! The pass over the gates. `places` maps each old node to its new signal. The hash table holds the keys of the
+//! kept gates in insertion order, so that the index of a key is the index of its gate.
 ghost use Rattle.std.specs.Prelude.{◌≡◌, ◌+◌, ◌≤◌, ◌<◌, ◌^◌, length, IfOk, OnOk, vec_len};
 ghost use Rattle.net_theory.specs.Net.{IsGateAt, end_of};
 ghost use Rattle.net_theory.specs.Answers.{Answers};
@@ -13,7 +12,7 @@ use indexmap::IndexSet;
 use net_core::{Gate, Net, Sig, moved, moved_sinks, start_places};
 use std::alloc::{AllocError, Global};
 
-/// The index of the gate with the form of `gate`. Where there is none, `gate` is appended.
+/// The index of the gate with the key of `gate`, which is appended if there is none.
 fn index_of(
     gate: &Gate,
     forms: &mut IndexSet<Form>,
@@ -32,8 +31,8 @@ fn index_of(
     Ok(index as u32)
 }
 
-/// Merges the gate at `place`: with its operands mapped it is appended, or the place is mapped to
-/// the gate that has its form.
+/// Merges the gate `place`: with its operands mapped it is appended, or its node is mapped to the structurally
+/// equal gate.
 fn merge_gate(
     sources: u32,
     place: usize,
@@ -60,7 +59,7 @@ fn merge_gate(
     Ok(())
 }
 
-/// Merges the gates of a net in order, and maps their places.
+/// Merges the gates of a net in order and maps their nodes.
 fn merge_gates(alloc: Global, net: &Net, places: &mut [Sig]) -> Result<Vec<Gate>, AllocError>
     requires start { places_of places.old ≡ sources_stay net.now.sources }
     requires count { length places.old ≡ end_of net.now }
@@ -80,7 +79,7 @@ fn merge_gates(alloc: Global, net: &Net, places: &mut [Sig]) -> Result<Vec<Gate>
     Ok(gates)
 }
 
-/// The net of the gates that are kept, with its sinks mapped.
+/// The net of the kept gates, with the sinks mapped.
 fn merge_in(alloc: Global, net: &Net, places: &mut [Sig]) -> Result<Net, AllocError>
     requires start { places_of places.old ≡ sources_stay net.now.sources }
     requires count { length places.old ≡ end_of net.now }
@@ -93,10 +92,10 @@ fn merge_in(alloc: Global, net: &Net, places: &mut [Sig]) -> Result<Net, AllocEr
     Ok(Net::new(net.sources(), gates, sinks))
 }
 
-/// The net after structural hashing: of gates of one form the first is kept, and the fanouts of the
-/// others read it instead.
+/// Structural hashing: of structurally equal gates the first is kept, and the fanouts of the others read it
+/// instead.
 ///
-/// It answers what the net answers, with no more gates, each of which has the operator of a gate of the net.
+/// The result implements the net, and each of its gates has the operator of a gate of the net.
 pub fn merge_alike(alloc: Global, net: &Net) -> Result<Net, AllocError>
     ensures answers { IfOk result (Answers net.now) }
     ensures operators { IfOk result (λ merged. HaveOperatorsOf net.now merged.gates) }

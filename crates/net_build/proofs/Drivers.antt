@@ -1,4 +1,4 @@
--- Which table drives a name.
+-- The table that drives a name.
 use Rattle.std.proofs.Common.{◌≡◌, ℕ, ◌+◌, List, [], ◌∷◌, ◌++◌, length, drop, map, Option, None, refl, ap, ◌∙◌, sym, append_assoc, length-append}
 use Rattle.std.specs.List.{filter_map}
 use Rattle.std.proofs.lemmas.Grind.{common_steps}

@@ -1,4 +1,4 @@
--- Names that are used and not driven, and that a document without faults is well formed.
+-- Undriven names, and why a document without faults is well formed.
 use Rattle.std.proofs.Common.{◌≡◌, ℕ, ◌≤◌, true, List, [], ◌∷◌, ◌++◌, map, Option, Some, None, refl, ◌∙◌, sym, ⊎_elim, arith}
 use Rattle.std.specs.Prelude.{nat_lt, All}
 use Rattle.std.proofs.lemmas.Grind.{common_steps}
@@ -16,7 +16,7 @@ use Rattle.net_document.specs.Listed.{Listed, IsListed, AreFree}
 use Rattle.net_document.specs.Refusals.{repeated, missing, twice_or, undriven_in, fault_of}
 use Rattle.net_document.specs.TimesLaws.{has_times, times_has, distinct_times, times_distinct, repeated_distinct, missing_driven}
 
--- the first list is searched first
+-- an undriven name of the first list comes first
 pub missing-some : (driven xs ys : List Name) (n : Name) → missing driven xs ≡ Some n → missing driven (xs ++ ys) ≡ Some n
 unfolding missing
 missing-some driven [] ys n e = absurd cc
@@ -78,11 +78,11 @@ used_driven l is free =
     let driven : has l.driven n ≡ true = missing_driven l.driven (l.used ++ l.document.outputs) n free.driven used in
     times_has (driven_names l.document) n (omega (arith, is.driven n, has_times l.driven n driven)))
 
--- the outputs of tables differ
+-- the outputs of tables are distinct
 pub outputs_distinct : (l : Listed) → IsListed l → fault_of l ≡ None → are_distinct (map table_output l.document.tables) ≡ true
 outputs_distinct l is e = distinct_right (source_names l.document) (map table_output l.document.tables) (driven_distinct l is (no_fault l e))
 
--- a listed document is well formed where it has no fault and its tables have a topological order
+-- a listed document without a fault whose tables have a topological order is well formed
 pub listed_well : (l : Listed) (order : List ℕ) → IsListed l → AreFree l.document → fault_of l ≡ None → order_of (graph_of l.document.tables) ≡ Some order → IsWellFormed l.document
 listed_well l order is free e ordered = record {
   model = is.model;

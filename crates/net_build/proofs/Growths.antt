@@ -1,4 +1,4 @@
--- Gates that are appended to a net, table after table.
+-- Appending gates to a net, table after table.
 use Rattle.std.proofs.Common.{◌≡◌, ℕ, suc, ◌+◌, ◌≤◌, ◌<◌, ◌^◌, List, [], ◌∷◌, ◌++◌, length, map, Option, Some, None, refl, ap, ◌∙◌, sym, subst, arith, length-append}
 use Rattle.std.specs.Prelude.{All, slice_get, unwrap_or, sum_by}
 use Rattle.std.proofs.lemmas.Grind.{common_steps}
@@ -27,7 +27,7 @@ use Rattle.net_theory.specs.NetLaws.{IsGrowth, spent, start_growth, tables_grown
 use Rattle.net_core.specs.Growing.{built}
 use Rattle.net_build.specs.Parts.{growth, AreBelow, FitsTable, IsBegun}
 
--- ---- signals that are the net's
+-- ---- signals of the net
 
 below_by : (n : Net) (r : Option Sig) → ((s : Sig) → r ≡ Some s → IsSigBelow (end_of n) s) → IsSigBelow (end_of n) (unwrap_or r Zero)
 below_by n None h = tt

@@ -1,4 +1,4 @@
--- Tables whose two inputs have one name, and costs.
+-- Tables with two inputs of the same name, and costs.
 use Rattle.std.proofs.Common.{◌≡◌, ◌≢◌, Bool, true, false, ◌≤◌, List, [], ◌∷◌, length, Option, refl, sym, subst, arith}
 use Rattle.std.proofs.lemmas.Grind.{common_steps}
 use Rattle.std.proofs.lemmas.Bool.{cond_both}
@@ -12,7 +12,7 @@ use Rattle.net_core.specs.declared.whole.Body.TheVariants.{Cubes, Joined}
 use Rattle.net_core.specs.Wholes.{cover_of, IsBody, JoinsSome}
 use Rattle.net_build.specs.Parts.{merged_by}
 
--- a body is valid where it joins at least one input and its cover is valid
+-- a body is valid if its cover is and it joins at least one input
 pub body_good : (b : Body) → JoinsSome b → IsCover (cover_of b) → IsBody b
 body_good (Cubes c) some is = is
 body_good (Joined w) some is = some

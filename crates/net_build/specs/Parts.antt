@@ -1,4 +1,4 @@
--- What the parts of the elaboration answer.
+-- The contracts of the parts of the elaboration.
 use Rattle.std.specs.Prelude.{◌≡◌, ℕ, ◌+◌, ◌<◌, ◌^◌, if◌then◌else◌, List, [], ◌∷◌, length, Option, Some, None, take}
 use Rattle.std.specs.List.{filter_map}
 use Rattle.net_theory.specs.declared.data.Sig.{Sig}
@@ -15,7 +15,7 @@ use Rattle.net_core.specs.declared.error.NetError.TheVariants.{Memory, Cycle}
 use Rattle.graph_core.specs.Visit.{Graph}
 use Rattle.graph_core.specs.VisitLaws.{IsRun}
 
--- a table over its first input alone with another cover, where there is one
+-- the table over its first input alone with the given cover; unchanged if there is none
 abbrev pub merged_by : Table → Option Cover → Table
 merged_by t None = t
 merged_by t (Some c) = record { inputs = take 1 t.inputs; output = t.output; cover = c }
@@ -23,12 +23,12 @@ merged_by t (Some c) = record { inputs = take 1 t.inputs; output = t.output; cov
 abbrev pub growth : List Gate → Signals → Growth
 growth gates signals = record { gates = gates; signals = signals }
 
--- for each table its fanins, where a function has the table that drives a name
+-- for each table its fanins, where the function gives the table that drives a name
 unfoldable pub graph_by : (Name → Option ℕ) → List Table → Graph
 graph_by driver [] = []
 graph_by driver (t ∷ ts) = filter_map driver t.inputs ∷ graph_by driver ts
 
--- each signal is one of the net's
+-- each signal is a constant or a node of the net
 pub record AreBelow (n : Net) (signals : Signals) : Type 0 where
   pub each : (name : Name) (s : Sig) → signals name ≡ Some s → IsSigBelow (end_of n) s
 
@@ -41,8 +41,7 @@ pub record Fits (n : Net) (c : Cover) (inputs : List Name) : Type 0 where
 abbrev pub FitsTable : Net → Table → Type 0
 FitsTable n t = Fits n (merged_table t).cover (merged_table t).inputs
 
--- The gates so far are those of the tables that are done, and the tables `left` may come next, in
--- that order.
+-- The net has the gates of the tables done so far, and the tables `left` may follow in this order.
 pub record IsBegun (d : Document) (n : Net) (signals : Signals) (left : List ℕ) : Type 0 where
   pub sources : n.sources ≡ source_count d
   pub sinks : n.sinks ≡ []
@@ -50,11 +49,11 @@ pub record IsBegun (d : Document) (n : Net) (signals : Signals) (left : List ℕ
   pub grown : IsGrowth d (growth n.gates signals) done
   pub run : IsRun (graph_of d.tables) (length (graph_of d.tables)) done left
 
--- the drivers, with one more for a name
+-- the drivers, with one more name
 abbrev pub with_driver : (Name → Option ℕ) → Name → ℕ → Name → Option ℕ
 with_driver driver name table n = if is_same name n then Some table else driver n
 
--- the error of a document with a combinational loop and no other fault
+-- the error is that of a document whose only fault is a combinational loop
 abbrev pub IsCyclicError : Document → NetError → Type 0
 IsCyclicError d Memory = Unit {0}
 IsCyclicError d (Cycle name) = IsFirstCyclic d name

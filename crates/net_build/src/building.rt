@@ -17,7 +17,7 @@ use net_core::{Body, Name, Net, Sig, expand_body};
 use net_document::{Document, Table};
 use std::alloc::{AllocError, Global};
 
-/// Appends the gates of a body over the inputs `names` to a net, and gives `output` their signal.
+/// Appends the gates of a body over the inputs `names` to a net and binds `output` to the resulting signal.
 #[tactic(auto, using(crate::proofs::Growths::covers))]
 fn add_body(
     alloc: Global,
@@ -72,7 +72,7 @@ fn add_table(
     }
 }
 
-/// The table of a document with the index `table`.
+/// The table with index `table` of a document.
 pub fn table_at(document: &Document, table: u32) -> &Table
     requires { table < length document.now.tables }
     ensures { slice_get document.now.tables table ≡ Some result.now }
@@ -103,7 +103,7 @@ fn add_tables(
     Ok(())
 }
 
-/// Gives the sources the places from 1 on.
+/// Binds the names of the sources to the nodes from 1 on.
 #[tactic(auto, using(crate::proofs::Growths::sources))]
 fn place_sources(signals: &mut IndexMap<Name, Sig>, document: &Document) -> Result<(), AllocError>
     requires { source_count document.now + 100000 < 2 ^ 31 }
@@ -114,7 +114,7 @@ fn place_sources(signals: &mut IndexMap<Name, Sig>, document: &Document) -> Resu
     place_latches(signals, next, &document.latches)
 }
 
-/// The net of a document whose tables have the topological order `order`; `signals` has its
+/// The net of a document whose tables have the topological order `order`; `signals` has the signals of the
 /// sources.
 #[tactic(auto, using(crate::proofs::Growths::nets), unfolding(net_theory::specs::NetOf::net_in_order))]
 fn net_over(

@@ -1,4 +1,4 @@
-//! What is refused once a document was read to its end.
+//! The checks after parsing: whether a document is well formed, apart from combinational loops.
 
 ghost use Rattle.std.specs.Prelude.{◌≡◌, ◌<◌, ◌≤◌, ◌^◌, [], ◌++◌, None, IfOk, IfErr, IfNone};
 ghost use Rattle.net_theory.specs.Cost.{cost};
@@ -11,7 +11,7 @@ use net_core::{Name, NetError};
 use net_document::Listed;
 use std::alloc::{AllocError, Global};
 
-/// Adds the names of drivers to `set`, up to the first that is there already, which is answered.
+/// Adds driven names to `set` and returns the first one that is already there.
 #[tactic(auto, unfolding(net_document::specs::Refusals::repeated, net_theory::specs::Document::has))]
 fn add_drivers(set: &mut IndexSet<Name>, names: &[Name]) -> Result<Option<Name>, AllocError>
     ensures first { IfOk result (λ name. name ≡ repeated set.old.keys names.now) }
@@ -28,7 +28,7 @@ fn add_drivers(set: &mut IndexSet<Name>, names: &[Name]) -> Result<Option<Name>,
     Ok(None)
 }
 
-/// The first name that isn't driven.
+/// The first of `names` that isn't driven.
 #[tactic(auto, unfolding(net_document::specs::Refusals::missing, net_theory::specs::Document::has))]
 fn first_missing(driven: &IndexSet<Name>, names: &[Name]) -> Result<Option<Name>, AllocError>
     ensures { IfOk result (λ name. name ≡ missing driven.now.keys names.now) }
@@ -43,7 +43,7 @@ fn first_missing(driven: &IndexSet<Name>, names: &[Name]) -> Result<Option<Name>
     Ok(None)
 }
 
-/// The first name that is used and not driven: by tables and latches, and then by outputs.
+/// The first undriven name that tables and latches read, or else the first undriven output.
 #[tactic(auto, using(crate::proofs::Faults::missings))]
 fn first_undriven(
     driven: &IndexSet<Name>,
@@ -58,7 +58,7 @@ fn first_undriven(
     }
 }
 
-/// Refuses a name that is used and not driven, where nothing else is at fault.
+/// Refuses an undriven name, if there is no other fault.
 #[tactic(auto, unfolding(net_document::specs::Refusals::fault_of))]
 fn check_used(driven: &IndexSet<Name>, listed: &Listed) -> Result<(), NetError>
     requires few { cost listed.now.document ≤ 100000 }
@@ -73,8 +73,8 @@ fn check_used(driven: &IndexSet<Name>, listed: &Listed) -> Result<(), NetError>
     }
 }
 
-/// Refuses a name that is driven twice, or else one that is used and not driven, where there is no
-/// other fault. `driven` is empty at first, and then holds the names of drivers.
+/// Refuses a name that is driven twice, or else an undriven name, if there is no other fault. `driven` is empty
+/// before and has the driven names after.
 #[tactic(auto, unfolding(net_document::specs::Refusals::fault_of))]
 fn check_names(driven: &mut IndexSet<Name>, listed: &Listed) -> Result<(), NetError>
     requires few { cost listed.now.document ≤ 100000 }
@@ -88,7 +88,7 @@ fn check_names(driven: &mut IndexSet<Name>, listed: &Listed) -> Result<(), NetEr
     }
 }
 
-/// Refuses any fault but a combinational loop.
+/// Refuses every fault other than a combinational loop.
 #[tactic(auto, unfolding(net_document::specs::Refusals::fault_of, net_theory::specs::Cost::cost))]
 pub fn check(alloc: Global, listed: &Listed) -> Result<(), NetError>
     requires listed { IsListed listed.now }

@@ -1,4 +1,4 @@
-//! The circuit of a document.
+//! The circuit of a parsed document.
 
 ghost use Rattle.std.specs.Prelude.{◌≡◌, ℕ, ◌+◌, ◌*◌, ◌<◌, ◌^◌, List, map, length, true, Some, None, IfOk, IfErr};
 ghost use Rattle.net_theory.specs.Document.{latch_of, are_distinct, table_output};
@@ -21,7 +21,7 @@ use net_core::{Circuit, Latch, Name, Net, NetError};
 use net_document::{Document, LatchLine, Listed};
 use std::alloc::{AllocError, Global};
 
-/// The output of the first table on a combinational loop, where there is no topological order.
+/// The output of the first table on a combinational loop; there must be no topological order.
 fn cyclic_name(alloc: Global, document: &Document, graph: &[Reads]) -> Result<Name, AllocError>
     requires few { length document.now.tables < 2 ^ 31 }
     requires distinct { are_distinct (map table_output document.now.tables) ≡ true }
@@ -49,7 +49,7 @@ fn latches_of(alloc: Global, lines: Vec<LatchLine>) -> Result<Vec<Latch>, AllocE
     Ok(latches)
 }
 
-/// The circuit with the names of a document and a net.
+/// The circuit with a document's names and this net.
 fn with_net(alloc: Global, document: Document, net: Net) -> Result<Circuit, AllocError>
     ensures { IfOk result (λ c. c ≡ circuit_with document net) }
 {
@@ -81,7 +81,7 @@ fn document_graph(alloc: Global, document: &Document) -> Result<Vec<Reads>, Allo
     graph_of(alloc, &document.tables)
 }
 
-/// The net of a document, or the first table on a combinational loop.
+/// The net of a document, or an error with the first table's output on a combinational loop.
 fn ordered_net(alloc: Global, document: &Document) -> Result<Net, NetError>
     requires small { source_count document.now + 100000 < 2 ^ 31 }
     requires few { length document.now.tables < 2 ^ 31 }
@@ -100,7 +100,7 @@ fn ordered_net(alloc: Global, document: &Document) -> Result<Net, NetError>
     Ok(net)
 }
 
-/// The net of a document, or why the document isn't well formed.
+/// The net of a document, or the error if the document isn't well formed.
 #[tactic(auto, using(crate::proofs::Wholes::circuits))]
 fn listed_net(alloc: Global, listed: &Listed) -> Result<Net, NetError>
     requires listed { IsListed listed.now }
@@ -116,10 +116,10 @@ fn listed_net(alloc: Global, listed: &Listed) -> Result<Net, NetError>
     ordered_net(alloc, &listed.document)
 }
 
-/// The circuit of a document, or why it isn't well formed: more than 100,000 gates, then a name
-/// that is driven twice, then one that is used and not driven, and then a combinational loop.
+/// The circuit of a document, or the first of these errors: more than 100,000 gates, a name that is driven twice,
+/// an undriven name, a combinational loop.
 ///
-/// The lists of driven and used names say which name is first.
+/// The order of the names in an error is that of the lists of driven and used names.
 pub fn circuit_of(alloc: Global, listed: Listed) -> Result<Circuit, NetError>
     requires listed { IsListed listed }
     requires free { AreFree listed.document }

@@ -1,9 +1,8 @@
-//! Elaboration, from a parsed document of any format to its circuit: what is refused once the
-//! document was read to its end, the gates of its tables in topological order, and the circuit with
-//! the document's names.
+//! Elaboration: from a parsed document of any format to its circuit. It checks that the document is well formed,
+//! decomposes its tables into gates in topological order, and keeps the document's names.
 //!
-//! The one theorem: `circuit_of` answers a circuit exactly where there is no fault; then the
-//! document is well formed, and the circuit computes what the document says.
+//! The main theorem: `circuit_of` returns a circuit exactly if there is no fault; then the document is well
+//! formed, and the circuit is equivalent to it.
 #![tactic(auto)]
 
 mod building;

@@ -1,4 +1,4 @@
-//! Tables whose two inputs have one name, and costs.
+//! Tables with two inputs of the same name, and the costs of tables.
 
 ghost use Rattle.std.specs.Prelude.{◌≡◌, ◌<◌, ◌^◌, ◌++◌, false, true, All, IfOk, OnOk, sum_by, take};
 ghost use Rattle.net_theory.specs.Cost.{byte_if, unary_cover as unary_cover_of, merged_table, table_cost as table_cost_of};
@@ -9,7 +9,7 @@ use net_core::{Cover, Cube, Name, body_cost, body_value, cover_cost};
 use net_document::Table;
 use std::alloc::{AllocError, Global};
 
-/// Adds the cube with the one byte `byte`, where `is_wanted`.
+/// Adds the cube with the single byte `byte`, if `is_wanted`.
 fn push_if(
     alloc: Global,
     cubes: &mut Vec<Cube>,
@@ -38,7 +38,7 @@ fn unary_cover(alloc: Global, at_zero: bool, at_one: bool) -> Result<Cover, Allo
     })
 }
 
-/// The cover of one input that replaces that of a table whose two inputs have one name.
+/// The cover of one input that replaces the cover of a table with two inputs of the same name.
 #[tactic(auto, using(crate::proofs::Merged::merges, crate::proofs::Merged::body_good), unfolding(net_theory::specs::Cost::merged_table))]
 pub fn merged_cover(alloc: Global, table: &Table) -> Result<Option<Cover>, AllocError>
     requires { IsTable table.now }
@@ -55,7 +55,7 @@ pub fn merged_cover(alloc: Global, table: &Table) -> Result<Option<Cover>, Alloc
     Ok(Some(unary_cover(alloc, at_zero, at_one)?))
 }
 
-/// The first name of a list, or none.
+/// The list of only the first name; empty if there is none.
 pub fn first_alone(names: &[Name]) -> &[Name]
     ensures { result.now ≡ take 1 names.now }
 {
@@ -65,7 +65,7 @@ pub fn first_alone(names: &[Name]) -> &[Name]
     }
 }
 
-/// The number of gates that a table becomes.
+/// The number of gates into which a table is decomposed.
 #[tactic(auto, using(crate::proofs::Merged::costs, crate::proofs::Merged::body_good), unfolding(net_theory::specs::Cost::table_cost))]
 fn table_cost(alloc: Global, table: &Table) -> Result<u32, AllocError>
     requires { IsTable table.now }
@@ -77,7 +77,7 @@ fn table_cost(alloc: Global, table: &Table) -> Result<u32, AllocError>
     }
 }
 
-/// The number of gates that tables become.
+/// The number of gates into which all tables are decomposed.
 pub fn total_cost(alloc: Global, tables: &[Table]) -> Result<u32, AllocError>
     requires tables { All IsTable tables.now }
     requires small { sum_by table_cost_of tables.now < 2 ^ 32 }

@@ -1,4 +1,4 @@
-//! The drivers and the signals of names.
+//! Maps from names to the tables that drive them, and to their signals.
 
 ghost use Rattle.std.specs.Prelude.{◌≡◌, ◌<◌, ◌^◌, ◌+◌, ◌++◌, map, length, None, OnOk, IfOk};
 ghost use Rattle.std.specs.List.{filter_map};
@@ -14,7 +14,7 @@ use net_core::{Name, Sig};
 use net_document::{Document, LatchLine, Table};
 use std::alloc::{AllocError, Global};
 
-/// Notes that `table` drives `name`.
+/// Records that `table` drives `name`.
 #[tactic(auto, using(crate::proofs::Names::updates))]
 fn set_driver(drivers: &mut IndexMap<Name, u32>, name: &Name, table: u32) -> Result<(), AllocError>
     ensures { OnOk result (get is_same drivers.new ≡ with_driver (get is_same drivers.old) name.now table) }
@@ -23,7 +23,7 @@ fn set_driver(drivers: &mut IndexMap<Name, u32>, name: &Name, table: u32) -> Res
     Ok(())
 }
 
-/// Notes the drivers of names, the first one where several tables drive a name.
+/// Records the drivers of names; if several tables drive a name, the first one.
 #[tactic(auto, using(crate::proofs::Drivers::drivers))]
 fn set_drivers(drivers: &mut IndexMap<Name, u32>, tables: &[Table]) -> Result<(), AllocError>
     requires none { get is_same drivers.old ≡ (λ n. None) }
@@ -38,7 +38,7 @@ fn set_drivers(drivers: &mut IndexMap<Name, u32>, tables: &[Table]) -> Result<()
     Ok(())
 }
 
-/// The tables that drive `names`, from the left.
+/// The tables that drive `names`, in order.
 fn reads_of(
     alloc: Global,
     drivers: &IndexMap<Name, u32>,
@@ -57,7 +57,7 @@ fn reads_of(
     Ok(Reads::new(reads))
 }
 
-/// For each table its fanins, by `drivers`.
+/// For each table its fanins, looked up in `drivers`.
 #[tactic(auto, unfolding(crate::specs::Parts::graph_by))]
 fn graph_by(
     alloc: Global,
@@ -75,7 +75,7 @@ fn graph_by(
     Ok(graph)
 }
 
-/// For each table its fanins: the tables that drive its inputs, from the left.
+/// For each table its fanins: the tables that drive its inputs, in order.
 #[tactic(auto, using(crate::proofs::Drivers::graphs))]
 pub fn graph_of(alloc: Global, tables: &[Table]) -> Result<Vec<Reads>, AllocError>
     requires { length tables.now < 2 ^ 31 }
@@ -86,7 +86,7 @@ pub fn graph_of(alloc: Global, tables: &[Table]) -> Result<Vec<Reads>, AllocErro
     graph_by(alloc, &drivers, tables)
 }
 
-/// Gives a name a signal.
+/// Binds a name to a signal.
 #[tactic(auto, using(crate::proofs::Names::updates))]
 pub fn set_signal(
     signals: &mut IndexMap<Name, Sig>,
@@ -141,7 +141,7 @@ fn push_latch_signals(
     Ok(())
 }
 
-/// Gives `names` the places from `first` on.
+/// Binds `names` to the nodes from `first` on.
 #[tactic(auto, unfolding(net_theory::specs::NetOf::with_sources))]
 pub fn place_names(
     signals: &mut IndexMap<Name, Sig>,
@@ -161,7 +161,7 @@ pub fn place_names(
     Ok(())
 }
 
-/// Gives the latches' outputs the places from `first` on.
+/// Binds the latches' outputs to the nodes from `first` on.
 #[tactic(auto, unfolding(net_theory::specs::NetOf::with_sources))]
 pub fn place_latches(
     signals: &mut IndexMap<Name, Sig>,
@@ -181,7 +181,7 @@ pub fn place_latches(
     Ok(())
 }
 
-/// The signals of the outputs and then of the latches' inputs.
+/// The signals of the outputs, then of the latches' inputs.
 #[tactic(auto, using(crate::proofs::Growths::sinks))]
 pub fn sinks_of(
     alloc: Global,

@@ -1,4 +1,4 @@
--- Marks, and the map of places, written one by one.
+-- The loops that write the marks and the map of nodes.
 use Rattle.std.proofs.Common.{◌≡◌, ℕ, zero, suc, ◌+◌, ◌<◌, Bool, true, false, List, [], ◌∷◌, ◌++◌, length, set, get_or, map, replicate, leb, add-zero, refl, ◌∙◌, ap, sym, arith, ⊎_elim, ◌==◌, ◌||◌, if◌then◌else◌}
 use Rattle.std.specs.List.{slice_get, range_with_len, list_any}
 use Rattle.std.proofs.lemmas.List.{get_or_past}
@@ -30,7 +30,7 @@ set_of-set_at marks q p low =
 pub set_of-set : (marks : List Bool) (q : ℕ) → q < length marks → set_of (set marks q true) ≡ extended (set_of marks) q true
 set_of-set marks q low = λ i p. set_of-set_at marks q p low i
 
--- a mark that is written
+-- writing one mark
 pub set_of-mark : (marks : List Bool) (q : ℕ) (s : Sig) → s ≡ Place q → q < length marks → set_of (set marks q true) ≡ with_mark (set_of marks) s
 set_of-mark marks q s e low = set_of-set marks q low ∙ ap (with_mark (set_of marks)) (sym e)
 
@@ -43,7 +43,7 @@ pub sink_marks-next : (marks : ℕ → Bool) (ss rest : List Sig) (s : Sig) → 
 unfolding sink_marks
 sink_marks-next marks ss rest s e = ap (sink_marks marks) (sym e)
 
--- a place is marked where the signal is that place, or it was marked before
+-- a node is marked if it was marked before or is the node of the signal
 with_mark-is : (marks : ℕ → Bool) (s : Sig) (p : ℕ) → with_mark marks s p ≡ (is_place p s || marks p)
 with_mark-is marks Zero p = refl
 with_mark-is marks One p = refl
@@ -71,7 +71,7 @@ or_none : (a : Bool) → (a || false) ≡ a
 or_none true = refl
 or_none false = refl
 
--- After a walk over the sinks exactly the sinks are marked.
+-- After the loop over the sinks exactly the sinks are marked.
 pub sink_marks-sinks : (n : Net) → sink_marks no_marks n.sinks ≡ is_sink n
 unfolding is_sink
 sink_marks-sinks n = λ i p. (sink_marks-at no_marks n.sinks p ∙ or_none (list_any (is_place p) n.sinks)) i
@@ -89,7 +89,7 @@ marked-push marks place (h ∷ gs) g =
     ap (λ (q : ℕ). gate_marked (marked (gate_marked marks q g) (place + 1) gs) place h) e
     ∙ ap (λ (m : ℕ → Bool). gate_marked m place h) (marked-push marks (place + 1) gs g)
 
--- the last gate, where it is marked, and where it isn't
+-- the last gate, if it is marked and if it isn't
 pub marked-on : (marks : List Bool) (place q : ℕ) (gs rest : List Gate) (g : Gate) → gs ≡ rest ++ g ∷ [] → q ≡ place + length rest → get_or marks q false ≡ true → marked (with_mark (with_mark (set_of marks) g.a) g.b) place rest ≡ marked (set_of marks) place gs
 unfolding set_of
 marked-on marks place q gs rest g e at on =
@@ -104,12 +104,12 @@ marked-off marks place q gs rest g e at off =
     ∙ marked-push (set_of marks) place rest g
     ∙ ap (marked (set_of marks) place) (sym e)
 
--- the gates but the last are valid at their places, and so is the last
+-- the operands of all gates, the last one included, are below them
 pub front_at : (place : ℕ) (gs rest : List Gate) (g : Gate) → gs ≡ rest ++ g ∷ [] → AreAt place gs → AreAt place rest
 front_at place gs rest g e are =
     record { each = λ i h at. are.each i h (ap (λ (xs : List Gate). slice_get xs i) e ∙ at_front rest (g ∷ []) i h at) }
 
--- ---- places
+-- ---- nodes
 
 places_of-set_at : (places : List Sig) (q : ℕ) (s : Sig) (p : ℕ) → q < length places → places_of (set places q s) p ≡ put_sig (places_of places) q s p
 unfolding places_of
@@ -139,7 +139,7 @@ kept_after-off marks sources k place gs rest g e off =
     ap (λ (x : Kept). kept_after (set_of marks) sources x (place + 1) rest) (sym (cond-false (get_or marks place false) (with_kept sources k place g) k off))
     ∙ ap (kept_after (set_of marks) sources k place) (sym e)
 
--- a marked gate counts, and one that isn't marked doesn't
+-- the count goes up by one at each marked gate
 pub marked_count-on : (marks : List Bool) (place : ℕ) (gs rest : List Gate) (g : Gate) → gs ≡ g ∷ rest → get_or marks place false ≡ true → marked_count (set_of marks) place gs ≡ suc (marked_count (set_of marks) (place + 1) rest)
 unfolding marked_count set_of
 marked_count-on marks place gs rest g e on =
@@ -170,7 +170,7 @@ starts_at sources n p low =
 pub places_of-start : (sources n : ℕ) → sources < n → places_of (map (sources_stay sources) (range_with_len 0 n)) ≡ sources_stay sources
 places_of-start sources n low = λ i p. starts_at sources n p low i
 
--- no place is marked
+-- no node is marked
 no_marks_at : (n p : ℕ) → set_of (replicate n false) p ≡ false
 unfolding set_of
 no_marks_at zero p = refl
@@ -180,7 +180,7 @@ no_marks_at (suc n) (suc p) = no_marks_at n p
 pub set_of-none : (n : ℕ) → set_of (replicate n false) ≡ no_marks
 set_of-none n = λ i p. no_marks_at n p i
 
--- the net that is put together is the net without its dead gates
+-- the resulting net is the net without its dangling gates
 pub left_is : (n : Net) (marks : List Bool) (places : List Sig) (sources : ℕ) (gates : List Gate) (sinks : List Sig) → set_of marks ≡ live n → kept places gates ≡ kept_after (set_of marks) n.sources (nothing_kept n.sources) (n.sources + 1) n.gates → sources ≡ n.sources → sinks ≡ map (moved (places_of places)) n.sinks → record { sources = sources; gates = gates; sinks = sinks } ≡ dropped n
 unfolding dropped
 left_is n marks places sources gates sinks is_live is_kept same_sources same_sinks =

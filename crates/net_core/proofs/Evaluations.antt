@@ -1,4 +1,4 @@
--- Simulation writes the bits of places one by one.
+-- Simulation writes the bits of nodes one by one.
 use Rattle.std.proofs.Common.{◌≡◌, ◌≢◌, ℕ, suc, ◌+◌, ◌-◌, ◌<◌, Bool, false, List, [], ◌∷◌, length, set, get_or, add-zero, refl, ◌∙◌, ap, sym, subst, arith, ⊎_elim, ◌==◌}
 use Rattle.std.specs.List.{slice_get}
 use Rattle.std.proofs.lemmas.Bool.{cases_eq, cond-false, ne_eqb}
@@ -22,11 +22,11 @@ bit_of-set_at bits place v p low =
     (cases_eq p (place + 1)))
     (cases_eq p 0)
 
--- one write sets the bit of one place
+-- one write sets the bit of one node
 pub bit_of-set : (bits : List Bool) (place : ℕ) (v : Bool) → place < length bits → bit_of (set bits place v) ≡ extended (bit_of bits) (place + 1) v
 bit_of-set bits place v low = λ i p. bit_of-set_at bits place v p low i
 
--- the first gate is valid at its place
+-- the operands of the first gate are below it
 pub first_at : (place : ℕ) (gs rest : List Gate) (g : Gate) → gs ≡ g ∷ rest → AreAt place gs → IsGateAt place g
 first_at place gs rest g e are = subst (λ (q : ℕ). IsGateAt q g) (add-zero place) (are.each 0 g (ap (λ (xs : List Gate). slice_get xs 0) e))
 

@@ -30,18 +30,18 @@ expanded-wide sources gates c (a ∷ b ∷ d ∷ inputs) many = refl
 
 pub ruleset tables = (common_steps, cover_cost-wide, expanded-wide)
 
--- ---- nets that grow
+-- ---- appending to a net
 
 sigs_below : (place : ℕ) (ss : List Sig) → All (IsSigBelow place) ss → AreSigsBelow place ss
 sigs_below place [] all = tt
 sigs_below place (s ∷ ss) all = (all 0 s (omega arith), sigs_below place ss (λ k d low. all (suc k) d (omega arith)))
 
--- what is expanded is built
+-- expanding a table satisfies `IsBuilt`
 pub expanded_built : (n : Net) (c : Cover) (inputs : List Sig) (new : List Gate) (sig : Sig) → IsNet n → IsCover c → c.width ≡ length inputs → All (IsSigBelow (end_of n)) inputs → built new sig ≡ expanded n.sources n.gates c inputs → IsBuilt n.sources n.gates (cover_cost c inputs) (λ given. cover_value c (map (sig_value (values_of given n.sources n.gates)) inputs)) (built new sig)
 expanded_built n c inputs new sig net is wide below e =
     subst (IsBuilt n.sources n.gates (cover_cost c inputs) (λ given. cover_value c (map (sig_value (values_of given n.sources n.gates)) inputs))) (sym e) (expanded_is n.sources n.gates c inputs net.gates (sigs_below (end_of n) inputs below) is wide)
 
--- and the net is valid still
+-- and the net stays valid
 pub expanded_net : (n : Net) (c : Cover) (inputs : List Sig) (new : List Gate) (sig : Sig) → IsNet n → IsCover c → c.width ≡ length inputs → All (IsSigBelow (end_of n)) inputs → n.sources + length n.gates + cover_cost c inputs < 2 ^ 31 → built new sig ≡ expanded n.sources n.gates c inputs → IsNet (record { sources = n.sources; gates = new; sinks = n.sinks })
 expanded_net n c inputs new sig net is wide below room e =
     let b : IsBuilt n.sources n.gates (cover_cost c inputs) (λ given. cover_value c (map (sig_value (values_of given n.sources n.gates)) inputs)) (built new sig) = expanded_built n c inputs new sig net is wide below e in

@@ -1,4 +1,4 @@
--- The first output at each place, noted from the last output to the first.
+-- The first output of each node, recorded from the last output to the first.
 use Rattle.std.proofs.Common.{◌≡◌, ℕ, zero, suc, ◌+◌, ◌-◌, ◌≤◌, ◌<◌, ◌==◌, if◌then◌else◌, List, [], ◌∷◌, length, drop, set, get_or, replicate, Option, Some, None, refl, ap, ◌∙◌, sym, arith, ⊎_elim, length-set}
 use Rattle.std.specs.Prelude.{option_and_then}
 use Rattle.std.specs.List.{slice_get, slice_index_or}
@@ -27,7 +27,7 @@ found_none firsts outputs p e = sym (ap (option_and_then (slice_get outputs)) e)
 
 pub ruleset found = (common_steps, gets, found_some, found_none)
 
--- ---- noting
+-- ---- recording
 
 at_drop : {A : Type 0} (xs : List A) (j : ℕ) (x : A) → slice_get xs j ≡ Some x → drop j xs ≡ x ∷ drop (suc j) xs
 at_drop [] j x e = absurd cc
@@ -58,7 +58,7 @@ length-noted firsts Zero j = refl
 length-noted firsts One j = refl
 length-noted firsts (Place q) j = length-set firsts q (Some j)
 
--- one more output is noted
+-- one more output is recorded
 pub firsts_next : (firsts : List (Option ℕ)) (outputs : List Name) (sinks : List Sig) (i : ℕ) (o : Name) (s : Sig) → 0 < i → slice_get outputs (i - 1) ≡ Some o → slice_get sinks (i - 1) ≡ Some s → IsSigBelow (length firsts) s → AreFirsts firsts outputs i sinks → AreFirsts (noted firsts s (i - 1)) outputs (i - 1) sinks
 firsts_next firsts outputs sinks i o s some at_o at_s below are =
     let e : i ≡ suc (i - 1) = omega arith in
@@ -83,7 +83,7 @@ none_left : (sinks : List Sig) (p : ℕ) → output_on [] sinks p ≡ None
 unfolding output_on
 none_left sinks p = refl
 
--- before any is noted
+-- before any output is recorded
 pub firsts_none : (n : ℕ) (outputs : List Name) (sinks : List Sig) → AreFirsts (replicate n None) outputs (length outputs) sinks
 firsts_none n outputs sinks =
     record { each = λ p low. nothing_noted n outputs p ∙ sym (ap (λ os. output_on os (drop (length outputs) sinks) p) (drop_all outputs) ∙ none_left (drop (length outputs) sinks) p) }

@@ -1,4 +1,4 @@
--- Names, each once, and numbered names.
+-- Sets of names, and numbered names.
 use Rattle.std.proofs.Common.{◌≡◌, ℕ, suc, ◌+◌, ◌-◌, ◌<◌, ◌≤◌, true, false, not, if◌then◌else◌, List, [], ◌∷◌, ◌++◌, refl, ap, ◌∙◌, sym, arith}
 use Rattle.std.proofs.lemmas.Grind.{common_steps}
 use Rattle.net_theory.specs.Document.{Name, has}
@@ -22,12 +22,12 @@ free_suc : (taken : List Name) (from count : ℕ) → free_names taken from (suc
 unfolding free_names
 free_suc taken from count = refl
 
--- a name that is taken is skipped
+-- a taken name is skipped
 pub free_names-taken : (taken : List Name) (from end : ℕ) → from < end → has taken (numbered from) ≡ true → free_names taken (from + 1) (end - (from + 1)) ≡ free_names taken from (end - from)
 free_names-taken taken from end low e =
     sym (ap (free_names taken from) (shorter from end low) ∙ free_suc taken from (end - (from + 1)) ∙ cond-false (not (has taken (numbered from))) _ _ (not_from_true (has taken (numbered from)) e))
 
--- a free one comes first
+-- a free name is the next one
 pub free_names-free : (taken : List Name) (from end : ℕ) → from < end → has taken (numbered from) ≡ false → free_names taken from (end - from) ≡ numbered from ∷ free_names taken (from + 1) (end - (from + 1))
 free_names-free taken from end low e =
     ap (free_names taken from) (shorter from end low) ∙ free_suc taken from (end - (from + 1)) ∙ cond-true (not (has taken (numbered from))) _ _ (not_from_false (has taken (numbered from)) e)

@@ -1,4 +1,4 @@
--- Tables that join all their inputs.
+-- Tables that are AND, OR or XOR of all their inputs.
 use Rattle.std.proofs.Common.{◌≡◌, ℕ, ◌<◌, Bool, true, false, not, if◌then◌else◌, List, [], ◌∷◌, length, refl, ◌∙◌, ap, sym, arith}
 use Rattle.std.proofs.lemmas.Grind.{common_steps}
 use Rattle.net_theory.specs.declared.data.Sig.{Sig}
@@ -18,7 +18,7 @@ use Rattle.net_core.proofs.Fronts.{front_itself, front_push, front_more}
 
 -- ---- parity
 
--- the parity of the bits from an index on, from that of those before
+-- the parity of all bits, by the parity of the first ones
 abbrev pub odd_from : Bool → List Bool → Bool
 odd_from odd bits = if odd then not (is_odd bits) else is_odd bits
 

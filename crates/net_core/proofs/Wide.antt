@@ -22,7 +22,7 @@ unfolding last_complemented
 last_complemented-none [] e = refl
 last_complemented-none (g ∷ gs) e = absurd (omega arith)
 
--- the last gate is written
+-- writing the last gate
 pub last_complemented-set : (gs : List Gate) (i : ℕ) (x : Gate) → i + 1 ≡ length gs → x ≡ get_or gs i x → set gs i (complemented x) ≡ last_complemented gs
 unfolding last_complemented
 last_complemented-set [] i x e is = absurd (omega arith)
@@ -33,12 +33,12 @@ last_complemented-set (g ∷ h ∷ gs) (suc i) x e is = ap (λ (ys : List Gate).
 
 pub ruleset last_gate = (common_steps, last_complemented-none)
 
--- the cost of a cover that its form doesn't show to be constant
+-- the cost of a cover that isn't recognized as constant
 pub wide_cost-some : (c : Cover) → c.parity ≡ false → is_plain c.cubes ≡ false → wide_cost c ≡ (literal_sum c.cubes - 1) + (if is_not c.on c.cubes then 1 else 0)
 unfolding wide_cost cubes_cost
 wide_cost-some c cubed e = cond-false c.parity (c.width - 1) (cubes_cost c) cubed ∙ cond-false (is_plain c.cubes) 0 _ e
 
--- a table by cubes is built from them
+-- expanding a table given by cubes
 pub wide_built-plain : (sources : ℕ) (gates : List Gate) (c : Cover) (inputs : List Sig) → c.parity ≡ false → is_plain c.cubes ≡ true → wide_built sources gates c inputs ≡ record { gates = gates; sig = constant_sig (c.on && not (is_none c.cubes)) }
 unfolding wide_built cover_built
 wide_built-plain sources gates c inputs cubed e =

@@ -1,5 +1,5 @@
--- Tables that join all their inputs are valid: they are covers of their width, with few cubes, and
--- take one gate less than they have inputs.
+-- Tables that join all their inputs are valid covers of their width with few cubes, and cost one gate less than
+-- they have inputs.
 use Rattle.std.proofs.Common.{◌≡◌, ℕ, zero, suc, ◌-◌, ◌≤◌, ◌<◌, Bool, List, [], ◌∷◌, length, refl, arith}
 use Rattle.std.proofs.lemmas.List.{length-map}
 use Rattle.net_theory.specs.Cover.{IsCover}

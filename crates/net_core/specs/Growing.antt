@@ -1,4 +1,4 @@
--- Gates that are appended.
+-- Appending gates: the records of the definitions, from the lists in the code.
 use Rattle.std.specs.Prelude.{◌≡◌, ℕ, Bool, List, length}
 use Rattle.std.proofs.Common.{take}
 use Rattle.net_theory.specs.declared.data.Sig.{Sig}
@@ -17,7 +17,7 @@ joint gates out = record { gates = gates; out = out }
 abbrev pub terms : List Gate → List Signed → Terms
 terms gates outs = record { gates = gates; outs = outs }
 
--- the operators of AND, OR and XOR on signals with signs
+-- the operators of AND, OR and XOR, by the polarities of the operands
 abbrev pub word_of : Connective → Bool → Bool → ℕ
 word_of And = and_word
 word_of Or = or_word

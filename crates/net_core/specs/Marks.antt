@@ -1,4 +1,4 @@
--- Marks and the map from old places to new signals, as the lists in the code represent them.
+-- The sets and maps that the code's lists represent: marked nodes, and new signals of old nodes.
 use Rattle.std.specs.Prelude.{◌≡◌, ℕ, ◌+◌, Bool, false, List, [], ◌∷◌, slice_index_or, slice_get, Some}
 use Rattle.net_theory.specs.declared.data.Sig.{Sig}
 use Rattle.net_theory.specs.declared.data.Sig.TheVariants.{Zero}
@@ -7,14 +7,14 @@ use Rattle.net_theory.specs.Net.{IsGateAt}
 use Rattle.net_theory.specs.Reach.{with_mark}
 use Rattle.net_theory.specs.Moving.{Kept}
 
--- the set of places that are marked
+-- the set of marked nodes
 unfoldable pub set_of : List Bool → ℕ → Bool
 set_of marks p = slice_index_or marks p false
 
 abbrev pub no_marks : ℕ → Bool
 no_marks p = false
 
--- a set of places, with those of a list of signals
+-- a set of nodes, extended by the nodes of a list of signals
 unfoldable pub sink_marks : (ℕ → Bool) → List Sig → ℕ → Bool
 sink_marks marks [] = marks
 sink_marks marks (s ∷ ss) = sink_marks (with_mark marks s) ss
@@ -26,6 +26,6 @@ places_of places p = slice_index_or places p Zero
 abbrev pub kept : List Sig → List Gate → Kept
 kept places gates = record { places = places_of places; gates = gates }
 
--- each gate is valid at its place, the first one at `place`
+-- the operands of each gate are below it; the first gate is the node `place`
 pub record AreAt (place : ℕ) (gs : List Gate) : Type 0 where
   pub each : (i : ℕ) (g : Gate) → slice_get gs i ≡ Some g → IsGateAt (place + i) g

@@ -1,4 +1,4 @@
--- Names that are taken, and the first outputs at places.
+-- Taken names, and the first outputs that nodes drive.
 use Rattle.std.specs.Prelude.{◌≡◌, ℕ, ◌<◌, ◌^◌, if◌then◌else◌, List, [], ◌∷◌, ◌++◌, length, slice_get, slice_index_or, slice_set, Option, Some, None, option_and_then}
 use Rattle.std.proofs.Common.{drop}
 use Rattle.net_theory.specs.declared.data.Sig.{Sig}
@@ -11,15 +11,15 @@ use Rattle.net_theory.specs.Naming.{output_on, Naming, taken_set}
 abbrev pub with_name : List Name → Name → List Name
 with_name seen n = if has seen n then seen else seen ++ n ∷ []
 
--- the output that is noted for the place p
+-- the output recorded for the node p
 unfoldable pub first_name : List (Option ℕ) → List Name → ℕ → Option Name
 first_name firsts outputs p = option_and_then (slice_get outputs) (slice_index_or firsts p None)
 
--- `firsts` notes for each place the first output there, of the outputs from index `at` on
+-- `firsts` records, for each node, the first output that it drives, of the outputs from index `at` on
 pub record AreFirsts (firsts : List (Option ℕ)) (outputs : List Name) (at : ℕ) (sinks : List Sig) : Type 0 where
   pub each : (p : ℕ) → p < length firsts → first_name firsts outputs p ≡ output_on (drop at outputs) (drop at sinks) p
 
--- the output at index `at` is noted
+-- `firsts` with the output at index `at` recorded
 abbrev pub noted : List (Option ℕ) → Sig → ℕ → List (Option ℕ)
 noted firsts Zero at = firsts
 noted firsts One at = firsts
@@ -28,6 +28,6 @@ noted firsts (Place p) at = slice_set firsts p (Some at)
 abbrev pub naming : List Name → List Name → Naming
 naming names free = record { names = names; free = free }
 
--- The names to avoid are fewer than 2^63, as in every circuit that fits into a memory.
+-- There are fewer than 2^63 names to avoid, as in every circuit that fits into memory.
 abbrev pub HasRoom : Circuit → Type 0
 HasRoom c = length (taken_set c) < 2 ^ 63

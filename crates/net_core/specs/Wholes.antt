@@ -1,4 +1,4 @@
--- The covers of tables that join all their inputs.
+-- The covers of tables that are AND, OR or XOR of all their inputs.
 use Rattle.std.specs.Prelude.{ℕ, ◌<◌, Bool, List}
 use Rattle.std.specs.List.{list_any, list_all}
 use Rattle.net_theory.specs.Cover.{Cover, IsCover, is_odd}
@@ -32,7 +32,7 @@ abbrev pub IsBody : Body → Type 0
 IsBody (Cubes c) = IsCover c
 IsBody (Joined w) = 0 < w.width
 
--- the value of bits that are joined
+-- AND, OR or XOR of a list of bits
 abbrev pub joined_bits : Connective → List Bool → Bool
 joined_bits And bits = list_all itself bits
 joined_bits Or bits = list_any itself bits

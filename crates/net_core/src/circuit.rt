@@ -22,8 +22,8 @@ impl Model for Latch {
     ghost view = { λ l. record { output = l.output; control = l.control; init = l.init } };
 }
 
-/// A net with names. The sources of the net are the inputs and then the latches' outputs; its sinks are
-/// the outputs and then the latches' inputs, each in order.
+/// A net with names. The net's sources are the inputs, then the latches' outputs; its sinks are the outputs,
+/// then the latches' inputs, each in order.
 #[derive(Drop)]
 pub struct Circuit {
     pub model: Name,

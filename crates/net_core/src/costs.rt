@@ -1,4 +1,4 @@
-//! The number of gates that a table is decomposed into.
+//! The number of two-input gates into which a table is decomposed.
 
 ghost use Rattle.std.specs.Prelude.{◌≡◌, ◌+◌, ◌≤◌, ◌<◌, ◌^◌, length, count_by, ◌==◌};
 ghost use Rattle.net_theory.specs.Cover.{IsCover};
@@ -8,14 +8,14 @@ use crate::cover::{Cover, Cube};
 use crate::expansion::is_plain;
 use crate::truth::{binary_word, unary_word};
 
-/// The cost of a function of one input, by its truth table `word`.
+/// The cost of a function of one input, by its truth table `word` (2 bits, the value at 0 first).
 pub fn unary_cost(word: u8) -> u32
     ensures { result ≡ unary_cost_of word }
 {
     if word == 2 { 1 } else { 0 }
 }
 
-/// The cost of a function of two inputs, by its truth table `word`.
+/// The cost of a function of two inputs, by its truth table `word` (4 bits): none for a constant or a copy.
 pub fn binary_cost(word: u8) -> u32
     ensures { result ≡ binary_cost_of word }
 {
@@ -25,7 +25,7 @@ pub fn binary_cost(word: u8) -> u32
     }
 }
 
-/// How many inputs a cube asks for: its literals.
+/// The number of literals of a cube.
 fn literal_count(cube: &[u8]) -> usize
     ensures count { result ≡ literal_count_of cube.now }
     ensures within { result ≤ length cube.now }
@@ -35,7 +35,7 @@ fn literal_count(cube: &[u8]) -> usize
         .count()
 }
 
-/// How many literals of a cube are complemented.
+/// The number of complemented literals of a cube.
 fn zero_count(cube: &[u8]) -> usize
     ensures { result ≡ count_by (λ b. b == 48) cube.now }
 {
@@ -56,7 +56,7 @@ fn literal_total(cubes: &[Cube]) -> u32
     total
 }
 
-/// Whether a cover of one literal is NOT of an input.
+/// Whether the cover is a single literal that makes it NOT of an input.
 fn is_not(on: bool, cubes: &[Cube]) -> bool
     ensures { result ≡ is_not_of on cubes.now }
 {
@@ -86,7 +86,7 @@ fn wide_cost(cover: &Cover) -> u32
     }
 }
 
-/// The number of gates that `expand` makes of a table with `inputs`.
+/// The number of gates that `expand` appends for a table with `inputs`.
 #[tactic(auto, using(crate::proofs::CostLemmas::costs))]
 pub fn cover_cost<T>(cover: &Cover, inputs: &[T]) -> u32
     requires cover { IsCover cover.now }

@@ -1,11 +1,10 @@
-//! Covers (sums of products) as the Berkeley BLIF manual writes them: cubes for the on-set or the
-//! off-set.
+//! Covers (sums of products) as in the Berkeley BLIF manual: cubes of the on-set or of the off-set.
 
 ghost use Rattle.std.specs.Prelude.{◌≡◌};
 
 use std::marker::Model;
 
-/// A cube by its bytes, one for each input: `0`, `1` or `-`.
+/// A cube: one byte for each input, `0`, `1` or `-`.
 #[derive(Drop)]
 pub struct Cube(Vec<u8>);
 
@@ -18,14 +17,14 @@ impl Model for Cube {
 }
 
 impl Cube {
-    /// The cube with `bytes`.
+    /// The cube with these bytes.
     pub fn new(bytes: Vec<u8>) -> Cube
         ensures { result ≡ bytes.items }
     {
         Cube(bytes)
     }
 
-    /// The bytes.
+    /// The cube's bytes.
     pub fn get(&self) -> &[u8]
         ensures { result.now ≡ self.now }
     {
@@ -33,8 +32,8 @@ impl Cube {
     }
 }
 
-/// A table by its cubes, each of `width` bytes. Where `on` they are for the on-set, else for the
-/// off-set. A table without cubes is 0.
+/// A cover of `width` inputs: cubes of `width` bytes, which describe the on-set if `on` is true, else the
+/// off-set. A cover without cubes is constantly 0.
 #[derive(Drop)]
 pub struct Cover {
     pub width: u32,

@@ -1,4 +1,4 @@
-//! Cleanup of dead (dangling) gates: the transitive fanin of the sinks is marked, and the marked
+//! Cleanup of dangling gates: the transitive fanin of the sinks is marked, and the marked
 //! gates are copied in their order.
 
 ghost use Rattle.std.specs.Prelude.{◌≡◌, ◌+◌, length, IfOk, vec_len};
@@ -15,7 +15,7 @@ use crate::net::Net;
 use net_theory::{Gate, Sig};
 use std::alloc::{AllocError, Global};
 
-/// Marks the transitive fanin of the sinks, where no place is marked.
+/// Marks the transitive fanin of the sinks; no node may be marked before.
 fn mark_live(marks: &mut [bool], net: &Net)
     requires none { set_of marks.old ≡ no_marks }
     requires count { length marks.old ≡ end_of net.now }
@@ -36,7 +36,7 @@ fn live_marks(alloc: Global, net: &Net) -> Result<Vec<bool>, AllocError>
     Ok(marks)
 }
 
-/// The map from old places to new signals, and the copies of the marked gates.
+/// The map from old nodes to new signals, and the copies of the marked gates.
 fn kept_gates(alloc: Global, net: &Net, marks: &[bool]) -> Result<(Vec<Sig>, Vec<Gate>), AllocError>
     requires { length marks.now ≡ end_of net.now }
     ensures kept { IfOk result (λ x. kept x.0.items x.1.items ≡ kept_after (set_of marks.now) net.now.sources (nothing_kept net.now.sources) (net.now.sources + 1) net.now.gates) }
@@ -57,8 +57,8 @@ fn kept_gates(alloc: Global, net: &Net, marks: &[bool]) -> Result<(Vec<Sig>, Vec
     Ok((places, kept))
 }
 
-/// The net without its dead gates: in their order exactly the gates that some sink reads, directly
-/// or through gates, and the same sinks.
+/// The net without its dangling gates: exactly the gates in the transitive fanin of the sinks, in their order,
+/// with the same sinks.
 pub fn drop_dead(alloc: Global, net: &Net) -> Result<Net, AllocError>
     ensures exact { IfOk result (λ left. left ≡ dropped net.now) }
     ensures pruned { IfOk result (IsPruned net.now) }

@@ -1,4 +1,4 @@
-//! Why the text of a netlist is refused.
+//! The errors of netlists.
 
 ghost use Rattle.std.specs.Prelude.{◌≡◌};
 ghost use Rattle.net_core.specs.declared.error.NetError.TheVariants.{Memory};
@@ -6,23 +6,23 @@ ghost use Rattle.net_core.specs.declared.error.NetError.TheVariants.{Memory};
 use crate::name::Name;
 use std::alloc::{AllocError, AllocFailed};
 
-/// Why a netlist is refused. Lines are numbered from 1; a line that is continued has the number of
-/// its first.
+/// Why the text of a netlist is refused. Line numbers start at 1; a continued line has the number of its first
+/// part.
 #[derive(Drop)]
 pub enum NetError {
-    /// The form of the line isn't one of the format.
+    /// The line isn't in the format's syntax.
     Syntax(u32),
-    /// The line's first word, or a latch's control, is of the format but not supported.
+    /// The line's first word (or a latch's control) belongs to the format but isn't supported.
     NotSupported(u32, Name),
-    /// The output value of the cover line isn't that of its table's first line.
+    /// The output value of the cover line differs from that of its table's first line.
     MixedCover(u32),
     /// The table or gate has more than 256 inputs.
     TooWide(u32),
-    /// The netlist costs more than 100,000 gates: the cost.
+    /// The netlist decomposes into more than 100,000 gates: their number.
     TooManyGates(u32),
     /// The name is driven twice.
     DrivenTwice(Name),
-    /// The name is used, and nothing drives it.
+    /// The name is read, but nothing drives it.
     Undriven(Name),
     /// The name depends on itself through tables: a combinational loop.
     Cycle(Name),
@@ -32,7 +32,7 @@ pub enum NetError {
     TooManyRows(u32),
     /// The line has a word of more than 1,024 bytes.
     NameTooLong(u32),
-    /// There was no memory left.
+    /// Out of memory.
     Memory,
 }
 

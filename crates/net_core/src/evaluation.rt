@@ -1,4 +1,4 @@
-//! Simulation of a net: the values of its places under one assignment.
+//! Simulation of a net under one assignment of its sources.
 
 ghost use Rattle.std.specs.Prelude.{◌≡◌, ℕ, ◌+◌, ◌≤◌, ◌<◌, length};
 ghost use Rattle.net_theory.specs.Net.{IsSigBelow, AreGates, bit_of, sig_value, values_of, value, end_of};
@@ -6,7 +6,7 @@ ghost use Rattle.net_theory.specs.Net.{IsSigBelow, AreGates, bit_of, sig_value, 
 use crate::net::Net;
 use net_theory::{Gate, Sig};
 
-/// The value of a signal; `places` has the bits of the places, place 1 first.
+/// The value of a signal; `places` holds the bits of the nodes, node 1 first.
 fn sig_bit(places: &[bool], sig: Sig) -> bool
     requires { IsSigBelow (length places.now + 1) sig }
     ensures { result ≡ sig_value (bit_of places.now) sig }
@@ -28,7 +28,7 @@ fn sources_into(sources: &[bool], places: &mut [bool])
     }
 }
 
-/// Writes the bit of each gate, in order.
+/// Writes the bit of each gate, in topological order.
 fn gates_into(sources: usize, gates: &[Gate], places: &mut [bool])
     requires gates { AreGates sources gates.now }
     requires room { length places.old ≡ sources + length gates.now }
@@ -45,8 +45,8 @@ fn gates_into(sources: usize, gates: &[Gate], places: &mut [bool])
     }
 }
 
-/// Writes the value of each place of the net, place 1 first, where the sources have the bits
-/// `sources`.
+/// Simulates the net: writes the value of each node to `places`, node 1 first, where the sources have the bits
+/// `sources`. Both slices have exactly one element per source, or per node.
 pub fn values(net: &Net, sources: &[bool], places: &mut [bool])
     requires sources { length sources.now ≡ net.now.sources }
     requires places { length places.old ≡ net.now.sources + length net.now.gates }

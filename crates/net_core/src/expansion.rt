@@ -1,5 +1,5 @@
-//! Decomposition of a table into two-input gates. The gates are defined in `specs/Expansion.antt`
-//! of `net_theory`.
+//! Decomposition of a table into two-input gates, exactly as `specs/Expansion.antt` of `net_theory` defines
+//! them.
 
 ghost use Rattle.std.specs.Prelude.{◌≡◌, ◌+◌, ◌-◌, ◌≤◌, ◌<◌, ◌^◌, ◌&&◌, [], length, map, vec_len, All, OnOk, OnErr, IfOk};
 ghost use Rattle.std.specs.List.{list_any};
@@ -29,7 +29,7 @@ fn constant(value: bool) -> Sig
     if value { Sig::One } else { Sig::Zero }
 }
 
-/// NOT of a signal.
+/// Appends NOT of a signal: NAND (14) with the signal as both operands.
 fn push_not(sources: u32, gates: &mut Vec<Gate>, a: Sig) -> Result<Sig, AllocError>
     requires { sources + vec_len gates.old ≤ 2 ^ 31 }
     ensures gate { IfOk result (λ sig. built gates.new.items sig ≡ with_not sources gates.old.items a) }
@@ -46,7 +46,7 @@ fn push_not(sources: u32, gates: &mut Vec<Gate>, a: Sig) -> Result<Sig, AllocErr
     )
 }
 
-/// A table of one input, by its truth table `word`.
+/// Appends a table of one input, by its truth table `word`.
 #[tactic(auto, using(crate::proofs::Fronts::fronts), unfolding(net_theory::specs::Expansion::unary_built))]
 pub fn expand_unary(
     sources: u32,
@@ -66,7 +66,7 @@ pub fn expand_unary(
     }
 }
 
-/// A table of two inputs, by its truth table `word`.
+/// Appends a table of two inputs, by its truth table `word`.
 #[tactic(auto, using(crate::proofs::Fronts::fronts), unfolding(net_theory::specs::Expansion::binary_built))]
 pub fn expand_binary(
     sources: u32,
@@ -99,7 +99,7 @@ pub fn expand_binary(
     }
 }
 
-/// Whether a cube asks for nothing.
+/// Whether a cube has no literal.
 #[tactic(auto, unfolding(net_theory::specs::Expansion::asks_nothing))]
 fn asks_nothing(cube: &[u8]) -> bool
     ensures { result ≡ asks_nothing_of cube.now }
@@ -107,14 +107,14 @@ fn asks_nothing(cube: &[u8]) -> bool
     cube.iter().all(|byte| !(*byte == b'0' || *byte == b'1'))
 }
 
-/// Whether some cube asks for nothing.
+/// Whether some cube has no literal.
 fn some_asks_nothing(cubes: &[Cube]) -> bool
     ensures { result ≡ list_any asks_nothing_of cubes.now }
 {
     cubes.iter().any(|cube| asks_nothing(cube.get()))
 }
 
-/// Whether the form of a cover of more than two inputs shows that it is constant.
+/// Whether a cover of more than two inputs is recognized as constant: no cubes, or a cube without literals.
 pub fn is_plain(cubes: &[Cube]) -> bool
     ensures { result ≡ is_plain_of cubes.now }
 {
@@ -150,7 +150,7 @@ fn literals(alloc: Global, cube: &[u8], inputs: &[Sig]) -> Result<Vec<Signed>, A
     Ok(all)
 }
 
-/// A cube as AND of its literals.
+/// Appends AND of a cube's literals.
 #[tactic(auto, using(crate::proofs::Wide::terms_loop))]
 fn push_term(
     alloc: Global,
@@ -170,7 +170,7 @@ fn push_term(
     join_all(Connective::And, sources, gates, &signals)
 }
 
-/// The cubes, each as AND of its literals.
+/// Appends, for each cube, AND of its literals.
 #[tactic(auto, using(crate::proofs::Wide::terms_loop), unfolding(net_theory::specs::Expansion::terms_from))]
 fn push_terms(
     alloc: Global,
@@ -196,7 +196,7 @@ fn push_terms(
     Ok(outs)
 }
 
-/// OR of the cubes.
+/// Appends OR of all cubes.
 #[tactic(auto, using(crate::proofs::Wide::wide_table))]
 fn join_terms(
     alloc: Global,
@@ -227,7 +227,7 @@ fn complemented(gate: Gate) -> Gate
     }
 }
 
-/// Complements the last gate.
+/// Complements the operator of the last gate.
 #[tactic(auto, using(crate::proofs::Wide::last_gate))]
 fn complement_last(gates: &mut [Gate])
     ensures { gates.new ≡ last_complemented gates.old }
@@ -240,8 +240,8 @@ fn complement_last(gates: &mut [Gate])
     gates[at] = gate;
 }
 
-/// The signal of what was joined, complemented where the sign of `out` and `on` ask for it: in the
-/// last gate, or by NOT where the table added no gate to the `before` gates that were there.
+/// The final signal: `out`, complemented unless its polarity and `on` cancel. The complement goes into the last
+/// gate; if the table added no gate (there were `before` gates), NOT is appended.
 #[tactic(auto, using(crate::proofs::Fronts::fronts), unfolding(net_theory::specs::Expansion::finished))]
 pub fn finish(
     sources: u32,
@@ -265,7 +265,7 @@ pub fn finish(
     Ok(out.sig)
 }
 
-/// A table of more than two inputs.
+/// Appends a table of more than two inputs.
 #[tactic(auto, using(crate::proofs::Wide::wide_table))]
 fn expand_wide(
     alloc: Global,
@@ -288,7 +288,7 @@ fn expand_wide(
     finish(sources, gates, before, out, cover.on)
 }
 
-/// The gates of a table of any number of inputs.
+/// Appends a table of any number of inputs.
 #[tactic(auto, using(crate::proofs::Expansions::tables))]
 pub fn expand_gates(
     alloc: Global,
@@ -311,9 +311,9 @@ pub fn expand_gates(
     }
 }
 
-/// Appends the gates of a table to the net, and answers the table's signal; `inputs` are the
-/// signals of the table's inputs. They count as different inputs, also where two are equal or one
-/// is constant.
+/// Appends the gates of a table to the net and returns the table's signal. `inputs` are the signals of the
+/// table's inputs; they count as distinct inputs, even if two are equal or one is constant. On an error the
+/// net is unchanged.
 pub fn expand(
     alloc: Global,
     net: &mut Net,
@@ -339,7 +339,7 @@ pub fn expand(
     }
 }
 
-/// Appends the gates of a table to the net, as `expand` does for a cover, whatever its body.
+/// Appends the gates of a table with any body, as `expand` does for a cover.
 pub fn expand_body(
     alloc: Global,
     net: &mut Net,

@@ -1,4 +1,4 @@
-//! Joining signals by gates: AND, OR or XOR of several, from the left (left-deep).
+//! AND, OR or XOR of several signals, as a left-deep chain of gates.
 
 ghost use Rattle.std.specs.Prelude.{◌≡◌, ◌+◌, ◌≤◌, ◌<◌, ◌^◌, length, vec_len, OnOk, IfOk};
 ghost use Rattle.net_theory.specs.Expansion.{with_gate, joined, join_from, join_all as join_all_of};
@@ -8,7 +8,7 @@ use net_theory::{Gate, Sig, Signed};
 use op_basis::Op;
 use std::alloc::AllocError;
 
-/// The function by which signals are joined.
+/// The function that joins signals.
 #[derive(Clone, Copy)]
 pub enum Connective {
     And,
@@ -16,7 +16,7 @@ pub enum Connective {
     Xor,
 }
 
-/// The operator that joins two signals; `first` and `second` say whether they are complemented.
+/// The operator that joins two signals; `first` and `second` tell whether they are complemented.
 fn operator(connective: Connective, first: bool, second: bool) -> Op
     ensures word { result ≡ word_of connective first second }
     ensures below { result < 16 }
@@ -42,7 +42,7 @@ fn operator(connective: Connective, first: bool, second: bool) -> Op
     Op::new(word)
 }
 
-/// Appends a gate, and answers its place.
+/// Appends a gate and returns its node.
 pub fn push_gate(sources: u32, gates: &mut Vec<Gate>, gate: Gate) -> Result<Sig, AllocError>
     requires { sources + vec_len gates.old ≤ 2 ^ 31 }
     ensures gate { IfOk result (λ sig. built gates.new.items sig ≡ with_gate sources gates.old.items gate) }
@@ -54,7 +54,7 @@ pub fn push_gate(sources: u32, gates: &mut Vec<Gate>, gate: Gate) -> Result<Sig,
     Ok(Sig::Place(place))
 }
 
-/// Joins `next` to `out`, what was joined before.
+/// Joins `next` to `out`, the result so far.
 fn join(
     connective: Connective,
     sources: u32,
@@ -99,7 +99,7 @@ fn join_more(
     Ok(out)
 }
 
-/// Joins signals, at least one.
+/// Joins all signals of a nonempty list.
 #[tactic(auto, using(crate::proofs::Fronts::fronts), unfolding(net_theory::specs::Expansion::join_all))]
 pub fn join_all(
     connective: Connective,

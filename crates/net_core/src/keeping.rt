@@ -1,5 +1,5 @@
-//! Copying marked gates, in their order, to new places: `places` maps each old place to its new
-//! signal, and each marked gate is appended with its operands mapped.
+//! Copying the marked gates of a net, in order: `places` maps each old node to its new signal, and each marked
+//! gate is appended with its operands mapped.
 
 ghost use Rattle.std.specs.Prelude.{◌≡◌, ◌+◌, ◌<◌, ◌^◌, length, map, All, OnOk, IfOk, vec_len};
 ghost use Rattle.net_theory.specs.Net.{IsSigBelow, IsGateAt};
@@ -9,7 +9,7 @@ ghost use Rattle.net_core.specs.Marks.{set_of, places_of, kept, AreAt};
 use net_theory::{Gate, Sig};
 use std::alloc::{AllocError, Global};
 
-/// The new signal of an old one.
+/// Maps an old signal to its new one; constants stay.
 pub fn moved(places: &[Sig], sig: Sig) -> Sig
     requires { IsSigBelow (length places.now) sig }
     ensures { result ≡ moved_of (places_of places.now) sig }
@@ -20,7 +20,7 @@ pub fn moved(places: &[Sig], sig: Sig) -> Sig
     }
 }
 
-/// Copies the gate at `place`.
+/// Copies the gate `place`.
 fn keep_gate(
     sources: u32,
     place: usize,
@@ -44,8 +44,8 @@ fn keep_gate(
     Ok(())
 }
 
-/// Appends copies of the marked gates to `new`, in their order. The first gate is at the place
-/// `first`, and `places` maps what is below it.
+/// Appends copies of the marked gates to `new`, in order. The first gate is the node `first`; `places` maps all
+/// nodes below it, and gets the new nodes of the copied gates.
 pub fn keep_gates(
     sources: u32,
     marks: &[bool],
@@ -75,7 +75,7 @@ pub fn keep_gates(
     Ok(())
 }
 
-/// The new signal of a place before any gate is copied: a source stays where it is.
+/// The new signal of a node before any gate is copied: a source keeps its node.
 fn start_place(sources: u32, place: u32) -> Sig
     ensures { result ≡ sources_stay sources place }
 {
@@ -86,7 +86,7 @@ fn start_place(sources: u32, place: u32) -> Sig
     }
 }
 
-/// The map before any gate is copied.
+/// The map of `count` nodes before any gate is copied: sources keep their nodes.
 pub fn start_places(alloc: Global, sources: u32, count: u32) -> Result<Vec<Sig>, AllocError>
     requires { sources < count }
     ensures places { IfOk result (λ places. places_of places.items ≡ sources_stay sources) }

@@ -1,14 +1,14 @@
-//! Nets of two-input gates and circuits, which are nets with names: simulation, cleanup of dead
-//! (dangling) gates, decomposition of a table into gates, and names for gates where a circuit is
-//! written. The definitions are those of `net_theory`, with a dictionary in its `specs/Net.antt`.
+//! Nets of two-input gates, and circuits (nets with names): simulation, cleanup of dangling gates,
+//! decomposition of tables into gates, and names for the gates of a circuit that is written. The
+//! definitions are those of `net_theory`, with a glossary in its `specs/Net.antt`.
 //!
-//! The one theorem: the signal of a table that `expand` appends to a net has the table's value
-//! under every assignment, with as many gates as the table costs, and `drop_dead` keeps exactly the
-//! gates that some sink reads, and all values of the sinks.
+//! The main theorems: `expand` appends as many gates as the table costs and returns a signal with the
+//! table's value under every assignment; `drop_dead` keeps exactly the gates in the transitive fanin of
+//! the sinks, and the values of all sinks.
 //!
 //! ```text
 //! let mut net = Net::new(2, Vec::new(alloc), Vec::new(alloc));
-//! let xor = expand(alloc, &mut net, &cover, &[Sig::Place(1), Sig::Place(2)])?; // `10 1`, `01 1`
+//! let xor = expand(alloc, &mut net, &cover, &[Sig::Node(1), Sig::Node(2)])?; // `10 1`, `01 1`
 //! ```
 #![tactic(auto)]
 

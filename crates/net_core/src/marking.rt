@@ -1,5 +1,5 @@
-//! Marking the transitive fanin: the fanins of marked gates are marked from the last gate to the
-//! first, so that one pass marks everything.
+//! Marking the transitive fanin. The fanins of marked gates are marked from the last gate to the first, so one
+//! pass in reverse topological order is enough.
 
 ghost use Rattle.std.specs.Prelude.{◌≡◌, ◌+◌, length, All};
 ghost use Rattle.net_theory.specs.Net.{IsSigBelow, end_of};
@@ -9,7 +9,7 @@ ghost use Rattle.net_core.specs.Marks.{set_of, sink_marks, AreAt};
 use crate::net::Net;
 use net_theory::{Gate, Sig};
 
-/// Marks the place of a signal.
+/// Marks the node of a signal.
 fn mark(marks: &mut [bool], sig: Sig)
     requires { IsSigBelow (length marks.old) sig }
     ensures { set_of marks.new ≡ with_mark (set_of marks.old) sig }
@@ -19,7 +19,7 @@ fn mark(marks: &mut [bool], sig: Sig)
     }
 }
 
-/// Marks the places of the sinks.
+/// Marks the nodes of the sinks.
 pub fn mark_sinks(marks: &mut [bool], sinks: &[Sig])
     requires { All (IsSigBelow (length marks.old)) sinks.now }
     ensures { set_of marks.new ≡ sink_marks (set_of marks.old) sinks.now }
@@ -31,8 +31,7 @@ pub fn mark_sinks(marks: &mut [bool], sinks: &[Sig])
     }
 }
 
-/// Marks the fanins of marked gates, from the last gate to the first, which comes after the
-/// sources.
+/// Marks the fanins of marked gates, from the last gate to the first, which comes after `sources` sources.
 fn mark_gates(marks: &mut [bool], sources: usize, gates: &[Gate])
     requires gates { AreAt (sources + 1) gates.now }
     requires room { length marks.old ≡ sources + 1 + length gates.now }
@@ -48,8 +47,7 @@ fn mark_gates(marks: &mut [bool], sources: usize, gates: &[Gate])
     }
 }
 
-/// Marks the transitive fanin of the marked places: what a marked gate reads, directly or through
-/// gates.
+/// Marks the transitive fanin of the nodes that are already marked.
 pub fn mark_reached(marks: &mut [bool], net: &Net)
     requires { length marks.old ≡ end_of net.now }
     ensures { set_of marks.new ≡ reach net.now (set_of marks.old) }

@@ -1,4 +1,4 @@
-//! Names by their bytes, compared and hashed as bytes.
+//! Names: byte strings, compared and hashed as bytes.
 
 ghost use Rattle.std.specs.Prelude.{◌≡◌, IfOk};
 ghost use Rattle.std.specs.Cmp.Lexicographic.{pointwise};
@@ -11,7 +11,7 @@ use std::alloc::{AllocError, Global};
 use std::hash::{Hash, Hasher};
 use std::marker::Model;
 
-/// A name by its bytes.
+/// A name, as its bytes. That it is a valid name (`IsName`) isn't an invariant.
 #[derive(Drop)]
 pub struct Name(Vec<u8>);
 
@@ -24,21 +24,21 @@ impl Model for Name {
 }
 
 impl Name {
-    /// The name with `bytes`.
+    /// The name with these bytes.
     pub fn new(bytes: Vec<u8>) -> Name
         ensures { result ≡ bytes.items }
     {
         Name(bytes)
     }
 
-    /// The bytes.
+    /// The name's bytes.
     pub fn get(&self) -> &[u8]
         ensures { result.now ≡ self.now }
     {
         &self.0
     }
 
-    /// The bytes, in place of the name.
+    /// The name's bytes, by value.
     pub fn into_bytes(self) -> Vec<u8>
         ensures { result.items ≡ self }
     {

@@ -1,4 +1,4 @@
-//! The names of gates where a circuit is written.
+//! The names of a circuit's gates in the written text.
 
 ghost use Rattle.std.specs.Prelude.{◌≡◌, ◌^◌, ◌+◌, ◌-◌, ◌≤◌, ◌<◌, [], length, map, slice_get, vec_len, All, OnOk, IfOk};
 ghost use Rattle.std.specs.List.{filter_map};
@@ -17,7 +17,7 @@ use itoa::Buffer;
 use net_theory::{Gate, Sig};
 use std::alloc::{AllocError, Global};
 
-/// Adds a name to those to avoid.
+/// Adds a name to the set of taken names.
 #[tactic(auto, unfolding(net_theory::specs::Document::has))]
 fn take_name(taken: &mut IndexSet<Name>, name: &Name) -> Result<(), AllocError>
     ensures { OnOk result (taken.new.keys ≡ with_name taken.old.keys name.now) }
@@ -26,7 +26,7 @@ fn take_name(taken: &mut IndexSet<Name>, name: &Name) -> Result<(), AllocError>
     Ok(())
 }
 
-/// Adds names to those to avoid.
+/// Adds names to the set of taken names.
 #[tactic(auto, unfolding(net_theory::specs::Naming::each_once))]
 pub fn take_names(taken: &mut IndexSet<Name>, names: &[Name]) -> Result<(), AllocError>
     ensures { OnOk result (taken.new.keys ≡ each_once taken.old.keys names.now) }
@@ -39,7 +39,7 @@ pub fn take_names(taken: &mut IndexSet<Name>, names: &[Name]) -> Result<(), Allo
     Ok(())
 }
 
-/// Adds the names of the latches' outputs.
+/// Adds the names of the latches' outputs to the set.
 #[tactic(auto, unfolding(net_theory::specs::Naming::each_once))]
 pub fn take_latches(taken: &mut IndexSet<Name>, latches: &[Latch]) -> Result<(), AllocError>
     ensures { OnOk result (taken.new.keys ≡ each_once taken.old.keys (map latch_output latches.now)) }
@@ -52,7 +52,7 @@ pub fn take_latches(taken: &mut IndexSet<Name>, latches: &[Latch]) -> Result<(),
     Ok(())
 }
 
-/// Adds the names of the controls.
+/// Adds the names of the latches' controls to the set.
 #[tactic(auto, unfolding(net_theory::specs::Naming::each_once))]
 fn take_controls(taken: &mut IndexSet<Name>, latches: &[Latch]) -> Result<(), AllocError>
     ensures { OnOk result (taken.new.keys ≡ each_once taken.old.keys (filter_map control_of latches.now)) }
@@ -67,7 +67,7 @@ fn take_controls(taken: &mut IndexSet<Name>, latches: &[Latch]) -> Result<(), Al
     Ok(())
 }
 
-/// Adds all names that numbered names must avoid.
+/// Adds all names that numbered names must avoid to the set.
 #[tactic(auto, using(crate::proofs::NamingLemmas::sets))]
 fn take_all(taken: &mut IndexSet<Name>, circuit: &Circuit) -> Result<(), AllocError>
     ensures { OnOk result (taken.new.keys ≡ each_once taken.old.keys (taken_names circuit.now)) }
@@ -88,7 +88,7 @@ fn taken(alloc: Global, circuit: &Circuit) -> Result<IndexSet<Name>, AllocError>
     Ok(taken)
 }
 
-/// `g1`, `g2` and so on: the name with `number`.
+/// The numbered name `g1`, `g2` and so on.
 fn numbered(alloc: Global, number: u64) -> Result<Name, AllocError>
     ensures { IfOk result (λ name. name ≡ numbered_of number) }
 {
@@ -107,8 +107,8 @@ fn is_taken(taken: &IndexSet<Name>, name: &Name) -> bool
     taken.contains(name)
 }
 
-/// The next numbered name that isn't taken, of the numbers from `next` up to `end`, and the number
-/// after it; an empty name where there is none left.
+/// The first free numbered name with a number from `next` to below `end`, and the number after it; an empty name
+/// if none is free.
 fn next_free(
     alloc: Global,
     taken: &IndexSet<Name>,
@@ -127,7 +127,7 @@ fn next_free(
     Ok((Name::new(Vec::new(alloc)), end))
 }
 
-/// Notes the output at index `at` for the place of its signal.
+/// Records the output at index `at` as that of the node of its signal.
 fn note_output(firsts: &mut [Option<usize>], sig: Sig, at: usize)
     requires { IsSigBelow (length firsts.old) sig }
     ensures { firsts.new ≡ noted firsts.old sig at }
@@ -137,7 +137,7 @@ fn note_output(firsts: &mut [Option<usize>], sig: Sig, at: usize)
     }
 }
 
-/// Notes all outputs, the last one first, so that the first one at a place stays.
+/// Records all outputs, the last one first, so that each node keeps its first output.
 fn note_outputs(firsts: &mut [Option<usize>], outputs: &[Name], sinks: &[Sig])
     requires outputs { length outputs.now ≤ length sinks.now }
     requires below { All (IsSigBelow (length firsts.old)) sinks.now }
@@ -151,7 +151,7 @@ fn note_outputs(firsts: &mut [Option<usize>], outputs: &[Name], sinks: &[Sig])
     }
 }
 
-/// For each place below `count` the index of the first output whose signal it is.
+/// For each node below `count` the index of the first output that it drives.
 fn first_outputs(
     alloc: Global,
     count: usize,
@@ -180,7 +180,7 @@ fn name_at(names: &[Name], at: usize) -> Option<&Name>
     }
 }
 
-/// The first output at a place.
+/// The first output that a node drives.
 #[tactic(auto, using(crate::proofs::Firsts::found))]
 fn output_at<'a>(firsts: &[Option<usize>], outputs: &'a [Name], place: usize) -> Option<&'a Name>
     requires { place < length firsts.now }
@@ -192,8 +192,7 @@ fn output_at<'a>(firsts: &[Option<usize>], outputs: &'a [Name], place: usize) ->
     }
 }
 
-/// Adds the name of the next gate: `output`, or else the next free name. Answers the number to try
-/// next.
+/// Adds the name of the next gate: `output`, or else the next free name. Returns the number to try next.
 fn push_name(
     alloc: Global,
     taken: &IndexSet<Name>,
@@ -217,7 +216,7 @@ fn push_name(
     }
 }
 
-/// The names of gates, the first at the place `first`, and the number to try next.
+/// The names of gates, of which the first is the node `first`, and the number to try next.
 #[tactic(auto, unfolding(net_theory::specs::Naming::names_after))]
 fn name_gates(
     alloc: Global,
@@ -244,7 +243,7 @@ fn name_gates(
     Ok((names, next))
 }
 
-/// The names of the gates of a circuit, and the next two numbered names that aren't taken.
+/// The names of a circuit's gates, and two more free names, for the constants.
 #[derive(Drop)]
 pub struct GateNames {
     pub names: Vec<Name>,
@@ -252,7 +251,7 @@ pub struct GateNames {
     pub second_spare: Name,
 }
 
-/// The names of a net's gates where `outputs` name its first sinks, the number to try next, and the
+/// The names of a net's gates, where `outputs` are the names of its first sinks; the number to try next; and the
 /// end of the numbers.
 fn net_names(
     alloc: Global,
@@ -272,7 +271,7 @@ fn net_names(
     Ok((names, next, end))
 }
 
-/// The names and the next two free ones.
+/// The names of the gates, with the next two free names.
 #[tactic(auto, using(crate::proofs::Firsts::spares))]
 fn with_spares(
     alloc: Global,
@@ -296,10 +295,10 @@ fn with_spares(
     })
 }
 
-/// The names of a circuit's gates where it is written, in the order of their places, and two more
-/// names for constants. A gate that is an output has the name of the first such output, and any
-/// other gate the next of `g1`, `g2` and so on that isn't the name of an input, an output, a
-/// latch's output, a clock or a control. Those are fewer than 2^63, since they fit into a memory.
+/// The names of a circuit's gates in the written text, in the order of their nodes, and two more names for the
+/// constants. A gate that drives outputs gets the name of the first of them, and any other gate the next of
+/// `g1`, `g2` and so on that isn't the name of an input, an output, a latch's output, a clock or a control.
+/// There are fewer than 2^63 of these names, since they fit into memory.
 pub fn all_names(alloc: Global, circuit: &Circuit) -> Result<GateNames, AllocError>
     requires { IsProper circuit.now }
     ensures names { IfOk result (λ x. x.names.items ≡ gate_names_of circuit.now) }
@@ -311,7 +310,7 @@ pub fn all_names(alloc: Global, circuit: &Circuit) -> Result<GateNames, AllocErr
     with_spares(alloc, &taken, &circuit.outputs, &circuit.net)
 }
 
-/// The names of the gates alone.
+/// The names of the gates, without the two for the constants.
 pub fn gate_names(alloc: Global, circuit: &Circuit) -> Result<Vec<Name>, AllocError>
     requires { IsProper circuit.now }
     ensures { IfOk result (λ names. names.items ≡ gate_names_of circuit.now) }

@@ -1,5 +1,5 @@
-//! Nets of two-input gates. The type's invariant: operands (fanins) are earlier places, so the
-//! order of the gates is topological.
+//! Nets of two-input gates. By the type's invariant operands (fanins) are earlier nodes, so the order of the
+//! gates is topological.
 
 ghost use Rattle.std.specs.Prelude.{◌≡◌, All};
 ghost use Rattle.net_theory.specs.Net.{IsNet, IsSigBelow, end_of};
@@ -7,9 +7,9 @@ ghost use Rattle.net_theory.specs.Net.{IsNet, IsSigBelow, end_of};
 use net_theory::{Gate, Sig};
 use std::marker::Model;
 
-/// A net: the places (nodes) 1 to `sources` are its sources and the gates follow in order. A gate's
-/// operands are constants or earlier places, and a sink is a constant or a place. It has fewer than
-/// 2^31 places.
+/// A net (logic network): the nodes 1 to `sources` are its sources, and the gates follow in order. A gate's
+/// operands are constants or earlier nodes, and a sink is a constant or a node. A net has fewer than 2^31
+/// nodes.
 #[derive(Drop)]
 pub struct Net {
     pub(crate) sources: u32,
@@ -29,8 +29,7 @@ impl Model for Net {
 }
 
 impl Net {
-    /// The net with `sources` sources, `gates`, the first at the place after the sources, and
-    /// `sinks`.
+    /// The net with `sources` sources, `gates`, whose first one is the node after the sources, and `sinks`.
     pub fn new(sources: u32, gates: Vec<Gate>, sinks: Vec<Sig>) -> Net
         requires { IsNet (record { sources = sources; gates = gates.items; sinks = sinks.items }) }
         ensures { result ≡ record { sources = sources; gates = gates.items; sinks = sinks.items } }
@@ -50,7 +49,7 @@ impl Net {
         self.sources
     }
 
-    /// The gates in the order of their places.
+    /// The gates in the order of their nodes.
     pub fn gates(&self) -> &[Gate]
         ensures gates { result.now ≡ self.now.gates }
         ensures net { IsNet self.now }
@@ -58,7 +57,7 @@ impl Net {
         &self.gates
     }
 
-    /// The sinks: the signals that the net answers, in order.
+    /// The sinks (outputs), in order.
     pub fn sinks(&self) -> &[Sig]
         ensures sinks { result.now ≡ self.now.sinks }
         ensures net { IsNet self.now }
@@ -66,7 +65,7 @@ impl Net {
         &self.sinks
     }
 
-    /// The net with other sinks.
+    /// The net with its sinks replaced.
     pub fn with_sinks(self, sinks: Vec<Sig>) -> Net
         requires { All (IsSigBelow (end_of self)) sinks.items }
         ensures { result ≡ record self { sinks = sinks.items } }

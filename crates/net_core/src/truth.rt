@@ -1,4 +1,4 @@
-//! The values of covers, cube by cube.
+//! The values of covers, evaluated cube by cube, and truth tables of one and two inputs.
 
 ghost use Rattle.std.specs.Prelude.{◌≡◌, ◌<◌, false, true};
 ghost use Rattle.net_theory.specs.Cover.{is_asked as is_asked_of, matches as matches_of, is_matched as is_matched_of, cover_value as cover_value_of};
@@ -6,7 +6,7 @@ ghost use Rattle.net_theory.specs.Expansion.{digit_of, unary_word as unary_word_
 
 use crate::cover::{Cover, Cube};
 
-/// Whether `bit` is what the byte of a cube asks for.
+/// Whether a byte of a cube matches `bit`.
 fn is_asked(byte: u8, bit: bool) -> bool
     ensures { result ≡ is_asked_of byte bit }
 {
@@ -37,14 +37,14 @@ fn matches_bits(cube: &[u8], bits: &[bool]) -> bool
     true
 }
 
-/// Whether some cube does.
+/// Whether some cube covers the minterm `bits`.
 fn is_matched(cubes: &[Cube], bits: &[bool]) -> bool
     ensures { result ≡ is_matched_of cubes.now bits.now }
 {
     cubes.iter().any(|cube| matches_bits(cube.get(), bits))
 }
 
-/// The value of a table where its inputs have the bits `bits`.
+/// The value of a cover at the minterm `bits`.
 #[tactic(auto, unfolding(net_theory::specs::Cover::cover_value))]
 pub fn cover_value(cover: &Cover, bits: &[bool]) -> bool
     ensures { result ≡ cover_value_of cover.now bits.now }
@@ -59,7 +59,7 @@ pub fn cover_value(cover: &Cover, bits: &[bool]) -> bool
     }
 }
 
-/// A bit as a number.
+/// A bit as a number, 0 or 1.
 pub fn digit(bit: bool) -> u8
     ensures digit { result ≡ digit_of bit }
     ensures below { result < 2 }
@@ -67,7 +67,7 @@ pub fn digit(bit: bool) -> u8
     u8::from(bit)
 }
 
-/// The truth table of one input: the values at 0 and 1.
+/// The truth table of a cover of one input: the values at 0 and 1, the first as the most significant bit.
 pub fn unary_word(cover: &Cover) -> u8
     ensures word { result ≡ unary_word_of cover.now }
     ensures below { result < 4 }
@@ -77,7 +77,8 @@ pub fn unary_word(cover: &Cover) -> u8
     2 * zero + one
 }
 
-/// The truth table of two inputs: the values at (0,0), (0,1), (1,0) and (1,1).
+/// The truth table of a cover of two inputs: the values at (0,0), (0,1), (1,0) and (1,1), the first as the most
+/// significant bit.
 pub fn binary_word(cover: &Cover) -> u8
     ensures word { result ≡ binary_word_of cover.now }
     ensures below { result < 16 }

@@ -1,6 +1,5 @@
-//! Tables that join all their inputs: AND, OR or XOR of any number of inputs, and the complements.
-//! As covers AND has one cube, OR one for each input and XOR has no short one, so the cubes aren't
-//! built: value, cost and gates come from the connective.
+//! Tables that are AND, OR or XOR of all their inputs, or the complement. Their cubes are never built (OR has
+//! one for each input, and XOR has no short cover): value, cost and gates follow from the connective.
 
 ghost use Rattle.std.specs.Prelude.{◌≡◌, ◌+◌, ◌≤◌, ◌<◌, ◌^◌, length, vec_len, false, true, IfOk, OnErr};
 ghost use Rattle.std.specs.List.{list_all, list_any};
@@ -32,7 +31,7 @@ pub struct Whole {
 pub enum Body {
     /// A cover by its cubes.
     Cubes(Cover),
-    /// All inputs joined.
+    /// AND, OR or XOR of all inputs, or the complement.
     Joined(Whole),
 }
 
@@ -66,7 +65,7 @@ fn any_is(bits: &[bool]) -> bool
     bits.iter().any(|bit| *bit)
 }
 
-/// The value of bits that are joined.
+/// AND, OR or XOR of bits.
 fn joined(connective: Connective, bits: &[bool]) -> bool
     ensures { result ≡ joined_bits connective bits.now }
 {
@@ -77,7 +76,7 @@ fn joined(connective: Connective, bits: &[bool]) -> bool
     }
 }
 
-/// The value where the inputs have the bits `bits`.
+/// The value where the inputs have these bits.
 #[tactic(auto, using(crate::proofs::WholeTables::wholes))]
 fn whole_value(whole: Whole, bits: &[bool]) -> bool
     requires some { 0 < whole.width }
@@ -112,7 +111,7 @@ fn binary_word(whole: Whole) -> u8
     8 * first + 4 * second + 2 * third + fourth
 }
 
-/// The number of gates.
+/// The number of gates into which the table is decomposed.
 #[tactic(auto, using(crate::proofs::WholeTables::wholes))]
 fn whole_cost<T>(whole: Whole, inputs: &[T]) -> u32
     requires some { 0 < whole.width }
@@ -142,7 +141,7 @@ fn unsigned(alloc: Global, inputs: &[Sig]) -> Result<Vec<Signed>, AllocError>
     Ok(all)
 }
 
-/// The gates of more than two inputs, joined from the left.
+/// Appends the gates for more than two inputs, joined from the left.
 #[tactic(auto, using(crate::proofs::WholeTables::wholes))]
 fn join_whole(
     alloc: Global,
@@ -163,7 +162,7 @@ fn join_whole(
     finish(sources, gates, before, out, whole.on)
 }
 
-/// The gates of any number of inputs.
+/// Appends the gates for any number of inputs.
 #[tactic(auto, using(crate::proofs::WholeTables::wholes))]
 fn whole_gates(
     alloc: Global,
@@ -198,7 +197,7 @@ pub fn body_value(body: &Body, bits: &[bool]) -> bool
     }
 }
 
-/// The number of gates of a table with `inputs`.
+/// The number of gates that `body_gates` appends for a table with `inputs`.
 pub fn body_cost<T>(body: &Body, inputs: &[T]) -> u32
     requires body { IsBody body.now }
     requires width { (cover_of body.now).width ≡ length inputs.now }
@@ -212,7 +211,7 @@ pub fn body_cost<T>(body: &Body, inputs: &[T]) -> u32
     }
 }
 
-/// The gates of a table of any number of inputs.
+/// Appends the gates of a table and returns the table's signal.
 pub fn body_gates(
     alloc: Global,
     sources: u32,

@@ -1,10 +1,10 @@
--- Circuits that are equivalent.
+-- Equivalence of circuits.
 use Rattle.std.specs.Prelude.{◌≡◌, Bool}
 use Rattle.net_theory.specs.Document.{Name}
 use Rattle.net_theory.specs.Circuit.{Circuit, values_by_name}
 
--- The same interface (inputs, outputs, clocks and latches), and under every assignment the same
--- values of the sinks: the outputs and then the next states.
+-- The circuits have the same interface (inputs, outputs, clocks and latches) and, under every assignment, the same
+-- values of the sinks (the outputs, then the next states).
 pub record AreAlike (c k : Circuit) : Type 0 where
   pub inputs : c.inputs ≡ k.inputs
   pub outputs : c.outputs ≡ k.outputs

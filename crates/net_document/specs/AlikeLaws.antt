@@ -20,7 +20,7 @@ alike_same d e c k of_d of_e alike = record {
   sinks = λ given v w maps_v maps_w. of_d.sinks given v maps_v ∙ alike.values given ∙ sym (of_e.sinks given w maps_w);
 }
 
--- a document that describes a circuit describes each equivalent one
+-- a document that describes a circuit describes each equivalent circuit
 pub describes_alike : (d : Document) (c k : Circuit) → Describes d c → AreAlike c k → Describes d k
 describes_alike d c k of alike = record {
   inputs = of.inputs ∙ alike.inputs;
@@ -31,6 +31,6 @@ describes_alike d c k of alike = record {
   sinks = λ given v maps. of.sinks given v maps ∙ alike.values given;
 }
 
--- a circuit is equivalent to itself with a net that answers the same
+-- a circuit is equivalent to itself with a net that implements its net
 pub alike_exchanged : (c : Circuit) (m : Net) → Answers c.net m → AreAlike c (with_net c m)
 alike_exchanged c m answers = record { inputs = refl; outputs = refl; clocks = refl; latches = refl; values = λ given. sym (answers.values (by_place (sources_of c) given)) }

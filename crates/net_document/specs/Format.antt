@@ -1,4 +1,4 @@
--- Netlist formats as values: what a text lists, and how a circuit is written.
+-- Netlist formats as values: how a text is parsed, and how a circuit is written.
 use Rattle.std.specs.Prelude.{◌≡◌, ℕ, ◌≤◌, ◌⊎◌, Bool, List, length, Result, Ok, Err, None}
 use Rattle.net_theory.specs.Net.{Net}
 use Rattle.net_theory.specs.Document.{Document}
@@ -14,8 +14,8 @@ use Rattle.net_core.specs.declared.error.NetError.TheVariants.{Memory}
 use Rattle.net_document.specs.Listed.{Listed, IsListed}
 use Rattle.net_document.specs.Refusals.{fault_of, IsRefused}
 
--- What a text lists, or the first error of its lines; the document that the writer makes of a
--- circuit; the text of a circuit; and which operators gates may have.
+-- `listed` parses a text, or gives the first error of its lines; `written` is the document that the writer makes
+-- of a circuit; `text` is the circuit's text; `operators` are the operators that gates may have.
 pub record Format : Type 0 where
   pub listed : List ℕ → Result Listed NetError
   pub written : Circuit → Document
@@ -24,14 +24,14 @@ pub record Format : Type 0 where
 
 -- ---- texts that are read
 
--- the text lists a well-formed document
+-- the text is a netlist: it lists a well-formed document
 pub record IsNetlist (f : Format) (bytes : List ℕ) : Type 0 where
   pub listed : Listed
   pub said : f.listed bytes ≡ Ok listed
   pub well : IsWellFormed listed.document
 
--- The text lists a well-formed document without faults, and `c` is its circuit: it computes what
--- the document says, and its net is the document's, with as many gates as the document costs.
+-- The text lists a well-formed document without faults, and `c` is its circuit: equivalent to the document, with
+-- the document's net and as many gates as the document costs.
 pub record IsCircuitOfText (f : Format) (bytes : List ℕ) (c : Circuit) : Type 0 where
   pub listed : Listed
   pub said : f.listed bytes ≡ Ok listed
@@ -41,31 +41,31 @@ pub record IsCircuitOfText (f : Format) (bytes : List ℕ) (c : Circuit) : Type 
 
 -- ---- texts that are refused
 
--- the first error of the lines, or, where they have none, that of the document
+-- the first error of the lines, or, if they have none, the fault of the document
 abbrev pub IsTold : Format → List ℕ → NetError → Type 0
 IsTold f bytes e = (f.listed bytes ≡ Err e) ⊎ ((l : Listed) × (f.listed bytes ≡ Ok l) × IsRefused l e)
 
--- Why a text is refused. Out of memory may come anywhere.
+-- The error with which a text may be refused. Out of memory is possible for any text.
 abbrev pub IsRefusedText : Format → List ℕ → NetError → Type 0
 IsRefusedText f bytes Memory = Unit {0}
 IsRefusedText f bytes e = IsTold f bytes e
 
--- A fault of a text: any error but out of memory.
+-- a fault of a text: an error other than out of memory
 abbrev pub HasNetFault : Format → List ℕ → NetError → Type 0
 HasNetFault f bytes e = IsRefusedText f bytes e × (e ≡ Memory → ⊥)
 
 -- ---- texts that are written
 
--- The bytes list the document `d`. The order in which they drive and use its names is left open.
+-- The bytes list the document `d`, in any order of the driven and used names.
 pub record IsReadBack (f : Format) (bytes : List ℕ) (d : Document) : Type 0 where
   pub listed : Listed
   pub said : f.listed bytes ≡ Ok listed
   pub document : listed.document ≡ d
   pub is : IsListed listed
 
--- The text lists the document that the writer makes of `c`. It is well formed and without faults;
--- it has the model name and the interface of `c`; under every assignment it has one map, whose bits
--- are the values of the sinks of `c`; and it costs no more than `c` has gates.
+-- The bytes are a text of `c`: they list the document that the writer makes of `c`. The document is well formed
+-- and without faults, has the model name of `c`, is equivalent to `c`, and costs at most as many gates as `c`
+-- has.
 pub record IsTextOf (f : Format) (bytes : List ℕ) (c : Circuit) : Type 0 where
   pub listed : Listed
   pub said : f.listed bytes ≡ Ok listed
@@ -76,21 +76,20 @@ pub record IsTextOf (f : Format) (bytes : List ℕ) (c : Circuit) : Type 0 where
   pub describes : Describes listed.document c
   pub cheap : cost listed.document ≤ length c.net.gates
 
--- ---- what a format promises
+-- ---- the guarantees of a format
 
--- Each name, latch and table that a text lists is within its limits, and names are driven and used
--- as its document says.
+-- Every listed name, latch and table is within its limits, and the lists of driven and used names match the
+-- document.
 abbrev pub ListsWell : Format → Type 0
 ListsWell f = (bytes : List ℕ) (l : Listed) → f.listed bytes ≡ Ok l → IsListed l
 
--- each gate of the second net has an operator of the format, or that of a gate of the first
+-- each gate of m has an operator of the format, or that of a gate of n
 abbrev pub CanOperate : Format → Net → Net → Type 0
 CanOperate f n m = HasOperatorsWithin f.operators n m
 
--- Texts list documents well. A circuit that can be written is proper, and its text is read back.
--- The circuit of each text can be written, and so it can with a net that answers the same and has
--- operators of the format. (Its names are fewer than 2^63, as those of every circuit that fits into
--- a memory.)
+-- Texts are parsed within the limits. A circuit that can be written is proper, and its text is read back. The
+-- circuit of every text can be written (it has fewer than 2^63 names, as every circuit that fits into memory), and
+-- it still can after its net is replaced by one that implements it with operators of the format.
 pub record IsFormat (f : Format) (CanWrite : Circuit → Type 0) : Type 0 where
   pub lists : ListsWell f
   pub proper : (c : Circuit) → CanWrite c → IsProper c

@@ -30,7 +30,7 @@ missing_none driven [] each = refl
 missing_none driven (n ∷ ns) each =
     cond-true (has driven n) _ _ (each n (has_first n ns)) ∙ missing_none driven ns (λ m there. each m (has_later n ns m there))
 
--- a name that is used by the lists is driven by them
+-- each used name is driven, by the lists of names
 listed_driven : (l : Listed) → IsListed l → IsWellFormed l.document → (n : Name) → has (l.used ++ l.document.outputs) n ≡ true → has l.driven n ≡ true
 listed_driven l is well n there =
     let used : 1 ≤ times n (used_names l.document) = omega (arith, has_times (l.used ++ l.document.outputs) n there, is.used n) in
@@ -48,7 +48,7 @@ fault_none l is well =
 
 -- ---- the fault of a document
 
--- the fault of a document; a combinational loop is one where there is no other
+-- the fault of a document; a combinational loop is reported only if there is no other
 abbrev Faults : Listed → NetError → Type 0
 Faults l e = (fault_of l ≡ Some e) ⊎ ((fault_of l ≡ None) × ((name : Name) × (e ≡ Cycle name) × IsFirstCyclic l.document name))
 
@@ -74,7 +74,7 @@ faultless : (l : Listed) (e : NetError) → IsListed l → IsWellFormed l.docume
 faultless l e is well (inl told) = fault_apart (fault_of l) e told (fault_none l is well)
 faultless l e is well (inr cycle) = well.acyclic cycle.1.2.place cycle.1.2.cyclic
 
--- there is one first table that depends on itself
+-- the first table that depends on itself is unique
 cyclic_one : (d : Document) (a b : Name) → IsFirstCyclic d a → IsFirstCyclic d b → a ≡ b
 cyclic_one d a b x y =
     ⊎_elim
@@ -135,7 +135,7 @@ told_never f bytes l e is said well never (inr m) =
 pub fault_one : (f : Format) (bytes : List ℕ) (a b : NetError) → HasNetFault f bytes a → HasNetFault f bytes b → a ≡ b
 fault_one f bytes a b x y = told_one f bytes a b x.1 y.1 (fault_told f bytes a x.1 x.0) (fault_told f bytes b y.1 y.0)
 
--- and none where it is a netlist
+-- and none if it is a netlist
 pub fault_never : (f : Format) (bytes : List ℕ) (e : NetError) → ListsWell f → IsNetlist f bytes → HasNetFault f bytes e → ⊥
 fault_never f bytes e is netlist h = told_never f bytes netlist.listed e is netlist.said netlist.well h.1 (fault_told f bytes e h.1 h.0)
 
@@ -153,6 +153,6 @@ is_memory (LineTooLong line) h = absurd (h (λ e. cc))
 is_memory (TooManyRows line) h = absurd (h (λ e. cc))
 is_memory (NameTooLong line) h = absurd (h (λ e. cc))
 
--- so a netlist is refused for lack of memory alone
+-- so the only error of a netlist is out of memory
 pub refused_memory : (f : Format) (bytes : List ℕ) (e : NetError) → ListsWell f → IsNetlist f bytes → IsRefusedText f bytes e → e ≡ Memory
 refused_memory f bytes e is netlist refused = is_memory e (λ never. fault_never f bytes e is netlist (refused, never))

@@ -1,4 +1,4 @@
--- Lists with each name once.
+-- Lists without repetitions.
 use Rattle.std.proofs.Common.{◌≡◌, Bool, true, false, List, [], ◌∷◌, ◌++◌, refl, ap, ◌∙◌, sym, subst, ⊎_elim}
 use Rattle.std.specs.Prelude.{◌||◌, if◌then◌else◌}
 use Rattle.std.proofs.lemmas.Bool.{cond_both}
@@ -15,7 +15,7 @@ or_assoc : (a b c : Bool) → ((a || b) || c) ≡ (a || (b || c))
 or_assoc true b c = refl
 or_assoc false b c = refl
 
--- a name is appended unless it is there
+-- a name is appended unless it is already there
 has_more : (seen : List Name) (m n : Name) → has (if has seen m then seen else seen ++ m ∷ []) n ≡ (has seen n || has (m ∷ []) n)
 has_more seen m n =
     cond_both (has seen m) seen (seen ++ m ∷ []) (λ (s : List Name). has s n ≡ (has seen n || has (m ∷ []) n))

@@ -1,5 +1,4 @@
--- Why a document that was read to its end is refused. The order of the tests is that of the
--- reports.
+-- The errors that are found after a document is parsed, in the order in which they are tested and reported.
 use Rattle.std.specs.Prelude.{◌≡◌, ◌++◌, ◌∷◌, [], List, nat_lt, if◌then◌else◌, Option, Some, None}
 use Rattle.net_theory.specs.Document.{Name, has}
 use Rattle.net_theory.specs.Cost.{cost}
@@ -8,7 +7,7 @@ use Rattle.net_core.specs.declared.error.NetError.{NetError}
 use Rattle.net_core.specs.declared.error.NetError.TheVariants.{Memory, TooManyGates, DrivenTwice, Undriven, Cycle}
 use Rattle.net_document.specs.Listed.{Listed}
 
--- the first name that is among those before it
+-- the first name that occurs earlier in the list
 -- Example: of a, b, c, b, a it is b.
 unfoldable pub repeated : List Name → List Name → Option Name
 repeated before [] = None
@@ -27,19 +26,19 @@ abbrev pub twice_or : Option Name → Option NetError → Option NetError
 twice_or None next = next
 twice_or (Some n) next = Some (DrivenTwice n)
 
--- More than 100,000 gates, then the first name that is driven for the second time, then the first
--- name that a table or a latch uses and nothing drives, and then the first undriven output.
+-- The first of these errors: more than 100,000 gates; the first name that is driven a second time; the first
+-- undriven name that a table or a latch reads; the first undriven output.
 unfoldable pub fault_of : Listed → Option NetError
 fault_of l = if nat_lt 100000 (cost l.document) then Some (TooManyGates (cost l.document)) else twice_or (repeated [] l.driven) (undriven_in (missing l.driven (l.used ++ l.document.outputs)))
 
--- Whether a document is refused with an error. A combinational loop is reported where there is no
--- other fault. Out of memory may come anywhere.
+-- The document may be refused with this error. A combinational loop is reported only if there is no other fault.
+-- Out of memory is always possible.
 abbrev pub IsRefused : Listed → NetError → Type 0
 IsRefused l Memory = Unit {0}
 IsRefused l (Cycle name) = (fault_of l ≡ None) × IsFirstCyclic l.document name
 IsRefused l e = fault_of l ≡ Some e
 
--- the error is the fault, or out of memory
+-- the error is the fault or out of memory
 abbrev pub Tells : NetError → Option NetError → Type 0
 Tells Memory fault = Unit {0}
 Tells e fault = fault ≡ Some e

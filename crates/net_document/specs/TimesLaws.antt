@@ -1,4 +1,4 @@
--- How often names are in lists.
+-- How often names occur in lists.
 use Rattle.std.specs.Prelude.{◌≡◌, ◌+◌, ◌≤◌, Bool, true, false, if◌then◌else◌, List, [], ◌∷◌, ◌++◌, Some, None, refl}
 use Rattle.std.proofs.Common.{sym, ◌∙◌, ap, subst, ⊎_elim, arith, append_assoc, append-nil}
 use Rattle.std.proofs.lemmas.Bool.{cases_Bool, false_from_ne_true, cond-true, cond-false}
@@ -26,7 +26,7 @@ pub times-append : (n : Name) (xs ys : List Name) → times n (xs ++ ys) ≡ tim
 unfolding times
 times-append n xs ys = sum_by-append (λ (x : Name). if is_same n x then 1 else 0) xs ys
 
--- a name in the list is counted
+-- a name of the list has a count of at least 1
 pub has_times : (ns : List Name) (n : Name) → has ns n ≡ true → 1 ≤ times n ns
 has_times [] n h = absurd (has_none n h)
 has_times (m ∷ ns) n h =
@@ -35,7 +35,7 @@ has_times (m ∷ ns) n h =
     (λ later. omega (arith, times-cons n m ns, has_times ns n later))
     (has_cases m ns n h)
 
--- and a name that is counted is in it
+-- and a name with such a count is in the list
 pub times_has : (ns : List Name) (n : Name) → 1 ≤ times n ns → has ns n ≡ true
 times_has [] n h = absurd (omega (arith, times-none n))
 times_has (m ∷ ns) n h =
@@ -44,14 +44,14 @@ times_has (m ∷ ns) n h =
     (λ other. has_later m ns n (times_has ns n (omega (arith, h, times-other n m ns other))))
     (cases_Bool (is_same n m))
 
--- one that isn't in it isn't counted
+-- a name that isn't in the list has count 0
 pub times_missing : (ns : List Name) (n : Name) → has ns n ≡ false → times n ns ≡ 0
 times_missing [] n h = times-none n
 times_missing (m ∷ ns) n h =
     let apart = has_neither m ns n h in
     omega (arith, times-other n m ns apart.0, times_missing ns n apart.1)
 
--- names that differ are counted at most once
+-- in a list of distinct names each count is at most 1
 pub distinct_times : (ns : List Name) (n : Name) → are_distinct ns ≡ true → times n ns ≤ 1
 distinct_times [] n d = omega (arith, times-none n)
 distinct_times (m ∷ ns) n d =
@@ -88,13 +88,13 @@ repeated_passed : (before : List Name) (n : Name) (ns : List Name) → has befor
 unfolding repeated
 repeated_passed before n ns apart = cond-false _ _ _ apart
 
--- one more name that differs from those before it
+-- appending a new name keeps the names distinct
 distinct_more : (before : List Name) (n : Name) → are_distinct before ≡ true → has before n ≡ false → are_distinct (before ++ n ∷ []) ≡ true
 distinct_more before n d apart = append_distinct before (n ∷ []) d (cons_distinct n [] (no_name n) no_names) only where
   only : (m : Name) → has before m ≡ true → has (n ∷ []) m ≡ false
   only m h = false_from_ne_true (has (n ∷ []) m) (λ t. ⊎_elim (λ same. let f : has before n ≡ true = subst (λ (x : Name). has before x ≡ true) same h in let g : true ≡ false = sym f ∙ apart in cc) (λ no. has_none m no) (has_cases n [] m t))
 
--- where `repeated` finds none the names differ
+-- if `repeated` finds none, the names are distinct
 pub repeated_distinct : (before ns : List Name) → are_distinct before ≡ true → repeated before ns ≡ None → are_distinct (before ++ ns) ≡ true
 repeated_distinct before [] d e = subst (λ (xs : List Name). are_distinct xs ≡ true) (sym (append-nil before)) d
 repeated_distinct before (n ∷ ns) d e =
@@ -111,7 +111,7 @@ missing_passed : (driven : List Name) (m : Name) (ns : List Name) → has driven
 unfolding missing
 missing_passed driven m ns there = cond-true _ _ _ there
 
--- where `missing` finds none each name is driven
+-- if `missing` finds none, each name is driven
 pub missing_driven : (driven ns : List Name) (n : Name) → missing driven ns ≡ None → has ns n ≡ true → has driven n ≡ true
 missing_driven driven [] n e h = absurd (has_none n h)
 missing_driven driven (m ∷ ns) n e h =

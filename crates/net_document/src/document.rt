@@ -1,10 +1,9 @@
-//! The parsed netlist: tables, latches and documents as data. Their views are the records of the
-//! definitions, and the types have no invariant but that of the bodies of tables.
+//! The parsed netlist: tables, latches and documents as data. Their views are the records of `net_theory`. The
+//! only invariant is that of the bodies of tables.
 use net_core::{Body, Latch, Name};
 use std::marker::Model;
 
-/// A table: its output is the body's value at the inputs. A body that joins its inputs has at least
-/// one.
+/// A table: its output has the body's value at the inputs. A body that joins its inputs has at least one input.
 #[derive(Drop)]
 pub struct Table {
     pub inputs: Vec<Name>,
@@ -38,7 +37,7 @@ impl Model for LatchLine {
     ghost view = { λ l. record { input = l.input; latch = l.latch } };
 }
 
-/// A netlist as its text lists it, each list in the order of the text.
+/// A parsed netlist, each list in the order of the text.
 #[derive(Drop)]
 pub struct Document {
     pub model: Name,
@@ -64,8 +63,8 @@ impl Model for Document {
     } };
 }
 
-/// A document, the names that it drives and the names that its tables and latches use, both in the
-/// order of the text.
+/// A document, with the names that it drives and the names that its tables and latches read, both in the order of
+/// the text.
 #[derive(Drop)]
 pub struct Listed {
     pub document: Document,

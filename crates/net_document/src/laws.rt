@@ -1,4 +1,4 @@
-//! Laws of the definitions, each the contract of a function that does nothing.
+//! Theorems about the definitions, each the contract of a function with an empty body.
 ghost use Rattle.std.specs.Prelude.{◌≡◌, ℕ, ◌≤◌, true, List, [], None};
 ghost use Rattle.net_theory.specs.Document.{Name, Document, has, are_distinct};
 ghost use Rattle.net_theory.specs.Behaviour.{Same};
@@ -13,8 +13,8 @@ ghost use Rattle.net_document.specs.Refusals.{repeated, missing};
 ghost use Rattle.net_document.specs.Format.{Format, IsNetlist, IsRefusedText, HasNetFault, ListsWell};
 ghost use Rattle.net_document.specs.Alike.{AreAlike};
 
-/// A name is counted where it is in a list, and nowhere else; names differ where none is counted
-/// twice.
+/// A name occurs in a list exactly if its count is at least 1; the names of a list are distinct exactly if no
+/// count exceeds 1.
 pub fn laws_of_counts()
     ensures there { (ns : List Name) (n : Name) → has ns n ≡ true → 1 ≤ times n ns }
     ensures counted { (ns : List Name) (n : Name) → 1 ≤ times n ns → has ns n ≡ true }
@@ -22,23 +22,22 @@ pub fn laws_of_counts()
     ensures differ { (ns : List Name) → ((n : Name) → times n ns ≤ 1) → are_distinct ns ≡ true }
 {}
 
-/// Where no name is refused as driven twice, the names differ, and where none is refused as
-/// undriven, each is driven.
+/// If `repeated` finds no name, the driven names are distinct; if `missing` finds none, each used name is driven.
 pub fn laws_of_refusals()
     ensures twice { (ns : List Name) → repeated [] ns ≡ None → are_distinct ns ≡ true }
     ensures undriven { (driven ns : List Name) (n : Name) → missing driven ns ≡ None → has ns n ≡ true → has driven n ≡ true }
 {}
 
-/// In every format a text that lists a well-formed document has no fault and is refused for lack of
-/// memory alone, and any other text has at most one fault.
+/// In every format a text that lists a well-formed document has no fault, so the only possible error is out of
+/// memory; any other text has at most one fault.
 pub fn netlists_are_read()
     ensures netlist { (f : Format) (bytes : List ℕ) (e : NetError) → ListsWell f → IsNetlist f bytes → IsRefusedText f bytes e → e ≡ Memory }
     ensures faultless { (f : Format) (bytes : List ℕ) (e : NetError) → ListsWell f → IsNetlist f bytes → HasNetFault f bytes e → ⊥ }
     ensures one { (f : Format) (bytes : List ℕ) (a b : NetError) → HasNetFault f bytes a → HasNetFault f bytes b → a ≡ b }
 {}
 
-/// Documents of equivalent circuits are equivalent, a document of the one circuit is a document of
-/// the other, and a circuit is equivalent to itself with a net that answers the same.
+/// Documents of equivalent circuits are equivalent; a document that describes a circuit describes every equivalent
+/// circuit; and a circuit is equivalent to itself with a net that implements its net.
 pub fn documents_of_like_circuits_are_the_same()
     ensures same { (d e : Document) (c k : Circuit) → Describes d c → Describes e k → AreAlike c k → Same d e }
     ensures describes { (d : Document) (c k : Circuit) → Describes d c → AreAlike c k → Describes d k }

@@ -1,7 +1,7 @@
-//! The parsed netlist (syntax tree) of any format, and why one that was read to its end is refused.
-//! What a document means is defined in `net_theory`; the `specs/` of this crate add the order in
-//! which a text drives and uses its names, the refusals that follow from it, and a format as a
-//! value: what a text lists, how a circuit is written, and the laws between the two.
+//! Parsed netlists (syntax trees), common to all formats, and the errors that are found after parsing. The
+//! semantics of a document is defined in `net_theory`. The `specs/` of this crate add the order in which a text
+//! drives and reads names, the errors that depend on it, and formats as values: what a text lists, how a
+//! circuit is written, and what relates the two.
 //!
 //! ```text
 //! // .inputs a b      .names a b y

@@ -1,4 +1,4 @@
-//! Circuits that are read and written again, and why whole documents are refused.
+//! Tests that circuits are read and written, and that documents are refused with the right error.
 
 use crate::refusals::names;
 use bench_core::{read_bench, write_bench};
@@ -51,17 +51,17 @@ const WRITTEN: &[(&[u8], &[u8])] = &[
         b"INPUT(a)\nINPUT(b)\nINPUT(c)\nOUTPUT(y)\ny = XNOR(a, b, c)\n",
         b"INPUT(a)\nINPUT(b)\nINPUT(c)\nOUTPUT(y)\ng1 = XOR(a, b)\ny = XNOR(g1, c)\n",
     ),
-    // a latch, and a NOT that it alone reads
+    // a latch, and a NOT that only the latch reads
     (
         b"INPUT(a)\nOUTPUT(q)\nq = DFF(d)\nd = NOT(a)\n",
         b"INPUT(a)\nOUTPUT(q)\nq = DFF(g1)\ng1 = NOT(a)\n",
     ),
-    // one operand twice, a constant, a copy, a CR, blanks and a comment
+    // the same operand twice, a constant, a copy, a CR, blanks and a comment
     (
         b"INPUT ( a )\r\nOUTPUT(y)\nOUTPUT(z)\t# two outputs\ny=XOR(a,a)\nz = BUFF(a)\n",
         b"INPUT(a)\nOUTPUT(y)\nOUTPUT(z)\ny = XOR(a, a)\nz = BUFF(a)\n",
     ),
-    // nothing, and a latch that reads itself
+    // the empty text, and a latch that reads itself
     (b"", b""),
     (b"OUTPUT(q)\nq = DFF(q)\n", b"OUTPUT(q)\nq = DFF(q)\n"),
 ];

@@ -1,4 +1,4 @@
-//! What the lines of a BENCH text list, and which fault of a line is reported.
+//! Tests of the lines of BENCH texts: what they list, and which fault is reported.
 
 use crate::listing::{has_counts, has_fault};
 use bench_text::read_listed;
@@ -97,14 +97,14 @@ fn input(alloc: Global, bytes: u32) -> Result<Vec<u8>, AllocError> {
     Ok(text)
 }
 
-/// Whether a gate of `operands` operands is listed, and one of one more is too wide.
+/// Whether a gate of `operands` operands is accepted, and a gate of one more is too wide.
 fn is_widest(alloc: Global, operands: u32) -> Result<bool, AllocError> {
     let listed = is_listed(alloc, &gate(alloc, operands)?, [0, 0, 0, 0, 1]);
     let wider = gate(alloc, operands.saturating_add(1))?;
     Ok(listed && is_refused(alloc, &wider, "TooWide", 1))
 }
 
-/// Whether a name of `bytes` bytes is listed, and one of one more is too long.
+/// Whether a name of `bytes` bytes is accepted, and a name of one more is too long.
 fn is_longest(alloc: Global, bytes: u32) -> Result<bool, AllocError> {
     let listed = is_listed(alloc, &input(alloc, bytes)?, [1, 0, 0, 0, 0]);
     let longer = input(alloc, bytes.saturating_add(1))?;

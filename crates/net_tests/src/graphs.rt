@@ -1,4 +1,4 @@
-//! Topological orders of graphs, and the first node on a cycle.
+//! Tests of topological orders of graphs.
 
 use graph_core::{Reads, visit_all};
 use std::alloc::{AllocError, Global};
@@ -12,7 +12,7 @@ fn reads_of(alloc: Global, graph: &[&[u32]]) -> Result<Vec<Reads>, AllocError> {
     Ok(reads)
 }
 
-/// Whether the graph has the order `order`; None where a node is on a cycle.
+/// Whether the graph has the topological order `order`; None means that a node is on a cycle.
 fn is_ordered(alloc: Global, graph: &[&[u32]], order: Option<&[u32]>) -> Result<bool, AllocError> {
     let reads = reads_of(alloc, graph)?;
     if reads.len() > 8 {

@@ -1,7 +1,6 @@
-//! Tests of the public calls of the crates of netlists, from `graph_core` to `bench_core` and
-//! `gen_core`: values straight from the definitions, orders of graphs, tables and their gates, nets without dead
-//! gates, what the lines of a BLIF and of a BENCH text list, what comes of whole netlists that are read and written,
-//! and the first blocks of the generator.
+//! Tests of the public functions of the netlist crates, from `graph_core` to `bench_core` and `gen_core`: values
+//! computed from the definitions, topological orders, decomposition of tables, cleanup of dangling gates, the
+//! lines of BLIF and BENCH texts, reading and writing whole netlists, and the first blocks of the generator.
 #![tactic(auto)]
 
 #[cfg(test)]

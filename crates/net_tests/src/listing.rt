@@ -1,5 +1,5 @@
-//! What the lines of a text list, and which fault is reported: the rules that no contract spells
-//! out.
+//! Tests of the lines of BLIF texts: what they list, and which fault is reported. No contract states these rules
+//! one by one.
 
 use crate::refusals::tells;
 use blif_text::{Listed, read_listed};
@@ -25,7 +25,7 @@ fn cover_lines(listed: &Listed) -> usize {
     lines
 }
 
-/// Whether what was read lists `counts` of each kind, and `lines` cover lines where these are counted.
+/// Whether the parser's result lists `counts` of each kind, and `lines` cover lines if these are counted.
 pub fn has_counts(
     read: Result<Listed, NetError>,
     counts: [usize; 5],
@@ -48,7 +48,7 @@ pub fn has_counts(
     }
 }
 
-/// Whether what was read is refused with the error `word` at `line`.
+/// Whether the parser's result is the error `word` at `line`.
 pub fn has_fault(read: Result<Listed, NetError>, word: &str, line: u32) -> bool {
     let error = match read {
         Ok(listed) => {
@@ -78,8 +78,7 @@ fn is_refused(alloc: Global, text: &[u8], word: &str, line: u32) -> bool {
     has_fault(read_listed(alloc, text), word, line)
 }
 
-/// Texts with the numbers of inputs, outputs, clocks, latches, tables and cover lines that they
-/// list.
+/// Texts with the numbers of inputs, outputs, clocks, latches, tables and cover lines that they list.
 const LISTED: &[(&str, [usize; 5], usize)] = &[
     // continued lines, comments and CR
     (".inputs a\\\nb\n", [2, 0, 0, 0, 0], 0),

@@ -1,4 +1,4 @@
-//! Nets without their dead gates.
+//! Tests of the cleanup of dangling gates.
 
 use crate::tables::{cover, is_cover};
 use net_core::{Cover, Net, Sig, cover_cost, cover_value, drop_dead, expand};
@@ -6,7 +6,7 @@ use std::alloc::{AllocError, Global};
 
 const INPUTS: [Sig; 3] = [Sig::Place(1), Sig::Place(2), Sig::Place(3)];
 
-/// Whether XOR and AND have their costs and values and, in a net without gates, their places.
+/// Whether XOR and AND have their costs and values and, in a net without gates, their nodes.
 fn are_built(alloc: Global, net: &mut Net, xor: &Cover, and: &Cover) -> Result<bool, AllocError> {
     if net.sources() != 3 || net.gates().len() != 0 || xor.width != 3 || and.width != 3 {
         return Ok(false);
@@ -24,14 +24,14 @@ fn are_built(alloc: Global, net: &mut Net, xor: &Cover, and: &Cover) -> Result<b
     Ok(told && first == Sig::Place(6) && second == Sig::Place(7))
 }
 
-/// Whether the gate of AND alone is left of `net`.
+/// Whether only the gate of AND remains in `net`.
 fn is_left(alloc: Global, net: &Net) -> Result<bool, AllocError> {
     let left = drop_dead(alloc, net)?;
     let sinks = [Sig::Place(4), Sig::Place(2), Sig::One];
     Ok(left.gates().len() == 1 && left.sinks() == sinks.as_slice())
 }
 
-/// Whether only the gates of AND are left of those of XOR and AND, where only AND is read.
+/// Whether only the gate of AND remains of XOR and AND, if only AND is read.
 fn is_pruned(alloc: Global, xor: &Cover, and: &Cover) -> Result<bool, AllocError> {
     let mut net = Net::new(3, Vec::new(alloc), Vec::new(alloc));
     let built = are_built(alloc, &mut net, xor, and)?;
@@ -45,7 +45,7 @@ fn is_pruned(alloc: Global, xor: &Cover, and: &Cover) -> Result<bool, AllocError
     well
 }
 
-/// Whether the dead gates of such a net go.
+/// Whether the cleanup removes the dangling gates of such a net.
 fn dead_gates_go_from(alloc: Global) -> Result<bool, AllocError> {
     let xor = cover(alloc, &[b"01-", b"10-"], true)?;
     let and = cover(alloc, &[b"11-"], true)?;

@@ -1,11 +1,10 @@
-//! Values of cubes and places, computed straight from the definitions.
+//! Tests of `plain`: values of cubes and nodes, computed from the definitions.
 
 use net_theory::plain::{matches_bits, place_value};
 use net_theory::{Gate, Sig};
 use op_basis::Op;
 
-/// Bits, and whether `1-0` covers them as the Berkeley BLIF manual says: the first input 1, the
-/// third 0.
+/// Minterms, and whether `1-0` covers them: the first input must be 1 and the third 0 (the Berkeley BLIF manual).
 const MATCHED: &[(&str, [bool; 3], bool)] = &[
     ("100", [true, false, false], true),
     ("110", [true, true, false], true),

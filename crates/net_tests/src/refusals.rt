@@ -1,8 +1,8 @@
-//! The errors of refused texts, as words.
+//! The names of errors, for the tables of tests.
 
 use net_core::NetError;
 
-/// The word of an error with a line, and the line.
+/// The name of an error with a line, and the line.
 fn fault(error: &NetError) -> (&'static str, u32) {
     match error {
         NetError::Syntax(line) => ("Syntax", *line),
@@ -16,13 +16,13 @@ fn fault(error: &NetError) -> (&'static str, u32) {
     }
 }
 
-/// Whether an error has the word `word` and the line `line`.
+/// Whether an error is `word` at line `line`.
 pub fn tells(error: &NetError, word: &str, line: u32) -> bool {
     let (told, at) = fault(error);
     told == word && at == line
 }
 
-/// The word of an error with a name, and the name.
+/// The name of an error with a netlist name, and that name.
 fn named(error: &NetError) -> (&'static str, &[u8]) {
     match error {
         NetError::DrivenTwice(told) => ("DrivenTwice", told.get()),
@@ -33,7 +33,7 @@ fn named(error: &NetError) -> (&'static str, &[u8]) {
     }
 }
 
-/// Whether an error has the word `word` and the name `name`.
+/// Whether an error is `word` with the name `name`.
 pub fn names(error: &NetError, word: &str, name: &[u8]) -> bool {
     let (told, at) = named(error);
     told == word && at == name

@@ -1,4 +1,4 @@
-//! Tables, their gates and the gates' values.
+//! Tests of the decomposition of tables, and of the gates' values.
 
 ghost use Rattle.std.specs.Prelude.{◌≡◌, IsTrue, IfOk};
 ghost use Rattle.std.specs.List.{list_all};
@@ -10,7 +10,7 @@ use net_core::{
 };
 use std::alloc::{AllocError, Global};
 
-/// Whether all bytes may be part of a cube.
+/// Whether all bytes are `0`, `1` or `-`.
 fn are_cube_bytes(bytes: &[u8]) -> bool
     ensures { result ≡ list_all is_cube_byte bytes.now }
 {
@@ -19,14 +19,14 @@ fn are_cube_bytes(bytes: &[u8]) -> bool
         .all(|byte| *byte == b'0' || *byte == b'1' || *byte == b'-')
 }
 
-/// Whether `bytes` are a cube of `width` inputs.
+/// Whether `bytes` form a cube of `width` inputs.
 fn is_cube(width: u32, bytes: &[u8]) -> bool
     ensures { result ≡ is_cube_of width bytes.now }
 {
     bytes.len() == width as usize && are_cube_bytes(bytes)
 }
 
-/// Whether all cubes are cubes.
+/// Whether all cubes of the cover are valid.
 pub fn is_cover(cover: &Cover) -> bool
     ensures { IsTrue result → IsCover cover.now }
 {
@@ -64,7 +64,7 @@ fn digit(sig: Sig, places: &[bool]) -> u8 {
     if value { b'1' } else { b'0' }
 }
 
-/// The value of a signal of a net of three sources on the row `row`, as a digit.
+/// The value of a signal of a net of three sources under the assignment `row`, as a digit.
 fn value_on(alloc: Global, net: &Net, sig: Sig, row: u32) -> Result<u8, AllocError>
     requires { net.now.sources ≡ 3 }
 {
@@ -77,8 +77,8 @@ fn value_on(alloc: Global, net: &Net, sig: Sig, row: u32) -> Result<u8, AllocErr
     Ok(digit(sig, &places))
 }
 
-/// Whether a signal of a net of three sources has the values `digits` on the rows 000, 001, 010 and
-/// so on.
+/// Whether a signal of a net of three sources has the values `digits` under the assignments 000, 001, 010 and so
+/// on.
 fn has_rows(alloc: Global, net: &Net, sig: Sig, digits: &[u8]) -> Result<bool, AllocError>
     requires { net.now.sources ≡ 3 }
 {
@@ -126,7 +126,7 @@ fn is_built(
     built
 }
 
-/// Covers by their cubes, whether for the on-set, with their values and their numbers of gates.
+/// Covers: their cubes, whether these are of the on-set, the values, and the numbers of gates.
 const COVERS: &[(&[&[u8]], bool, &str, usize)] = &[
     (&[b"1-0", b"-11"], true, "00011011", 3),
     (&[b"000"], false, "01111111", 2),
@@ -150,7 +150,7 @@ fn tables_become_gates(rt: HostRuntime) {
     }
 }
 
-/// Whether three inputs that are joined have the values `digits` by two gates.
+/// Whether joining three inputs takes two gates and has the values `digits`.
 #[tactic(auto, using(net_core::specs::BodyLaws::joined_cost))]
 fn is_joined(alloc: Global, whole: Whole, digits: &[u8]) -> Result<bool, AllocError>
     requires { whole.width ≡ 3 }
@@ -164,7 +164,7 @@ fn is_joined(alloc: Global, whole: Whole, digits: &[u8]) -> Result<bool, AllocEr
     Ok(few && rows?)
 }
 
-/// How three inputs are joined, whether not complemented, and the values.
+/// The connective that joins three inputs, whether the result isn't complemented, and the values.
 const JOINED: &[(Connective, bool, &str)] = &[
     (Connective::And, true, "00000001"),
     (Connective::And, false, "11111110"),
@@ -174,7 +174,7 @@ const JOINED: &[(Connective, bool, &str)] = &[
     (Connective::Xor, false, "10010110"),
 ];
 
-/// Whether `whole` has the value at 1, 1 and 0 that `digits` says.
+/// Whether `whole` has the value of `digits` at 1, 1 and 0.
 fn is_valued(whole: Whole, digits: &[u8]) -> bool
     requires { whole.width ≡ 3 }
 {

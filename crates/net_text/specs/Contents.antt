@@ -1,5 +1,5 @@
--- The content of a line of a netlist, in any format: comments begin with `#` and run to the end of
--- their line, and blanks at the end of a line don't count.
+-- The content of a line of a netlist, in any format: a comment runs from `#` to the end of the line, and trailing
+-- blanks are removed.
 use Rattle.std.specs.Prelude.{ℕ, Bool, true, false, ◌&&◌, ◌||◌, ◌==◌, if◌then◌else◌, List, [], ◌∷◌, ◌++◌, Option, Some, None}
 use Rattle.std.specs.Option.{option_map}
 use Rattle.text_core.specs.Lines.{Line}
@@ -8,7 +8,7 @@ use Rattle.text_core.specs.Lines.{Line}
 abbrev pub is_blank : ℕ → Bool
 is_blank b = b == 32 || b == 9
 
--- `front` and then `bytes` up to the first `#` of `bytes`
+-- `front`, followed by `bytes` up to the first `#` of `bytes`
 unfoldable pub before_from : List ℕ → List ℕ → List ℕ
 before_from front [] = front
 before_from front (b ∷ bs) = if b == 35 then front else before_from (front ++ b ∷ []) bs
@@ -20,7 +20,7 @@ abbrev pub is_nothing : {A : Type 0} → List A → Bool
 is_nothing [] = true
 is_nothing (x ∷ xs) = false
 
--- a text without the blanks at its end
+-- a text without its trailing blanks
 unfoldable pub trimmed : List ℕ → List ℕ
 trimmed [] = []
 trimmed (b ∷ bs) = if is_blank b && is_nothing (trimmed bs) then [] else b ∷ trimmed bs
@@ -28,7 +28,7 @@ trimmed (b ∷ bs) = if is_blank b && is_nothing (trimmed bs) then [] else b ∷
 abbrev pub behind_first : ℕ → Option (List ℕ) → Option (List ℕ)
 behind_first b rest = option_map (λ (front : List ℕ). b ∷ front) rest
 
--- a text without its last byte, where that is the byte given; None where it isn't
+-- a text without its last byte, if that is the given byte, else None
 unfoldable pub without_last : ℕ → List ℕ → Option (List ℕ)
 without_last c [] = None
 without_last c (b ∷ []) = if b == c then Some [] else None
@@ -38,11 +38,11 @@ abbrev pub or_whole : List ℕ → Option (List ℕ) → List ℕ
 or_whole text None = text
 or_whole text (Some front) = front
 
--- A CR before the LF is dropped; one that no LF follows stays.
+-- A CR before the LF is removed; a CR without an LF after it stays.
 abbrev pub without_return : Line → List ℕ
 without_return l = if l.ended then or_whole l.text (without_last 13 l.text) else l.text
 
--- the content of a line: its text before the comment, without the blanks at its end
+-- the content of a line: its text before the comment, without trailing blanks
 -- Example: that of `.end # of m` is `.end`.
 abbrev pub content_of : Line → List ℕ
 content_of l = trimmed (before_comment (without_return l))

@@ -3,7 +3,7 @@ use Rattle.std.proofs.Common.{◌≡◌, ℕ, true, false, ◌==◌, if◌then�
 use Rattle.std.proofs.lemmas.Grind.{common_steps}
 use Rattle.net_text.specs.Contents.{is_blank, trimmed, without_last}
 
--- a blank at the end is dropped
+-- a trailing blank is removed
 pub trimmed-blank : (xs : List ℕ) (b : ℕ) → is_blank b ≡ true → trimmed (xs ++ b ∷ []) ≡ trimmed xs
 unfolding trimmed
 trimmed-blank [] b e = grind (arith, common_steps)

@@ -1,5 +1,5 @@
-//! The content of a line: its CR, its comment and the blanks at its end are dropped, each by a walk
-//! from one end that follows the recursion of the definition.
+//! The content of a line: the line without its CR, its comment and its trailing blanks. Each function is a loop
+//! that follows the recursion of its definition.
 ghost use Rattle.std.specs.Prelude.{◌≡◌};
 ghost use Rattle.std.specs.Option.{option_copied};
 ghost use Rattle.net_text.specs.Contents.{is_blank as is_blank_of, before_comment as before_comment_of, trimmed, without_last as without_last_of};
@@ -30,7 +30,7 @@ fn before_comment(text: &[u8]) -> &[u8]
     text
 }
 
-/// A text without the blanks at its end.
+/// A text without its trailing blanks.
 #[tactic(auto, using(crate::specs::EndLaws::ends))]
 fn trim(text: &[u8]) -> &[u8]
     ensures { result.now ≡ trimmed text.now }
@@ -45,7 +45,7 @@ fn trim(text: &[u8]) -> &[u8]
     left
 }
 
-/// `text` without its last byte, where that is `byte`; None where it isn't.
+/// `text` without its last byte, if that is `byte`, else None.
 #[tactic(auto, using(crate::specs::EndLaws::ends))]
 pub fn without_last(byte: u8, text: &[u8]) -> Option<&[u8]>
     ensures { option_copied result ≡ without_last_of byte text.now }
@@ -54,7 +54,7 @@ pub fn without_last(byte: u8, text: &[u8]) -> Option<&[u8]>
     if *last == byte { Some(front) } else { None }
 }
 
-/// A line without its CR, where an LF follows the CR.
+/// A line without its final CR, if an LF follows it.
 fn without_return(text: &[u8], ended: bool) -> &[u8]
     ensures { result.now ≡ without_return_of (record { text = text.now; ended = ended }) }
 {
@@ -67,7 +67,7 @@ fn without_return(text: &[u8], ended: bool) -> &[u8]
     }
 }
 
-/// The content of a line; `ended` where an LF follows it.
+/// The content of a line; `ended` tells whether an LF follows it.
 pub fn content_of(text: &[u8], ended: bool) -> &[u8]
     ensures { result.now ≡ content_of_line (record { text = text.now; ended = ended }) }
 {

@@ -1,6 +1,6 @@
-//! Lexical rules that the netlist formats share: the content of a line without its CR, its comment
-//! and the blanks at its end, which bytes are a name, and the limits of lines and words. How lines
-//! are joined and what they mean is up to each format.
+//! Lexical rules shared by the netlist formats: the content of a line (without CR, comment and trailing blanks),
+//! which bytes form a name, and the limits of lines and words. Each format defines how lines are continued and
+//! what they mean.
 //!
 //! ```text
 //! content_of(b".end # of m\r", true) // .end

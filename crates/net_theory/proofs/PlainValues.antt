@@ -1,23 +1,23 @@
--- Values by gates, one gate at a time from the end.
+-- Values of nodes, by recursion over the gates from the last one.
 use Rattle.std.proofs.Common.{◌≡◌, ◌≢◌, ℕ, ◌+◌, Bool, List, [], ◌∷◌, ◌++◌, length, refl, ◌∙◌, ap, arith}
 use Rattle.net_theory.specs.declared.data.Gate.{Gate}
 use Rattle.net_theory.specs.Net.{gate_value, values_after, values_of}
 use Rattle.net_theory.specs.ValueLaws.{value-last, value-before}
 
--- With no gate a place has the bit that is given to it.
+-- Without gates each node has its given bit.
 pub values_of-none : (given : ℕ → Bool) (sources place : ℕ) (gates : List Gate) → length gates ≡ 0 → values_of given sources gates place ≡ given place
 unfolding values_after
 values_of-none given sources place [] e = refl
 values_of-none given sources place (g ∷ gs) e = absurd (omega arith)
 
--- The place of the last gate has that gate's value.
+-- The node of the last gate has that gate's value.
 pub values_of-last : (given : ℕ → Bool) (sources place : ℕ) (gates before : List Gate) (last : Gate) → gates ≡ before ++ last ∷ [] → place ≡ sources + 1 + length before → values_of given sources gates place ≡ gate_value (values_of given sources before) last
 values_of-last given sources place gates before last e own =
     ap (λ (gs : List Gate). values_of given sources gs place) e
     ∙ ap (values_of given sources (before ++ last ∷ [])) own
     ∙ value-last given sources before last
 
--- Any other place has the value that the earlier gates leave.
+-- Any other node has the value that the earlier gates give it.
 pub values_of-before : (given : ℕ → Bool) (sources place : ℕ) (gates before : List Gate) (last : Gate) → gates ≡ before ++ last ∷ [] → place ≢ sources + 1 + length before → values_of given sources gates place ≡ values_of given sources before place
 values_of-before given sources place gates before last e other =
     ap (λ (gs : List Gate). values_of given sources gs place) e ∙ value-before given sources place before last other

@@ -1,19 +1,19 @@
--- Nets that can stand in the place of other nets: functionally equivalent, with no more gates.
+-- When a net implements another: it is functionally equivalent and has no more gates.
 use Rattle.std.specs.Prelude.{◌≡◌, ℕ, ◌+◌, ◌≤◌, ◌<◌, Bool, length, slice_get, slice_index_or, Some}
 use Rattle.net_theory.specs.declared.data.Sig.{Sig}
 use Rattle.net_theory.specs.declared.data.Sig.TheVariants.{Zero, One, Place}
 use Rattle.net_theory.specs.Net.{Net, IsNet, sink_values}
 use Rattle.net_theory.specs.Reach.{IsReached}
 
--- a constant or a source: a trivial sink
+-- the signal is a constant or a source (a trivial sink)
 abbrev pub IsStill : ℕ → Sig → Type 0
 IsStill sources Zero = Unit {0}
 IsStill sources One = Unit {0}
 IsStill sources (Place p) = p ≤ sources
 
--- m can stand in the place of n: it has as many sources and sinks, the same values of the sinks
--- under every assignment (functional equivalence), and no more gates. A trivial sink of n stays as
--- it is, and equal sinks stay equal.
+-- m implements n: it has as many sources and sinks, its sinks have the same values under every
+-- assignment (functional equivalence), and it has no more gates. Trivial sinks of n are unchanged in m, and
+-- equal sinks stay equal, so that m can replace n in a circuit whose outputs share names.
 pub record Answers (n m : Net) : Type 0 where
   pub net : IsNet m
   pub sources : m.sources ≡ n.sources
@@ -23,7 +23,7 @@ pub record Answers (n m : Net) : Type 0 where
   pub still : (i : ℕ) (s : Sig) → slice_get n.sinks i ≡ Some s → IsStill n.sources s → slice_get m.sinks i ≡ Some s
   pub equal : (i j : ℕ) (d : Sig) → i < length n.sinks → j < length n.sinks → slice_index_or n.sinks i d ≡ slice_index_or n.sinks j d → slice_index_or m.sinks i d ≡ slice_index_or m.sinks j d
 
--- and no gate of m is dangling: some sink reads each, directly or through gates
+-- m implements n and has no dangling gate: each gate is in the transitive fanin of a sink
 pub record IsPruned (n m : Net) : Type 0 where
   pub answers : Answers n m
   pub reached : (i : ℕ) → i < length m.gates → IsReached m (m.sources + 1 + i)

@@ -1,27 +1,27 @@
--- What a netlist does: the outputs and the next states, under every assignment.
+-- The behaviour of a netlist: its outputs and next states under every assignment; equivalence of netlists.
 use Rattle.std.specs.Prelude.{◌≡◌, Bool, map, All}
 use Rattle.net_theory.specs.Cover.{cover_value}
 use Rattle.net_theory.specs.Document.{Name, Table, Document, source_names, sink_names, driven_names, latches_of}
 
--- `v` gives each name a bit. A table holds in `v` where its output has the cover's value at the
--- bits of its inputs.
+-- `v` is a valuation: it gives each name a bit. A table holds in `v` if its output has the cover's value at
+-- the bits of its inputs.
 abbrev pub HoldsIn : (Name → Bool) → Table → Type 0
 HoldsIn v t = v t.output ≡ cover_value t.cover (map v t.inputs)
 
--- `v` gives the inputs and the latches' outputs the bits of `given`, and each table holds in it
+-- the valuation agrees with `given` on the inputs and the latches' outputs, and each table holds in it
 pub record IsMapOf (d : Document) (given v : Name → Bool) : Type 0 where
   pub sources : All (λ n. v n ≡ given n) (source_names d)
   pub tables : All (HoldsIn v) d.tables
 
--- There is a map for `given`, and any two agree on each name that is driven.
+-- Such a valuation exists for `given`, and any two of them agree on all driven names.
 pub record HasOneMap (d : Document) (given : Name → Bool) : Type 0 where
   pub some : (v : Name → Bool) × IsMapOf d given v
   pub one : (v w : Name → Bool) → IsMapOf d given v → IsMapOf d given w → All (λ n. v n ≡ w n) (driven_names d)
 
--- Two netlists with one interface and one behaviour. Their inputs, outputs and clocks are the same
--- names in the same order, and their latches agree in order, output, control and initial value.
--- Under every assignment of the inputs and the latches' outputs each has one map, and the two agree
--- on the outputs and the latches' inputs.
+-- Equivalence of two netlists: the same interface and the same behaviour. Their inputs, outputs and clocks
+-- are the same names in the same order, and their latches agree in order, output, control and initial
+-- value. Under every assignment of the inputs and the latches' outputs, each has exactly one valuation (on
+-- driven names), and the two agree on the outputs and the latches' inputs.
 pub record Same (d e : Document) : Type 0 where
   pub inputs : d.inputs ≡ e.inputs
   pub outputs : d.outputs ≡ e.outputs

@@ -14,18 +14,18 @@ use Rattle.net_theory.specs.ValueLaws.{IsGrown, grown_none, grown_push, value-la
 
 -- ---- choices
 
--- what holds in both branches holds of the choice
+-- a property of both branches is a property of the conditional
 pub by_test : {A : Type 0} (P : A → Type 0) (t : Bool) (x y : A) → (t ≡ true → P x) → (t ≡ false → P y) → P (if t then x else y)
 by_test P true x y yes_ no_ = yes_ refl
 by_test P false x y yes_ no_ = no_ refl
 
--- where two numbers differ, the test says so
+-- a failed test of equality shows that the numbers differ
 pub differs : (a b : ℕ) → (a == b) ≡ false → a ≢ b
 differs a b e same = grind (arith, nat_tests)
 
--- ---- what is built
+-- ---- decomposed tables
 
--- The gates of `b` are those of `old` and `more` after them, and its signal has the value `bit`.
+-- `b` extends the gates `old` by `more` gates, and its signal has the value `bit`.
 pub record IsBuilt (sources : ℕ) (old : List Gate) (more : ℕ) (bit : (ℕ → Bool) → Bool) (b : Built) : Type 0 where
   pub grown : IsGrown sources old b.gates
   pub count : length b.gates ≡ length old + more
@@ -91,7 +91,7 @@ built_not sources old a are below =
 
 -- ---- one input
 
--- the value of a function of one bit, by the word of its values at 0 and 1
+-- the value of a function of one bit, by its truth table (the values at 0 and 1)
 abbrev pub apply_unary : ℕ → Bool → Bool
 apply_unary word false = digit word 1
 apply_unary word true = digit word 0
@@ -168,7 +168,7 @@ apply_10 false false = refl
 abbrev IsBinary : ℕ → List Gate → Sig → Sig → ℕ → Built → Type 0
 IsBinary sources old a b word x = IsBuilt sources old (binary_cost word) (λ given. apply word (sig_value (values_of given sources old) a) (sig_value (values_of given sources old) b)) x
 
--- a word that is neither constant nor a copy costs a gate
+-- a truth table that is neither constant nor a copy costs one gate
 costs_one : (word : ℕ) → word ≢ 0 → word ≢ 15 → word ≢ 3 → word ≢ 5 → 1 ≡ binary_cost word
 costs_one word n0 n15 n3 n5 = grind (arith, nat_tests)
 
@@ -189,7 +189,7 @@ binary_is sources old word a b are first second low =
     (λ e10. rw (eqb-true word 10 e10) (built_same sources old 1 _ _ _ (λ given. apply_10 _ _) (built_not sources old b are second)))
     (λ n10. built_count sources old 1 (binary_cost word) _ _ (costs_one word (differs word 0 n0) (differs word 15 n15) (differs word 3 n3) (differs word 5 n5)) (built_gate sources old word a b are low first second)))))))
 
--- ---- the words of covers
+-- ---- the truth tables of covers
 
 -- one bit, case by case
 both : (P : Bool → Type 0) → P false → P true → (b : Bool) → P b

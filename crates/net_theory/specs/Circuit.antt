@@ -9,8 +9,8 @@ use Rattle.net_theory.specs.WellFormed.{IsLatch}
 use Rattle.net_theory.specs.NetOf.{net_of}
 use Rattle.net_theory.specs.Cost.{cost}
 
--- The sources of the net are the inputs and then the latches' outputs. Its sinks are the outputs and
--- then the latches' inputs.
+-- A net with names. The net's sources are the inputs, then the latches' outputs; its sinks are the outputs,
+-- then the latches' inputs, each in order.
 pub record Circuit : Type 0 where
   pub model : Name
   pub inputs : List Name
@@ -19,17 +19,17 @@ pub record Circuit : Type 0 where
   pub latches : List Latch
   pub net : Net
 
--- the names of the sources, from place 1 on
+-- the names of the sources, from node 1 on
 abbrev pub sources_of : Circuit → List Name
 sources_of c = c.inputs ++ map latch_output c.latches
 
--- a control is no output, unless it is a source as well
+-- the control isn't an output, unless it is also a source
 abbrev pub IsApart : List Name → List Name → Option (Trigger × Name) → Type 0
 IsApart outputs sources None = Unit {0}
 IsApart outputs sources (Some c) = has outputs c.1 ≡ true → has sources c.1 ≡ true
 
--- A circuit whose text can be written: sources and sinks have names, the source names differ, and
--- outputs of one name are one signal.
+-- A circuit that can be written: each source and sink has a name, the names of the sources are distinct,
+-- outputs with the same name are the same signal, and there are at most 100,000 gates.
 pub record IsProper (c : Circuit) : Type 0 where
   pub net : IsNet c.net
   pub source_count : c.net.sources ≡ length (sources_of c)
@@ -45,17 +45,17 @@ pub record IsProper (c : Circuit) : Type 0 where
   pub controls : All (λ (l : Latch). IsApart c.outputs (sources_of c) l.control) c.latches
   pub gates : length c.net.gates ≤ 100000
 
--- the bits of the places, from the bits of the sources' names
+-- the bit of a source node, by the bit of its name
 abbrev pub by_place : List Name → (Name → Bool) → ℕ → Bool
 by_place names given place = given (slice_index_or names (place - 1) [])
 
--- the values of a circuit's sinks, the outputs and then the next states, where the names of the
--- sources have the bits of a map
+-- the values of a circuit's sinks, the outputs and then the next states, where the sources have the bits
+-- that `given` gives their names
 abbrev pub values_by_name : Circuit → (Name → Bool) → List Bool
 values_by_name c given = sink_values c.net (by_place (sources_of c) given)
 
--- A document does what a circuit does: it has the circuit's inputs, outputs, clocks and latches, and
--- under every assignment it has one map, whose bits are the values of the circuit's sinks.
+-- A document is equivalent to a circuit: it has the circuit's inputs, outputs, clocks and latches, and
+-- under every assignment it has exactly one valuation, which gives the sinks the circuit's values.
 pub record Describes (d : Document) (c : Circuit) : Type 0 where
   pub inputs : d.inputs ≡ c.inputs
   pub outputs : d.outputs ≡ c.outputs
@@ -64,8 +64,8 @@ pub record Describes (d : Document) (c : Circuit) : Type 0 where
   pub one : (given : Name → Bool) → HasOneMap d given
   pub sinks : (given v : Name → Bool) → IsMapOf d given v → map v (sink_names d) ≡ values_by_name c given
 
--- The circuit of a document: it has the document's name and does what the document does, and its net is
--- the document's, with as many gates as the document costs.
+-- The circuit of a document: it has the document's model name and is equivalent to it, and its net is
+-- the document's net, with as many gates as the document costs.
 pub record IsCircuitOf (d : Document) (c : Circuit) : Type 0 where
   pub model : d.model ≡ c.model
   pub describes : Describes d c

@@ -1,5 +1,5 @@
--- The circuit of a well-formed document: it is proper, does what the document does, and has as many
--- gates as the document costs.
+-- The circuit of a well-formed document is proper, equivalent to the document, and has as many gates as the
+-- document costs.
 use Rattle.std.specs.Prelude.{◌≡◌, ℕ, zero, suc, ◌+◌, ◌<◌, ◌^◌, Bool, true, List, [], ◌∷◌, ◌++◌, length, slice_get, slice_index_or, map, All, Option, Some, None, refl}
 use Rattle.std.specs.Option.{option_map}
 use Rattle.std.proofs.Common.{arith, sym, ◌∙◌, ap, subst, ⊎_elim, length-append}
@@ -47,7 +47,7 @@ driven_known d g order is all n e =
     subst (HasSignal g) t.3 stands.output)
     (has_either (source_names d) (map table_output d.tables) n e)
 
--- ---- the map
+-- ---- the valuation
 
 map_is : (d : Document) (g : Growth) (order : List ℕ) (given : Name → Bool) → IsGrowth d g order → ((k : ℕ) → k < length d.tables → has_ended order k ≡ true) → IsMapOf d given (name_value d g given)
 map_is d g order given is all =

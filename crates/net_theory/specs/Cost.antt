@@ -1,10 +1,10 @@
--- The number of two-input gates that a table, and a netlist, is decomposed into.
+-- The number of two-input gates into which a table, or a whole netlist, is decomposed.
 use Rattle.std.specs.Prelude.{ℕ, ◌+◌, ◌-◌, Bool, true, false, ◌&&◌, ◌||◌, ◌==◌, if◌then◌else◌, List, [], ◌∷◌, ◌++◌, sum_by, count_by}
 use Rattle.net_theory.specs.Cover.{Cover, cover_value}
 use Rattle.net_theory.specs.Document.{Name, is_same, Table, Document}
 use Rattle.net_theory.specs.Expansion.{unary_word, binary_word, is_plain}
 
--- ---- tables whose two inputs have one name
+-- ---- tables with two inputs of the same name
 
 abbrev pub byte_if : Bool → ℕ → List (List ℕ)
 byte_if true b = (b ∷ []) ∷ []
@@ -18,39 +18,39 @@ abbrev pub merged : Table → List Name → Table
 merged t (a ∷ b ∷ []) = if is_same a b then record { inputs = a ∷ []; output = t.output; cover = unary_cover (cover_value t.cover (false ∷ false ∷ [])) (cover_value t.cover (true ∷ true ∷ [])) } else t
 merged t other = t
 
--- A table of two inputs that have one name is read as a table of one input.
+-- A table of two inputs with the same name is replaced by a table of one input.
 -- Example: `.names a a y` with `10 1` is constantly 0.
 unfoldable pub merged_table : Table → Table
 merged_table t = merged t t.inputs
 
 -- ---- costs
 
--- a function of one input takes a gate where it is NOT
+-- a function of one input costs one gate if it is NOT, else none
 abbrev pub unary_cost : ℕ → ℕ
 unary_cost word = if word == 2 then 1 else 0
 
--- a function of two inputs takes a gate but where it is constant or a copy
+-- a function of two inputs costs one gate, but none if it is constant or a copy
 abbrev pub binary_cost : ℕ → ℕ
 binary_cost word = if word == 0 || word == 15 || word == 3 || word == 5 then 0 else 1
 
--- how many inputs a cube asks for: its literals
+-- the number of literals of a cube
 abbrev pub literal_count : List ℕ → ℕ
 literal_count cube = count_by (λ b. b == 48 || b == 49) cube
 
 abbrev pub literal_sum : List (List ℕ) → ℕ
 literal_sum cubes = sum_by literal_count cubes
 
--- whether a cover of one literal is NOT of an input
+-- whether the cover is a single literal that makes it NOT of an input
 abbrev pub is_not : Bool → List (List ℕ) → Bool
 is_not on (cube ∷ []) = (literal_count cube == 1) && (if on then count_by (λ b. b == 48) cube == 1 else count_by (λ b. b == 48) cube == 0)
 is_not on other = false
 
--- A cover of more than two inputs takes a gate less than it has literals, and one more where it is
--- NOT of an input. It takes none where its form shows that it is constant.
+-- A cover of more than two inputs costs one gate less than it has literals, and one more if it is NOT of an
+-- input. It costs none if it is recognized as constant (`is_plain`).
 unfoldable pub cubes_cost : Cover → ℕ
 cubes_cost c = if is_plain c.cubes then 0 else (literal_sum c.cubes - 1) + (if is_not c.on c.cubes then 1 else 0)
 
--- A parity takes a gate less than it has inputs.
+-- A parity costs one gate less than it has inputs.
 unfoldable pub wide_cost : Cover → ℕ
 wide_cost c = if c.parity then c.width - 1 else cubes_cost c
 
@@ -60,7 +60,7 @@ cover_cost c (a ∷ []) = unary_cost (unary_word c)
 cover_cost c (a ∷ b ∷ []) = binary_cost (binary_word c)
 cover_cost c (a ∷ b ∷ d ∷ inputs) = wide_cost c
 
--- the number of gates that a table is decomposed into
+-- the number of gates into which a table is decomposed
 -- Example: `1-0 1` and `-11 1` cost 3; NOT and XOR cost 1, a copy costs 0, and XOR of five inputs 4.
 unfoldable pub table_cost : Table → ℕ
 table_cost t = cover_cost (merged_table t).cover (merged_table t).inputs

@@ -1,4 +1,4 @@
--- Dropping dead gates keeps the values of all sinks and leaves no dead gate.
+-- Removing dangling gates keeps the values of all sinks and leaves no dangling gate.
 use Rattle.std.specs.Prelude.{◌≡◌, ℕ, zero, suc, ◌+◌, ◌≤◌, ◌<◌, Bool, true, ◌&&◌, List, [], ◌∷◌, length, slice_get, map, Some, ◌⊎◌, refl}
 use Rattle.std.proofs.Common.{arith, sym, ◌∙◌, ap, subst, inl, inr, ⊎_elim}
 use Rattle.std.proofs.lemmas.Bool.{and_parts, and_from, cases_lt}
@@ -16,12 +16,12 @@ use Rattle.net_theory.specs.Dead.{kept_gates, dropped}
 use Rattle.net_theory.specs.Operators.{HasOperator}
 use Rattle.net_theory.specs.Answers.{IsStill, Answers, IsPruned}
 
--- ---- what dropping does
+-- ---- values after the removal
 
 live_closed : (n : Net) → IsNet n → IsClosedFrom n (is_sink n) (live n)
 live_closed n net = reach_closed n (is_sink n) net
 
--- the places that are live
+-- the nodes that are live
 abbrev IsLive : Net → ℕ → Type 0
 IsLive n p = (1 ≤ p) × (p < end_of n) × (live n p ≡ true)
 
@@ -45,7 +45,7 @@ made_by : (n : Net) (j : ℕ) (h : Gate) → IsNet n → slice_get (kept_gates n
 made_by n j h net at =
     ⊎_elim (λ none. absurd cc) (λ made. made) (kept_made (live n) n.sources (nothing_kept n.sources) (n.sources + 1) n.gates j h (λ i g a on. net.gates.each i g a) at)
 
--- ---- the net that is left
+-- ---- the remaining net
 
 size_gates : (n : Net) → length (kept_gates n).gates ≤ length n.gates
 size_gates n = omega (arith, count_kept (live n) n.sources (nothing_kept n.sources) (n.sources + 1) n.gates, marked_few (live n) (n.sources + 1) n.gates)
@@ -78,15 +78,15 @@ dropped_values n given net =
     map_values (sig_value (values_of given n.sources (kept_gates n).gates)) (sig_value (values_of given n.sources n.gates)) (moved (kept_gates n).places) n.sinks (λ i s e.
     moved_value n.sources (value n) (IsLive n) (kept_gates n) s given (all_moved n net) (sink_live n i s net e))
 
--- ---- what is left is reached
+-- ---- the remaining gates aren't dangling
 
--- whether a set of new places has the new signal of an old place
+-- whether a set of new nodes contains the new signal of an old node
 abbrev set_at : (ℕ → Bool) → Sig → Bool
 set_at set Zero = true
 set_at set One = true
 set_at set (Place p) = set p
 
--- whether an old place is live, and the set has its new signal
+-- whether an old node is live and the set contains its new signal
 abbrev went_into : Net → (ℕ → Bool) → ℕ → Bool
 went_into n set p = live n p && set_at set ((kept_gates n).places p)
 
@@ -94,13 +94,13 @@ reads_moved : (places : ℕ → Sig) (g : Gate) (p q : ℕ) → ReadsPlace g p �
 reads_moved places g p q reads e =
     ⊎_elim (λ a. inl (ap (moved places) a ∙ e)) (λ b. inr (ap (moved places) b ∙ e)) reads
 
--- `set_at` where a signal is a constant or a place of the set
+-- `set_at` holds of a signal that is a constant or a node of the set
 into_set : (set : ℕ → Bool) (s : Sig) → ((q : ℕ) → s ≡ Place q → set q ≡ true) → set_at set s ≡ true
 into_set set Zero each = refl
 into_set set One each = refl
 into_set set (Place q) each = each q refl
 
--- A closed set of the new net, as places of the old one, is closed there.
+-- A closed set of the new net, taken back to the old one, is closed there.
 went_closed : (n : Net) (set : ℕ → Bool) → IsNet n → IsClosedFrom (dropped n) (is_sink (dropped n)) set → IsClosedFrom n (is_sink n) (went_into n set)
 unfolding dropped
 went_closed n set net closed =
@@ -124,7 +124,7 @@ dropped_reached n j h net at set closed =
     let parts = and_parts (live n (n.sources + 1 + made.index)) (set_at set ((kept_gates n).places (n.sources + 1 + made.index))) reached in
     subst (λ (s : Sig). set_at set s ≡ true) made.went parts.1
 
--- sources keep their places
+-- sources keep their nodes
 source_kept : (n : Net) (p : ℕ) → p ≤ n.sources → (kept_gates n).places p ≡ Place p
 source_kept n p low =
     places_low (live n) n.sources (nothing_kept n.sources) (n.sources + 1) n.gates p (omega arith) ∙ source_stays n.sources p low
@@ -152,7 +152,7 @@ dropped_answers n net =
       equal = λ i j d low_i low_j same. index_map (moved (kept_gates n).places) n.sinks i d low_i ∙ ap (moved (kept_gates n).places) same ∙ sym (index_map (moved (kept_gates n).places) n.sinks j d low_j);
     }
 
--- Dropping dead gates leaves a net without any, whose sinks have the values of the old one's.
+-- The cleanup leaves a net without dangling gates whose sinks have the old values.
 pub dropped_is : (n : Net) → IsNet n → IsPruned n (dropped n)
 unfolding dropped
 dropped_is n net =
@@ -161,7 +161,7 @@ dropped_is n net =
       reached = λ j low. let h = some_there (kept_gates n).gates j low in dropped_reached n j h.0 net h.1;
     }
 
--- The gates that are left have operators of the old gates.
+-- Each remaining gate has the operator of an old gate.
 pub dropped_operators : (n : Net) (op : ℕ) → IsNet n → HasOperator (dropped n) op → HasOperator n op
 unfolding dropped
 dropped_operators n op net has =

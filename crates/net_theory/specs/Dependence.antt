@@ -1,4 +1,4 @@
--- Tables that read one another, and combinational loops.
+-- Dependence among tables, and combinational loops.
 use Rattle.std.specs.Prelude.{◌≡◌, ℕ, ◌<◌, slice_get, Some, true}
 use Rattle.net_theory.specs.Document.{Name, Table, Document, has}
 
@@ -17,12 +17,11 @@ pub data DependsOn (d : Document) : ℕ → ℕ → Type 0 where
   at_once : (i j : ℕ) → Reads d i j → DependsOn d i j
   by_way_of : (i j k : ℕ) → Reads d i j → DependsOn d j k → DependsOn d i k
 
--- no combinational loop: no table depends on itself (a loop through a latch goes through its
--- source)
+-- No combinational loop: no table depends on itself. (A latch breaks a loop, since its output is a source.)
 abbrev pub IsAcyclic : Document → Type 0
 IsAcyclic d = (i : ℕ) → DependsOn d i i → ⊥
 
--- `name` is the output of the first table that depends on itself
+-- `name` is the output of the first table, in the order of the text, that depends on itself
 -- Example: of `.names a n2 n1` and `.names n1 n2` that is n1.
 pub record IsFirstCyclic (d : Document) (name : Name) : Type 0 where
   pub place : ℕ

@@ -1,4 +1,4 @@
--- A circuit's net can be replaced by one that answers the same, and that one again.
+-- A circuit's net can be replaced by one that implements it, repeatedly.
 use Rattle.std.specs.Prelude.{◌≡◌, ℕ, ◌+◌, ◌<◌, length, slice_get, slice_index_or, Some, refl}
 use Rattle.std.proofs.Common.{arith, sym, ◌∙◌, ap, subst}
 use Rattle.std.proofs.lemmas.Option.{slice_get-get_or, get_or_from_slice_get}
@@ -8,7 +8,7 @@ use Rattle.net_theory.specs.Document.{Document}
 use Rattle.net_theory.specs.Circuit.{Circuit, sources_of, IsProper, by_place, Describes}
 use Rattle.net_theory.specs.Answers.{IsStill, Answers}
 
--- the circuit with another net
+-- the circuit with its net replaced
 abbrev pub with_net : Circuit → Net → Circuit
 with_net c m = record { model = c.model; inputs = c.inputs; outputs = c.outputs; clocks = c.clocks; latches = c.latches; net = m }
 

@@ -20,7 +20,7 @@ pub record Joined : Type 0 where
 abbrev pub gate_of : ℕ → Sig → Sig → Gate
 gate_of op a b = record { op = op; a = a; b = b }
 
--- the gates with one more, and the place of that one
+-- the gates with one more appended, and its node
 abbrev pub with_gate : ℕ → List Gate → Gate → Built
 with_gate sources gates g = record { gates = gates ++ g ∷ []; sig = Place (sources + 1 + length gates) }
 
@@ -28,7 +28,7 @@ abbrev pub constant_sig : Bool → Sig
 constant_sig true = One
 constant_sig false = Zero
 
--- ---- tables of one or two inputs: by the values of the table
+-- ---- tables of one or two inputs, by their truth table
 
 abbrev pub digit_of : Bool → ℕ
 digit_of true = 1
@@ -46,16 +46,16 @@ binary_word c = 8 * digit_of (cover_value c (false ∷ false ∷ [])) + 4 * digi
 abbrev pub with_not : ℕ → List Gate → Sig → Built
 with_not sources gates a = with_gate sources gates (gate_of 14 a a)
 
--- A constant and a copy take no gate.
+-- A table of one input: a constant and a copy need no gate.
 unfoldable pub unary_built : ℕ → List Gate → ℕ → Sig → Built
 unary_built sources gates word a = if word == 0 then record { gates = gates; sig = Zero } else (if word == 3 then record { gates = gates; sig = One } else (if word == 1 then record { gates = gates; sig = a } else with_not sources gates a))
 
--- So it is with two inputs; NOT of one of them is a gate over that one alone. Every other function
--- is one gate with its truth table as operator, its operands in the order of the table.
+-- A table of two inputs: a constant and a copy need no gate, and NOT of one input reads that input twice.
+-- Every other function is one gate with the truth table as operator and the inputs as operands, in order.
 unfoldable pub binary_built : ℕ → List Gate → ℕ → Sig → Sig → Built
 binary_built sources gates word a b = if word == 0 then record { gates = gates; sig = Zero } else (if word == 15 then record { gates = gates; sig = One } else (if word == 3 then record { gates = gates; sig = a } else (if word == 5 then record { gates = gates; sig = b } else (if word == 12 then with_not sources gates a else (if word == 10 then with_not sources gates b else with_gate sources gates (gate_of word a b))))))
 
--- ---- wider tables: by their cubes
+-- ---- tables of more inputs, by their cubes
 
 -- the operator of AND on two signals, each complemented or not
 abbrev pub and_word : Bool → Bool → ℕ
@@ -71,7 +71,7 @@ or_word false true = 11
 or_word true false = 13
 or_word true true = 14
 
--- one gate joins a signal to what was joined before; the signs go into its operator
+-- one gate joins the next signal to the result so far; its operator takes in both polarities
 abbrev pub joined : (Bool → Bool → ℕ) → ℕ → Joined → Signed → Joined
 joined word sources j s = record { gates = j.gates ++ gate_of (word j.out.turned s.turned) j.out.sig s.sig ∷ []; out = record { sig = Place (sources + 1 + length j.gates); turned = false } }
 
@@ -82,7 +82,7 @@ xor_word false true = 9
 xor_word true false = 9
 xor_word true true = 6
 
--- from the left: a chain of gates, left-deep
+-- joins signals from the left, as a left-deep chain of gates
 unfoldable pub join_from : (Bool → Bool → ℕ) → ℕ → Joined → List Signed → Joined
 join_from word sources j [] = j
 join_from word sources j (s ∷ ss) = join_from word sources (joined word sources j s) ss
@@ -90,13 +90,12 @@ join_from word sources j (s ∷ ss) = join_from word sources (joined word source
 abbrev pub signed : Sig → Bool → Signed
 signed sig turned = record { sig = sig; turned = turned }
 
--- one signal is itself, and more are joined; an empty list doesn't occur
+-- joins all signals of a nonempty list; a single signal needs no gate
 unfoldable pub join_all : (Bool → Bool → ℕ) → ℕ → List Gate → List Signed → Joined
 join_all word sources gates [] = record { gates = gates; out = signed Zero false }
 join_all word sources gates (s ∷ ss) = join_from word sources (record { gates = gates; out = s }) ss
 
--- the literals of a cube from the left: the inputs that it asks for, complemented where it asks for
--- 0
+-- the literals of a cube from the left: the inputs with a `1`, and those with a `0` complemented
 unfoldable pub literals : List ℕ → List Sig → List Signed
 literals [] inputs = []
 literals (c ∷ cube) [] = []
@@ -112,7 +111,7 @@ unfoldable pub terms_from : ℕ → List Sig → Terms → List (List ℕ) → T
 terms_from sources inputs t [] = t
 terms_from sources inputs t (c ∷ cubes) = terms_from sources inputs (record { gates = (join_all and_word sources t.gates (literals c inputs)).gates; outs = t.outs ++ (join_all and_word sources t.gates (literals c inputs)).out ∷ [] }) cubes
 
--- all cubes, and then their OR
+-- the OR of all cubes
 abbrev pub or_built : ℕ → Terms → Joined
 or_built sources t = join_all or_word sources t.gates t.outs
 
@@ -125,12 +124,12 @@ last_complemented [] = []
 last_complemented (g ∷ []) = complemented g ∷ []
 last_complemented (g ∷ h ∷ gs) = g ∷ last_complemented (h ∷ gs)
 
--- A complemented sign goes into the last gate of the table, or, where the table has no gate, into
--- NOT.
+-- A complement is pushed into the operator of the table's last gate, or, if the table has no gate, becomes a
+-- NOT gate.
 unfoldable pub finished : ℕ → ℕ → List Gate → Sig → Bool → Built
 finished sources before gates a turned = if turned then (if length gates == before then with_not sources gates a else record { gates = last_complemented gates; sig = a }) else record { gates = gates; sig = a }
 
--- a cube that asks for nothing matches each row
+-- whether a cube has no literal, so that it covers every minterm
 unfoldable pub asks_nothing : List ℕ → Bool
 asks_nothing cube = list_all (λ b. not (b == 48 || b == 49)) cube
 
@@ -138,11 +137,11 @@ abbrev pub is_none : List (List ℕ) → Bool
 is_none [] = true
 is_none (c ∷ cubes) = false
 
--- whether the form of the cubes shows that the cover is constant
+-- whether the cover is recognized as constant: no cubes, or a cube without literals
 abbrev pub is_plain : List (List ℕ) → Bool
 is_plain cubes = is_none cubes || list_any asks_nothing cubes
 
--- the result, complemented where the cover is for the value 0
+-- the result, complemented if the cover describes the off-set
 abbrev pub finished_by : ℕ → ℕ → Bool → Joined → Built
 finished_by sources before on j = finished sources before j.gates j.out.sig (if on then j.out.turned else not j.out.turned)
 
@@ -153,15 +152,15 @@ cover_built sources gates c inputs = if is_plain c.cubes then record { gates = g
 unfoldable pub unsigned : List Sig → List Signed
 unsigned inputs = map (λ a. signed a false) inputs
 
--- A parity is XOR of its inputs from the left; where it is for the value 0 the last gate is XNOR.
+-- A parity is XOR of its inputs from the left; if `on` is false, the last gate is XNOR.
 unfoldable pub parity_built : ℕ → List Gate → Bool → List Sig → Built
 parity_built sources gates on inputs = finished_by sources (length gates) on (join_all xor_word sources gates (unsigned inputs))
 
 unfoldable pub wide_built : ℕ → List Gate → Cover → List Sig → Built
 wide_built sources gates c inputs = if c.parity then parity_built sources gates c.on inputs else cover_built sources gates c inputs
 
--- The gates so far and those of the table, and the table's signal, where the inputs have the given
--- signals. They count as different inputs, also where two are equal or one is constant.
+-- Appends the gates of a table whose inputs are the given signals, and gives the table's signal. Inputs
+-- count as distinct, even if two signals are equal or one is constant.
 -- Example: `1-0 1` and `-11 1` over a, b, c become AND of a and not c, AND of b and c, and OR of these.
 abbrev pub expanded : ℕ → List Gate → Cover → List Sig → Built
 expanded sources gates c [] = record { gates = gates; sig = constant_sig (cover_value c []) }

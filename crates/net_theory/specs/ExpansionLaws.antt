@@ -1,4 +1,4 @@
--- A table's gates compute its value, and their number is its cost.
+-- A table's gates compute its function, and their number is its cost.
 use Rattle.std.specs.Prelude.{◌≡◌, ℕ, suc, ◌+◌, ◌-◌, ◌≤◌, ◌<◌, Bool, true, false, not, ◌&&◌, ◌||◌, ◌==◌, if◌then◌else◌, List, [], ◌∷◌, ◌++◌, length, map, count_by, refl}
 use Rattle.std.specs.List.{list_any, list_all, AllByRecursion}
 use Rattle.std.proofs.Common.{arith, sym, ◌∙◌, ap, subst, ⊎_elim, length-append, ◌≢◌}
@@ -39,7 +39,7 @@ IsComplement op = (apply (15 - op) false false ≡ not (apply op false false)) �
 complement_parts : (op : ℕ) → op < 16 → IsComplement op
 complement_parts = sixteen IsComplement (refl, refl, refl, refl) (refl, refl, refl, refl) (refl, refl, refl, refl) (refl, refl, refl, refl) (refl, refl, refl, refl) (refl, refl, refl, refl) (refl, refl, refl, refl) (refl, refl, refl, refl) (refl, refl, refl, refl) (refl, refl, refl, refl) (refl, refl, refl, refl) (refl, refl, refl, refl) (refl, refl, refl, refl) (refl, refl, refl, refl) (refl, refl, refl, refl) (refl, refl, refl, refl)
 
--- 15 less the operator is its complement.
+-- Operator 15 - op is the complement of op.
 pub complement_value : (op : ℕ) (a b : Bool) → op < 16 → apply (15 - op) a b ≡ not (apply op a b)
 complement_value op false false low = (complement_parts op low).0
 complement_value op false true low = (complement_parts op low).1
@@ -56,7 +56,7 @@ last_complemented-push [] g = refl
 last_complemented-push (h ∷ []) g = refl
 last_complemented-push (h ∷ k ∷ front) g = ap (λ gs. h ∷ gs) (last_complemented-push (k ∷ front) g)
 
--- ---- the sign of the result
+-- ---- the polarity of the result
 
 -- The last gate is replaced by its complement.
 complemented_built : (sources : ℕ) (old gates front : List Gate) (g : Gate) (more : ℕ) (bit : (ℕ → Bool) → Bool) (sig : Sig) → gates ≡ front ++ g ∷ [] → length old ≤ length front → length gates ≡ length old + more → IsGrown sources old gates → sig ≡ Place (sources + length gates) → ((given : ℕ → Bool) → not (sig_value (values_of given sources gates) sig) ≡ bit given) → IsBuilt sources old more bit (record { gates = last_complemented gates; sig = sig })
@@ -87,7 +87,7 @@ complemented_built sources old gates front g more bit sig e within count grown a
       value = last;
     })
 
--- what is built on top of what is built
+-- gates appended to gates that a table appended
 built_after : (sources : ℕ) (old mid : List Gate) (more extra : ℕ) (bit : (ℕ → Bool) → Bool) (b : Built) → IsGrown sources old mid → length mid ≡ length old + more → IsBuilt sources mid extra bit b → IsBuilt sources old (more + extra) bit b
 built_after sources old mid more extra bit b grown count is =
     record {
@@ -97,7 +97,7 @@ built_after sources old mid more extra bit b grown count is =
       value = is.value;
     }
 
--- the cost of the sign of a result that took `more` gates
+-- the cost of complementing a result that took `more` gates
 abbrev pub turn_cost : Bool → ℕ → ℕ
 turn_cost turned more = if turned && (more == 0) then 1 else 0
 
@@ -135,7 +135,7 @@ some_step : (asked nothing : Bool) (n : ℕ) → (not asked && nothing) ≡ fals
 some_step true nothing n e more = omega arith
 some_step false nothing n e more = omega (arith, more e)
 
--- a cube that asks for something has a literal
+-- a cube that isn't all `-` has a literal
 not_nothing : (cube : List ℕ) → asks_nothing cube ≡ false → 0 < literal_count cube
 unfolding asks_nothing
 not_nothing [] e = absurd cc
@@ -150,12 +150,12 @@ all_ask width (c ∷ cubes) all none =
     let wide = and_parts (length c == width) (list_all is_cube_byte c) all.0 in
     (eqb-true (length c) width wide.0, not_nothing c asks.0, all_ask width cubes all.1 asks.1)
 
--- the cubes of a cover that its form doesn't show to be constant
+-- the cubes of a cover that isn't recognized as constant
 pub cover_terms : (c : Cover) (width : ℕ) → IsCover c → c.width ≡ width → is_plain c.cubes ≡ false → AreTerms width c.cubes
 cover_terms c width is wide some =
     subst (λ (k : ℕ). AreTerms k c.cubes) wide (all_ask c.width c.cubes (recursion_from_All (λ cube. is_cube c.width cube ≡ true) c.cubes is.cubes) (or_parts (is_none c.cubes) (list_any asks_nothing c.cubes) some).1)
 
--- A cover of one literal is NOT of an input where the literal and the cover have different signs.
+-- A cover of one literal is NOT of an input if exactly one of the literal and the cover is complemented.
 one_literal : (on : Bool) (cube : List ℕ) (inputs : List Sig) (s : Signed) → literals cube inputs ≡ s ∷ [] → length cube ≡ length inputs → (if on then s.turned else not s.turned) ≡ (if on then count_by (λ b. b == 48) cube == 1 else count_by (λ b. b == 48) cube == 0)
 one_literal on cube inputs s e wide =
     let count : turned_count (s ∷ []) ≡ count_by (λ b. b == 48) cube = ap turned_count (sym e) ∙ literals_turned cube inputs wide in
@@ -166,7 +166,7 @@ one_literal on cube inputs s e wide =
       by_sign false true n e = rw (← e) refl
       by_sign false false n e = rw (← e) refl
 
--- the sign of the result, with that of the cover
+-- the polarity of the result, with that of the cover
 abbrev last_sign : Bool → Joined → Bool
 last_sign on j = if on then j.out.turned else not j.out.turned
 
@@ -180,7 +180,7 @@ above_one t x n more =
     let some : (n - 1 == 0) ≡ false = ne_eqb (n - 1) 0 (λ e. omega arith) in
     rw (other, some) (ap (λ (b : Bool). if b then 1 else 0) (and_right t false refl))
 
--- that sign costs what `cubes_cost` adds for NOT
+-- this polarity costs what `cubes_cost` adds for NOT
 sign_cost_by : (sources : ℕ) (old : List Gate) (on : Bool) (cube : List ℕ) (inputs : List Sig) (ls : List Signed) → literals cube inputs ≡ ls → length cube ≡ length inputs → length ls ≡ literal_count cube → 0 < literal_count cube → turn_cost (last_sign on (join_all and_word sources old ls)) (literal_count cube - 1) ≡ (if is_not on (cube ∷ []) then 1 else 0)
 unfolding join_all join_from
 sign_cost_by sources old on cube inputs [] e wide size some = absurd (omega arith)
@@ -230,7 +230,7 @@ not_none (c ∷ cubes) e = omega arith
 abbrev pub bits_of : ℕ → List Gate → List Sig → (ℕ → Bool) → List Bool
 bits_of sources gates inputs given = map (sig_value (values_of given sources gates)) inputs
 
--- a cover that its form doesn't show to be constant
+-- a cover that isn't recognized as constant
 wide_some : (sources : ℕ) (old : List Gate) (c : Cover) (inputs : List Sig) → AreGates sources old → AreSigsBelow (sources + 1 + length old) inputs → AreTerms (length inputs) c.cubes → is_none c.cubes ≡ false → IsBuilt sources old ((literal_sum c.cubes - 1) + (if is_not c.on c.cubes then 1 else 0)) (λ given. value_by c.on c.cubes (bits_of sources old inputs given)) (finished_by sources (length old) c.on (or_built sources (terms_from sources inputs (no_terms old) c.cubes)))
 wide_some sources old c inputs are below terms some =
     let j : Joined = or_built sources (terms_from sources inputs (no_terms old) c.cubes) in
@@ -240,7 +240,7 @@ wide_some sources old c inputs are below terms some =
     (finished_is sources old (literal_sum c.cubes - 1) j (any_matched sources old inputs c.cubes) (λ given. value_by c.on c.cubes (bits_of sources old inputs given)) (last_sign c.on j) is
     (λ given. last_value c.on j.out.turned (sig_value (values_of given sources j.gates) j.out.sig) (any_matched sources old inputs c.cubes given) (is.value given) ∙ sym (value_some c.on c.cubes (bits_of sources old inputs given) some)))
 
--- a cube that asks for nothing covers each row
+-- a cube without literals covers every minterm
 nothing_matches : (cube : List ℕ) (bits : List Bool) → asks_nothing cube ≡ true → matches cube bits ≡ true
 unfolding asks_nothing matches
 nothing_matches [] bits e = refl
@@ -353,8 +353,8 @@ wide_is sources old c inputs are below is wide two =
 
 -- ---- all tables
 
--- The gates of a cover come after `old`, their number is its cost, and its signal has the value of
--- the cover at the inputs' bits.
+-- Expanding a cover appends as many gates to `old` as it costs, and its signal has the cover's value at the
+-- inputs' bits.
 pub expanded_is : (sources : ℕ) (old : List Gate) (c : Cover) (inputs : List Sig) → AreGates sources old → AreSigsBelow (sources + 1 + length old) inputs → IsCover c → c.width ≡ length inputs → IsBuilt sources old (cover_cost c inputs) (λ given. cover_value c (bits_of sources old inputs given)) (expanded sources old c inputs)
 expanded_is sources old c [] are below is wide = built_constant sources old (cover_value c []) are
 expanded_is sources old c (a ∷ []) are below is wide =

@@ -1,4 +1,4 @@
--- The graph of a document is what its tables read, and a document without combinational loops has a
+-- The graph of a document has its tables' fanins as edges, and a document without combinational loops has a
 -- topological order.
 use Rattle.std.specs.Prelude.{◌≡◌, ℕ, zero, suc, ◌+◌, ◌<◌, true, nat_eq, List, [], ◌∷◌, length, slice_get, slice_index_or, map, Option, Some, None, ◌⊎◌, refl}
 use Rattle.std.specs.List.{filter_map, cons_option}
@@ -16,7 +16,7 @@ use Rattle.net_theory.specs.NetOf.{driver_from, driver_of, graph_of}
 
 -- ---- drivers
 
--- a driver drives the name
+-- table k is the first that drives the name
 pub record Drives (ts : List Table) (name : Name) (k : ℕ) : Type 0 where
   pub table : Table
   pub at : slice_get ts k ≡ Some table
@@ -149,12 +149,12 @@ pub depends_leads : (d : Document) (i j : ℕ) → are_distinct (map table_outpu
 depends_leads d _ _ distinct (at_once i j r) = visit.at_once i j (reads_in d i j distinct r)
 depends_leads d _ _ distinct (by_way_of i j k r more) = visit.by_way_of i j k (reads_in d i j distinct r) (depends_leads d j k distinct more)
 
--- Where there is a topological order, no table depends on itself.
+-- If there is a topological order, no table depends on itself.
 pub order_acyclic : (d : Document) (order : List ℕ) → are_distinct (map table_output d.tables) ≡ true → order_of (graph_of d.tables) ≡ Some order → IsAcyclic d
 order_acyclic d order distinct e i depends =
     order_apart (graph_of d.tables) order i (order_is (graph_of d.tables) order (graph_closed d) e) (depends_leads d i i distinct depends)
 
--- Where there is none, some table does.
+-- If there is none, some table depends on itself.
 pub no_order_cyclic : (d : Document) → order_of (graph_of d.tables) ≡ None → (i : ℕ) × DependsOn d i i
 no_order_cyclic d e =
     let r = no_order (graph_of d.tables) (graph_closed d) e in
@@ -164,6 +164,6 @@ order_by : (d : Document) → IsAcyclic d → (r : Option (List ℕ)) → order_
 order_by d acyclic None e = let r = no_order_cyclic d e in absurd (acyclic r.0 r.1)
 order_by d acyclic (Some order) e = (order, e)
 
--- Where no table depends on itself there is a topological order.
+-- If no table depends on itself, there is a topological order.
 pub acyclic_order : (d : Document) → IsAcyclic d → (order : List ℕ) × (order_of (graph_of d.tables) ≡ Some order)
 acyclic_order d acyclic = order_by d acyclic (order_of (graph_of d.tables)) refl

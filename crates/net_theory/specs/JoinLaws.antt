@@ -9,7 +9,7 @@ use Rattle.net_theory.specs.Net.{IsSigBelow, IsGateAt, AreGates, sig_value, valu
 use Rattle.net_theory.specs.Expansion.{gate_of, Joined, joined, join_from, join_all, and_word, or_word, xor_word}
 use Rattle.net_theory.specs.ValueLaws.{IsGrown, grown_none, grown_push, grown_more, grown_sig, grown_below, value-last}
 
--- ---- signs
+-- ---- polarities
 
 abbrev pub turn : Bool → Bool → Bool
 turn false b = b
@@ -25,7 +25,7 @@ abbrev pub AreSignedBelow : ℕ → List Signed → Type 0
 AreSignedBelow place [] = Unit {0}
 AreSignedBelow place (s ∷ ss) = IsSignedBelow place s × AreSignedBelow place ss
 
--- for each two signs `word` has the operator that is f on the signed values
+-- for any two polarities, the operator `word` is f on the values with these polarities
 pub record Joins (word : Bool → Bool → ℕ) (f : Bool → Bool → Bool) : Type 0 where
   pub low : (ta tb : Bool) → word ta tb < 16
   pub same : (ta tb a b : Bool) → apply (word ta tb) a b ≡ f (turn ta a) (turn tb b)
@@ -127,8 +127,8 @@ unfoldable pub fold_from : (Bool → Bool → Bool) → Bool → List Bool → B
 fold_from f b [] = b
 fold_from f b (x ∷ xs) = fold_from f (f b x) xs
 
--- What joining gives: the gates of `old` and `more` after them, and a signal with the value `bit`.
--- If `more` isn't 0, the last gate is the signal.
+-- The result of joining: `more` gates appended to `old`, and a signal with the value `bit`, which is the last
+-- gate unless `more` is 0.
 pub record IsJoined (sources : ℕ) (old : List Gate) (more : ℕ) (bit : (ℕ → Bool) → Bool) (j : Joined) : Type 0 where
   pub grown : IsGrown sources old j.gates
   pub count : length j.gates ≡ length old + more

@@ -1,4 +1,4 @@
--- Merging the two equal inputs of a table keeps its value.
+-- Merging the two equal inputs of a table keeps its function.
 use Rattle.std.specs.Prelude.{◌≡◌, ℕ, zero, suc, ◌<◌, Bool, true, false, if◌then◌else◌, List, [], ◌∷◌, length, map, refl}
 use Rattle.std.proofs.Common.{arith, sym, ◌∙◌, ap, subst, ⊎_elim}
 use Rattle.std.proofs.lemmas.Bool.{cond_both}
@@ -34,7 +34,7 @@ unary_cover_is true true = record { cubes = two; parity = λ e. absurd cc } wher
   two (suc zero) d low = refl
   two (suc (suc k)) d low = absurd (omega arith)
 
--- the merged table m has the output and the value of t, and no input but those of t
+-- the merged table m has the output and the function of t, and only inputs of t
 pub record IsMerged (t m : Table) : Type 0 where
   pub output : m.output ≡ t.output
   pub cover : IsCover m.cover

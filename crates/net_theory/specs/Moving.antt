@@ -1,11 +1,11 @@
--- Copying marked gates, in their order, to new places.
+-- Copying the marked gates of a net, in order, with a map from old nodes to new signals.
 use Rattle.std.specs.Prelude.{ℕ, ◌+◌, Bool, ◌==◌, nat_le, if◌then◌else◌, List, [], ◌∷◌, ◌++◌, length}
 use Rattle.net_theory.specs.declared.data.Sig.{Sig}
 use Rattle.net_theory.specs.declared.data.Sig.TheVariants.{Zero, One, Place}
 use Rattle.net_theory.specs.declared.data.Gate.{Gate}
 use Rattle.net_theory.specs.Expansion.{gate_of}
 
--- the map from old places to new signals, and the gates so far
+-- the map from old nodes to new signals, and the gates so far
 pub record Kept : Type 0 where
   pub places : ℕ → Sig
   pub gates : List Gate
@@ -25,17 +25,17 @@ put_sig places place s p = if p == place then s else places p
 abbrev pub with_kept : ℕ → Kept → ℕ → Gate → Kept
 with_kept sources k place g = record { places = put_sig k.places place (Place (sources + 1 + length k.gates)); gates = k.gates ++ moved_gate k.places g ∷ [] }
 
--- The marked gates in their order, after those of k; the first gate of the list is at `place`.
+-- Appends copies of the marked gates to those of k, in order; the first gate of the list is the node `place`.
 unfoldable pub kept_after : (ℕ → Bool) → ℕ → Kept → ℕ → List Gate → Kept
 kept_after marks sources k place [] = k
 kept_after marks sources k place (g ∷ gs) = kept_after marks sources (if marks place then with_kept sources k place g else k) (place + 1) gs
 
--- how many of the gates are marked
+-- the number of marked gates
 unfoldable pub marked_count : (ℕ → Bool) → ℕ → List Gate → ℕ
 marked_count marks place [] = 0
 marked_count marks place (g ∷ gs) = (if marks place then 1 else 0) + marked_count marks (place + 1) gs
 
--- the map before any gate is copied: sources stay where they are
+-- the map before any gate is copied: sources keep their nodes
 abbrev pub sources_stay : ℕ → ℕ → Sig
 sources_stay sources p = if nat_le p sources then Place p else Zero
 

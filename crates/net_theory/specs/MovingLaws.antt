@@ -1,4 +1,4 @@
--- Copied gates have the values that they had, whatever the old places and values are.
+-- Copied gates keep their values, for any map from old nodes to new signals.
 use Rattle.std.specs.Prelude.{◌≡◌, ℕ, zero, suc, ◌+◌, ◌≤◌, ◌<◌, Bool, true, false, ◌==◌, nat_le, if◌then◌else◌, List, [], ◌∷◌, ◌++◌, length, slice_get, Some, ◌⊎◌, refl}
 use Rattle.std.proofs.Common.{arith, sym, ◌∙◌, ap, subst, inl, inr, ⊎_elim, length-append, ◌≢◌, add-zero}
 use Rattle.std.proofs.lemmas.Bool.{cond_both, cond-true, cond-false, eq-eqb, ne_eqb, le-leb, both_ways, cases_eq, cases_lt, cases_Bool}
@@ -18,7 +18,7 @@ put_same places place s = cond-true (place == place) s (places place) (eq-eqb pl
 put_other : (places : ℕ → Sig) (place : ℕ) (s : Sig) (p : ℕ) → p ≢ place → put_sig places place s p ≡ places p
 put_other places place s p other = cond-false (p == place) s (places p) (ne_eqb p place other)
 
--- places that agree below a place move signals below it alike
+-- maps that agree below a node agree on all signals below it
 pub moved-same : (f g : ℕ → Sig) (place : ℕ) (s : Sig) → IsSigBelow place s → ((p : ℕ) → p < place → f p ≡ g p) → moved f s ≡ moved g s
 moved-same f g place Zero below same = refl
 moved-same f g place One below same = refl
@@ -28,7 +28,7 @@ pub moved_gate-same : (f g : ℕ → Sig) (place : ℕ) (x : Gate) → IsGateAt 
 moved_gate-same f g place x is same =
     rw (moved-same f g place x.a is.first same, moved-same f g place x.b is.second same) refl
 
--- ---- new signals of old places
+-- ---- new signals of old nodes
 
 -- One step of copying.
 abbrev next_kept : (ℕ → Bool) → ℕ → Kept → ℕ → Gate → Kept
@@ -38,14 +38,14 @@ next_other : (marks : ℕ → Bool) (sources : ℕ) (k : Kept) (place : ℕ) (g 
 next_other marks sources k place g p other =
     cond_both (marks place) (with_kept sources k place g) k (λ (x : Kept). x.places p ≡ k.places p) (λ on. put_other k.places place (Place (sources + 1 + length k.gates)) p other) (λ off. refl)
 
--- a place below the gates keeps its new signal
+-- a node below the gates keeps its new signal
 pub places_low : (marks : ℕ → Bool) (sources : ℕ) (k : Kept) (place : ℕ) (gs : List Gate) (p : ℕ) → p < place → (kept_after marks sources k place gs).places p ≡ k.places p
 unfolding kept_after
 places_low marks sources k place [] p low = refl
 places_low marks sources k place (g ∷ gs) p low =
     places_low marks sources (next_kept marks sources k place g) (place + 1) gs p (omega arith) ∙ next_other marks sources k place g p (omega arith)
 
--- gates that are there stay where they are
+-- gates that are already there don't move
 pub gates_stay : (marks : ℕ → Bool) (sources : ℕ) (k : Kept) (place : ℕ) (gs : List Gate) (j : ℕ) (h : Gate) → slice_get k.gates j ≡ Some h → slice_get (kept_after marks sources k place gs).gates j ≡ Some h
 unfolding kept_after
 gates_stay marks sources k place [] j h e = e
@@ -53,7 +53,7 @@ gates_stay marks sources k place (g ∷ gs) j h e =
     gates_stay marks sources (next_kept marks sources k place g) (place + 1) gs j h
     (cond_both (marks place) (with_kept sources k place g) k (λ (x : Kept). slice_get x.gates j ≡ Some h) (λ on. at_front k.gates (moved_gate k.places g ∷ []) j h e) (λ off. e))
 
--- each marked gate is one more
+-- each marked gate adds one gate
 pub count_kept : (marks : ℕ → Bool) (sources : ℕ) (k : Kept) (place : ℕ) (gs : List Gate) → length (kept_after marks sources k place gs).gates ≡ length k.gates + marked_count marks place gs
 unfolding kept_after marked_count
 count_kept marks sources k place [] = omega arith
@@ -69,7 +69,7 @@ marked_few marks place [] = omega arith
 marked_few marks place (g ∷ gs) =
     cond_both (marks place) 1 0 (λ (x : ℕ). x + marked_count marks (place + 1) gs ≤ suc (length gs)) (λ on. omega (arith, marked_few marks (place + 1) gs)) (λ off. omega (arith, marked_few marks (place + 1) gs))
 
--- the copy of the gate at `place`
+-- the copy of the gate `place`
 pub record Goes (sources : ℕ) (k : Kept) (place : ℕ) (g : Gate) : Type 0 where
   pub j : ℕ
   pub went : k.places place ≡ Place (sources + 1 + j)
@@ -112,7 +112,7 @@ pub record IsMade (marks : ℕ → Bool) (sources place : ℕ) (gs : List Gate) 
   pub went : places (place + index) ≡ Place (sources + 1 + j)
   pub is : h ≡ moved_gate places gate
 
--- each marked gate reads what is below it
+-- the operands of each marked gate are below it
 abbrev pub AreMarkedAt : (ℕ → Bool) → ℕ → List Gate → Type 0
 AreMarkedAt marks place gs = (i : ℕ) (g : Gate) → slice_get gs i ≡ Some g → marks (place + i) ≡ true → IsGateAt (place + i) g
 
@@ -138,7 +138,7 @@ made_later marks sources place g gs places j h m =
       is = m.is;
     }
 
--- Each gate of the result was there, or is the copy of a marked one.
+-- Each gate of the result was already there or is the copy of a marked one.
 pub kept_made : (marks : ℕ → Bool) (sources : ℕ) (k : Kept) (place : ℕ) (gs : List Gate) (j : ℕ) (h : Gate) → AreMarkedAt marks place gs → slice_get (kept_after marks sources k place gs).gates j ≡ Some h → (slice_get k.gates j ≡ Some h) ⊎ IsMade marks sources place gs (kept_after marks sources k place gs).places j h
 unfolding kept_after
 kept_made marks sources k place [] j h are e = inl e
@@ -174,7 +174,7 @@ kept_made marks sources k place (g ∷ gs) j h are e =
 
 -- ---- values
 
--- The copies are gates, and each place of `known` has a new signal of its old value.
+-- The copies are valid gates, and each node of `known` has a new signal with its old value.
 pub record Moves (sources : ℕ) (old : (ℕ → Bool) → ℕ → Bool) (known : ℕ → Type 0) (k : Kept) : Type 0 where
   pub gates : AreGates sources k.gates
   pub below : (p : ℕ) → known p → IsSigBelow (sources + 1 + length k.gates) (k.places p)
@@ -184,7 +184,7 @@ pub moves_less : (sources : ℕ) (old : (ℕ → Bool) → ℕ → Bool) (known 
 moves_less sources old known fewer k less is =
     record { gates = is.gates; below = λ p e. is.below p (less p e); same = λ given p e. is.same given p (less p e) }
 
--- the new signal of a known one is below the next gate
+-- the new signal of a known node is below the next gate
 pub moved_below : (sources : ℕ) (old : (ℕ → Bool) → ℕ → Bool) (known : ℕ → Type 0) (k : Kept) (s : Sig) → Moves sources old known k → ((p : ℕ) → s ≡ Place p → known p) → IsSigBelow (sources + 1 + length k.gates) (moved k.places s)
 moved_below sources old known k Zero is knows = tt
 moved_below sources old known k One is knows = tt
@@ -230,20 +230,20 @@ keep_one sources old known k place g is low knows worth =
       grown,
     )
 
--- p is marked, and one of the `count` places from `place` on
+-- p is marked, and one of the `count` nodes from `place` on
 pub record IsMarked (marks : ℕ → Bool) (place count p : ℕ) : Type 0 where
   pub low : place ≤ p
   pub high : p < place + count
   pub mark : marks p ≡ true
 
--- What a marked gate reads is known or is a marked gate before it, and its old value is its
+-- Each operand of a marked gate is known or is an earlier marked gate, and the gate's old value is its
 -- operator on the old values of its operands.
 pub record AreMovable (old : (ℕ → Bool) → ℕ → Bool) (known : ℕ → Type 0) (marks : ℕ → Bool) (place : ℕ) (gs : List Gate) : Type 0 where
   pub operators : (i : ℕ) (g : Gate) → slice_get gs i ≡ Some g → marks (place + i) ≡ true → g.op < 16
   pub reads : (i p : ℕ) (g : Gate) → slice_get gs i ≡ Some g → marks (place + i) ≡ true → ReadsPlace g p → known p ⊎ IsMarked marks place i p
   pub values : (given : ℕ → Bool) (i : ℕ) (g : Gate) → slice_get gs i ≡ Some g → marks (place + i) ≡ true → old given (place + i) ≡ gate_value (old given) g
 
--- known, or the place just passed
+-- known, or the node of the current gate
 abbrev pub KnownNext : (ℕ → Type 0) → (ℕ → Bool) → ℕ → ℕ → Type 0
 KnownNext known marks place p = known p ⊎ ((p ≡ place) × (marks place ≡ true))
 
@@ -269,7 +269,7 @@ tail_movable old known marks place g gs are =
 no_mark : (marks : ℕ → Bool) (place p : ℕ) → IsMarked marks place 0 p → ⊥
 no_mark marks place p m = omega (arith, m.low, m.high)
 
--- the first gate is passed
+-- one step: the first gate
 pass_one : (sources : ℕ) (old : (ℕ → Bool) → ℕ → Bool) (known : ℕ → Type 0) (marks : ℕ → Bool) (k : Kept) (place : ℕ) (g : Gate) (gs : List Gate) → Moves sources old known k → AreMovable old known marks place (g ∷ gs) → Moves sources old (KnownNext known marks place) (next_kept marks sources k place g) × IsGrown sources k.gates (next_kept marks sources k place g).gates
 pass_one sources old known marks k place g gs is are =
     let e : place + 0 ≡ place = add-zero place in
@@ -282,8 +282,8 @@ pass_one sources old known marks k place g gs is are =
     (moves_less sources old (λ p. known p ⊎ (p ≡ place)) (KnownNext known marks place) (with_kept sources k place g) (λ p x. ⊎_elim (λ k. inl k) (λ own. inr own.0) x) r.0, r.1))
     (λ off. (moves_less sources old known (KnownNext known marks place) k (λ p x. ⊎_elim (λ k. k) (λ own. absurd (both_ways (marks place) off own.1)) x) is, grown_none sources k.gates is.gates))
 
--- Copying keeps what was known and makes the marked places known, and the gates that were there
--- keep their values.
+-- After copying, all known nodes are still known and the marked nodes are known too; the gates that were
+-- already there keep their values.
 pub keep_all : (sources : ℕ) (old : (ℕ → Bool) → ℕ → Bool) (known : ℕ → Type 0) (marks : ℕ → Bool) (k : Kept) (place : ℕ) (gs : List Gate) → Moves sources old known k → AreMovable old known marks place gs → Moves sources old (λ p. known p ⊎ IsMarked marks place (length gs) p) (kept_after marks sources k place gs) × IsGrown sources k.gates (kept_after marks sources k place gs).gates
 unfolding kept_after
 keep_all sources old known marks k place [] is are =
@@ -317,12 +317,12 @@ moves_start n =
           ∙ sym (value-source given n.sources p n.gates is.1);
     }
 
--- what a gate reads is a place below it
+-- a fanin of a gate is a node below it
 pub reads_below : (place p : ℕ) (g : Gate) → IsGateAt place g → ReadsPlace g p → (1 ≤ p) × (p < place)
 reads_below place p g is reads =
     ⊎_elim (λ a. subst (IsSigBelow place) a is.first) (λ b. subst (IsSigBelow place) b is.second) reads
 
--- The marked gates of a net can be copied where each reads what is marked or known.
+-- The marked gates of a net can be copied if each of their operands is marked or known.
 pub net_movable : (n : Net) (known : ℕ → Type 0) (marks : ℕ → Bool) → IsNet n → ((p : ℕ) → IsSourcePlace n.sources p → known p) → ((i p : ℕ) (g : Gate) → slice_get n.gates i ≡ Some g → ReadsPlace g p → marks (n.sources + 1 + i) ≡ true → known p ⊎ (marks p ≡ true)) → AreMovable (value n) known marks (n.sources + 1) n.gates
 net_movable n known marks net sources closed =
     record {

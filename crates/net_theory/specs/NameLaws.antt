@@ -1,4 +1,4 @@
--- Names in lists, and names that differ.
+-- Names in lists, and distinct names.
 use Rattle.std.specs.Prelude.{◌≡◌, ℕ, zero, suc, ◌<◌, true, false, not, ◌||◌, List, [], ◌∷◌, ◌++◌, length, slice_get, slice_index_or, map, All, Some, ◌⊎◌, refl}
 use Rattle.std.specs.List.{list_any, flat_map}
 use Rattle.std.specs.Cmp.Lexicographic.{bytes_decides}
@@ -69,7 +69,7 @@ has_at [] k n e = absurd cc
 has_at (m ∷ ns) zero n e = let same : m ≡ n = cc in subst (λ (x : Name). has (m ∷ ns) x ≡ true) same (has_first m ns)
 has_at (m ∷ ns) (suc k) n e = has_later m ns n (has_at ns k n e)
 
--- what holds of each name of a list holds of one in it
+-- a property of all names of a list holds of a name in it
 pub all_has : (P : Name → Type 0) (ns : List Name) (n : Name) → All P ns → has ns n ≡ true → P n
 all_has P [] n all e = absurd (has_none n e)
 all_has P (m ∷ ns) n all e =
@@ -80,7 +80,7 @@ has_all P [] each k d low = absurd (omega arith)
 has_all P (m ∷ ns) each zero d low = each m (has_first m ns)
 has_all P (m ∷ ns) each (suc k) d low = has_all P ns (λ n e. each n (has_later m ns n e)) k d (omega arith)
 
--- ---- names that differ
+-- ---- distinct names
 
 pub distinct_cons : (n : Name) (ns : List Name) → are_distinct (n ∷ ns) ≡ true → (has ns n ≡ false) × (are_distinct ns ≡ true)
 unfolding are_distinct
@@ -163,7 +163,7 @@ has_flat_at f (y ∷ xs) zero x n e h =
     has_left (f y) (flat_map f xs) n (subst (λ z. has (f z) n ≡ true) (sym same) h)
 has_flat_at f (y ∷ xs) (suc k) x n e h = has_right (f y) (flat_map f xs) n (has_flat_at f xs k x n e h)
 
--- what holds of each element holds of the one at a place
+-- a property of all elements holds of the one at an index
 pub all_at : {A : Type 0} (P : A → Type 0) (xs : List A) (k : ℕ) (x : A) → All P xs → slice_get xs k ≡ Some x → P x
 all_at P [] k x all e = absurd cc
 all_at P (y ∷ xs) zero x all e = let same : y ≡ x = cc in subst P same (all 0 y (omega arith))

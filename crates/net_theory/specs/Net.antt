@@ -1,23 +1,22 @@
--- Nets (networks) of two-input gates, and the values of their places (nodes).
+-- Nets (short for logic networks) of two-input gates, and the values of their nodes.
 --
--- Dictionary: the words of this program's netlists, and those of ABC and mockturtle.
---   net                   logic network of two-input nodes, each an arbitrary function
---   circuit               network with names
+-- Glossary: the terms of this program's netlists, with those of ABC and mockturtle.
+--   net                   logic network of two-input gates, each with an arbitrary function
+--   circuit               net with names
 --   document              parsed netlist, syntax tree
 --   source                combinational input (CI): primary input or latch output
 --   sink                  combinational output (CO): primary output or latch input
---   place                 node, node index; place 0 doesn't exist
---   signal                node or constant; with a sign: literal, possibly complemented
---   a gate reads a place  the place is a fanin of the gate, the gate a fanout of the place
---   reach, live           transitive fanin (TFI), of the sinks
+--   node                  a source or a gate, by its index; node 0 doesn't exist
+--   signal                node or constant; `Signed`: literal, possibly complemented
+--   a gate reads a node   the node is a fanin of the gate, the gate a fanout of the node
+--   reach, live           transitive fanin (TFI); TFI of the sinks
 --   order of a visit      topological order by depth-first search
 --   table                 `.names` node, with a cover: sum of products (SOP)
 --   expand, cost          decomposition into two-input gates, and their number
---   dead gate             dangling node; they go in a cleanup
---   keep, move            copying nodes with a map from old nodes to new signals
---   alike, merge          structurally equal; structural hashing (strash)
---   m answers for n       functional equivalence with no more gates
---   first value           initial value of a latch
+--   dangling gate         gate outside the TFI of the sinks; a cleanup removes it
+--   keep, move            copying gates with a map from old nodes to new signals
+--   strash                structural hashing: merging structurally equal gates
+--   m implements n        functional equivalence with no more gates
 use Rattle.std.specs.Prelude.{◌≡◌, ℕ, ◌+◌, ◌-◌, ◌==◌, if◌then◌else◌, slice_index_or, ◌≤◌, ◌<◌, ◌^◌, Bool, true, false, List, [], ◌∷◌, length, map, slice_get, Some, All}
 use Rattle.chain_theory.specs.Operator.{apply}
 use Rattle.chain_theory.specs.Value.{extended}
@@ -25,32 +24,32 @@ use Rattle.net_theory.specs.declared.data.Sig.{Sig}
 use Rattle.net_theory.specs.declared.data.Sig.TheVariants.{Zero, One, Place}
 use Rattle.net_theory.specs.declared.data.Gate.{Gate}
 
--- The places 1 to `sources` are the sources. The gates have the next places, in order, which is
--- topological. The sinks are the signals that the net answers.
--- Example: XOR of two sources is sources = 2, the one gate op = 6, a = Place 1, b = Place 2, and
--- the one sink Place 3.
+-- The nodes 1 to `sources` are the sources. The gates are the next nodes, in a topological order. The sinks
+-- are the net's output signals.
+-- Example: XOR of two sources has sources = 2, one gate with op = 6, a = `Place 1` and b = `Place 2`, and one
+-- sink, `Place 3`.
 pub record Net : Type 0 where
   pub sources : ℕ
   pub gates : List Gate
   pub sinks : List Sig
 
--- a signal below `place`: a constant or one of the places below
+-- the signal is a constant or a node below `place`
 abbrev pub IsSigBelow : ℕ → Sig → Type 0
 IsSigBelow place Zero = Unit {0}
 IsSigBelow place One = Unit {0}
 IsSigBelow place (Place p) = (1 ≤ p) × (p < place)
 
--- the operands (fanins) of the gate at `place` are constants or places below it
+-- the operands (fanins) of the gate at `place` are constants or nodes below it
 pub record IsGateAt (place : ℕ) (g : Gate) : Type 0 where
   pub operator : g.op < 16
   pub first : IsSigBelow place g.a
   pub second : IsSigBelow place g.b
 
--- each gate is valid at its place; the first one comes after the sources
+-- the operands of each gate are below it; the first gate comes after the sources
 pub record AreGates (sources : ℕ) (gates : List Gate) : Type 0 where
   pub each : (i : ℕ) (g : Gate) → slice_get gates i ≡ Some g → IsGateAt (sources + 1 + i) g
 
--- the first number after the places
+-- one more than the index of the last node
 abbrev pub end_of : Net → ℕ
 end_of n = n.sources + 1 + length n.gates
 
@@ -61,32 +60,32 @@ pub record IsNet (n : Net) : Type 0 where
 
 -- ---- values
 
--- the value of a signal, from the bits of the places
+-- the value of a signal, by the bits of the nodes
 abbrev pub sig_value : (ℕ → Bool) → Sig → Bool
 sig_value bits Zero = false
 sig_value bits One = true
 sig_value bits (Place p) = bits p
 
--- the value of a gate is its operator on the values of its operands
+-- the value of a gate: its operator on the values of its operands
 abbrev pub gate_value : (ℕ → Bool) → Gate → Bool
 gate_value bits g = apply g.op (sig_value bits g.a) (sig_value bits g.b)
 
--- the bit of a place in the list of the bits of the places from 1 on; there is no place 0
+-- the bit of a node, in a list that begins with node 1; there is no node 0
 abbrev pub bit_of : List Bool → ℕ → Bool
 bit_of bits place = if place == 0 then false else slice_index_or bits (place - 1) false
 
--- Simulation: each gate in turn sets the bit of its place, the first one that of `place`.
+-- Simulation: each gate in turn sets the bit of its node; the first gate is node `place`.
 unfoldable pub values_after : (ℕ → Bool) → ℕ → List Gate → ℕ → Bool
 values_after bits place [] = bits
 values_after bits place (g ∷ gs) = values_after (extended bits place (gate_value bits g)) (place + 1) gs
 
--- the bits of the places, where the sources have the bits of `given`
+-- the bits of the nodes, where the sources have the bits of `given`
 abbrev pub values_of : (ℕ → Bool) → ℕ → List Gate → ℕ → Bool
 values_of given sources gates = values_after given (sources + 1) gates
 
--- The value of a source is the bit that `given` gives it, and the value of a gate's place is its
--- operator on the values of its operands (a law of this crate says so).
--- Example: XOR under the given bits 1 and 0 has the values 1, 0 and 1 at the places 1, 2 and 3.
+-- The value of a source is the bit that `given` gives it, and the value of a gate's node is its
+-- operator on the values of its operands (proved by `values_of_places`).
+-- Example: XOR under the given bits 1 and 0 has the values 1, 0 and 1 at the nodes 1, 2 and 3.
 abbrev pub value : Net → (ℕ → Bool) → ℕ → Bool
 value n given place = values_of given n.sources n.gates place
 

@@ -1,4 +1,4 @@
--- The net of a document computes what the document says.
+-- The net of a document computes the document's functions.
 use Rattle.std.specs.Prelude.{◌≡◌, ℕ, zero, suc, ◌+◌, ◌<◌, Bool, true, false, ◌||◌, nat_eq, if◌then◌else◌, List, [], ◌∷◌, ◌++◌, length, slice_get, slice_index_or, map, sum_by, Option, Some, None, unwrap_or, ◌⊎◌, refl}
 use Rattle.std.specs.List.{flat_map}
 use Rattle.std.proofs.Common.{arith, sym, ◌∙◌, ap, subst, inl, inr, ⊎_elim, append_assoc, append-nil, ◌≢◌}
@@ -42,7 +42,7 @@ HasSignal g n = (s : Sig) × (g.signals n ≡ Some s)
 abbrev pub end_of_growth : Document → Growth → ℕ
 end_of_growth d g = source_count d + 1 + length g.gates
 
--- a table's names have signals, and its output has the table's value
+-- the names of a table have signals, and the output's signal has the table's value
 pub record TableStands (d : Document) (g : Growth) (t : Table) : Type 0 where
   pub output : HasSignal g t.output
   pub inputs : (n : Name) → has t.inputs n ≡ true → HasSignal g n
@@ -62,7 +62,7 @@ pub record IsGrowth (d : Document) (g : Growth) (done : List ℕ) : Type 0 where
   pub only : (given v : Name → Bool) (n : Name) (s : Sig) → IsMapOf d given v → g.signals n ≡ Some s → name_value d g given n ≡ v n
   pub count : length g.gates ≡ spent 0 d.tables done
 
--- ---- growing
+-- ---- adding tables
 
 pub record Extends (d : Document) (g h : Growth) : Type 0 where
   pub grown : IsGrown (source_count d) g.gates h.gates
@@ -219,7 +219,7 @@ known_below d g (n ∷ ns) known below =
     let s = known n (has_first n ns) in
     (subst (λ (x : Sig). IsSigBelow (end_of_growth d g) x) (sym (signal_is g.signals n s.0 s.1)) (below n s.0 s.1), known_below d g ns (λ m h. known m (has_later n ns m h)) below)
 
--- the inputs of a table that comes next have signals
+-- the inputs of the next table in topological order have signals
 inputs_known : (d : Document) (g : Growth) (done : List ℕ) (k : ℕ) (t : Table) → IsWellFormed d → IsGrowth d g done → Comes (graph_of d.tables) (length (graph_of d.tables)) done k → slice_get d.tables k ≡ Some t → (n : Name) → has t.inputs n ≡ true → HasSignal g n
 inputs_known d g done k t well is comes at n i =
     let used : has (used_names d) n ≡ true = has_left (flat_map table_inputs d.tables) (sink_names d) n (has_flat_at table_inputs d.tables k t n at i) in

@@ -13,8 +13,7 @@ use Rattle.graph_core.specs.Visit.{Graph, order_of}
 
 -- ---- fanins of tables
 
--- the index of the first table that drives a name, where the tables are numbered from the number
--- given
+-- the index of the first table that drives a name; the first table of the list has index `number`
 unfoldable pub driver_from : ℕ → List Table → Name → Option ℕ
 driver_from number [] name = None
 driver_from number (t ∷ ts) name = if is_same t.output name then Some number else driver_from (number + 1) ts name
@@ -22,7 +21,7 @@ driver_from number (t ∷ ts) name = if is_same t.output name then Some number e
 abbrev pub driver_of : List Table → Name → Option ℕ
 driver_of tables name = driver_from 0 tables name
 
--- for each table its fanins: the tables that drive its inputs, from the left
+-- for each table its fanins: the tables that drive its inputs, in order
 unfoldable pub graph_of : List Table → Graph
 graph_of tables = map (λ t. filter_map (driver_of tables) t.inputs) tables
 
@@ -34,7 +33,7 @@ Signals = Name → Option Sig
 abbrev pub with_signal : Signals → Name → Sig → Signals
 with_signal signals name sig n = if is_same name n then Some sig else signals n
 
--- the sources get the places 1, 2 and so on
+-- the sources are the nodes 1, 2 and so on
 unfoldable pub with_sources : Signals → ℕ → List Name → Signals
 with_sources signals place [] = signals
 with_sources signals place (n ∷ ns) = with_sources (with_signal signals n (Place place)) (place + 1) ns
@@ -55,7 +54,7 @@ table_built sources g t = expanded sources g.gates t.cover (map (signal_of g.sig
 abbrev pub grown_by : Growth → Name → Built → Growth
 grown_by g output b = record { gates = b.gates; signals = with_signal g.signals output b.sig }
 
--- the gates of a table are added
+-- adds the gates of a table
 unfoldable pub with_table : ℕ → Growth → Table → Growth
 with_table sources g t = grown_by g t.output (table_built sources g (merged_table t))
 
@@ -63,12 +62,12 @@ abbrev pub with_table_at : ℕ → Growth → Option Table → Growth
 with_table_at sources g None = g
 with_table_at sources g (Some t) = with_table sources g t
 
--- and those of the tables of a list of indices
+-- adds the gates of the tables with the given indices, in order
 unfoldable pub with_tables : ℕ → List Table → Growth → List ℕ → Growth
 with_tables sources tables g [] = g
 with_tables sources tables g (t ∷ order) = with_tables sources tables (with_table_at sources g (slice_get tables t)) order
 
--- before the first table
+-- the state before the first table
 abbrev pub sources_only : Document → Growth
 sources_only d = record { gates = []; signals = with_sources (λ n. None) 1 (source_names d) }
 
@@ -78,8 +77,8 @@ source_count d = length (source_names d)
 unfoldable pub net_in_order : Document → List ℕ → Net
 net_in_order d order = let g = with_tables (source_count d) d.tables (sources_only d) order in record { sources = source_count d; gates = g.gates; sinks = map (signal_of g.signals) (sink_names d) }
 
--- The net of a document; None where a table depends on itself.
+-- The net of a document; None if some table depends on itself.
 -- Example: `.inputs a b`, `.outputs y` and `.names a b y` with `10 1` and `01 1` give the net of one XOR
--- gate on the places 1 and 2, whose sink is the place 3.
+-- gate on the nodes 1 and 2, whose sink is the node 3.
 unfoldable pub net_of : Document → Option Net
 net_of d = option_map (net_in_order d) (order_of (graph_of d.tables))

@@ -11,6 +11,6 @@ pub record HasOperator (n : Net) (op : ℕ) : Type 0 where
   pub at : slice_get n.gates index ≡ Some gate
   pub same : gate.op ≡ op
 
--- each operator of the second net is of the basis, or some gate of the first net has it
+-- each operator of m is in the basis or is the operator of a gate of n
 pub record HasOperatorsWithin (basis : Basis) (n m : Net) : Type 0 where
   pub each : (i : ℕ) (g : Gate) → slice_get m.gates i ≡ Some g → (basis g.op ≡ true) ⊎ HasOperator n g.op

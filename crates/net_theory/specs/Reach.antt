@@ -1,4 +1,4 @@
--- The transitive fanin of places of a net.
+-- The transitive fanin (TFI) of a set of nodes, the roots.
 use Rattle.std.specs.Prelude.{◌≡◌, ℕ, ◌+◌, Bool, true, false, ◌==◌, if◌then◌else◌, List, [], ◌∷◌, slice_get, Some, ◌⊎◌}
 use Rattle.std.specs.List.{list_any}
 use Rattle.chain_theory.specs.Value.{extended}
@@ -11,13 +11,13 @@ use Rattle.net_theory.specs.Net.{Net}
 abbrev pub ReadsPlace : Gate → ℕ → Type 0
 ReadsPlace g p = (g.a ≡ Place p) ⊎ (g.b ≡ Place p)
 
--- `set` has the roots, and with a gate the fanins of the gate
+-- `set` contains the roots and is closed under fanins
 pub record IsClosedFrom (n : Net) (roots set : ℕ → Bool) : Type 0 where
   pub starts : (p : ℕ) → roots p ≡ true → set p ≡ true
   pub gates : (i p : ℕ) (g : Gate) → slice_get n.gates i ≡ Some g → ReadsPlace g p → set (n.sources + 1 + i) ≡ true → set p ≡ true
 
--- p is in the transitive fanin of the roots: a root, or read by one, directly or through gates.
--- That is, each closed set has it.
+-- p is in the TFI of the roots (roots included): it is in every set that contains the roots and is closed
+-- under fanins.
 abbrev pub IsReachedFrom : Net → (ℕ → Bool) → ℕ → Type 0
 IsReachedFrom n roots p = (set : ℕ → Bool) → IsClosedFrom n roots set → set p ≡ true
 
@@ -26,7 +26,7 @@ is_place p Zero = false
 is_place p One = false
 is_place p (Place q) = q == p
 
--- whether some sink is this place
+-- whether some sink is the node p
 unfoldable pub is_sink : Net → ℕ → Bool
 is_sink n p = list_any (is_place p) n.sinks
 
@@ -45,15 +45,15 @@ with_mark marks (Place p) = extended marks p true
 abbrev pub gate_marked : (ℕ → Bool) → ℕ → Gate → ℕ → Bool
 gate_marked marks place g = if marks place then with_mark (with_mark marks g.a) g.b else marks
 
--- from the last gate back to the first, which is at `place`
+-- marks fanins from the last gate back to the first, which is node `place`
 unfoldable pub marked : (ℕ → Bool) → ℕ → List Gate → ℕ → Bool
 marked marks place [] = marks
 marked marks place (g ∷ gs) = gate_marked (marked marks (place + 1) gs) place g
 
--- the transitive fanin of the roots (a law says so)
+-- the TFI of the roots (`marks_are_what_is_reached` proves it)
 abbrev pub reach : Net → (ℕ → Bool) → ℕ → Bool
 reach n roots = marked roots (n.sources + 1) n.gates
 
--- the transitive fanin of the sinks
+-- the TFI of the sinks
 abbrev pub live : Net → ℕ → Bool
 live n = reach n (is_sink n)

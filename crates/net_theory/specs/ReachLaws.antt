@@ -35,7 +35,7 @@ in_place (s ∷ ss) p e =
     (λ later. let r = in_place ss p later in (suc r.0, r.1))
     (or_cases (is_place p s) (list_any (is_place p) ss) e)
 
--- The sinks are the signals that the net answers.
+-- `is_sink` holds of the nodes of the sinks.
 pub sink_in : (n : Net) (i p : ℕ) → slice_get n.sinks i ≡ Some (Place p) → is_sink n p ≡ true
 unfolding is_sink
 sink_in n i p e = place_in n.sinks i p e
@@ -55,14 +55,14 @@ mark_keeps marks One p e = e
 mark_keeps marks (Place q) p e =
     ⊎_elim (λ same. extended-same marks q p true same) (λ other. extended-other marks q p true other ∙ e) (cases_eq p q)
 
--- a mark was there, or is that of the signal
+-- a mark was already there or is the node of the signal
 mark_cases : (marks : ℕ → Bool) (s : Sig) (p : ℕ) → with_mark marks s p ≡ true → (marks p ≡ true) ⊎ (s ≡ Place p)
 mark_cases marks Zero p e = inl e
 mark_cases marks One p e = inl e
 mark_cases marks (Place q) p e =
     ⊎_elim (λ same. inr (ap Place (sym same))) (λ other. inl (sym (extended-other marks q p true other) ∙ e)) (cases_eq p q)
 
--- a signal below `place` marks nothing from there on
+-- marking a signal below `place` marks no node from `place` on
 mark_low : (marks : ℕ → Bool) (s : Sig) (place p : ℕ) → IsSigBelow place s → place ≤ p → with_mark marks s p ≡ marks p
 mark_low marks Zero place p below high = refl
 mark_low marks One place p below high = refl
@@ -82,7 +82,7 @@ gate_reads marks place g p here reads =
     (λ second. subst (λ (s : Sig). with_mark (with_mark marks g.a) s p ≡ true) (sym second) (mark_here (with_mark marks g.a) p))
     reads
 
--- a gate at `place` marks nothing from there on
+-- the gate `place` marks no node from `place` on
 gate_low : (marks : ℕ → Bool) (place : ℕ) (g : Gate) (p : ℕ) → IsGateAt place g → place ≤ p → gate_marked marks place g p ≡ marks p
 gate_low marks place g p is high =
     cond_both (marks place) (with_mark (with_mark marks g.a) g.b) marks (λ (m : ℕ → Bool). m p ≡ marks p)
@@ -102,7 +102,7 @@ tail_gates place g gs are i h at =
 pub head_gate : (place : ℕ) (g : Gate) (gs : List Gate) → ((i : ℕ) (h : Gate) → slice_get (g ∷ gs) i ≡ Some h → IsGateAt (place + i) h) → IsGateAt place g
 head_gate place g gs are = subst (λ (q : ℕ). IsGateAt q g) (add-zero place) (are 0 g refl)
 
--- Where a gate is marked, its fanins are.
+-- The fanins of a marked gate are marked.
 marked_closed : (marks : ℕ → Bool) (place : ℕ) (gs : List Gate) (i p : ℕ) (g : Gate) → ((j : ℕ) (h : Gate) → slice_get gs j ≡ Some h → IsGateAt (place + j) h) → slice_get gs i ≡ Some g → ReadsPlace g p → marked marks place gs (place + i) ≡ true → marked marks place gs p ≡ true
 unfolding marked
 marked_closed marks place [] i p g are at reads e = absurd cc
@@ -119,7 +119,7 @@ marked_closed marks place (h ∷ gs) (suc i) p g are at reads e =
     let before : marked marks (place + 1) gs ((place + 1) + i) ≡ true = sym (gate_low (marked marks (place + 1) gs) place h ((place + 1) + i) (head_gate place h gs are) (omega arith)) ∙ there in
     gate_keeps (marked marks (place + 1) gs) place h p (marked_closed marks (place + 1) gs i p g (tail_gates place h gs are) at reads before)
 
--- The marks are a closed set ..
+-- The marks are closed under fanins ..
 pub reach_closed : (n : Net) (roots : ℕ → Bool) → IsNet n → IsClosedFrom n roots (reach n roots)
 reach_closed n roots is =
     record {

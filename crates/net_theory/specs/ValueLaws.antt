@@ -1,4 +1,4 @@
--- The values of places without recursion, and the values after gates are appended.
+-- The values of nodes as equations, and the values after gates are appended.
 use Rattle.std.specs.Prelude.{◌≡◌, ℕ, zero, suc, ◌+◌, ◌≤◌, ◌<◌, Bool, List, [], ◌∷◌, ◌++◌, length, slice_get, Some, ◌⊎◌, refl}
 use Rattle.std.proofs.Common.{add-zero, arith, sym, ◌∙◌, ap, subst, ◌≢◌, inl, inr, ⊎_elim, length-append}
 use Rattle.std.proofs.lemmas.Bool.{cases_eq}
@@ -17,20 +17,20 @@ below_later Zero p q low b = tt
 below_later One p q low b = tt
 below_later (Place x) p q low b = (b.0, omega (arith, b.1))
 
--- Bits that agree below `place` give a signal below it one value,
+-- Valuations that agree below `place` give a signal below it the same value,
 pub sig_value-same : (f g : ℕ → Bool) (s : Sig) (place : ℕ) → IsSigBelow place s → ((p : ℕ) → p < place → f p ≡ g p) → sig_value f s ≡ sig_value g s
 sig_value-same f g Zero place b same = refl
 sig_value-same f g One place b same = refl
 sig_value-same f g (Place p) place b same = same p b.1
 
--- and a gate whose operands are below it.
+-- and likewise a gate whose operands are below it.
 pub gate_value-same : (f g : ℕ → Bool) (place : ℕ) (gate : Gate) → IsGateAt place gate → ((p : ℕ) → p < place → f p ≡ g p) → gate_value f gate ≡ gate_value g gate
 gate_value-same f g place gate is same =
     rw (sig_value-same f g gate.a place is.first same, sig_value-same f g gate.b place is.second same) refl
 
 -- ---- values
 
--- A gate appended at the end sets the bit of its own place, from the bits after the others.
+-- A gate appended at the end sets the bit of its own node, from the bits after the others.
 pub values_after-push : (bits : ℕ → Bool) (place : ℕ) (gs : List Gate) (g : Gate) → values_after bits place (gs ++ g ∷ []) ≡ extended (values_after bits place gs) (place + length gs) (gate_value (values_after bits place gs) g)
 unfolding values_after
 values_after-push bits place [] g = rw add-zero refl
@@ -38,7 +38,7 @@ values_after-push bits place (h ∷ gs) g =
     let e : (place + 1) + length gs ≡ place + suc (length gs) = omega arith in
     rw (← e) (values_after-push (extended bits place (gate_value bits h)) (place + 1) gs g)
 
--- Gates leave the bits of the places below them.
+-- Gates don't change the bits of the nodes below them.
 pub values_after-below : (bits : ℕ → Bool) (place p : ℕ) (gs : List Gate) → p < place → values_after bits place gs p ≡ bits p
 unfolding values_after
 values_after-below bits place p [] low = refl
@@ -51,19 +51,19 @@ values_after-below bits place p (g ∷ gs) low =
 pub value-source : (given : ℕ → Bool) (sources p : ℕ) (gs : List Gate) → p ≤ sources → values_of given sources gs p ≡ given p
 value-source given sources p gs low = values_after-below given (sources + 1) p gs (omega arith)
 
--- the place of the last gate
+-- the node of the last gate
 pub value-last : (given : ℕ → Bool) (sources : ℕ) (gs : List Gate) (g : Gate) → values_of given sources (gs ++ g ∷ []) (sources + 1 + length gs) ≡ gate_value (values_of given sources gs) g
 value-last given sources gs g =
     ap (λ (f : ℕ → Bool). f (sources + 1 + length gs)) (values_after-push given (sources + 1) gs g)
     ∙ extended-same (values_of given sources gs) (sources + 1 + length gs) (sources + 1 + length gs) (gate_value (values_of given sources gs) g) refl
 
--- any other place
+-- any other node
 pub value-before : (given : ℕ → Bool) (sources p : ℕ) (gs : List Gate) (g : Gate) → p ≢ sources + 1 + length gs → values_of given sources (gs ++ g ∷ []) p ≡ values_of given sources gs p
 value-before given sources p gs g other =
     ap (λ (f : ℕ → Bool). f p) (values_after-push given (sources + 1) gs g)
     ∙ extended-other (values_of given sources gs) (sources + 1 + length gs) p (gate_value (values_of given sources gs) g) other
 
--- The value at a gate's place is its operator on the values of its operands.
+-- The value at a gate's node is its operator on the values of its operands.
 pub values_after-gate : (bits : ℕ → Bool) (place i : ℕ) (gs : List Gate) (g : Gate) → slice_get gs i ≡ Some g → IsGateAt (place + i) g → values_after bits place gs (place + i) ≡ gate_value (values_after bits place gs) g
 unfolding values_after
 values_after-gate bits place i [] g at is = cc
@@ -85,7 +85,7 @@ values_after-gate bits place (suc i) (h ∷ gs) g at is =
     let here : IsGateAt ((place + 1) + i) g = subst (λ (q : ℕ). IsGateAt q g) (sym e) is in
     subst (λ (q : ℕ). values_after first (place + 1) gs q ≡ gate_value (values_after first (place + 1) gs) g) e (values_after-gate first (place + 1) i gs g at here)
 
--- Bits that agree below the gates give them the same values.
+-- Valuations that agree below the gates give the gates the same values.
 pub values_after-same : (f g : ℕ → Bool) (place : ℕ) (gs : List Gate) → ((i : ℕ) (h : Gate) → slice_get gs i ≡ Some h → IsGateAt (place + i) h) → ((p : ℕ) → p < place → f p ≡ g p) → (p : ℕ) → p < place + length gs → values_after f place gs p ≡ values_after g place gs p
 unfolding values_after
 values_after-same f g place [] are same p low = same p (omega arith)
@@ -100,7 +100,7 @@ values_after-same f g place (h ∷ gs) are same p low =
 
 -- ---- appending gates
 
--- `new` has the gates of `old` first, so that the places that were there keep their values.
+-- `new` extends the gates `old`, and the nodes of `old` keep their values.
 pub record IsGrown (sources : ℕ) (old new : List Gate) : Type 0 where
   pub gates : AreGates sources new
   pub longer : length old ≤ length new
@@ -125,7 +125,7 @@ grown_sig sources old new s given grown below =
 pub grown_below : (sources : ℕ) (old new : List Gate) (s : Sig) → IsGrown sources old new → IsSigBelow (sources + 1 + length old) s → IsSigBelow (sources + 1 + length new) s
 grown_below sources old new s grown below = below_later s (sources + 1 + length old) (sources + 1 + length new) (omega (arith, grown.longer)) below
 
--- what is in a list with one more element
+-- an element of a list with one more appended is of the list or is the new one
 pub at_push : {A : Type 0} (xs : List A) (x y : A) (i : ℕ) → slice_get (xs ++ x ∷ []) i ≡ Some y → (slice_get xs i ≡ Some y) ⊎ ((i ≡ length xs) × (x ≡ y))
 at_push [] x y zero e = inr (refl, cc)
 at_push [] x y (suc i) e = absurd cc

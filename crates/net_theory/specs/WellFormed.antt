@@ -1,4 +1,4 @@
--- Documents that are not refused.
+-- Well-formed documents: those that the readers accept.
 use Rattle.std.specs.Prelude.{◌≡◌, ℕ, ◌≤◌, true, false, List, length, map, All, Option, Some, None}
 use Rattle.net_theory.specs.declared.data.Trigger.{Trigger}
 use Rattle.net_theory.specs.Cover.{IsCover}
@@ -23,7 +23,7 @@ pub record IsLatchLine (l : LatchLine) : Type 0 where
   pub input : IsName l.input
   pub latch : IsLatch l.latch
 
--- a table with a cube byte for each input, within 256 inputs and 4,096 cubes
+-- a table whose cubes have one byte for each input, with at most 256 inputs and 4,096 cubes
 pub record IsTable (t : Table) : Type 0 where
   pub inputs : All IsName t.inputs
   pub output : IsName t.output
@@ -32,14 +32,14 @@ pub record IsTable (t : Table) : Type 0 where
   pub narrow : length t.inputs ≤ 256
   pub few : length t.cover.cubes ≤ 4096
 
--- no name of the list is that of the control
+-- the control isn't among the names
 abbrev pub IsFreeOf : List Name → Option (Trigger × Name) → Type 0
 IsFreeOf names None = Unit {0}
 IsFreeOf names (Some c) = has names c.1 ≡ false
 
--- Names, tables and latches are within their limits, no control is driven by a table, the tables
--- become at most 100,000 gates, no name is driven twice, each used name is driven, and there is no
--- combinational loop.
+-- Names, tables and latches are within their limits, no table drives a control, the tables decompose into
+-- at most 100,000 gates, no name is driven twice, each used name is driven, and there is no combinational
+-- loop.
 pub record IsWellFormed (d : Document) : Type 0 where
   pub model : IsName d.model
   pub inputs : All IsName d.inputs

@@ -1,18 +1,18 @@
--- Covers of all inputs at once: AND, OR and parity of n inputs, and their complements.
+-- The covers of AND, OR and parity of n inputs, and of their complements.
 use Rattle.std.specs.Prelude.{ℕ, zero, suc, Bool, true, false, not, if◌then◌else◌, List, [], ◌∷◌, map}
 use Rattle.net_theory.specs.Cover.{Cover}
 
--- the cube that asks each input for 1
+-- the cube with a `1` for each input
 abbrev pub ones : ℕ → List ℕ
 ones zero = []
 ones (suc width) = 49 ∷ ones width
 
--- the cube that asks for nothing
+-- the cube with a `-` for each input
 abbrev pub dashes : ℕ → List ℕ
 dashes zero = []
 dashes (suc width) = 45 ∷ dashes width
 
--- for each input the cube that asks it alone for 1
+-- for each input the cube whose only literal is that input
 abbrev pub single_ones : ℕ → List (List ℕ)
 single_ones zero = []
 single_ones (suc width) = (49 ∷ dashes width) ∷ map (λ cube. 45 ∷ cube) (single_ones width)

@@ -1,5 +1,4 @@
--- Covers of all inputs at once have the values that their names say, and n inputs, more than two,
--- become n - 1 gates, joined from the left.
+-- The covers of `Whole` compute AND, OR and parity, and with n > 2 inputs they decompose into n - 1 gates.
 use Rattle.std.specs.Prelude.{◌≡◌, ℕ, zero, suc, ◌+◌, ◌-◌, ◌≤◌, ◌<◌, Bool, true, false, not, ◌&&◌, ◌||◌, ◌==◌, if◌then◌else◌, List, [], ◌∷◌, ◌++◌, length, map, count_by, refl}
 use Rattle.std.specs.List.{list_any, list_all, AllByRecursion}
 use Rattle.std.proofs.Common.{arith, sym, ◌∙◌, ap, append-nil, append_assoc}
@@ -129,7 +128,7 @@ dashes_literals zero inputs = refl
 dashes_literals (suc n) [] = refl
 dashes_literals (suc n) (a ∷ inputs) = dashes_literals n inputs
 
--- each cube has one literal, the signal as it is
+-- each cube has one literal, an input that isn't complemented
 abbrev AreSingle : List Sig → List (List ℕ) → List Sig → Type 0
 AreSingle inputs [] [] = Unit {0}
 AreSingle inputs [] (s ∷ ss) = ⊥
@@ -152,7 +151,7 @@ single_literals (a ∷ inputs) =
 abbrev made : List Gate → List Signed → Terms
 made gates outs = record { gates = gates; outs = outs }
 
--- a cube of one literal takes no gate
+-- a cube of one literal needs no gate
 single_terms : (sources : ℕ) (inputs : List Sig) (gates : List Gate) (outs : List Signed) (cubes : List (List ℕ)) (ss : List Sig) → AreSingle inputs cubes ss → terms_from sources inputs (made gates outs) cubes ≡ made gates (outs ++ unsigned ss)
 unfolding terms_from unsigned join_all join_from
 single_terms sources inputs gates outs [] [] are = ap (made gates) (sym (append-nil outs))
@@ -172,7 +171,7 @@ unfolding terms_from join_all join_from
 and_joins_inputs sources gates inputs =
     ap (λ (ls : List Signed). let j : Joined = join_all and_word sources gates ls in j) (ones_literals inputs)
 
--- no such cube asks for nothing
+-- these covers aren't recognized as constant
 ones_ask : (n : ℕ) → is_plain (ones (suc n) ∷ []) ≡ false
 unfolding asks_nothing
 ones_ask n = refl

@@ -57,7 +57,7 @@ and_true : (b : Bool) → b ≡ (b && true)
 and_true true = refl
 and_true false = refl
 
--- AND of the literals is 1 where the cube covers the row.
+-- AND of the literals is 1 exactly if the cube covers the minterm.
 literals_value : (bits : ℕ → Bool) (cube : List ℕ) (inputs : List Sig) (b : Bool) → fold_from and_of b (map (signed_value bits) (literals cube inputs)) ≡ (b && matches cube (map (sig_value bits) inputs))
 unfolding literals matches fold_from
 literals_value bits [] inputs b = and_true b
@@ -120,14 +120,14 @@ cube_joined_by sources old inputs cube (s ∷ ss) e size some are below =
       last = ⊎_elim (λ none. inl (omega arith)) (λ l. inr l) is.last;
     }
 
--- a cube that asks for something
+-- a cube with a literal
 pub cube_joined : (sources : ℕ) (old : List Gate) (inputs : List Sig) (cube : List ℕ) → length cube ≡ length inputs → 0 < literal_count cube → AreGates sources old → AreSigsBelow (sources + 1 + length old) inputs → IsJoined sources old (literal_count cube - 1) (matched_at sources old inputs cube) (join_all and_word sources old (literals cube inputs))
 cube_joined sources old inputs cube wide some are below =
     cube_joined_by sources old inputs cube (literals cube inputs) refl (literals_count cube inputs wide) some are (literals_below (sources + 1 + length old) cube inputs below)
 
 -- ---- several cubes
 
--- each cube is `width` bytes wide and asks for something
+-- each cube is `width` bytes wide and has a literal
 abbrev pub AreTerms : ℕ → List (List ℕ) → Type 0
 AreTerms width [] = Unit {0}
 AreTerms width (c ∷ cubes) = (length c ≡ width) × (0 < literal_count c) × AreTerms width cubes
@@ -211,7 +211,7 @@ unfolding fold_from
 fold_or bits [] b = or_false b
 fold_or bits (c ∷ cubes) b = fold_or bits cubes (b || matches c bits) ∙ or_assoc b (matches c bits) (is_matched cubes bits)
 
--- whether some cube covers the row
+-- whether some cube covers the minterm
 abbrev pub any_matched : ℕ → List Gate → List Sig → List (List ℕ) → (ℕ → Bool) → Bool
 any_matched sources gates inputs cubes given = is_matched cubes (map (sig_value (values_of given sources gates)) inputs)
 
@@ -240,7 +240,7 @@ none_built : (sources : ℕ) (old : List Gate) (inputs : List Sig) → AreGates 
 none_built sources old inputs are =
     record { grown = grown_none sources old are; count = omega arith; size = refl; below = tt; values = λ given. refl }
 
--- All cubes, and then their OR.
+-- The OR of all cubes.
 pub cover_joined : (sources : ℕ) (old : List Gate) (inputs : List Sig) (cubes : List (List ℕ)) → AreGates sources old → AreSigsBelow (sources + 1 + length old) inputs → AreTerms (length inputs) cubes → 0 < length cubes → IsJoined sources old (literal_sum cubes - 1) (any_matched sources old inputs cubes) (or_built sources (terms_from sources inputs (no_terms old) cubes))
 unfolding terms_from join_all join_from
 cover_joined sources old inputs [] are below terms some = absurd (omega arith)

@@ -2,18 +2,19 @@
 
 use op_basis::Op;
 
-/// A signal: an operand of a gate, or a sink of a net.
+/// A signal: an operand (fanin) of a gate, or a sink (CO) of a net.
 #[derive(Clone, Copy, PartialEq, Eq)]
 pub enum Sig {
     /// The constant 0.
     Zero,
     /// The constant 1.
     One,
-    /// The value of a place (node): the sources are 1, 2 and so on, and the gates come after them.
+    /// The value of a node, by its index: the sources are 1, 2 and so on, and the gates follow. There is no node
+    /// 0.
     Place(u32),
 }
 
-/// A gate: an operator on two signals, which may be equal or constant.
+/// A two-input gate: an operator (a truth table of 4 bits) and two operands, which may be equal or constant.
 #[derive(Clone, Copy, PartialEq, Eq)]
 pub struct Gate {
     pub op: Op,
@@ -21,14 +22,14 @@ pub struct Gate {
     pub b: Sig,
 }
 
-/// A signal with a sign: where `turned` its value is the complement of the signal's.
+/// A signal with a polarity: complemented where `turned` is true.
 #[derive(Clone, Copy)]
 pub struct Signed {
     pub sig: Sig,
     pub turned: bool,
 }
 
-/// How a latch is triggered by its control, in the words of the Berkeley BLIF manual.
+/// How the control triggers a latch, with the keywords of the Berkeley BLIF manual.
 #[derive(Clone, Copy)]
 pub enum Trigger {
     /// `fe`: at the falling edge.

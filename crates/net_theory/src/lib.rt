@@ -1,16 +1,16 @@
-//! What netlists mean: nets and the values of their places (nodes), covers (SOPs), documents
-//! (parsed netlists) and the maps in which their tables hold, what a document costs, the gates that
-//! its tables are decomposed into, circuits, and dead gates. Everything that the readers and
-//! writers of netlists promise is said in the definitions of this crate's `specs/`;
-//! `specs/Net.antt` has a dictionary from its words to those of ABC and mockturtle. A table's
-//! meaning is about cubes and bits; gates come in by theorems.
+//! The semantics of netlists: nets (logic networks) and the values of their nodes, covers (SOPs), documents
+//! (parsed netlists) and the valuations that satisfy their tables, the decomposition of tables into
+//! two-input gates and its cost, circuits (nets with names), and dangling gates. The contracts of all
+//! readers and writers of netlists use the definitions in this crate's `specs/`; `specs/Net.antt` has
+//! a glossary with the terms of ABC and mockturtle. A table is defined by its cubes alone; that its gates
+//! compute it is a theorem.
 //!
-//! Documents and covers are those of the Berkeley BLIF manual. How a table is decomposed, and what
-//! it costs, is this program's own choice (`specs/Expansion.antt`, `specs/Cost.antt`).
+//! Documents and covers follow the Berkeley BLIF manual. The decomposition of tables and their cost
+//! are this program's own choice (`specs/Expansion.antt`, `specs/Cost.antt`).
 //!
-//! The one theorem, in `laws`: a well-formed document has a circuit that computes what the document
-//! says, with as many gates as the document costs. `plain` computes values straight from the
-//! definitions: `plain::matches_bits(b"1-0", &[true, false, false])` is true.
+//! The main theorem, in `laws`: every well-formed document has an equivalent circuit with as many gates as
+//! the document costs. `plain` evaluates the definitions directly:
+//! `plain::matches_bits(b"1-0", &[true, false, false])` is true.
 #![tactic(auto)]
 
 mod data;

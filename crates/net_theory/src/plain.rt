@@ -1,12 +1,12 @@
-//! The definitions, computed as they stand: recursion over cubes and gates. It is meant for reading
-//! and for small inputs, and takes exponential time.
+//! A direct evaluation of the definitions, by recursion over cubes and gates. It takes exponential time
+//! and is meant for reading and for tests with small inputs.
 ghost use Rattle.std.specs.Prelude.{◌≡◌, ◌+◌, ◌-◌, ◌<◌, ◌^◌, length, false};
 ghost use Rattle.net_theory.specs.Cover.{is_asked as is_asked_of, matches as matches_of};
 ghost use Rattle.net_theory.specs.Net.{bit_of, values_of, sig_value as sig_value_of};
 
 use crate::data::{Gate, Sig};
 
-/// Whether `bit` is what the byte of a cube asks for.
+/// Whether a byte of a cube (`0`, `1` or `-`) matches `bit`.
 pub fn is_asked(byte: u8, bit: bool) -> bool
     ensures { result ≡ is_asked_of byte bit }
 {
@@ -31,7 +31,7 @@ pub fn matches_bits(cube: &[u8], bits: &[bool]) -> bool
     is_asked(*byte, *bit) && matches_bits(cube, bits)
 }
 
-/// The bit of a source, of which source 1 is first in `given`.
+/// The bit of the source `place`; `given` begins with source 1. Other nodes have the bit false.
 pub fn given_bit(given: &[bool], place: u32) -> bool
     ensures { result ≡ bit_of given.now place }
 {
@@ -42,7 +42,7 @@ pub fn given_bit(given: &[bool], place: u32) -> bool
     if at < given.len() { given[at] } else { false }
 }
 
-/// The value of `place` where the sources have the bits `given`, source 1 first.
+/// The value of the node `place` where the sources have the bits `given`, source 1 first.
 #[cycle(values)]
 pub fn place_value(given: &[bool], gates: &[Gate], place: u32) -> bool
     requires { length given.now + length gates.now < 2 ^ 31 }
@@ -60,7 +60,7 @@ pub fn place_value(given: &[bool], gates: &[Gate], place: u32) -> bool
     }
 }
 
-/// The value of a signal.
+/// The value of a signal, where the sources have the bits `given`, source 1 first.
 #[cycle(values)]
 pub fn sig_value(given: &[bool], gates: &[Gate], sig: Sig) -> bool
     requires { length given.now + length gates.now < 2 ^ 31 }

@@ -1,4 +1,4 @@
--- Mapping places to signals that stand for them keeps all values.
+-- Mapping nodes to their representatives keeps all values.
 use Rattle.std.specs.Prelude.{◌≡◌, ℕ, zero, suc, ◌+◌, ◌-◌, ◌≤◌, ◌<◌, ◌==◌, Bool, true, List, [], ◌∷◌, length, slice_get, slice_index_or, Option, None, Some, IfSome, ◌⊎◌, refl}
 use Rattle.std.proofs.Common.{arith, sym, ◌∙◌, ◌≢◌, ap, subst, ⊎_elim, inl, inr, length-append}
 use Rattle.std.proofs.lemmas.Bool.{cond-true, cond-false, eq-eqb, ne_eqb, cases_eq}
@@ -20,14 +20,14 @@ put_same places place s p own = cond-true (p == place) s (places p) (eq-eqb p pl
 put_other : (places : ℕ → Sig) (place : ℕ) (s : Sig) (p : ℕ) → p ≢ place → put_sig places place s p ≡ places p
 put_other places place s p other = cond-false (p == place) s (places p) (ne_eqb p place other)
 
--- a place that is read is below the one that reads it
+-- a fanin is below its gate
 below_known : (place : ℕ) (s : Sig) → IsSigBelow place s → (p : ℕ) → s ≡ Place p → IsPlaceBelow place p
 below_known place s below p e = subst (IsSigBelow place) e below
 
 before : (place p : ℕ) → IsPlaceBelow (place + 1) p → p ≢ place → IsPlaceBelow place p
 before place p below other = (below.0, omega (arith, below.1, other))
 
--- ---- a signal stands for the place
+-- ---- a node with a representative
 
 abbrev mapped : Kept → ℕ → Sig → Kept
 mapped k place s = record { places = put_sig k.places place (moved k.places s); gates = k.gates }
@@ -63,7 +63,7 @@ merged_mapped n place k s high is stands = record {
   old = is.old;
 }
 
--- ---- the gate is kept
+-- ---- a gate that is kept
 
 abbrev all_marked : ℕ → Bool
 all_marked p = true
@@ -119,7 +119,7 @@ merged_kept n i k g net at is = record {
   old = kept_old n i k g at is.old;
 }
 
--- ---- one gate more
+-- ---- one more gate
 
 merged_more : (n : Net) (i : ℕ) (k : Kept) (g : Gate) (o : Option Sig) → IsNet n → slice_get n.gates i ≡ Some g → IsMerged n (n.sources + 1 + i) k → IfSome o (StandsFor n (n.sources + 1 + i)) → IsMerged n (n.sources + 1 + i + 1) (passed n.sources k (n.sources + 1 + i) g o)
 merged_more n i k g None net at is stands = merged_kept n i k g net at is
@@ -134,7 +134,7 @@ merged_passed n place left rest g o k m net split are is stands step =
     (subst (λ (q : ℕ). IsMerged n (q + 1) (passed n.sources k q g o)) here
     (merged_more n i k g o net at (subst (λ (q : ℕ). IsMerged n q k) (sym here) is) (subst (λ (q : ℕ). IfSome o (StandsFor n q)) (sym here) stands)))
 
--- ---- what stands for a place
+-- ---- representatives
 
 at_index : {A : Type 0} (xs : List A) (i : ℕ) (d : A) → i < length xs → slice_get xs i ≡ Some (slice_index_or xs i d)
 at_index [] i d low = absurd (omega (arith, low))
@@ -153,6 +153,6 @@ pub stands_below : (n : Net) (p : ℕ) (o : Option Sig) → IfSome o (StandsFor 
 stands_below n p None is = tt
 stands_below n p (Some s) is = is.below
 
--- the next gate is at a place
+-- the node of the next gate is in range
 pub next_within : (n : Net) (place : ℕ) (left rest : List Gate) (g : Gate) → left ≡ g ∷ rest → AreLeft n place left → place < end_of n
 next_within n place left rest g split are = omega (arith, are.all, ap (length {A = Gate}) split)

@@ -1,4 +1,4 @@
--- A signal with the words of a place has its value under every assignment.
+-- A signal with the signature of a node is functionally equal to it.
 use Rattle.std.specs.Prelude.{◌≡◌, ℕ, ◌+◌, ◌-◌, ◌*◌, ◌/◌, ◌%◌, ◌^◌, ◌≤◌, ◌<◌, Bool, true, false, List, [], ◌∷◌, ◌++◌, length, slice_get, Option, Some, IfSome}
 use Rattle.std.proofs.Common.{arith, sym, ◌∙◌, ap, subst, ⊎_elim, suc-mul, mul-le-mul_right, length-append}
 use Rattle.std.proofs.lemmas.Option.{slice_get_within}
@@ -15,12 +15,12 @@ use Rattle.table_merge.specs.Whole.{cone_of}
 use Rattle.table_merge.specs.WholeLaws.{count_at, count_length, whole_places, whole_value}
 use Rattle.table_merge.specs.Stands.{word_of, HasWordsOf, HaveWords, StandsFor, AreStands}
 
--- ---- rows in order
+-- ---- the order of signatures
 
 row_ends : (k count width : ℕ) → k < count → k * width + width ≤ count * width
 row_ends k count width low = omega (arith, suc-mul k width, mul-le-mul_right width low)
 
--- the row of a place ends where the rows end
+-- the signature of a node lies within the words
 pub row_within : (p count width : ℕ) → 1 ≤ p → p ≤ count → (p - 1) * width + width ≤ count * width
 row_within p count width some low = row_ends (p - 1) count width (omega (arith, some, low))
 
@@ -33,7 +33,7 @@ place_at n p some within =
     ∙ count_at 1 (n.sources + length n.gates) (p - 1) (omega (arith, some, within))
     ∙ ap Some here
 
--- a bit of a signal's word is its value
+-- a bit of a signal's signature is its value under an assignment
 signal_bit : (n : Net) (w : Words) (given : ℕ → Bool) (s : Sig) (j b : ℕ) → IsNet n → n.sources ≤ 12 → AreWords (cone_of n) w → 64 * j + b ≡ row_of n.sources given → b < 64 → row_of n.sources given < w.rows → IsSigBelow (end_of n) s → digit (word_of w.lanes (width_of w.rows) s j) b ≡ sig_value (value n given) s
 signal_bit n w given Zero j b net few words row low within below = digit_spread false b low
 signal_bit n w given One j b net few words row low within below = digit_spread true b low
@@ -50,7 +50,7 @@ below_end place end Zero low below = tt
 below_end place end One low below = tt
 below_end place end (Place p) low below = (below.0, omega (arith, low, below.1))
 
--- Each assignment is a row, so that what has the same words has the same values.
+-- Each assignment has a bit in the signature, so equal signatures mean equal values under every assignment.
 pub words_stand : (n : Net) (w : Words) (place : ℕ) (s : Sig) → IsNet n → n.sources ≤ 12 → AreWords (cone_of n) w → 1 ≤ place → place < end_of n → HasWordsOf w.lanes (width_of w.rows) place s → StandsFor n place s
 words_stand n w place s net few words some within is = record {
   below = is.below;
@@ -63,9 +63,9 @@ words_stand n w place s net few words some within is = record {
       ∙ signal_bit n w given (Place place) (row / 64) (row % 64) net few words whole (omega arith) low (some, within);
 }
 
--- ---- all places
+-- ---- all nodes
 
--- one place more
+-- one more node
 pub words_more : (lanes : List ℕ) (width place : ℕ) (stands new : List (Option Sig)) (o : Option Sig) → HaveWords lanes width place stands → IfSome o (HasWordsOf lanes width place) → 1 ≤ place → new ≡ stands ++ o ∷ [] → HaveWords lanes width (place + 1) new
 words_more lanes width place stands new o have is some more = record {
   count = omega (arith, have.count, ap (length {A = Option Sig}) more, length-append stands (o ∷ []));

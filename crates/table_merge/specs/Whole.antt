@@ -1,20 +1,20 @@
--- The whole of a net as one cone.
+-- A whole net as one cone.
 use Rattle.std.specs.Prelude.{ℕ, zero, suc, ◌+◌, List, [], ◌∷◌}
 use Rattle.net_theory.specs.declared.data.Gate.{Gate}
 use Rattle.net_theory.specs.Net.{Net}
 use Rattle.lane_sim.specs.Cone.{Cone}
 
--- `count` numbers from `first` on
+-- the `count` numbers from `first` on
 -- Example: 3 from 5 on are 5, 6, 7.
 unfoldable pub count_from : ℕ → ℕ → List ℕ
 count_from first zero = []
 count_from first (suc count) = first ∷ count_from (first + 1) count
 
--- gates with their places, the first of which is `place`
+-- the gates with their nodes; the first gate is the node `place`
 unfoldable pub placed_from : ℕ → List Gate → List (ℕ × Gate)
 placed_from place [] = []
 placed_from place (g ∷ gs) = (place, g) ∷ placed_from (place + 1) gs
 
--- Its leaves are the sources, and its gates are all gates.
+-- the cone whose leaves are the sources and whose gates are all gates of the net
 abbrev pub cone_of : Net → Cone
 cone_of n = record { leaves = count_from 1 n.sources; gates = placed_from (n.sources + 1) n.gates }

@@ -1,4 +1,4 @@
--- The whole of a net is a cone, and its places have the values that they have in the net.
+-- A whole net is a cone, and its nodes have their values in the net.
 use Rattle.std.specs.Prelude.{◌≡◌, ℕ, zero, suc, ◌+◌, ◌-◌, ◌≤◌, ◌<◌, Bool, List, [], ◌∷◌, ◌++◌, length, map, take, slice_get, Some, refl}
 use Rattle.std.proofs.Common.{arith, sym, ◌∙◌, ap, subst, ⊎_elim, append-nil, append_assoc}
 use Rattle.std.proofs.lemmas.Bool.{cases_lt}
@@ -48,7 +48,7 @@ one_number : (p : ℕ) → count_from p 1 ≡ p ∷ []
 unfolding count_from
 one_number p = refl
 
--- one number more
+-- one more number
 pub count_more : (first count : ℕ) → count_from first count ++ (first + count) ∷ [] ≡ count_from first (count + 1)
 count_more first count =
     ap (λ (ps : List ℕ). count_from first count ++ ps) (sym (one_number (first + count))) ∙ count_join first count 1
@@ -65,7 +65,7 @@ sources_more items new before are more =
     ∙ ap (λ (p : ℕ). count_from 1 before ++ p ∷ []) next
     ∙ count_more 1 before
 
--- a number stands once
+-- the numbers are distinct
 count_apart : (first count : ℕ) → AreApart (count_from first count)
 count_apart first count i j p at_i at_j =
     omega (arith, number i p at_i, number j p at_j)
@@ -77,7 +77,7 @@ count_apart first count i j p at_i at_j =
     number k q at =
         some_same (first + k) q (sym (count_at first count k (omega (arith, slice_get_within (count_from first count) k q at, count_length first count))) ∙ at)
 
--- ---- gates with their places
+-- ---- gates with their nodes
 
 pub placed_at : (place : ℕ) (gs : List Gate) (i : ℕ) (g : Gate) → slice_get gs i ≡ Some g → slice_get (placed_from place gs) i ≡ Some (place + i, g)
 unfolding placed_from
@@ -93,7 +93,7 @@ placed_at place (h ∷ gs) (suc i) g at =
     let here : place + 1 + i ≡ place + suc i = omega arith in
     placed_at (place + 1) gs i g at ∙ ap (λ (q : ℕ). Some (q, g)) here
 
--- a gate that was placed
+-- the gate at an index, with its node
 record IsPlaced (place : ℕ) (gs : List Gate) (i : ℕ) (x : ℕ × Gate) : Type 0 where
   gate : Gate
   at : slice_get gs i ≡ Some gate
@@ -120,7 +120,7 @@ placed_take place gs zero low = refl
 placed_take place [] (suc i) low = absurd (omega (arith, low))
 placed_take place (g ∷ gs) (suc i) low = ap (λ (ps : List ℕ). place ∷ ps) (placed_take (place + 1) gs i (omega (arith, low)))
 
--- nothing is placed yet, one gate more is, and in the end all are
+-- the loop that pairs gates with nodes: its start, its step and its end
 pub placed_start : (n : Net) (items : List (ℕ × Gate)) (place : ℕ) (left : List Gate) → items ≡ [] → place ≡ n.sources + 1 → left ≡ n.gates → items ++ placed_from place left ≡ placed_from (n.sources + 1) n.gates
 placed_start n items place left none first all =
     ap (λ (xs : List (ℕ × Gate)). xs ++ placed_from place left) none ∙ ap (λ (q : ℕ). placed_from q left) first ∙ ap (placed_from (n.sources + 1)) all
@@ -147,7 +147,7 @@ whole_places n =
     ∙ ap (λ (q : ℕ). count_from 1 n.sources ++ count_from q (length n.gates)) next
     ∙ count_join 1 n.sources (length n.gates)
 
--- the places before a gate
+-- the nodes before a gate
 places_before : (n : Net) (i : ℕ) → i ≤ length n.gates → count_from 1 n.sources ++ map place_of (take i (placed_from (n.sources + 1) n.gates)) ≡ count_from 1 (n.sources + i)
 places_before n i low =
     let next : n.sources + 1 ≡ 1 + n.sources = omega arith in
@@ -204,7 +204,7 @@ same_gate f h place g is same =
     ap (λ (b : Bool). apply g.op b (sig_value f g.b)) (same_sig f h place g.a is.first same)
     ∙ ap (apply g.op (sig_value h g.a)) (same_sig f h place g.b is.second same)
 
--- the row gives each source its bit
+-- the assignment number `row` gives each source its bit
 abbrev IsRowOf : Net → (ℕ → Bool) → ℕ → Type 0
 IsRowOf n given row = (p : ℕ) → 1 ≤ p → p ≤ n.sources → digit row (n.sources - p) ≡ given p
 
@@ -234,7 +234,7 @@ values_below n row given (suc end) p net cone bits low some within =
     ∙ ap (value n given) here)
     (cases_lt p (n.sources + 1))
 
--- Under the row of an assignment each place has in the cone the value that it has in the net.
+-- Under each assignment, a node has in the cone the value that it has in the net.
 pub whole_value : (n : Net) (given : ℕ → Bool) (p : ℕ) → IsNet n → n.sources ≤ 12 → 1 ≤ p → p < end_of n → value_in (cone_of n) (row_of n.sources given) p ≡ value n given p
 whole_value n given p net few some within =
     values_below n (row_of n.sources given) given (suc p) p net (whole_cone n net few)

@@ -1,19 +1,21 @@
-//! Functional hashing by exhaustive simulation: gates with the same value under every assignment of the sources become
-//! one, in nets of at most 12 sources. No solver is asked: all assignments are simulated at once.
+//! Functional reduction by exhaustive simulation, for nets of at most 12 sources: functionally equal nodes are
+//! merged. There is no solver; all assignments are simulated at once.
 //!
-//! It stands on `lane_sim` for the words, and on `net_core` for nets. The whole net is simulated as one cone, so that each
-//! place has a row of words, its truth table over the sources. A constant or the first place with a row stands for each
-//! other place with it; where rows that differ have one hash, a place may stay that another could stand for. One pass over the gates in topological order then maps what a signal stands for to that signal,
-//! and keeps the other gates, with their operands mapped.
+//! It builds on `lane_sim` for bit-parallel simulation and on `net_core` for nets. The whole net is simulated as
+//! one cone, so that each node has a signature: its truth table over the sources, as a row of words. The
+//! representative of a node is a constant or the first node with the same signature. Signatures are looked up by
+//! a hash; when different signatures collide, a node may be left unmerged. One pass over the gates in topological
+//! order then maps each node with a representative to it and keeps the other gates, with their operands mapped.
 //!
-//! - `src/whole.rt`: the cone of a whole net. `src/rows.rt`: rows compared and hashed.
-//! - `src/stands.rt`: what stands for a place. `src/merging.rt`: the pass.
+//! - `src/whole.rt`: the cone of a whole net. `src/rows.rt`: signatures compared and hashed.
+//! - `src/stands.rt`: the representatives of nodes. `src/merging.rt`: the pass.
 //!
-//! The one theorem is that of `merge_equal`: the merged net answers what the net answers, and each of its gates has the
-//! operator of a gate of the net.
+//! The main theorem is the contract of `merge_equal`: the result implements the net, and each of its gates has
+//! the operator of a gate of the net.
 //!
 //! ```text
-//! let merged = merge_equal(alloc, &net)?; // of AND of x and y and NOR of NOT x and NOT y, the first is left
+//! // of AND of x and y and NOR of NOT x and NOT y, the first is kept
+//! let merged = functional_reduction(alloc, &net)?;
 //! ```
 #![tactic(auto)]
 

@@ -1,4 +1,4 @@
-//! The pass over the gates. `places` maps each old place to its new signal.
+//! The pass over the gates. `places` maps each old node to its new signal.
 ghost use Rattle.std.specs.Prelude.{◌≡◌, ◌+◌, ◌≤◌, ◌<◌, ◌^◌, length, IfOk, OnOk, IfSome, vec_len};
 ghost use Rattle.net_theory.specs.Net.{IsSigBelow, IsGateAt, end_of};
 ghost use Rattle.net_theory.specs.Answers.{Answers};
@@ -12,8 +12,8 @@ use crate::stands::stands_of;
 use net_core::{Gate, Net, Sig, moved, moved_sinks, start_places};
 use std::alloc::{AllocError, Global};
 
-/// Passes the gate at `place`: the place is mapped to the new signal of what stands for it, or the gate is appended with
-/// its operands mapped.
+/// Handles the gate `place`: its node is mapped to the new signal of its representative, or else the gate is
+/// appended with its operands mapped.
 fn pass_gate(
     sources: u32,
     place: usize,
@@ -47,7 +47,7 @@ fn pass_gate(
     Ok(())
 }
 
-/// Passes the gates of a net in order, and maps their places.
+/// Handles the gates of a net in order and maps their nodes.
 fn pass_gates(
     alloc: Global,
     net: &Net,
@@ -71,7 +71,7 @@ fn pass_gates(
     Ok(gates)
 }
 
-/// The net of the gates that are kept, with its sinks mapped.
+/// The net of the kept gates, with the sinks mapped.
 fn merge_in(
     alloc: Global,
     net: &Net,
@@ -89,11 +89,11 @@ fn merge_in(
     Ok(Net::new(net.sources(), gates, sinks))
 }
 
-/// The net after functional hashing: of gates with one value under every assignment the first is kept, and the fanouts of
-/// the others read it instead, or a source or constant with that value, but for clashes of hashes, by which two may stay. A
-/// net of more than 12 sources stays as it is.
+/// Functional reduction: of functionally equal nodes the first is kept, and the fanouts of the others read it
+/// instead, or a constant with that value. A collision of hashes may leave two equal nodes. A net of more than 12
+/// sources is copied unchanged.
 ///
-/// It answers what the net answers, with no more gates, each of which has the operator of a gate of the net.
+/// The result implements the net, and each of its gates has the operator of a gate of the net.
 pub fn merge_equal(alloc: Global, net: &Net) -> Result<Net, AllocError>
     ensures answers { IfOk result (Answers net.now) }
     ensures operators { IfOk result (λ merged. HaveOperatorsOf net.now merged.gates) }

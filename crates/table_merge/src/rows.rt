@@ -1,10 +1,10 @@
-//! Rows of words: the row of a place begins where those of the places before it end.
+//! Signatures: rows of words, one after the other in the order of the nodes, node 1 first.
 ghost use Rattle.std.specs.Prelude.{◌≡◌, ℕ, ◌+◌, ◌-◌, ◌*◌, ◌≤◌, ◌<◌, ◌^◌, length, slice_index_or, IsTrue, IsFalse};
 
-/// An odd number near 2^64 divided by the golden ratio (multiplicative hashing).
+/// The odd number nearest to 2^64 divided by the golden ratio (multiplicative hashing, Knuth, TAOCP 6.4).
 const MULTIPLIER: u64 = 0x9E37_79B9_7F4A_7C15;
 
-/// Where the row of a place begins.
+/// The index of the first word of a node's signature, of `width` words.
 pub fn row_start(place: u32, width: usize) -> usize
     requires some { 1 ≤ place }
     requires room { (place - 1) * width < 2 ^ 64 }
@@ -13,7 +13,7 @@ pub fn row_start(place: u32, width: usize) -> usize
     (place as usize - 1) * width
 }
 
-/// Whether two rows have the same words.
+/// Whether two signatures, by their first words, are equal.
 pub fn are_same(lanes: &[u64], first: usize, second: usize, width: usize) -> bool
     requires first { first + width ≤ length lanes.now }
     requires second { second + width ≤ length lanes.now }
@@ -28,7 +28,7 @@ pub fn are_same(lanes: &[u64], first: usize, second: usize, width: usize) -> boo
     true
 }
 
-/// Whether all words of a row are `word`.
+/// Whether all words of a signature are `word`.
 pub fn are_all(lanes: &[u64], start: usize, width: usize, word: u64) -> bool
     requires { start + width ≤ length lanes.now }
     ensures yes { IsTrue result → (j : ℕ) → j < width → slice_index_or lanes.now (start + j) 0 ≡ word }
@@ -42,7 +42,7 @@ pub fn are_all(lanes: &[u64], start: usize, width: usize, word: u64) -> bool
     true
 }
 
-/// A hash of a row.
+/// A hash of a signature.
 pub fn hash_of(lanes: &[u64], start: usize, width: usize) -> u64
     requires { start + width ≤ length lanes.now }
 {

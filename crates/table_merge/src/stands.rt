@@ -1,4 +1,4 @@
-//! Signals that stand for places, by their words.
+//! The representatives of nodes, by their signatures.
 ghost use Rattle.std.specs.Prelude.{◌≡◌, ◌+◌, ◌-◌, ◌*◌, ◌≤◌, ◌<◌, ◌^◌, length, replicate, None, IfOk, IfSome};
 ghost use Rattle.net_theory.specs.Net.{end_of};
 ghost use Rattle.lane_sim.specs.Words.{AreWords, width_of as width_of_rows};
@@ -12,7 +12,7 @@ use net_core::{Net, Sig};
 use std::alloc::{AllocError, Global};
 use std::collections::HashMap;
 
-/// The number of words of a row over a number of sources.
+/// The number of words of a signature over `sources` sources.
 fn width_of(sources: u32) -> usize
     requires { sources ≤ 12 }
     ensures { result ≡ width_of_rows (2 ^ sources) }
@@ -20,8 +20,8 @@ fn width_of(sources: u32) -> usize
     ((1u32 << sources) as usize + 63) / 64
 }
 
-/// The place that was noted with the hash of the row of `place`, if it is an earlier one with the same row. Where no place
-/// was noted with that hash, `place` is.
+/// The earlier node that is recorded for the hash of the signature of `place`, if it has the same signature. If no
+/// node is recorded for that hash, records `place`.
 fn earlier(
     lanes: &[u64],
     width: usize,
@@ -52,7 +52,7 @@ fn earlier(
     Ok(None)
 }
 
-/// A constant or an earlier place with the row of `place`.
+/// A constant or an earlier node with the signature of `place`.
 fn stand_for(
     lanes: &[u64],
     width: usize,
@@ -74,7 +74,7 @@ fn stand_for(
     earlier(lanes, width, place, seen)
 }
 
-/// For each place below `end` what stands for it.
+/// For each node below `end` its representative, if any.
 fn all_stands(
     alloc: Global,
     lanes: &[u64],
@@ -95,7 +95,7 @@ fn all_stands(
     Ok(stands)
 }
 
-/// For each place below `end` nothing.
+/// No representative for any node below `end`.
 fn no_stands(alloc: Global, end: u32) -> Result<Vec<Option<Sig>>, AllocError>
     ensures { IfOk result (λ stands. stands.items ≡ replicate end None) }
 {
@@ -103,7 +103,7 @@ fn no_stands(alloc: Global, end: u32) -> Result<Vec<Option<Sig>>, AllocError>
     Ok(stands)
 }
 
-/// What stands for the places of a net whose words there are.
+/// The representatives of the nodes of a simulated net.
 fn stands_by(
     alloc: Global,
     net: &Net,
@@ -120,7 +120,7 @@ fn stands_by(
     Ok(stands)
 }
 
-/// What stands for the places of a net; nothing where it has more than 12 sources.
+/// The representatives of the nodes of a net; none if it has more than 12 sources.
 pub fn stands_of(alloc: Global, net: &Net) -> Result<Vec<Option<Sig>>, AllocError>
     ensures { IfOk result (λ stands. AreStands net.now stands.items) }
 {

@@ -1,4 +1,4 @@
-//! The whole of a net as one cone: its leaves are the sources, and its gates are all gates at their places.
+//! A whole net as one cone: its leaves are the sources, and its gates are all gates of the net.
 ghost use Rattle.std.specs.Prelude.{◌≡◌, ◌+◌, ◌≤◌, IfOk};
 ghost use Rattle.table_merge.specs.Whole.{count_from, placed_from, cone_of};
 
@@ -6,7 +6,7 @@ use lane_sim::Cone;
 use net_core::{Gate, Net};
 use std::alloc::{AllocError, Global};
 
-/// The places of sources.
+/// The nodes of the sources.
 fn source_places(alloc: Global, sources: u32) -> Result<Vec<u32>, AllocError>
     ensures { IfOk result (λ places. places.items ≡ count_from 1 sources) }
 {
@@ -17,7 +17,7 @@ fn source_places(alloc: Global, sources: u32) -> Result<Vec<u32>, AllocError>
     Ok(places)
 }
 
-/// The gates of a net with their places.
+/// The gates of a net with their nodes.
 fn placed_gates(alloc: Global, net: &Net) -> Result<Vec<(u32, Gate)>, AllocError>
     ensures { IfOk result (λ placed. placed.items ≡ placed_from (net.now.sources + 1) net.now.gates) }
 {
@@ -32,7 +32,8 @@ fn placed_gates(alloc: Global, net: &Net) -> Result<Vec<(u32, Gate)>, AllocError
     Ok(placed)
 }
 
-/// The cone of all gates of a net over its sources. It takes no checks: the order of a net's gates is topological.
+/// The cone of all gates of a net over its sources. It needs no check, since the gates of a net are in topological
+/// order.
 pub fn whole_cone(alloc: Global, net: &Net) -> Result<Cone, AllocError>
     requires { net.now.sources ≤ 12 }
     ensures { IfOk result (λ cone. cone ≡ cone_of net.now) }

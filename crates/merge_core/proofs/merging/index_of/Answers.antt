@@ -1,4 +1,4 @@
--- The form was there, or it and its gate are appended.
+-- The key is found, or it and its gate are appended.
 use Rattle.merge_core.specs.ApartLaws.{forms_new, put_known, put_new}
 use Rattle.merge_core.proofs.merging.index_of.Goals as goal
 

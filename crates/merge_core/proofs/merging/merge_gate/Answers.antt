@@ -1,5 +1,4 @@
--- The place is mapped as the definition says, and the gate that is looked up has its operands
--- mapped.
+-- The node is mapped as defined; the gate that is looked up has its operands mapped.
 use Rattle.std.proofs.Common.{subst, ap, ◌∙◌}
 use Rattle.net_theory.specs.declared.data.Sig.{Sig}
 use Rattle.net_theory.specs.Expansion.{gate_of}

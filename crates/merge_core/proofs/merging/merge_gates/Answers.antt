@@ -1,4 +1,4 @@
--- One more gate is merged, and in the end all are.
+-- The step for one more gate, and the end of the loop.
 use Rattle.std.proofs.Common.{ap, subst, ◌∙◌, ℕ, ◌+◌}
 use Rattle.net_core.specs.Marks.{kept}
 use Rattle.merge_core.specs.Merging.{IsPassed}

@@ -1,4 +1,4 @@
--- The net that is put together is the merged net.
+-- The resulting net is the merged net.
 use Rattle.std.proofs.Common.{sym, subst}
 use Rattle.net_theory.specs.Answers.{Answers}
 use Rattle.merge_core.specs.MergingLaws.{merged_whole}

@@ -1,4 +1,4 @@
--- A place is mapped as the definition says, or the gate is appended.
+-- The node is mapped as defined, or the gate is appended.
 use Rattle.std.proofs.Common.{◌≡◌, length, vec_len, refl}
 use Rattle.merge_core.specs.MergingLaws.{places_put}
 use Rattle.table_merge.proofs.merging.pass_gate.Goals as goal

@@ -1,4 +1,4 @@
--- One more gate is passed, and in the end all are.
+-- The step for one more gate, and the end of the loop.
 use Rattle.std.proofs.Common.{◌≡◌, ◌∙◌, ℕ, ◌+◌, None, slice_index_or, ap, subst}
 use Rattle.net_core.specs.Marks.{kept}
 use Rattle.merge_core.specs.MergingLaws.{merged_first, left_start, left_more, next_stands}

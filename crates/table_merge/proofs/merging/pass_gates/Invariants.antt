@@ -1,4 +1,4 @@
--- The gates below `place` are passed, and the others are left.
+-- The gates below `place` are done, and the others remain.
 use Rattle.std.proofs.Common.{◌≡◌, length}
 use Rattle.net_theory.specs.Net.{end_of}
 use Rattle.net_core.specs.Marks.{kept}

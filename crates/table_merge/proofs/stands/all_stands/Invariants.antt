@@ -1,4 +1,4 @@
--- What stands for the places below `place` is there.
+-- The list has the representatives of the nodes below `place`.
 use Rattle.table_merge.specs.Stands.{HaveWords}
 use Rattle.table_merge.proofs.stands.all_stands.Given as goal
 

@@ -1,4 +1,4 @@
--- What is placed, with what is left, are all gates with their places.
+-- The list so far, followed by the remaining gates with their nodes, has all gates.
 use Rattle.std.proofs.Common.{◌≡◌, ◌+◌, ◌++◌, length}
 use Rattle.net_theory.specs.Net.{end_of}
 use Rattle.table_merge.specs.Whole.{placed_from}

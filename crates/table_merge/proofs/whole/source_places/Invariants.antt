@@ -1,4 +1,4 @@
--- The sources up to `before` are there.
+-- The list has the sources up to `before`.
 use Rattle.std.proofs.Common.{◌≡◌}
 use Rattle.table_merge.specs.Whole.{count_from}
 use Rattle.table_merge.proofs.whole.source_places.Given as goal
