@@ -1,4 +1,4 @@
-//! Netlists of which nothing but dead gates is dropped, and the refusals of whole documents.
+//! Netlists of which nothing but dangling gates is dropped, and the refusals of whole documents.
 
 use crate::asking::{Asked, is_improved, refused};
 use improve_windows::NetError;

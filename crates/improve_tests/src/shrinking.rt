@@ -38,7 +38,7 @@ const IMPROVED: &[(&[u8], Asked, &[u8])] = &[
         Asked::Blif(5, 1, 100_000, false),
         b".model x\n.inputs a b\n.outputs y\n.names a b y\n01 1\n10 1\n.end\ngates 3 -> 1\nstopped\n",
     ),
-    // two gates that are alike are one
+    // two structurally equal gates are one
     (
         EQUAL,
         Asked::Blif(5, 1000, 100_000, false),

@@ -9,7 +9,7 @@ abbrev pub or_nothing : Option Name → Name
 or_nothing None = []
 or_nothing (Some name) = name
 
--- The name of the gate at a place, by the names of a net's gates and the number of its sources.
+-- The name of the gate at a node, by the names of a net's gates and the number of its sources.
 unfoldable pub name_at : List Name → ℕ → ℕ → Name
 name_at names sources place = or_nothing (slice_get names (place - (sources + 1)))
 

@@ -117,9 +117,9 @@ pub(crate) fn improve_written<S: Solver>(
     Ok(Written { improved, document })
 }
 
-/// Improves a circuit: drops its dead gates, makes it smaller by moves over the whole net and by walks, and then puts
-/// shorter chains in the place of windows, until no window up to the cap has one, or `settings.rounds` rounds have changed
-/// something.
+/// Improves a circuit: drops its dangling gates, makes it smaller by moves over the whole net and by walks,
+/// and then puts shorter chains in the place of windows, until no window up to the cap has one, or
+/// `settings.rounds` rounds have changed something.
 pub fn improve_circuit<S: Solver>(
     alloc: Global,
     circuit: Circuit,

@@ -11,7 +11,7 @@ use std::alloc::{AllocError, Global};
 use text_core::push_number;
 use window_trial::Undecided;
 
-/// Appends the name of the gate at a place.
+/// Appends the name of the gate at a node.
 #[tactic(auto, unfolding(crate::specs::Report::name_at))]
 fn push_name(
     report: &mut Vec<u8>,

@@ -1,4 +1,5 @@
--- Under which assignments of a surround's leaves it is seen what bits are put in the place of a window's outputs.
+-- Under which assignments of a fanin cone's leaves it is seen what bits are put in the place of a window's
+-- outputs.
 use Rattle.std.specs.Prelude.{◌≡◌, ℕ, ◌+◌, ◌*◌, ◌≤◌, ◌<◌, ◌^◌, Bool, true, false, List, ◌++◌, length, slice_get, slice_index_or, Some, ◌⊎◌}
 use Rattle.chain_theory.specs.Operator.{digit}
 use Rattle.net_theory.specs.Net.{Net}
@@ -21,7 +22,7 @@ pub record IsAdded (first second : List ℕ) (start count : ℕ) (old new : List
   pub only : (j t : ℕ) → j < count → bit_in new j t ≡ true → (bit_in old j t ≡ true) ⊎ (bit_in first (start + j) t ≡ bit_in second (start + j) t → ⊥)
   pub none : (j t : ℕ) → j < count → bit_in new j t ≡ false → (bit_in old j t ≡ false) × (bit_in first (start + j) t ≡ bit_in second (start + j) t)
 
--- some watcher's rows differ in a bit
+-- some output of the fanout cone's rows differ in a bit
 pub record RowsDiffer (first second : List ℕ) (start width : ℕ) (tail watchers : List ℕ) (j t : ℕ) : Type 0 where
   pub index : ℕ
   pub place : ℕ
@@ -29,7 +30,8 @@ pub record RowsDiffer (first second : List ℕ) (start width : ℕ) (tail watche
   pub watcher : among watchers place ≡ true
   pub differ : bit_in first ((start + index) * width + j) t ≡ bit_in second ((start + index) * width + j) t → ⊥
 
--- The words grew by the bits in which the rows of the watchers among the first gates of the tail differ.
+-- The words grew by the bits in which the rows of the outputs of the fanout cone among the first gates of the
+-- fanout cone differ.
 pub record AreAdded (first second : List ℕ) (start : ℕ) (tail watchers : List ℕ) (count : ℕ) (old new : List ℕ) : Type 0 where
   pub size : length new ≡ length old
   pub only : (j t : ℕ) → j < length old → bit_in new j t ≡ true → (bit_in old j t ≡ true) ⊎ RowsDiffer first second start (length old) tail watchers j t
@@ -41,7 +43,7 @@ pub record AreAdded (first second : List ℕ) (start : ℕ) (tail watchers : Lis
 abbrev pub put_bits : Net → List ℕ → List ℕ → (ℕ → Bool) → ℕ → Bool
 put_bits n leaves outputs = values_with n (among (leaves ++ outputs))
 
--- Under an assignment of the leaves some watcher has two values.
+-- Under an assignment of the leaves some output of the fanout cone has two values.
 pub record IsTold (n : Net) (leaves outputs watchers : List ℕ) (row : ℕ) : Type 0 where
   pub one : ℕ → Bool
   pub other : ℕ → Bool
@@ -51,7 +53,7 @@ pub record IsTold (n : Net) (leaves outputs watchers : List ℕ) (row : ℕ) : T
   pub watcher : among watchers place ≡ true
   pub differ : put_bits n leaves outputs one place ≡ put_bits n leaves outputs other place → ⊥
 
--- words of the cone of a tail with bits
+-- words of the cone of a fanout cone with bits
 pub record ArePutWords (n : Net) (outputs : List ℕ) (bits : ℕ) (surround : Cone) (tail : List ℕ) (words : Words) : Type 0 where
   pub cone : Cone
   pub is : IsPutCone n outputs bits surround tail cone

@@ -97,7 +97,7 @@ row_fits start i count width size some low room small =
 
 -- ---- values
 
--- the word of a gate of the tail
+-- the word of a gate of the fanout cone
 tail_bit : (n : Net) (outputs : List ℕ) (bits : ℕ) (s c : Cone) (tail : List ℕ) (w : Words) (width k p j t : ℕ) → IsPutCone n outputs bits s tail c → AreWords c w → width ≡ width_of (2 ^ length s.leaves) → slice_get tail k ≡ Some p → t < 64 → 64 * j + t < 2 ^ length s.leaves → bit_in w.lanes ((length (places s) + k) * width + j) t ≡ value_in c (64 * j + t) p
 tail_bit n outputs bits s c tail w width k p j t is are width_is at few low =
     let all : places c ≡ places s ++ tail = ap (λ (ls : List ℕ). ls ++ gate_places c.gates) is.leaves ∙ ap (λ (gs : List (ℕ × Gate)). s.leaves ++ gate_places gs) is.gates ∙ all_places s is.put tail is.put_are.places in
@@ -107,7 +107,7 @@ tail_bit n outputs bits s c tail w width k p j t is are width_is at few low =
     ap (λ (x : ℕ). bit_in w.lanes ((length (places s) + k) * x + j) t) (sym wide)
     ∙ are.values (length (places s) + k) p j t there few (subst (λ (r : ℕ). 64 * j + t < r) (sym rows) low)
 
--- the rows of the tail end with the words
+-- the rows of the fanout cone end with the words
 pub put_room : (n : Net) (outputs : List ℕ) (bits : ℕ) (s c : Cone) (tail : List ℕ) (w : Words) (width a b : ℕ) (lanes : List ℕ) → IsPutCone n outputs bits s tail c → AreWords c w → width ≡ width_of (2 ^ length s.leaves) → a ≡ length s.leaves → b ≡ length s.gates → lanes ≡ w.lanes → (a + b + length tail) * width ≤ length lanes
 put_room n outputs bits s c tail w width a b lanes is are width_is a_is b_is lanes_is =
     let all : places c ≡ places s ++ tail = ap (λ (ls : List ℕ). ls ++ gate_places c.gates) is.leaves ∙ ap (λ (gs : List (ℕ × Gate)). s.leaves ++ gate_places gs) is.gates ∙ all_places s is.put tail is.put_are.places in
@@ -147,7 +147,7 @@ some_bits leaves outputs row bits rising_l few_l rising_o few_o beside =
         let place : length ps - 1 - i ≡ length ps - (i + 1) = omega arith in
         cone_leaf (bare ps) r i (slice_index_or ps i 0) cone (slice_get-get_or ps i 0 low) ∙ ap (digit r) place
 
--- Words of a surround with gates that were put above it.
+-- Words of a fanin cone with gates that were put above it.
 pub put_words : (n : Net) (outputs : List ℕ) (bits : ℕ) (s : Cone) (tail : List ℕ) (put : List (ℕ × Gate)) (w : Words) → IsNet n → IsCone s → IsAbove n outputs s tail → ArePutGates n outputs bits tail put → AreWords (with_gates s put) w → ArePutWords n outputs bits s tail w
 put_words n outputs bits s tail put w net cone above gates are =
     record {

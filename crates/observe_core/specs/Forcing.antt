@@ -5,11 +5,11 @@ use Rattle.observe_core.specs.Putting.{IsAbove}
 use Rattle.observe_core.specs.Differing.{ArePutWords, AreTold}
 use Rattle.observe_core.specs.declared.forcing.Forced.{Forced}
 
--- the tail stands above the surround
+-- the fanout cone stands above the fanin cone
 abbrev pub StandsAbove : Forced → Type 0
 StandsAbove f = IsAbove f.net.now f.outputs.now f.surround.now f.tail.now
 
--- the words of the tail's cone where the outputs have bits
+-- the words of the fanout cone's cone where the outputs have bits
 abbrev pub HaveBits : Forced → ℕ → Words → Type 0
 HaveBits f bits words = ArePutWords f.net.now f.outputs.now bits f.surround.now f.tail.now words
 

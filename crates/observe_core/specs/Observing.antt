@@ -19,7 +19,7 @@ use Rattle.observe_theory.specs.Observed.{IsObservedOf}
 abbrev pub IsEither : List ℕ → List ℕ → ℕ → Type 0
 IsEither one other p = (among one p ≡ true) ⊎ (among other p ≡ true)
 
--- Of two lists the places were put into one, as far as those of the second aren't left.
+-- Of two lists the nodes were put into one, as far as those of the second aren't left.
 pub record ArePutTogether (one other left both : List ℕ) : Type 0 where
   pub within : (p : ℕ) → among left p ≡ true → among other p ≡ true
   pub rising : IsRising both
@@ -27,7 +27,7 @@ pub record ArePutTogether (one other left both : List ℕ) : Type 0 where
   pub first : (p : ℕ) → among one p ≡ true → among both p ≡ true
   pub second : (p : ℕ) → among other p ≡ true → IsEither both left p
 
--- The observing surround as a cone of the net.
+-- The observing fanin cone as a cone of the net.
 pub record IsObservingCone (n : Net) (w : Window) (t : Tail) (c : Cone) : Type 0 where
   pub first : List ℕ
   pub just : AreJust (IsFirst w t) first
@@ -37,7 +37,7 @@ pub record IsObservingCone (n : Net) (w : Window) (t : Tail) (c : Cone) : Type 0
   pub covered : AreCovered c.leaves c.gates first
   pub behind : (p : ℕ) → among (gate_places c.gates) p ≡ true → IsBehind n first p
 
--- The digits of a mask are 0 at just the unseen rows.
+-- The digits of a mask are 0 at just the unobservable rows.
 pub record IsSeenMask (n : Net) (w : Window) (t : Tail) (mask : ℕ) : Type 0 where
   pub seen : (row : ℕ) → row < 2 ^ length w.inputs → digit mask row ≡ true → IsUnseen n w t row → ⊥
   pub unseen : (row : ℕ) → row < 2 ^ length w.inputs → digit mask row ≡ false → IsUnseen n w t row

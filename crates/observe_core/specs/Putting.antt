@@ -1,4 +1,4 @@
--- Bits that are put in the place of a window's outputs, and the cone of its tail with them.
+-- Bits that are put in the place of a window's outputs, and the cone of its fanout cone with them.
 use Rattle.std.specs.Prelude.{◌≡◌, ℕ, ◌==◌, true, false, if◌then◌else◌, List, [], ◌∷◌, ◌++◌, length, slice_get, Some, ◌⊎◌}
 use Rattle.chain_theory.specs.Operator.{digit}
 use Rattle.net_theory.specs.declared.data.Sig.{Sig}
@@ -25,7 +25,7 @@ put_sig outputs bits (sigs.Place p) = put_place outputs bits p
 abbrev pub put_gate : List ℕ → ℕ → Gate → Gate
 put_gate outputs bits g = record { op = g.op; a = put_sig outputs bits g.a; b = put_sig outputs bits g.b }
 
--- These are the gates at some places, with what was put.
+-- These are the gates at some nodes, with what was put.
 pub record ArePutGates (n : Net) (outputs : List ℕ) (bits : ℕ) (tail : List ℕ) (gates : List (ℕ × Gate)) : Type 0 where
   pub places : gate_places gates ≡ tail
   pub own : (i : ℕ) (x : ℕ × Gate) → slice_get gates i ≡ Some x → (g : Gate) × IsGateOf n x.0 g × (x.1 ≡ put_gate outputs bits g)
@@ -38,8 +38,8 @@ pub record HasPut (n : Net) (outputs : List ℕ) (bits : ℕ) (tail left : List 
   pub new_is : new ≡ old ++ put
   pub put_are : ArePutGates n outputs bits done put
 
--- A tail stands above a surround, which is of the net: its gates rise, are none of the surround's places, and read the
--- outputs, places of the surround and each other. The outputs are beside both.
+-- A fanout cone stands above a fanin cone, which is of the net: its gates rise, are none of the fanin cone's
+-- places, and read the outputs, places of the fanin cone and each other. The outputs are beside both.
 pub record IsAbove (n : Net) (outputs : List ℕ) (surround : Cone) (tail : List ℕ) : Type 0 where
   pub own : AreAbove n surround.leaves surround.gates
   pub rising : IsRising tail
@@ -50,7 +50,7 @@ pub record IsAbove (n : Net) (outputs : List ℕ) (surround : Cone) (tail : List
   pub beside : (p : ℕ) → among (places surround) p ≡ true → among outputs p ≡ false
   pub tail_beside : (p : ℕ) → among tail p ≡ true → among outputs p ≡ false
 
--- the cone of a tail above its surround
+-- the cone of a fanout cone above its fanin cone
 pub record IsPutCone (n : Net) (outputs : List ℕ) (bits : ℕ) (surround : Cone) (tail : List ℕ) (c : Cone) : Type 0 where
   pub leaves : c.leaves ≡ surround.leaves
   pub put : List (ℕ × Gate)

@@ -1,4 +1,4 @@
--- How a tail is taken, and what it is made of.
+-- How a fanout cone is taken, and what it is made of.
 use Rattle.std.specs.Prelude.{◌≡◌, ℕ, Bool, ◌+◌, ◌≤◌, true, false, List, [], ◌∷◌, ◌++◌, length, refl}
 use Rattle.std.proofs.Common.{arith, sym, ◌∙◌, ap, subst, inl, inr, ⊎_elim}
 use Rattle.std.proofs.lemmas.Bool.{cases_Bool, both_ways}
@@ -16,7 +16,7 @@ use Rattle.observe_theory.specs.JoinedLaws.{in_front, in_back, in_parts, is_off,
 use Rattle.observe_core.specs.Following.{IsNextFollower, HaveSame, IsTaking, HasTail}
 use Rattle.observe_core.specs.Kept.{IsBoth, HasSome}
 
--- ---- lists with the same places
+-- ---- lists with the same nodes
 
 pub follower_same : (n : Net) (xs ys : List ℕ) (p : ℕ) → HaveSame xs ys → IsFollower n xs p → IsFollower n ys p
 follower_same n xs ys p same is = record { outside = sym (same p) ∙ is.outside; place = is.place; inside = sym (same is.place) ∙ is.inside; reads = is.reads }
@@ -87,7 +87,7 @@ taking_more n gates all tail new next count p net some follower new_is next_is w
       are = λ q e. ⊎_elim (λ (same : q ≡ p). subst (IsGate n) (sym same) first.reads.reader) (λ there. was.are q there) (put_only p q all e);
     }))
 
--- the window's gates with the tail
+-- the window's gates with the fanout cone
 joined : (n : Net) (gates all tail : List ℕ) (count : ℕ) → (w : IsTaking n gates count all tail) → HaveSame all (tail ++ gates)
 joined n gates all tail count w =
     both_same all (tail ++ gates)

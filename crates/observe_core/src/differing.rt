@@ -1,6 +1,7 @@
-//! The assignments of a surround's leaves under which forcing the window's outputs changes a watcher, an output of the TFO
-//! window (observability): the surround is simulated once, and the tail above it with each number in place of the outputs,
-//! and the watchers' words are compared with those for the number 0.
+//! The assignments of a fanin cone's leaves under which forcing the window's outputs changes a output of the
+//! fanout cone, an output of the TFO window (observability): the fanin cone is simulated once, and the fanout
+//! cone above it with each number in place of the outputs, and the outputs of the fanout cone' words are
+//! compared with those for the number 0.
 
 ghost use Rattle.std.specs.Prelude.{◌≡◌, ℕ, ◌+◌, ◌*◌, ◌≤◌, ◌<◌, ◌^◌, true, length, slice_index_or, slice_set, bit_or, bit_xor, IfOk, OnOk};
 ghost use Rattle.lane_sim.specs.Above.{HasWords};
@@ -37,8 +38,8 @@ fn add_difference(differ: &mut [u64], first: &[u64], second: &[u64], start: usiz
     }
 }
 
-/// ORs in the bits in which the rows of the watchers differ. The tail's rows stand one after the other, after the first
-/// `start` rows.
+/// ORs in the bits in which the rows of the outputs of the fanout cone differ. The fanout cone's rows stand
+/// one after the other, after the first `start` rows.
 fn add_watchers(
     differ: &mut [u64],
     first: &[u64],
@@ -62,8 +63,8 @@ fn add_watchers(
     }
 }
 
-/// The words of the tail's cone with the outputs forced to `bits`, in the place of those with other bits: the rows of the
-/// surround stay.
+/// The words of the fanout cone's cone with the outputs forced to `bits`, in the place of those with other
+/// bits: the rows of the fanin cone stay.
 fn put_words(alloc: Global, forced: Forced, bits: u32, words: &mut Words) -> Result<(), AllocError>
     requires above { StandsAbove forced }
     requires words { HasWords forced.surround.now words.old }
@@ -71,7 +72,7 @@ fn put_words(alloc: Global, forced: Forced, bits: u32, words: &mut Words) -> Res
     ensures below { OnOk result (HasWords forced.entry.surround.now words.new) }
 {
     let _sources = forced.net.sources(); // brings the type invariant into the proof
-    let _leaves = forced.surround.leaves(); // says that the surround is a cone
+    let _leaves = forced.surround.leaves(); // says that the fanin cone is a cone
     let gates = put_gates(alloc, forced.net, forced.outputs, bits, forced.tail)?;
     simulate_above(words, forced.index, forced.surround, &gates)?;
     Ok(())
@@ -131,7 +132,7 @@ fn add_all_bits(
     Ok(())
 }
 
-/// The words of the tail's cone with the outputs forced to 0, from those of its surround.
+/// The words of the fanout cone's cone with the outputs forced to 0, from those of its fanin cone.
 fn zero_words(alloc: Global, forced: Forced, words: &Words) -> Result<Words, AllocError>
     requires above { StandsAbove forced }
     requires words { AreWords forced.surround.now words.now }
@@ -144,8 +145,8 @@ fn zero_words(alloc: Global, forced: Forced, words: &Words) -> Result<Words, All
     Ok(zero)
 }
 
-/// The assignments of the surround's leaves that distinguish some value of the outputs from another, as the bits of words.
-/// The surround's words are handed in: it isn't simulated again.
+/// The assignments of the fanin cone's leaves that distinguish some value of the outputs from another, as the
+/// bits of words. The fanin cone's words are handed in: it isn't simulated again.
 pub(crate) fn telling(
     alloc: Global,
     net: &Net,
@@ -163,7 +164,7 @@ pub(crate) fn telling(
     ensures telling { IfOk result (λ differ. AreTelling net.now surround.now.leaves outputs.now watchers.now differ.items) }
 {
     let _sources = net.sources(); // brings the type invariant into the proof
-    let _leaves = surround.leaves(); // says that the surround is a cone
+    let _leaves = surround.leaves(); // says that the fanin cone is a cone
     let index = index_of(alloc, surround, tail)?;
     let forced = Forced {
         net,

@@ -1,4 +1,4 @@
-//! What is forced: the outputs of a window, below a tail that stands above a surround.
+//! What is forced: the outputs of a window, below a fanout cone that stands above a fanin cone.
 
 ghost use Rattle.std.specs.Prelude.{◌≡◌, ℕ, ◌≤◌, ◌++◌, true, length};
 ghost use Rattle.lane_sim.specs.Cone.{places};
@@ -7,8 +7,9 @@ ghost use Rattle.window_theory.specs.Places.{among};
 use lane_sim::{Cone, Index};
 use window_core::Net;
 
-/// Outputs that are forced, at most eight, with a surround and the tail above it. The watchers are some of the tail's gates,
-/// and the index finds the places of the surround and the tail.
+/// Outputs that are forced, at most eight, with a fanin cone and the fanout cone above it. The outputs of the
+/// fanout cone are some of the fanout cone's gates, and the index finds the nodes of the fanin cone and the
+/// fanout cone.
 #[derive(Clone, Copy)]
 pub(crate) struct Forced<'a> {
     pub(crate) net: &'a Net,

@@ -3,9 +3,9 @@
 //! `observe_theory`; `sweep_core` has them beside the field's.
 //!
 //! - `tail` finds the gates above a window through which it is seen first, by the index of the net.
-//! - `observed_spec` is the window's specification with the cells of all unseen rows free. The tail is evaluated above its
-//!   surround with each number in the place of the window's outputs; where its watchers never differ, the row of
-//!   the window's inputs is unseen.
+//! - `observed_spec` is the window's specification with the cells of all unobservable rows free. The fanout cone is evaluated above its
+//!   fanin cone with each number in the place of the window's outputs; where its outputs never differ, the row of
+//!   the window's inputs is unobservable.
 //! - A chain that agrees with it may take the window's place, and all sinks keep their values (`seen_keeps`).
 //!
 //! ```text

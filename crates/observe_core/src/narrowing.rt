@@ -1,4 +1,5 @@
-//! What those who see a window ask of it: the window's specification, with the cells of all unseen rows free.
+//! What those who see a window ask of it: the window's specification, with the cells of all unobservable rows
+//! free.
 
 ghost use Rattle.std.specs.Prelude.{◌≡◌, map, bit_and, IfOk};
 ghost use Rattle.tt_core.specs.Words.{specification};

@@ -1,6 +1,6 @@
-//! The rows of a window's inputs on which somebody sees the window, all but the observability don't-cares: under some
-//! assignment of the observing surround's leaves that gives the row, some watcher distinguishes two values of the window's
-//! outputs.
+//! The rows of a window's inputs on which somebody sees the window, all but the observability don't-cares:
+//! under some assignment of the observing fanin cone's leaves that gives the row, some output of the fanout
+//! cone distinguishes two values of the window's outputs.
 
 ghost use Rattle.std.specs.Prelude.{◌≡◌, ◌≤◌, ◌<◌, true, false, length, IfOk};
 ghost use Rattle.window_theory.specs.Places.{IsRising, AreJust};
@@ -14,7 +14,7 @@ use lane_sim::{Cone, MOST_LEAVES, cone_words, patterns_on};
 use std::alloc::{AllocError, Global};
 use window_core::{Net, Window, put, signals_of, surround};
 
-/// The inputs of a window and of its tail, in one rising list.
+/// The inputs of a window and of its fanout cone, in one rising list.
 fn first_leaves(alloc: Global, inputs: &[u32], sides: &[u32]) -> Result<Vec<u32>, AllocError>
     requires { IsRising inputs.now }
     ensures { IfOk result (λ first. AreJust (IsEither inputs.now sides.now) first.items) }
@@ -29,7 +29,7 @@ fn first_leaves(alloc: Global, inputs: &[u32], sides: &[u32]) -> Result<Vec<u32>
     Ok(first)
 }
 
-/// Whether places are more than a surround may begin with.
+/// Whether nodes are more than a fanin cone may begin with.
 fn are_too_many(places: &[u32]) -> bool
     ensures yes { result ≡ true → 12 < length places.now }
     ensures no { result ≡ false → length places.now ≤ 12 }
@@ -37,7 +37,7 @@ fn are_too_many(places: &[u32]) -> bool
     places.len() > MOST_LEAVES
 }
 
-/// The rows that are seen, by the observing surround.
+/// The rows that are seen, by the observing fanin cone.
 fn rows_told(
     alloc: Global,
     net: &Net,

@@ -1,4 +1,4 @@
--- Tails ascend, and their side inputs don't depend on the window.
+-- Fanout cones ascend, and their side inputs don't depend on the window.
 use Rattle.std.specs.Prelude.{◌≡◌, ℕ, ◌≤◌, ◌<◌, true, false, List, [], ◌∷◌, ◌++◌, ◌⊎◌}
 use Rattle.std.proofs.Common.{arith, sym, subst, inl, inr, ⊎_elim, ◌≢◌}
 use Rattle.std.proofs.lemmas.Bool.{cases_Bool, both_ways}
@@ -11,7 +11,7 @@ use Rattle.window_theory.specs.WindowLaws.{reads_low}
 use Rattle.observe_theory.specs.Tail.{IsFollower, AreFollowing, IsSide, Tail, IsTail}
 use Rattle.observe_theory.specs.JoinedLaws.{in_front, in_back, in_parts, is_off, out_back}
 
--- ---- tails ascend
+-- ---- fanout cones ascend
 
 -- a follower after one more gate is a fanout of that gate, or was a follower before
 follower_before : (n : Net) (rest : List ℕ) (p x : ℕ) → IsFollower n (p ∷ rest) x → Reads n x p ⊎ (IsFollower n rest x × (x ≢ p))

@@ -158,7 +158,7 @@ last_put f rest p [] low = absurd (omega arith)
 last_put f [] p (s ∷ sigs) low = refl
 last_put f (q ∷ rest) p (s ∷ sigs) low = ap (λ (g : ℕ → Sig). put_sig g q s) (last_put f rest p sigs (omega arith))
 
--- the last of the places is put
+-- the last of the nodes is put
 pub put_next : (places sigs : List Sig) (left rest : List ℕ) (p : ℕ) (s : Sig) → left ≡ rest ++ p ∷ [] → p < length places → length rest < length sigs → s ≡ get_or sigs (length rest) Zero → with_sigs (places_of (set places p s)) rest sigs ≡ with_sigs (places_of places) left sigs
 put_next places sigs left rest p s e low within is =
     ap (λ (f : ℕ → Sig). with_sigs f rest sigs) (written places p s low ∙ ap (put_sig (places_of places) p) is)

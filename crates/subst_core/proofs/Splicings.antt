@@ -16,7 +16,7 @@ use Rattle.subst_core.specs.Lists.{AreBelow}
 use Rattle.subst_core.proofs.Marking.{list_below}
 use Rattle.subst_core.proofs.Placings.{kept_same, count_same}
 
--- ---- the places of a window
+-- ---- the nodes of a window
 
 pub inputs_below : (n : Net) (w : Window) → Belongs n w → AreBelow (end_of n) w.inputs
 inputs_below n w is = list_below (end_of n) w.inputs (λ p on. (is.within p on).1)

@@ -14,10 +14,10 @@ pub record HaveSameLists (w v : Window) : Type 0 where
   pub inputs : w.inputs ≡ v.inputs
   pub outputs : w.outputs ≡ v.outputs
 
--- each of the places is below a bound
+-- each of the nodes is below a bound
 abbrev pub AreBelow : ℕ → List ℕ → Type 0
 AreBelow bound places = All (λ (p : ℕ). p < bound) places
 
--- none of the places is marked
+-- none of the nodes is marked
 abbrev pub AreUnmarked : (ℕ → Bool) → List ℕ → Type 0
 AreUnmarked marks places = (p : ℕ) → among places p ≡ true → marks p ≡ false

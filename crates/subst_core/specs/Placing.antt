@@ -1,4 +1,4 @@
--- Where the places of a chain are in a net.
+-- Where the nodes of a chain are in a net.
 use Rattle.std.specs.Prelude.{ℕ, ◌+◌, ◌-◌, Bool, true, ◌||◌, nat_lt, if◌then◌else◌, List, length, map, slice_index_or}
 use Rattle.chain_theory.specs.Chain.{Step, Chain}
 use Rattle.net_theory.specs.declared.data.Sig.{Sig}
@@ -10,13 +10,13 @@ use Rattle.window_theory.specs.Places.{among}
 use Rattle.window_theory.specs.Window.{Window}
 use Rattle.window_theory.specs.Splice.{input_place, step_gate, out_sig, with_sigs}
 
--- the marks, and the places too
+-- the marks, and the nodes too
 abbrev pub with_places : (ℕ → Bool) → List ℕ → ℕ → Bool
 with_places marks places p = among places p || marks p
 
--- An input is where the window's input went; the first step is at a place, and the others follow it.
--- Example: with the inputs 5 and 2 and the first step at 9, the chain's places 1, 2, 3, 4 are where 5 and 2 went, 9
--- and 10.
+-- An input is where the window's input went; the first step is at a node, and the others follow it.
+-- Example: with the inputs 5 and 2 and the first step at 9, the chain's places 1, 2, 3, 4 are where 5 and 2
+-- went, 9 and 10.
 abbrev pub chain_sig : (ℕ → Sig) → List ℕ → ℕ → ℕ → Sig
 chain_sig places inputs first j = if nat_lt (j - 1) (length inputs) then places (slice_index_or inputs (j - 1) 0) else Place (first + ((j - 1) - length inputs))
 

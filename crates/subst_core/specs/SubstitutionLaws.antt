@@ -94,7 +94,7 @@ spliced_operators n m w c is op from =
     inl (record { index = p.index; gate = p.gate; at = p.at; same = eqb-true p.gate.op op (and_parts (not (among w.gates (n.sources + 1 + p.index))) (test p.gate.op) p.passes).1 }))
     (cases_lt outside 1)
 
--- and where dead gates are dropped then, no new operator comes in
+-- and where dangling gates are dropped then, no new operator comes in
 pub dropped_old : (n m left : Net) (w : Window) (c : Chain) → IsSubstituted n w c m → left ≡ dropped m → HasOldOperators n c left
 dropped_old n m left w c is e op from =
     spliced_operators n m w c is.spliced op (dropped_operators m op is.spliced.net (subst (λ (x : Net). HasOperator x op) e from))

@@ -20,7 +20,7 @@ use Rattle.window_theory.specs.SpliceLaws.{value_gate}
 use Rattle.subst_core.specs.MapLaws.{map_same}
 use Rattle.subst_core.specs.Substitution.{KeepsSinks, HasGates, KeepOutputs}
 
--- no place outside is an output of the window
+-- no node outside is an output of the window
 not_output : (n : Net) (w : Window) (gates : List ℕ) (p : ℕ) → Belongs n w → HasGates w gates → among gates p ≡ false → among w.outputs p ≡ false
 not_output n w gates p is has_ off =
     ⊎_elim

@@ -12,7 +12,7 @@
 //! `are_apart` tells whether places may be inputs of a window, also such as its gates don't read: then the chain may
 //! compute the outputs from them too.
 //!
-//! The window comes as its three lists of places. A window that has the same lists, with whatever root, does as
+//! The window comes as its three lists of nodes. A window that has the same lists, with whatever root, does as
 //! well (`laws::roots_do_not_matter`).
 //!
 //! ```text

@@ -1,5 +1,5 @@
-//! Marks on the places of a net: what a window's inputs are computed from, and all else outside the window. They also
-//! tell which places may be inputs of a window.
+//! Marks on the nodes of a net: what a window's inputs are computed from, and all else outside the window.
+//! They also tell which nodes may be inputs of a window.
 
 ghost use Rattle.std.specs.Prelude.{◌≡◌, ℕ, ◌<◌, ◌&&◌, not, true, length, IfOk};
 ghost use Rattle.net_theory.specs.Net.{end_of};
@@ -55,7 +55,7 @@ pub(crate) fn mark_others(marks: &mut [bool], places: &[u32])
     turn(marks);
 }
 
-/// Whether none of the places is marked.
+/// Whether none of the nodes is marked.
 fn are_unmarked(marks: &[bool], places: &[u32]) -> bool
     requires { AreBelow (length marks.now) places.now }
     ensures yes { result ≡ true → AreUnmarked (set_of marks.now) places.now }

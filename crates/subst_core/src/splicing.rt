@@ -76,7 +76,7 @@ fn keep_late(
     Ok(())
 }
 
-/// All gates, and where the places went.
+/// All gates, and where the nodes went.
 fn keep_all(
     alloc: Global,
     net: &Net,

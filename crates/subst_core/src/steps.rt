@@ -1,5 +1,5 @@
-//! A chain's steps as gates of a net. Its inputs are where the window's inputs went, and its steps have the places
-//! after the gates that are there.
+//! A chain's steps as gates of a net. Its inputs are where the window's inputs went, and its steps have the
+//! nodes after the gates that are there.
 
 ghost use Rattle.std.specs.Prelude.{◌≡◌, ◌+◌, ◌-◌, ◌≤◌, ◌<◌, ◌^◌, ◌++◌};
 ghost use Rattle.std.specs.Prelude.{length, map, All, OnOk, IfOk, vec_len};

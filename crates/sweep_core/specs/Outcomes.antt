@@ -16,7 +16,8 @@ use Rattle.sweep_core.specs.Undecided.{IsUndecided}
 
 -- ---- nets that take each other's place
 
--- What a net n can stand for, without dead gates, m can stand for too; and its operators are of the basis or of n.
+-- What a net n can stand for, without dangling gates, m can stand for too; and its operators are of the basis
+-- or of n.
 pub record Leads (basis : Basis) (n m : Net) : Type 0 where
   pub pruned : (first : Net) → IsPruned first n → IsPruned first m
   pub operators : HasOperatorsWithin basis n m

@@ -1,4 +1,4 @@
--- A round that begins with gates that are alike, and makes all visits after that.
+-- A round that begins with structurally equal gates, and makes all visits after that.
 use Rattle.std.specs.Prelude.{◌≡◌, true, false}
 use Rattle.std.proofs.Common.{sym, subst, inl, inr, ⊎_elim}
 use Rattle.std.proofs.lemmas.Bool.{cases_Bool, both_ways}

@@ -15,7 +15,7 @@ pub record IsGreatestPartner (n : Net) (root below partner : ℕ) : Type 0 where
   pub partner_is : IsPartner n root partner
   pub greatest : (h : ℕ) → IsPartner n root h → h < below → h ≤ partner
 
--- the greatest partner below a place, if there is one
+-- the greatest partner below a node, if there is one
 abbrev pub IsNextPartner : Net → ℕ → ℕ → Option ℕ → Type 0
 IsNextPartner n root below None = HasNoPartner n root below
 IsNextPartner n root below (Some partner) = IsGreatestPartner n root below partner
@@ -37,7 +37,7 @@ pub record IsOfCounts (root : ℕ) (partner : Option ℕ) (first end : ℕ) (v :
   pub from : first ≤ v.count
   pub to : v.count < end
 
--- a root with any partner from a place on
+-- a root with any partner from a node on
 pub record IsOfPartners (root cap from : ℕ) (v : Visit) : Type 0 where
   pub root_is : v.root ≡ root
   pub partner : ℕ
@@ -52,7 +52,7 @@ pub record IsOfRoot (root cap : ℕ) (v : Visit) : Type 0 where
   pub some : 1 ≤ v.count
   pub to : v.count ≤ cap
 
--- any root below a place
+-- any root below a node
 pub record IsOfRoots (cap end : ℕ) (v : Visit) : Type 0 where
   pub root_low : v.root < end
   pub some : 1 ≤ v.count

@@ -1,10 +1,10 @@
-//! The sweep of a net by windows: a loop of resynthesis. A pass (round) merges gates that are alike, as structural hashing
+//! The sweep of a net by windows: a loop of resynthesis. A pass (round) merges structurally equal gates, as structural hashing
 //! does, and then tries every window in order; passes are repeated until one changes nothing, a fixpoint, or their limit
 //! is reached. How one window is tried is behind the trait `Trial`, so that this crate knows no window, no solver and no
 //! memory of earlier answers.
 //!
-//! Windows are visited by their root, the gates in rising place. For each root come the counts from 1 to the cap without
-//! a partner, and then, for each partner from the greatest to the least, the counts from 2 on. Gates that are alike are
+//! Windows are visited by their root, the gates in ascending order. For each root come the counts from 1 to the cap without
+//! a partner, and then, for each partner from the greatest to the least, the counts from 2 on. Structurally equal gates are
 //! merged first since two of them are often no window that is listed: of the gates that read what a gate reads the eight
 //! greatest below it are its partners and no others. A visit is passed, left open with a certificate, or makes the net
 //! smaller. The one argument: of a round that changed nothing each visit was tried on the net as it is in the end, so that
@@ -17,18 +17,18 @@
 //! |---|---|
 //! | net; source; sink | logic network of two-input nodes; combinational input; combinational output |
 //! | place | node index |
-//! | what a gate reads; its readers | fanins; fanouts |
+//! | what a gate reads; its fanouts | fanins; fanouts |
 //! | window; root; count | window, subcircuit; the node that it grows from; number of its nodes |
 //! | partner of a root | node that shares a fanin with it; an MFFC has none, a window may have two roots |
 //! | convex | no path leaves the window and comes back |
-//! | surround; its leaves | bounded fanin cone; a cut of at most 12 inputs |
+//! | fanin cone; its leaves | bounded fanin cone; a cut of at most 12 inputs |
 //! | care row | care minterm; the rows that aren't are satisfiability don't-cares (SDC) |
-//! | tail; watcher | transitive fanout (TFO) of at most 16 nodes; its outputs, where it is observed |
-//! | unseen row | observability don't-care (ODC) |
+//! | fanout cone; output of the fanout cone | transitive fanout (TFO) of at most 16 nodes; its outputs, where it is observed |
+//! | unobservable row | observability don't-care (ODC) |
 //! | what is asked of a window | its local function with SDCs, and with `observe` with ODCs too |
 //! | shorter chain in a window's place | exact resynthesis, replacement with a gain |
-//! | gates that are alike | structurally equal nodes, merged by structural hashing (strash) |
-//! | dead gates | dangling nodes, which a cleanup removes |
+//! | structurally equal gates | structurally equal nodes, merged by structural hashing (strash) |
+//! | dangling gates | dangling nodes, which a cleanup removes |
 //! | sweep; round; visit | resynthesis loop; pass; candidate |
 //! | passed; open; smaller | no gain; conflict limit reached; accepted |
 //! | settled; stopped; undecided | fixpoint; pass limit reached; candidates whose conflict limit was reached |

@@ -1,4 +1,4 @@
-//! The places of a net's gates.
+//! The nodes of a net's gates.
 ghost use Rattle.std.specs.Prelude.{◌≡◌, ◌+◌, true, false};
 ghost use Rattle.net_theory.specs.Net.{end_of};
 ghost use Rattle.window_theory.specs.Paths.{IsGate};
@@ -14,7 +14,7 @@ pub fn first_place(net: &Net) -> u32
     net.sources() + 1
 }
 
-/// The first number that is no place.
+/// The first number that is no node.
 pub fn end_place(net: &Net) -> u32
     ensures { result ≡ end_of net.now }
 {
@@ -22,7 +22,7 @@ pub fn end_place(net: &Net) -> u32
     net.sources() + 1 + gates.len() as u32
 }
 
-/// Whether a gate stands at a place.
+/// Whether a gate stands at a node.
 #[tactic(auto, using(crate::specs::SweptLaws::gates))]
 pub fn has_gate(net: &Net, place: u32) -> bool
     ensures gate { result ≡ true → IsGate net.now place }

@@ -1,4 +1,5 @@
-//! One round, a pass over the net: gates that are alike become one, and then every window is tried in its order.
+//! One round, a pass over the net: structurally equal gates become one, and then every window is tried in its
+//! order.
 ghost use Rattle.std.specs.Prelude.{◌+◌, ◌≤◌, IfOk, OnOk};
 ghost use Rattle.sweep_core.specs.Visits.{IsNoVisit, IsThis, IsOfCounts, IsOfPartners, IsOfRoot, IsOfRoots, IsNextPartner};
 ghost use Rattle.net_theory.specs.Net.{end_of};
@@ -92,7 +93,7 @@ fn visit_counts<T: Trial>(
     Ok(())
 }
 
-/// The greatest partner of a root below a place; None where there is none, or the root is no gate.
+/// The greatest partner of a root below a node; None where there is none, or the root is no gate.
 fn next_partner<T: Trial>(
     alloc: Global,
     trial: &T,
@@ -150,7 +151,7 @@ fn visit_root<T: Trial>(
     Ok(())
 }
 
-/// Visits all roots that the net has at first, in rising place.
+/// Visits all roots that the net has at first, in ascending order.
 #[tactic(auto, using(crate::specs::SweptLaws::visiting))]
 fn visit_all<T: Trial>(alloc: Global, trial: &mut T, round: &mut Round) -> Result<(), AllocError>
     requires cap { 1 ≤ (T.settings_of trial.old).cap }
@@ -166,7 +167,7 @@ fn visit_all<T: Trial>(alloc: Global, trial: &mut T, round: &mut Round) -> Resul
     Ok(())
 }
 
-/// Makes gates that are alike one (structural hashing).
+/// Makes structurally equal gates one (structural hashing).
 #[tactic(auto, using(crate::specs::RoundLaws::merging))]
 fn merge_gates<T: Trial>(alloc: Global, trial: &mut T, round: &mut Round) -> Result<(), AllocError>
     ensures { OnOk result (IsSwept IsNoVisit

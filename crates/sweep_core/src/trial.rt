@@ -42,7 +42,8 @@ pub trait Trial {
     fn net(&self) -> &Net
         ensures { result.now ≡ net_of self.now };
 
-    /// Merges gates that are alike (structural hashing), where that is to be done. Whether the net has become smaller.
+    /// Merges structurally equal gates (structural hashing), where that is to be done. Whether the net has
+    /// become smaller.
     fn merge_alike(&mut self, alloc: Global) -> Result<bool, AllocError>
         ensures asked { IfOk result (λ _. settings_of self.new ≡ settings_of self.old) }
         ensures shrunk { IfOk result (λ merged. IsShrunk (settings_of self.old) (net_of self.old) (net_of self.new) merged) };
@@ -56,7 +57,7 @@ pub trait Trial {
         ensures asked { IfOk result (λ _. settings_of self.new ≡ settings_of self.old) }
         ensures tried { IfOk result (λ tried. IsTried (settings_of self.old) (net_of self.old) (net_of self.new) visit tried) };
 
-    /// The greatest partner of a gate below a place.
+    /// The greatest partner of a gate below a node.
     fn next_partner(&self, alloc: Global, root: u32, below: u32) -> Result<Option<u32>, AllocError>
         requires gate { IsGate (net_of self.now) root }
         ensures { IfOk result (λ next. IsNextPartner (net_of self.now) root below next) };

@@ -1,6 +1,7 @@
 //! A visit.
 
-/// A window that is tried: the places of its root and of its partner, if it has one, and the number of its gates.
+/// A window that is tried: the nodes of its root and of its partner, if it has one, and the number of its
+/// gates.
 #[derive(Clone, Copy)]
 pub struct Visit {
     pub root: u32,

@@ -1,4 +1,4 @@
--- Gates that are looked up, and the greatest of some places below a bound.
+-- Gates that are looked up, and the greatest of some nodes below a bound.
 use Rattle.std.specs.Prelude.{◌≡◌, ℕ, ◌+◌, ◌≤◌, ◌<◌, true, List, [], ◌∷◌, slice_get, Option, Some, None, ◌⊎◌}
 use Rattle.net_theory.specs.declared.data.Sig.{Sig}
 use Rattle.net_theory.specs.declared.data.Sig.TheVariants as sigs
@@ -19,7 +19,7 @@ pub record IsGreater (bound best p result : ℕ) : Type 0 where
   pub found : (result ≡ best) ⊎ ((result ≡ p) × (p < bound))
   pub most : p < bound → p ≤ result
 
--- the same where there may be no place
+-- the same where there may be no node
 abbrev pub IsGreaterIn : ℕ → ℕ → Option ℕ → ℕ → Type 0
 IsGreaterIn bound best None result = result ≡ best
 IsGreaterIn bound best (Some p) result = IsGreater bound best p result
@@ -41,7 +41,7 @@ pub record IsSought (n : Net) (root : ℕ) (partner : Option ℕ) (taken : List 
   pub found : (best ≡ n.sources) ⊎ (IsWanted n root partner taken best × (best < bound))
   pub most : (q : ℕ) → IsWanted n root partner taken q → n.sources < q → q < bound → (q ≤ best) ⊎ IsReadBy n left q
 
--- the gate that was taken last is the least; before any is taken, the first number that is no place
+-- the gate that was taken last is the least; before any is taken, the first number that is no node
 abbrev pub bound_of : Net → List ℕ → ℕ
 bound_of n [] = end_of n
 bound_of n (p ∷ before) = p

@@ -8,14 +8,14 @@ use Rattle.window_theory.specs.Care.{IsCareRow}
 use Rattle.window_core.specs.Gates.{IsGateOf}
 use Rattle.window_core.specs.Surrounding.{gate_places}
 
--- The digits of a mask are 1 at just the care rows of some places.
+-- The digits of a mask are 1 at just the care rows of some nodes.
 -- Example: of AND and OR of two sources the mask is 1101 in binary, since row 10 is no care row.
 pub record IsCareMask (n : Net) (places : List ℕ) (mask : ℕ) : Type 0 where
   pub low : (t : ℕ) → digit mask t ≡ true → t < 2 ^ length places
   pub only : (t : ℕ) → digit mask t ≡ true → IsCareRow n places t
   pub all : (t : ℕ) → t < 2 ^ length places → IsCareRow n places t → digit mask t ≡ true
 
--- The gates of the first places were looked up, and the places `left` remain.
+-- The gates of the first nodes were looked up, and the nodes `left` remain.
 pub record ArePlaced (n : Net) (places left : List ℕ) (gates : List (ℕ × Gate)) : Type 0 where
   pub parts : gate_places gates ++ left ≡ places
   pub own : (i : ℕ) (x : ℕ × Gate) → slice_get gates i ≡ Some x → IsGateOf n x.0 x.1

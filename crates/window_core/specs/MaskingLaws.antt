@@ -69,7 +69,7 @@ later_digit false k r i low =
     let e : 0 + r ≡ r = omega arith in
     ap (λ (x : ℕ). bit_at x i == 1) e
 
--- the digits of a pattern are the bits of the places
+-- the digits of a pattern are the bits of the nodes
 pattern_digit : (bits : ℕ → Bool) (ps : List ℕ) (i : ℕ) → i < length ps → digit (named_bits bits ps) (length ps - (i + 1)) ≡ bits (slice_index_or ps i 0)
 unfolding pattern
 pattern_digit bits [] i low = absurd (omega (arith, low))

@@ -91,7 +91,7 @@ before_rest end gs g rest parts all =
     let at : (i : ℕ) (x : Gate) → slice_get rest i ≡ Some x → slice_get gs (suc i) ≡ Some x = λ i x e. ap (λ (xs : List Gate). slice_get xs (suc i)) parts ∙ e in
     record { first = λ i x e. all.first (suc i) x (at i x e); second = λ i x e. all.second (suc i) x (at i x e) }
 
--- ---- last readers
+-- ---- last fanouts
 
 reads_test : (p : ℕ) (g : Gate) → ReadsPlace g p → (is_place p g.a ≡ true) ⊎ (is_place p g.b ≡ true)
 reads_test p g reads = ⊎_elim (λ a. inl (ap (is_place p) a ∙ eq-eqb p p refl)) (λ b. inr (ap (is_place p) b ∙ eq-eqb p p refl)) reads
@@ -114,7 +114,7 @@ next_more sources i x low = omega arith
 next_other : (sources i x : ℕ) → x < sources + 1 + (i + 1) → (x ≡ sources + 1 + i → ⊥) → x < sources + 1 + i
 next_other sources i x low other = omega arith
 
--- what is noted of a place: the gate if it reads the place, else who was last before
+-- what is noted of a node: the gate if it reads the place, else who was last before
 after_both : (n : Net) (i : ℕ) (g : Gate) (p was mid now : ℕ) → slice_get n.gates i ≡ Some g → IsEarlier n (n.sources + 1 + i) p was → mid ≡ (if is_place p g.a then n.sources + 1 + i else was) → now ≡ (if is_place p g.b then n.sources + 1 + i else mid) → IsEarlier n (n.sources + 1 + (i + 1)) p now
 after_both n i g p was mid now at before first second =
     let place : ℕ = n.sources + 1 + i in
@@ -158,7 +158,7 @@ noted_more n i g place last mid next at place_is first second was =
 pub end_some : (n : Net) → 0 < end_of n
 end_some n = omega arith
 
--- a place that a signal names, or 0 for a constant, is one of the table's
+-- a node that a signal names, or 0 for a constant, is one of the table's
 pub named_low : (end : ℕ) (s : Sig) → 0 < end → IsBefore end s → place_of s < end
 named_low end sigs.Zero some low = some
 named_low end sigs.One some low = some

@@ -1,4 +1,4 @@
--- The index of a net: how often each place is named, and who named it last below a gate, and first above it.
+-- The index of a net: how often each node is named, and who named it last below a gate, and first above it.
 use Rattle.std.specs.Prelude.{◌≡◌, ℕ, ◌+◌, ◌≤◌, ◌<◌, min, if◌then◌else◌, List, [], ◌∷◌, length, slice_get, slice_index_or, Some, ◌⊎◌}
 use Rattle.net_theory.specs.declared.data.Sig.{Sig}
 use Rattle.net_theory.specs.declared.data.Sig.TheVariants as sigs
@@ -10,7 +10,7 @@ use Rattle.window_core.specs.declared.readers.Nearest.{Nearest}
 
 -- ---- how often
 
--- how often a signal names a place
+-- how often a signal names a node
 abbrev pub named_by : ℕ → Sig → ℕ
 named_by p s = if is_place p s then 1 else 0
 
@@ -26,13 +26,13 @@ unfoldable pub named_by_sinks : ℕ → List Sig → ℕ
 named_by_sinks p [] = 0
 named_by_sinks p (s ∷ ss) = named_by p s + named_by_sinks p ss
 
--- how many operands and sinks of a net name a place
+-- how many operands and sinks of a net name a node
 abbrev pub uses_of : Net → ℕ → ℕ
 uses_of n p = sum_gates (λ q g. named_by_gate p g) (n.sources + 1) n.gates + named_by_sinks p n.sinks
 
 -- ---- who was last
 
--- the place that a signal names; 0 is no place, and stands for constants
+-- the place that a signal names; 0 is no node, and stands for constants
 abbrev pub place_of : Sig → ℕ
 place_of sigs.Zero = 0
 place_of sigs.One = 0
@@ -78,10 +78,11 @@ pub record Readers : Type 0 where
   pub later : List Nearest
   pub first : List ℕ
 
--- Each place has the number of its uses, where 255 stands for all numbers from 255 on, and each gate the greatest
--- gates below it and the least above it that read what it reads; and each place has the first gate that reads it.
--- Example: of XOR of two sources at place 3, which is the one sink, the uses of the places 1, 2 and 3 are 1, and
--- there are no earlier readers.
+-- Each node has the number of its uses, where 255 stands for all numbers from 255 on, and each gate the
+-- greatest gates below it and the least above it that read what it reads; and each node has the first gate
+-- that reads it.
+-- Example: of XOR of two sources at place 3, which is the one sink, the uses of the nodes 1, 2 and 3 are 1,
+-- and there are no earlier fanouts.
 pub record AreReaders (n : Net) (r : Readers) : Type 0 where
   pub size : length r.uses ≡ end_of n
   pub uses : (p : ℕ) → p < end_of n → slice_index_or r.uses p 0 ≡ min (uses_of n p) 255

@@ -1,10 +1,10 @@
--- Rising lists that grow by a place.
+-- Rising lists that grow by a node.
 use Rattle.std.specs.Prelude.{ℕ, if◌then◌else◌, nat_eq, nat_lt, List, [], ◌∷◌}
 use Rattle.net_theory.specs.declared.data.Sig.{Sig}
 use Rattle.window_theory.specs.Places.{among}
 use Rattle.net_theory.specs.declared.data.Sig.TheVariants.{Zero, One, Place}
 
--- The rising list with a place at its place, if it isn't there already.
+-- The rising list with a node at its place, if it isn't there already.
 -- Example: 4 put into 2, 7 is 2, 4, 7, and 7 put into it is 2, 7.
 unfoldable pub put : ℕ → List ℕ → List ℕ
 put p [] = p ∷ []

@@ -1,11 +1,11 @@
--- How often gates name a place, and outputs while they are gathered.
+-- How often gates name a node, and outputs while they are gathered.
 use Rattle.std.specs.Prelude.{◌≡◌, ℕ, ◌+◌, ◌*◌, ◌≤◌, ◌<◌, true, if◌then◌else◌, List, length, ◌⊎◌}
 use Rattle.net_theory.specs.Net.{Net}
 use Rattle.window_theory.specs.Places.{among, IsRising}
 use Rattle.window_theory.specs.Window.{IsOutput}
 use Rattle.window_core.specs.Readers.{named_by_gate, sum_gates}
 
--- how often the gates of a net that are among `gates` name a place
+-- how often the gates of a net that are among `gates` name a node
 unfoldable pub inside_of : Net → List ℕ → ℕ → ℕ
 inside_of n gates p = sum_gates (λ q g. if among gates q then named_by_gate p g else 0) (n.sources + 1) n.gates
 

@@ -1,4 +1,4 @@
--- A place has as many references by the gates inside as by all, or one from outside.
+-- A node has as many references by the gates inside as by all, or one from outside.
 use Rattle.std.specs.Prelude.{◌≡◌, ℕ, zero, suc, ◌+◌, ◌≤◌, ◌<◌, Bool, true, false, min, if◌then◌else◌, nat_eq, List, [], ◌∷◌, ◌++◌, length, slice_get, Some, refl}
 use Rattle.std.specs.List.{list_any}
 use Rattle.std.proofs.Common.{arith, sym, ◌∙◌, ap, subst, inl, inr, ⊎_elim, ◌≢◌}
@@ -59,7 +59,7 @@ sum_has f place (y ∷ gs) (suc i) x at =
     let here : f (place + suc i) x ≡ f ((place + 1) + i) x = ap (λ (q : ℕ). f q x) e in
     omega (arith, here, sum_has f (place + 1) gs i x at)
 
--- the sum over one place is its gate's item
+-- the sum over one node is its gate's item
 sum_one : (f : Gate → ℕ) (y place : ℕ) (gs : List Gate) (i : ℕ) (x : Gate) → slice_get gs i ≡ Some x → place + i ≡ y → sum_gates (λ q g. if nat_eq q y then f g else 0) place gs ≡ f x
 unfolding sum_gates
 sum_one f y place [] i x at is = absurd cc
@@ -78,7 +78,7 @@ off_list : (x : ℕ) (rest : List ℕ) → IsRising (x ∷ rest) → among rest 
 unfolding IsRising
 off_list x rest rising = ⊎_elim (λ on. let above : x < x = rising.0 x on in absurd (omega (arith, above))) (λ off. off) (cases_Bool (among rest x))
 
--- at one place a list with one place more has the place's item more
+-- at one node a list with one node more has the place's item more
 split_at : (x : ℕ) (rest : List ℕ) (q k : ℕ) → IsRising (x ∷ rest) → (if among (x ∷ rest) q then k else 0) ≡ (if nat_eq q x then k else 0) + (if among rest q then k else 0)
 split_at x rest q k rising =
     ⊎_elim
@@ -146,7 +146,7 @@ place_test p s e = ap (is_place p) e ∙ eq-eqb p p refl
 named_once : (p : ℕ) (s : Sig) → s ≡ sigs.Place p → named_by p s ≡ 1
 named_once p s e = cond-true (is_place p s) 1 0 (place_test p s e)
 
--- who names a place reads it
+-- who names a node reads it
 names_reads : (p : ℕ) (g : Gate) → named_by_gate p g ≢ 0 → ReadsPlace g p
 names_reads p g some =
     ⊎_elim

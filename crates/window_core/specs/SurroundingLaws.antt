@@ -1,4 +1,4 @@
--- How the surround of some places is found.
+-- How the fanin cone of some nodes is found.
 use Rattle.std.specs.Prelude.{◌≡◌, ℕ, zero, suc, ◌+◌, ◌-◌, ◌≤◌, ◌<◌, Bool, true, false, not, if◌then◌else◌, List, [], ◌∷◌, ◌++◌, length, reverse, take, slice_get, Some, ◌⊎◌, refl}
 use Rattle.std.proofs.Common.{arith, sym, ◌∙◌, ap, subst, inl, inr, ⊎_elim}
 use Rattle.std.proofs.lemmas.Bool.{eqb-true, eq-eqb, cases_Bool, both_ways}
@@ -246,7 +246,7 @@ pub surround_start : (n : Net) (places leaves : List ℕ) (gates : List (ℕ × 
 surround_start n places leaves gates rising few within same none =
     subst (λ (xs : List (ℕ × Gate)). IsSurround n places leaves (reverse xs)) (sym none) (subst (λ (ls : List ℕ). IsSurround n places ls []) (sym same) (surround_of n places rising few within))
 
--- a fanin of a place in the cone of some places is in their cone too
+-- a fanin of a node in the cone of some nodes is in their cone too
 up_first : (n : Net) (q p r : ℕ) → Reads n p q → LeadsUp n p r → LeadsUp n q r
 up_first n q _ _ first (at_once p r reads) = by_way_of q p r (at_once q p first) reads
 up_first n q _ _ first (by_way_of p m r before reads) = by_way_of q m r (up_first n q p m first before) reads
@@ -259,7 +259,7 @@ read_behind n places p q reads is =
       why = inr (⊎_elim (λ same. subst (LeadsUp n q) same (at_once q p reads)) (λ up. up_first n q p is.place reads up) is.why);
     }
 
--- the gate that is opened stands before the others
+-- the gate that is expanded stands before the others
 surround_step : (n : Net) (places leaves front : List ℕ) (gates : List (ℕ × Gate)) (p : ℕ) (g : Gate) → IsNet n → leaves ≡ front ++ p ∷ [] → IsGateOf n p g → length (behind_of front g) ≤ 12 → IsSurround n places leaves gates → IsSurround n places (behind_of front g) ((p, g) ∷ gates)
 unfolding IsRising
 surround_step n places leaves front gates p g net parts of few was =

@@ -18,7 +18,7 @@ use Rattle.window_core.specs.Readers.{place_of, IsEarlier, IsEarlierOf, AreEarli
 use Rattle.window_core.specs.Walking.{IsWalk}
 use Rattle.window_core.specs.GrowingLaws.{reads_of, of_reads}
 
--- ---- a place more at the end
+-- ---- a node more at the end
 
 pub among_end : (xs : List ℕ) (x q : ℕ) → among (xs ++ x ∷ []) q ≡ true → (among xs q ≡ true) ⊎ (q ≡ x)
 among_end [] x q e = ⊎_elim (λ (own : q ≡ x). inr own) (λ later. absurd (let f : false ≡ true = later in cc)) (among_cases x q [] e)
@@ -58,11 +58,11 @@ rising_end (y ∷ ys) x rising high = (
 
 -- ---- what is read
 
--- a place that a signal names is its place
+-- a node that a signal names is its place
 named : (s : Sig) (p : ℕ) → s ≡ sigs.Place p → place_of s ≡ p
 named s p e = ap place_of e
 
--- a place above 0 is named by the signal whose place it is
+-- a node above 0 is named by the signal whose place it is
 names : (s : Sig) (p : ℕ) → place_of s ≡ p → 1 ≤ p → s ≡ sigs.Place p
 names sigs.Zero p e some = absurd (omega (arith, e, some))
 names sigs.One p e some = absurd (omega (arith, e, some))
@@ -108,7 +108,7 @@ shares n root a b next found partners w s net operand is same some =
     (record { below = omega (arith, below, w.to); shared = p; first = of_reads n root p w.gate w.is (operand p (names s p refl low.0)); second = reads }, below))
     is.found
 
--- the greater of the two readers
+-- the greater of the two fanouts
 pub walk_next : (n : Net) (root a b next : ℕ) (partners : List ℕ) (w : IsWalk n root a b partners) → IsNet n → next ≡ max a b → next ≢ 0 → SharesBelow n root next × (next < w.bound)
 walk_next n root a b next partners w net is some =
     ⊎_elim
@@ -116,7 +116,7 @@ walk_next n root a b next partners w net is some =
     (λ (high : b ≤ a). shares n root a b next a partners w w.gate.a net (λ p e. inl e) w.first (omega (arith, high, is)) some)
     (cases_lt a b)
 
--- a gate that shares a place with the root and stands below the bound is none above the two readers
+-- a gate that shares a node with the root and stands below the bound is none above the two fanouts
 reader_high : (n : Net) (root a b h : ℕ) (partners : List ℕ) (w : IsWalk n root a b partners) → SharesBelow n root h → h < w.bound → h ≤ max a b
 reader_high n root a b h partners w s low =
     ⊎_elim

@@ -14,7 +14,7 @@ use crate::shape::MOST_GATES;
 use net_core::{Gate, Net, Sig};
 use std::alloc::{AllocError, Global};
 
-/// The gate at a place.
+/// The gate at a node.
 pub fn gate_at(net: &Net, place: u32) -> &Gate
     requires { IsGate net.now place }
     ensures gate { IsGateOf net.now place result.now }
@@ -54,7 +54,7 @@ fn greater_sig(bound: u32, best: u32, sig: Sig) -> u32
     }
 }
 
-/// The least of the gates that are taken, or the first number that is no place.
+/// The least of the gates that are taken, or the first number that is no node.
 fn bound_of(net: &Net, taken: &[u32]) -> u32
     ensures { result ≡ bound_of_taken net.now taken.now }
 {

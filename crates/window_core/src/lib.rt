@@ -1,9 +1,9 @@
 //! Windows of a net: small parts that a shorter chain may take the place of, after Kulikov, Pechenev and Slezkin. What a
 //! window is, and what it has to compute, is said in the definitions of `window_theory`.
 //!
-//! It rests on an index of the net that is made once (`Readers`): how often each place is named, which gate below a gate
+//! It rests on an index of the net that is made once (`Readers`): how often each node is named, which gate below a gate
 //! named it last, and which one above it does next. With it the time for a window and its partners grows with their size and not with the net's, and
-//! that for a specification with the size of the window and its surround. `partners` and `window` make the index
+//! that for a specification with the size of the window and its fanin cone. `partners` and `window` make the index
 //! themselves.
 //!
 //! The one theorem: `window_by` gives the window of a root, a partner or none, and a count, and None exactly where there
@@ -19,7 +19,7 @@
 //! | window; root; inputs, outputs | window or subcircuit; pivot; leaves (a cut), roots |
 //! | candidate, taken | greedy growth, by the fanin of greatest index |
 //! | partner | sibling: a node that shares a fanin |
-//! | surround; leaves; opened | bounded transitive fanin cone; its cut of at most 12 leaves; expanded, a leaf replaced by its fanins |
+//! | fanin cone; leaves; expanded | bounded transitive fanin cone; its cut of at most 12 leaves; expanded, a leaf replaced by its fanins |
 //! | care row; the other rows | care minterm; satisfiability don't-cares (SDC) |
 //! | specification of a window | local function with don't-cares |
 //! | a shorter chain for a window | resynthesis of the window |

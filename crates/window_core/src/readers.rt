@@ -1,5 +1,6 @@
-//! The index of a net, made in three passes over its gates: the reference count of each place, and linked fanout lists,
-//! in which each gate has the next lower fanout of its fanins, and the next higher one. It serves all windows of the net.
+//! The index of a net, made in three passes over its gates: the reference count of each node, and linked
+//! fanout lists, in which each gate has the next lower fanout of its fanins, and the next higher one. It
+//! serves all windows of the net.
 
 ghost use Rattle.std.specs.Prelude.{◌≡◌, ℕ, ◌+◌, ◌<◌, min, List, [], length, slice_index_or, All, IfOk, OnOk};
 ghost use Rattle.net_theory.specs.declared.data.Gate.{Gate as GateValue};
@@ -21,8 +22,9 @@ pub struct Nearest {
     pub second: u32,
 }
 
-/// The index of a net: how many operands and sinks name each place, 255 for 255 or more, the earlier and the later readers of
-/// what each gate reads, the later ones from the last gate on, and the first reader of each place.
+/// The index of a net: how many operands and sinks name each node, 255 for 255 or more, the earlier and the
+/// later fanouts of what each gate reads, the later ones from the last gate on, and the first fanout of each
+/// node.
 #[derive(Drop)]
 pub struct Readers {
     uses: Vec<u8>,
@@ -84,7 +86,7 @@ pub fn place_of(sig: Sig) -> u32
     }
 }
 
-/// Notes a gate as the last reader of what a signal names.
+/// Notes a gate as the last fanout of what a signal names.
 fn note(last: &mut [u32], sig: Sig, place: u32)
     requires { IsBefore (length last.old) sig }
     ensures { IsNoted sig place last.old last.new }
@@ -94,8 +96,8 @@ fn note(last: &mut [u32], sig: Sig, place: u32)
     }
 }
 
-/// The last readers so far of a gate's operands; then the gate is noted as their last reader. Both are looked up before
-/// it is noted, since a gate may read one place twice.
+/// The last fanouts so far of a gate's operands; then the gate is noted as their last fanout. Both are looked
+/// up before it is noted, since a gate may read one node twice.
 fn note_gate(last: &mut [u32], place: u32, gate: &Gate) -> Nearest
     requires some { 0 < length last.old }
     requires first { IsBefore (length last.old) gate.now.a }
@@ -111,7 +113,7 @@ fn note_gate(last: &mut [u32], place: u32, gate: &Gate) -> Nearest
     Nearest { first, second }
 }
 
-/// The earlier readers of what the gates read, by a table of last readers that has none yet.
+/// The earlier fanouts of what the gates read, by a table of last fanouts that has none yet.
 fn note_gates(last: &mut [u32], earlier: &mut Vec<Nearest>, net: &Net) -> Result<(), AllocError>
     requires noted { HasNoted net.now 0 last.old }
     requires none { earlier.old.items ≡ [] }
@@ -126,7 +128,8 @@ fn note_gates(last: &mut [u32], earlier: &mut Vec<Nearest>, net: &Net) -> Result
     Ok(())
 }
 
-/// The later readers of what the gates read, from the last gate on, by a table of first readers that has none yet.
+/// The later fanouts of what the gates read, from the last gate on, by a table of first fanouts that has none
+/// yet.
 fn note_later(first: &mut [u32], later: &mut Vec<Nearest>, net: &Net) -> Result<(), AllocError>
     requires noted { HasFirst net.now (length net.now.gates) first.old }
     requires none { later.old.items ≡ [] }
@@ -182,7 +185,7 @@ pub fn readers_of(alloc: Global, net: &Net) -> Result<Readers, AllocError>
     })
 }
 
-/// The earlier readers of what a gate reads.
+/// The earlier fanouts of what a gate reads.
 pub fn earlier_of(net: &Net, readers: &Readers, place: u32) -> Nearest
     requires index { AreReaders net.now readers.now }
     requires gate { IsGate net.now place }
@@ -191,7 +194,7 @@ pub fn earlier_of(net: &Net, readers: &Readers, place: u32) -> Nearest
     readers.earlier[(place - net.sources() - 1) as usize]
 }
 
-/// How often a place is named, 255 for 255 or more.
+/// How often a node is named, 255 for 255 or more.
 pub fn uses_at(readers: &Readers, net: &Net, place: u32) -> u8
     requires index { AreReaders net.now readers.now }
     requires place { place < end_of net.now }
@@ -200,7 +203,7 @@ pub fn uses_at(readers: &Readers, net: &Net, place: u32) -> u8
     readers.uses[place as usize]
 }
 
-/// The later readers of what a gate reads.
+/// The later fanouts of what a gate reads.
 pub fn later_of(net: &Net, readers: &Readers, place: u32) -> Nearest
     requires index { AreReaders net.now readers.now }
     requires gate { IsGate net.now place }
@@ -210,7 +213,7 @@ pub fn later_of(net: &Net, readers: &Readers, place: u32) -> Nearest
     readers.later[net.sources() as usize + gates.len() - place as usize]
 }
 
-/// The first gate that reads a place, 0 if there is none.
+/// The first gate that reads a node, 0 if there is none.
 pub fn first_reader(readers: &Readers, net: &Net, place: u32) -> u32
     requires index { AreReaders net.now readers.now }
     requires place { place < end_of net.now }

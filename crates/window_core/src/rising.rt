@@ -1,4 +1,4 @@
-//! Rising lists of places.
+//! Rising lists of nodes.
 
 ghost use Rattle.std.specs.Prelude.{◌≡◌, ℕ, true, false, ◌-◌, ◌≤◌, ◌<◌, length, slice_index_or, OnOk};
 ghost use Rattle.window_theory.specs.Places.{among, IsRising};
@@ -27,7 +27,7 @@ fn rank(places: &[u32], place: u32) -> usize
     count
 }
 
-/// Whether a place is the last of the first `count`.
+/// Whether a node is the last of the first `count`.
 fn is_last(places: &[u32], count: usize, place: u32) -> bool
     requires { count ≤ length places.now }
     ensures yes { result ≡ true → (1 ≤ count) × (slice_index_or places.now (count - 1) 0 ≡ place) }
@@ -39,7 +39,7 @@ fn is_last(places: &[u32], count: usize, place: u32) -> bool
     places[count - 1] == place
 }
 
-/// Puts a place into a rising list, if it isn't there.
+/// Puts a node into a rising list, if it isn't there.
 pub fn put(places: &mut Vec<u32>, place: u32) -> Result<(), AllocError>
     requires { IsRising places.old.items }
     ensures { OnOk result (places.new.items ≡ put_in place places.old.items) }

@@ -15,8 +15,8 @@ pub const MOST_INPUTS: usize = tt_core::MOST_INPUTS as usize;
 /// The most outputs of a window: as many as a specification may have.
 pub const MOST_OUTPUTS: usize = tt_core::MOST_OUTPUTS;
 
-/// A part of a net: the root that it grew from, its partner, and the places of its 1 to 8 gates, of at most 6 inputs
-/// and of at most 8 outputs, each list rising.
+/// A part of a net: the root that it grew from, its partner, and the nodes of its 1 to 8 gates, of at most 6
+/// inputs and of at most 8 outputs, each list rising.
 #[derive(Drop)]
 pub struct Window {
     root: u32,
@@ -72,7 +72,7 @@ impl Window {
         self.partner
     }
 
-    /// The places of the gates, rising.
+    /// The nodes of the gates, rising.
     pub fn gates(&self) -> &[u32]
         ensures value { result.now ≡ self.now.gates }
         ensures whole { IsShaped self.now }
@@ -80,7 +80,7 @@ impl Window {
         &self.gates
     }
 
-    /// The places of the inputs, rising.
+    /// The nodes of the inputs, rising.
     pub fn inputs(&self) -> &[u32]
         ensures value { result.now ≡ self.now.inputs }
         ensures whole { IsShaped self.now }
@@ -88,7 +88,7 @@ impl Window {
         &self.inputs
     }
 
-    /// The places of the outputs, rising.
+    /// The nodes of the outputs, rising.
     pub fn outputs(&self) -> &[u32]
         ensures value { result.now ≡ self.now.outputs }
         ensures whole { IsShaped self.now }

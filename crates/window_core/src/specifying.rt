@@ -1,6 +1,6 @@
-//! The specification of a window, its local function with don't-cares. Its care rows are the patterns that its inputs
-//! show in their surround; the other rows are its satisfiability don't-cares. Its values come from its gates by
-//! themselves, on all rows of its inputs at once.
+//! The specification of a window, its local function with don't-cares. Its care rows are the patterns that
+//! its inputs show in their fanin cone; the other rows are its satisfiability don't-cares. Its values come
+//! from its gates by themselves, on all rows of its inputs at once.
 
 ghost use Rattle.std.specs.Prelude.{◌≡◌, ℕ, ◌≤◌, ◌<◌, ◌^◌, true, [], length, map, slice_get, Some, All, IfOk};
 ghost use Rattle.chain_theory.specs.Operator.{digit};
@@ -31,7 +31,7 @@ pub fn signals_of(alloc: Global, places: &[u32]) -> Result<Vec<Sig>, AllocError>
     places.iter().map(|place| Sig::Place(*place)).collect(alloc)
 }
 
-/// The patterns that some places show in a cone, as the digits of a mask.
+/// The patterns that some nodes show in a cone, as the digits of a mask.
 fn shown_by(alloc: Global, cone: &Cone, places: &[u32]) -> Result<u64, AllocError>
     requires few { length places.now ≤ 6 }
     requires known { All (IsSigAmong (places_in cone.now)) (map sigs.Place places.now) }
@@ -42,7 +42,7 @@ fn shown_by(alloc: Global, cone: &Cone, places: &[u32]) -> Result<u64, AllocErro
     Ok(patterns(&words, cone, &signals))
 }
 
-/// The care rows of some places, as the digits of a mask.
+/// The care rows of some nodes, as the digits of a mask.
 fn care_rows(alloc: Global, net: &Net, places: &[u32]) -> Result<u64, AllocError>
     requires rising { IsRising places.now }
     requires few { length places.now ≤ 6 }
@@ -54,7 +54,7 @@ fn care_rows(alloc: Global, net: &Net, places: &[u32]) -> Result<u64, AllocError
     shown_by(alloc, &cone, places)
 }
 
-/// The gates at some places, with their places.
+/// The gates at some nodes, with their places.
 fn placed_gates(alloc: Global, net: &Net, places: &[u32]) -> Result<Vec<(u32, Gate)>, AllocError>
     requires { (p : ℕ) → among places.now p ≡ true → IsGate net.now p }
     ensures { IfOk result (λ gates. ArePlaced net.now places.now [] gates.items) }
@@ -154,8 +154,8 @@ fn spec_by(alloc: Global, window: &Window, cone: &Cone, mask: u64) -> Result<Spe
     masked_spec(alloc, window, cone, &words, mask)
 }
 
-/// The specification of a window: on a care row of its inputs, in rising place, the cells are the values of its
-/// outputs, in rising place, and all other cells are free.
+/// The specification of a window: on a care row of its inputs, in ascending order, the cells are the values
+/// of its outputs, in ascending order, and all other cells are free.
 pub fn spec_of(alloc: Global, net: &Net, window: &Window) -> Result<Spec, AllocError>
     requires { Belongs net.now window.now }
     ensures { IfOk result (λ s. IsSpecificationOf net.now window.now (specification s)) }

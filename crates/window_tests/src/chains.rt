@@ -1,4 +1,4 @@
-//! Chains that take the places of windows (substitution).
+//! Chains that take the nodes of windows (substitution).
 
 ghost use Rattle.std.specs.Prelude.{◌≤◌, length, IfOk, IfSome, IsTrue};
 ghost use Rattle.window_theory.specs.Window.{Belongs};
@@ -44,8 +44,8 @@ fn pair_of(alloc: Global, net: &Net, root: u32, count: u32, block: &[u8]) -> Opt
     Some(Pair { window, chain })
 }
 
-/// A net, a window, a chain for it, the net after substitution, and, where the chain computes what
-/// is asked, that net without dead gates.
+/// A net, a window, a chain for it, the net after substitution, and, where the chain computes what is asked,
+/// that net without dangling gates.
 struct Row {
     plan: &'static Plan,
     root: u32,
@@ -84,7 +84,7 @@ fn agrees(alloc: Global, net: &Net, pair: &Pair) -> Result<bool, AllocError>
     Ok(first_difference(&pair.chain, &spec).is_none())
 }
 
-/// Whether a chain does, and leaves the net `left`, and `live` without dead gates.
+/// Whether a chain does, and leaves the net `left`, and `live` without dangling gates.
 fn is_substituted(alloc: Global, net: &Net, pair: &Pair, left: &Plan, live: &Plan) -> bool
     requires belongs { Belongs net.now pair.now.window }
     requires fits { Fits pair.now.window pair.now.chain }
@@ -278,7 +278,7 @@ const ROWS: &[Row] = &[
         left: &AROUND_LEFT,
         live: None,
     },
-    // a chain that computes what is asked may leave dead gates
+    // a chain that computes what is asked may leave dangling gates
     Row {
         plan: &DEAD,
         root: 4,

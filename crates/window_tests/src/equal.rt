@@ -36,7 +36,7 @@ const ROWS: &[Row] = &[
             sinks: &[Place(5), Zero, Place(4), Place(1)],
         },
     },
-    // NOT of NOT is the source, and XNOR of a place with itself is 1
+    // NOT of NOT is the source, and XNOR of a node with itself is 1
     Row {
         net: Plan {
             sources: 1,
@@ -67,7 +67,7 @@ const ROWS: &[Row] = &[
             sinks: &[One],
         },
     },
-    // two words a place; what read a gate that went reads the one that is left
+    // two words a node; what read a gate that went reads the one that is left
     Row {
         net: Plan {
             sources: 7,

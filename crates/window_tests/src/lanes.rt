@@ -126,7 +126,7 @@ fn leaf_ones(leaves: &[u32], row: u32) -> u64 {
     ones
 }
 
-/// The places of `cone` that are 1 under the assignment `row`.
+/// The nodes of `cone` that are 1 under the assignment `row`.
 fn ones_of(cone: &Cone, row: u32) -> u64 {
     let mut ones = leaf_ones(cone.leaves(), row);
     for (place, gate) in cone.gates() {
@@ -170,7 +170,7 @@ fn next(state: &mut u32) -> u32 {
     *state >> 8
 }
 
-/// A place for each number below 61, in no order.
+/// A node for each number below 61, in no order.
 fn place_of(index: u32) -> u32 {
     index.wrapping_mul(35) % 61
 }
@@ -186,7 +186,7 @@ fn any_signal(state: &mut u32, count: u32) -> Sig {
     }
 }
 
-/// The places of `count` leaves.
+/// The nodes of `count` leaves.
 fn some_leaves(alloc: Global, count: u32) -> Result<Vec<u32>, AllocError> {
     let mut leaves = Vec::new(alloc);
     for index in 0..count {

@@ -22,7 +22,7 @@ pub fn gate(op: u8, a: Sig, b: Sig) -> Gate {
     }
 }
 
-/// Whether a signal is a constant or a place below `place`.
+/// Whether a signal is a constant or a node below `place`.
 fn is_below(place: u32, sig: Sig) -> bool
     ensures { IsTrue result → IsSigBelow place sig }
 {
@@ -56,7 +56,7 @@ fn are_gates(sources: u32, gates: &[Gate]) -> bool
     true
 }
 
-/// Whether all sinks are constants or places below `place`.
+/// Whether all sinks are constants or nodes below `place`.
 fn are_sinks(place: u32, sinks: &[Sig]) -> bool
     ensures { IsTrue result → All (IsSigBelow place) sinks.now }
 {

@@ -1,5 +1,5 @@
-//! The definitions of windows, computed plainly: by passes over all places of a net. A set of
-//! places is a word with a digit for each place; all nets here have fewer than 64.
+//! The definitions of windows, computed plainly: by passes over all nodes of a net. A set of nodes is a word
+//! with a digit for each node; all nets here have fewer than 64.
 
 ghost use Rattle.std.specs.Prelude.{◌≡◌};
 ghost use Rattle.net_theory.specs.Net.{end_of as end_of_net};

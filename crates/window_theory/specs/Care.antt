@@ -13,22 +13,22 @@ use Rattle.window_theory.specs.Paths.{IsGate, Reads}
 use Rattle.window_theory.specs.Window.{Window}
 use Rattle.window_theory.specs.Surround.{LeadsTo}
 
--- ---- values where the bits of some places are fixed
+-- ---- values where the bits of some nodes are fixed
 
 unfoldable pub fixed_after : (ℕ → Bool) → (ℕ → Bool) → (ℕ → Bool) → ℕ → List Gate → ℕ → Bool
 fixed_after fixed given bits place [] = bits
 fixed_after fixed given bits place (g ∷ gs) = fixed_after fixed given (extended bits place (if fixed place then given place else gate_value bits g)) (place + 1) gs
 
--- The bits of the places where the sources and the places of `fixed` have the bits of `given`, and
--- each other gate its operator's value.
--- Example: of XOR of two sources at place 3 and NOT of it at 4, with 3 fixed to 1, place 4 has 0,
--- whatever the bits of the sources.
+-- The bits of the nodes where the sources and the nodes of `fixed` have the bits of `given`, and each other
+-- gate its operator's value.
+-- Example: of XOR of two sources at place 3 and NOT of it at 4, with 3 fixed to 1, place 4 has 0, whatever
+-- the bits of the sources.
 abbrev pub values_with : Net → (ℕ → Bool) → (ℕ → Bool) → ℕ → Bool
 values_with n fixed given = fixed_after fixed given given (n.sources + 1) n.gates
 
 -- ---- a part of a net by itself
 
--- a place whose bit is given: a source, or one of `fixed`
+-- a node whose bit is given: a source, or one of `fixed`
 abbrev pub IsGiven : Net → (ℕ → Bool) → ℕ → Type 0
 IsGiven n fixed p = (fixed p ≡ true) ⊎ (p ≤ n.sources)
 
@@ -39,25 +39,23 @@ pub record IsComputed (n : Net) (fixed inside bits : ℕ → Bool) (p : ℕ) : T
   pub reads : (q : ℕ) → Reads n p q → inside q ≡ true
   pub value : bits p ≡ gate_value bits gate.gate
 
--- `bits` are those of the part `inside`, whose places are each given or computed from places of the
--- part.
--- Example: gate 4 reads gate 3 and the source 1. With 3 fixed, the places 1, 3 and 4 are a part.
+-- `bits` are those of the part `inside`, whose nodes are each given or computed from places of the part.
+-- Example: gate 4 reads gate 3 and the source 1. With 3 fixed, the nodes 1, 3 and 4 are a part.
 abbrev pub IsPart : Net → (ℕ → Bool) → (ℕ → Bool) → (ℕ → Bool) → (ℕ → Bool) → Type 0
 IsPart n fixed given inside bits = (p : ℕ) → inside p ≡ true → (IsGiven n fixed p × (bits p ≡ given p)) ⊎ IsComputed n fixed inside bits p
 
 -- ---- rows
 
--- the places have the bits of row t, the first place the most significant
+-- the nodes have the bits of row t, the first place the most significant
 abbrev pub HasRow : (ℕ → Bool) → List ℕ → ℕ → Type 0
 HasRow bits places t = (i : ℕ) → i < length places → bits (slice_index_or places i 0) ≡ input (length places) t (i + 1)
 
 -- ---- care rows (minterms)
 
--- A row of k places, a number below 2 ^ k, is a care row where an assignment of their surround's
--- leaves gives them its bits; other rows are satisfiability don't-cares. (Of a greater number only
--- its last k digits count; uses of this keep to rows.)
--- Example: of gate 3 = AND(1, 2) and gate 4 = OR(1, 2) the row 10 is none, since no bits of 1 and 2
--- give it.
+-- A row of k places, a number below 2 ^ k, is a care row where an assignment of their fanin cone's leaves
+-- gives them its bits; other rows are satisfiability don't-cares. (Of a greater number only its last k digits
+-- count; uses of this keep to rows.)
+-- Example: of gate 3 = AND(1, 2) and gate 4 = OR(1, 2) the row 10 is none, since no bits of 1 and 2 give it.
 pub record IsCareRow (n : Net) (places : List ℕ) (t : ℕ) : Type 0 where
   pub leaves : List ℕ
   pub surround : LeadsTo n places leaves

@@ -64,7 +64,7 @@ leads_reach : (n : Net) (roots : ℕ → Bool) (p g : ℕ) → IsNet n → Leads
 leads_reach n roots _ _ net (at_once p g reads) e = read_reached n roots p g net reads e
 leads_reach n roots _ _ net (by_way_of p q g before reads) e = leads_reach n roots p q net before (read_reached n roots q g net reads e)
 
--- ---- places that don't depend on gates
+-- ---- nodes that don't depend on gates
 
 -- Their transitive fanin is outside the gates,
 pub apart_outside : (n : Net) (gates places : List ℕ) (p : ℕ) → ((q : ℕ) → among places q ≡ true → IsApart n gates q) → reach n (among places) p ≡ true → among gates p ≡ false

@@ -43,7 +43,7 @@ unfolding passing
 passing_all place [] = refl
 passing_all place (g ∷ gs) = omega (arith, passing_all (place + 1) gs)
 
--- the places are those of gates of the list
+-- the nodes are those of gates of the list
 abbrev pub AreWithin : ℕ → List Gate → List ℕ → Type 0
 AreWithin place gs places = (p : ℕ) → among places p ≡ true → (place ≤ p) × (p < place + length gs)
 

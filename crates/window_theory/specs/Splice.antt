@@ -37,7 +37,7 @@ out_bit bits outs.Zero = false
 out_bit bits outs.One = true
 out_bit bits (outs.Place p) = bits p
 
--- the bits `bits`, with those of the listed places replaced
+-- the bits `bits`, with those of the listed nodes replaced
 unfoldable pub with_bits : (ℕ → Bool) → List ℕ → List Bool → ℕ → Bool
 with_bits bits [] set = bits
 with_bits bits (p ∷ places) [] = bits
@@ -59,7 +59,7 @@ spliced_value n w c given = values_with n (among w.outputs) (spliced_bits n w c 
 abbrev pub is_early : Net → Window → ℕ → Bool
 is_early n w = reach n (among w.inputs)
 
--- all other places outside the window
+-- all other nodes outside the window
 abbrev pub is_late : Net → Window → ℕ → Bool
 is_late n w p = not (is_early n w p) && not (among w.gates p)
 
@@ -71,7 +71,7 @@ out_sig places outs.Zero = Zero
 out_sig places outs.One = One
 out_sig places (outs.Place p) = places p
 
--- the signals `sigs`, with those of the listed places replaced
+-- the signals `sigs`, with those of the listed nodes replaced
 unfoldable pub with_sigs : (ℕ → Sig) → List ℕ → List Sig → ℕ → Sig
 with_sigs sigs [] set = sigs
 with_sigs sigs (p ∷ places) [] = sigs

@@ -98,7 +98,7 @@ chain_moves : (n : Net) (w : Window) (c : Chain) → IsNet n → Belongs n w →
 chain_moves n w c net is fits =
     keep_all n.sources (chain_bits n w c) (IsChainInput c) (λ p. true) (record { places = λ j. (early_kept n w).places (input_place w j); gates = (early_kept n w).gates }) (c.n + 1) (map step_gate c.steps) (chain_start n w c net is fits) (chain_movable n w c fits)
 
--- a place that the chain names is an input or a step
+-- a node that the chain names is an input or a step
 chain_place : (c : Chain) (q : ℕ) → NamesPlace (c.n + length c.steps) (outs.Place q) → IsChainPlace c q
 chain_place c q names =
     ⊎_elim

@@ -85,7 +85,7 @@ output_real n w c s given p i x net is fits spec agrees place at =
     ∙ sym out
     ∙ met_cell (value n given p) (output_value c (i + 1) row.0) (ap (λ (k : Cell). is_met k (output_value c (i + 1) row.0)) (sym cell) ∙ met)
 
--- ---- all places
+-- ---- all nodes
 
 real_below : (n : Net) (w : Window) (c : Chain) (s : Specification) (given : ℕ → Bool) (bound p : ℕ) → IsNet n → Belongs n w → Fits w c → IsSpecificationOf n w s → Agrees c s → p < bound → p < end_of n → spliced_value n w c given p ≡ value n given p
 real_below n w c s given zero p net is fits spec agrees low within = absurd (omega arith)

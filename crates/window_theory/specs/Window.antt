@@ -47,7 +47,7 @@ AreTaken n root partner (p ∷ before) = IsGreatestCandidate n root partner befo
 
 -- ---- inputs and outputs
 
--- an input: a place outside that a gate inside reads
+-- an input: a node outside that a gate inside reads
 pub record IsInput (n : Net) (gates : List ℕ) (p : ℕ) : Type 0 where
   pub outside : among gates p ≡ false
   pub read : IsReadBy n gates p
@@ -62,20 +62,20 @@ pub record IsOutput (n : Net) (gates : List ℕ) (p : ℕ) : Type 0 where
   pub inside : among gates p ≡ true
   pub seen : IsReadOutside n gates p ⊎ (is_sink n p ≡ true)
 
--- a place outside the gates and outside their transitive fanout (TFO)
+-- a node outside the gates and outside their transitive fanout (TFO)
 pub record IsApart (n : Net) (gates : List ℕ) (p : ℕ) : Type 0 where
   pub outside : among gates p ≡ false
   pub above : (g : ℕ) → among gates g ≡ true → LeadsUp n g p → ⊥
 
--- A window belongs to a net where its inputs are places of the net that don't depend on its gates,
--- among them each place outside that a gate inside reads, and its outputs are exactly those of its
--- gates. So its gates are a convex set, and a convex set of gates with exactly its inputs and
--- outputs belongs (laws say both). A window is wide where it has inputs that no gate inside reads:
--- further divisors, of which a chain in its place may compute the outputs (resubstitution).
--- Example: where the gates at 3 and 4 are both AND of the places 1 and 2, and both are sinks, the
--- gate 4 with the inputs 1, 2 and the output 4 belongs, and so it does with the further input 3: a
--- chain without steps that has this input for its output can take its place. Where gate 4 is NOT of
--- gate 3, the gate 3 with the inputs 1, 2, 4 doesn't belong.
+-- A window belongs to a net where its inputs are nodes of the net that don't depend on its gates, among them
+-- each node outside that a gate inside reads, and its outputs are exactly those of its gates. So its gates
+-- are a convex set, and a convex set of gates with exactly its inputs and outputs belongs (laws say both). A
+-- window is wide where it has inputs that no gate inside reads: further divisors, of which a chain in its
+-- place may compute the outputs (resubstitution).
+-- Example: where the gates at 3 and 4 are both AND of the nodes 1 and 2, and both are sinks, the gate 4 with
+-- the inputs 1, 2 and the output 4 belongs, and so it does with the further input 3: a chain without steps
+-- that has this input for its output can take its place. Where gate 4 is NOT of gate 3, the gate 3 with the
+-- inputs 1, 2, 4 doesn't belong.
 pub record Belongs (n : Net) (w : Window) : Type 0 where
   pub rising : IsRising w.gates
   pub gates : (p : ℕ) → among w.gates p ≡ true → IsGate n p
@@ -102,11 +102,10 @@ pub record Takes (n : Net) (root : ℕ) (partner : Option ℕ) (count : ℕ) (ga
   pub count_is : length taken ≡ count
   pub gates_are : AreJust (λ p. among taken p ≡ true) gates
 
--- The window of a root, a partner or none, and a count, which it must have as many gates as: the
--- partner is one of them, and there are at most 6 inputs and 8 outputs.
--- Example: where the gates at 3 and 4 are both AND of the places 1 and 2, and both are sinks, the
--- window of 4 with its partner 3 and the count 2 has the gates 3, 4, the inputs 1, 2 and the
--- outputs 3, 4.
+-- The window of a root, a partner or none, and a count, which it must have as many gates as: the partner is
+-- one of them, and there are at most 6 inputs and 8 outputs.
+-- Example: where the gates at 3 and 4 are both AND of the nodes 1 and 2, and both are sinks, the window of 4
+-- with its partner 3 and the count 2 has the gates 3, 4, the inputs 1, 2 and the outputs 3, 4.
 pub record IsWindow (n : Net) (root : ℕ) (partner : Option ℕ) (count : ℕ) (w : Window) : Type 0 where
   pub root_is : w.root ≡ root
   pub partner_is : w.partner ≡ partner

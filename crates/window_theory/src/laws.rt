@@ -48,9 +48,9 @@ pub fn windows_end()
         Takes n root partner count gates → AreJust (IsOutput n gates) outputs → IsWindow n root partner count w → length outputs ≤ 8 }
 {}
 
-/// Values where the bits of some places are fixed, without recursion: sources and fixed places have
-/// their given bits, and each other gate its operator's value. So a part of a net may be evaluated
-/// by itself, and the gates of a window depend on its inputs alone.
+/// Values where the bits of some nodes are fixed, without recursion: sources and fixed nodes have their given
+/// bits, and each other gate its operator's value. So a part of a net may be evaluated by itself, and the
+/// gates of a window depend on its inputs alone.
 pub fn parts_have_values()
     ensures source { (n : Net) (fixed given : ℕ → Bool) (p : ℕ) → p ≤ n.sources → values_with n fixed given p ≡ given p }
     ensures fixed { (n : Net) (fixed given : ℕ → Bool) (p : ℕ) → fixed p ≡ true → values_with n fixed given p ≡ given p }
@@ -65,8 +65,8 @@ pub fn parts_have_values()
         values_with n (among w.inputs) f p ≡ values_with n (among w.inputs) g p }
 {}
 
-/// Places of a net have one list of leaves, and under every assignment of the sources the bits of
-/// the places are a care row. So are the bits of a window's inputs.
+/// Nodes of a net have one list of leaves, and under every assignment of the sources the bits of the nodes
+/// are a care row. So are the bits of a window's inputs.
 pub fn real_rows_are_care_rows()
     ensures leaves { (n : Net) (places : List ℕ) → IsNet n → AreBelow (end_of n) places → (leaves : List ℕ) × LeadsTo n places leaves }
     ensures one { (n : Net) (places a b : List ℕ) → LeadsTo n places a → LeadsTo n places b → a ≡ b }
@@ -77,9 +77,8 @@ pub fn real_rows_are_care_rows()
         (t : ℕ) × (t < 2 ^ length w.inputs) × HasRow (value n given) w.inputs t × IsCareRow n w.inputs t }
 {}
 
-/// Care rows are found by evaluating the surround by itself: a row that occurs in a part of the net
-/// under some bits of the leaves is a care row, and each care row occurs under some bits of the
-/// leaves.
+/// Care rows are found by evaluating the fanin cone by itself: a row that occurs in a part of the net under
+/// some bits of the leaves is a care row, and each care row occurs under some bits of the leaves.
 pub fn care_rows_are_shown()
     ensures shown { (n : Net) (places leaves : List ℕ) (given inside bits : ℕ → Bool) (t : ℕ) → IsNet n → LeadsTo n places leaves →
         IsPart n (among leaves) given inside bits → AreInside inside places → HasRow bits places t → IsCareRow n places t }

@@ -22,11 +22,11 @@ pub record Sweeps (s : ImproveSettings) (n m : Net) (settled : Bool) (undecided 
   pub stopped : settled ≡ false → length m.gates + s.rounds ≤ length n.gates
   pub none_named : settled ≡ false → undecided ≡ []
 
--- m is left of n by the settings. It answers what n answers, with no more gates, and some sink reads each of its
--- gates; each operator is of the basis or of n. Settled, no window up to the cap has a shorter chain for what the
--- settings ask of it, but for those that are named, each once and in the order of visits, and each of these is
--- undecided by a certificate. Else as many gates have gone besides dead ones as there were rounds, and none is named.
--- With the cap 0 dead gates alone go.
+-- m is left of n by the settings. It answers what n answers, with no more gates, and some sink reads each of
+-- its gates; each operator is of the basis or of n. Settled, no window up to the cap has a shorter chain for
+-- what the settings ask of it, but for those that are named, each once and in the order of visits, and each
+-- of these is undecided by a certificate. Else as many gates have gone besides dead ones as there were
+-- rounds, and none is named. With the cap 0 dangling gates alone go.
 pub record Leaves (s : ImproveSettings) (n m : Net) (settled : Bool) (undecided : List Undecided) : Type 0 where
   pub pruned : IsPruned n m
   pub operators : HasOperatorsWithin (members s.basis) n m

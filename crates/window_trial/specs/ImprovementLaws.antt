@@ -1,4 +1,4 @@
--- A sweep after the loss of dead gates, and after moves over the whole net, is an improvement.
+-- A sweep after the loss of dangling gates, and after moves over the whole net, is an improvement.
 use Rattle.std.specs.Prelude.{◌≡◌, ◌+◌, ◌≤◌, Bool, true, false, Option, None, Some, IfSome, unwrap_or, List, [], length, All, refl}
 use Rattle.std.proofs.Common.{arith, sym, subst, inl, inr, ⊎_elim}
 use Rattle.std.proofs.lemmas.Bool.{both_ways}
@@ -72,7 +72,7 @@ pub found_leads : (basis : Basis) (n m : Net) (found : Option Net) → IfSome fo
 found_leads basis n m None leads same = subst (Leads basis n) (sym same) (leads_itself basis n)
 found_leads basis n m (Some d) leads same = subst (Leads basis n) (sym same) leads
 
--- what has no dead gates can stand in its own place
+-- what has no dangling gates can stand in its own place
 pub pruned_itself : (n m : Net) → IsPruned n m → IsPruned m m
 pruned_itself n m is = record {
   answers = record {

@@ -1,4 +1,4 @@
--- A net whose gates that are alike are one takes the place of the one before.
+-- A net whose structurally equal gates are one takes the place of the one before.
 use Rattle.std.specs.Prelude.{◌≡◌, ℕ, ◌<◌, true, length, slice_get, Option, Some, IfSome}
 use Rattle.std.proofs.Common.{arith, refl, sym, ◌∙◌, ◌≢◌, subst, inr}
 use Rattle.std.proofs.lemmas.Grind.{common_steps}

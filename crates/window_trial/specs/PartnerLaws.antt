@@ -1,4 +1,4 @@
--- The partners of a root are falling, so that the first one below a place is the greatest.
+-- The partners of a root are falling, so that the first one below a node is the greatest.
 use Rattle.std.specs.Prelude.{◌≡◌, ℕ, ◌≤◌, ◌<◌, true, false, nat_lt, if◌then◌else◌, List, [], ◌∷◌, Option, None, Some}
 use Rattle.std.proofs.Common.{arith, sym, subst, ⊎_elim}
 use Rattle.std.proofs.lemmas.Bool.{cond-true, cond-false, both_ways, cases_lt}
@@ -10,7 +10,7 @@ use Rattle.window_theory.specs.Partner.{ArePartners, IsPartner}
 use Rattle.window_theory.specs.PartnerLaws.{partners_one}
 use Rattle.sweep_core.specs.Visits.{IsNextPartner}
 
--- the first of the places that is below another
+-- the first of the nodes that is below another
 unfoldable pub first_below : List ℕ → ℕ → Option ℕ
 first_below [] below = None
 first_below (p ∷ places) below = if nat_lt p below then Some p else first_below places below

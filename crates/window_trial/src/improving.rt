@@ -1,5 +1,5 @@
-//! A net improved: dead gates go, moves over the whole net and walks over convex windows make it smaller, and then the sweep
-//! tries the windows that it lists.
+//! A net improved: dangling gates go, moves over the whole net and walks over convex windows make it smaller,
+//! and then the sweep tries the windows that it lists.
 ghost use Rattle.std.specs.Prelude.{◌≤◌, IfOk, IfSome};
 ghost use Rattle.op_basis.specs.Basis.{members};
 ghost use Rattle.net_theory.specs.Answers.{IsPruned};
@@ -168,8 +168,9 @@ fn improved<S: Solver>(
     Ok(left)
 }
 
-/// Drops the dead gates of a net, makes it smaller by moves over the whole net and by walks, and then puts shorter chains in
-/// the place of windows, until no window up to the cap has one, or `settings.rounds` rounds have changed something.
+/// Drops the dangling gates of a net, makes it smaller by moves over the whole net and by walks, and then
+/// puts shorter chains in the place of windows, until no window up to the cap has one, or `settings.rounds`
+/// rounds have changed something.
 #[tactic(auto, using(crate::specs::ImprovementLaws::improving))]
 pub fn improve_net<S: Solver>(
     alloc: Global,

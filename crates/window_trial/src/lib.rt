@@ -2,11 +2,11 @@
 //! substitution.
 //!
 //! It stands on `window_core` for the windows, on `walk_core` for what is asked of them and for the net in which a chain has
-//! taken a window's place, on `decide_core` for the search of a shorter chain, on `merge_core` for gates that are alike, on
+//! taken a window's place, on `decide_core` for the search of a shorter chain, on `merge_core` for structurally equal gates, on
 //! `table_merge` for gates with equal tables, on any `Solver` of `sat_solve`, and it is a `Trial` of `sweep_core`. The net and
 //! its index are kept together; the index is made anew when the net changes.
 //!
-//! The one theorem is that of `improve_net`, which drops dead gates, makes the net smaller by moves over all of it
+//! The one theorem is that of `improve_net`, which drops dangling gates, makes the net smaller by moves over all of it
 //! (`restructure`) and by walks over convex windows (`walk_core`), and then sweeps: what is left answers what the net
 //! answers, and once it is settled no listed window up to the cap has a shorter chain for what the settings ask of it, but
 //! for those that are named.

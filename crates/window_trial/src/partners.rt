@@ -10,7 +10,7 @@ use net_core::Net;
 use std::alloc::{AllocError, Global};
 use window_core::{Readers, partners_by};
 
-/// The first of `places` that is below `below`. The places fall.
+/// The first of `places` that is below `below`. The nodes fall.
 #[tactic(auto, unfolding(crate::specs::PartnerLaws::first_below))]
 fn first_below(places: &[u32], below: u32) -> Option<u32>
     ensures { result ≡ first_below_of places.now below }

@@ -10,8 +10,8 @@ use table_merge::merge_equal;
 /// A net of no more gates is left to moves and windows.
 const MANY_EQUAL: usize = 1000;
 
-/// The net in which gates with one value under every assignment are one, without dead gates. Where it has more than 12
-/// sources dead gates alone go.
+/// The net in which gates with one value under every assignment are one, without dangling gates. Where it has
+/// more than 12 sources dangling gates alone go.
 fn equal_merged(alloc: Global, net: &Net) -> Result<Net, AllocError>
     ensures leads { (basis : Basis) → IfOk result (Leads basis net.now) }
     ensures fewer { IfOk result (λ left. length left.gates ≤ length net.now.gates) }
@@ -21,8 +21,8 @@ fn equal_merged(alloc: Global, net: &Net) -> Result<Net, AllocError>
     Ok(left)
 }
 
-/// The net after that, where it has many gates and the cap allows it: a cap of 1 leaves two gates that are alike, since
-/// each of them alone needs a step.
+/// The net after that, where it has many gates and the cap allows it: a cap of 1 leaves two structurally
+/// equal gates, since each of them alone needs a step.
 #[tactic(auto, using(crate::specs::ImprovementLaws::improving))]
 pub fn many_merged(alloc: Global, net: Net, cap: u32) -> Result<Net, AllocError>
     ensures leads { (basis : Basis) → IfOk result (Leads basis net) }

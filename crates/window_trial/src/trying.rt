@@ -199,7 +199,7 @@ impl<S: Solver> Trial for WindowTrial<S> {
         &self.net
     }
 
-    // A cap of 1 leaves two gates that are alike: each of them alone needs a step.
+    // A cap of 1 leaves two structurally equal gates: each of them alone needs a step.
     #[tactic(auto, using(crate::specs::MergedLaws::merging))]
     fn merge_alike(&mut self, alloc: Global) -> Result<bool, AllocError> {
         if self.settings.cap < 2 {
