@@ -1,4 +1,4 @@
--- Which rows are seen.
+-- Which rows are observable.
 use Rattle.std.specs.Prelude.{◌≡◌, ℕ, ◌+◌, ◌*◌, ◌/◌, ◌%◌, ◌≤◌, ◌<◌, ◌^◌, ◌==◌, Bool, true, false, List, [], ◌∷◌, ◌++◌, length, map, slice_index_or}
 use Rattle.std.proofs.Common.{arith, sym, ◌∙◌, ap, subst, inl, inr, ⊎_elim}
 use Rattle.std.proofs.Math.Pow.{pow_mono}
@@ -65,7 +65,7 @@ taken_up n gates (q ∷ before) p are on =
     (λ later. taken_up n gates before p are.1 later)
     (among_cases q p before on)
 
--- so no node that doesn't depend on the window is one of the fanout cone
+-- so no node that doesn't depend on the window is a gate of the fanout cone
 apart_tail : (n : Net) (gates tail : List ℕ) (p : ℕ) → AreTail n gates tail → IsApart n gates p → among tail p ≡ true → ⊥
 apart_tail n gates tail p are apart on = let up = taken_up n gates are.taken p are.following (are.just.only p on) in apart.above up.0 up.1 up.2
 
@@ -191,7 +191,7 @@ input_values n w t c row f i net is cone has low =
     let there : among (places c) q ≡ true = ⊎_elim (λ leaf. in_front c.leaves (gate_places c.gates) q leaf) (λ gate. in_back c.leaves (gate_places c.gates) q gate) (cone.covered q (cone.just.all q (inl (among_at w.inputs i 0 low)))) in
     part_values n (among c.leaves) f (among (places c)) (value_in c row) q net (cone_part n c row f net is cone.above (λ x leaf. leaf_value c row f x is has leaf)) there
 
--- an assignment by its word and its place in it
+-- an assignment by its word and its bit
 word_of : (row : ℕ) → 64 * (row / 64) + row % 64 ≡ row
 word_of row = omega arith
 
@@ -235,7 +235,7 @@ mask_is n w t c signals differ mask net is hidden cone signals_are size telling 
       };
     }
 
--- where no row is unobservable the mask has all digits
+-- where no row is unobservable the mask has all bits
 all_ones : (k row : ℕ) → k ≤ 6 → row < 2 ^ k → digit 18446744073709551615 row ≡ true
 all_ones k row few low =
     let wide : 2 ^ k ≤ 2 ^ 6 = pow_mono few in

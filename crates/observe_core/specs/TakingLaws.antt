@@ -1,4 +1,4 @@
--- How a fanout cone is taken, and what it is made of.
+-- How the gates of a fanout cone are taken, and what its parts are.
 use Rattle.std.specs.Prelude.{◌≡◌, ℕ, Bool, ◌+◌, ◌≤◌, true, false, List, [], ◌∷◌, ◌++◌, length, refl}
 use Rattle.std.proofs.Common.{arith, sym, ◌∙◌, ap, subst, inl, inr, ⊎_elim}
 use Rattle.std.proofs.lemmas.Bool.{cases_Bool, both_ways}
@@ -31,7 +31,7 @@ output_same n xs ys p same is =
           is.seen;
     }
 
--- lists are the same where each has what the other has
+-- lists have the same nodes where each has those of the other
 both_same : (xs ys : List ℕ) → ((q : ℕ) → among xs q ≡ true → among ys q ≡ true) → ((q : ℕ) → among ys q ≡ true → among xs q ≡ true) → HaveSame xs ys
 both_same xs ys there back q =
     ⊎_elim
@@ -126,7 +126,7 @@ taking_end n gates all tail count full was =
       are = was.are;
     }
 
--- ---- what it is made of
+-- ---- its parts
 
 taken_outside : (n : Net) (gates taken : List ℕ) (p : ℕ) → AreFollowing n gates taken → among taken p ≡ true → among gates p ≡ false
 unfolding AreFollowing

@@ -1,5 +1,5 @@
--- Nodes outside a window's transitive fanout (TFO): so is their transitive fanin, and they keep their values
--- whatever bits the window's outputs are forced to.
+-- Nodes outside a window's transitive fanout (TFO): their transitive fanin is outside it too, and they keep
+-- their values whatever bits the window's outputs are forced to.
 use Rattle.std.specs.Prelude.{◌≡◌, ℕ, zero, suc, ◌+◌, ◌≤◌, ◌<◌, Bool, true, false, List}
 use Rattle.std.proofs.Common.{arith, sym, ◌∙◌, ⊎_elim}
 use Rattle.std.proofs.lemmas.Bool.{cases_Bool, cases_lt, both_ways}
@@ -67,7 +67,7 @@ observing_free n w t leaves net is tail are =
 
 -- ---- values
 
--- `bits` are those of an assignment, but for the window's outputs
+-- `put` has the bits of `given` at the sources, and any bits at other nodes
 abbrev pub ArePut : Net → (ℕ → Bool) → (ℕ → Bool) → Type 0
 ArePut n given put = (p : ℕ) → p ≤ n.sources → put p ≡ given p
 

@@ -1,4 +1,4 @@
--- A window has one fanout cone, and one observed specification up to the chains that implement it.
+-- A window has one fanout cone, and one observed specification up to don't-cares that no chain distinguishes.
 use Rattle.std.specs.Prelude.{◌≡◌, ℕ, ◌≤◌, ◌<◌, ◌^◌, Bool, true, false, List, [], ◌∷◌, ◌++◌, length, refl}
 use Rattle.std.proofs.Common.{arith, sym, ◌∙◌, ap, subst, ⊎_elim}
 use Rattle.std.proofs.lemmas.Bool.{cases_Bool, cases_eq, cases_lt, both_ways}
@@ -117,7 +117,7 @@ met_same n w s z a b h row bit low high below met =
     ap (λ (c : Cell). is_met c bit) own_b ∙ met_whole n w a.whole b.whole h row bit a.is_whole b.is_whole low high below (ap (λ (c : Cell). is_met c bit) (sym own_a) ∙ met))
     (cases_Bool (is_met (z.cell h row) bit))
 
--- All observed specifications of a window have the same chains.
+-- The same chains implement all observed specifications of a window.
 pub observed_same : (n : Net) (w : Window) (s z : Specification) (basis : Basis) (r : ℕ) → IsObservedOf n w s → IsObservedOf n w z → HasChain s basis r → HasChain z basis r
 observed_same n w s z basis r a b has =
     let inputs_a : s.inputs ≡ length w.inputs = a.narrowed.inputs ∙ a.is_whole.inputs in

@@ -27,7 +27,7 @@ sink_within n p net on =
     let at = in_sinks n p on in
     (all_at (IsSigBelow (end_of n)) n.sinks at.0 (Place p) net.sinks at.1).1
 
--- a output of the fanout cone is a place of the net
+-- an output of the fanout cone is a node of the net
 output_gate : (n : Net) (w : Window) (t : Tail) (p : ℕ) → IsNet n → IsTail n w t → among t.watchers p ≡ true → p < end_of n
 output_gate n w t p net is on =
     let watcher : IsWatcher n w.gates t.gates p = is.watchers.only p on in

@@ -1,4 +1,4 @@
--- Marks that are written one by one, and turned.
+-- Marks that are written one by one, and complemented.
 use Rattle.std.proofs.Common.{◌≡◌, ℕ, zero, suc, ◌+◌, ◌<◌, Bool, true, false, not, ◌&&◌, ◌||◌, List, [], ◌∷◌, ◌++◌, length, set, get_or, replicate, refl, ◌∙◌, ap, sym, subst, arith, ⊎_elim, ltb, if◌then◌else◌}
 use Rattle.std.specs.Prelude.{slice_get, slice_index_or, Some}
 use Rattle.std.proofs.lemmas.Bool.{cases_eq, cases_lt, both_ways, lt-ltb, le-ltb, cond-true, cond-false, eq-eqb, ne_eqb}
@@ -42,7 +42,7 @@ pub mark_none : (marks : List Bool) (places : List ℕ) → length places ≡ 0 
 mark_none marks [] e = refl
 mark_none marks (q ∷ places) e = absurd (omega arith)
 
--- where nothing was marked just the nodes are
+-- where nothing was marked exactly the nodes are
 pub places_alone : (places : List ℕ) → with_places no_marks places ≡ among places
 places_alone places = λ i p. or_none (among places p) i
 
@@ -55,9 +55,9 @@ no_marks_at (suc n) (suc p) = no_marks_at n p
 pub none_marked : (n : ℕ) → set_of (replicate n false) ≡ no_marks
 none_marked n = λ i p. no_marks_at n p i
 
--- ---- marks that are turned
+-- ---- marks that are complemented
 
--- the first of the marks are turned
+-- the first of the marks are complemented
 abbrev pub turned : List Bool → ℕ → ℕ → Bool
 turned marks count p = if ltb p count then not (set_of marks p) else set_of marks p
 
@@ -97,7 +97,7 @@ first_below bound places rest p e are =
     let below : AreBelow bound (p ∷ rest) = subst (AreBelow bound) e are in
     below 0 0 (omega arith)
 
--- the nodes but the last, and the last
+-- the nodes before the last, and the last
 pub front_below : (bound : ℕ) (places rest : List ℕ) (p : ℕ) → places ≡ rest ++ p ∷ [] → AreBelow bound places → AreBelow bound rest
 front_below bound places rest p e are =
     at_all (λ (q : ℕ). q < bound) rest (λ i q at. all_at (λ (q : ℕ). q < bound) places i q are (ap (λ (xs : List ℕ). slice_get xs i) e ∙ at_front rest (p ∷ []) i q at))
@@ -117,7 +117,7 @@ list_below bound places each = at_all (λ (q : ℕ). q < bound) places (λ i p a
 
 -- ---- nodes that aren't marked
 
--- once the first isn't marked those that are left decide
+-- once the first isn't marked, the others decide
 pub unmarked_next : (marks : List Bool) (places left rest : List ℕ) (q : ℕ) → left ≡ q ∷ rest → slice_index_or marks q false ≡ false → (AreUnmarked (set_of marks) left → AreUnmarked (set_of marks) places) → AreUnmarked (set_of marks) rest → AreUnmarked (set_of marks) places
 unfolding set_of
 unmarked_next marks places left rest q parts off was others =

@@ -4,7 +4,7 @@ use Rattle.window_theory.specs.Places.{among}
 use Rattle.window_theory.specs.Window.{Window}
 use Rattle.subst_core.specs.declared.lists.WindowLists.{WindowLists}
 
--- The window of the lists. It is given no root, and nothing here speaks of one.
+-- The window of the lists. Its root is 0, since nothing here depends on it.
 abbrev pub window_of : WindowLists → Window
 window_of l = record { root = 0; partner = None; gates = l.gates.now; inputs = l.inputs.now; outputs = l.outputs.now }
 

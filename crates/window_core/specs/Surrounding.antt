@@ -1,4 +1,4 @@
--- Cones of a net, and the fanin cone of some nodes while it is found.
+-- Cones of a net, and the fanin cone of some nodes while it is expanded.
 use Rattle.std.specs.Prelude.{◌≡◌, ℕ, ◌+◌, ◌≤◌, ◌<◌, Bool, true, false, ◌==◌, max, List, [], ◌∷◌, ◌++◌, length, map, slice_get, Some, ◌⊎◌}
 use Rattle.net_theory.specs.declared.data.Sig.{Sig}
 use Rattle.net_theory.specs.declared.data.Sig.TheVariants as sigs
@@ -15,7 +15,7 @@ use Rattle.window_core.specs.Rising.{put_sig}
 abbrev pub gate_places : List (ℕ × Gate) → List ℕ
 gate_places gates = map place_of gates
 
--- The gates stand at their nodes of the net, rising, and read the leaves or each other.
+-- The gates are those of the net at their nodes, ascend, and read the leaves or each other.
 pub record AreAbove (n : Net) (leaves : List ℕ) (gates : List (ℕ × Gate)) : Type 0 where
   pub few : length leaves ≤ 12
   pub leaves_rising : IsRising leaves
@@ -28,17 +28,17 @@ pub record AreAbove (n : Net) (leaves : List ℕ) (gates : List (ℕ × Gate)) :
 abbrev pub AreCovered : List ℕ → List (ℕ × Gate) → List ℕ → Type 0
 AreCovered leaves gates places = (p : ℕ) → among places p ≡ true → (among leaves p ≡ true) ⊎ (among (gate_places gates) p ≡ true)
 
--- one of the nodes, or in the transitive fanin of one
+-- one of the nodes, or in their transitive fanin
 pub record IsBehind (n : Net) (places : List ℕ) (p : ℕ) : Type 0 where
   pub place : ℕ
   pub inside : among places place ≡ true
   pub why : (p ≡ place) ⊎ LeadsUp n p place
 
--- the leaves before a gate that is expanded, with its fanins
+-- the leaves once the gate at the last leaf, after `front`, is expanded
 abbrev pub behind_of : List ℕ → Gate → List ℕ
 behind_of front g = put_sig g.b (put_sig g.a front)
 
--- So far the fanin cone of `places` has the leaves `leaves` and the gates `gates`.
+-- The fanin cone of `places` so far has the leaves `leaves` and the gates `gates`.
 pub record IsSurround (n : Net) (places leaves : List ℕ) (gates : List (ℕ × Gate)) : Type 0 where
   pub above : AreAbove n leaves gates
   pub below : (p q : ℕ) → among leaves p ≡ true → among (gate_places gates) q ≡ true → p < q
@@ -64,7 +64,7 @@ unfoldable pub top_of : List ℕ → ℕ
 top_of [] = 0
 top_of (p ∷ places) = max (p + 1) (top_of places)
 
--- both signals are one node
+-- both signals name one node
 abbrev pub same_place : Sig → Sig → Bool
 same_place (sigs.Place p) (sigs.Place q) = p == q
 same_place (sigs.Place p) sigs.Zero = false

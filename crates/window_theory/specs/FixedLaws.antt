@@ -18,7 +18,7 @@ use Rattle.window_theory.specs.Care.{fixed_after, values_with, IsGiven, IsPart}
 
 -- ---- one node
 
--- gates leave the bits of the nodes below them
+-- gates don't change the bits of the nodes below them
 fixed_below : (fixed given bits : ℕ → Bool) (place p : ℕ) (gs : List Gate) → p < place → fixed_after fixed given bits place gs p ≡ bits p
 unfolding fixed_after
 fixed_below fixed given bits place p [] low = refl

@@ -32,7 +32,7 @@ bits_other bits (q ∷ places) (b ∷ set) p out =
     let other : p ≢ q = λ same. both_ways (among (q ∷ places) p) out (or_left (nat_eq p q) (among places p) (eq-eqb p q same)) in
     extended-other (with_bits bits places set) q p b other ∙ bits_other bits places set p (or_parts (nat_eq p q) (among places p) out).1
 
--- A place of `places` has the signal and the bit of the output at its index.
+-- A node of `places` has the signal and the bit of the output at its index.
 pub record IsSet (sigs : ℕ → Sig) (bits : ℕ → Bool) (places : List ℕ) (outs : List Out) (sig : Out → Sig) (bit : Out → Bool) (p : ℕ) : Type 0 where
   pub index : ℕ
   pub out : Out

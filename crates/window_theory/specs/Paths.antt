@@ -4,7 +4,7 @@ use Rattle.net_theory.specs.declared.data.Gate.{Gate}
 use Rattle.net_theory.specs.Net.{Net}
 use Rattle.net_theory.specs.Reach.{ReadsPlace}
 
--- a gate is at the place p
+-- p is the node of a gate
 pub record IsGate (n : Net) (p : ℕ) : Type 0 where
   pub index : ℕ
   pub gate : Gate

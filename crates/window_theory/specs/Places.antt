@@ -17,7 +17,7 @@ IsFalling [] = Unit {0}
 IsFalling (p ∷ places) = ((q : ℕ) → among places q ≡ true → q < p) × IsFalling places
 
 -- The ascending list of exactly the nodes with the property P.
--- Example: for the fanins of a gate with the operands Place 4 and Place 2 it is 2, 4.
+-- Example: for the fanins of a gate with the operands node 4 and node 2 it is 2, 4.
 pub record AreJust (P : ℕ → Type 0) (places : List ℕ) : Type 0 where
   pub rising : IsRising places
   pub only : (p : ℕ) → among places p ≡ true → P p

@@ -47,7 +47,7 @@ steps_same f g place (s ∷ ss) are same p some low =
     (cases_eq q place) in
     steps_same (extended f place (step_value f s)) (extended g place (step_value g s)) (place + 1) ss later agree p some (omega arith)
 
--- An output has on a row the value that it has from the bits of a window's inputs, where these are the row.
+-- On a row, an output has the value that it has from the bits of a window's inputs where these are the row.
 pub out_row : (n : Net) (w : Window) (c : Chain) (given : ℕ → Bool) (t : ℕ) (x : Out) → Fits w c → HasRow (value n given) w.inputs t → NamesPlace (c.n + length c.steps) x → out_value c t x ≡ out_bit (chain_bits n w c given) x
 out_row n w c given t outs.Zero fits row names = refl
 out_row n w c given t outs.One fits row names = refl

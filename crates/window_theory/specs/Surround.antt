@@ -1,4 +1,4 @@
--- The fanin cone of nodes: their fanin cone, bounded by a cut of at most 12 leaves.
+-- The fanin cone of some nodes, bounded by a cut of at most 12 leaves.
 use Rattle.std.specs.Prelude.{◌≡◌, ℕ, ◌≤◌, ◌<◌, true, List, length, ◌⊎◌}
 use Rattle.std.proofs.Common.{◌≢◌}
 use Rattle.net_theory.specs.Net.{Net}
@@ -11,7 +11,7 @@ pub record IsGreatestGate (n : Net) (leaves : List ℕ) (p : ℕ) : Type 0 where
   pub gate : IsGate n p
   pub greatest : (q : ℕ) → among leaves q ≡ true → IsGate n q → q ≤ p
 
--- the leaves after the leaf g is replaced by its fanins
+-- the leaves after the leaf p is replaced by its fanins
 abbrev pub IsLeafBehind : Net → List ℕ → ℕ → ℕ → Type 0
 IsLeafBehind n leaves p q = ((among leaves q ≡ true) × (q ≢ p)) ⊎ Reads n p q
 

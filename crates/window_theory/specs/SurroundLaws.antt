@@ -33,7 +33,7 @@ reads_tested : (g : Gate) (q : ℕ) → ReadsPlace g q → reads_test g q ≡ tr
 reads_tested g q reads =
     ⊎_elim (λ a. or_left (is_place q g.a) (is_place q g.b) (place_test q g.a a)) (λ b. or_right (is_place q g.a) (is_place q g.b) (place_test q g.b b)) reads
 
--- one gate is at a node
+-- a node has only one gate
 pub gate_one : (n : Net) (p : ℕ) (a b : IsGate n p) → a.gate ≡ b.gate
 gate_one n p a b =
     let same : a.index ≡ b.index = omega (arith, a.place, b.place) in

@@ -1,5 +1,5 @@
--- The gates that a root takes are above all their inputs, so that they are convex, and that the
--- window of a root belongs to the net.
+-- The gates that a root takes are above all their inputs, so they are convex, and the window of a root
+-- belongs to the net.
 use Rattle.std.specs.Prelude.{◌≡◌, ℕ, zero, suc, ◌+◌, ◌-◌, ◌≤◌, ◌<◌, true, false, nat_eq, List, [], ◌∷◌, length, Option, Some, slice_get, ◌⊎◌, refl}
 use Rattle.std.proofs.Common.{arith, sym, ◌∙◌, ap, subst, inl, inr, ⊎_elim, ◌≢◌}
 use Rattle.std.proofs.lemmas.Bool.{eq-eqb, or_left, or_parts, both_ways, cases_Bool, cases_lt}
@@ -27,7 +27,7 @@ reads_low n g p net r =
 pub gate_high : (n : Net) (g : ℕ) → IsGate n g → (n.sources < g) × (g < n.sources + 1 + length n.gates)
 gate_high n g is = (omega (arith, is.place), omega (arith, is.place, slice_get_within n.gates is.index is.gate is.at))
 
--- a gate is at each node after the sources and below the end
+-- each node after the sources and below the end has a gate
 pub gate_at : (n : Net) (p : ℕ) → n.sources + 1 ≤ p → p < n.sources + 1 + length n.gates → IsGate n p
 gate_at n p above within =
     let index : ℕ = p - (n.sources + 1) in
@@ -142,7 +142,7 @@ taken_convex n root partner count gates net takes p q r inside_p inside_r up_q u
 pub window_low : (n : Net) (root : ℕ) (partner : Option ℕ) (count : ℕ) (w : Window) (p q : ℕ) → IsNet n → IsWindow n root partner count w → IsInput n w.gates p → among w.gates q ≡ true → p < q
 window_low n root partner count w p q net is input inside = input_low n root partner count w.gates p q net is.takes input inside
 
--- A fanin of a gate is a place of the net.
+-- A fanin of a gate is a node of the net.
 pub read_there : (n : Net) (g p : ℕ) → IsNet n → Reads n g p → (1 ≤ p) × (p < end_of n)
 read_there n g p net r =
     let low = reads_low n g p net r in
