@@ -53,7 +53,7 @@ pub fn rows_of(places: u64) -> u32 {
     1u32 << (places.count_ones() % 32)
 }
 
-/// The nodes to which `row` gives 1; the last place has the last digit.
+/// The nodes to which `row` gives 1; the last node has the last bit.
 pub fn ones_of(places: u64, row: u32) -> u64 {
     let mut ones = 0;
     let mut digits = u64::from(row);
@@ -82,7 +82,7 @@ pub fn row_of(ones: u64, places: u64) -> u32 {
     row
 }
 
-/// The care rows of `places`, a digit for each.
+/// The care rows of `places`, a bit for each.
 pub fn care_rows(net: &Net, places: u64) -> u64 {
     let leaves = leaves(net, places);
     let mut care = 0;
@@ -93,7 +93,7 @@ pub fn care_rows(net: &Net, places: u64) -> u64 {
     care
 }
 
-/// The rows of the inputs on which an output is 1, a digit for each.
+/// The rows of the inputs on which an output is 1, a bit for each.
 fn on_rows(net: &Net, inputs: u64, output: u32) -> u64 {
     let mut on = 0;
     for row in 0..rows_of(inputs) {

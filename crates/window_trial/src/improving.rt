@@ -142,8 +142,8 @@ fn begun<S: Solver>(
     Ok(smaller.unwrap_or(best))
 }
 
-/// Moves and walks, and then resynthesis and moves in turn: as long as moves find a smaller net after
-/// resynthesis, at most `MOST_TURNS` times, and once where the net is large.
+/// Moves and walks, and then resynthesis. Moves follow it again as long as they find a smaller net, at most
+/// `MOST_TURNS` times, and never in a large net.
 #[tactic(auto, using(crate::specs::ImprovementLaws::improving))]
 fn improved<S: Solver>(
     alloc: Global,
