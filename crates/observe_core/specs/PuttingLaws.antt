@@ -78,7 +78,7 @@ put_row v f (q ∷ outputs) bits p has on =
     ap (sig_value v) (cond-false (p == q) bit (put_place outputs bits p) (ne_eqb p q other)) ∙ put_row v f outputs bits p rest later)
     (cases_eq p q)
 
--- ---- gates that are put
+-- ---- gates with constants
 
 pub put_start : (n : Net) (outputs : List ℕ) (bits : ℕ) (tail : List ℕ) (gates : List (ℕ × Gate)) → HasPut n outputs bits tail tail gates gates
 put_start n outputs bits tail gates =

@@ -48,7 +48,8 @@ pub record IsWatcher (n : Net) (gates tail : List ℕ) (p : ℕ) : Type 0 where
   pub inside : among tail p ≡ true
   pub seen : IsOutput n (tail ++ gates) p
 
--- Such a reader has some gate of the window itself: the window is directly observable.
+-- a gate of the window that a sink reads, or a gate outside the window and the fanout cone: the window is
+-- directly observable
 pub record IsBare (n : Net) (gates tail : List ℕ) : Type 0 where
   pub place : ℕ
   pub inside : among gates place ≡ true

@@ -23,8 +23,8 @@ fn reduced(alloc: Global, xag: &Xag) -> Result<Xag, AllocError>
     Ok(best)
 }
 
-/// The graph after a round of moves that may keep its size: resubstitution of gates at random, sharing with random ties,
-/// and then what makes it smaller.
+/// The graph after a round of moves that may keep its size: resubstitution of gates at random, sharing with
+/// random ties, and then what makes it smaller.
 #[tactic(auto, using(resub_core::specs::SmallerLaws::replacing))]
 fn round(alloc: Global, xag: &Xag, seed: u64) -> Result<Xag, AllocError>
     ensures { IfOk result (IsNoLarger xag.now) }

@@ -1,4 +1,4 @@
--- The three passes of a substitution, put together.
+-- The three copying loops of a substitution, put together.
 use Rattle.std.proofs.Common.{◌≡◌, ℕ, ◌+◌, ◌≤◌, ◌<◌, ◌^◌, Bool, not, ◌&&◌, List, length, map, ◌∙◌, ap, arith}
 use Rattle.net_theory.specs.declared.data.Sig.{Sig}
 use Rattle.net_theory.specs.declared.data.Gate.{Gate}

@@ -40,7 +40,7 @@ use Rattle.window_core.specs.ConeLaws.{among_get, get_among, cone_part, above_co
 some_same : {A : Type 0} (x y : A) → Some x ≡ Some y → x ≡ y
 some_same x y e = cc
 
--- what stands at an index, read with a default
+-- the element at an index, read with a default
 pub get_is : (xs : List ℕ) (k x : ℕ) → slice_get xs k ≡ Some x → slice_index_or xs k 0 ≡ x
 get_is xs k x e = some_same (slice_index_or xs k 0) x (sym (slice_get-get_or xs k 0 (slice_get_within xs k x e)) ∙ e)
 

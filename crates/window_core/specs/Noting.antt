@@ -1,4 +1,4 @@
--- The tables of the index, while a pass over the gates fills them.
+-- The tables of the index, while loops over the gates fill them.
 use Rattle.std.specs.Prelude.{◌≡◌, ℕ, ◌+◌, ◌<◌, min, if◌then◌else◌, List, length, slice_get, slice_index_or, Some}
 use Rattle.net_theory.specs.declared.data.Sig.{Sig}
 use Rattle.net_theory.specs.declared.data.Sig.TheVariants as sigs

@@ -259,7 +259,7 @@ read_behind n places p q reads is =
       why = inr (⊎_elim (λ same. subst (LeadsUp n q) same (at_once q p reads)) (λ up. up_first n q p is.place reads up) is.why);
     }
 
--- the gate that is expanded stands before the others
+-- the gate that is expanded is below the others
 surround_step : (n : Net) (places leaves front : List ℕ) (gates : List (ℕ × Gate)) (p : ℕ) (g : Gate) → IsNet n → leaves ≡ front ++ p ∷ [] → IsGateOf n p g → length (behind_of front g) ≤ 12 → IsSurround n places leaves gates → IsSurround n places (behind_of front g) ((p, g) ∷ gates)
 unfolding IsRising
 surround_step n places leaves front gates p g net parts of few was =

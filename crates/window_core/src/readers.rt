@@ -1,4 +1,4 @@
-//! The index of a net, made in three passes over its gates: the reference count of each node, and linked
+//! The index of a net, made in three loops over its gates: the reference count of each node, and linked
 //! fanout lists, in which each gate has, for both of its fanins, their next lower and their next higher
 //! fanout. It serves all windows of the net.
 

@@ -1,5 +1,5 @@
 //! Which gates of a window are outputs: those with more references in all than from the gates inside. The
-//! index has the reference counts, so no pass over the net is needed.
+//! index has the reference counts, so the rest of the net needn't be visited.
 
 ghost use Rattle.std.specs.Prelude.{◌≡◌, ℕ, ◌≤◌, true, length, IfOk};
 ghost use Rattle.window_theory.specs.Places.{among, IsRising, AreJust};
