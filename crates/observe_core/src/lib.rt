@@ -10,8 +10,8 @@
 //!   (`seen_keeps`).
 //!
 //! ```text
-//! let readers = readers_of(alloc, &net)?;
-//! let spec = observed_spec_by(alloc, &net, &readers, &window)?;
+//! let fanouts = fanouts_of(alloc, &net)?;
+//! let spec = observed_spec_by(alloc, &net, &fanouts, &window)?;
 //! ```
 #![tactic(auto)]
 

@@ -30,7 +30,7 @@
 //! | settled; stopped; undecided | fixpoint; limit of rounds reached; conflict limit reached |
 //!
 //! ```text
-//! let swept = sweep(alloc, &mut trial)?; // swept.settled, swept.undecided; the net is the trial's
+//! let result = resynthesize(alloc, &mut attempts)?; // result.settled, result.undecided; attempts.net()
 //! ```
 #![tactic(auto)]
 

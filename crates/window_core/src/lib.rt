@@ -29,8 +29,8 @@
 //! structural hashing is in `merge_core`.
 //!
 //! ```text
-//! let readers = readers_of(alloc, &net)?;
-//! if let Some(window) = window_by(alloc, &net, &readers, root, None, 3)? {
+//! let fanouts = fanouts_of(alloc, &net)?;
+//! if let Some(window) = window_by(alloc, &net, &fanouts, root, None, 3)? {
 //!     let spec = spec_of(alloc, &net, &window)?;
 //! }
 //! ```

@@ -11,7 +11,7 @@
 //! let mut builder = Builder::new(alloc, 2, 1)?;
 //! let both = builder.gate(2, 4, false)?; // the literals of the two sources
 //! let xag = builder.finish(alloc, &[both])?;
-//! let other = rebuild(alloc, &xag, &edit)?; // None where a substitution makes a cycle
+//! let other = rebuild(alloc, &xag, &substitution)?; // None where a substitution makes a cycle
 //! ```
 #![tactic(auto)]
 
