@@ -1,4 +1,4 @@
-//! How a netlist is improved: the settings, and what is to come of it.
+//! How the tests improve a netlist: the settings, and the expected result.
 ghost use Rattle.improve_settings.specs.Improve.{IsInRange};
 ghost use Rattle.bench_core.specs.Bench.{bench_format};
 ghost use Rattle.improve_windows.specs.Improving.{FitsFormat};
@@ -8,8 +8,7 @@ use improve_windows::{ImproveSettings, ImprovedText, NetError, improve_bench, im
 use op_basis::Basis;
 use std::alloc::Global;
 
-/// The usual settings with this cap of windows, these rounds and this budget, and rows that nobody sees left out of
-/// account or not.
+/// The default settings with this cap, these rounds and this conflict limit, with ODCs where `observe`.
 fn settings(cap: u32, rounds: u32, conflicts: u32, observe: bool) -> ImproveSettings
     ensures { IsInRange result }
 {
@@ -25,7 +24,7 @@ fn settings(cap: u32, rounds: u32, conflicts: u32, observe: bool) -> ImproveSett
     }
 }
 
-/// The usual settings with all operators of gates in BENCH.
+/// The default settings with all operators of gates in BENCH.
 fn gates_alone() -> ImproveSettings
     ensures range { IsInRange result }
     ensures fits { FitsFormat bench_format result }
@@ -45,13 +44,13 @@ fn gates_alone() -> ImproveSettings
 /// How a netlist is improved.
 #[derive(Clone, Copy)]
 pub enum Asked {
-    /// As BLIF: the cap of windows, the rounds, the budget, and whether rows that nobody sees are left out of account.
+    /// As BLIF: the cap, the rounds, the conflict limit, and whether ODCs are used.
     Blif(u32, u32, u32, bool),
-    /// As BENCH, with the usual settings.
+    /// As BENCH, with the default settings.
     Bench,
 }
 
-/// An improved netlist, or why it is refused.
+/// The improved netlist, or the error.
 fn answered(alloc: Global, bytes: &[u8], asked: Asked) -> Option<Result<ImprovedText, NetError>> {
     if bytes.len() > 100_000 {
         return None;
@@ -65,7 +64,7 @@ fn answered(alloc: Global, bytes: &[u8], asked: Asked) -> Option<Result<Improved
     }
 }
 
-/// An improved netlist, if it isn't refused.
+/// The improved netlist, unless there is an error.
 pub fn improved(alloc: Global, bytes: &[u8], asked: Asked) -> Option<ImprovedText> {
     match answered(alloc, bytes, asked) {
         Some(Ok(improved)) => Some(improved),
@@ -74,7 +73,7 @@ pub fn improved(alloc: Global, bytes: &[u8], asked: Asked) -> Option<ImprovedTex
     }
 }
 
-/// Why a netlist is refused, if it is.
+/// The error, if there is one.
 pub fn refused(alloc: Global, bytes: &[u8], asked: Asked) -> Option<NetError> {
     match answered(alloc, bytes, asked) {
         Some(Ok(_)) => None,
@@ -83,13 +82,13 @@ pub fn refused(alloc: Global, bytes: &[u8], asked: Asked) -> Option<NetError> {
     }
 }
 
-/// Whether a text with its report after it is what is wanted.
+/// Whether the text followed by its report is `wanted`.
 fn are_together(text: &[u8], report: &[u8], wanted: &[u8]) -> bool {
     let long = text.len().checked_add(report.len()) == Some(wanted.len());
     long && wanted.starts_with(text) && wanted.ends_with(report)
 }
 
-/// Whether a netlist is improved to what is wanted, with the report after it.
+/// Whether the improved netlist followed by its report is as expected.
 pub fn is_improved(alloc: Global, bytes: &[u8], asked: Asked, wanted: &[u8]) -> bool {
     match improved(alloc, bytes, asked) {
         Some(improved) => are_together(&improved.text, &improved.report, wanted),

@@ -1,13 +1,13 @@
-//! Netlists of which nothing but dead gates is dropped, and the refusals of whole documents.
+//! Netlists where only dangling gates are removed, and documents that are refused.
 
 use crate::asking::{Asked, is_improved, refused};
 use improve_windows::NetError;
 use std::alloc::Global;
 
-/// As BLIF, without windows.
+/// As BLIF, with cap 0.
 const IDLE: Asked = Asked::Blif(0, 1000, 100_000, false);
 
-/// The word of a document's fault, and the name.
+/// The word of a document's fault, and the name in it.
 fn named(error: &NetError) -> (&'static str, &[u8]) {
     match error {
         NetError::DrivenTwice(told) => ("DrivenTwice", told.get()),
@@ -18,7 +18,7 @@ fn named(error: &NetError) -> (&'static str, &[u8]) {
     }
 }
 
-/// Whether a netlist is refused by this word and this name.
+/// Whether a netlist is refused with this word and this name.
 fn is_refused(alloc: Global, bytes: &[u8], word: &str, name: &[u8]) -> bool {
     match refused(alloc, bytes, IDLE) {
         None => false,
@@ -31,14 +31,14 @@ fn is_refused(alloc: Global, bytes: &[u8], word: &str, name: &[u8]) -> bool {
     }
 }
 
-/// Netlists, and what is left of them with the report after it.
+/// Netlists, and the improved ones with their reports.
 const IMPROVED: &[(&[u8], &[u8])] = &[
     // each cover of two rows is one gate
     (
         b".model x\n.inputs a b\n.outputs y\n.names a b p\n10 1\n.names a b q\n01 1\n.names p q y\n1- 1\n-1 1\n.end\n",
         b".model x\n.inputs a b\n.outputs y\n.names a b g1\n10 1\n.names a b g2\n01 1\n.names g1 g2 y\n01 1\n10 1\n11 1\n.end\ngates 3 -> 3\nsettled\n",
     ),
-    // gates that nothing reads go
+    // gates that no sink depends on are removed
     (
         b".model x\n.inputs a b\n.outputs p\n.names a b p\n10 1\n.names a b q\n01 1\n.names p q y\n1- 1\n-1 1\n.end\n",
         b".model x\n.inputs a b\n.outputs p\n.names a b p\n10 1\n.end\ngates 3 -> 1\nsettled\n",
@@ -53,7 +53,7 @@ const IMPROVED: &[(&[u8], &[u8])] = &[
         b".model t\n.inputs a b c\n.outputs y\n.names a b c y\n--- 1\n.end\n",
         b".model t\n.inputs a b c\n.outputs y\n.names y\n1\n.end\ngates 0 -> 0\nsettled\n",
     ),
-    // a loop through a latch is none, and stays byte for byte
+    // a loop through a latch is no cycle; the netlist stays byte for byte
     (
         b".model c\n.inputs a\n.outputs n1\n.latch n1 n2 0\n.names a n2 n1\n11 1\n.end\n",
         b".model c\n.inputs a\n.outputs n1\n.latch n1 n2 0\n.names a n2 n1\n11 1\n.end\ngates 1 -> 1\nsettled\n",
@@ -72,7 +72,7 @@ fn netlists_keep_what_their_sinks_read(rt: HostRuntime) {
     }
 }
 
-/// Documents that are refused, by which word and which name.
+/// Documents that are refused, with the word and the name of the fault.
 const REFUSED: &[(&[u8], &str, &[u8])] = &[
     (
         b".model c\n.inputs a\n.outputs n1\n.names a n2 n1\n11 1\n.names n1 n2\n1 1\n.end\n",

@@ -1,4 +1,4 @@
-//! Candidates for a net's place, compared under all assignments, or by the miter of both.
+//! Nets that may replace another one, compared under all assignments, or by the miter of both.
 
 use blif_core::{Circuit, read_blif};
 use cdcl_core::Cdcl;
@@ -17,7 +17,7 @@ fn circuit(alloc: Global, text: &[u8]) -> Option<Circuit> {
     }
 }
 
-/// How many gates are left of a candidate that may stand in a net's place; none where it may not, or a text is no
+/// The number of gates of a net that may replace the other one; None where it may not, or a text is no
 /// netlist.
 fn left(alloc: Global, net: &[u8], candidate: &[u8], basis: u16) -> Option<usize> {
     let net = circuit(alloc, net)?;
@@ -32,7 +32,7 @@ fn left(alloc: Global, net: &[u8], candidate: &[u8], basis: u16) -> Option<usize
 const LONG: &[u8] =
     b".inputs a b\n.outputs y\n.names a b p\n10 1\n.names a b q\n01 1\n.names p q y\n1- 1\n-1 1\n.end\n";
 
-/// XOR by one gate, beside one that nothing reads.
+/// XOR by one gate, beside a dangling gate.
 const SHORT: &[u8] =
     b".inputs a b\n.outputs y\n.names a b y\n10 1\n01 1\n.names a b p\n11 1\n.end\n";
 

@@ -1,7 +1,6 @@
-//! Tests of the improvement by windows: what is left of netlists where no window is tried, netlists that shrink, by a
-//! window and by one with a partner, what settings leave as it is, a window that stays undecided, refusals;
-//! candidates that are judged, under all assignments or by a miter; and walks over convex windows. The searches are
-//! those of `cdcl_core`.
+//! Tests of `improve`: netlists with cap 0, netlists that shrink, by a window and by one with a partner,
+//! netlists that settings leave unchanged, a window that stays undecided, refusals; nets that are judged,
+//! under all assignments or by a miter; and walks over convex windows. The searches are those of `cdcl_core`.
 #![tactic(auto)]
 
 #[cfg(test)]

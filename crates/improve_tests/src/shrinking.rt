@@ -1,4 +1,4 @@
-//! Netlists that become smaller by their windows, with settings, and what stays undecided.
+//! Netlists that become smaller by windows, with settings, and what stays undecided.
 
 use crate::asking::{Asked, improved, is_improved};
 use std::alloc::Global;
@@ -9,11 +9,11 @@ const EXCLUSIVE: &[u8] =
 const EQUAL: &[u8] =
     b".model d\n.inputs a b\n.outputs y z\n.names a b y\n11 1\n.names a b z\n11 1\n.end\n";
 
-// y and z are one, and nine gates that read a stand between them, so that neither is a partner of the other
+// y and z are equal, but more than eight fanouts of a are between them, so neither is a partner of the other
 const FAR: &[u8] =
     b".model w\n.inputs a b c1 c2 c3 c4 c5 c6 c7 c8 c9\n.outputs y g1 g2 g3 g4 g5 g6 g7 g8 g9 z\n.names a b y\n11 1\n.names a c1 g1\n11 1\n.names a c2 g2\n11 1\n.names a c3 g3\n11 1\n.names a c4 g4\n11 1\n.names a c5 g5\n11 1\n.names a c6 g6\n11 1\n.names a c7 g7\n11 1\n.names a c8 g8\n11 1\n.names a c9 g9\n11 1\n.names b a z\n11 1\n.end\n";
 
-// y sees p only where a is 1, and there p is b
+// y depends on p only where a is 1, and there p is b
 const HIDDEN: &[u8] =
     b".model o\n.inputs a b\n.outputs y\n.names a b p\n00 1\n11 1\n.names p a y\n11 1\n.end\n";
 
@@ -24,21 +24,21 @@ const BARE: &[u8] =
 const ADDER: &[u8] =
     b".model a\n.inputs a b c\n.outputs s k\n.names a b p\n01 1\n10 1\n.names p c s\n01 1\n10 1\n.names a b q\n11 1\n.names p c r\n11 1\n.names q r k\n1- 1\n-1 1\n.end\n";
 
-/// Netlists, how they are improved, and the improved ones with the report after them.
+/// Netlists, how they are improved, and the improved ones with their reports.
 const IMPROVED: &[(&[u8], Asked, &[u8])] = &[
-    // three gates are one
+    // three gates become one
     (
         EXCLUSIVE,
         Asked::Blif(5, 1000, 100_000, false),
         b".model x\n.inputs a b\n.outputs y\n.names a b y\n01 1\n10 1\n.end\ngates 3 -> 1\nsettled\n",
     ),
-    // the one round changed something
+    // the only round changed something
     (
         EXCLUSIVE,
         Asked::Blif(5, 1, 100_000, false),
         b".model x\n.inputs a b\n.outputs y\n.names a b y\n01 1\n10 1\n.end\ngates 3 -> 1\nstopped\n",
     ),
-    // two gates that are alike are one
+    // two structurally equal gates become one
     (
         EQUAL,
         Asked::Blif(5, 1000, 100_000, false),
@@ -50,13 +50,13 @@ const IMPROVED: &[(&[u8], Asked, &[u8])] = &[
         Asked::Blif(5, 1000, 100_000, false),
         b".model w\n.inputs a b c1 c2 c3 c4 c5 c6 c7 c8 c9\n.outputs y g1 g2 g3 g4 g5 g6 g7 g8 g9 z\n.names a b y\n11 1\n.names a c1 g1\n11 1\n.names a c2 g2\n11 1\n.names a c3 g3\n11 1\n.names a c4 g4\n11 1\n.names a c5 g5\n11 1\n.names a c6 g6\n11 1\n.names a c7 g7\n11 1\n.names a c8 g8\n11 1\n.names a c9 g9\n11 1\n.names y z\n1 1\n.end\ngates 11 -> 10\nsettled\n",
     ),
-    // and not where each is tried alone
+    // but not where each is attempted alone
     (
         EQUAL,
         Asked::Blif(1, 1000, 100_000, false),
         b".model d\n.inputs a b\n.outputs y z\n.names a b y\n11 1\n.names a b z\n11 1\n.end\ngates 2 -> 2\nsettled\n",
     ),
-    // rows that nobody sees are free
+    // unobservable rows are free
     (
         HIDDEN,
         Asked::Blif(1, 1000, 100_000, true),
@@ -85,7 +85,7 @@ const IMPROVED: &[(&[u8], Asked, &[u8])] = &[
         Asked::Bench,
         b"INPUT(a)\nINPUT(b)\nOUTPUT(y)\ny = XOR(a, b)\ngates 4 -> 1\nsettled\n",
     ),
-    // a is all that is left, and of it a constant is made
+    // a is all that remains, and is made of a constant
     (
         b"INPUT(a)\nOUTPUT(y)\nOUTPUT(z)\nn = NOT(a)\ny = AND(n, a)\nz = NOT(n)\n",
         Asked::Bench,
@@ -97,7 +97,7 @@ const IMPROVED: &[(&[u8], Asked, &[u8])] = &[
         Asked::Bench,
         b"INPUT(a)\nOUTPUT(q)\nq = DFF(g1)\ng1 = NOT(a)\ngates 1 -> 1\nsettled\n",
     ),
-    // a gate that no other stands for, AND of a and not b, isn't taken in
+    // AND of a and not b, a gate that no other can replace, stays
     (
         b"INPUT(a)\nINPUT(b)\nOUTPUT(y)\nn = NOT(b)\ny = AND(a, n)\n",
         Asked::Bench,
@@ -116,7 +116,7 @@ fn windows_shrink(rt: HostRuntime) {
 const ADDERS: &[u8] =
     b".model a\n.inputs a b c d e\n.outputs s t k\n.names a b p\n01 1\n10 1\n.names p c s\n01 1\n10 1\n.names a b q\n11 1\n.names p c r\n11 1\n.names q r h\n1- 1\n-1 1\n.names d e u\n01 1\n10 1\n.names u h t\n01 1\n10 1\n.names d e v\n11 1\n.names u h w\n11 1\n.names v w k\n1- 1\n-1 1\n.end\n";
 
-/// Whether on a budget of one clause some window of six gates stays undecided, and none of up to five.
+/// Whether with a conflict limit of 1 some window of six gates stays undecided, and none of up to five.
 fn is_undecided(alloc: Global) -> bool {
     let Some(five) = improved(alloc, ADDERS, Asked::Blif(5, 1000, 1, false)) else {
         return false;

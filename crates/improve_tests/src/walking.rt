@@ -8,19 +8,19 @@ use walk_core::{ImproveSettings, walked};
 const ADDER: &[u8] =
     b".model a\n.inputs a b c\n.outputs s k\n.names a b p\n01 1\n10 1\n.names p c s\n01 1\n10 1\n.names a b q\n11 1\n.names b c r\n11 1\n.names a c t\n11 1\n.names q r u\n1- 1\n-1 1\n.names u t k\n1- 1\n-1 1\n.end\n";
 
-/// Two gates, which are not one.
+/// Two gates; one gate can't replace them.
 const LEAST: &[u8] =
     b".model x\n.inputs a b c\n.outputs y\n.names a b p\n11 1\n.names p c y\n01 1\n10 1\n.end\n";
 
-/// Netlists, rounds of level walks, and how many gates are left, where walks find fewer.
+/// Netlists, rounds of level walks, and the number of gates that walks leave, where they find fewer.
 const WALKED: &[(&[u8], u32, Option<usize>)] = &[
-    // listed windows of five gates leave six
+    // the listed windows of five gates would leave six
     (ADDER, 0, Some(5)),
     (ADDER, 2, Some(5)),
     (LEAST, 2, None),
 ];
 
-/// How many gates walks leave, where they find fewer.
+/// The number of gates that walks leave, where they find fewer.
 fn gates_left(alloc: Global, bytes: &[u8], rounds: u32) -> Option<usize> {
     if bytes.len() > 100_000 {
         return None;

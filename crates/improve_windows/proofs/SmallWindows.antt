@@ -1,4 +1,4 @@
--- A window that is undecided has six gates at least, so with a smaller cap there is none.
+-- An undecided window has at least six gates, so with a smaller cap there is none.
 use Rattle.std.specs.Prelude.{◌≡◌, ℕ, ◌≤◌, Bool, true, List, [], ◌∷◌, ◌++◌, All, refl}
 use Rattle.std.specs.List.{flat_map}
 use Rattle.std.proofs.Common.{arith, ◌∙◌, ap, subst, append-nil}

@@ -1,4 +1,4 @@
--- What is written of a circuit has tables, and costs no more than the circuit has gates.
+-- The document written for a circuit has tables, and costs at most as many gates as the circuit has.
 use Rattle.std.specs.Prelude.{◌≡◌, ◌^◌, ◌≤◌, ◌<◌, length, All}
 use Rattle.std.proofs.Common.{arith, sym, ◌∙◌, ap, subst}
 use Rattle.std.proofs.lemmas.Grind.{common_steps}

@@ -34,7 +34,7 @@ gates_are op has = elim (cases_lt op 16) [
   | inr high ↦ beyond (members bench_set op) (not_above op (omega arith)) has
 ]
 
--- A basis whose operators are of `bench` fits BENCH.
+-- A basis whose operators are all in `bench` fits BENCH.
 pub fits_bench : (s : ImproveSettings) → ((op : ℕ) → members s.basis op ≡ true → members bench_set op ≡ true) → FitsFormat bench_format s
 fits_bench s within op has = gates_are op (within op has)
 

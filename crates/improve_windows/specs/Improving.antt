@@ -1,5 +1,5 @@
--- Netlists that were improved by their windows: the same behaviour, no more gates, and, where it is settled, no
--- listed window with a shorter chain but for those that are named.
+-- Improved netlists: the same behaviour, no more gates, and, where the net is settled, no listed window with
+-- a shorter chain but for those that are named.
 use Rattle.std.specs.Prelude.{◌≡◌, ℕ, ◌≤◌, Bool, true, List, length, Ok, Some}
 use Rattle.op_basis.specs.Basis.{members}
 use Rattle.net_theory.specs.Behaviour.{Same}
@@ -17,15 +17,15 @@ use Rattle.sweep_core.specs.Undecided.{Undecided}
 use Rattle.window_trial.specs.Improvement.{Leaves}
 use Rattle.improve_windows.specs.Report.{report_text}
 
--- Gates may have each operator of the basis in the format.
+-- Gates in this format may have each operator of the basis.
 abbrev pub FitsFormat : Format → ImproveSettings → Type 0
 FitsFormat f s = (op : ℕ) → members s.basis op ≡ true → f.operators op ≡ true
 
 -- ---- circuits
 
--- k stands in the place of c. It is proper, has the model of c and does what c does, and its net is what the
--- settings leave of that of c. The numbers are the gates of c and what k costs where it is written in the format,
--- and the second is no more than the first.
+-- k is c improved. It is proper, has the model of c, is equivalent to c, and its net is that of c improved by
+-- the settings. The numbers are the gates of c and the cost of k as a text of the format, and the second is
+-- no more than the first.
 pub record IsBetter (f : Format) (s : ImproveSettings) (c k : Circuit) (before after : ℕ) (settled : Bool) (undecided : List Undecided) : Type 0 where
   pub proper : IsProper k
   pub model : c.model ≡ k.model
@@ -37,10 +37,11 @@ pub record IsBetter (f : Format) (s : ImproveSettings) (c k : Circuit) (before a
 
 -- ---- texts
 
--- The bytes list a well-formed document, and the text is that of a proper circuit with its model, which does
--- what the document does. The net of that circuit is what the settings leave of the document's net. The text lists
--- a well-formed document again, which does what the first one does: the outputs and the next states are the same
--- under every assignment. The numbers are what the two documents cost, and the second is no more than the first.
+-- The bytes list a well-formed document. The text is that of a proper circuit with its model, which is
+-- equivalent to the document, and whose net is the document's net improved by the settings. The text lists a
+-- well-formed document again, which is equivalent to the first one: the outputs and the next states are the
+-- same under every assignment. The numbers are the costs of the two documents, and the second is no more than
+-- the first.
 pub record IsImproved (f : Format) (s : ImproveSettings) (bytes text : List ℕ) (circuit : Circuit) (before after : ℕ) (settled : Bool) (undecided : List Undecided) : Type 0 where
   pub read : Listed
   pub said : f.listed bytes ≡ Ok read
@@ -60,7 +61,7 @@ pub record IsImproved (f : Format) (s : ImproveSettings) (bytes text : List ℕ)
   pub after_is : after ≡ cost again.document
   pub fewer : after ≤ before
 
--- with its report, which names the windows by the gates of the circuit whose text was written
+-- with its report, which names the windows by the gates of the circuit that was written
 pub record IsReported (f : Format) (s : ImproveSettings) (bytes text report : List ℕ) : Type 0 where
   pub circuit : Circuit
   pub before : ℕ

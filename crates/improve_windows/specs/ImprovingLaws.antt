@@ -1,4 +1,4 @@
--- What is improved does the same, is no larger, and is read back.
+-- An improved circuit is equivalent, is no larger, and its text is read back.
 use Rattle.std.specs.Prelude.{◌≡◌, ℕ, ◌≤◌, Bool, List, length, All, Result, Ok, Err, IfErr, refl}
 use Rattle.std.specs.Result.{IsErrAnd}
 use Rattle.std.proofs.Common.{arith, sym, ◌∙◌, ap, subst, inl, inr, ⊎_elim}
@@ -90,13 +90,14 @@ can_operate f s n m fits within = record {
   each = λ j h at. ⊎_elim (λ is. inl (fits h.op is)) (λ has. inr has) (within.each j h at);
 }
 
--- What is left of a text's circuit can be written in its format, where gates may have the operators of the basis.
+-- An improved circuit of a text can be written in its format, where gates may have the operators of the
+-- basis.
 pub writable : (f : Format) (Can : Circuit → Type 0) (s : ImproveSettings) (bytes : List ℕ) (c k : Circuit) (settled : Bool) (named : List Undecided) → IsFormat f Can → IsCircuitOfText f bytes c → FitsFormat f s → k ≡ record c { net = k.net } → Leaves s c.net k.net settled named → HasRoom k → Can k
 writable f Can s bytes c k settled named format is fits same left room =
     let before : HasRoom c = subst HasRoom same room in
     subst Can (sym same) (format.exchanged c k.net (format.kept bytes c is before) left.pruned.answers (can_operate f s c.net k.net fits left.operators))
 
--- What costs the same in another format is better there too.
+-- If another format has the same costs, the circuit is improved there too.
 pub better_there : (f g : Format) (s : ImproveSettings) (c k : Circuit) (before after : ℕ) (settled : Bool) (named : List Undecided) → cost (g.written k) ≡ cost (f.written k) → IsBetter f s c k before after settled named → IsBetter g s c k before after settled named
 better_there f g s c k before after settled named same better = record {
   proper = better.proper;
@@ -125,7 +126,7 @@ pub blif_improved : (s : ImproveSettings) (bytes text report : List ℕ) (c k : 
 blif_improved s bytes text report c k before after settled named format is better room spelled told =
     reported blif_format CanWrite s bytes text report c k before after settled named format is better (better.proper, room) spelled told
 
--- what is left of a text's circuit is one that BENCH can say
+-- an improved circuit of a text is one that BENCH can express
 pub bench_fits : (s : ImproveSettings) (bytes : List ℕ) (c k : Circuit) (before after : ℕ) (settled : Bool) (named : List Undecided) → IsFormat bench_format bench.CanWrite → FitsFormat bench_format s → IsCircuitOfText bench_format bytes c → k ≡ record c { net = k.net } → IsBetter blif_format s c k before after settled named → HasRoom k → IsBenchCircuit k
 bench_fits s bytes c k before after settled named format fits is same better room = (writable bench_format bench.CanWrite s bytes c k settled named format is fits same better.left room).writable.fits
 
@@ -137,7 +138,7 @@ bench_improved s bytes text report c k before after settled named format same_co
 pub text_proper : (f : Format) (bytes : List ℕ) (c : Circuit) → IsCircuitOfText f bytes c → IsProper c
 text_proper f bytes c is = is.circuit.proper
 
--- an error that is handed on
+-- an error that is passed on
 pub err_complete : {A : Type 0} (f : Format) (bytes : List ℕ) (r : Result A NetError) (e : NetError) → IsErrAnd r (λ d. d ≡ e) → (IsNetlist f bytes → e ≡ Memory) → IfErr r (λ d. IsNetlist f bytes → d ≡ Memory)
 err_complete f bytes (Ok x) e is complete = absurd is
 err_complete f bytes (Err d) e is complete = λ netlist. is ∙ complete netlist

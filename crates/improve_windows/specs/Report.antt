@@ -1,4 +1,4 @@
--- The report of an improvement, as it is written.
+-- The text of the report.
 use Rattle.std.specs.Prelude.{ℕ, ◌+◌, ◌-◌, Bool, true, false, List, [], ◌∷◌, ◌++◌, slice_get, Option, None, Some, codes, decimal}
 use Rattle.std.specs.List.{flat_map}
 use Rattle.net_theory.specs.Document.{Name}
@@ -9,7 +9,7 @@ abbrev pub or_nothing : Option Name → Name
 or_nothing None = []
 or_nothing (Some name) = name
 
--- The name of the gate at a place, by the names of a net's gates and the number of its sources.
+-- The name of a gate, by the names of a net's gates and the number of its sources.
 unfoldable pub name_at : List Name → ℕ → ℕ → Name
 name_at names sources place = or_nothing (slice_get names (place - (sources + 1)))
 
@@ -18,7 +18,7 @@ unfoldable pub partner_text : List Name → ℕ → Option ℕ → List ℕ
 partner_text names sources None = []
 partner_text names sources (Some partner) = 32 ∷ name_at names sources partner
 
--- The line of a window that was left undecided, and after it the certificate of its search.
+-- The line of a window that stayed undecided, and then the certificate of its search.
 -- Example: `undecided y 4`, or `undecided y g1 4` where the gate g1 is its partner.
 unfoldable pub window_text : List Name → ℕ → Undecided → List ℕ
 window_text names sources u =
@@ -28,7 +28,7 @@ unfoldable pub last_line : Bool → List ℕ
 last_line true = codes "settled\n"
 last_line false = codes "stopped\n"
 
--- what the netlist cost and costs now
+-- the cost of the netlist before and after
 unfoldable pub first_line : ℕ → ℕ → List ℕ
 first_line before after = codes "gates " ++ decimal before ++ codes " -> " ++ decimal after ++ codes "\n"
 

@@ -1,4 +1,4 @@
--- What is appended piece by piece, and one window more in the report.
+-- Texts that are appended piece by piece, and one more window in the report.
 use Rattle.std.specs.Prelude.{◌≡◌, ℕ, suc, List, ◌∷◌, ◌++◌, All}
 use Rattle.std.specs.List.{flat_map}
 use Rattle.std.proofs.Common.{arith, subst}
@@ -6,7 +6,7 @@ use Rattle.std.proofs.lemmas.Grind.{common_steps}
 use Rattle.cert_theory.specs.Bundle.{IsValid, HasOutput}
 use Rattle.sweep_core.specs.Undecided.{Undecided}
 
--- its certificate is valid, and has an output, so that it can be written
+-- the certificate is valid and has an output, so it can be written
 pub record CanBeWritten (u : Undecided) : Type 0 where
   pub valid : IsValid u.search
   pub output : HasOutput u.search

@@ -1,4 +1,4 @@
-//! A circuit improved: its net, and what it costs where it is written.
+//! An improved circuit: its net, and what it costs as a text.
 ghost use Rattle.std.specs.Prelude.{◌≡◌, All, IfOk};
 ghost use Rattle.net_theory.specs.Circuit.{IsProper};
 ghost use Rattle.net_theory.specs.Cost.{cost};
@@ -17,28 +17,28 @@ use sat_solve::Solver;
 use std::alloc::{AllocError, Global};
 use window_trial::{ImproveSettings, ImprovedNet, Undecided, improve_net};
 
-/// A circuit that was improved.
+/// An improved circuit.
 #[derive(Drop)]
 pub struct Improved {
     pub circuit: Circuit,
     /// How many gates it had.
     pub before: u32,
-    /// What it costs where it is written.
+    /// What it costs as a text.
     pub after: u32,
     /// Whether no window up to the cap has a shorter chain, but for those that are undecided.
     pub settled: bool,
-    /// The windows that a search left undecided, in the order of their visits; none where it isn't settled.
+    /// The windows that stayed undecided, in the order of candidates. Empty where `settled` is false.
     pub undecided: Vec<Undecided>,
 }
 
-/// A circuit that was improved, and the document as which BLIF writes it.
+/// An improved circuit, and the document that BLIF writes for it.
 #[derive(Drop)]
 pub(crate) struct Written {
     pub(crate) improved: Improved,
     pub(crate) document: Document,
 }
 
-/// A circuit with what is left of its net.
+/// A circuit with its improved net.
 #[derive(Drop)]
 struct Left {
     circuit: Circuit,
@@ -46,7 +46,7 @@ struct Left {
     undecided: Vec<Undecided>,
 }
 
-/// What the settings leave of a circuit.
+/// Improves the net of a circuit.
 fn left_of<S: Solver>(
     alloc: Global,
     circuit: Circuit,
@@ -84,7 +84,7 @@ fn left_of<S: Solver>(
     })
 }
 
-/// A circuit improved, and the document as which BLIF writes it.
+/// An improved circuit, and the document that BLIF writes for it.
 #[tactic(auto, using(crate::specs::ImprovingLaws::improving))]
 pub(crate) fn improve_written<S: Solver>(
     alloc: Global,
@@ -117,9 +117,8 @@ pub(crate) fn improve_written<S: Solver>(
     Ok(Written { improved, document })
 }
 
-/// Improves a circuit: drops its dead gates, makes it smaller by moves over the whole net and by walks, and then puts
-/// shorter chains in the place of windows, until no window up to the cap has one, or `settings.rounds` rounds have changed
-/// something.
+/// Improves a circuit: cleanup, moves over the whole net and walks over convex windows, and then resynthesis,
+/// until no window up to the cap has a shorter chain, or `settings.rounds` rounds have changed something.
 pub fn improve_circuit<S: Solver>(
     alloc: Global,
     circuit: Circuit,

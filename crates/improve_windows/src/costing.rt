@@ -1,4 +1,4 @@
-//! What a circuit costs where it is written. It is BLIF's cost; BENCH's is the same (`bench_laws`).
+//! The cost of a circuit as a text. It is computed for BLIF; BENCH's is the same (`bench_laws`).
 ghost use Rattle.std.specs.Prelude.{◌≡◌, ◌≤◌, ◌<◌, ◌^◌, length, All, IfOk};
 ghost use Rattle.net_theory.specs.WellFormed.{IsTable};
 ghost use Rattle.net_theory.specs.Circuit.{IsProper};
@@ -12,14 +12,14 @@ use net_build::total_cost;
 use net_document::Document;
 use std::alloc::{AllocError, Global};
 
-/// The document as which BLIF writes a circuit, and what it costs.
+/// The document that BLIF writes for a circuit, and its cost.
 #[derive(Drop)]
 pub(crate) struct CostedDocument {
     pub(crate) document: Document,
     pub(crate) cost: u32,
 }
 
-/// What a document costs.
+/// The cost of a document.
 #[tactic(auto, unfolding(net_theory::specs::Cost::cost))]
 fn document_cost(alloc: Global, document: &Document) -> Result<u32, AllocError>
     requires tables { All IsTable document.now.tables }
@@ -29,7 +29,7 @@ fn document_cost(alloc: Global, document: &Document) -> Result<u32, AllocError>
     total_cost(alloc, &document.tables)
 }
 
-/// The document as which BLIF writes a circuit, and what it costs.
+/// The document that BLIF writes for a circuit, and its cost.
 #[tactic(auto, using(crate::specs::CostLaws::costing))]
 pub(crate) fn costed(alloc: Global, circuit: &Circuit) -> Result<CostedDocument, AllocError>
     requires { IsProper circuit.now }

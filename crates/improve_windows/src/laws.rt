@@ -1,4 +1,4 @@
-//! What an improved text comes to, as contracts of functions that do nothing.
+//! Laws about improved texts, as contracts of functions that do nothing.
 ghost use Rattle.std.specs.Prelude.{◌≡◌, ℕ, ◌≤◌, Bool, true, List, [], ◌++◌};
 ghost use Rattle.net_theory.specs.Net.{Net};
 ghost use Rattle.net_document.specs.Format.{Format, IsNetlist};
@@ -9,14 +9,15 @@ ghost use Rattle.window_trial.specs.Improvement.{Leaves};
 ghost use Rattle.improve_windows.specs.Report.{first_line, last_line};
 ghost use Rattle.improve_windows.specs.Improving.{IsReported};
 
-/// Netlists alone are improved, and what is left of one is a netlist again.
+/// Only netlists are improved, and the result is a netlist again.
 pub fn improved_texts_are_netlists()
     ensures read { (f : Format) (s : ImproveSettings) (bytes text report : List ℕ) → IsReported f s bytes text report → IsNetlist f bytes }
     ensures written { (f : Format) (s : ImproveSettings) (bytes text report : List ℕ) → IsReported f s bytes text report → IsNetlist f text }
 {}
 
-/// With a cap of at most 5 no window is left undecided, whatever the budget: where it is settled, no listed window up to the
-/// cap has a shorter chain for what is asked of it, and the report has two lines and nothing more.
+/// With a cap of at most 5 no window stays undecided, whatever the conflict limit: where the net is settled,
+/// no listed window up to the cap has a shorter chain for its local specification, and the report has just
+/// two lines.
 pub fn small_windows_are_decided()
     ensures none_named { (s : ImproveSettings) (n m : Net) (settled : Bool) (undecided : List Undecided) → s.cap ≤ 5 → Leaves s n m settled undecided → undecided ≡ [] }
     ensures settled { (s : ImproveSettings) (n m : Net) (undecided : List Undecided) → s.cap ≤ 5 → Leaves s n m true undecided → IsSettled s m [] }

@@ -1,13 +1,13 @@
-//! Netlists improved by their windows: circuits by themselves, and texts, BLIF and BENCH. It stands on `window_trial`
-//! for nets, on `blif_core` and `bench_core` for reading and writing, on `blif_laws` and `bench_laws` for what a text
-//! means that was written, and on `bundle_text` for the certificates of a report. Searches are those of any solver.
+//! Improvement of netlists: of circuits, and of BLIF and BENCH texts. It stands on `window_trial` for nets,
+//! on `blif_core` and `bench_core` for reading and writing, on `blif_laws` and `bench_laws` for the meaning
+//! of written texts, and on `bundle_text` for the certificates of a report. Any solver can make the searches.
 //!
-//! The one theorem is that of `improve_blif` and `improve_bench`: the text that it answers is a well-formed netlist with
-//! the same outputs and next states under every assignment and no more gates; each gate is read by some sink, and has an
-//! operator of the basis or of the netlist that was read; and where the report ends in `settled`, no window up to the cap has
-//! a shorter chain over the basis, but for those that the report names, each with a valid certificate that leaves it
-//! open. It refuses exactly what isn't a well-formed netlist. Netlists alone are improved, and to netlists
-//! (`laws::improved_texts_are_netlists`).
+//! What is proved of `improve_blif` and `improve_bench`: the text that they return is a well-formed netlist
+//! with the same outputs and next states under every assignment and no more gates; each gate is in the
+//! transitive fanin of a sink, and has an operator of the basis or of the given netlist; and where the report
+//! ends in `settled`, no window up to the cap has a shorter chain over the basis, but for those that the
+//! report names, each with a valid certificate that leaves it open. They refuse exactly what isn't a
+//! well-formed netlist. Only netlists are improved, and to netlists (`laws::improved_texts_are_netlists`).
 //!
 //! ```text
 //! let improved = improve_blif::<S>(alloc, bytes, ImproveSettings::usual())?;

@@ -1,5 +1,5 @@
-//! The report: what a netlist cost and costs, the windows that stay undecided with their certificates, and whether
-//! all others were decided.
+//! The report: the cost of a netlist before and after, the windows that stayed undecided with their
+//! certificates, and whether all others were decided.
 ghost use Rattle.std.specs.Prelude.{◌≡◌, ◌++◌, IfOk, OnOk, All};
 ghost use Rattle.std.specs.List.{flat_map};
 ghost use Rattle.improve_windows.specs.Report.{name_at, partner_text, window_text, first_line, last_line, report_text};
@@ -11,7 +11,7 @@ use std::alloc::{AllocError, Global};
 use text_core::push_number;
 use window_trial::Undecided;
 
-/// Appends the name of the gate at a place.
+/// Appends the name of a gate.
 #[tactic(auto, unfolding(crate::specs::Report::name_at))]
 fn push_name(
     report: &mut Vec<u8>,

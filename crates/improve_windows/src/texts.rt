@@ -1,4 +1,4 @@
-//! Texts improved, in each format: what they share is the circuit's improvement and its report.
+//! Improvement of texts, in each format; the improvement of the circuit and the report are shared.
 ghost use Rattle.std.specs.Prelude.{◌≡◌, ◌<◌, ◌^◌, length, All, IfOk, IfErr};
 ghost use Rattle.net_theory.specs.Circuit.{IsProper};
 ghost use Rattle.net_theory.specs.Naming.{gate_names as gate_names_of};
@@ -27,14 +27,14 @@ use sat_solve::Solver;
 use std::alloc::{AllocError, Global};
 use window_trial::ImproveSettings;
 
-/// A netlist as it is written, and the report.
+/// The text of the improved netlist, and the report.
 #[derive(Drop)]
 pub struct ImprovedText {
     pub text: Vec<u8>,
     pub report: Vec<u8>,
 }
 
-/// The report of a circuit that was improved.
+/// The report of an improved circuit.
 fn told(alloc: Global, improved: &Improved) -> Result<Vec<u8>, AllocError>
     requires proper { IsProper improved.now.circuit }
     requires undecided { All CanBeWritten improved.now.undecided.items }
@@ -65,7 +65,7 @@ fn text_of(alloc: Global, document: &Document) -> Result<Vec<u8>, AllocError>
     Ok(text)
 }
 
-/// The BENCH text of a circuit that BENCH can say, by the document as which BLIF would write it.
+/// The BENCH text of a circuit that BENCH can express, by the document that BLIF would write for it.
 fn gates_of(alloc: Global, circuit: &Circuit, document: &Document) -> Result<Vec<u8>, AllocError>
     requires fits { IsBenchCircuit circuit.now }
     requires document { document.now ≡ written circuit.now }
@@ -76,12 +76,13 @@ fn gates_of(alloc: Global, circuit: &Circuit, document: &Document) -> Result<Vec
     Ok(text)
 }
 
-/// Improves a BLIF netlist by the settings, writes the netlist that is left, and reports what it cost and costs
-/// now, the windows that stay undecided with their certificates, and whether all others are settled.
+/// Improves a BLIF netlist by the settings. Returns the text of the improved netlist, and a report of its
+/// cost before and after, of the windows that stayed undecided with their certificates, and of whether all
+/// others are settled.
 ///
-/// Lines are judged in their order, and the first fault is reported; then a control that a table drives,
-/// more than 100,000 gates, a name that is driven twice, one that is used and not driven, and a table
-/// that depends on itself. A well-formed netlist is refused for want of memory alone.
+/// Lines are judged in order, and the first fault is reported; then a control that a table drives, more than
+/// 100,000 gates, a name that is driven twice, one that is used and not driven, and a table that depends on
+/// itself. A well-formed netlist is refused only where memory runs out.
 #[tactic(auto, using(crate::specs::ImprovingLaws::improving))]
 pub fn improve_blif<S: Solver>(
     alloc: Global,
@@ -102,12 +103,12 @@ pub fn improve_blif<S: Solver>(
     Ok(ImprovedText { text, report })
 }
 
-/// Improves a BENCH netlist as `improve_blif` does a BLIF netlist, by a basis of operators that gates may have in
-/// BENCH.
+/// Improves a BENCH netlist as `improve_blif` does a BLIF netlist. Each operator of the basis must be one
+/// that gates may have in BENCH.
 ///
-/// Lines are judged in their order, and the first fault is reported; then more than 100,000 gates, a name that is
+/// Lines are judged in order, and the first fault is reported; then more than 100,000 gates, a name that is
 /// driven twice, one that is used and not driven, and a gate that depends on itself. A well-formed netlist is
-/// refused for want of memory alone.
+/// refused only where memory runs out.
 #[tactic(auto, using(crate::specs::ImprovingLaws::improving))]
 pub fn improve_bench<S: Solver>(
     alloc: Global,

@@ -1,4 +1,5 @@
--- Under which assignments of a surround's leaves it is seen what bits are put in the place of a window's outputs.
+-- The assignments of a fanin cone's leaves under which the fanout cone's outputs depend on the bits that the
+-- window's outputs are forced to.
 use Rattle.std.specs.Prelude.{◌≡◌, ℕ, ◌+◌, ◌*◌, ◌≤◌, ◌<◌, ◌^◌, Bool, true, false, List, ◌++◌, length, slice_get, slice_index_or, Some, ◌⊎◌}
 use Rattle.chain_theory.specs.Operator.{digit}
 use Rattle.net_theory.specs.Net.{Net}
@@ -14,14 +15,14 @@ use Rattle.observe_core.specs.Putting.{IsPutCone}
 abbrev pub bit_in : List ℕ → ℕ → ℕ → Bool
 bit_in words j t = digit (slice_index_or words j 0) t
 
--- The first words grew by the bits in which two rows differ.
+-- The first `count` words were ORed with the bits in which two rows differ.
 pub record IsAdded (first second : List ℕ) (start count : ℕ) (old new : List ℕ) : Type 0 where
   pub size : length new ≡ length old
   pub later : (j : ℕ) → count ≤ j → slice_index_or new j 0 ≡ slice_index_or old j 0
   pub only : (j t : ℕ) → j < count → bit_in new j t ≡ true → (bit_in old j t ≡ true) ⊎ (bit_in first (start + j) t ≡ bit_in second (start + j) t → ⊥)
   pub none : (j t : ℕ) → j < count → bit_in new j t ≡ false → (bit_in old j t ≡ false) × (bit_in first (start + j) t ≡ bit_in second (start + j) t)
 
--- some watcher's rows differ in a bit
+-- the rows of some output of the fanout cone differ in a bit
 pub record RowsDiffer (first second : List ℕ) (start width : ℕ) (tail watchers : List ℕ) (j t : ℕ) : Type 0 where
   pub index : ℕ
   pub place : ℕ
@@ -29,7 +30,8 @@ pub record RowsDiffer (first second : List ℕ) (start width : ℕ) (tail watche
   pub watcher : among watchers place ≡ true
   pub differ : bit_in first ((start + index) * width + j) t ≡ bit_in second ((start + index) * width + j) t → ⊥
 
--- The words grew by the bits in which the rows of the watchers among the first gates of the tail differ.
+-- The words were ORed with the bits in which the rows of the fanout cone's outputs differ, for those among
+-- its first `count` gates.
 pub record AreAdded (first second : List ℕ) (start : ℕ) (tail watchers : List ℕ) (count : ℕ) (old new : List ℕ) : Type 0 where
   pub size : length new ≡ length old
   pub only : (j t : ℕ) → j < length old → bit_in new j t ≡ true → (bit_in old j t ≡ true) ⊎ RowsDiffer first second start (length old) tail watchers j t
@@ -37,11 +39,11 @@ pub record AreAdded (first second : List ℕ) (start : ℕ) (tail watchers : Lis
 
 -- ---- values
 
--- the values where the leaves and the outputs have bits
+-- the values where the leaves and the outputs have given bits
 abbrev pub put_bits : Net → List ℕ → List ℕ → (ℕ → Bool) → ℕ → Bool
 put_bits n leaves outputs = values_with n (among (leaves ++ outputs))
 
--- Under an assignment of the leaves some watcher has two values.
+-- Under an assignment of the leaves some output of the fanout cone has two values.
 pub record IsTold (n : Net) (leaves outputs watchers : List ℕ) (row : ℕ) : Type 0 where
   pub one : ℕ → Bool
   pub other : ℕ → Bool
@@ -51,18 +53,19 @@ pub record IsTold (n : Net) (leaves outputs watchers : List ℕ) (row : ℕ) : T
   pub watcher : among watchers place ≡ true
   pub differ : put_bits n leaves outputs one place ≡ put_bits n leaves outputs other place → ⊥
 
--- words of the cone of a tail with bits
+-- words of both cones, with the outputs forced to the bits
 pub record ArePutWords (n : Net) (outputs : List ℕ) (bits : ℕ) (surround : Cone) (tail : List ℕ) (words : Words) : Type 0 where
   pub cone : Cone
   pub is : IsPutCone n outputs bits surround tail cone
   pub are : AreWords cone words
 
--- The words name the assignments that distinguish the first numbers in the place of the outputs from 0.
+-- The bits of the words are the assignments that distinguish some value below `count` of the window's outputs
+-- from 0.
 pub record AreTold (n : Net) (outputs : List ℕ) (surround : Cone) (watchers : List ℕ) (count : ℕ) (differ : List ℕ) : Type 0 where
   pub only : (j t : ℕ) → j < length differ → t < 64 → 64 * j + t < 2 ^ length surround.leaves → bit_in differ j t ≡ true → IsTold n surround.leaves outputs watchers (64 * j + t)
   pub none : (j t b p : ℕ) (f g : ℕ → Bool) → j < length differ → t < 64 → 64 * j + t < 2 ^ length surround.leaves → bit_in differ j t ≡ false → b < count → HasRow f surround.leaves (64 * j + t) → HasRow g surround.leaves (64 * j + t) → HasRow f outputs 0 → HasRow g outputs b → among watchers p ≡ true → put_bits n surround.leaves outputs f p ≡ put_bits n surround.leaves outputs g p
 
--- The words name just the assignments that distinguish two values of the outputs.
+-- The bits of the words are exactly the assignments that distinguish two values of the window's outputs.
 pub record AreTelling (n : Net) (leaves outputs watchers : List ℕ) (differ : List ℕ) : Type 0 where
   pub only : (j t : ℕ) → j < length differ → t < 64 → 64 * j + t < 2 ^ length leaves → bit_in differ j t ≡ true → IsTold n leaves outputs watchers (64 * j + t)
   pub none : (j t p : ℕ) (f g : ℕ → Bool) → j < length differ → t < 64 → 64 * j + t < 2 ^ length leaves → bit_in differ j t ≡ false → HasRow f leaves (64 * j + t) → HasRow g leaves (64 * j + t) → among watchers p ≡ true → put_bits n leaves outputs f p ≡ put_bits n leaves outputs g p

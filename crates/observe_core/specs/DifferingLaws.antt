@@ -1,4 +1,4 @@
--- How the words are made that distinguish the values of the outputs.
+-- The words of the assignments that distinguish two values of the outputs.
 use Rattle.std.proofs.Common.{◌≡◌, ◌∙◌, ℕ, zero, suc, ◌+◌, ◌-◌, ◌*◌, ◌%◌, ◌^◌, ◌≤◌, ◌<◌, Bool, true, false, List, [], ◌∷◌, ◌++◌, length, set, get_or, Some, refl, ap, sym, subst, arith, inl, inr, ◌⊎◌, ⊎_elim, length-set, get_or-set_same, get_or-set_other, length-append, replicate, take, mul-le-mul_left}
 use Rattle.std.specs.Prelude.{slice_get, slice_index_or, bit_or, bit_xor, if◌then◌else◌}
 use Rattle.std.proofs.lemmas.Bool.{cases_lt, both_ways, cond-true, cond-false}
@@ -88,7 +88,7 @@ row_more first second start j old now new room is was =
 
 -- ---- all rows
 
--- and no number of a row is too great
+-- and no index of a row is too great
 pub row_fits : (start i count width size : ℕ) → 1 ≤ width → i < count → (start + count) * width ≤ size → size < 2 ^ 63 → start + i < 2 ^ 64
 row_fits start i count width size some low room small =
     let more : (start + count) * 1 ≤ (start + count) * width = mul-le-mul_left (start + count) some in
@@ -97,7 +97,7 @@ row_fits start i count width size some low room small =
 
 -- ---- values
 
--- the word of a gate of the tail
+-- the word of a gate of the fanout cone
 tail_bit : (n : Net) (outputs : List ℕ) (bits : ℕ) (s c : Cone) (tail : List ℕ) (w : Words) (width k p j t : ℕ) → IsPutCone n outputs bits s tail c → AreWords c w → width ≡ width_of (2 ^ length s.leaves) → slice_get tail k ≡ Some p → t < 64 → 64 * j + t < 2 ^ length s.leaves → bit_in w.lanes ((length (places s) + k) * width + j) t ≡ value_in c (64 * j + t) p
 tail_bit n outputs bits s c tail w width k p j t is are width_is at few low =
     let all : places c ≡ places s ++ tail = ap (λ (ls : List ℕ). ls ++ gate_places c.gates) is.leaves ∙ ap (λ (gs : List (ℕ × Gate)). s.leaves ++ gate_places gs) is.gates ∙ all_places s is.put tail is.put_are.places in
@@ -107,7 +107,7 @@ tail_bit n outputs bits s c tail w width k p j t is are width_is at few low =
     ap (λ (x : ℕ). bit_in w.lanes ((length (places s) + k) * x + j) t) (sym wide)
     ∙ are.values (length (places s) + k) p j t there few (subst (λ (r : ℕ). 64 * j + t < r) (sym rows) low)
 
--- the rows of the tail end with the words
+-- the rows of the fanout cone end with the words
 pub put_room : (n : Net) (outputs : List ℕ) (bits : ℕ) (s c : Cone) (tail : List ℕ) (w : Words) (width a b : ℕ) (lanes : List ℕ) → IsPutCone n outputs bits s tail c → AreWords c w → width ≡ width_of (2 ^ length s.leaves) → a ≡ length s.leaves → b ≡ length s.gates → lanes ≡ w.lanes → (a + b + length tail) * width ≤ length lanes
 put_room n outputs bits s c tail w width a b lanes is are width_is a_is b_is lanes_is =
     let all : places c ≡ places s ++ tail = ap (λ (ls : List ℕ). ls ++ gate_places c.gates) is.leaves ∙ ap (λ (gs : List (ℕ × Gate)). s.leaves ++ gate_places gs) is.gates ∙ all_places s is.put tail is.put_are.places in
@@ -147,7 +147,7 @@ some_bits leaves outputs row bits rising_l few_l rising_o few_o beside =
         let place : length ps - 1 - i ≡ length ps - (i + 1) = omega arith in
         cone_leaf (bare ps) r i (slice_index_or ps i 0) cone (slice_get-get_or ps i 0 low) ∙ ap (digit r) place
 
--- Words of a surround with gates that were put above it.
+-- The words of a fanin cone with the forced gates above it.
 pub put_words : (n : Net) (outputs : List ℕ) (bits : ℕ) (s : Cone) (tail : List ℕ) (put : List (ℕ × Gate)) (w : Words) → IsNet n → IsCone s → IsAbove n outputs s tail → ArePutGates n outputs bits tail put → AreWords (with_gates s put) w → ArePutWords n outputs bits s tail w
 put_words n outputs bits s tail put w net cone above gates are =
     record {
@@ -156,7 +156,7 @@ put_words n outputs bits s tail put w net cone above gates are =
       are = are;
     }
 
--- Adding a number that was put.
+-- One more value of the outputs.
 pub told_more : (n : Net) (outputs : List ℕ) (bits : ℕ) (s c : Cone) (tail watchers : List ℕ) (none w : Words) (start : ℕ) (old new : List ℕ) → IsNet n → IsAbove n outputs s tail → length outputs ≤ 12 → ArePutWords n outputs 0 s tail none → IsPutCone n outputs bits s tail c → AreWords c w → start ≡ length (places s) → length old ≡ width_of (2 ^ length s.leaves) → ((p : ℕ) → among watchers p ≡ true → among tail p ≡ true)
     → AreAdded none.lanes w.lanes start tail watchers (length tail) old new → AreTold n outputs s watchers bits old → AreTold n outputs s watchers (bits + 1) new
 told_more n outputs bits s c tail watchers none w start old new net above few first is are start_is size inside added was =
@@ -217,7 +217,7 @@ told_code n outputs bits s c tail watchers none w first second a b old new net a
     told_more n outputs bits s c tail watchers none w (a + b) old new net above (omega (arith, few)) words is are (omega (arith, places_count s, a_is, b_is)) size inside
     (subst (λ (xs : List ℕ). AreAdded xs w.lanes (a + b) tail watchers (length tail) old new) first_is (subst (λ (ys : List ℕ). AreAdded first ys (a + b) tail watchers (length tail) old new) second_is added)) was
 
--- Before any number but 0 is put nothing differs.
+-- Before any value but 0, nothing differs.
 pub told_start : (n : Net) (outputs : List ℕ) (s : Cone) (tail watchers : List ℕ) (none : Words) (differ : List ℕ) → IsNet n → IsAbove n outputs s tail → ArePutWords n outputs 0 s tail none → ((p : ℕ) → among watchers p ≡ true → among tail p ≡ true) → ((j : ℕ) → j < length differ → get_or differ j 0 ≡ 0) → AreTold n outputs s watchers 1 differ
 told_start n outputs s tail watchers none differ net above first inside empty =
     record {
@@ -228,7 +228,7 @@ told_start n outputs s tail watchers none differ net above first inside empty =
           ∙ put_values n outputs 0 s first.cone tail (64 * j + t) g p net above first.is g_row (subst (HasRow g outputs) same g_bits) (inside p watcher);
     }
 
--- In the end all numbers were put.
+-- In the end all values were simulated.
 pub told_end : (n : Net) (outputs : List ℕ) (s : Cone) (tail watchers : List ℕ) (differ : List ℕ) → IsAbove n outputs s tail → length outputs ≤ 12 → AreTold n outputs s watchers (2 ^ length outputs) differ → AreTelling n s.leaves outputs watchers differ
 told_end n outputs s tail watchers differ above few was =
     record {
@@ -242,7 +242,7 @@ told_end n outputs s tail watchers differ above few was =
           ∙ was.none j t g_bits.0 p z.0 g low few_t within off g_bits.1 z.1 g_row z.2 g_bits.2 watcher;
     }
 
--- ---- the code's numbers and lists
+-- ---- the code's indices and lists
 
 pub all_numbers : (k : ℕ) → k ≤ 8 → 1 * 2 ^ k % 4294967296 ≡ 2 ^ k
 all_numbers k few = one_shl k 32 (omega (arith, few))

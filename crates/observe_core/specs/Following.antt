@@ -1,4 +1,5 @@
--- The readers of a place, and the least follower of some gates, while they are looked for. 0 stands for none.
+-- The fanouts of a node, and the least follower of some gates, while they are searched for. 0 stands for
+-- none.
 use Rattle.std.specs.Prelude.{◌≡◌, ℕ, zero, suc, ◌+◌, ◌-◌, ◌≤◌, ◌<◌, true, false, List, ◌++◌, length, ◌⊎◌}
 use Rattle.net_theory.specs.Net.{Net, end_of}
 use Rattle.window_theory.specs.Places.{among, IsRising, AreJust}
@@ -6,23 +7,23 @@ use Rattle.window_theory.specs.Paths.{IsGate, Reads}
 use Rattle.window_core.specs.Readers.{IsLater}
 use Rattle.observe_theory.specs.Tail.{IsFollower, AreFollowing, AreTail}
 
--- the least gate outside some gates that reads a place, or 0 where there is none
+-- the least gate outside some gates that reads a node, or 0 where there is none
 pub record IsLeastReader (n : Net) (gates : List ℕ) (place r : ℕ) : Type 0 where
   pub found : (r ≡ 0) ⊎ (Reads n r place × (among gates r ≡ false))
   pub most : (x : ℕ) → Reads n x place → among gates x ≡ false → (1 ≤ r) × (r ≤ x)
 
--- So far the readers below a bound were looked at, all of them among the gates, and `next` is the first one at it or above.
+-- So far all fanouts below a bound are among the gates, and `next` is the first one at the bound or above.
 pub record IsWalking (n : Net) (gates : List ℕ) (place next : ℕ) : Type 0 where
   pub bound : ℕ
   pub later : IsLater n bound place next
   pub inside : (x : ℕ) → Reads n x place → x < bound → among gates x ≡ true
 
--- how far it is from a place to the end of a net; from 0, which is none, it is no way
+-- how far a node is from the end of a net; 0, which is none, is at distance 0
 unfoldable pub way_from : Net → ℕ → ℕ
 way_from n zero = 0
 way_from n (suc p) = end_of n - suc p
 
--- the lesser of two numbers of which each may be none
+-- the lesser of two numbers, where 0 stands for none
 pub record IsLesser (a b r : ℕ) : Type 0 where
   pub one : (r ≡ a) ⊎ (r ≡ b)
   pub first : 1 ≤ a → (1 ≤ r) × (r ≤ a)
@@ -33,17 +34,17 @@ pub record IsNextFollower (n : Net) (gates : List ℕ) (r : ℕ) : Type 0 where
   pub found : (r ≡ 0) ⊎ IsFollower n gates r
   pub most : (x : ℕ) → IsFollower n gates x → (1 ≤ r) × (r ≤ x)
 
--- The least follower is sought, and the readers of the gates left weren't looked at.
+-- `best` is the least follower as far as the gates `left` don't matter.
 pub record IsSought (n : Net) (gates left : List ℕ) (best : ℕ) : Type 0 where
   pub within : (q : ℕ) → among left q ≡ true → among gates q ≡ true
   pub found : (best ≡ 0) ⊎ IsFollower n gates best
   pub most : (x q : ℕ) → among gates q ≡ true → Reads n x q → among gates x ≡ false → ((1 ≤ best) × (best ≤ x)) ⊎ (among left q ≡ true)
 
--- two lists have the same places
+-- two lists have the same nodes
 abbrev pub HaveSame : List ℕ → List ℕ → Type 0
 HaveSame xs ys = (q : ℕ) → among xs q ≡ among ys q
 
--- `count` gates of the tail were taken; `all` has them and the window's gates.
+-- `count` gates of the fanout cone were taken; `all` has them and the window's gates.
 pub record IsTaking (n : Net) (gates : List ℕ) (count : ℕ) (all tail : List ℕ) : Type 0 where
   pub taken : List ℕ
   pub following : AreFollowing n gates taken
@@ -54,7 +55,7 @@ pub record IsTaking (n : Net) (gates : List ℕ) (count : ℕ) (all tail : List 
   pub few : length all ≤ length gates + count
   pub are : (q : ℕ) → among all q ≡ true → IsGate n q
 
--- The tail was taken.
+-- The fanout cone was taken.
 pub record HasTail (n : Net) (gates all tail : List ℕ) : Type 0 where
   pub is : AreTail n gates tail
   pub rising : IsRising all

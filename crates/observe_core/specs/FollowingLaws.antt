@@ -1,4 +1,4 @@
--- How readers and followers are found.
+-- How fanouts and followers are found.
 use Rattle.std.specs.Prelude.{◌≡◌, ℕ, zero, suc, ◌+◌, ◌-◌, ◌≤◌, ◌<◌, true, false, List, [], ◌∷◌, length, ◌⊎◌, refl}
 use Rattle.std.proofs.Common.{arith, sym, ◌∙◌, ap, subst, inl, inr, ⊎_elim}
 use Rattle.std.proofs.lemmas.Bool.{cases_lt, both_ways}
@@ -11,7 +11,7 @@ use Rattle.window_core.specs.Readers.{IsLater}
 use Rattle.observe_theory.specs.Tail.{IsFollower}
 use Rattle.observe_core.specs.Following.{IsLeastReader, IsWalking, way_from, IsLesser, IsNextFollower, IsSought}
 
--- ---- the least reader
+-- ---- the least fanout
 
 pub walk_start : (n : Net) (gates : List ℕ) (place next : ℕ) → IsLater n (n.sources + 1) place next → IsWalking n gates place next
 walk_start n gates place next first =
@@ -21,7 +21,7 @@ walk_start n gates place next first =
       inside = λ x reads below. absurd (omega (arith, below, (gate_high n x reads.reader).0));
     }
 
--- the next reader is a gate that reads the place
+-- the next fanout is a gate that reads the node
 pub walk_reads : (n : Net) (gates : List ℕ) (place next : ℕ) → (next ≡ 0 → ⊥) → IsWalking n gates place next → Reads n next place
 walk_reads n gates place next some walk = ⊎_elim (λ none. absurd (some none)) (λ r. r.0) walk.later.found
 
@@ -49,7 +49,7 @@ walk_end n gates place next ends walk =
           (cases_lt x walk.bound);
     }
 
--- the walk comes nearer to the end
+-- the search comes nearer to the end
 pub walk_rises : (n : Net) (gates : List ℕ) (place next after : ℕ) → (next ≡ 0 → ⊥) → IsLater n (next + 1) place after → IsWalking n gates place next → way_from n after < way_from n next
 unfolding way_from
 walk_rises n gates place zero after some later walk = absurd (some refl)

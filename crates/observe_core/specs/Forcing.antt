@@ -1,18 +1,18 @@
--- What is found of outputs that are forced.
+-- The definitions of `Differing.antt` for outputs that are forced.
 use Rattle.std.specs.Prelude.{ℕ, List}
 use Rattle.lane_sim.specs.Words.{Words}
 use Rattle.observe_core.specs.Putting.{IsAbove}
 use Rattle.observe_core.specs.Differing.{ArePutWords, AreTold}
 use Rattle.observe_core.specs.declared.forcing.Forced.{Forced}
 
--- the tail stands above the surround
+-- the fanout cone is above the fanin cone
 abbrev pub StandsAbove : Forced → Type 0
 StandsAbove f = IsAbove f.net.now f.outputs.now f.surround.now f.tail.now
 
--- the words of the tail's cone where the outputs have bits
+-- the words of both cones where the outputs have bits
 abbrev pub HaveBits : Forced → ℕ → Words → Type 0
 HaveBits f bits words = ArePutWords f.net.now f.outputs.now bits f.surround.now f.tail.now words
 
--- the words that name the assignments which distinguish the first numbers in the place of the outputs from 0
+-- the words of the assignments that distinguish some value below `count` of the outputs from 0
 abbrev pub Tell : Forced → ℕ → List ℕ → Type 0
 Tell f count differ = AreTold f.net.now f.outputs.now f.surround.now f.watchers.now count differ

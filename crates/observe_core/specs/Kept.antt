@@ -1,10 +1,10 @@
--- Places of a rising list that are kept.
+-- Filtered ascending lists of nodes.
 use Rattle.std.specs.Prelude.{◌≡◌, ℕ, ◌<◌, true, List, ◌⊎◌}
 use Rattle.net_theory.specs.Net.{Net}
 use Rattle.window_theory.specs.Places.{among, IsRising}
 use Rattle.window_theory.specs.Window.{IsReadBy}
 
--- Of the places those that are P were kept, as far as they aren't left.
+-- The nodes with the property P were kept; those of `left` weren't looked at yet.
 pub record AreKept (P : ℕ → Type 0) (places left kept : List ℕ) : Type 0 where
   pub left_rising : IsRising left
   pub within : (p : ℕ) → among left p ≡ true → among places p ≡ true
@@ -13,22 +13,22 @@ pub record AreKept (P : ℕ → Type 0) (places left kept : List ℕ) : Type 0 w
   pub only : (p : ℕ) → among kept p ≡ true → (among places p ≡ true) × P p
   pub all : (p : ℕ) → among places p ≡ true → P p → (among kept p ≡ true) ⊎ (among left p ≡ true)
 
--- those places of a list that are P
+-- the nodes of a list with the property P
 abbrev pub IsBoth : (ℕ → Type 0) → List ℕ → ℕ → Type 0
 IsBoth P places p = (among places p ≡ true) × P p
 
--- some place is on both lists
+-- some node is on both lists
 pub record HasSome (gates places : List ℕ) : Type 0 where
   pub place : ℕ
   pub inside : among gates place ≡ true
   pub there : among places place ≡ true
 
--- Where one of the gates reads a place, one of those that are left does.
+-- Where one of the gates reads the node, one of the gates `left` does.
 pub record IsReadLeft (n : Net) (gates left : List ℕ) (place : ℕ) : Type 0 where
   pub within : (p : ℕ) → among left p ≡ true → among gates p ≡ true
   pub all : IsReadBy n gates place → IsReadBy n left place
 
--- Where some place is one of the gates, one of those that are left is.
+-- Where the lists have a node in common, one of the nodes `left` is.
 pub record IsSomeLeft (gates places left : List ℕ) : Type 0 where
   pub within : (p : ℕ) → among left p ≡ true → among places p ≡ true
   pub all : HasSome gates places → HasSome gates left

@@ -1,4 +1,4 @@
--- Places are kept one after the other.
+-- Lists are filtered node by node.
 use Rattle.std.specs.Prelude.{◌≡◌, ℕ, ◌<◌, true, false, List, [], ◌∷◌, ◌++◌, ◌⊎◌}
 use Rattle.std.proofs.Common.{arith, sym, ◌∙◌, ap, subst, inl, inr, ⊎_elim}
 use Rattle.std.proofs.lemmas.Bool.{eqb-true}
@@ -69,7 +69,7 @@ kept_off P places left x rest kept parts none was =
           (was.all p there own);
     }
 
--- ---- walks that look for one
+-- ---- searches for one node
 
 place_is : (p : ℕ) (s : Sig) → is_place p s ≡ true → s ≡ sigs.Place p
 place_is p sigs.Zero e = absurd (let f : false ≡ true = e in cc)

@@ -1,4 +1,4 @@
--- Tables of which some rows are left.
+-- Specifications of which some rows become free.
 use Rattle.std.specs.Prelude.{◌≡◌, ℕ, zero, suc, ◌-◌, ◌≤◌, ◌<◌, ◌^◌, ◌==◌, Bool, true, false, ◌&&◌, if◌then◌else◌, List, [], ◌∷◌, length, map, slice_index, bit_and, refl}
 use Rattle.std.proofs.Common.{arith, sym, ◌∙◌, ap, subst, ⊎_elim}
 use Rattle.std.proofs.lemmas.Bool.{cases_Bool, and_parts, cond-false}

@@ -1,4 +1,4 @@
--- Rows as the digits of masks.
+-- Sets of rows as the bits of masks.
 use Rattle.std.specs.Prelude.{◌≡◌, ℕ, ◌≤◌, ◌<◌, ◌^◌, List, true, false, ◌&&◌, length, slice_index, ◌⊎◌}
 use Rattle.chain_theory.specs.Chain.{Chain, IsChain}
 use Rattle.chain_theory.specs.Agreement.{Agrees}
@@ -15,11 +15,11 @@ use Rattle.observe_theory.specs.Tail.{Tail}
 use Rattle.observe_theory.specs.Unseen.{IsFirst, IsUnseen}
 use Rattle.observe_theory.specs.Observed.{IsObservedOf}
 
--- a place of one of two lists
+-- a node of one of two lists
 abbrev pub IsEither : List ℕ → List ℕ → ℕ → Type 0
 IsEither one other p = (among one p ≡ true) ⊎ (among other p ≡ true)
 
--- Of two lists the places were put into one, as far as those of the second aren't left.
+-- The nodes of two lists were put into one; those of `left` of the second list remain.
 pub record ArePutTogether (one other left both : List ℕ) : Type 0 where
   pub within : (p : ℕ) → among left p ≡ true → among other p ≡ true
   pub rising : IsRising both
@@ -27,7 +27,7 @@ pub record ArePutTogether (one other left both : List ℕ) : Type 0 where
   pub first : (p : ℕ) → among one p ≡ true → among both p ≡ true
   pub second : (p : ℕ) → among other p ≡ true → IsEither both left p
 
--- The observing surround as a cone of the net.
+-- The observing fanin cone as a cone of the net.
 pub record IsObservingCone (n : Net) (w : Window) (t : Tail) (c : Cone) : Type 0 where
   pub first : List ℕ
   pub just : AreJust (IsFirst w t) first
@@ -37,19 +37,19 @@ pub record IsObservingCone (n : Net) (w : Window) (t : Tail) (c : Cone) : Type 0
   pub covered : AreCovered c.leaves c.gates first
   pub behind : (p : ℕ) → among (gate_places c.gates) p ≡ true → IsBehind n first p
 
--- The digits of a mask are 0 at just the unseen rows.
+-- The bits of a mask are 0 at exactly the unobservable rows.
 pub record IsSeenMask (n : Net) (w : Window) (t : Tail) (mask : ℕ) : Type 0 where
   pub seen : (row : ℕ) → row < 2 ^ length w.inputs → digit mask row ≡ true → IsUnseen n w t row → ⊥
   pub unseen : (row : ℕ) → row < 2 ^ length w.inputs → digit mask row ≡ false → IsUnseen n w t row
 
--- The tables of a specification, of which only the rows of a mask are left.
+-- The tables of a specification, with all rows free but those of a mask.
 pub record IsMasked (mask : ℕ) (old new : Words) : Type 0 where
   pub inputs : new.n ≡ old.n
   pub outputs : length new.on ≡ length old.on
   pub on : (i t : ℕ) → digit (slice_index new.on i) t ≡ (digit (slice_index old.on i) t && digit mask t)
   pub care : (i t : ℕ) → digit (slice_index new.care i) t ≡ (digit (slice_index old.care i) t && digit mask t)
 
--- The chain agrees with what those who see the window ask of it.
+-- The chain implements the observed specification of the window.
 pub record MeetsSeen (n : Net) (w : Window) (c : Chain) : Type 0 where
   pub chain : IsChain c
   pub specification : Specification

@@ -1,4 +1,4 @@
--- Which rows are seen.
+-- Which rows are observable.
 use Rattle.std.specs.Prelude.{◌≡◌, ℕ, ◌+◌, ◌*◌, ◌/◌, ◌%◌, ◌≤◌, ◌<◌, ◌^◌, ◌==◌, Bool, true, false, List, [], ◌∷◌, ◌++◌, length, map, slice_index_or}
 use Rattle.std.proofs.Common.{arith, sym, ◌∙◌, ap, subst, inl, inr, ⊎_elim}
 use Rattle.std.proofs.Math.Pow.{pow_mono}
@@ -36,7 +36,7 @@ use Rattle.observe_core.specs.Putting.{IsAbove}
 use Rattle.observe_core.specs.Differing.{bit_in, IsTold, AreTelling}
 use Rattle.observe_core.specs.Observing.{IsEither, ArePutTogether, IsObservingCone, IsSeenMask}
 
--- ---- the tail depends on the window
+-- ---- the fanout cone depends on the window
 
 taken_gate : (n : Net) (gates taken : List ℕ) (p : ℕ) → AreFollowing n gates taken → among taken p ≡ true → IsGate n p
 unfolding AreFollowing
@@ -50,7 +50,7 @@ taken_gate n gates (q ∷ before) p are on =
 pub tail_gate : (n : Net) (gates tail : List ℕ) (p : ℕ) → AreTail n gates tail → among tail p ≡ true → IsGate n p
 tail_gate n gates tail p are on = taken_gate n gates are.taken p are.following (are.just.only p on)
 
--- from some gate of the window a path leads to each gate of the tail
+-- from some gate of the window a path leads to each gate of the fanout cone
 taken_up : (n : Net) (gates taken : List ℕ) (p : ℕ) → AreFollowing n gates taken → among taken p ≡ true → (g : ℕ) × (among gates g ≡ true) × LeadsUp n g p
 unfolding AreFollowing
 taken_up n gates [] p are on = absurd (let e : false ≡ true = on in cc)
@@ -65,7 +65,7 @@ taken_up n gates (q ∷ before) p are on =
     (λ later. taken_up n gates before p are.1 later)
     (among_cases q p before on)
 
--- so no place that doesn't depend on the window is one of the tail
+-- so no node that doesn't depend on the window is a gate of the fanout cone
 apart_tail : (n : Net) (gates tail : List ℕ) (p : ℕ) → AreTail n gates tail → IsApart n gates p → among tail p ≡ true → ⊥
 apart_tail n gates tail p are apart on = let up = taken_up n gates are.taken p are.following (are.just.only p on) in apart.above up.0 up.1 up.2
 
@@ -116,7 +116,7 @@ together_end one other left both none are =
     none_left [] p e on = let x : false ≡ true = on in absurd cc
     none_left (x ∷ xs) p e on = absurd (omega arith)
 
--- all of them are places of the net
+-- all of them are nodes of the net
 pub first_within : (n : Net) (w : Window) (t : Tail) (p : ℕ) → IsNet n → Belongs n w → IsTail n w t → IsFirst w t p → p < end_of n
 first_within n w t p net is tail from =
     ⊎_elim
@@ -124,7 +124,7 @@ first_within n w t p net is tail from =
     (λ b. let side = tail.sides.only p b in read_within n side.read.reader p net side.read.reads)
     from
 
--- ---- the tail above the observing surround
+-- ---- the fanout cone above the observing fanin cone
 
 first_apart : (n : Net) (w : Window) (t : Tail) (p : ℕ) → IsNet n → Belongs n w → IsTail n w t → IsFirst w t p → IsApart n w.gates p
 first_apart n w t p net is tail from = ⊎_elim (λ a. is.apart p a) (λ b. side_apart n w t p net tail b) from
@@ -184,14 +184,14 @@ rows_agree leaves row f g q a b on =
 agree_rows : (leaves : List ℕ) (row : ℕ) (f g : ℕ → Bool) → HasRow f leaves row → ((q : ℕ) → among leaves q ≡ true → g q ≡ f q) → HasRow g leaves row
 agree_rows leaves row f g a same i low = same (slice_index_or leaves i 0) (among_at leaves i 0 low) ∙ a i low
 
--- the surround by itself gives the window's inputs the values that they have
+-- the fanin cone by itself gives the window's inputs the values that they have
 input_values : (n : Net) (w : Window) (t : Tail) (c : Cone) (row : ℕ) (f : ℕ → Bool) (i : ℕ) → IsNet n → IsCone c → IsObservingCone n w t c → HasRow f c.leaves row → i < length w.inputs → value_in c row (slice_index_or w.inputs i 0) ≡ values_with n (among c.leaves) f (slice_index_or w.inputs i 0)
 input_values n w t c row f i net is cone has low =
     let q : ℕ = slice_index_or w.inputs i 0 in
     let there : among (places c) q ≡ true = ⊎_elim (λ leaf. in_front c.leaves (gate_places c.gates) q leaf) (λ gate. in_back c.leaves (gate_places c.gates) q gate) (cone.covered q (cone.just.all q (inl (among_at w.inputs i 0 low)))) in
     part_values n (among c.leaves) f (among (places c)) (value_in c row) q net (cone_part n c row f net is cone.above (λ x leaf. leaf_value c row f x is has leaf)) there
 
--- an assignment by its word and its place in it
+-- an assignment by its word and its bit
 word_of : (row : ℕ) → 64 * (row / 64) + row % 64 ≡ row
 word_of row = omega arith
 
@@ -235,7 +235,7 @@ mask_is n w t c signals differ mask net is hidden cone signals_are size telling 
       };
     }
 
--- where no row is unseen the mask has all digits
+-- where no row is unobservable the mask has all bits
 all_ones : (k row : ℕ) → k ≤ 6 → row < 2 ^ k → digit 18446744073709551615 row ≡ true
 all_ones k row few low =
     let wide : 2 ^ k ≤ 2 ^ 6 = pow_mono few in
@@ -256,7 +256,7 @@ many_seen n w t first row just many unseen =
     let same : unseen.observing.first ≡ first = just_same (IsFirst w t) unseen.observing.first first unseen.observing.just just in
     omega (arith, ap (length {A = ℕ}) same, unseen.observing.few, many)
 
--- the observing surround by the code's own list of first leaves
+-- the observing fanin cone by the code's own list of first leaves
 pub observing_code : (n : Net) (w : Window) (t : Tail) (c : Cone) (first list : List ℕ) → list ≡ first → AreJust (IsFirst w t) first → length first ≤ 12 → LeadsTo n list c.leaves → AreAbove n c.leaves c.gates → AreCovered c.leaves c.gates list → ((p : ℕ) → among (gate_places c.gates) p ≡ true → IsBehind n list p) → IsObservingCone n w t c
 observing_code n w t c first list same just few leads above covered behind =
     record {

@@ -1,4 +1,4 @@
--- Bits that are put in the place of a window's outputs, and the cone of its tail with them.
+-- Constants for a window's outputs, and the cone of its fanout cone with them.
 use Rattle.std.specs.Prelude.{◌≡◌, ℕ, ◌==◌, true, false, if◌then◌else◌, List, [], ◌∷◌, ◌++◌, length, slice_get, Some, ◌⊎◌}
 use Rattle.chain_theory.specs.Operator.{digit}
 use Rattle.net_theory.specs.declared.data.Sig.{Sig}
@@ -11,8 +11,9 @@ use Rattle.window_theory.specs.Paths.{IsGate, Reads}
 use Rattle.window_core.specs.Gates.{IsGateOf}
 use Rattle.window_core.specs.Surrounding.{gate_places, AreAbove}
 
--- A signal, where the outputs have the digits of a number, the first of them the most significant.
--- Example: with the digits of 2 in the place of the outputs 3, 5 the place 3 is One, 5 is Zero, and 4 is itself.
+-- The signal of a node where the outputs have the bits of a number, the first output the most significant
+-- one.
+-- Example: with the bits of 2 for the outputs 3, 5, the node 3 is One, 5 is Zero, and 4 is itself.
 unfoldable pub put_place : List ℕ → ℕ → ℕ → Sig
 put_place [] bits p = sigs.Place p
 put_place (q ∷ outputs) bits p = if p == q then (if digit bits (length outputs) then sigs.One else sigs.Zero) else put_place outputs bits p
@@ -25,12 +26,12 @@ put_sig outputs bits (sigs.Place p) = put_place outputs bits p
 abbrev pub put_gate : List ℕ → ℕ → Gate → Gate
 put_gate outputs bits g = record { op = g.op; a = put_sig outputs bits g.a; b = put_sig outputs bits g.b }
 
--- These are the gates at some places, with what was put.
+-- These are the gates at some nodes, with their operands replaced.
 pub record ArePutGates (n : Net) (outputs : List ℕ) (bits : ℕ) (tail : List ℕ) (gates : List (ℕ × Gate)) : Type 0 where
   pub places : gate_places gates ≡ tail
   pub own : (i : ℕ) (x : ℕ × Gate) → slice_get gates i ≡ Some x → (g : Gate) × IsGateOf n x.0 g × (x.1 ≡ put_gate outputs bits g)
 
--- Some gates were put after others, but for those that are left.
+-- The gates were appended, but for those that are left.
 pub record HasPut (n : Net) (outputs : List ℕ) (bits : ℕ) (tail left : List ℕ) (old new : List (ℕ × Gate)) : Type 0 where
   pub done : List ℕ
   pub parts : done ++ left ≡ tail
@@ -38,8 +39,8 @@ pub record HasPut (n : Net) (outputs : List ℕ) (bits : ℕ) (tail left : List 
   pub new_is : new ≡ old ++ put
   pub put_are : ArePutGates n outputs bits done put
 
--- A tail stands above a surround, which is of the net: its gates rise, are none of the surround's places, and read the
--- outputs, places of the surround and each other. The outputs are beside both.
+-- The fanout cone is above a fanin cone of the net: its gates ascend, are no nodes of the fanin cone, and
+-- read the window's outputs, nodes of the fanin cone and each other. The outputs are in neither cone.
 pub record IsAbove (n : Net) (outputs : List ℕ) (surround : Cone) (tail : List ℕ) : Type 0 where
   pub own : AreAbove n surround.leaves surround.gates
   pub rising : IsRising tail
@@ -50,7 +51,7 @@ pub record IsAbove (n : Net) (outputs : List ℕ) (surround : Cone) (tail : List
   pub beside : (p : ℕ) → among (places surround) p ≡ true → among outputs p ≡ false
   pub tail_beside : (p : ℕ) → among tail p ≡ true → among outputs p ≡ false
 
--- the cone of a tail above its surround
+-- the fanin cone with the forced gates of the fanout cone above it
 pub record IsPutCone (n : Net) (outputs : List ℕ) (bits : ℕ) (surround : Cone) (tail : List ℕ) (c : Cone) : Type 0 where
   pub leaves : c.leaves ≡ surround.leaves
   pub put : List (ℕ × Gate)

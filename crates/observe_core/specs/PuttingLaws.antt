@@ -1,4 +1,4 @@
--- Cones of a tail with bits in the place of a window's outputs: that they are cones, and which values they have.
+-- The cone of a fanin cone and the forced gates above it: that it is a cone, and which values it has.
 use Rattle.std.specs.Prelude.{◌≡◌, ℕ, zero, suc, ◌+◌, ◌-◌, ◌<◌, ◌==◌, Bool, true, false, if◌then◌else◌, List, [], ◌∷◌, ◌++◌, length, take, slice_get, Some, ◌⊎◌, refl}
 use Rattle.std.proofs.Common.{arith, sym, ◌∙◌, ap, subst, inl, inr, ⊎_elim, append_assoc}
 use Rattle.std.proofs.lemmas.Bool.{cases_Bool, cases_eq, both_ways, cond-true, cond-false, eq-eqb, ne_eqb}
@@ -25,7 +25,7 @@ use Rattle.window_core.specs.NotingLaws.{at_last}
 use Rattle.observe_theory.specs.JoinedLaws.{in_front, in_back, in_parts, is_off}
 use Rattle.observe_core.specs.Putting.{put_place, put_sig, put_gate, ArePutGates, HasPut, IsAbove, IsPutCone}
 
--- ---- what is put for a place
+-- ---- the signal for a node
 
 pub put_same : (outputs : List ℕ) (bits p : ℕ) → among outputs p ≡ false → put_place outputs bits p ≡ sigs.Place p
 unfolding put_place
@@ -59,7 +59,7 @@ bit_value : (v : ℕ → Bool) (b : Bool) → sig_value v (if b then sigs.One el
 bit_value v true = refl
 bit_value v false = refl
 
--- where the outputs have the bits of a row, what is put has them too
+-- where the outputs have the bits of a row, so have the constants
 pub put_row : (v f : ℕ → Bool) (outputs : List ℕ) (bits p : ℕ) → HasRow f outputs bits → among outputs p ≡ true → sig_value v (put_place outputs bits p) ≡ f p
 unfolding put_place
 put_row v f [] bits p has on = absurd (let e : false ≡ true = on in cc)
@@ -78,7 +78,7 @@ put_row v f (q ∷ outputs) bits p has on =
     ap (sig_value v) (cond-false (p == q) bit (put_place outputs bits p) (ne_eqb p q other)) ∙ put_row v f outputs bits p rest later)
     (cases_eq p q)
 
--- ---- gates that are put
+-- ---- gates with constants
 
 pub put_start : (n : Net) (outputs : List ℕ) (bits : ℕ) (tail : List ℕ) (gates : List (ℕ × Gate)) → HasPut n outputs bits tail tail gates gates
 put_start n outputs bits tail gates =
@@ -108,7 +108,7 @@ put_more n outputs bits tail left p rest old now new h parts own new_is was =
       };
     }
 
--- all gates of the tail are put
+-- all gates of the fanout cone are appended
 pub put_all : (n : Net) (outputs : List ℕ) (bits : ℕ) (tail : List ℕ) (old new : List (ℕ × Gate)) (h : HasPut n outputs bits tail [] old new) → ArePutGates n outputs bits tail h.put
 put_all n outputs bits tail old new h = subst (λ (ps : List ℕ). ArePutGates n outputs bits ps h.put) (sym (nothing_behind h.done) ∙ h.parts) h.put_are
 
@@ -118,7 +118,7 @@ places_joined : (xs ys : List (ℕ × Gate)) → gate_places (xs ++ ys) ≡ gate
 places_joined [] ys = refl
 places_joined (x ∷ xs) ys = ap (λ (ps : List ℕ). x.0 ∷ ps) (places_joined xs ys)
 
--- the places of a surround with gates after it
+-- the nodes of a fanin cone with gates after it
 pub all_places : (s : Cone) (put : List (ℕ × Gate)) (tail : List ℕ) → gate_places put ≡ tail → s.leaves ++ gate_places (s.gates ++ put) ≡ places s ++ tail
 all_places s put tail are =
     ap (λ (ps : List ℕ). s.leaves ++ ps) (places_joined s.gates put ∙ ap (λ (ps : List ℕ). gate_places s.gates ++ ps) are)
@@ -139,7 +139,7 @@ placed [] j y e = absurd cc
 placed (g ∷ gs) zero y e = let f : g ≡ y = cc in subst (λ (z : ℕ × Gate). among (gate_places (g ∷ gs)) z.0 ≡ true) f (among_first g.0 (gate_places gs))
 placed (g ∷ gs) (suc j) y e = among_later g.0 y.0 (gate_places gs) (placed gs j y e)
 
--- an operand that is put is a constant, or of the places
+-- an operand is a constant, or one of the nodes
 put_over : (outputs : List ℕ) (bits : ℕ) (ps : List ℕ) (s : Sig) → ((q : ℕ) → s ≡ sigs.Place q → (among outputs q ≡ true) ⊎ (among ps q ≡ true)) → IsSigAmong ps (put_sig outputs bits s)
 put_over outputs bits ps sigs.Zero all = tt
 put_over outputs bits ps sigs.One all = tt
@@ -189,7 +189,7 @@ put_is_cone n outputs bits s tail put net cone above are =
 
 -- ---- values
 
--- what a put signal is worth is what the signal is worth where the outputs are worth what is put
+-- a replaced signal has the value of the signal where the outputs have the forced bits
 put_value : (v : ℕ → Bool) (outputs : List ℕ) (bits : ℕ) (s : Sig) → sig_value v (put_sig outputs bits s) ≡ sig_value (λ p. sig_value v (put_place outputs bits p)) s
 put_value v outputs bits sigs.Zero = refl
 put_value v outputs bits sigs.One = refl
@@ -198,7 +198,7 @@ put_value v outputs bits (sigs.Place p) = refl
 put_gate_value : (v : ℕ → Bool) (outputs : List ℕ) (bits : ℕ) (g : Gate) → gate_value v (put_gate outputs bits g) ≡ gate_value (λ p. sig_value v (put_place outputs bits p)) g
 put_gate_value v outputs bits g = rw (put_value v outputs bits g.a, put_value v outputs bits g.b) refl
 
--- The values of the cone of a tail are those of the net where the leaves and the outputs have the bits.
+-- The cone has the values of the net where the leaves and the outputs have the bits.
 pub put_values : (n : Net) (outputs : List ℕ) (bits : ℕ) (s c : Cone) (tail : List ℕ) (row : ℕ) (f : ℕ → Bool) (p : ℕ) → IsNet n → IsAbove n outputs s tail → IsPutCone n outputs bits s tail c
     → HasRow f s.leaves row → HasRow f outputs bits
     → among tail p ≡ true → value_in c row p ≡ values_with n (among (s.leaves ++ outputs)) f p

@@ -1,4 +1,4 @@
--- A chain that agrees with an observed specification, in the window's place.
+-- A chain that implements an observed specification, substituted for the window.
 use Rattle.chain_theory.specs.Chain.{Chain}
 use Rattle.net_theory.specs.Net.{Net, IsNet}
 use Rattle.window_theory.specs.Window.{Window, Belongs}
@@ -7,7 +7,7 @@ use Rattle.subst_core.specs.Substitution.{KeepsSinks}
 use Rattle.observe_theory.specs.ObservedLaws.{observed_fits, sinks_kept}
 use Rattle.observe_core.specs.Observing.{MeetsSeen}
 
--- No sink distinguishes it from what the window computes.
+-- All sinks keep their values.
 pub seen_keeps : (n : Net) (w : Window) (c : Chain) → IsNet n → Belongs n w → MeetsSeen n w c → KeepsSinks n w c
 seen_keeps n w c net is meets given = sinks_kept n w meets.specification c given net is meets.chain meets.is meets.agrees
 

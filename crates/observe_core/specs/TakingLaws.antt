@@ -1,4 +1,4 @@
--- How a tail is taken, and what it is made of.
+-- How the gates of a fanout cone are taken, and what its parts are.
 use Rattle.std.specs.Prelude.{◌≡◌, ℕ, Bool, ◌+◌, ◌≤◌, true, false, List, [], ◌∷◌, ◌++◌, length, refl}
 use Rattle.std.proofs.Common.{arith, sym, ◌∙◌, ap, subst, inl, inr, ⊎_elim}
 use Rattle.std.proofs.lemmas.Bool.{cases_Bool, both_ways}
@@ -16,7 +16,7 @@ use Rattle.observe_theory.specs.JoinedLaws.{in_front, in_back, in_parts, is_off,
 use Rattle.observe_core.specs.Following.{IsNextFollower, HaveSame, IsTaking, HasTail}
 use Rattle.observe_core.specs.Kept.{IsBoth, HasSome}
 
--- ---- lists with the same places
+-- ---- lists with the same nodes
 
 pub follower_same : (n : Net) (xs ys : List ℕ) (p : ℕ) → HaveSame xs ys → IsFollower n xs p → IsFollower n ys p
 follower_same n xs ys p same is = record { outside = sym (same p) ∙ is.outside; place = is.place; inside = sym (same is.place) ∙ is.inside; reads = is.reads }
@@ -31,7 +31,7 @@ output_same n xs ys p same is =
           is.seen;
     }
 
--- lists are the same where each has what the other has
+-- lists have the same nodes where each has those of the other
 both_same : (xs ys : List ℕ) → ((q : ℕ) → among xs q ≡ true → among ys q ≡ true) → ((q : ℕ) → among ys q ≡ true → among xs q ≡ true) → HaveSame xs ys
 both_same xs ys there back q =
     ⊎_elim
@@ -87,7 +87,7 @@ taking_more n gates all tail new next count p net some follower new_is next_is w
       are = λ q e. ⊎_elim (λ (same : q ≡ p). subst (IsGate n) (sym same) first.reads.reader) (λ there. was.are q there) (put_only p q all e);
     }))
 
--- the window's gates with the tail
+-- the window's gates with the fanout cone
 joined : (n : Net) (gates all tail : List ℕ) (count : ℕ) → (w : IsTaking n gates count all tail) → HaveSame all (tail ++ gates)
 joined n gates all tail count w =
     both_same all (tail ++ gates)
@@ -126,7 +126,7 @@ taking_end n gates all tail count full was =
       are = was.are;
     }
 
--- ---- what it is made of
+-- ---- its parts
 
 taken_outside : (n : Net) (gates taken : List ℕ) (p : ℕ) → AreFollowing n gates taken → among taken p ≡ true → among gates p ≡ false
 unfolding AreFollowing

@@ -1,6 +1,6 @@
-//! The assignments of a surround's leaves under which forcing the window's outputs changes a watcher, an output of the TFO
-//! window (observability): the surround is simulated once, and the tail above it with each number in place of the outputs,
-//! and the watchers' words are compared with those for the number 0.
+//! The assignments of a fanin cone's leaves under which the fanout cone's outputs depend on the window's
+//! outputs. The fanin cone is simulated once, and the fanout cone above it with each value of the window's
+//! outputs; the words of its outputs are compared with those for the value 0.
 
 ghost use Rattle.std.specs.Prelude.{◌≡◌, ℕ, ◌+◌, ◌*◌, ◌≤◌, ◌<◌, ◌^◌, true, length, slice_index_or, slice_set, bit_or, bit_xor, IfOk, OnOk};
 ghost use Rattle.lane_sim.specs.Above.{HasWords};
@@ -16,7 +16,7 @@ use lane_sim::{Cone, Words, copy_words, index_of, lanes_of, simulate_above};
 use std::alloc::{AllocError, Global};
 use window_core::{Net, has};
 
-/// ORs into `differ[j]` the bits in which word `j` of two rows differs that begin at `start`.
+/// ORs into `differ[j]` the bits in which word `j` of two rows differs; both rows begin at `start`.
 fn add_one(differ: &mut [u64], first: &[u64], second: &[u64], start: usize, j: usize)
     requires within { j < length differ.old }
     requires one { start + j < length first.now }
@@ -37,8 +37,8 @@ fn add_difference(differ: &mut [u64], first: &[u64], second: &[u64], start: usiz
     }
 }
 
-/// ORs in the bits in which the rows of the watchers differ. The tail's rows stand one after the other, after the first
-/// `start` rows.
+/// ORs in the bits in which the rows of the fanout cone's outputs differ. The rows of the fanout cone's gates
+/// follow each other after the first `start` rows.
 fn add_watchers(
     differ: &mut [u64],
     first: &[u64],
@@ -62,22 +62,21 @@ fn add_watchers(
     }
 }
 
-/// The words of the tail's cone with the outputs forced to `bits`, in the place of those with other bits: the rows of the
-/// surround stay.
+/// Simulates the fanout cone with the window's outputs forced to `bits`; the rows of the fanin cone stay.
 fn put_words(alloc: Global, forced: Forced, bits: u32, words: &mut Words) -> Result<(), AllocError>
     requires above { StandsAbove forced }
     requires words { HasWords forced.surround.now words.old }
     ensures put { OnOk result (HaveBits forced.entry bits words.new) }
     ensures below { OnOk result (HasWords forced.entry.surround.now words.new) }
 {
-    let _sources = forced.net.sources(); // brings the type invariant into the proof
-    let _leaves = forced.surround.leaves(); // says that the surround is a cone
+    let _sources = forced.net.sources(); // for the prover: brings the type's invariant into the proof
+    let _leaves = forced.surround.leaves(); // for the prover: the fanin cone is a cone
     let gates = put_gates(alloc, forced.net, forced.outputs, bits, forced.tail)?;
     simulate_above(words, forced.index, forced.surround, &gates)?;
     Ok(())
 }
 
-/// ORs in the assignments that distinguish the output value `bits` from 0.
+/// ORs in the assignments that distinguish the value `bits` of the window's outputs from 0.
 fn add_bits(
     alloc: Global,
     forced: Forced,
@@ -95,7 +94,7 @@ fn add_bits(
     ensures size { length differ.new ≡ length differ.old }
     ensures words { OnOk result (HasWords forced.entry.surround.now words.new) }
 {
-    let _sources = forced.net.sources(); // brings the type invariant into the proof
+    let _sources = forced.net.sources(); // for the prover: brings the type's invariant into the proof
     put_words(alloc, forced, bits, words)?;
     let start = forced.surround.leaves().len() + forced.surround.gates().len();
     add_watchers(
@@ -109,7 +108,7 @@ fn add_bits(
     Ok(())
 }
 
-/// ORs in the assignments that distinguish some output value from 0.
+/// ORs in the assignments that distinguish some value of the window's outputs from 0.
 fn add_all_bits(
     alloc: Global,
     forced: Forced,
@@ -131,7 +130,7 @@ fn add_all_bits(
     Ok(())
 }
 
-/// The words of the tail's cone with the outputs forced to 0, from those of its surround.
+/// The words of both cones with the window's outputs forced to 0, from those of the fanin cone.
 fn zero_words(alloc: Global, forced: Forced, words: &Words) -> Result<Words, AllocError>
     requires above { StandsAbove forced }
     requires words { AreWords forced.surround.now words.now }
@@ -144,8 +143,8 @@ fn zero_words(alloc: Global, forced: Forced, words: &Words) -> Result<Words, All
     Ok(zero)
 }
 
-/// The assignments of the surround's leaves that distinguish some value of the outputs from another, as the bits of words.
-/// The surround's words are handed in: it isn't simulated again.
+/// The assignments of the fanin cone's leaves that distinguish two values of the window's outputs, as the
+/// bits of words. The fanin cone's words are given, so it isn't simulated again.
 pub(crate) fn telling(
     alloc: Global,
     net: &Net,
@@ -162,8 +161,8 @@ pub(crate) fn telling(
     ensures size { IfOk result (λ differ. length differ.items ≡ width_of (2 ^ length surround.now.leaves)) }
     ensures telling { IfOk result (λ differ. AreTelling net.now surround.now.leaves outputs.now watchers.now differ.items) }
 {
-    let _sources = net.sources(); // brings the type invariant into the proof
-    let _leaves = surround.leaves(); // says that the surround is a cone
+    let _sources = net.sources(); // for the prover: brings the type's invariant into the proof
+    let _leaves = surround.leaves(); // for the prover: the fanin cone is a cone
     let index = index_of(alloc, surround, tail)?;
     let forced = Forced {
         net,

@@ -1,5 +1,6 @@
-//! Followers: fanouts of a set of gates that aren't in the set. The index of the net lists the readers of a place
-//! from the first to the last, so that the least one is found after as many others as the set has. 0 stands for none.
+//! Followers: fanouts of a set of gates that aren't in the set. The index of the net lists the fanouts of a
+//! node in ascending order, so the least follower is found after at most as many others as the set has gates.
+//! 0 stands for none.
 
 ghost use Rattle.std.specs.Prelude.{◌≡◌, ℕ, ◌+◌, ◌<◌, true, false, ◌⊎◌};
 ghost use Rattle.net_theory.specs.Net.{end_of};
@@ -23,7 +24,7 @@ fn reader_after(net: &Net, readers: &Readers, gate: u32, place: u32) -> u32
     later.second
 }
 
-/// Whether a place that may be none is one of `gates`.
+/// Whether a node is one of `gates`; 0 is none.
 fn is_inside(gates: &[u32], place: u32) -> bool
     ensures some { result ≡ true → place ≡ 0 → ⊥ }
     ensures inside { result ≡ true → among gates.now place ≡ true }
@@ -45,7 +46,7 @@ fn least_reader(net: &Net, readers: &Readers, gates: &[u32], place: u32) -> u32
     next
 }
 
-/// The lesser of two places, of which 0 stands for none.
+/// The lesser of two nodes, where 0 stands for none.
 fn lesser(first: u32, second: u32) -> u32
     ensures { IsLesser first second result }
 {

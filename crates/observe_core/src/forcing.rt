@@ -1,4 +1,4 @@
-//! What is forced: the outputs of a window, below a tail that stands above a surround.
+//! The outputs of a window that are forced, with its fanout cone above the observing fanin cone.
 
 ghost use Rattle.std.specs.Prelude.{◌≡◌, ℕ, ◌≤◌, ◌++◌, true, length};
 ghost use Rattle.lane_sim.specs.Cone.{places};
@@ -7,8 +7,8 @@ ghost use Rattle.window_theory.specs.Places.{among};
 use lane_sim::{Cone, Index};
 use window_core::Net;
 
-/// Outputs that are forced, at most eight, with a surround and the tail above it. The watchers are some of the tail's gates,
-/// and the index finds the places of the surround and the tail.
+/// The outputs of a window that are forced, at most eight, the observing fanin cone, and the fanout cone
+/// above it with those of its gates that are its outputs. The index finds the nodes of both cones.
 #[derive(Clone, Copy)]
 pub(crate) struct Forced<'a> {
     pub(crate) net: &'a Net,

@@ -1,16 +1,17 @@
-//! Observability don't-cares (ODCs) of a window, over the bounded transitive fanout that `observe_theory` defines: which
-//! rows of the window's inputs nobody sees, and the window's specification with these rows free. The words are those of
-//! `observe_theory`; `sweep_core` has them beside the field's.
+//! Observability don't-cares (ODCs) of a window, over the bounded fanout cone that `observe_theory` defines:
+//! the rows of the window's inputs on which no output of this cone depends on the window, and the window's
+//! specification with these rows free.
 //!
-//! - `tail` finds the gates above a window through which it is seen first, by the index of the net.
-//! - `observed_spec` is the window's specification with the cells of all unseen rows free. The tail is evaluated above its
-//!   surround with each number in the place of the window's outputs; where its watchers never differ, the row of
-//!   the window's inputs is unseen.
-//! - A chain that agrees with it may take the window's place, and all sinks keep their values (`seen_keeps`).
+//! - `tail` finds the fanout cone, by the index of the net.
+//! - `observed_spec` is the window's specification with the cells of all unobservable rows free. The fanout
+//!   cone is simulated above its fanin cone with each value of the window's outputs; where its own outputs
+//!   never differ, the row of the window's inputs is unobservable.
+//! - A chain that implements this specification may replace the window, and all sinks keep their values
+//!   (`seen_keeps`).
 //!
 //! ```text
-//! let readers = readers_of(alloc, &net)?;
-//! let spec = observed_spec_by(alloc, &net, &readers, &window)?;
+//! let fanouts = fanouts_of(alloc, &net)?;
+//! let spec = observed_spec_by(alloc, &net, &fanouts, &window)?;
 //! ```
 #![tactic(auto)]
 

@@ -1,4 +1,4 @@
-//! Windows as the lists that substitution takes.
+//! Windows as the lists that `subst_core` takes.
 
 ghost use Rattle.subst_core.specs.Lists.{window_of, HaveSameLists};
 

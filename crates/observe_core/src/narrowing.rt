@@ -1,4 +1,4 @@
-//! What those who see a window ask of it: the window's specification, with the cells of all unseen rows free.
+//! The observed specification of a window: its specification, with the cells of all unobservable rows free.
 
 ghost use Rattle.std.specs.Prelude.{◌≡◌, map, bit_and, IfOk};
 ghost use Rattle.tt_core.specs.Words.{specification};
@@ -14,14 +14,14 @@ use std::alloc::{AllocError, Global};
 use tt_core::Spec;
 use window_core::{Net, Readers, Window, readers_of, spec_of};
 
-/// The words, each with the digits of a mask alone.
+/// The words, ANDed with a mask.
 fn masked(alloc: Global, words: &[u64], mask: u64) -> Result<Vec<u64>, AllocError>
     ensures { IfOk result (λ new. new.items ≡ map (λ word. bit_and word mask) words.now) }
 {
     words.iter().map(|word| *word & mask).collect(alloc)
 }
 
-/// A specification, with the cells of all rows free that a mask doesn't have.
+/// A specification, with the cells of all rows free whose bit in the mask is 0.
 fn narrowed(alloc: Global, spec: &Spec, mask: u64) -> Result<Spec, AllocError>
     ensures { IfOk result (IsMasked mask spec.now) }
 {
@@ -31,7 +31,7 @@ fn narrowed(alloc: Global, spec: &Spec, mask: u64) -> Result<Spec, AllocError>
     Ok(Spec::new(inputs, on, care))
 }
 
-/// The rows on which somebody sees a window, by the index of the net.
+/// The rows on which the window is observable, by the index of the net.
 fn seen_by(alloc: Global, net: &Net, readers: &Readers, window: &Window) -> Result<u64, AllocError>
     requires index { AreReaders net.now readers.now }
     requires belongs { Belongs net.now window.now }
@@ -54,11 +54,11 @@ pub fn observed_spec_by(
 {
     let whole = spec_of(alloc, net, window)?;
     let seen = seen_by(alloc, net, readers, window)?;
-    let _outputs = whole.outputs(); // says that the tables are a specification
+    let _outputs = whole.outputs(); // for the prover: the tables are a specification
     narrowed(alloc, &whole, seen)
 }
 
-/// The same without an index: it is made for this window alone.
+/// As `observed_spec_by`, but with an index of its own, made for this one call.
 pub fn observed_spec(alloc: Global, net: &Net, window: &Window) -> Result<Spec, AllocError>
     requires { Belongs net.now window.now }
     ensures { IfOk result (λ s. IsObservedOf net.now window.now (specification s)) }

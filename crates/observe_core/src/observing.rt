@@ -1,6 +1,6 @@
-//! The rows of a window's inputs on which somebody sees the window, all but the observability don't-cares: under some
-//! assignment of the observing surround's leaves that gives the row, some watcher distinguishes two values of the window's
-//! outputs.
+//! The rows of a window's inputs on which the window is observable, all but its observability don't-cares:
+//! under some assignment of the observing fanin cone's leaves that gives the row, some output of the fanout
+//! cone distinguishes two values of the window's outputs.
 
 ghost use Rattle.std.specs.Prelude.{◌≡◌, ◌≤◌, ◌<◌, true, false, length, IfOk};
 ghost use Rattle.window_theory.specs.Places.{IsRising, AreJust};
@@ -14,7 +14,7 @@ use lane_sim::{Cone, MOST_LEAVES, cone_words, patterns_on};
 use std::alloc::{AllocError, Global};
 use window_core::{Net, Window, put, signals_of, surround};
 
-/// The inputs of a window and of its tail, in one rising list.
+/// The inputs of a window and of its fanout cone, in one ascending list.
 fn first_leaves(alloc: Global, inputs: &[u32], sides: &[u32]) -> Result<Vec<u32>, AllocError>
     requires { IsRising inputs.now }
     ensures { IfOk result (λ first. AreJust (IsEither inputs.now sides.now) first.items) }
@@ -29,7 +29,7 @@ fn first_leaves(alloc: Global, inputs: &[u32], sides: &[u32]) -> Result<Vec<u32>
     Ok(first)
 }
 
-/// Whether places are more than a surround may begin with.
+/// Whether there are more nodes than a fanin cone may start from.
 fn are_too_many(places: &[u32]) -> bool
     ensures yes { result ≡ true → 12 < length places.now }
     ensures no { result ≡ false → length places.now ≤ 12 }
@@ -37,7 +37,7 @@ fn are_too_many(places: &[u32]) -> bool
     places.len() > MOST_LEAVES
 }
 
-/// The rows that are seen, by the observing surround.
+/// The observable rows, by the observing fanin cone.
 fn rows_told(
     alloc: Global,
     net: &Net,
@@ -51,8 +51,8 @@ fn rows_told(
     requires cone { IsObservingCone net.now window.now tail.now cone.now }
     ensures { IfOk result (IsSeenMask net.now window.now tail.now) }
 {
-    let _sources = net.sources(); // says that the net is one
-    let _leaves = cone.leaves(); // says that the cone is one
+    let _sources = net.sources(); // for the prover: brings the net's invariant into the proof
+    let _leaves = cone.leaves(); // for the prover: the cone is one
     let words = cone_words(alloc, cone)?;
     let differ = telling(
         alloc,
@@ -67,7 +67,8 @@ fn rows_told(
     Ok(patterns_on(&words, cone, &signals, &differ))
 }
 
-/// The rows of a window's inputs on which somebody sees it, as the digits of a mask.
+/// The observable rows of a window's inputs, as the bits of a mask. All rows are, where the window is
+/// directly observable or the observing fanin cone would start from more than 12 nodes.
 pub(crate) fn seen_rows(
     alloc: Global,
     net: &Net,
@@ -78,8 +79,8 @@ pub(crate) fn seen_rows(
     requires tail { IsTail net.now window.now tail.now }
     ensures { IfOk result (IsSeenMask net.now window.now tail.now) }
 {
-    let _sources = net.sources(); // says that the net is one
-    let _outputs = window.outputs(); // says that the window has few inputs
+    let _sources = net.sources(); // for the prover: brings the net's invariant into the proof
+    let _outputs = window.outputs(); // for the prover: the window has few inputs
     if tail.bare {
         return Ok(u64::MAX);
     }

@@ -1,4 +1,4 @@
-//! The gates of a window's tail with bits in the place of the window's outputs.
+//! The gates of a window's fanout cone, with constants for the window's outputs.
 
 ghost use Rattle.std.specs.Prelude.{◌≡◌, ℕ, ◌≤◌, true, [], length, if◌then◌else◌, IfOk, OnOk};
 ghost use Rattle.net_theory.specs.declared.data.Sig.TheVariants as sigs;
@@ -11,14 +11,14 @@ ghost use Rattle.observe_core.specs.Putting.{put_place as put_place_of, put_sig 
 use std::alloc::{AllocError, Global};
 use window_core::{Gate, Net, Sig, gate_at};
 
-/// The constant of a bit.
+/// The constant signal of a bit.
 fn constant(bit: bool) -> Sig
     ensures { result ≡ (if bit then sigs.One else sigs.Zero) }
 {
     if bit { Sig::One } else { Sig::Zero }
 }
 
-/// A place, or the constant that is put there.
+/// The node, or the constant that replaces it: the first output has the most significant of the bits.
 #[tactic(auto, unfolding(crate::specs::Putting::put_place))]
 fn put_place(outputs: &[u32], bits: u32, place: u32) -> Sig
     requires { length outputs.now ≤ 8 }
@@ -34,7 +34,7 @@ fn put_place(outputs: &[u32], bits: u32, place: u32) -> Sig
     Sig::Place(place)
 }
 
-/// A signal, or the constant that is put there.
+/// The signal, or the constant that replaces it.
 fn put_sig(outputs: &[u32], bits: u32, sig: Sig) -> Sig
     requires { length outputs.now ≤ 8 }
     ensures { result ≡ put_sig_of outputs.now bits sig }
@@ -45,7 +45,7 @@ fn put_sig(outputs: &[u32], bits: u32, sig: Sig) -> Sig
     }
 }
 
-/// The gate at a place, with what is put for its operands.
+/// The gate at a node, with its operands replaced.
 fn put_gate(net: &Net, outputs: &[u32], bits: u32, place: u32) -> Gate
     requires few { length outputs.now ≤ 8 }
     requires gate { IsGate net.now place }
@@ -59,7 +59,7 @@ fn put_gate(net: &Net, outputs: &[u32], bits: u32, place: u32) -> Gate
     }
 }
 
-/// Appends the gates of the tail.
+/// Appends the gates of the fanout cone, with constants for the outputs.
 fn put_tail(
     net: &Net,
     outputs: &[u32],
@@ -79,7 +79,7 @@ fn put_tail(
     Ok(())
 }
 
-/// The gates of the tail, with bits in the place of the outputs.
+/// The gates of the fanout cone, with constants for the outputs.
 pub(crate) fn put_gates(
     alloc: Global,
     net: &Net,

@@ -1,13 +1,13 @@
-//! Tails, as they are handed out.
+//! Fanout cones, as functions return them.
 
 use std::marker::Model;
 
-/// The most gates of a tail.
+/// The most gates of a fanout cone.
 pub(crate) const MOST_OF_TAIL: usize = 16;
 
-/// The gates above a window through which it is seen first (its transitive fanout, at most 16 gates), what they read
-/// beside the window (side inputs), and those of them that others see (watchers); whether others see the window itself.
-/// Each list rises.
+/// The fanout cone of a window: at most 16 gates of its transitive fanout, their fanins outside the window
+/// and the cone (side inputs), and the gates of the cone that a sink or a gate outside reads (its outputs);
+/// and whether a sink or a gate outside reads the window itself. Each list is ascending.
 #[derive(Drop)]
 pub struct Tail {
     pub gates: Vec<u32>,

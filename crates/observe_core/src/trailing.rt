@@ -1,5 +1,5 @@
-//! The tail of a window (its transitive fanout, at most 16 gates), its side inputs, its watchers, and whether the window
-//! is directly observable past it.
+//! The fanout cone of a window (its transitive fanout, at most 16 gates), its side inputs, its outputs, and
+//! whether the window is directly observable.
 
 ghost use Rattle.std.specs.Prelude.{◌≡◌, ℕ, true, false, List, [], ◌⊎◌, IfOk, OnOk};
 ghost use Rattle.net_theory.specs.Reach.{is_place};
@@ -18,7 +18,7 @@ use window_core::{
     Gate, Net, Readers, Sig, Window, all_inputs, all_outputs, gate_at, has, put, readers_of,
 };
 
-/// Takes the least follower of what was taken, as often as there is one, but at most `MOST_OF_TAIL` times.
+/// Takes the least follower of the gates so far, as long as there is one, at most `MOST_OF_TAIL` times.
 fn take_tail(
     net: &Net,
     readers: &Readers,
@@ -31,7 +31,7 @@ fn take_tail(
     requires none { tail.old.items ≡ [] }
     ensures { OnOk result (HasTail net.now all.old.items all.new.items tail.new.items) }
 {
-    let _sources = net.sources(); // says that the net is one
+    let _sources = net.sources(); // for the prover: brings the net's invariant into the proof
     for _taken in 0..MOST_OF_TAIL {
         let place = next_follower(net, readers, all);
         if place == 0 {
@@ -43,7 +43,7 @@ fn take_tail(
     Ok(())
 }
 
-/// Those of `places` that are none of `gates`. The places rise.
+/// The nodes of `places` that aren't in `gates`. `places` is ascending.
 fn places_outside(alloc: Global, places: &[u32], gates: &[u32]) -> Result<Vec<u32>, AllocError>
     requires { IsRising places.now }
     ensures { IfOk result (λ kept. AreJust (IsBoth (λ p. among gates.now p ≡ false) places.now) kept.items) }
@@ -61,7 +61,7 @@ fn places_outside(alloc: Global, places: &[u32], gates: &[u32]) -> Result<Vec<u3
     Ok(kept)
 }
 
-/// Whether a signal names a place.
+/// Whether a signal names a node.
 fn names(sig: Sig, place: u32) -> bool
     ensures { result ≡ is_place place sig }
 {
@@ -71,7 +71,7 @@ fn names(sig: Sig, place: u32) -> bool
     }
 }
 
-/// Whether a gate reads a place.
+/// Whether a gate reads a node.
 fn reads(gate: &Gate, place: u32) -> bool
     ensures yes { result ≡ true → (is_place place gate.now.a ≡ true) ⊎ (is_place place gate.now.b ≡ true) }
     ensures first { result ≡ false → is_place place gate.now.a ≡ false }
@@ -96,7 +96,7 @@ fn is_read_by(net: &Net, gates: &[u32], place: u32) -> bool
     false
 }
 
-/// Those of `places` that some of `gates` reads. The places rise.
+/// The nodes of `places` that some of `gates` reads. `places` is ascending.
 fn places_read(
     alloc: Global,
     net: &Net,
@@ -120,7 +120,7 @@ fn places_read(
     Ok(kept)
 }
 
-/// Whether some of the places is one of the gates.
+/// Whether the lists have a node in common.
 fn has_some(gates: &[u32], places: &[u32]) -> bool
     ensures yes { result ≡ true → HasSome gates.now places.now }
     ensures no { HasSome gates.now places.now → result ≡ true }
@@ -135,7 +135,7 @@ fn has_some(gates: &[u32], places: &[u32]) -> bool
     false
 }
 
-/// Those of the places that all gates read from outside that the tail's gates read.
+/// The side inputs: the inputs of all gates that the fanout cone's gates read.
 fn sides_of(alloc: Global, net: &Net, all: &[u32], gates: &[u32]) -> Result<Vec<u32>, AllocError>
     requires all { (p : ℕ) → among all.now p ≡ true → IsGate net.now p }
     requires gates { (p : ℕ) → among gates.now p ≡ true → IsGate net.now p }
@@ -145,7 +145,7 @@ fn sides_of(alloc: Global, net: &Net, all: &[u32], gates: &[u32]) -> Result<Vec<
     places_read(alloc, net, &inputs, gates)
 }
 
-/// The tail of a window by its gates, where `all` are those and the window's.
+/// The fanout cone of a window with these gates; `all` are its gates and the window's.
 fn tail_of(
     alloc: Global,
     net: &Net,
@@ -172,7 +172,7 @@ fn tail_of(
     })
 }
 
-/// The tail of a window, by the index of the net.
+/// The fanout cone of a window, by the index of the net.
 pub fn tail_by(
     alloc: Global,
     net: &Net,
@@ -183,7 +183,7 @@ pub fn tail_by(
     requires belongs { Belongs net.now window.now }
     ensures { IfOk result (λ tail. IsTail net.now window.now tail) }
 {
-    let _sources = net.sources(); // says that the net is one
+    let _sources = net.sources(); // for the prover: brings the net's invariant into the proof
     let mut all = Vec::with_capacity(alloc, 24)?;
     all.extend_from_slice(window.gates())?;
     let mut gates = Vec::with_capacity(alloc, 16)?;
@@ -191,7 +191,7 @@ pub fn tail_by(
     tail_of(alloc, net, readers, window, &all, gates)
 }
 
-/// The same without an index: it is made for this window alone.
+/// As `tail_by`, but with an index of its own, made for this one call.
 pub fn tail(alloc: Global, net: &Net, window: &Window) -> Result<Tail, AllocError>
     requires { Belongs net.now window.now }
     ensures { IfOk result (λ tail. IsTail net.now window.now tail) }

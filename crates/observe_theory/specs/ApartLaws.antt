@@ -1,4 +1,4 @@
--- Places outside a window's transitive fanout (TFO): so is their transitive fanin, and they keep
+-- Nodes outside a window's transitive fanout (TFO): their transitive fanin is outside it too, and they keep
 -- their values whatever bits the window's outputs are forced to.
 use Rattle.std.specs.Prelude.{◌≡◌, ℕ, zero, suc, ◌+◌, ◌≤◌, ◌<◌, Bool, true, false, List}
 use Rattle.std.proofs.Common.{arith, sym, ◌∙◌, ⊎_elim}
@@ -27,7 +27,7 @@ apart_read n gates p q is reads =
 
 -- ---- leaves
 
--- places of the net outside the transitive fanout of `gates`
+-- nodes of the net outside the transitive fanout of `gates`
 pub record AreFree (n : Net) (gates places : List ℕ) : Type 0 where
   pub apart : (p : ℕ) → among places p ≡ true → IsApart n gates p
   pub within : (p : ℕ) → among places p ≡ true → p < end_of n
@@ -52,7 +52,7 @@ leaves_free n gates _ _ net are (goes_on leaves behind last step few rest) = lea
 pub read_within : (n : Net) (g p : ℕ) → IsNet n → Reads n g p → p < end_of n
 read_within n g p net reads = omega (arith, (reads_low n g p net reads).1, (gate_high n g reads.reader).1)
 
--- The leaves of the observing surround are outside the window's transitive fanout.
+-- The leaves of the observing fanin cone are outside the window's transitive fanout.
 pub observing_free : (n : Net) (w : Window) (t : Tail) (leaves : List ℕ) → IsNet n → Belongs n w → IsTail n w t → AreObserving n w t leaves → AreFree n w.gates leaves
 observing_free n w t leaves net is tail are =
     leaves_free n w.gates are.first leaves net
@@ -67,11 +67,11 @@ observing_free n w t leaves net is tail are =
 
 -- ---- values
 
--- `bits` are those of an assignment, but for the window's outputs
+-- `put` has the bits of `given` at the sources, and any bits at other nodes
 abbrev pub ArePut : Net → (ℕ → Bool) → (ℕ → Bool) → Type 0
 ArePut n given put = (p : ℕ) → p ≤ n.sources → put p ≡ given p
 
--- a place outside the window isn't one of its outputs
+-- a node outside the window isn't one of its outputs
 pub not_output : (n : Net) (w : Window) (p : ℕ) → Belongs n w → among w.gates p ≡ false → among w.outputs p ≡ false
 not_output n w p is off = is_off w.outputs p (λ on. both_ways (among w.gates p) off (is.outputs.only p on).inside)
 
@@ -116,6 +116,6 @@ again_below n fixed more bits (suc bound) p net all low within =
     (cases_lt p (n.sources + 1)))
     (cases_Bool (more p))
 
--- Where more places are fixed to the values that they have, all values stay.
+-- Where more nodes are fixed to the values that they have, all values stay.
 pub values_again : (n : Net) (fixed more bits : ℕ → Bool) (p : ℕ) → IsNet n → ((q : ℕ) → fixed q ≡ true → more q ≡ true) → p < end_of n → values_with n more (values_with n fixed bits) p ≡ values_with n fixed bits p
 values_again n fixed more bits p net all within = again_below n fixed more bits (suc p) p net all (omega arith) within

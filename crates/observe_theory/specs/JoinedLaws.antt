@@ -1,4 +1,4 @@
--- Places of two lists.
+-- Nodes of two lists.
 use Rattle.std.specs.Prelude.{◌≡◌, ℕ, true, false, List, [], ◌∷◌, ◌++◌, ◌⊎◌}
 use Rattle.std.proofs.Common.{inl, inr, ⊎_elim, subst, sym}
 use Rattle.std.proofs.lemmas.Bool.{cases_Bool, both_ways}
@@ -25,7 +25,7 @@ in_parts (x ∷ xs) ys p on =
     (λ later. ⊎_elim (λ a. inl (among_later x p xs a)) (λ b. inr b) (in_parts xs ys p later))
     (among_cases x p (xs ++ ys) on)
 
--- a place that can't be in a list isn't
+-- a node that can't be in a list isn't in it
 pub is_off : (xs : List ℕ) (p : ℕ) → (among xs p ≡ true → ⊥) → among xs p ≡ false
 is_off xs p none = ⊎_elim (λ on. absurd (none on)) (λ off. off) (cases_Bool (among xs p))
 

@@ -10,16 +10,16 @@ use Rattle.window_theory.specs.Care.{IsSpecificationOf}
 use Rattle.observe_theory.specs.Tail.{Tail, IsTail}
 use Rattle.observe_theory.specs.Unseen.{IsUnseen}
 
--- s is `whole` with the cells of all unseen rows as don't-cares.
+-- s is `whole` with the cells of all unobservable rows as don't-cares.
 pub record IsNarrowed (n : Net) (w : Window) (t : Tail) (whole s : Specification) : Type 0 where
   pub inputs : s.inputs ≡ whole.inputs
   pub outputs : s.outputs ≡ whole.outputs
   pub seen : (h row : ℕ) → 1 ≤ h → h ≤ whole.outputs → row < 2 ^ whole.inputs → (IsUnseen n w t row → ⊥) → s.cell h row ≡ whole.cell h row
   pub unseen : (h row : ℕ) → 1 ≤ h → h ≤ whole.outputs → row < 2 ^ whole.inputs → IsUnseen n w t row → s.cell h row ≡ Free
 
--- The specification of a window, with the cells of all unseen rows as don't-cares.
--- Example: where the gate 3 is XNOR of the sources 1 and 2, gate 4 is AND of 3 and the source 1,
--- and the only sink is 4, the cells of the window 3 are -, -, 0, 1. The source 2 implements them.
+-- The specification of a window, with the cells of all unobservable rows as don't-cares.
+-- Example: where the gate 3 is XNOR of the sources 1 and 2, gate 4 is AND of 3 and the source 1, and the only
+-- sink is 4, the cells of the window 3 are -, -, 0, 1. The source 2 implements them.
 pub record IsObservedOf (n : Net) (w : Window) (s : Specification) : Type 0 where
   pub tail : Tail
   pub is_tail : IsTail n w tail

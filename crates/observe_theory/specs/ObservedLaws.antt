@@ -31,9 +31,9 @@ use Rattle.observe_theory.specs.Observed.{IsObservedOf}
 use Rattle.observe_theory.specs.ApartLaws.{ArePut, not_output}
 use Rattle.observe_theory.specs.UnseenLaws.{sink_same}
 
--- ---- on an observed row
+-- ---- on an observable row
 
--- the row isn't unseen, and the assignment gives it
+-- the row isn't unobservable, and the assignment gives it
 record IsSeenUnder (n : Net) (w : Window) (t : Tail) (given : ℕ → Bool) (row : ℕ) : Type 0 where
   low : row < 2 ^ length w.inputs
   has : HasRow (value n given) w.inputs row

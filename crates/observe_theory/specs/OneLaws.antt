@@ -1,4 +1,4 @@
--- A window has one tail, and one observed specification up to the chains that implement it.
+-- A window has one fanout cone, and one observed specification up to don't-cares that no chain distinguishes.
 use Rattle.std.specs.Prelude.{◌≡◌, ℕ, ◌≤◌, ◌<◌, ◌^◌, Bool, true, false, List, [], ◌∷◌, ◌++◌, length, refl}
 use Rattle.std.proofs.Common.{arith, sym, ◌∙◌, ap, subst, ⊎_elim}
 use Rattle.std.proofs.lemmas.Bool.{cases_Bool, cases_eq, cases_lt, both_ways}
@@ -15,7 +15,7 @@ use Rattle.observe_theory.specs.Tail.{IsFollower, IsLeastFollower, AreFollowing,
 use Rattle.observe_theory.specs.Unseen.{IsUnseen}
 use Rattle.observe_theory.specs.Observed.{IsObservedOf}
 
--- ---- one tail
+-- ---- one fanout cone
 
 least_one : (n : Net) (rest other : List ℕ) (p q : ℕ) → rest ≡ other → IsLeastFollower n rest p → IsLeastFollower n other q → p ≡ q
 least_one n rest other p q same a b =
@@ -75,7 +75,7 @@ tail_fields t u a b c d =
     ∙ ap (λ (xs : List ℕ). made u.gates u.sides xs t.bare) c
     ∙ ap (λ (x : Bool). made u.gates u.sides u.watchers x) d
 
--- A window has one tail.
+-- A window has one fanout cone.
 pub tail_one : (n : Net) (w : Window) (t u : Tail) → IsTail n w t → IsTail n w u → t ≡ u
 tail_one n w t u a b =
     let gates : t.gates ≡ u.gates = gates_one n w.gates t.gates u.gates a.gates b.gates in
@@ -117,7 +117,7 @@ met_same n w s z a b h row bit low high below met =
     ap (λ (c : Cell). is_met c bit) own_b ∙ met_whole n w a.whole b.whole h row bit a.is_whole b.is_whole low high below (ap (λ (c : Cell). is_met c bit) (sym own_a) ∙ met))
     (cases_Bool (is_met (z.cell h row) bit))
 
--- All observed specifications of a window have the same chains.
+-- The same chains implement all observed specifications of a window.
 pub observed_same : (n : Net) (w : Window) (s z : Specification) (basis : Basis) (r : ℕ) → IsObservedOf n w s → IsObservedOf n w z → HasChain s basis r → HasChain z basis r
 observed_same n w s z basis r a b has =
     let inputs_a : s.inputs ≡ length w.inputs = a.narrowed.inputs ∙ a.is_whole.inputs in

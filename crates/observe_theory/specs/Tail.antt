@@ -1,11 +1,12 @@
--- The tail of a window: a bounded transitive fanout (TFO), in which its effect is looked for.
+-- The fanout cone of a window: a bounded transitive fanout (TFO), in which the effect of the window is
+-- observed.
 use Rattle.std.specs.Prelude.{◌≡◌, ℕ, ◌≤◌, ◌<◌, Bool, true, false, List, [], ◌∷◌, ◌++◌, length}
 use Rattle.net_theory.specs.Net.{Net}
 use Rattle.window_theory.specs.Places.{among, AreJust}
 use Rattle.window_theory.specs.Paths.{Reads}
 use Rattle.window_theory.specs.Window.{Window, IsReadBy, IsOutput}
 
--- ---- the gates of a tail
+-- ---- the gates of a fanout cone
 
 -- a gate outside `gates` with a fanin among them
 pub record IsFollower (n : Net) (gates : List ℕ) (p : ℕ) : Type 0 where
@@ -18,15 +19,15 @@ pub record IsLeastFollower (n : Net) (gates : List ℕ) (p : ℕ) : Type 0 where
   pub follower : IsFollower n gates p
   pub least : (q : ℕ) → IsFollower n gates q → p ≤ q
 
--- Gates that are taken one after the other, the first of them at the end of the list: each is the
--- least follower (fanout) of the window's gates and of those taken before it.
+-- Gates that are taken one after the other, with the first one last in the list: each is the least follower
+-- (fanout) of the window's gates and of those taken before it.
 unfoldable pub AreFollowing : Net → List ℕ → List ℕ → Type 0
 AreFollowing n gates [] = Unit {0}
 AreFollowing n gates (p ∷ before) = IsLeastFollower n (before ++ gates) p × AreFollowing n gates before
 
--- The gates of the tail: all of the transitive fanout, but at most 16.
--- Example: where gate 4 reads the window's gate 3, gate 5 reads gate 4 and gate 6 reads the
--- sources, they are 4, 5.
+-- The gates of the fanout cone: the least 16 of the transitive fanout, or all of it where it has fewer.
+-- Example: where gate 4 reads the window's gate 3, gate 5 reads gate 4, and gate 6 reads the sources, they
+-- are 4, 5.
 pub record AreTail (n : Net) (gates tail : List ℕ) : Type 0 where
   pub taken : List ℕ
   pub following : AreFollowing n gates taken
@@ -34,20 +35,21 @@ pub record AreTail (n : Net) (gates tail : List ℕ) : Type 0 where
   pub all : length taken < 16 → (p : ℕ) → IsFollower n (taken ++ gates) p → ⊥
   pub just : AreJust (λ p. among taken p ≡ true) tail
 
--- ---- the inputs and outputs of the tail
+-- ---- the inputs and outputs of the fanout cone
 
--- a side input: a fanin of the tail outside the window and the tail
+-- a side input: a fanin of the fanout cone outside the window and the fanout cone
 pub record IsSide (n : Net) (gates tail : List ℕ) (p : ℕ) : Type 0 where
   pub outside : among (tail ++ gates) p ≡ false
   pub read : IsReadBy n tail p
 
--- a watcher, an output of the tail: one of its gates with a sink or a gate outside the window and
--- the tail as fanout
+-- an output of the fanout cone: one of its gates that a sink reads, or a gate outside the window and the
+-- fanout cone
 pub record IsWatcher (n : Net) (gates tail : List ℕ) (p : ℕ) : Type 0 where
   pub inside : among tail p ≡ true
   pub seen : IsOutput n (tail ++ gates) p
 
--- a gate of the window with such a fanout: the window is directly observable
+-- a gate of the window that a sink reads, or a gate outside the window and the fanout cone: the window is
+-- directly observable
 pub record IsBare (n : Net) (gates tail : List ℕ) : Type 0 where
   pub place : ℕ
   pub inside : among gates place ≡ true
@@ -59,11 +61,11 @@ pub record Tail : Type 0 where
   pub watchers : List ℕ
   pub bare : Bool
 
--- The tail of a window, with its side inputs and its watchers, and whether the window is bare:
--- directly observable.
--- Example: where the one gate of the window is 3, gate 4 is AND of 3 and the source 1, and the only
--- sink is 4, the tail has the gate 4, the side input 1 and the watcher 4, and the window isn't
--- bare. Where 3 is a sink too it is.
+-- The fanout cone of a window, with its side inputs and its outputs, and whether the window is directly
+-- observable.
+-- Example: the one gate of the window is 3, gate 4 is AND of 3 and the source 1, and the only sink is 4. Then
+-- the fanout cone has the gate 4, the side input 1 and the output 4, and the window isn't directly
+-- observable. It is where 3 is a sink too.
 pub record IsTail (n : Net) (w : Window) (t : Tail) : Type 0 where
   pub gates : AreTail n w.gates t.gates
   pub sides : AreJust (IsSide n w.gates t.gates) t.sides

@@ -1,4 +1,4 @@
--- Tails ascend, and their side inputs don't depend on the window.
+-- Fanout cones ascend, and their side inputs don't depend on the window.
 use Rattle.std.specs.Prelude.{◌≡◌, ℕ, ◌≤◌, ◌<◌, true, false, List, [], ◌∷◌, ◌++◌, ◌⊎◌}
 use Rattle.std.proofs.Common.{arith, sym, subst, inl, inr, ⊎_elim, ◌≢◌}
 use Rattle.std.proofs.lemmas.Bool.{cases_Bool, both_ways}
@@ -11,7 +11,7 @@ use Rattle.window_theory.specs.WindowLaws.{reads_low}
 use Rattle.observe_theory.specs.Tail.{IsFollower, AreFollowing, IsSide, Tail, IsTail}
 use Rattle.observe_theory.specs.JoinedLaws.{in_front, in_back, in_parts, is_off, out_back}
 
--- ---- tails ascend
+-- ---- fanout cones ascend
 
 -- a follower after one more gate is a fanout of that gate, or was a follower before
 follower_before : (n : Net) (rest : List ℕ) (p x : ℕ) → IsFollower n (p ∷ rest) x → Reads n x p ⊎ (IsFollower n rest x × (x ≢ p))
@@ -39,7 +39,7 @@ follower_high n gates (p ∷ before) x q net are is on =
 
 -- ---- side inputs
 
--- on a path that leaves a set of gates and doesn't come back there is a follower
+-- a path that leaves a set of gates for good passes a follower
 crossing : (n : Net) (all : List ℕ) (g q : ℕ) → IsNet n → among all g ≡ true → LeadsUp n g q → among all q ≡ false → (x : ℕ) × (x ≤ q) × IsFollower n all x
 crossing n all _ _ net on (at_once g q reads) off = (q, omega arith, record { outside = off; place = g; inside = on; reads = reads })
 crossing n all _ _ net on (by_way_of g m q before reads) off =
@@ -48,7 +48,7 @@ crossing n all _ _ net on (by_way_of g m q before reads) off =
     (λ outside. let r = crossing n all g m net on before outside in (r.0, omega (arith, r.1, (reads_low n q m net reads).1), r.2))
     (cases_Bool (among all m))
 
--- the ascending list in place of the list of the gates as they were taken
+-- the ascending list of the gates that were taken
 same_taken : (gates taken tail : List ℕ) (p : ℕ) → ((q : ℕ) → among taken q ≡ true → among tail q ≡ true) → among (tail ++ gates) p ≡ false → among (taken ++ gates) p ≡ false
 same_taken gates taken tail p within off =
     is_off (taken ++ gates) p (λ on. both_ways (among (tail ++ gates) p) off

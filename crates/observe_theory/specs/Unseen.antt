@@ -7,12 +7,12 @@ use Rattle.window_theory.specs.Surround.{LeadsTo}
 use Rattle.window_theory.specs.Care.{values_with, HasRow}
 use Rattle.observe_theory.specs.Tail.{Tail}
 
--- the places from which the observing surround is expanded: the inputs of the window and of its
--- tail
+-- the nodes from which the observing fanin cone is expanded: the inputs of the window and of its fanout cone
 abbrev pub IsFirst : Window → Tail → ℕ → Type 0
 IsFirst w t p = (among w.inputs p ≡ true) ⊎ (among t.sides p ≡ true)
 
--- The leaves of the observing surround, where there are at most 12 such places.
+-- The leaves of the observing fanin cone, where the window and its fanout cone have at most 12 inputs
+-- together.
 pub record AreObserving (n : Net) (w : Window) (t : Tail) (leaves : List ℕ) : Type 0 where
   pub first : List ℕ
   pub just : AreJust (IsFirst w t) first
@@ -23,12 +23,12 @@ pub record AreObserving (n : Net) (w : Window) (t : Tail) (leaves : List ℕ) : 
 abbrev pub values_put : Net → Window → List ℕ → (ℕ → Bool) → ℕ → Bool
 values_put n w leaves = values_with n (among (leaves ++ w.outputs))
 
--- A row of the window's inputs is unseen, an observability don't-care, where under every assignment
--- of the leaves that gives the inputs this row the watchers have the same values, whatever bits the
--- window's outputs are forced to. (Their own bits are among these; a law says so.) A bare window
--- has no unseen row.
--- Example: where the gate 3 is the window, gate 4 is AND of 3 and the source 1, and the only sink
--- is 4, the rows that give the source 1 the bit 0 are unseen.
+-- A row of the window's inputs is unobservable, an observability don't-care, where under every assignment of
+-- the leaves that gives the inputs this row, the outputs of the fanout cone have the same values whatever
+-- bits the window's outputs are forced to. (The window's own values are among these bits; a law says so.) A
+-- directly observable window has no unobservable row.
+-- Example: where the gate 3 is the window, gate 4 is AND of 3 and the source 1, and the only sink is 4, the
+-- rows that give the source 1 the bit 0 are unobservable.
 pub record IsUnseen (n : Net) (w : Window) (t : Tail) (row : ℕ) : Type 0 where
   pub hidden : t.bare ≡ false
   pub leaves : List ℕ

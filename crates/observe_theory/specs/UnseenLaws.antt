@@ -1,4 +1,4 @@
--- On an unseen row every sink keeps its value, whatever bits the window's outputs are forced to.
+-- On an unobservable row every sink keeps its value, whatever bits the window's outputs are forced to.
 use Rattle.std.specs.Prelude.{◌≡◌, ℕ, zero, suc, ◌+◌, ◌≤◌, ◌<◌, Bool, true, false, List, ◌++◌, slice_get, slice_index_or, Some, refl}
 use Rattle.std.proofs.Common.{arith, sym, ◌∙◌, inl, inr, ⊎_elim}
 use Rattle.std.proofs.lemmas.Bool.{cases_lt, cases_Bool}
@@ -27,7 +27,7 @@ sink_within n p net on =
     let at = in_sinks n p on in
     (all_at (IsSigBelow (end_of n)) n.sinks at.0 (Place p) net.sinks at.1).1
 
--- a watcher is a place of the net
+-- an output of the fanout cone is a node of the net
 output_gate : (n : Net) (w : Window) (t : Tail) (p : ℕ) → IsNet n → IsTail n w t → among t.watchers p ≡ true → p < end_of n
 output_gate n w t p net is on =
     let watcher : IsWatcher n w.gates t.gates p = is.watchers.only p on in
@@ -36,7 +36,7 @@ output_gate n w t p net is on =
     (λ sink. sink_within n p net sink)
     watcher.seen.seen
 
--- The watchers keep their values.
+-- The outputs of the fanout cone keep their values.
 watcher_same : (n : Net) (w : Window) (t : Tail) (row p : ℕ) (given put : ℕ → Bool) → IsNet n → Belongs n w → IsTail n w t → IsUnseen n w t row → HasRow (value n given) w.inputs row → ArePut n given put → among t.watchers p ≡ true → values_with n (among w.outputs) put p ≡ value n given p
 watcher_same n w t row p given put net is tail unseen has are on =
     let leaves : List ℕ = unseen.leaves in
@@ -49,7 +49,7 @@ watcher_same n w t row p given put net is tail unseen has are on =
     on
     ∙ values_real n (among (leaves ++ w.outputs)) given p net
 
--- ---- all places that aren't hidden
+-- ---- all nodes that aren't hidden
 
 seen_same : (n : Net) (w : Window) (t : Tail) (row p : ℕ) (given put : ℕ → Bool) → IsNet n → Belongs n w → IsTail n w t → IsUnseen n w t row → HasRow (value n given) w.inputs row → ArePut n given put → IsOutput n (t.gates ++ w.gates) p → values_with n (among w.outputs) put p ≡ value n given p
 seen_same n w t row p given put net is tail unseen has are seen =

@@ -1,4 +1,4 @@
-//! Laws of the definitions, each the contract of a function that does nothing.
+//! Laws about the definitions, each the contract of a function that does nothing.
 ghost use Rattle.std.specs.Prelude.{◌≡◌, ℕ, ◌<◌, Bool, true, ◌++◌, List, map, slice_get, Some};
 ghost use Rattle.chain_theory.specs.Specification.{Specification};
 ghost use Rattle.chain_theory.specs.Chain.{Chain, IsChain};
@@ -15,9 +15,9 @@ ghost use Rattle.observe_theory.specs.Unseen.{AreObserving, IsUnseen};
 ghost use Rattle.observe_theory.specs.Observed.{IsObservedOf};
 ghost use Rattle.observe_theory.specs.ApartLaws.{ArePut};
 
-/// A tail is found from below: each follower is above all gates that were taken. So no side input
-/// is in the window's transitive fanout (TFO), and neither is an input or a leaf of the observing
-/// surround: these keep their values whatever bits the window's outputs are forced to.
+/// A fanout cone is found from below: each follower is above all gates that were taken before it. So no side
+/// input is in the window's transitive fanout (TFO), and neither is an input of the window or a leaf of the
+/// observing fanin cone: these keep their values whatever bits the window's outputs are forced to.
 pub fn sides_are_apart()
     ensures rising { (n : Net) (gates taken : List ℕ) (x q : ℕ) → IsNet n → AreFollowing n gates taken →
         IsFollower n (taken ++ gates) x → among taken q ≡ true → q < x }
@@ -29,7 +29,7 @@ pub fn sides_are_apart()
         IsApart n w.gates p → p < end_of n → values_with n (among w.outputs) put p ≡ value n given p }
 {}
 
-/// On an unseen row every sink keeps its value, whatever bits the window's outputs are forced to.
+/// On an unobservable row every sink keeps its value, whatever bits the window's outputs are forced to.
 pub fn unseen_rows_keep_the_sinks()
     ensures { (n : Net) (w : Window) (t : Tail) (row i : ℕ) (s : Sig) (given put : ℕ → Bool) → IsNet n → Belongs n w →
         IsTail n w t → IsUnseen n w t row → HasRow (value n given) w.inputs row → ArePut n given put →
@@ -44,8 +44,8 @@ pub fn observed_chains_keep_the_sinks()
         IsChain c → IsObservedOf n w s → Agrees c s → map (sig_value (spliced_value n w c given)) n.sinks ≡ sink_values n given }
 {}
 
-/// A window has at most one tail, and all its observed specifications have the same chains. So it
-/// is enough to know of one that no chain of fewer steps implements it.
+/// A window has exactly one fanout cone, and the same chains implement all its observed specifications. So if
+/// no chain of fewer steps implements one of them, none implements the others.
 pub fn observed_specifications_are_one()
     ensures tail { (n : Net) (w : Window) (t u : Tail) → IsTail n w t → IsTail n w u → t ≡ u }
     ensures chains { (n : Net) (w : Window) (s z : Specification) (basis : Basis) (r : ℕ) → IsObservedOf n w s → IsObservedOf n w z →

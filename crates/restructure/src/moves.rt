@@ -1,4 +1,5 @@
-//! Moves over a graph: those that make it smaller, and rounds of those that may keep its size. None makes it larger.
+//! Moves over a graph: those that make it smaller, and rounds of those that may keep its size. None makes it
+//! larger.
 ghost use Rattle.std.specs.Prelude.{IfOk};
 ghost use Rattle.resub_core.specs.Smaller.{IsNoLarger};
 
@@ -7,7 +8,7 @@ use share_core::share;
 use std::alloc::{AllocError, Global};
 use xag_core::Xag;
 
-/// The most gates that take the place of one.
+/// The most new gates that replace one gate.
 const NEW_GATES: u32 = 2;
 
 /// The graph after sharing and resubstitution, as long as these leave fewer gates.
@@ -22,8 +23,8 @@ fn reduced(alloc: Global, xag: &Xag) -> Result<Xag, AllocError>
     Ok(best)
 }
 
-/// The graph after a round of moves that may keep its size: resubstitution of gates at random, sharing with random ties,
-/// and then what makes it smaller.
+/// The graph after a round of moves that may keep its size: resubstitution of gates at random, sharing with
+/// random ties, and then what makes it smaller.
 #[tactic(auto, using(resub_core::specs::SmallerLaws::replacing))]
 fn round(alloc: Global, xag: &Xag, seed: u64) -> Result<Xag, AllocError>
     ensures { IfOk result (IsNoLarger xag.now) }
@@ -46,8 +47,8 @@ fn after_rounds(alloc: Global, xag: &Xag, rounds: u32) -> Result<Xag, AllocError
     Ok(best)
 }
 
-/// The graph after sharing and resubstitution, and then `rounds` rounds, unless these leave as many gates: the order of
-/// gates is kept then.
+/// The graph after sharing and resubstitution, and then after `rounds` rounds. Where the rounds don't save a
+/// gate, the graph before them, with its order of gates.
 #[tactic(auto, using(resub_core::specs::SmallerLaws::replacing))]
 pub(crate) fn improved(alloc: Global, xag: &Xag, rounds: u32) -> Result<Xag, AllocError>
     ensures { IfOk result (IsNoLarger xag.now) }

@@ -3,14 +3,15 @@
 use std::alloc::{AllocError, Global};
 use xag_core::{at, put};
 
-/// For each node a literal of an earlier one of its class to which it is equal, its own where it is the first.
+/// For each node a literal of an earlier node of its class that equals it; its own literal where it is the
+/// first of its class.
 #[derive(Drop)]
 pub(crate) struct Parities {
     above: Vec<u32>,
 }
 
 impl Parities {
-    /// Each of `nodes` nodes alone.
+    /// Each of `nodes` nodes in a class of its own.
     pub(crate) fn new(alloc: Global, nodes: u32) -> Result<Parities, AllocError> {
         let mut above = Vec::with_capacity(alloc, nodes as usize)?;
         for node in 0..nodes {
@@ -19,7 +20,7 @@ impl Parities {
         Ok(Parities { above })
     }
 
-    /// The literal of the first node of its class to which a literal is equal. Ways are halved as they are gone.
+    /// The literal of the first node of the class that equals the given literal. Paths are halved on the way.
     pub(crate) fn first(&mut self, literal: u32) -> u32 {
         let mut here = literal;
         for _step in 0..self.above.len() {
@@ -35,7 +36,7 @@ impl Parities {
         here
     }
 
-    /// Makes two literals equal, where their nodes are of two classes.
+    /// Makes two literals equal, unless their nodes are in one class already.
     pub(crate) fn unite(&mut self, one: u32, other: u32) {
         let a = self.first(one);
         let b = self.first(other);

@@ -1,6 +1,7 @@
-//! A graph as a net of some operators alone. Which gates are made complemented (their polarity) is chosen so that most
-//! gates have one of the operators: with AND, OR and their complements both operands of a gate are read alike, which is
-//! a relation between the polarities of two nodes. Where it can't be had an operand goes through a NOT gate.
+//! A graph as a net with a given set of operators. Which gates are complemented (their polarity) is chosen so
+//! that most gates have one of the operators: with AND, OR and their complements a gate has to read both
+//! operands with the same polarity, which relates the polarities of two nodes. Where that is impossible, an
+//! operand goes through a NOT gate.
 
 use crate::parities::Parities;
 use net_core::{Net, Op, Sig};
@@ -9,8 +10,8 @@ use std::alloc::{AllocError, Global};
 use xag_core::{Xag, XagGate, at, bit_at, put};
 use xag_net::{NetBuilder, operator};
 
-/// The net as it grows. By nodes: whether each is made complemented, its place, and the place of its complement, 0 where
-/// there is none.
+/// The growing net. By nodes of the graph: whether each is complemented, its node in the net, and the net's
+/// node for its complement, 0 where there is none.
 #[derive(Drop)]
 struct Making {
     net: NetBuilder,
@@ -20,7 +21,7 @@ struct Making {
     opposites: Vec<u32>,
 }
 
-/// Which nodes are made complemented.
+/// Which nodes are complemented.
 fn turned_nodes(alloc: Global, xag: &Xag) -> Result<Vec<bool>, AllocError> {
     let mut parities = Parities::new(alloc, xag.nodes())?;
     for source in 1..=xag.sources() {
@@ -41,7 +42,8 @@ fn turned_nodes(alloc: Global, xag: &Xag) -> Result<Vec<bool>, AllocError> {
     Ok(turned)
 }
 
-/// An operator that complements, over an operand that is read twice.
+/// An operator that complements a node read as both operands, if one is allowed; else NOT of the first
+/// operand.
 fn negation(allowed: Basis) -> Op {
     for word in [12, 10, 14, 8] {
         if allowed.contains(Op::new(word)) {
@@ -52,12 +54,12 @@ fn negation(allowed: Basis) -> Op {
 }
 
 impl Making {
-    /// Whether a literal is the complement of what stands at its node's place.
+    /// Whether a literal is the complement of the net's node for its node.
     fn is_turned(&self, literal: u32) -> bool {
         bit_at(&self.turned, literal >> 1) != (literal & 1 == 1)
     }
 
-    /// The place of a node, or of its complement.
+    /// The net's node for a node, or for its complement.
     fn place_of(&mut self, node: u32, is_opposite: bool) -> Result<u32, AllocError> {
         let place = at(&self.places, node);
         if !is_opposite {
@@ -72,7 +74,8 @@ impl Making {
         Ok(opposite)
     }
 
-    /// Which operands of a gate go through a NOT gate, so that its operator is allowed; none where that doesn't help.
+    /// Which operands of a gate go through a NOT gate so that its operator is allowed; none where that
+    /// doesn't help.
     fn opposed(&self, gate: XagGate, all: bool) -> (bool, bool) {
         let first = self.is_turned(gate.first);
         let second = self.is_turned(gate.second);
@@ -130,8 +133,8 @@ fn begun(alloc: Global, xag: &Xag, allowed: Basis) -> Result<Making, AllocError>
     })
 }
 
-/// The net of a graph, gate by gate, and NOT gates before those that need them. Its operators are of a set where
-/// polarities can bring that about.
+/// The net of a graph, gate by gate, with NOT gates before the gates that need them. Its operators are in
+/// `allowed` where polarities and NOT gates allow that.
 pub(crate) fn net_within(alloc: Global, xag: &Xag, allowed: Basis) -> Result<Net, AllocError> {
     let mut making = begun(alloc, xag, allowed)?;
     let mut node = xag.sources().wrapping_add(1);

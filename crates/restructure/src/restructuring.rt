@@ -14,13 +14,13 @@ use std::alloc::{AllocError, Global};
 use xag_core::Xag;
 use xag_net::{from_net, into_net};
 
-/// The most learnt clauses of a comparison.
+/// The conflict limit of the equivalence check.
 const MOST_CLAUSES: u32 = 100_000;
 
 /// The most gates of a net whose moves are made in both orders.
 const MOST_TWICE: usize = 10_000;
 
-/// The operators of a net, as a set, with those of `bits`.
+/// The set of a net's operators together with those of `bits`.
 fn operators_of(net: &Net, bits: u16) -> u16 {
     let mut found = bits;
     for gate in net.gates() {
@@ -29,7 +29,7 @@ fn operators_of(net: &Net, bits: u16) -> u16 {
     found
 }
 
-/// The graph of a net after moves, which keep the order of its gates where `keeps_order`.
+/// The graph of a net after moves; with `keeps_order` in the order of its gates.
 fn graph_after(
     alloc: Global,
     net: &Net,
@@ -41,9 +41,9 @@ fn graph_after(
     Ok(best)
 }
 
-/// The graph after moves: the smaller one of two, the first where both have as many gates. The first is made with the gates
-/// in depth-first order, the second with those in the order of the net: a region takes the greatest gate first, so that the
-/// order decides which gates it has. Of a large net the first alone is made.
+/// The graph after moves, made twice, with the gates in depth-first order and in the order of the net, since
+/// the regions of resubstitution depend on the order. The smaller graph is taken, the first where both have
+/// as many gates. For a net of more than `MOST_TWICE` gates only the first is made.
 fn best_graph(alloc: Global, net: &Net, rounds: u32) -> Result<Xag, AllocError> {
     let walked = graph_after(alloc, net, false, rounds)?;
     if net.gates().len() > MOST_TWICE {
@@ -57,9 +57,9 @@ fn best_graph(alloc: Global, net: &Net, rounds: u32) -> Result<Xag, AllocError> 
     }
 }
 
-/// The net after moves over its graph, before it is judged: with as many gates as the graph has and a NOT for each sink
-/// that needs one, if its operators are of the basis or of the net; else with more NOT gates, so that they are where
-/// polarities can bring that about.
+/// The net after moves over its graph, before it is checked. Where all its operators are of the basis or of
+/// the given net, it has a gate for each gate of the graph and a NOT for each sink that needs one; otherwise
+/// polarities and further NOT gates bring its operators into that set where they can.
 fn candidate(alloc: Global, net: &Net, basis: Basis, rounds: u32) -> Result<Net, AllocError> {
     let best = best_graph(alloc, net, rounds)?;
     let allowed = operators_of(net, basis.get());
@@ -70,8 +70,8 @@ fn candidate(alloc: Global, net: &Net, basis: Basis, rounds: u32) -> Result<Net,
     net_within(alloc, &best, Basis::new(allowed))
 }
 
-/// A smaller net that can stand in the net's place, by sharing, by resubstitution, and by `rounds` rounds of moves that
-/// keep the size. None where the moves don't find one, or where it isn't found to be equivalent.
+/// A smaller net that may replace the given one, by sharing, resubstitution, and `rounds` rounds of
+/// size-preserving moves. None where the moves don't find one, or where the check doesn't find it equivalent.
 pub fn restructured<S: Solver>(
     alloc: Global,
     net: &Net,

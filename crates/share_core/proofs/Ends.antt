@@ -1,4 +1,4 @@
--- The sources and the number of sinks, over one pass after another.
+-- The sources and the number of sinks stay the same, one kind after another.
 use Rattle.std.proofs.Common.{◌≡◌, ◌∙◌, refl, subst, sym}
 use Rattle.xag_core.specs.Xag.{Xag, HasEnds}
 

@@ -4,20 +4,21 @@ use crate::kind::Kind;
 use std::alloc::{AllocError, Global};
 use xag_core::{Context, Xag, XagGate, bit_at, put};
 
-/// The most literals of a row: pairs grow with its square.
+/// The most literals of a row, since the number of its pairs grows quadratically.
 const MOST_LITERALS: usize = 100;
 
-/// The most gates of a tree that are gone through, since a gate that is read twice is gone through twice.
+/// The most gates of a tree that are visited; a gate with several fanouts in the tree is visited once for
+/// each.
 const MOST_STEPS: usize = 400;
 
-/// A root and the literals of its tree, rising.
+/// A root and the literals of its tree, ascending.
 #[derive(Drop)]
 pub struct Row {
     pub root: u32,
     pub literals: Vec<u32>,
 }
 
-/// Marks the node of an operand as a root where its tree doesn't go on into the tree of the gate.
+/// Marks the node of an operand as a root where its tree isn't part of the gate's tree.
 fn mark_operand(
     roots: &mut [bool],
     xag: &Xag,
@@ -37,8 +38,8 @@ fn mark_operand(
     }
 }
 
-/// The roots: gates of the kind that a sink reads, or a gate of another kind, or, unless trees go on
-/// through these, several.
+/// The roots: gates of the kind that a sink or a gate of another kind reads, or, unless trees go through
+/// them, that several gates read.
 fn mark_roots(
     alloc: Global,
     xag: &Xag,
@@ -59,7 +60,7 @@ fn mark_roots(
     Ok(roots)
 }
 
-/// Puts an operand with the gates to go through, or with the literals.
+/// Puts an operand on the stack of gates to visit, or among the literals.
 fn sort_operand(
     xag: &Xag,
     roots: &[bool],
@@ -105,7 +106,7 @@ fn tree_literals(
     Ok(literals)
 }
 
-/// The literals that stand in a sorted row an odd number of times.
+/// The literals that occur in a sorted row an odd number of times (x XOR x = 0).
 fn odd_ones(alloc: Global, sorted: &[u32]) -> Result<Vec<u32>, AllocError> {
     let mut odd: Vec<u32> = Vec::with_capacity(alloc, sorted.len())?;
     for literal in sorted {
@@ -118,7 +119,8 @@ fn odd_ones(alloc: Global, sorted: &[u32]) -> Result<Vec<u32>, AllocError> {
     Ok(odd)
 }
 
-/// The literals of a sorted row, each once; none where one and its complement stand there.
+/// The distinct literals of a sorted row; none where both a literal and its complement occur, since the AND
+/// is 0 then.
 fn distinct_ones(alloc: Global, sorted: &[u32]) -> Result<Vec<u32>, AllocError> {
     let mut distinct: Vec<u32> = Vec::with_capacity(alloc, sorted.len())?;
     for literal in sorted {

@@ -1,5 +1,5 @@
-//! Taking out pairs: a pair becomes a gate, and the gate's literal stands in its place in each row. Where
-//! a literal stands is noted in lists, in which a row that has it no more is passed over.
+//! Extraction of pairs: a pair becomes a gate, and the gate's literal replaces it in each row. Lists say in
+//! which rows each literal occurs; rows that have lost it are skipped.
 
 use crate::collecting::Row;
 use crate::pairs::{Pair, Pairs};
@@ -9,7 +9,7 @@ use xag_core::{Edit, NONE, Random, XagGate, at, put};
 /// The most pairs that are counted at the start.
 const MOST_PAIRS: usize = 4_000_000;
 
-/// The most ranks that are looked at.
+/// The most ranks that are taken off the heap.
 const MOST_RANKS: u64 = 1_000_000_000;
 
 /// The rows of each literal: a list that begins at the literal's head.
@@ -30,7 +30,7 @@ impl Places {
         })
     }
 
-    /// The row has the literal.
+    /// Notes that the row has the literal.
     fn note(&mut self, literal: u32, row: u32) -> Result<(), AllocError> {
         let entry = (self.rows.len() as u64 & 0xFFFF_FFFF) as u32;
         self.rows.push(row)?;
@@ -39,14 +39,14 @@ impl Places {
         Ok(())
     }
 
-    /// Room for one more gate: both its literals.
+    /// Makes room for the two literals of one more gate.
     fn extend(&mut self) -> Result<(), AllocError> {
         self.heads.push(NONE)?;
         self.heads.push(NONE)?;
         Ok(())
     }
 
-    /// The rows that had a literal.
+    /// The rows that have, or had, a literal.
     fn rows_with(&self, alloc: Global, literal: u32) -> Result<Vec<u32>, AllocError> {
         let mut found = Vec::new(alloc);
         let mut entry = at(&self.heads, literal);
@@ -61,7 +61,7 @@ impl Places {
     }
 }
 
-/// Counts the pairs of a row with one literal, which stands at `index`.
+/// Counts the pairs of a row with the literal at `index` first.
 fn count_with(pairs: &mut Pairs, literals: &[u32], index: usize) -> Result<(), AllocError> {
     let Some(literal) = literals.get(index) else {
         return Ok(());
@@ -72,7 +72,7 @@ fn count_with(pairs: &mut Pairs, literals: &[u32], index: usize) -> Result<(), A
     Ok(())
 }
 
-/// Counts the pairs of a row, and notes where its literals stand.
+/// Counts the pairs of a row, and notes where its literals occur.
 fn count_row(
     pairs: &mut Pairs,
     places: &mut Places,
@@ -86,7 +86,7 @@ fn count_row(
     Ok(())
 }
 
-/// Counts the pairs of all rows, up to a bound.
+/// Counts the pairs of all rows, up to `MOST_PAIRS`.
 fn count_all(pairs: &mut Pairs, places: &mut Places, rows: &[Row]) -> Result<(), AllocError> {
     for (row, entry) in rows.iter().enumerate() {
         if pairs.len() < MOST_PAIRS {
@@ -97,7 +97,7 @@ fn count_all(pairs: &mut Pairs, places: &mut Places, rows: &[Row]) -> Result<(),
     Ok(())
 }
 
-/// A literal goes out of a row, or comes into it: its pairs with the others change.
+/// A literal leaves a row or enters it: updates the counts of its pairs with the others.
 fn change_pairs(
     pairs: &mut Pairs,
     literals: &[u32],
@@ -110,7 +110,7 @@ fn change_pairs(
     Ok(())
 }
 
-/// In a row that has both literals of the pair the gate's literal stands for them.
+/// Replaces both literals of the pair by the gate's literal in a row that has both.
 fn replace_in(
     pairs: &mut Pairs,
     places: &mut Places,
@@ -131,7 +131,7 @@ fn replace_in(
     places.note(literal, row)
 }
 
-/// Takes a pair out of all rows that have it.
+/// Extracts a pair from all rows that have it.
 fn take_out(
     alloc: Global,
     pairs: &mut Pairs,
@@ -150,7 +150,7 @@ fn take_out(
     Ok(())
 }
 
-/// Takes out pairs while some pair stands in two rows.
+/// Extracts pairs while some pair occurs in two rows.
 pub fn extract(
     alloc: Global,
     edit: &mut Edit,
@@ -179,7 +179,7 @@ pub fn extract(
     Ok(())
 }
 
-/// Exchanges the entry at `index` with a random one at or below it.
+/// Swaps the entry at `index` with a random one at or before it.
 fn exchange(literals: &mut [u32], index: usize, random: &mut Random) {
     let other = random.below((index as u64 & 0xFFFF_FFF) as u32 + 1) as usize;
     if index < literals.len() && other < literals.len() {
@@ -187,14 +187,14 @@ fn exchange(literals: &mut [u32], index: usize, random: &mut Random) {
     }
 }
 
-/// Puts a row into a random order.
+/// Shuffles a row.
 pub fn shuffle(literals: &mut [u32], random: &mut Random) {
     for index in 0..literals.len() {
         exchange(literals, index, random);
     }
 }
 
-/// What is left of a row, as a chain of gates; its root is redirected there.
+/// Makes a chain of gates of what is left of a row, and substitutes it for the root.
 pub fn fold(edit: &mut Edit, row: &Row, is_xor: bool) -> Result<(), AllocError> {
     let mut joined = at(&row.literals, 0);
     for literal in row.literals.iter().skip(1) {

@@ -1,9 +1,9 @@
-//! Which trees a pass takes apart.
+//! Kinds of trees.
 
 use xag_core::XagGate;
 
-/// The gates of a pass: XOR where `is_xor`, else AND; and whether a tree goes on through gates that
-/// several read.
+/// Which trees are shared: of XOR gates where `is_xor`, else of AND gates; and whether a tree goes through
+/// gates that several gates read.
 #[derive(Clone, Copy)]
 pub struct Kind {
     pub is_xor: bool,
@@ -11,8 +11,8 @@ pub struct Kind {
 }
 
 impl Kind {
-    /// Whether a tree of this kind may go on through an operand: its gate has the kind, and the literal
-    /// doesn't complement an AND.
+    /// Whether a tree of this kind can go through an operand: its gate has the kind, and the literal doesn't
+    /// complement an AND.
     pub fn goes_on(self, gate: XagGate, literal: u32) -> bool {
         gate.is_xor == self.is_xor && (self.is_xor || literal & 1 == 0)
     }

@@ -1,5 +1,5 @@
-//! In how many rows each pair of literals stands, and which stands in most: a heap of ranks, in which a
-//! rank that isn't its pair's any more is passed over.
+//! The number of rows with each pair of literals, and the most frequent pair: a heap of ranks, in which
+//! outdated ranks are skipped.
 
 use indexmap::IndexSet;
 use std::alloc::{AllocError, Global};
@@ -16,7 +16,7 @@ pub struct Pair {
     pub high: u32,
 }
 
-/// The pairs in the order in which they were met, the number of rows of each, and the heap.
+/// The pairs in the order in which they were met, the number of rows with each, and the heap.
 #[derive(Drop)]
 pub struct Pairs {
     met: IndexSet<Pair>,
@@ -26,7 +26,7 @@ pub struct Pairs {
 }
 
 impl Pairs {
-    /// No pairs. With `random` ties are broken at random.
+    /// No pairs. With `random`, ties are broken at random.
     pub fn new(alloc: Global, random: Option<Random>) -> Pairs {
         Pairs {
             met: IndexSet::new(alloc),
@@ -36,7 +36,7 @@ impl Pairs {
         }
     }
 
-    /// What breaks ties of a pair: 26 bits.
+    /// The tie-breaker of a pair: 26 bits.
     fn tie(&mut self, low: u32) -> u64 {
         match &mut self.random {
             Some(random) => u64::from(random.next()) & MOST,
@@ -44,8 +44,8 @@ impl Pairs {
         }
     }
 
-    /// Puts the rank of a pair into the heap: its count in 12 bits, then the tie, then the index, the
-    /// first index greatest.
+    /// Pushes the rank of a pair: its count in 12 bits, then the tie-breaker in 26 bits, then the index in 26
+    /// bits, with the first index greatest.
     fn rank(&mut self, index: u32, count: u32, low: u32) -> Result<(), AllocError> {
         if count < 2 {
             return Ok(());
@@ -58,7 +58,7 @@ impl Pairs {
         Ok(())
     }
 
-    /// One row more, or one less, has both literals.
+    /// One more row, or one row less, has both literals.
     pub fn change(&mut self, a: u32, b: u32, more: bool) -> Result<(), AllocError> {
         let pair = Pair {
             low: a.min(b),
@@ -84,7 +84,7 @@ impl Pairs {
         self.counts.len()
     }
 
-    /// Takes the rank on top off the heap. The pair, if that is its rank still; None without a rank.
+    /// Pops the top rank. Returns its pair if the rank is up to date, and None if the heap is empty.
     pub fn take(&mut self) -> Option<Option<Pair>> {
         let rank = self.heap.pop()?;
         let index = (MOST - (rank & MOST)) as u32;

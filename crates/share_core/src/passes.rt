@@ -1,4 +1,4 @@
-//! The passes over AND and XOR trees, of which each that has no more gates is kept.
+//! Sharing in AND and XOR trees, kind by kind; a result with no more gates is kept.
 ghost use Rattle.std.specs.Prelude.{◌≤◌, IfOk, IfSome, length};
 ghost use Rattle.xag_core.specs.Xag.{HasEnds};
 
@@ -8,7 +8,7 @@ use crate::kind::Kind;
 use std::alloc::{AllocError, Global};
 use xag_core::{Edit, Random, Xag, rebuild};
 
-/// Puts the rows into a random order each.
+/// Shuffles each row.
 fn shuffle_rows(rows: &mut [Row], random: Random) {
     let mut random = random;
     for row in rows.iter_mut() {
@@ -24,7 +24,7 @@ fn fold_rows(edit: &mut Edit, rows: &[Row], is_xor: bool) -> Result<(), AllocErr
     Ok(())
 }
 
-/// The graph after one pass; None where it has no trees of the kind.
+/// The graph after sharing in the trees of one kind; None where there are none.
 fn pass(
     alloc: Global,
     xag: &Xag,
@@ -53,7 +53,7 @@ fn pass(
     rebuild(alloc, xag, &edit)
 }
 
-/// The graph after one pass, or as it is where that has more gates.
+/// The graph after sharing in the trees of one kind, or the given one where that has fewer gates.
 #[tactic(auto, using(crate::proofs::Ends::ends))]
 fn better(alloc: Global, xag: Xag, kind: Kind, random: Option<Random>) -> Result<Xag, AllocError>
     ensures ends { IfOk result (HasEnds xag) }
@@ -71,9 +71,9 @@ fn better(alloc: Global, xag: Xag, kind: Kind, random: Option<Random>) -> Result
     }
 }
 
-/// The graph after sharing pairs of operands of AND and of XOR trees, first of those through gates that one
-/// gate reads, then through all. With a seed ties, and the order of what is left of a tree, are random;
-/// another graph of the same size may be answered.
+/// The graph after sharing pairs of operands of AND and of XOR trees, first without, then with trees through
+/// gates that several gates read. With a seed, ties and the order of what is left of a tree are random, and
+/// the result may be another graph of the same size.
 #[tactic(auto, using(crate::proofs::Ends::ends))]
 pub fn share(alloc: Global, xag: &Xag, seed: Option<u64>) -> Result<Xag, AllocError>
     ensures ends { IfOk result (HasEnds xag.now) }

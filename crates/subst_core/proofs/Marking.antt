@@ -1,4 +1,4 @@
--- Marks that are written one by one, and turned.
+-- Marks that are written one by one, and complemented.
 use Rattle.std.proofs.Common.{◌≡◌, ℕ, zero, suc, ◌+◌, ◌<◌, Bool, true, false, not, ◌&&◌, ◌||◌, List, [], ◌∷◌, ◌++◌, length, set, get_or, replicate, refl, ◌∙◌, ap, sym, subst, arith, ⊎_elim, ltb, if◌then◌else◌}
 use Rattle.std.specs.Prelude.{slice_get, slice_index_or, Some}
 use Rattle.std.proofs.lemmas.Bool.{cases_eq, cases_lt, both_ways, lt-ltb, le-ltb, cond-true, cond-false, eq-eqb, ne_eqb}
@@ -11,7 +11,7 @@ use Rattle.window_theory.specs.PlaceLaws.{among_cases, among_first, among_later}
 use Rattle.subst_core.specs.Lists.{AreBelow, AreUnmarked}
 use Rattle.subst_core.specs.Placing.{with_places}
 
--- ---- places that are marked
+-- ---- nodes that are marked
 
 or_true : (a : Bool) → (a || true) ≡ true
 or_true true = refl
@@ -34,7 +34,7 @@ next_at marks rest q p low =
     ∙ sym (ap (λ (b : Bool). (b || among rest p) || get_or marks p false) (ne_eqb p q other)))
     (cases_eq p q)
 
--- the first of the places is marked
+-- the first of the nodes is marked
 pub mark_next : (marks : List Bool) (places rest : List ℕ) (q : ℕ) → places ≡ q ∷ rest → q < length marks → with_places (set_of (set marks q true)) rest ≡ with_places (set_of marks) places
 mark_next marks places rest q e low = λ i p. (next_at marks rest q p low ∙ ap (λ (xs : List ℕ). with_places (set_of marks) xs p) (sym e)) i
 
@@ -42,7 +42,7 @@ pub mark_none : (marks : List Bool) (places : List ℕ) → length places ≡ 0 
 mark_none marks [] e = refl
 mark_none marks (q ∷ places) e = absurd (omega arith)
 
--- where nothing was marked just the places are
+-- where nothing was marked exactly the nodes are
 pub places_alone : (places : List ℕ) → with_places no_marks places ≡ among places
 places_alone places = λ i p. or_none (among places p) i
 
@@ -55,9 +55,9 @@ no_marks_at (suc n) (suc p) = no_marks_at n p
 pub none_marked : (n : ℕ) → set_of (replicate n false) ≡ no_marks
 none_marked n = λ i p. no_marks_at n p i
 
--- ---- marks that are turned
+-- ---- marks that are complemented
 
--- the first of the marks are turned
+-- the first of the marks are complemented
 abbrev pub turned : List Bool → ℕ → ℕ → Bool
 turned marks count p = if ltb p count then not (set_of marks p) else set_of marks p
 
@@ -90,14 +90,14 @@ not_or true false = refl
 not_or false true = refl
 not_or false false = refl
 
--- ---- places below a bound
+-- ---- nodes below a bound
 
 pub first_below : (bound : ℕ) (places rest : List ℕ) (p : ℕ) → places ≡ p ∷ rest → AreBelow bound places → p < bound
 first_below bound places rest p e are =
     let below : AreBelow bound (p ∷ rest) = subst (AreBelow bound) e are in
     below 0 0 (omega arith)
 
--- the places but the last, and the last
+-- the nodes before the last, and the last
 pub front_below : (bound : ℕ) (places rest : List ℕ) (p : ℕ) → places ≡ rest ++ p ∷ [] → AreBelow bound places → AreBelow bound rest
 front_below bound places rest p e are =
     at_all (λ (q : ℕ). q < bound) rest (λ i q at. all_at (λ (q : ℕ). q < bound) places i q are (ap (λ (xs : List ℕ). slice_get xs i) e ∙ at_front rest (p ∷ []) i q at))
@@ -106,7 +106,7 @@ pub last_below : (bound : ℕ) (places rest : List ℕ) (p : ℕ) → places ≡
 last_below bound places rest p e are =
     all_at (λ (q : ℕ). q < bound) places (length rest) p are (ap (λ (xs : List ℕ). slice_get xs (length rest)) e ∙ at_end rest p)
 
--- a list whose places are below a bound
+-- a list whose nodes are below a bound
 among_at : (places : List ℕ) (i p : ℕ) → slice_get places i ≡ Some p → among places p ≡ true
 among_at [] i p at = absurd cc
 among_at (q ∷ places) zero p at = let same : q ≡ p = cc in subst (λ (x : ℕ). among (q ∷ places) x ≡ true) same (among_first q places)
@@ -115,9 +115,9 @@ among_at (q ∷ places) (suc i) p at = among_later q p places (among_at places i
 pub list_below : (bound : ℕ) (places : List ℕ) → ((p : ℕ) → among places p ≡ true → p < bound) → AreBelow bound places
 list_below bound places each = at_all (λ (q : ℕ). q < bound) places (λ i p at. each p (among_at places i p at))
 
--- ---- places that aren't marked
+-- ---- nodes that aren't marked
 
--- once the first isn't marked those that are left decide
+-- once the first isn't marked, the others decide
 pub unmarked_next : (marks : List Bool) (places left rest : List ℕ) (q : ℕ) → left ≡ q ∷ rest → slice_index_or marks q false ≡ false → (AreUnmarked (set_of marks) left → AreUnmarked (set_of marks) places) → AreUnmarked (set_of marks) rest → AreUnmarked (set_of marks) places
 unfolding set_of
 unmarked_next marks places left rest q parts off was others =

@@ -1,4 +1,4 @@
--- A chain's steps after the gates that are kept, and its outs.
+-- A chain's steps after the copied gates, and its outputs.
 use Rattle.std.proofs.Common.{◌≡◌, ℕ, zero, suc, ◌+◌, ◌-◌, ◌≤◌, ◌<◌, Bool, true, List, [], ◌∷◌, ◌++◌, length, length-append, map, set, get_or, ltb, if◌then◌else◌, add-zero, refl, ◌∙◌, ap, sym, subst, arith, ⊎_elim}
 use Rattle.std.specs.Prelude.{Some, slice_index_or, ◌==◌}
 use Rattle.std.proofs.lemmas.Bool.{cases_eq, cases_lt, lt-ltb, le-ltb, cond-true, cond-false, eq-eqb, ne_eqb}
@@ -23,7 +23,7 @@ use Rattle.window_theory.specs.Splice.{Fits, input_place, step_gate, out_sig, wi
 use Rattle.subst_core.specs.MapLaws.{map_same, map_like}
 use Rattle.subst_core.specs.Placing.{chain_sig, chain_gate, steps_kept, with_chain}
 
--- ---- gates that are all kept
+-- ---- gates that are all copied
 
 abbrev all : ℕ → Bool
 all p = true
@@ -34,7 +34,7 @@ put_at places place s = cond-true (place == place) s (places place) (eq-eqb plac
 put_below : (places : ℕ → Sig) (place : ℕ) (s : Sig) (p : ℕ) → p < place → put_sig places place s p ≡ places p
 put_below places place s p low = cond-false (p == place) s (places p) (ne_eqb p place (λ (same : p ≡ place). omega (arith, same, low)))
 
--- they stand one after the other
+-- they get consecutive nodes
 all_places : (sources : ℕ) (k : Kept) (place : ℕ) (gs : List Gate) (i : ℕ) → i < length gs → (kept_after all sources k place gs).places (place + i) ≡ Place (sources + 1 + length k.gates + i)
 unfolding kept_after
 all_places sources k place [] i low = absurd (omega arith)
@@ -55,7 +55,7 @@ all_places sources k place (g ∷ gs) (suc i) low =
     ∙ all_places sources next (place + 1) gs i (omega arith)
     ∙ ap Place size
 
--- each with its operands where they went
+-- each with the new signals of its operands
 all_gates : (sources : ℕ) (k : Kept) (place : ℕ) (gs : List Gate) → AreMarkedAt all place gs → (kept_after all sources k place gs).gates ≡ k.gates ++ map (moved_gate (kept_after all sources k place gs).places) gs
 unfolding kept_after
 all_gates sources k place [] are = sym (append-nil k.gates)
@@ -70,7 +70,7 @@ all_gates sources k place (g ∷ gs) are =
 
 -- ---- a chain
 
--- a place of the chain is where it is said to be
+-- a place of the chain has the signal that `chain_sig` says
 chain_placed : (sources : ℕ) (w : Window) (c : Chain) (k : Kept) (j : ℕ) → Fits w c → 1 ≤ j → j ≤ c.n + length c.steps → (steps_kept sources w c k).places j ≡ chain_sig k.places w.inputs (sources + 1 + length k.gates) j
 chain_placed sources w c k j fits some high =
     let start : Kept = record { places = λ j. k.places (input_place w j); gates = k.gates } in
@@ -124,7 +124,7 @@ chain_outs sources w c k fits =
     map_same (out_sig is) (out_sig said) c.outs (λ i x at.
     out_same is said last x (all_at (NamesPlace last) c.outs i x fits.chain.outs at) (λ j some high. chain_placed sources w c k j fits some high))
 
--- What the code puts there is the chain.
+-- What the code appends is the chain.
 pub chain_put : (sources first : ℕ) (w : Window) (c : Chain) (old_places new_places sigs : List Sig) (old new : List Gate) → Fits w c → first ≡ sources + 1 + length old → new ≡ old ++ map (chain_gate (places_of old_places) w.inputs first) c.steps → sigs ≡ map (out_sig (chain_sig (places_of old_places) w.inputs first)) c.outs → places_of new_places ≡ with_sigs (places_of old_places) w.outputs sigs → kept new_places new ≡ with_chain sources w c (kept old_places old)
 chain_put sources first w c old_places new_places sigs old new fits at is_gates is_sigs is_places =
     let k : Kept = kept old_places old in
@@ -134,7 +134,7 @@ chain_put sources first w c old_places new_places sigs old new fits at is_gates 
     let made : (ℕ → Sig) → List Gate → Kept = λ f g. record { places = f; gates = g } in
     ap (λ (f : ℕ → Sig). made f new) places ∙ ap (made (with_chain sources w c k).places) gates
 
--- a step of the program stands at its place
+-- a step of the program is at its place
 pub step_stands : (inputs : List ℕ) (steps : List program.Step) (i : ℕ) (s : program.Step) → AreSteps (length inputs) (steps_of steps) → i < length steps → s ≡ get_or steps i s → IsStepAt (length inputs + 1 + i) (step_of s)
 step_stands inputs steps i s are low is =
     are.each i (step_of s) (map_at step_of steps i s (slice_get-get_or steps i s low ∙ ap Some (sym is)))
@@ -158,7 +158,7 @@ last_put f rest p [] low = absurd (omega arith)
 last_put f [] p (s ∷ sigs) low = refl
 last_put f (q ∷ rest) p (s ∷ sigs) low = ap (λ (g : ℕ → Sig). put_sig g q s) (last_put f rest p sigs (omega arith))
 
--- the last of the places is put
+-- the last of the nodes is put
 pub put_next : (places sigs : List Sig) (left rest : List ℕ) (p : ℕ) (s : Sig) → left ≡ rest ++ p ∷ [] → p < length places → length rest < length sigs → s ≡ get_or sigs (length rest) Zero → with_sigs (places_of (set places p s)) rest sigs ≡ with_sigs (places_of places) left sigs
 put_next places sigs left rest p s e low within is =
     ap (λ (f : ℕ → Sig). with_sigs f rest sigs) (written places p s low ∙ ap (put_sig (places_of places) p) is)

@@ -1,4 +1,4 @@
--- The three walks of a splice, put together.
+-- The three copying loops of a substitution, put together.
 use Rattle.std.proofs.Common.{◌≡◌, ℕ, ◌+◌, ◌≤◌, ◌<◌, ◌^◌, Bool, not, ◌&&◌, List, length, map, ◌∙◌, ap, arith}
 use Rattle.net_theory.specs.declared.data.Sig.{Sig}
 use Rattle.net_theory.specs.declared.data.Gate.{Gate}
@@ -16,7 +16,7 @@ use Rattle.subst_core.specs.Lists.{AreBelow}
 use Rattle.subst_core.proofs.Marking.{list_below}
 use Rattle.subst_core.proofs.Placings.{kept_same, count_same}
 
--- ---- the places of a window
+-- ---- the nodes of a window
 
 pub inputs_below : (n : Net) (w : Window) → Belongs n w → AreBelow (end_of n) w.inputs
 inputs_below n w is = list_below (end_of n) w.inputs (λ p on. (is.within p on).1)
@@ -56,7 +56,7 @@ late_few n w c net is fits few =
 
 -- ---- the net
 
--- what is put together is the net in which the chain has taken the window's place
+-- what the code puts together is the net after the substitution
 pub made_is : (n : Net) (w : Window) (c : Chain) (places : List Sig) (sources : ℕ) (gates : List Gate) (sinks : List Sig) → kept places gates ≡ all_kept n w c → sources ≡ n.sources → sinks ≡ map (moved (places_of places)) n.sinks → record { sources = sources; gates = gates; sinks = sinks } ≡ spliced n w c
 unfolding spliced
 made_is n w c places sources gates sinks is_kept same_sources same_sinks =

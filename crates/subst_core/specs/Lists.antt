@@ -4,7 +4,7 @@ use Rattle.window_theory.specs.Places.{among}
 use Rattle.window_theory.specs.Window.{Window}
 use Rattle.subst_core.specs.declared.lists.WindowLists.{WindowLists}
 
--- The window of the lists. It is given no root, and nothing here speaks of one.
+-- The window of the lists. Its root is 0, since nothing here depends on it.
 abbrev pub window_of : WindowLists → Window
 window_of l = record { root = 0; partner = None; gates = l.gates.now; inputs = l.inputs.now; outputs = l.outputs.now }
 
@@ -14,10 +14,10 @@ pub record HaveSameLists (w v : Window) : Type 0 where
   pub inputs : w.inputs ≡ v.inputs
   pub outputs : w.outputs ≡ v.outputs
 
--- each of the places is below a bound
+-- each of the nodes is below a bound
 abbrev pub AreBelow : ℕ → List ℕ → Type 0
 AreBelow bound places = All (λ (p : ℕ). p < bound) places
 
--- none of the places is marked
+-- none of the nodes is marked
 abbrev pub AreUnmarked : (ℕ → Bool) → List ℕ → Type 0
 AreUnmarked marks places = (p : ℕ) → among places p ≡ true → marks p ≡ false

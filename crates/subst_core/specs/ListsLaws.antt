@@ -1,4 +1,4 @@
--- What is said of a window is said of every window that has its lists.
+-- What holds of a window holds of every window with the same lists.
 use Rattle.std.specs.Prelude.{◌≡◌, ℕ, ◌+◌, ◌-◌, ◌≤◌, ◌<◌, ◌^◌, Bool, true, not, ◌&&◌, List, length, map, slice_index_or}
 use Rattle.std.proofs.Common.{arith, sym, ◌∙◌, ap, subst}
 use Rattle.chain_theory.specs.Specification.{Specification}
@@ -53,7 +53,7 @@ HasCare n s inputs outputs = (h t : ℕ) (given : ℕ → Bool) → 1 ≤ h → 
 abbrev HasFree : Net → Specification → List ℕ → List ℕ → Type 0
 HasFree n s inputs outputs = (h t : ℕ) → 1 ≤ h → h ≤ length outputs → t < 2 ^ length inputs → (IsCareRow n inputs t → ⊥) → s.cell h t ≡ Free
 
--- a fact about two lists goes over to lists that are equal to them
+-- a fact about two lists carries over to equal lists
 along : (P : List ℕ → List ℕ → Type 0) (a b c d : List ℕ) → a ≡ c → b ≡ d → P a b → P c d
 along P a b c d first second fact = subst (P c) second (subst (λ (xs : List ℕ). P xs b) first fact)
 
@@ -75,9 +75,9 @@ same_meets n w v c same meets =
       agrees = meets.agrees;
     }
 
--- ---- splices
+-- ---- substitutions
 
--- what the sinks are worth where a chain takes the place of inputs and outputs
+-- the values of the sinks where a chain replaces the window of these inputs and outputs
 abbrev HasSplicedValues : Net → Chain → Net → List ℕ → List ℕ → Type 0
 HasSplicedValues n c m inputs outputs = (given : ℕ → Bool) → sink_values m given ≡ map (sig_value (values_with n (among outputs) (with_bits given outputs (map (out_bit (values_after (λ j. value n given (slice_index_or inputs (j - 1) 0)) (c.n + 1) c.steps)) c.outs)))) n.sinks
 
@@ -97,7 +97,7 @@ same_spliced n m w v c same is =
       equal = is.equal;
     }
 
--- what the sinks are worth in the net itself, where a chain takes the place of inputs and outputs
+-- the sinks keep their values where a chain replaces the window of these inputs and outputs
 abbrev KeepsByLists : Net → Chain → List ℕ → List ℕ → Type 0
 KeepsByLists n c inputs outputs = (given : ℕ → Bool) → map (sig_value (values_with n (among outputs) (with_bits given outputs (map (out_bit (values_after (λ j. value n given (slice_index_or inputs (j - 1) 0)) (c.n + 1) c.steps)) c.outs)))) n.sinks ≡ sink_values n given
 

@@ -5,7 +5,7 @@ pub map_same : {A B : Type 0} (f g : A → B) (xs : List A) → ((i : ℕ) (x : 
 map_same f g [] same = refl
 map_same f g (x ∷ xs) same = rw (same 0 x refl, map_same f g xs (λ i y e. same (suc i) y e)) refl
 
--- the second after the first is the third
+-- the first function and then the second are the third
 pub map_like : {A B C : Type 0} (f : A → B) (g : B → C) (h : A → C) (xs : List A) → ((i : ℕ) (x : A) → slice_get xs i ≡ Some x → g (f x) ≡ h x) → map g (map f xs) ≡ map h xs
 map_like f g h [] same = refl
 map_like f g h (x ∷ xs) same = rw (same 0 x refl, map_like f g h xs (λ i y e. same (suc i) y e)) refl

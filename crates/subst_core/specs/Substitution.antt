@@ -1,4 +1,4 @@
--- A chain that agrees, in the place of a window.
+-- A chain that implements a window's specification, substituted for the window.
 use Rattle.std.specs.Prelude.{◌≡◌, ℕ, ◌+◌, ◌<◌, ◌^◌, Bool, true, List, length, map, slice_get, Some, ◌⊎◌}
 use Rattle.chain_theory.specs.Specification.{Specification}
 use Rattle.chain_theory.specs.Chain.{Step, Chain, IsChain}
@@ -10,39 +10,39 @@ use Rattle.window_theory.specs.Window.{Window, IsOutput}
 use Rattle.window_theory.specs.Care.{IsSpecificationOf}
 use Rattle.window_theory.specs.Splice.{spliced_value, IsSpliced}
 
--- fewer than 2^31 places come of it
+-- the result has fewer than 2^31 nodes
 abbrev pub HasRoom : Net → Window → Chain → Type 0
 HasRoom n w c = n.sources + length n.gates + length c.steps < 2 ^ 31 + length w.gates
 
--- The chain agrees with what the window has to compute. It doesn't matter which specification of the window that
--- is, since all have the same chains.
+-- The chain implements the specification of the window. It doesn't matter which one, since the same chains
+-- implement all of them.
 pub record Meets (n : Net) (w : Window) (c : Chain) : Type 0 where
   pub chain : IsChain c
   pub specification : Specification
   pub is : IsSpecificationOf n w specification
   pub agrees : Agrees c specification
 
--- Each sink of n has the value that it had, where the window's outputs take the values of the chain's outs. A chain
--- that agrees does so, and so does one that differs where no sink shows it.
--- Example: where the gate 4 is AND of the gate 3 and the source 1, and the only sink, a chain for the window of 3 may
--- differ where the source 1 is 0.
+-- Each sink of n keeps its value where the window's outputs have the values of the chain's outputs. A chain
+-- that implements the specification does so, and so does one that differs where no sink depends on it.
+-- Example: where the gate 4 is AND of the gate 3 and the source 1, and the only sink, a chain for the window
+-- of 3 may differ where the source 1 is 0.
 abbrev pub KeepsSinks : Net → Window → Chain → Type 0
 KeepsSinks n w c = (given : ℕ → Bool) → map (sig_value (spliced_value n w c given)) n.sinks ≡ sink_values n given
 
--- the window's gates, and maybe more
+-- `gates` are the window's gates, and perhaps more
 abbrev pub HasGates : Window → List ℕ → Type 0
 HasGates w gates = (p : ℕ) → among w.gates p ≡ true → among gates p ≡ true
 
--- What is seen of the gates from outside has the values that it had, where the window's outputs take the values of the
--- chain's outs. So the outs may differ as far as the gates that read them hide it.
--- Example: where the gate 4 is AND of the gate 3 and the source 1, and nothing else reads the gate 3, then of the
--- gates 3 and 4 only 4 is seen.
+-- The outputs of the gates keep their values where the window's outputs have the values of the chain's
+-- outputs. So the chain may differ as far as the gates around the window hide it.
+-- Example: where the gate 4 is AND of the gate 3 and the source 1, and nothing else reads the gate 3, then 4
+-- is the only output of the gates 3 and 4.
 abbrev pub KeepOutputs : Net → Window → Chain → List ℕ → Type 0
 KeepOutputs n w c gates = (given : ℕ → Bool) (p : ℕ) → IsOutput n gates p → spliced_value n w c given p ≡ value n given p
 
--- m is n where a chain has taken a window's place, and its sinks have the values that they had.
--- Example: of NAND of the sources at place 3 and NOT of it at place 4, which is the sink, the window of both and the
--- chain of one step AND leave the one gate AND.
+-- m is n with the chain substituted for the window, and its sinks keep their values.
+-- Example: with NAND of the sources at node 3 and NOT of it, the sink, at node 4, the window of both gates
+-- and the chain of one step AND leave the one gate AND.
 pub record IsSubstituted (n : Net) (w : Window) (c : Chain) (m : Net) : Type 0 where
   pub spliced : IsSpliced n w c m
   pub values : (given : ℕ → Bool) → sink_values m given ≡ sink_values n given

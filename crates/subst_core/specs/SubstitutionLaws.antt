@@ -1,4 +1,5 @@
--- A net with a chain that agrees can stand in the old one's place, and so can what is left of it.
+-- A net with a chain that implements the window's specification implements the old net, and so does what
+-- cleanup leaves of it.
 use Rattle.std.specs.Prelude.{◌≡◌, ℕ, zero, suc, ◌+◌, ◌≤◌, ◌<◌, Bool, true, nat_eq, not, ◌&&◌, if◌then◌else◌, List, [], ◌∷◌, length, map, slice_get, Some, refl}
 use Rattle.std.proofs.Common.{arith, ◌∙◌, ap, subst, inl, inr, ⊎_elim, add-zero}
 use Rattle.std.proofs.lemmas.Bool.{and_parts, eq-eqb, eqb-true, cond-true, cond-false, cases_Bool, cases_lt}
@@ -17,7 +18,7 @@ use Rattle.window_theory.specs.Splice.{step_gate, passing, IsSpliced}
 use Rattle.window_theory.specs.SubstitutionLaws.{signals_real}
 use Rattle.subst_core.specs.Substitution.{Meets, KeepsSinks, IsSubstituted, HasOldOperators}
 
--- A chain that agrees keeps the sinks.
+-- A chain that implements the specification keeps the sinks.
 pub agrees_keeps : (n : Net) (w : Window) (c : Chain) → IsNet n → Belongs n w → Meets n w c → KeepsSinks n w c
 agrees_keeps n w c net is meets given = signals_real n w meets.specification c given net is meets.chain meets.is meets.agrees
 
@@ -58,7 +59,7 @@ passing_some test place (h ∷ gs) zero g at on =
     omega (arith, head)
 passing_some test place (h ∷ gs) (suc i) g at on = omega (arith, passing_some test (place + 1) gs i g at on)
 
--- and where some gate counts there is one that passes
+-- and where the count isn't 0, some gate passes
 record Passes (test : ℕ → ℕ → Bool) (place : ℕ) (gs : List Gate) : Type 0 where
   index : ℕ
   gate : Gate
@@ -94,7 +95,7 @@ spliced_operators n m w c is op from =
     inl (record { index = p.index; gate = p.gate; at = p.at; same = eqb-true p.gate.op op (and_parts (not (among w.gates (n.sources + 1 + p.index))) (test p.gate.op) p.passes).1 }))
     (cases_lt outside 1)
 
--- and where dead gates are dropped then, no new operator comes in
+-- and cleanup brings in no new operator
 pub dropped_old : (n m left : Net) (w : Window) (c : Chain) → IsSubstituted n w c m → left ≡ dropped m → HasOldOperators n c left
 dropped_old n m left w c is e op from =
     spliced_operators n m w c is.spliced op (dropped_operators m op is.spliced.net (subst (λ (x : Net). HasOperator x op) e from))

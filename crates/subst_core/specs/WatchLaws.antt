@@ -1,4 +1,4 @@
--- It is enough that the outputs of more gates than the window's keep their values.
+-- It suffices that the outputs of a larger set of gates keep their values.
 use Rattle.std.specs.Prelude.{◌≡◌, ℕ, zero, suc, ◌+◌, ◌≤◌, ◌<◌, Bool, true, false, List, map, slice_get, Some, refl}
 use Rattle.std.proofs.Common.{arith, sym, ◌∙◌, inl, inr, ⊎_elim}
 use Rattle.std.proofs.lemmas.Bool.{cases_lt, cases_Bool, both_ways}
@@ -20,7 +20,7 @@ use Rattle.window_theory.specs.SpliceLaws.{value_gate}
 use Rattle.subst_core.specs.MapLaws.{map_same}
 use Rattle.subst_core.specs.Substitution.{KeepsSinks, HasGates, KeepOutputs}
 
--- no place outside is an output of the window
+-- no node outside the gates is an output of the window
 not_output : (n : Net) (w : Window) (gates : List ℕ) (p : ℕ) → Belongs n w → HasGates w gates → among gates p ≡ false → among w.outputs p ≡ false
 not_output n w gates p is has_ off =
     ⊎_elim
@@ -28,7 +28,7 @@ not_output n w gates p is has_ off =
     (λ none. none)
     (cases_Bool (among w.outputs p))
 
--- what stands outside, or is seen from there, has its own value
+-- a node outside the gates, or an output of them, keeps its value
 seen_below : (n : Net) (w : Window) (c : Chain) (gates : List ℕ) (given : ℕ → Bool) (bound p : ℕ) → IsNet n → Belongs n w → HasGates w gates → KeepOutputs n w c gates → (among gates p ≡ true → IsOutput n gates p) → p < bound → p < end_of n → spliced_value n w c given p ≡ value n given p
 seen_below n w c gates given zero p net is has_ keep seen low within = absurd (omega arith)
 seen_below n w c gates given (suc bound) p net is has_ keep seen low within =

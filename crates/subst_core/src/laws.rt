@@ -1,4 +1,4 @@
-//! What the definitions come to. Each law is the contract of a function that does nothing.
+//! Laws about the definitions, each the contract of a function that does nothing.
 
 ghost use Rattle.std.specs.Prelude.{ℕ, ◌≤◌, List, length};
 ghost use Rattle.chain_theory.specs.Chain.{Chain};
@@ -11,7 +11,7 @@ ghost use Rattle.window_theory.specs.Splice.{Fits, IsSpliced};
 ghost use Rattle.subst_core.specs.Lists.{HaveSameLists};
 ghost use Rattle.subst_core.specs.Substitution.{Meets, KeepsSinks, HasGates, KeepOutputs, IsSubstituted, HasOldOperators};
 
-/// Of a window only its three lists matter where a chain takes its place.
+/// A substitution depends on the three lists of a window alone, not on its root or partner.
 pub fn roots_do_not_matter()
     ensures belong { (n : Net) (w v : Window) → HaveSameLists w v → Belongs n w → Belongs n v }
     ensures fit { (w v : Window) (c : Chain) → HaveSameLists w v → Fits w c → Fits v c }
@@ -21,10 +21,10 @@ pub fn roots_do_not_matter()
     ensures splice { (n m : Net) (w v : Window) (c : Chain) → HaveSameLists w v → IsSpliced n w c m → IsSpliced n v c m }
 {}
 
-/// A net in which a chain that agrees has taken a window's place, and with it what is left of that net, can stand
-/// in the old one's place, where the chain has no more steps than the window has gates. All its gates have operators
-/// of the net or of the chain. It is enough that no sink distinguishes the chain's outs from the window's outputs, and for that,
-/// that what is seen of more gates than the window's keeps its values.
+/// A net in which a chain that implements the window has replaced it implements the old net where the chain
+/// has no more steps than the window has gates, and so does what cleanup leaves of it. Each of its gates has
+/// an operator of the old net or of the chain. It suffices that the sinks keep their values; and for this,
+/// that the outputs of some set of gates with the window's gates among them do.
 pub fn substitution_keeps_the_sinks()
     ensures values { (n m : Net) (w : Window) (c : Chain) → IsNet n → Belongs n w →
         Meets n w c → IsSpliced n w c m → IsSubstituted n w c m }

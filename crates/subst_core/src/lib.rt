@@ -1,19 +1,19 @@
-//! A chain takes a window's place in a net. What the net becomes is said in `window_theory`
-//! (`spliced` and `IsSpliced`): first what the window's inputs are computed from, then the chain's steps,
-//! and then all else that stands outside the window. No gate of the window is among what its inputs are
-//! computed from, since these don't depend on the window; so that order reads nothing before it stands.
+//! Substitution of a chain for a window of a net. What the net becomes is said in `window_theory` (`spliced`
+//! and `IsSpliced`): first come the window's inputs with their transitive fanin, then the chain's steps, and
+//! then all other nodes outside the window. The inputs of a window don't depend on its gates, so in this
+//! order each gate comes after its fanins.
 //!
-//! - `splice` puts any chain with as many inputs and outs as the window there. The sinks get the values that
-//!   the net gives when the window's outputs take those of the chain's outs.
-//! - `substitute_keeping` does so where no sink distinguishes the chain's outs from the window's outputs, so that all
-//!   sinks keep their values; `replace_keeping` drops the gates that are dead then, too.
-//! - `substitute` does so with a chain that agrees with what the window has to compute.
+//! - `splice` substitutes any chain with as many inputs and outputs as the window has. The sinks get the
+//!   values that the net gives when the window's outputs have the values of the chain's outputs.
+//! - `substitute_keeping` does so where the sinks keep their values; `replace_keeping` then removes the
+//!   dangling gates, too.
+//! - `substitute` does so with a chain that implements the window's specification.
 //!
-//! `are_apart` tells whether places may be inputs of a window, also such as its gates don't read: then the chain may
-//! compute the outputs from them too.
+//! `are_apart` tells whether nodes may be inputs of a window, also those that its gates don't read: then the
+//! chain may compute the outputs from them too.
 //!
-//! The window comes as its three lists of places. A window that has the same lists, with whatever root, does as
-//! well (`laws::roots_do_not_matter`).
+//! The window comes as its three lists of nodes. Its root and its partner don't matter
+//! (`laws::roots_do_not_matter`).
 //!
 //! ```text
 //! let window = WindowLists { gates: &[3, 4], inputs: &[1, 2], outputs: &[4] };

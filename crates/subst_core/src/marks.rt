@@ -1,5 +1,5 @@
-//! Marks on the places of a net: what a window's inputs are computed from, and all else outside the window. They also
-//! tell which places may be inputs of a window.
+//! Marks on the nodes of a net: the transitive fanin of a window's inputs, and all other nodes outside the
+//! window. They also tell which nodes may be inputs of a window.
 
 ghost use Rattle.std.specs.Prelude.{◌≡◌, ℕ, ◌<◌, ◌&&◌, not, true, length, IfOk};
 ghost use Rattle.net_theory.specs.Net.{end_of};
@@ -13,7 +13,7 @@ ghost use Rattle.subst_core.specs.Placing.{with_places};
 use net_core::{Net, mark_reached};
 use std::alloc::{AllocError, Global};
 
-/// Marks places.
+/// Marks the nodes.
 fn mark_places(marks: &mut [bool], places: &[u32])
     requires { AreBelow (length marks.old) places.now }
     ensures { set_of marks.new ≡ with_places (set_of marks.old) places.now }
@@ -25,7 +25,7 @@ fn mark_places(marks: &mut [bool], places: &[u32])
     }
 }
 
-/// Marks places and all that they are computed from, where nothing is marked.
+/// Marks the nodes and their transitive fanin, where nothing is marked yet.
 pub(crate) fn mark_early(marks: &mut [bool], net: &Net, places: &[u32])
     requires none { set_of marks.old ≡ no_marks }
     requires count { length marks.old ≡ end_of net.now }
@@ -36,7 +36,7 @@ pub(crate) fn mark_early(marks: &mut [bool], net: &Net, places: &[u32])
     mark_reached(marks, net);
 }
 
-/// Marks what wasn't marked, and nothing else.
+/// Complements all marks.
 fn turn(marks: &mut [bool])
     ensures { (p : ℕ) → p < length marks.old → set_of marks.new p ≡ not (set_of marks.old p) }
 {
@@ -45,7 +45,7 @@ fn turn(marks: &mut [bool])
     }
 }
 
-/// Marks what wasn't marked and is none of `places`, and nothing else.
+/// Complements all marks, but leaves `places` unmarked.
 pub(crate) fn mark_others(marks: &mut [bool], places: &[u32])
     requires { AreBelow (length marks.old) places.now }
     ensures { (p : ℕ) → p < length marks.old →
@@ -55,7 +55,7 @@ pub(crate) fn mark_others(marks: &mut [bool], places: &[u32])
     turn(marks);
 }
 
-/// Whether none of the places is marked.
+/// Whether none of the nodes is marked.
 fn are_unmarked(marks: &[bool], places: &[u32]) -> bool
     requires { AreBelow (length marks.now) places.now }
     ensures yes { result ≡ true → AreUnmarked (set_of marks.now) places.now }
@@ -71,7 +71,7 @@ fn are_unmarked(marks: &[bool], places: &[u32]) -> bool
     true
 }
 
-/// Whether places don't depend on gates, by marks of which none is set.
+/// Whether the nodes don't depend on the gates; no mark is set yet.
 fn are_apart_by(marks: &mut [bool], net: &Net, gates: &[u32], places: &[u32]) -> bool
     requires none { set_of marks.old ≡ no_marks }
     requires count { length marks.old ≡ end_of net.now }
@@ -80,13 +80,13 @@ fn are_apart_by(marks: &mut [bool], net: &Net, gates: &[u32], places: &[u32]) ->
     ensures yes { result ≡ true → (p : ℕ) → among places.now p ≡ true → IsApart net.now gates.now p }
     ensures no { ((p : ℕ) → among places.now p ≡ true → IsApart net.now gates.now p) → result ≡ true }
 {
-    let _gates = net.gates(); // brings the net's invariant into the proof
+    let _gates = net.gates(); // for the prover: brings the net's invariant into the proof
     mark_early(marks, net, places);
     are_unmarked(marks, gates)
 }
 
-/// Whether places don't depend on gates: none is one of these, or in their transitive fanout. No others may be
-/// inputs of a window of these gates. It walks the whole net.
+/// Whether the nodes don't depend on the gates: none is one of the gates or in their transitive fanout. No
+/// other nodes may be inputs of a window of these gates. It visits the whole net once.
 pub fn are_apart(
     alloc: Global,
     net: &Net,

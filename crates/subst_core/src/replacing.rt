@@ -1,4 +1,4 @@
-//! A chain takes a window's place, and what no sink reads any more goes.
+//! Substitution of a chain for a window, with cleanup.
 
 ghost use Rattle.std.specs.Prelude.{◌≡◌, ◌+◌, ◌≤◌, length, IfOk};
 ghost use Rattle.net_theory.specs.Net as nets;
@@ -15,10 +15,10 @@ use chain_core::Chain;
 use net_core::{Net, drop_dead};
 use std::alloc::{AllocError, Global};
 
-/// The net in which the chain has taken the window's place, where no sink distinguishes the chain's outs from the
-/// window's outputs, without the gates that no sink reads then. Its sinks have the values that they had, and each gate has an
-/// operator of the net or of the chain. Where the net is what is left of a first one, and the chain has no more steps
-/// than the window has gates, the new net is left of the first one too.
+/// The net in which the chain has replaced the window, where the sinks keep their values, without the gates
+/// that dangle then. Each gate has an operator of the net or of the chain. Where the net is what cleanup left
+/// of a first one, and the chain has no more steps than the window has gates, the new net implements the
+/// first one too.
 pub fn replace_keeping(
     alloc: Global,
     net: &Net,

@@ -1,4 +1,4 @@
-//! The net in which a chain has taken a window's place.
+//! The net in which a chain has replaced a window.
 
 ghost use Rattle.std.specs.Prelude.{◌≡◌, ◌+◌, ◌<◌, ◌^◌, length, OnOk, IfOk, vec_len};
 ghost use Rattle.net_theory.specs.Net.{IsNet, end_of};
@@ -16,7 +16,7 @@ use chain_core::Chain;
 use net_core::{Gate, Net, Sig, keep_gates, moved_sinks, start_places};
 use std::alloc::{AllocError, Global};
 
-/// Keeps what the window's inputs are, or are computed from, and marks it.
+/// Copies the window's inputs with their transitive fanin, and marks them.
 fn keep_early(
     net: &Net,
     window: &WindowLists,
@@ -46,7 +46,7 @@ fn keep_early(
     Ok(())
 }
 
-/// Keeps all that stands outside the window and isn't marked.
+/// Copies all nodes outside the window that aren't marked.
 fn keep_late(
     net: &Net,
     window: &WindowLists,
@@ -76,7 +76,7 @@ fn keep_late(
     Ok(())
 }
 
-/// All gates, and where the places went.
+/// Copies all gates; `places` gets the new signals of the old nodes.
 fn keep_all(
     alloc: Global,
     net: &Net,
@@ -102,7 +102,7 @@ fn keep_all(
     Ok(gates)
 }
 
-/// The net with all gates, and its sinks where they went.
+/// The net with all gates, and with the new signals of its sinks.
 fn splice_in(
     alloc: Global,
     net: &Net,
@@ -126,8 +126,8 @@ fn splice_in(
     Ok(Net::new(net.sources(), gates, sinks))
 }
 
-/// The net in which the chain has taken the window's place: its sinks have the values that the net gives when
-/// the window's outputs take those of the chain's outs.
+/// The net in which the chain has replaced the window: its sinks have the values that the net gives when the
+/// window's outputs have the values of the chain's outputs.
 pub fn splice(
     alloc: Global,
     net: &Net,

@@ -1,5 +1,5 @@
-//! A chain's steps as gates of a net. Its inputs are where the window's inputs went, and its steps have the places
-//! after the gates that are there.
+//! A chain's steps as gates of a net. Its inputs are the new signals of the window's inputs, and its steps
+//! get the next free nodes.
 
 ghost use Rattle.std.specs.Prelude.{◌≡◌, ◌+◌, ◌-◌, ◌≤◌, ◌<◌, ◌^◌, ◌++◌};
 ghost use Rattle.std.specs.Prelude.{length, map, All, OnOk, IfOk, vec_len};
@@ -15,7 +15,7 @@ use chain_core::{Chain, Out, Step};
 use net_core::{Gate, Sig};
 use std::alloc::{AllocError, Global};
 
-/// Where a place of the chain is; the first step has the place `first`.
+/// The signal of a place of the chain; the first step is the node `first`.
 fn chain_sig(places: &[Sig], inputs: &[u32], first: u32, place: u32) -> Sig
     requires some { 1 ≤ place }
     requires below { AreBelow (length places.now) inputs.now }
@@ -46,7 +46,7 @@ fn step_gate(places: &[Sig], inputs: &[u32], first: u32, step: &Step) -> Gate
     }
 }
 
-/// Puts a gate for each step after the gates.
+/// Appends a gate for each step.
 fn push_steps(
     places: &[Sig],
     inputs: &[u32],
@@ -66,7 +66,7 @@ fn push_steps(
     Ok(())
 }
 
-/// Where an out is.
+/// The signal of an output of the chain.
 fn sig_of_out(places: &[Sig], inputs: &[u32], first: u32, out: Out) -> Sig
     requires names { NamesPlace (2 ^ 32 - first - 1) out }
     requires below { AreBelow (length places.now) inputs.now }
@@ -79,7 +79,7 @@ fn sig_of_out(places: &[Sig], inputs: &[u32], first: u32, out: Out) -> Sig
     }
 }
 
-/// Where the outs are.
+/// The signals of the chain's outputs.
 fn sigs_of_outs(
     alloc: Global,
     places: &[Sig],
@@ -99,7 +99,7 @@ fn sigs_of_outs(
     Ok(sigs)
 }
 
-/// Lets places be at signals.
+/// Sets the signals of the nodes `outputs`.
 fn put_sigs(places: &mut [Sig], outputs: &[u32], sigs: &[Sig])
     requires below { AreBelow (length places.old) outputs.now }
     requires count { length sigs.now ≡ length outputs.now }
@@ -112,7 +112,7 @@ fn put_sigs(places: &mut [Sig], outputs: &[u32], sigs: &[Sig])
     }
 }
 
-/// Puts the chain's steps after the gates, and lets the window's outputs be where the chain's outs are.
+/// Appends the chain's steps, and sets the signals of the window's outputs to those of the chain's outputs.
 pub(crate) fn put_chain(
     alloc: Global,
     sources: u32,

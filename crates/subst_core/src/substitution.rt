@@ -1,5 +1,5 @@
-//! A chain takes a window's place, and every sink keeps its values: for whatever reason that is known, or since
-//! the chain agrees with what the window has to compute.
+//! Substitution of a chain for a window where every sink keeps its value: by any proof of that, or since the
+//! chain implements the window's specification.
 
 ghost use Rattle.std.specs.Prelude.{◌≡◌, ◌≤◌, length, IfOk};
 ghost use Rattle.net_theory.specs.Answers.{Answers};
@@ -14,8 +14,8 @@ use chain_core::Chain;
 use net_core::Net;
 use std::alloc::{AllocError, Global};
 
-/// The net in which the chain has taken the window's place, where no sink distinguishes the chain's outs from the
-/// window's outputs. Where the chain has no more steps than the window has gates, it can stand in the old net's place.
+/// The net in which the chain has replaced the window, where the sinks keep their values. Where the chain has
+/// no more steps than the window has gates, it implements the old net.
 pub fn substitute_keeping(
     alloc: Global,
     net: &Net,
@@ -33,8 +33,9 @@ pub fn substitute_keeping(
     splice(alloc, net, window, chain)
 }
 
-/// The net in which the chain has taken the window's place, with the values that the sinks had. Where the chain has
-/// no more steps than the window has gates, it can stand in the old net's place.
+/// The net in which the chain has replaced the window, where the chain implements the window's specification.
+/// The sinks keep their values. Where the chain has no more steps than the window has gates, it implements
+/// the old net.
 pub fn substitute(
     alloc: Global,
     net: &Net,
@@ -48,7 +49,7 @@ pub fn substitute(
     ensures substituted { IfOk result (IsSubstituted net.now (window_of window.now) chain.now) }
     ensures answers { length chain.now.steps ≤ length window.now.gates.now → IfOk result (Answers net.now) }
 {
-    // brings the type invariant into the proof
+    // for the prover: brings the type's invariant into the proof
     let _gates = net.gates();
     substitute_keeping(alloc, net, window, chain)
 }

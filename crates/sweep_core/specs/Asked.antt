@@ -1,5 +1,5 @@
--- What is asked of a window: its own specification, or, where the rows that nobody sees are left out of account, its
--- observed one.
+-- The specification that the settings require of a window, its local function: its own specification, or,
+-- with `observe`, the observed one.
 use Rattle.std.specs.Prelude.{ℕ, Bool, true, false}
 use Rattle.chain_theory.specs.Operator.{Basis}
 use Rattle.chain_theory.specs.Specification.{Specification}
@@ -12,9 +12,9 @@ abbrev pub IsAskedOf : Bool → Net → Window → Specification → Type 0
 IsAskedOf false n w s = IsSpecificationOf n w s
 IsAskedOf true n w s = IsObservedOf n w s
 
--- No chain over the basis of fewer steps than the count does what is asked of the window.
--- Example: where the gate 3 is XNOR of the sources 1 and 2, gate 4 is AND of 3 and the source 1, and the only sink is
--- 4, the window 3 has no chain of fewer than 1 steps. Observed it has one, the source 2.
+-- No chain over the basis of fewer steps than the count implements the window's local specification.
+-- Example: where the gate 3 is XNOR of the sources 1 and 2, gate 4 is AND of 3 and the source 1, and the only
+-- sink is 4, the window 3 has no chain of fewer than 1 steps. With `observe` it has one, the source 2.
 abbrev pub HasNoFewerAsked : Bool → Net → Basis → Window → ℕ → Type 0
 HasNoFewerAsked false n basis w count = HasNoFewer n basis w count
 HasNoFewerAsked true n basis w count = HasNoFewerSeen n basis w count

@@ -1,4 +1,4 @@
--- What is named in the order of visits, part after part.
+-- Candidates are named in order, part after part.
 use Rattle.std.specs.Prelude.{◌≡◌, zero, suc, List, [], ◌∷◌, ◌++◌, Contains, refl}
 use Rattle.std.proofs.Common.{arith, sym, ◌∙◌, ap, subst, ⊎_elim, append_assoc, append-nil}
 use Rattle.std.proofs.lemmas.List.{map-append}
@@ -69,7 +69,7 @@ adds_on P Q R xs ys zs first second p q before =
           (Contains-append_cases (visits first.more) (visits second.more) v (subst (λ (vs : List Visit). Contains vs v) both there));
     }
 
--- of more visits
+-- of a larger set of candidates
 pub adds_as : (P R : Visit → Type 0) (xs ys : List Undecided) → Adds P xs ys → ((v : Visit) → P v → R v) → Adds R xs ys
 adds_as P R xs ys adds p = record { more = adds.more; is = adds.is; rising = adds.rising; each = λ v there. p v (adds.each v there) }
 

@@ -1,4 +1,4 @@
--- What a visit comes to.
+-- The result of an attempt.
 use Rattle.std.specs.Prelude.{◌≡◌, ◌<◌, Bool, true, false, length}
 use Rattle.chain_theory.specs.Operator.{Basis}
 use Rattle.net_theory.specs.Net.{Net}
@@ -14,28 +14,30 @@ use Rattle.sweep_core.specs.declared.trial.Tried.TheVariants.{Passed, Open, Smal
 use Rattle.sweep_core.specs.Settled.{IsLeast}
 use Rattle.sweep_core.specs.Undecided.{IsUndecided}
 
--- ---- nets that take each other's place
+-- ---- nets that replace each other
 
--- What a net n can stand for, without dead gates, m can stand for too; and its operators are of the basis or of n.
+-- m may replace n: it implements every net that n implements after cleanup, and its operators are of the
+-- basis or of n.
 pub record Leads (basis : Basis) (n m : Net) : Type 0 where
   pub pruned : (first : Net) → IsPruned first n → IsPruned first m
   pub operators : HasOperatorsWithin basis n m
 
--- Whether the net has become smaller without a visit: it can take the place of the one before and has fewer gates, or it is
--- as it was.
+-- The net became smaller by merging: the new net may replace the old one and has fewer gates. Or nothing
+-- changed.
 abbrev pub IsShrunk : ImproveSettings → Net → Net → Bool → Type 0
 IsShrunk s n m true = Leads (members s.basis) n m × (length m.gates < length n.gates)
 IsShrunk s n m false = m ≡ n
 
--- ---- visits
+-- ---- candidates
 
--- The window of a visit, if the root is a gate and the partner one of it, has no shorter chain, where it counts.
+-- If the root is a gate and the partner one of it, no chain shorter than the candidate's window implements
+-- its local specification.
 pub record IsDone (s : ImproveSettings) (n : Net) (v : Visit) : Type 0 where
   pub done : IsGate n v.root → IsPartnerOrNone n v.root v.partner → IsLeast s n v
 
--- Passed: nothing is left to be found, and the net is as it was. Open: the visit is undecided, by the certificate, and
--- its window has six gates at least.
--- Smaller: the net can take the place of the one before, and has fewer gates.
+-- No gain: the net is unchanged, and the window has no shorter chain. Open: the net is unchanged, the window
+-- has at least six gates, and the certificate leaves it undecided. Accepted: the new net may replace the old
+-- one, and has fewer gates.
 abbrev pub IsTried : ImproveSettings → Net → Net → Visit → Tried → Type 0
 IsTried s n m v Passed = (m ≡ n) × IsDone s n v
 IsTried s n m v (Open search) = (m ≡ n) × IsUndecided n s (record { visit = v; search = search })

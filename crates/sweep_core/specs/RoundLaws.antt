@@ -1,4 +1,4 @@
--- A round that begins with gates that are alike, and makes all visits after that.
+-- A round that begins with merging structurally equal gates, and then attempts all candidates.
 use Rattle.std.specs.Prelude.{◌≡◌, true, false}
 use Rattle.std.proofs.Common.{sym, subst, inl, inr, ⊎_elim}
 use Rattle.std.proofs.lemmas.Bool.{cases_Bool, both_ways}
@@ -11,7 +11,7 @@ use Rattle.sweep_core.specs.Outcomes.{IsShrunk}
 use Rattle.sweep_core.specs.Swept.{Round, Stage, stage, IsSwept}
 use Rattle.sweep_core.specs.SweptLaws.{swept_none, swept_on, swept_smaller}
 
--- the net is as it was
+-- the net is unchanged
 pub swept_as_it_was : (s t : ImproveSettings) (n m : Net) (r : Round) → t ≡ s → IsShrunk s n m false → IsSwept IsNoVisit (stage s n r) (stage t m r)
 swept_as_it_was s t n m r asked same =
     subst (λ (u : ImproveSettings). IsSwept IsNoVisit (stage s n r) (stage u m r)) (sym asked)
@@ -22,7 +22,7 @@ swept_as_it_was s t n m r asked same =
 pub swept_shrunk : (s t : ImproveSettings) (n m : Net) (r q : Round) → t ≡ s → IsShrunk s n m true → q.changed ≡ true → IsSwept IsNoVisit (stage s n r) (stage t m q)
 swept_shrunk s t n m r q asked shrunk on = swept_smaller IsNoVisit s t n m r q asked shrunk.0 shrunk.1 on
 
--- Of a round that has changed the net nothing is said of visits.
+-- A round that has changed the net claims nothing about candidates.
 changed_as : (P R : Visit → Type 0) (a b : Stage) → b.round.changed ≡ true → IsSwept P a b → IsSwept R a b
 changed_as P R a b on swept =
     record {
@@ -42,7 +42,7 @@ behind_none : (P : Visit → Type 0) (a b c : Stage) → IsSwept IsNoVisit a b �
 behind_none P a b c first second =
     swept_on IsNoVisit P P a b c first second (λ off same v is. inl (inr is)) (λ v none. absurd none) (λ v is. is) (λ v w none. absurd none)
 
--- All visits after that.
+-- Then all candidates are attempted.
 pub round_made : (a b c : Stage) → IsSwept IsNoVisit a b → IsSwept (IsOfRoots b.settings.cap (end_of b.net)) b c → IsSwept (IsOfRoots a.settings.cap (end_of a.net)) a c
 round_made a b c first second =
     let visits : IsSwept (IsOfRoots a.settings.cap (end_of b.net)) b c = subst (λ (s : ImproveSettings). IsSwept (IsOfRoots s.cap (end_of b.net)) b c) first.asked second in

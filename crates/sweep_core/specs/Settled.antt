@@ -1,4 +1,5 @@
--- Settled nets: no window that counts has a shorter chain for what the settings ask of it, but for some that are named.
+-- Settled nets: no window up to the cap has a shorter chain for its local specification, but for some that
+-- are named.
 use Rattle.std.specs.Prelude.{ℕ, ◌≤◌, List, Contains, ◌⊎◌}
 use Rattle.op_basis.specs.Basis.{members}
 use Rattle.net_theory.specs.Net.{Net}
@@ -8,7 +9,8 @@ use Rattle.improve_settings.specs.declared.improve.ImproveSettings.{ImproveSetti
 use Rattle.sweep_core.specs.declared.visit.Visit.{Visit}
 use Rattle.sweep_core.specs.Asked.{HasNoFewerAsked}
 
--- For what is asked of the window of a visit, where it counts, no chain over the basis has fewer steps than it has gates.
+-- No chain over the basis with fewer steps than the candidate's window has gates implements its local
+-- specification; this holds trivially where there is no window.
 pub record IsLeast (s : ImproveSettings) (n : Net) (v : Visit) : Type 0 where
   pub least : (w : Window) → IsWindow n v.root v.partner v.count w → HasNoFewerAsked s.observe n (members s.basis) w v.count
 
@@ -19,9 +21,9 @@ pub record IsListed (n : Net) (cap : ℕ) (v : Visit) : Type 0 where
   pub from : 1 ≤ v.count
   pub to : v.count ≤ cap
 
--- For every gate, every partner of it or none, and every count up to the cap: the visit is named, or its window
--- has no shorter chain, where it counts. Basis and cap are those of the settings, and so is what is asked of windows.
--- Example: of NAND of two sources and NOT of it, over all operators, the cap 1 settles it with none named, since
--- each gate alone needs a step; the cap 2 doesn't, since AND does what both do.
+-- For every gate, every partner of it or none, and every count up to the cap: the candidate is named, or its
+-- window, if there is one, has no shorter chain. The basis, the cap and `observe` are those of the settings.
+-- Example: for NAND of two sources and NOT of it, over all operators, the net is settled with cap 1 and none
+-- named, since each gate alone needs a step. With cap 2 it isn't, since AND does what both do.
 pub record IsSettled (s : ImproveSettings) (n : Net) (named : List Visit) : Type 0 where
   pub each : (v : Visit) → IsListed n s.cap v → Contains named v ⊎ IsLeast s n v

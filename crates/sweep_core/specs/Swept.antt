@@ -1,4 +1,4 @@
--- What a part of a round leads to.
+-- The effect of a part of a round.
 use Rattle.std.specs.Prelude.{◌≡◌, ℕ, ◌+◌, ◌≤◌, ◌<◌, Bool, true, false, List, ◌++◌, length, All, Contains, ◌⊎◌}
 use Rattle.chain_theory.specs.Operator.{Basis}
 use Rattle.net_theory.specs.Net.{Net}
@@ -9,12 +9,12 @@ use Rattle.sweep_core.specs.Undecided.{Undecided, visits, IsUndecided}
 use Rattle.sweep_core.specs.Outcomes.{Leads, IsDone}
 use Rattle.sweep_core.specs.Visits.{IsRising}
 
--- whether a round has changed the net, and the visits that it has left undecided
+-- whether a round has changed the net, and the candidates that it left undecided
 pub record Round : Type 0 where
   pub changed : Bool
   pub named : List Undecided
 
--- the settings, the net, and the round, as they are at some moment
+-- the settings, the net, and the round at some moment
 pub record Stage : Type 0 where
   pub settings : ImproveSettings
   pub net : Net
@@ -29,16 +29,16 @@ basis_of a = members a.settings.basis
 abbrev pub names_of : Stage → List Visit
 names_of a = visits a.round.named
 
--- What was named besides is of visits of which P holds, in their order.
+-- The candidates named since `before` have the property P, and are in order.
 pub record Adds (P : Visit → Type 0) (before after : List Undecided) : Type 0 where
   pub more : List Undecided
   pub is : after ≡ before ++ more
   pub rising : IsRising (visits more)
   pub each : (v : Visit) → Contains (visits more) v → P v
 
--- From a to b the visits of which P holds were made. The net of b can take the place of a's. If nothing has
--- changed, the net is the same, each of those visits is done or named, and what is named is undecided. If something
--- has, the net is smaller.
+-- From a to b the candidates with the property P were attempted. The net of b may replace the net of a. If
+-- nothing has changed, the net is the same, each of those candidates has no shorter chain or is named, and
+-- each that is named is undecided. If something has changed, the net is smaller.
 pub record IsSwept (P : Visit → Type 0) (a b : Stage) : Type 0 where
   pub asked : b.settings ≡ a.settings
   pub leads : Leads (basis_of a) a.net b.net
@@ -51,7 +51,7 @@ pub record IsSwept (P : Visit → Type 0) (a b : Stage) : Type 0 where
   pub sound : b.round.changed ≡ false → All (IsUndecided a.net a.settings) a.round.named → All (IsUndecided b.net b.settings) b.round.named
   pub fell : a.round.changed ≡ false → b.round.changed ≡ true → length b.net.gates < length a.net.gates
 
--- After `rounds` rounds that each changed the net.
+-- The net after `rounds` rounds that each changed it.
 pub record HasRounds (rounds : ℕ) (s t : ImproveSettings) (n m : Net) : Type 0 where
   pub asked : t ≡ s
   pub leads : Leads (members s.basis) n m

@@ -36,7 +36,7 @@ gate_low n p low gate = omega (arith, low, (windows.gate_high n p gate).0)
 pub gate_high : (n : Net) (p : ℕ) → end_of n ≤ p → IsGate n p → ⊥
 gate_high n p high gate = omega (arith, high, (windows.gate_high n p gate).1)
 
--- ---- nets that take each other's place
+-- ---- nets that replace each other
 
 has_itself : (basis : Basis) (n : Net) → HasOperatorsWithin basis n n
 has_itself basis n = record { each = λ i g at. inr (record { index = i; gate = g; at = at; same = refl }) }
@@ -59,7 +59,7 @@ leads_on basis a b c first second = record {
   };
 }
 
--- ---- visits that are done
+-- ---- candidates without a shorter chain
 
 done_same : (s : ImproveSettings) (n m : Net) (v : Visit) → m ≡ n → IsDone s n v → IsDone s m v
 done_same s n m v same is = subst (λ (x : Net). IsDone s x v) (sym same) is
@@ -71,14 +71,14 @@ no_gate s n v none = record { done = λ gate partner. absurd (none gate) }
 partner_of : (n : Net) (v : Visit) (h : ℕ) → v.partner ≡ Some h → IsPartnerOrNone n v.root v.partner → IsPartner n v.root h
 partner_of n v h e is = subst (λ (o : Option ℕ). IsPartnerOrNone n v.root o) e is
 
--- a partner that is none
+-- a partner that is no partner
 no_partner : (s : ImproveSettings) (n : Net) (v : Visit) (h : ℕ) → v.partner ≡ Some h → (IsGate n v.root → IsPartner n v.root h → ⊥) → IsDone s n v
 no_partner s n v h e none = record { done = λ gate partner. absurd (none gate (partner_of n v h e partner)) }
 
 partner_low : (n : Net) (g h : ℕ) → IsPartner n g h → h < g
 partner_low n g h is = (is.are.share h is.one).below
 
--- One gate alone isn't a root and a partner.
+-- A single gate can't be both root and partner.
 one_taken : (n : Net) (root h t : ℕ) → h < root → IsGate n root → IsGreatestCandidate n root (Some h) [] t → among (t ∷ []) h ≡ true → ⊥
 one_taken n root h t low gate greatest on =
     let top : root ≤ t = greatest.greatest root (record { gate = gate; outside = refl; why = inl (inl refl) }) in
@@ -108,7 +108,7 @@ one_alone s n v h e one = record {
 
 -- ---- parts of a round
 
--- Nothing is done where there is nothing to do.
+-- Without candidates nothing happens.
 pub swept_none : (P : Visit → Type 0) (a : Stage) → ((v : Visit) → P v → IsDone a.settings a.net v) → IsSwept P a a
 swept_none P a none =
     record {
@@ -159,7 +159,7 @@ swept_on P Q R a b c first second covers p_in q_in before =
           (cases_Bool b.round.changed);
     }
 
--- Fewer visits, or some that are done anyway.
+-- Fewer candidates, or more that have no shorter chain anyway.
 pub swept_as : (P R : Visit → Type 0) (a b : Stage) → IsSwept P a b → ((v : Visit) → R v → P v ⊎ IsDone b.settings b.net v) → ((v : Visit) → P v → R v) → IsSwept R a b
 swept_as P R a b swept covers p_in =
     record {
@@ -175,7 +175,7 @@ swept_as P R a b swept covers p_in =
       fell = swept.fell;
     }
 
--- ---- one visit
+-- ---- one candidate
 
 this_done : (s : ImproveSettings) (n : Net) (v x : Visit) → IsDone s n v → IsThis v x → IsDone s n x
 this_done s n v x is e = subst (λ (y : Visit). IsDone s n y) (sym e) is
@@ -224,7 +224,7 @@ swept_open s t n m r changed before after u asked same is e more =
 never : (b : Bool) → b ≡ true → b ≡ false → ⊥
 never b on off = both_ways b off on
 
--- The round had changed the net before: nothing is named.
+-- If the round had changed the net before, nothing is named.
 pub swept_late : (P : Visit → Type 0) (s t : ImproveSettings) (n m : Net) (r : Round) → t ≡ s → m ≡ n → r.changed ≡ true → IsSwept P (stage s n r) (stage t m r)
 swept_late P s t n m r asked same on =
     record {
@@ -387,7 +387,7 @@ rounds_more P rounds s t u n m k r q has off swept on =
       fewer = omega (arith, has.fewer, less);
     }
 
--- what a round that changed nothing leads to
+-- the effect of a round that changed nothing
 pub rounds_lead : (P : Visit → Type 0) (rounds : ℕ) (s t u : ImproveSettings) (n m k : Net) (r q : Round) → HasRounds rounds s t n m → IsSwept P (stage t m r) (stage u k q) → Leads (members s.basis) n k
 rounds_lead P rounds s t u n m k r q has swept = leads_on (members s.basis) n m k has.leads (subst (λ (x : ImproveSettings). Leads (members x.basis) m k) has.asked swept.leads)
 
@@ -410,11 +410,11 @@ pub rounds_name : (rounds : ℕ) (s t u : ImproveSettings) (n m k : Net) (r q : 
 rounds_name rounds s t u n m k r q has none swept off =
     subst (λ (x : ImproveSettings). All (IsUndecided k x) q.named) (swept.asked ∙ has.asked) (swept.sound off (none_named m t r.named none))
 
--- what is named is in the order of the visits
+-- the named candidates are in order
 pub rounds_rise : (t u : ImproveSettings) (m k : Net) (r q : Round) → r.named ≡ [] → IsSwept (IsOfRoots t.cap (end_of m)) (stage t m r) (stage u k q) → q.changed ≡ false → IsRising (visits q.named)
 rounds_rise t u m k r q none swept off = adds_all (IsOfRoots t.cap (end_of m)) r.named q.named none (swept.adds off)
 
--- ---- rounds, by what a round holds
+-- ---- rounds, by the fields of a round
 
 parts_as : (P : Visit → Type 0) (a : Stage) (u : ImproveSettings) (k : Net) (q : Round) (changed : Bool) (named : List Undecided) → record { changed = changed; named = named } ≡ q → IsSwept P a (stage u k q) → IsSwept P a (stage u k (record { changed = changed; named = named }))
 parts_as P a u k q changed named e swept = subst (λ (x : Round). IsSwept P a (stage u k x)) (sym e) swept

@@ -1,4 +1,4 @@
--- Windows that a search left undecided.
+-- Windows that stayed undecided.
 use Rattle.std.specs.Prelude.{◌≡◌, ℕ, ◌+◌, ◌≤◌, List, map}
 use Rattle.net_theory.specs.Net.{Net}
 use Rattle.tt_core.specs.Words.{specification}
@@ -18,12 +18,13 @@ pub record Undecided : Type 0 where
 abbrev pub visit_of : Undecided → Visit
 visit_of u = u.visit
 
--- the visits that are named
+-- the candidates that are named
 abbrev pub visits : List Undecided → List Visit
 visits named = map visit_of named
 
--- A window of the net that counts, of six gates at least, since smaller ones are decided, and a valid certificate for
--- what is asked of it, by the settings, that leaves open whether a chain has fewer steps than the window has gates.
+-- A listed window of at least six gates (smaller ones are always decided), and a valid certificate for its
+-- local specification, by the settings, that leaves open whether a chain has fewer steps than the window has
+-- gates.
 pub record IsUndecided (n : Net) (s : ImproveSettings) (u : Undecided) : Type 0 where
   pub listed : IsListed n s.cap u.visit
   pub large : 6 ≤ u.visit.count

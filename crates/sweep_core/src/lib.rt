@@ -1,40 +1,36 @@
-//! The sweep of a net by windows: a loop of resynthesis. A pass (round) merges gates that are alike, as structural hashing
-//! does, and then tries every window in order; passes are repeated until one changes nothing, a fixpoint, or their limit
-//! is reached. How one window is tried is behind the trait `Trial`, so that this crate knows no window, no solver and no
-//! memory of earlier answers.
+//! Resynthesis of a net by windows. A round merges structurally equal gates and then goes once over all
+//! candidate windows in order; rounds follow until one changes nothing, a fixpoint, or until
+//! `settings.rounds` of them have changed something. The trait `Trial` attempts one window, so this crate
+//! knows no solver, no search and no cache.
 //!
-//! Windows are visited by their root, the gates in rising place. For each root come the counts from 1 to the cap without
-//! a partner, and then, for each partner from the greatest to the least, the counts from 2 on. Gates that are alike are
-//! merged first since two of them are often no window that is listed: of the gates that read what a gate reads the eight
-//! greatest below it are its partners and no others. A visit is passed, left open with a certificate, or makes the net
-//! smaller. The one argument: of a round that changed nothing each visit was tried on the net as it is in the end, so that
-//! each window that counts has no shorter chain or is named (`IsSwept`, which holds of each part of a round and composes).
-//! So nothing has to be known of visits that are passed over after a change.
+//! Candidates are ordered by their root, ascending. For each root come the counts from 1 to the cap without a
+//! partner, and then, for each partner from the greatest to the least, the counts from 2 on. Structurally
+//! equal gates are merged first since two of them often aren't in one window: a gate has at most eight
+//! partners. An attempt has no gain, stays undecided with a certificate, or makes the net smaller.
 //!
-//! Words of windows, here and in the field (ABC, mockturtle):
+//! What is proved rests on one argument: in a round that changed nothing each candidate was attempted on the
+//! final net, so each window has no shorter chain or is named (`IsSwept`, which holds for each part of a
+//! round and composes). Nothing has to be known of the candidates that are skipped after a change.
 //!
-//! | Here | In the field |
+//! In ABC and mockturtle these are called:
+//!
+//! | Here | There |
 //! |---|---|
 //! | net; source; sink | logic network of two-input nodes; combinational input; combinational output |
-//! | place | node index |
-//! | what a gate reads; its readers | fanins; fanouts |
+//! | reads; is read | fanin; fanout |
 //! | window; root; count | window, subcircuit; the node that it grows from; number of its nodes |
 //! | partner of a root | node that shares a fanin with it; an MFFC has none, a window may have two roots |
 //! | convex | no path leaves the window and comes back |
-//! | surround; its leaves | bounded fanin cone; a cut of at most 12 inputs |
-//! | care row | care minterm; the rows that aren't are satisfiability don't-cares (SDC) |
-//! | tail; watcher | transitive fanout (TFO) of at most 16 nodes; its outputs, where it is observed |
-//! | unseen row | observability don't-care (ODC) |
-//! | what is asked of a window | its local function with SDCs, and with `observe` with ODCs too |
-//! | shorter chain in a window's place | exact resynthesis, replacement with a gain |
-//! | gates that are alike | structurally equal nodes, merged by structural hashing (strash) |
-//! | dead gates | dangling nodes, which a cleanup removes |
-//! | sweep; round; visit | resynthesis loop; pass; candidate |
-//! | passed; open; smaller | no gain; conflict limit reached; accepted |
-//! | settled; stopped; undecided | fixpoint; pass limit reached; candidates whose conflict limit was reached |
+//! | fanin cone; its leaves | bounded fanin cone; a cut of at most 12 inputs |
+//! | care row; other rows | care minterm; satisfiability don't-cares (SDC) |
+//! | fanout cone; its outputs | transitive fanout (TFO) of at most 16 nodes; where it is observed |
+//! | unobservable row | observability don't-care (ODC) |
+//! | local specification of a window | local function with SDCs, and with `observe` with ODCs too |
+//! | shorter chain for a window | exact resynthesis, replacement with a gain |
+//! | settled; stopped; undecided | fixpoint; limit of rounds reached; conflict limit reached |
 //!
 //! ```text
-//! let swept = sweep(alloc, &mut trial)?; // swept.settled, swept.undecided; the net is the trial's
+//! let result = resynthesize(alloc, &mut attempts)?; // result.settled, result.undecided; attempts.net()
 //! ```
 #![tactic(auto)]
 

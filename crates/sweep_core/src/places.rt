@@ -1,20 +1,20 @@
-//! The places of a net's gates.
+//! The range of a net's gates.
 ghost use Rattle.std.specs.Prelude.{◌≡◌, ◌+◌, true, false};
 ghost use Rattle.net_theory.specs.Net.{end_of};
 ghost use Rattle.window_theory.specs.Paths.{IsGate};
 
 use net_core::Net;
 
-/// The place of the first gate.
+/// The first gate.
 pub fn first_place(net: &Net) -> u32
     ensures { result ≡ net.now.sources + 1 }
 {
-    // brings what the type of a net says of its size
+    // for the prover: brings the bound on the net's size into the proof
     let _gates = net.gates();
     net.sources() + 1
 }
 
-/// The first number that is no place.
+/// The first number after the nodes.
 pub fn end_place(net: &Net) -> u32
     ensures { result ≡ end_of net.now }
 {
@@ -22,7 +22,7 @@ pub fn end_place(net: &Net) -> u32
     net.sources() + 1 + gates.len() as u32
 }
 
-/// Whether a gate stands at a place.
+/// Whether a node is a gate.
 #[tactic(auto, using(crate::specs::SweptLaws::gates))]
 pub fn has_gate(net: &Net, place: u32) -> bool
     ensures gate { result ≡ true → IsGate net.now place }

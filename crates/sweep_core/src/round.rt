@@ -1,4 +1,4 @@
-//! One round, a pass over the net: gates that are alike become one, and then every window is tried in its order.
+//! One round: structurally equal gates are merged, and then every window is attempted in order.
 ghost use Rattle.std.specs.Prelude.{◌+◌, ◌≤◌, IfOk, OnOk};
 ghost use Rattle.sweep_core.specs.Visits.{IsNoVisit, IsThis, IsOfCounts, IsOfPartners, IsOfRoot, IsOfRoots, IsNextPartner};
 ghost use Rattle.net_theory.specs.Net.{end_of};
@@ -11,8 +11,9 @@ use crate::visit::Visit;
 use std::alloc::{AllocError, Global};
 use std::marker::Model;
 
-/// A round so far: whether it has changed the net, and, if not, the visits that it has left undecided. Once it has changed it
-/// nothing more is named, since certificates of such a round would be thrown away at its end.
+/// A round so far: whether it has changed the net, and, if not, the candidates that it left undecided. Once
+/// it has changed the net it names no more, since their certificates would be discarded at the end of the
+/// round.
 #[derive(Drop)]
 pub struct Round {
     pub changed: bool,
@@ -27,7 +28,7 @@ impl Model for Round {
     ghost view = { λ r. record { changed = r.changed; named = r.named.items } };
 }
 
-/// Makes a visit. Where its root is no gate there is nothing to visit.
+/// Attempts a candidate, unless its root is no gate.
 #[tactic(auto, using(crate::specs::SweptLaws::visiting))]
 fn make_visit<T: Trial>(
     alloc: Global,
@@ -60,7 +61,7 @@ fn make_visit<T: Trial>(
     Ok(())
 }
 
-/// Visits a root with a partner or none, by the counts from `first` to the cap.
+/// Attempts a root with a partner or none, by the counts from `first` to the cap.
 #[tactic(auto, using(crate::specs::SweptLaws::visiting))]
 fn visit_counts<T: Trial>(
     alloc: Global,
@@ -92,7 +93,7 @@ fn visit_counts<T: Trial>(
     Ok(())
 }
 
-/// The greatest partner of a root below a place; None where there is none, or the root is no gate.
+/// The greatest partner of a root below `below`; None where there is none, or the root is no gate.
 fn next_partner<T: Trial>(
     alloc: Global,
     trial: &T,
@@ -107,7 +108,7 @@ fn next_partner<T: Trial>(
     trial.next_partner(alloc, root, below)
 }
 
-/// Visits a root with each of its partners, from the greatest to the least.
+/// Attempts a root with each of its partners, from the greatest to the least.
 #[tactic(auto, using(crate::specs::SweptLaws::visiting))]
 fn visit_partners<T: Trial>(
     alloc: Global,
@@ -132,7 +133,7 @@ fn visit_partners<T: Trial>(
     }
 }
 
-/// Visits a root without a partner, and then with each of its partners.
+/// Attempts a root without a partner, and then with each of its partners.
 #[tactic(auto, using(crate::specs::SweptLaws::visiting))]
 fn visit_root<T: Trial>(
     alloc: Global,
@@ -150,7 +151,7 @@ fn visit_root<T: Trial>(
     Ok(())
 }
 
-/// Visits all roots that the net has at first, in rising place.
+/// Attempts all roots of the initial net, in ascending order.
 #[tactic(auto, using(crate::specs::SweptLaws::visiting))]
 fn visit_all<T: Trial>(alloc: Global, trial: &mut T, round: &mut Round) -> Result<(), AllocError>
     requires cap { 1 ≤ (T.settings_of trial.old).cap }
@@ -166,7 +167,7 @@ fn visit_all<T: Trial>(alloc: Global, trial: &mut T, round: &mut Round) -> Resul
     Ok(())
 }
 
-/// Makes gates that are alike one (structural hashing).
+/// Merges structurally equal gates (structural hashing).
 #[tactic(auto, using(crate::specs::RoundLaws::merging))]
 fn merge_gates<T: Trial>(alloc: Global, trial: &mut T, round: &mut Round) -> Result<(), AllocError>
     ensures { OnOk result (IsSwept IsNoVisit

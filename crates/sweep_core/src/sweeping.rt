@@ -1,4 +1,4 @@
-//! The sweep: rounds, until one changes nothing.
+//! Resynthesis: rounds, until one changes nothing.
 ghost use Rattle.std.specs.Prelude.{◌≡◌, ◌+◌, ◌≤◌, true, false, [], length, All, IfOk};
 ghost use Rattle.op_basis.specs.Basis.{members};
 ghost use Rattle.sweep_core.specs.Settled.{IsSettled};
@@ -11,20 +11,21 @@ use crate::trial::Trial;
 use crate::undecided::Undecided;
 use std::alloc::{AllocError, Global};
 
-/// What a sweep came to, beside its net.
+/// The result of resynthesis, besides its net.
 #[derive(Drop)]
 pub struct Swept {
     /// Whether the last round changed nothing.
     pub settled: bool,
-    /// The windows that it left undecided, in the order of their visits. Where it isn't settled, none.
+    /// The windows that stayed undecided, in the order of candidates. Empty where `settled` is false.
     pub undecided: Vec<Undecided>,
 }
 
-/// Sweeps the net of a trial: rounds, until one changes nothing (a fixpoint) or `settings.rounds` of them have changed
-/// something. The cap is 1 at least.
+/// Resynthesizes a net in rounds, until one changes nothing (a fixpoint) or `settings.rounds` of them have
+/// changed something. The cap is at least 1.
 ///
-/// What the net could stand for it can stand for in the end. Settled, it has no window up to the cap with a shorter
-/// chain, but for those that are named; else it has lost as many gates as there were rounds.
+/// The final net implements all that the first one implements. If it is settled, no window up to the cap has
+/// a shorter chain, but for those that are named; otherwise the net has lost at least as many gates as there
+/// were rounds.
 #[tactic(auto, using(crate::specs::SweptLaws::sweeping))]
 pub fn sweep<T: Trial>(alloc: Global, trial: &mut T) -> Result<Swept, AllocError>
     requires cap { 1 ≤ (T.settings_of trial.old).cap }

@@ -1,23 +1,23 @@
-//! What the sweep asks of whoever tries a window.
+//! What resynthesis needs from the code that attempts a window.
 use crate::visit::Visit;
 use bundle_core::Bundle;
 use improve_settings::ImproveSettings;
 use net_core::Net;
 use std::alloc::{AllocError, Global};
 
-/// What a visit came to.
+/// The result of an attempt.
 #[derive(Drop)]
 pub enum Tried {
-    /// No gain: there is no window of this root, partner and count, or it has too many inputs or outputs, or it has no
-    /// chain of fewer steps than it has gates.
+    /// No gain: there is no window of this root, partner and count, or it has too many inputs or outputs, or
+    /// no chain of fewer steps than it has gates implements it.
     Passed,
-    /// The conflict limit was reached, with a window of six gates at least: the certificate of the search.
+    /// The conflict limit was reached, with a window of at least six gates: the certificate of the search.
     Open(Bundle),
-    /// A gain: a shorter chain took the window's place, and the net is smaller.
+    /// A gain: a shorter chain has replaced the window, and the net is smaller.
     Smaller,
 }
 
-/// A net whose windows can be tried one after the other, by some settings.
+/// A net whose windows can be attempted one after the other, by some settings.
 pub trait Trial {
     ghost use Rattle.std.specs.Prelude.{◌≡◌, ◌≤◌, IfOk};
     ghost use Rattle.net_theory.specs.Net.{Net};
@@ -30,7 +30,7 @@ pub trait Trial {
     /// The settings.
     ghost settings_of: { Self → ImproveSettings };
 
-    /// The net as it is.
+    /// The current net.
     ghost net_of: { Self → Net };
 
     /// The settings.
@@ -38,17 +38,18 @@ pub trait Trial {
         ensures value { result ≡ settings_of self.now }
         ensures range { IsInRange result };
 
-    /// The net as it is.
+    /// The current net.
     fn net(&self) -> &Net
         ensures { result.now ≡ net_of self.now };
 
-    /// Merges gates that are alike (structural hashing), where that is to be done. Whether the net has become smaller.
+    /// Merges structurally equal gates (structural hashing), where the settings allow it. Returns whether the
+    /// net became smaller.
     fn merge_alike(&mut self, alloc: Global) -> Result<bool, AllocError>
         ensures asked { IfOk result (λ _. settings_of self.new ≡ settings_of self.old) }
         ensures shrunk { IfOk result (λ merged. IsShrunk (settings_of self.old) (net_of self.old) (net_of self.new) merged) };
 
-    /// Tries the window of a root, a partner or none, and a count from 1 to the cap. There may be no window of them,
-    /// and the place of the partner may be none of a partner.
+    /// Attempts the window of a root, a partner or none, and a count from 1 to the cap. There may be no such
+    /// window, and `partner` may be no partner of the root.
     fn attempt(&mut self, alloc: Global, visit: Visit) -> Result<Tried, AllocError>
         requires gate { IsGate (net_of self.old) visit.root }
         requires from { 1 ≤ visit.count }
@@ -56,7 +57,7 @@ pub trait Trial {
         ensures asked { IfOk result (λ _. settings_of self.new ≡ settings_of self.old) }
         ensures tried { IfOk result (λ tried. IsTried (settings_of self.old) (net_of self.old) (net_of self.new) visit tried) };
 
-    /// The greatest partner of a gate below a place.
+    /// The greatest partner of a gate below `below`.
     fn next_partner(&self, alloc: Global, root: u32, below: u32) -> Result<Option<u32>, AllocError>
         requires gate { IsGate (net_of self.now) root }
         ensures { IfOk result (λ next. IsNextPartner (net_of self.now) root below next) };

@@ -1,9 +1,9 @@
-//! Windows that a search left undecided.
+//! Windows that stayed undecided.
 use crate::visit::Visit;
 use bundle_core::Bundle;
 use std::marker::Model;
 
-/// A window that a search left undecided, and the certificate of the search.
+/// A window that stayed undecided, and the certificate of its search.
 #[derive(Drop)]
 pub struct Undecided {
     pub visit: Visit,

@@ -1,6 +1,6 @@
-//! A visit.
+//! Candidates.
 
-/// A window that is tried: the places of its root and of its partner, if it has one, and the number of its gates.
+/// A candidate window: its root, its partner, if it has one, and the number of its gates.
 #[derive(Clone, Copy)]
 pub struct Visit {
     pub root: u32,

@@ -1,4 +1,4 @@
--- How the index of a net gets the readers above each gate, from the last gate on.
+-- How the index of a net gets the fanouts above each gate, from the last gate on.
 use Rattle.std.specs.Prelude.{◌≡◌, ℕ, ◌+◌, ◌-◌, ◌≤◌, ◌<◌, true, false, if◌then◌else◌, List, [], ◌∷◌, ◌++◌, length, slice_get, slice_index_or, Some, ◌⊎◌, refl}
 use Rattle.std.proofs.Common.{arith, sym, ◌∙◌, ap, subst, inl, inr, ⊎_elim}
 use Rattle.std.proofs.lemmas.Bool.{cond-true, cond-false, eq-eqb, cases_Bool, cases_eq, both_ways}
@@ -21,7 +21,7 @@ reads_test p g reads = ⊎_elim (λ a. inl (ap (is_place p) a ∙ eq-eqb p p ref
 
 -- ---- one gate more
 
--- what is noted of a place: the gate if it reads the place, else who was first above it
+-- the new first fanout of a node: the gate if it reads the node, else the first one above the gate
 before_both : (n : Net) (i : ℕ) (g : Gate) (p was mid now : ℕ) → slice_get n.gates i ≡ Some g → IsLater n (n.sources + 1 + (i + 1)) p was → mid ≡ (if is_place p g.a then n.sources + 1 + i else was) → now ≡ (if is_place p g.b then n.sources + 1 + i else mid) → IsLater n (n.sources + 1 + i) p now
 before_both n i g p was mid now at above first second =
     let place : ℕ = n.sources + 1 + i in

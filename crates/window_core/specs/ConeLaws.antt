@@ -1,4 +1,4 @@
--- Cones of a net: what they need to be one, and that they are parts of the net.
+-- Cones of a net: the conditions for being one, and that they are parts of the net.
 use Rattle.std.specs.Prelude.{◌≡◌, ℕ, zero, suc, ◌<◌, Bool, true, false, List, [], ◌∷◌, ◌++◌, take, slice_get, Some, refl}
 use Rattle.std.proofs.Common.{arith, sym, ap, subst, inl, inr, ⊎_elim}
 use Rattle.std.proofs.lemmas.Bool.{cases_Bool}
@@ -18,7 +18,7 @@ use Rattle.window_core.specs.Surrounding.{gate_places, AreAbove}
 use Rattle.window_core.specs.GrowingLaws.{of_reads, reads_of}
 use Rattle.window_core.specs.SurroundingLaws.{among_left, among_right, among_join}
 
--- ---- places by index
+-- ---- nodes by index
 
 pub among_get : (xs : List ℕ) (p : ℕ) → among xs p ≡ true → (k : ℕ) × (slice_get xs k ≡ Some p)
 among_get [] p e = absurd (let f : false ≡ true = e in cc)
@@ -61,7 +61,7 @@ apart_join (x ∷ xs) ys first second none (suc i) (suc j) p a b =
 
 -- ---- a cone
 
--- a place of the gates below one of them is that of an earlier gate
+-- a node of the gates below one of them is that of an earlier gate
 pub earlier_gate : (gates : List (ℕ × Gate)) (i q : ℕ) (x : ℕ × Gate) → IsRising (gate_places gates) → slice_get gates i ≡ Some x → among (gate_places gates) q ≡ true → q < x.0 → among (gate_places (take i gates)) q ≡ true
 unfolding IsRising
 earlier_gate [] i q x rising at e low = absurd cc
@@ -106,7 +106,7 @@ above_cone n leaves gates net are =
 
 -- ---- a part of the net
 
--- a place of the gates is that of one of them
+-- a node of the gates is that of one of them
 pub gate_get : (gates : List (ℕ × Gate)) (p : ℕ) → among (gate_places gates) p ≡ true → (i : ℕ) × (x : ℕ × Gate) × (slice_get gates i ≡ Some x) × (x.0 ≡ p)
 gate_get [] p e = absurd (let f : false ≡ true = e in cc)
 gate_get (x ∷ gates) p e =

@@ -4,7 +4,7 @@ use Rattle.net_theory.specs.Net.{Net}
 use Rattle.window_theory.specs.Places.{among, IsRising}
 use Rattle.window_theory.specs.Window.{IsInput, IsReadBy}
 
--- The inputs that were found are inputs of the gates; those that weren't are read by gates that are left.
+-- The inputs found so far are inputs of the gates; the others are fanins of the gates `left`.
 pub record AreFound (n : Net) (gates left inputs : List ℕ) : Type 0 where
   pub within : (q : ℕ) → among left q ≡ true → among gates q ≡ true
   pub rising : IsRising inputs

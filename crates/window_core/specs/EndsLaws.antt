@@ -19,7 +19,7 @@ use Rattle.window_core.specs.RisingLaws.{put_rising, put_own, put_only, put_kept
 
 -- ---- one signal
 
--- what putting a signal does
+-- the effect of putting in a signal
 record IsPut (gates : List ℕ) (s : Sig) (old new : List ℕ) : Type 0 where
   rising : IsRising old → IsRising new
   kept : (q : ℕ) → among old q ≡ true → among new q ≡ true

@@ -23,7 +23,7 @@ reads_of n p q g of r =
     let own : IsGate n p = record { index = of.index; gate = g; at = of.at; place = of.place } in
     subst (λ (x : Gate). ReadsPlace x q) (gate_one n p r.reader own) r.reads
 
--- one gate stands at a place
+-- a node has only one gate
 pub of_one : (n : Net) (p : ℕ) (g h : Gate) → IsGateOf n p g → IsGateOf n p h → g ≡ h
 of_one n p g h a b =
     let same : a.index ≡ b.index = omega (arith, a.place, b.place) in
@@ -92,7 +92,7 @@ sought_more n root partner taken bound left x rest g best first next parts of by
           (was.most q why above low);
     }
 
--- ---- candidates stand below the bound
+-- ---- candidates are below the bound
 
 nothing_read : (n : Net) (p : ℕ) → IsReadBy n [] p → ⊥
 nothing_read n p read = let e : false ≡ true = read.inside in cc

@@ -1,4 +1,4 @@
--- The words of a window's specification, while they are found.
+-- The words of a window's specification, while they are computed.
 use Rattle.std.specs.Prelude.{◌≡◌, ℕ, ◌<◌, ◌^◌, true, List, ◌++◌, length, slice_get, Some, bit_and}
 use Rattle.chain_theory.specs.Operator.{digit}
 use Rattle.net_theory.specs.declared.data.Gate.{Gate}
@@ -8,23 +8,23 @@ use Rattle.window_theory.specs.Care.{IsCareRow}
 use Rattle.window_core.specs.Gates.{IsGateOf}
 use Rattle.window_core.specs.Surrounding.{gate_places}
 
--- The digits of a mask are 1 at just the care rows of some places.
--- Example: of AND and OR of two sources the mask is 1101 in binary, since row 10 is no care row.
+-- The bits of a mask are 1 at exactly the care rows of some nodes.
+-- Example: for AND and OR of two sources the mask is 1101 in binary, since row 10 is no care row.
 pub record IsCareMask (n : Net) (places : List ℕ) (mask : ℕ) : Type 0 where
   pub low : (t : ℕ) → digit mask t ≡ true → t < 2 ^ length places
   pub only : (t : ℕ) → digit mask t ≡ true → IsCareRow n places t
   pub all : (t : ℕ) → t < 2 ^ length places → IsCareRow n places t → digit mask t ≡ true
 
--- The gates of the first places were looked up, and the places `left` remain.
+-- The gates of the first nodes were looked up; the nodes `left` remain.
 pub record ArePlaced (n : Net) (places left : List ℕ) (gates : List (ℕ × Gate)) : Type 0 where
   pub parts : gate_places gates ++ left ≡ places
   pub own : (i : ℕ) (x : ℕ × Gate) → slice_get gates i ≡ Some x → IsGateOf n x.0 x.1
 
--- a word has the values of a place of a cone, as far as there are rows
+-- a word has the values of a node of a cone, on as many bits as there are rows
 abbrev pub HasValues : Cone → ℕ → ℕ → Type 0
 HasValues c p word = (t : ℕ) → t < 2 ^ length c.leaves → digit word t ≡ value_in c t p
 
--- The words of the first outputs were put down, with the care rows alone, and the outputs `left` remain.
+-- The words of the first outputs were pushed, masked by the care rows; the outputs `left` remain.
 pub record AreMasked (c : Cone) (mask : ℕ) (outputs left on care : List ℕ) : Type 0 where
   pub done : List ℕ
   pub parts : done ++ left ≡ outputs

@@ -1,4 +1,4 @@
--- What the words of a window's specification say.
+-- The words of a window's specification are what the definition says.
 use Rattle.std.specs.Prelude.{◌≡◌, ℕ, zero, suc, ◌+◌, ◌-◌, ◌*◌, ◌≤◌, ◌<◌, ◌^◌, ◌==◌, Bool, true, false, ◌&&◌, if◌then◌else◌, List, [], ◌∷◌, ◌++◌, length, map, drop, slice_get, slice_index, slice_index_or, Some, bit_and, refl}
 use Rattle.std.specs.Int.{bit_at}
 use Rattle.std.proofs.Common.{arith, sym, ◌∙◌, ap, subst, inl, inr, ⊎_elim}
@@ -40,7 +40,7 @@ use Rattle.window_core.specs.ConeLaws.{among_get, get_among, cone_part, above_co
 some_same : {A : Type 0} (x y : A) → Some x ≡ Some y → x ≡ y
 some_same x y e = cc
 
--- what stands at an index, read with a default
+-- the element at an index, read with a default
 pub get_is : (xs : List ℕ) (k x : ℕ) → slice_get xs k ≡ Some x → slice_index_or xs k 0 ≡ x
 get_is xs k x e = some_same (slice_index_or xs k 0) x (sym (slice_get-get_or xs k 0 (slice_get_within xs k x e)) ∙ e)
 
@@ -69,7 +69,7 @@ later_digit false k r i low =
     let e : 0 + r ≡ r = omega arith in
     ap (λ (x : ℕ). bit_at x i == 1) e
 
--- the digits of a pattern are the bits of the places
+-- the digits of a pattern are the bits of the nodes
 pattern_digit : (bits : ℕ → Bool) (ps : List ℕ) (i : ℕ) → i < length ps → digit (named_bits bits ps) (length ps - (i + 1)) ≡ bits (slice_index_or ps i 0)
 unfolding pattern
 pattern_digit bits [] i low = absurd (omega (arith, low))
@@ -84,7 +84,7 @@ pattern_digit bits (p ∷ ps) (suc i) low =
     ∙ later_digit (bits p) (length (map sigs.Place ps)) (named_bits bits ps) (length ps - (i + 1)) (omega (arith, count, low))
     ∙ pattern_digit bits ps i (omega (arith, low))
 
--- places have the bits of the row that is their pattern
+-- nodes have the bits of the row that is their pattern
 pub pattern_row : (bits : ℕ → Bool) (ps : List ℕ) (t : ℕ) → named_bits bits ps ≡ t → HasRow bits ps t
 pattern_row bits ps t e i low = sym (pattern_digit bits ps i low) ∙ ap (λ (x : ℕ). digit x (length ps - (i + 1))) e
 
@@ -153,7 +153,7 @@ signals_among c ps signals covered is k d low = subst (λ (ss : List Sig). k < l
     later : (p x : ℕ) (xs : List ℕ) → among xs p ≡ true → among (x ∷ xs) p ≡ true
     later p x xs e = let r = among_get xs p e in get_among (x ∷ xs) (suc r.0) p r.1
 
--- ---- gates with their places
+-- ---- gates with their nodes
 
 one_behind : (gates : List (ℕ × Gate)) (x : ℕ × Gate) (rest : List ℕ) → gate_places (gates ++ x ∷ []) ++ rest ≡ gate_places gates ++ (x.0 ∷ rest)
 one_behind [] x rest = refl
@@ -173,7 +173,7 @@ nothing_behind (x ∷ xs) = ap (λ (ys : List ℕ). x ∷ ys) (nothing_behind xs
 pub placed_places : (n : Net) (ps : List ℕ) (gates : List (ℕ × Gate)) → ArePlaced n ps [] gates → gate_places gates ≡ ps
 placed_places n ps gates are = sym (nothing_behind (gate_places gates)) ∙ are.parts
 
--- the gates of a window stand above its inputs
+-- the gates of a window are above its inputs
 pub inner_above : (n : Net) (w : Window) (inputs : List ℕ) (gates : List (ℕ × Gate)) → Belongs n w → inputs ≡ w.inputs → length w.inputs ≤ 6 → ArePlaced n w.gates [] gates → AreAbove n inputs gates
 inner_above n w inputs gates is same few are =
     let own : gate_places gates ≡ w.gates = placed_places n w.gates gates are in

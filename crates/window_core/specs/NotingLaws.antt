@@ -17,7 +17,7 @@ use Rattle.window_core.specs.Noting.{IsBefore, AreBefore, AreGrown, IsCounting, 
 
 -- ---- counting
 
--- of numbers that stand for all from 255 on
+-- for numbers where 255 stands for all from 255 on
 min_more : (x more rest : ℕ) → min (min (x + more) 255 + rest) 255 ≡ min (x + (more + rest)) 255
 min_more x more rest = omega arith
 
@@ -52,7 +52,7 @@ unfolding sum_gates
 sum_none count place [] e = refl
 sum_none count place (g ∷ gs) e = absurd (omega (arith, e))
 
--- where the place plays no part
+-- where the node doesn't matter
 pub sum_anywhere : (count : Gate → ℕ) (here there : ℕ) (gs : List Gate) → sum_gates (λ q g. count g) here gs ≡ sum_gates (λ q g. count g) there gs
 unfolding sum_gates
 sum_anywhere count here there [] = refl
@@ -91,7 +91,7 @@ before_rest end gs g rest parts all =
     let at : (i : ℕ) (x : Gate) → slice_get rest i ≡ Some x → slice_get gs (suc i) ≡ Some x = λ i x e. ap (λ (xs : List Gate). slice_get xs (suc i)) parts ∙ e in
     record { first = λ i x e. all.first (suc i) x (at i x e); second = λ i x e. all.second (suc i) x (at i x e) }
 
--- ---- last readers
+-- ---- last fanouts
 
 reads_test : (p : ℕ) (g : Gate) → ReadsPlace g p → (is_place p g.a ≡ true) ⊎ (is_place p g.b ≡ true)
 reads_test p g reads = ⊎_elim (λ a. inl (ap (is_place p) a ∙ eq-eqb p p refl)) (λ b. inr (ap (is_place p) b ∙ eq-eqb p p refl)) reads
@@ -101,7 +101,7 @@ place_is p sigs.Zero e = absurd cc
 place_is p sigs.One e = absurd cc
 place_is p (sigs.Place q) e = ap sigs.Place (eqb-true q p e)
 
--- the place after the first i gates, and the next one
+-- the node after the first i gates, and the next one
 next_above : (sources i : ℕ) → sources + 1 + i < sources + 1 + (i + 1)
 next_above sources i = omega arith
 
@@ -114,7 +114,7 @@ next_more sources i x low = omega arith
 next_other : (sources i x : ℕ) → x < sources + 1 + (i + 1) → (x ≡ sources + 1 + i → ⊥) → x < sources + 1 + i
 next_other sources i x low other = omega arith
 
--- what is noted of a place: the gate if it reads the place, else who was last before
+-- the new last fanout of a node: the gate if it reads the node, else the last one before it
 after_both : (n : Net) (i : ℕ) (g : Gate) (p was mid now : ℕ) → slice_get n.gates i ≡ Some g → IsEarlier n (n.sources + 1 + i) p was → mid ≡ (if is_place p g.a then n.sources + 1 + i else was) → now ≡ (if is_place p g.b then n.sources + 1 + i else mid) → IsEarlier n (n.sources + 1 + (i + 1)) p now
 after_both n i g p was mid now at before first second =
     let place : ℕ = n.sources + 1 + i in
@@ -154,11 +154,11 @@ noted_more n i g place last mid next at place_is first second was =
           (subst (λ (q : ℕ). slice_index_or next p 0 ≡ (if is_place p g.b then q else slice_index_or mid p 0)) place_is (second.each p (subst (λ (end : ℕ). p < end) (sym (first.size ∙ was.size)) low)));
     }
 
--- a net has the place 0
+-- the nodes of a net begin below its end
 pub end_some : (n : Net) → 0 < end_of n
 end_some n = omega arith
 
--- a place that a signal names, or 0 for a constant, is one of the table's
+-- a node that a signal names, or 0 for a constant, is an index of the table
 pub named_low : (end : ℕ) (s : Sig) → 0 < end → IsBefore end s → place_of s < end
 named_low end sigs.Zero some low = some
 named_low end sigs.One some low = some
@@ -249,7 +249,7 @@ list_code n gates i g place sources last mid next list new e net same low is sou
     let before : AreBefore (length last) n.gates = gates_before n (length last) net was.noted.size in
     list_more n i g place last mid next list new e at (place_is ∙ ap (λ (k : ℕ). k + 1 + i) sources_is) (before.first i g at) (before.second i g at) first second noted_a noted_b grown was
 
--- what is known of the gate at a place of the list, and of the lists after the last gate
+-- the operands of the gate at an index of the list, and the lists after the last gate
 pub operands_before : (n : Net) (gates : List Gate) (i : ℕ) (g : Gate) (last : List ℕ) → IsNet n → gates ≡ n.gates → i < length gates → g ≡ slice_index_or gates i g → length last ≡ end_of n → IsBefore (length last) g.a × IsBefore (length last) g.b
 operands_before n gates i g last net same low is size =
     let at : slice_get n.gates i ≡ Some g = ap (λ (xs : List Gate). slice_get xs i) (sym same) ∙ slice_get-get_or gates i g low ∙ ap Some (sym is) in

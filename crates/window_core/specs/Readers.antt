@@ -1,4 +1,4 @@
--- The index of a net: how often each place is named, and who named it last below a gate, and first above it.
+-- The index of a net: reference counts and fanout lists.
 use Rattle.std.specs.Prelude.{◌≡◌, ℕ, ◌+◌, ◌≤◌, ◌<◌, min, if◌then◌else◌, List, [], ◌∷◌, length, slice_get, slice_index_or, Some, ◌⊎◌}
 use Rattle.net_theory.specs.declared.data.Sig.{Sig}
 use Rattle.net_theory.specs.declared.data.Sig.TheVariants as sigs
@@ -8,16 +8,16 @@ use Rattle.net_theory.specs.Reach.{is_place}
 use Rattle.window_theory.specs.Paths.{Reads}
 use Rattle.window_core.specs.declared.readers.Nearest.{Nearest}
 
--- ---- how often
+-- ---- reference counts
 
--- how often a signal names a place
+-- how often a signal names a node
 abbrev pub named_by : ℕ → Sig → ℕ
 named_by p s = if is_place p s then 1 else 0
 
 abbrev pub named_by_gate : ℕ → Gate → ℕ
 named_by_gate p g = named_by p g.a + named_by p g.b
 
--- a sum over gates, of which the first has the place given
+-- a sum over gates; the first is at node `place`
 unfoldable pub sum_gates : (ℕ → Gate → ℕ) → ℕ → List Gate → ℕ
 sum_gates count place [] = 0
 sum_gates count place (g ∷ gs) = count place g + sum_gates count (place + 1) gs
@@ -26,13 +26,13 @@ unfoldable pub named_by_sinks : ℕ → List Sig → ℕ
 named_by_sinks p [] = 0
 named_by_sinks p (s ∷ ss) = named_by p s + named_by_sinks p ss
 
--- how many operands and sinks of a net name a place
+-- how many operands and sinks of a net name a node: its reference count
 abbrev pub uses_of : Net → ℕ → ℕ
 uses_of n p = sum_gates (λ q g. named_by_gate p g) (n.sources + 1) n.gates + named_by_sinks p n.sinks
 
--- ---- who was last
+-- ---- the next lower fanout
 
--- the place that a signal names; 0 is no place, and stands for constants
+-- the node that a signal names; 0 is no node, and stands for constants
 abbrev pub place_of : Sig → ℕ
 place_of sigs.Zero = 0
 place_of sigs.One = 0
@@ -53,7 +53,7 @@ pub record AreEarlier (n : Net) (list : List Nearest) : Type 0 where
   pub size : length list ≡ length n.gates
   pub each : (i : ℕ) (g : Gate) (e : Nearest) → slice_get n.gates i ≡ Some g → slice_get list i ≡ Some e → IsEarlierOf n (n.sources + 1 + i) g e
 
--- ---- who is next
+-- ---- the next higher fanout
 
 -- the least gate at q or above it that reads p, or 0 where there is none
 pub record IsLater (n : Net) (q p r : ℕ) : Type 0 where
@@ -65,7 +65,7 @@ pub record IsLaterOf (n : Net) (q : ℕ) (g : Gate) (e : Nearest) : Type 0 where
   pub first : IsLater n (q + 1) (place_of g.a) e.first
   pub second : IsLater n (q + 1) (place_of g.b) e.second
 
--- for each of the gates, of which the last one stands first
+-- for each of the gates, with the last one first
 pub record AreLater (n : Net) (list : List Nearest) : Type 0 where
   pub size : length list ≡ length n.gates
   pub each : (i j : ℕ) (g : Gate) (e : Nearest) → i + j + 1 ≡ length n.gates → slice_get n.gates i ≡ Some g → slice_get list j ≡ Some e → IsLaterOf n (n.sources + 1 + i) g e
@@ -78,10 +78,11 @@ pub record Readers : Type 0 where
   pub later : List Nearest
   pub first : List ℕ
 
--- Each place has the number of its uses, where 255 stands for all numbers from 255 on, and each gate the greatest
--- gates below it and the least above it that read what it reads; and each place has the first gate that reads it.
--- Example: of XOR of two sources at place 3, which is the one sink, the uses of the places 1, 2 and 3 are 1, and
--- there are no earlier readers.
+-- Each node has its reference count, where 255 stands for all numbers from 255 on; each gate has, for both
+-- operands, their greatest fanout below the gate and their least one above it; and each node has its first
+-- fanout.
+-- Example: with XOR of two sources at node 3, the one sink, the reference counts of the nodes 1, 2 and 3 are
+-- 1, and there are no earlier fanouts.
 pub record AreReaders (n : Net) (r : Readers) : Type 0 where
   pub size : length r.uses ≡ end_of n
   pub uses : (p : ℕ) → p < end_of n → slice_index_or r.uses p 0 ≡ min (uses_of n p) 255

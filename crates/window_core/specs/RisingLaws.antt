@@ -1,4 +1,4 @@
--- What it does to a rising list that a place is put into it.
+-- The effect of putting a node into an ascending list.
 use Rattle.std.specs.Prelude.{◌≡◌, ℕ, zero, suc, ◌+◌, ◌-◌, ◌≤◌, ◌<◌, true, false, nat_eq, nat_lt, List, [], ◌∷◌, ◌++◌, length, take, drop, slice_index_or, ◌⊎◌, refl}
 use Rattle.std.proofs.Common.{arith, sym, ◌∙◌, ap, subst, inl, inr, ⊎_elim}
 use Rattle.std.proofs.lemmas.Bool.{cond-true, cond-false, eq-eqb, ne_eqb, lt-ltb, le-ltb, cases_eq, cases_lt, cases_Bool, both_ways}
@@ -20,14 +20,14 @@ put_later : (p q : ℕ) (qs : List ℕ) → q < p → put p (q ∷ qs) ≡ q ∷
 unfolding put
 put_later p q qs low = cond-false (nat_eq p q) _ _ (ne_eqb p q (λ e. omega (arith, e, low))) ∙ cond-false (nat_lt p q) _ _ (le-ltb p q (omega (arith, low)))
 
--- by cases on where p stands
+-- the cases of where p is
 abbrev Where : ℕ → ℕ → Type 0
 Where p q = (p ≡ q) ⊎ ((p < q) ⊎ (q < p))
 
 where_is : (p q : ℕ) → Where p q
 where_is p q = ⊎_elim (λ (low : p < q). inr (inl low)) (λ (high : q ≤ p). ⊎_elim (λ (same : p ≡ q). inl same) (λ other. inr (inr (omega (arith, high, other)))) (cases_eq p q)) (cases_lt p q)
 
--- ---- which places there are
+-- ---- which nodes there are
 
 pub put_own : (p : ℕ) (xs : List ℕ) → among (put p xs) p ≡ true
 unfolding put

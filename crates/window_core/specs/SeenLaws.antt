@@ -1,4 +1,4 @@
--- A place has as many references by the gates inside as by all, or one from outside.
+-- Either all references of a node are from the gates inside, or some are from outside.
 use Rattle.std.specs.Prelude.{◌≡◌, ℕ, zero, suc, ◌+◌, ◌≤◌, ◌<◌, Bool, true, false, min, if◌then◌else◌, nat_eq, List, [], ◌∷◌, ◌++◌, length, slice_get, Some, refl}
 use Rattle.std.specs.List.{list_any}
 use Rattle.std.proofs.Common.{arith, sym, ◌∙◌, ap, subst, inl, inr, ⊎_elim, ◌≢◌}
@@ -59,7 +59,7 @@ sum_has f place (y ∷ gs) (suc i) x at =
     let here : f (place + suc i) x ≡ f ((place + 1) + i) x = ap (λ (q : ℕ). f q x) e in
     omega (arith, here, sum_has f (place + 1) gs i x at)
 
--- the sum over one place is its gate's item
+-- the sum over one node is its gate's item
 sum_one : (f : Gate → ℕ) (y place : ℕ) (gs : List Gate) (i : ℕ) (x : Gate) → slice_get gs i ≡ Some x → place + i ≡ y → sum_gates (λ q g. if nat_eq q y then f g else 0) place gs ≡ f x
 unfolding sum_gates
 sum_one f y place [] i x at is = absurd cc
@@ -78,7 +78,7 @@ off_list : (x : ℕ) (rest : List ℕ) → IsRising (x ∷ rest) → among rest 
 unfolding IsRising
 off_list x rest rising = ⊎_elim (λ on. let above : x < x = rising.0 x on in absurd (omega (arith, above))) (λ off. off) (cases_Bool (among rest x))
 
--- at one place a list with one place more has the place's item more
+-- at one node, a list with one more node has the node's item more
 split_at : (x : ℕ) (rest : List ℕ) (q k : ℕ) → IsRising (x ∷ rest) → (if among (x ∷ rest) q then k else 0) ≡ (if nat_eq q x then k else 0) + (if among rest q then k else 0)
 split_at x rest q k rising =
     ⊎_elim
@@ -133,7 +133,7 @@ pub counted_end : (n : Net) (gates left : List ℕ) (p uses : ℕ) → length le
 counted_end n gates left p uses none was =
     omega (arith, was.sum, ap (λ (xs : List ℕ). inside_of n xs p) (no_length left none), inside_none n p)
 
--- ---- seen outside
+-- ---- references from outside
 
 place_is : (p : ℕ) (s : Sig) → is_place p s ≡ true → s ≡ sigs.Place p
 place_is p sigs.Zero e = absurd cc
@@ -146,7 +146,7 @@ place_test p s e = ap (is_place p) e ∙ eq-eqb p p refl
 named_once : (p : ℕ) (s : Sig) → s ≡ sigs.Place p → named_by p s ≡ 1
 named_once p s e = cond-true (is_place p s) 1 0 (place_test p s e)
 
--- who names a place reads it
+-- a gate that names a node reads it
 names_reads : (p : ℕ) (g : Gate) → named_by_gate p g ≢ 0 → ReadsPlace g p
 names_reads p g some =
     ⊎_elim
@@ -186,7 +186,7 @@ tested_sinks p (s ∷ ss) some =
 abbrev outside_of : Net → List ℕ → ℕ → ℕ
 outside_of n gates p = sum_gates (λ q g. if among gates q then 0 else named_by_gate p g) (n.sources + 1) n.gates
 
--- all uses by gates are those inside and those outside
+-- all references by gates are those from inside and those from outside
 both_sides : (n : Net) (gates : List ℕ) (p : ℕ) → sum_gates (λ q g. named_by_gate p g) (n.sources + 1) n.gates ≡ inside_of n gates p + outside_of n gates p
 unfolding inside_of
 both_sides n gates p =

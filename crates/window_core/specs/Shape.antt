@@ -1,4 +1,4 @@
--- What every window that the program holds has: short rising lists.
+-- The invariant of every window of the program: short ascending lists.
 use Rattle.std.specs.Prelude.{◌≤◌, length}
 use Rattle.window_theory.specs.Places.{IsRising}
 use Rattle.window_theory.specs.Window.{Window}

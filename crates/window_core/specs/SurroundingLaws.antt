@@ -1,4 +1,4 @@
--- How the surround of some places is found.
+-- How the fanin cone of some nodes is expanded.
 use Rattle.std.specs.Prelude.{◌≡◌, ℕ, zero, suc, ◌+◌, ◌-◌, ◌≤◌, ◌<◌, Bool, true, false, not, if◌then◌else◌, List, [], ◌∷◌, ◌++◌, length, reverse, take, slice_get, Some, ◌⊎◌, refl}
 use Rattle.std.proofs.Common.{arith, sym, ◌∙◌, ap, subst, inl, inr, ⊎_elim}
 use Rattle.std.proofs.lemmas.Bool.{eqb-true, eq-eqb, cases_Bool, both_ways}
@@ -21,7 +21,7 @@ use Rattle.window_core.specs.GrowingLaws.{of_gate, of_reads, reads_of}
 use Rattle.window_core.specs.RisingLaws.{put_rising, put_own, put_only, put_kept, put_new, put_old}
 use Rattle.window_core.specs.WalkingLaws.{among_end, end_among, front_among}
 
--- ---- putting what a signal names
+-- ---- putting the node that a signal names
 
 pub sig_rising : (s : Sig) (xs : List ℕ) → IsRising xs → IsRising (put_sig s xs)
 sig_rising sigs.Zero xs rising = rising
@@ -43,7 +43,7 @@ sig_only sigs.Zero xs q e = inl e
 sig_only sigs.One xs q e = inl e
 sig_only (sigs.Place p) xs q e = ⊎_elim (λ (same : q ≡ p). inr (ap sigs.Place (sym same))) (λ there. inl there) (put_only p q xs e)
 
--- how much longer it gets
+-- how much longer the list gets
 sig_longer : (s : Sig) (xs : List ℕ) (new : Bool) → IsRising xs → length (put_sig s xs) ≡ length xs + (if new then 1 else 0) → new ≡ true → (q : ℕ) → s ≡ sigs.Place q → among xs q ≡ false
 sig_longer s xs new rising size is q e =
     ⊎_elim
@@ -53,7 +53,7 @@ sig_longer s xs new rising size is q e =
     (λ off. off)
     (cases_Bool (among xs q))
 
--- ---- opening
+-- ---- expanding
 
 behind_rising : (front : List ℕ) (g : Gate) → IsRising front → IsRising (behind_of front g)
 behind_rising front g rising = sig_rising g.b (put_sig g.a front) (sig_rising g.a front rising)
@@ -161,7 +161,7 @@ unfolding IsRising
 rising_front [] ys rising = tt
 rising_front (x ∷ xs) ys rising = (λ q e. rising.0 q (among_left xs ys q e), rising_front xs ys rising.1)
 
--- the last of a rising list is above the others
+-- the last of an ascending list is above the others
 pub last_high : (front : List ℕ) (p : ℕ) → IsRising (front ++ p ∷ []) → (q : ℕ) → among front q ≡ true → q < p
 unfolding IsRising
 last_high [] p rising q e = absurd (let f : false ≡ true = e in cc)
@@ -170,7 +170,7 @@ last_high (x ∷ xs) p rising q e =
 
 -- ---- one step
 
--- what the greatest leaf's opening gives
+-- the result of expanding the greatest leaf
 pub opens_this : (n : Net) (leaves front : List ℕ) (p : ℕ) (g : Gate) → IsNet n → IsRising leaves → leaves ≡ front ++ p ∷ [] → IsGateOf n p g → Opens n leaves (behind_of front g)
 opens_this n leaves front p g net rising parts of =
     let joined : IsRising (front ++ p ∷ []) = subst IsRising parts rising in
@@ -246,7 +246,7 @@ pub surround_start : (n : Net) (places leaves : List ℕ) (gates : List (ℕ × 
 surround_start n places leaves gates rising few within same none =
     subst (λ (xs : List (ℕ × Gate)). IsSurround n places leaves (reverse xs)) (sym none) (subst (λ (ls : List ℕ). IsSurround n places ls []) (sym same) (surround_of n places rising few within))
 
--- a fanin of a place in the cone of some places is in their cone too
+-- a fanin of a node in the cone of some nodes is in their cone too
 up_first : (n : Net) (q p r : ℕ) → Reads n p q → LeadsUp n p r → LeadsUp n q r
 up_first n q _ _ first (at_once p r reads) = by_way_of q p r (at_once q p first) reads
 up_first n q _ _ first (by_way_of p m r before reads) = by_way_of q m r (up_first n q p m first before) reads
@@ -259,7 +259,7 @@ read_behind n places p q reads is =
       why = inr (⊎_elim (λ same. subst (LeadsUp n q) same (at_once q p reads)) (λ up. up_first n q p is.place reads up) is.why);
     }
 
--- the gate that is opened stands before the others
+-- the gate that is expanded is below the others
 surround_step : (n : Net) (places leaves front : List ℕ) (gates : List (ℕ × Gate)) (p : ℕ) (g : Gate) → IsNet n → leaves ≡ front ++ p ∷ [] → IsGateOf n p g → length (behind_of front g) ≤ 12 → IsSurround n places leaves gates → IsSurround n places (behind_of front g) ((p, g) ∷ gates)
 unfolding IsRising
 surround_step n places leaves front gates p g net parts of few was =
@@ -317,7 +317,7 @@ surround_more n places old new before after net is was =
 pub surround_last : (n : Net) (places leaves : List ℕ) (gates : List (ℕ × Gate)) → IsSurround n places leaves gates → IsLast n leaves → LeadsTo n places leaves
 surround_last n places leaves gates was last = was.leads leaves (stays leaves last)
 
--- ---- the greatest leaf falls
+-- ---- the greatest leaf decreases
 
 top_above : (xs : List ℕ) (p : ℕ) → among xs p ≡ true → p < top_of xs
 unfolding top_of
@@ -350,7 +350,7 @@ new_code s q xs has is rising has_is =
     one true = refl
     one false = refl
 
--- the parts of a list at its last are one
+-- a list has only one last element
 last_parts : (xs ys : List ℕ) (x y : ℕ) → xs ++ x ∷ [] ≡ ys ++ y ∷ [] → (xs ≡ ys) × (x ≡ y)
 last_parts [] [] x y e = (refl, cc)
 last_parts [] (z ∷ ys) x y e = absurd (omega (arith, ap (length {A = ℕ}) e, length-append ys (y ∷ [])))

@@ -7,7 +7,7 @@ use Rattle.window_theory.specs.Partner.{SharesBelow}
 use Rattle.window_core.specs.Gates.{IsGateOf}
 use Rattle.window_core.specs.Readers.{place_of, IsEarlier}
 
--- The partners at and above a bound were found, and a and b are the next readers of the root's operands.
+-- The partners at and above a bound were found; a and b are the next fanouts of the root's operands below it.
 pub record IsWalk (n : Net) (root a b : ℕ) (partners : List ℕ) : Type 0 where
   pub bound : ℕ
   pub gate : Gate

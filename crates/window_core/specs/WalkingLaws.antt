@@ -18,7 +18,7 @@ use Rattle.window_core.specs.Readers.{place_of, IsEarlier, IsEarlierOf, AreEarli
 use Rattle.window_core.specs.Walking.{IsWalk}
 use Rattle.window_core.specs.GrowingLaws.{reads_of, of_reads}
 
--- ---- a place more at the end
+-- ---- one more node at the end
 
 pub among_end : (xs : List ℕ) (x q : ℕ) → among (xs ++ x ∷ []) q ≡ true → (among xs q ≡ true) ⊎ (q ≡ x)
 among_end [] x q e = ⊎_elim (λ (own : q ≡ x). inr own) (λ later. absurd (let f : false ≡ true = later in cc)) (among_cases x q [] e)
@@ -56,13 +56,13 @@ rising_end (y ∷ ys) x rising high = (
   rising_end ys x rising.1 (λ q e. high q (among_later y q ys e)),
 )
 
--- ---- what is read
+-- ---- fanins
 
--- a place that a signal names is its place
+-- `place_of` of a signal is the node that it names
 named : (s : Sig) (p : ℕ) → s ≡ sigs.Place p → place_of s ≡ p
 named s p e = ap place_of e
 
--- a place above 0 is named by the signal whose place it is
+-- a node above 0 is named by the signal whose node it is
 names : (s : Sig) (p : ℕ) → place_of s ≡ p → 1 ≤ p → s ≡ sigs.Place p
 names sigs.Zero p e some = absurd (omega (arith, e, some))
 names sigs.One p e some = absurd (omega (arith, e, some))
@@ -77,7 +77,7 @@ onward_stays n bound place reader found was low within other =
       most = λ x r below. was.most x r (omega (arith, below, within));
     }
 
--- ---- the walk
+-- ---- the search
 
 pub walk_start : (n : Net) (root : ℕ) (g : Gate) (e : Nearest) (partners : List ℕ) → IsGateOf n root g → IsEarlierOf n root g e → partners ≡ [] → IsWalk n root e.first e.second partners
 unfolding IsFalling
@@ -95,7 +95,7 @@ walk_start n root g e partners is of none =
       second = of.second;
     })
 
--- who reads an operand of the root below the bound shares it
+-- a fanout of an operand of the root below the bound shares it
 shares : (n : Net) (root a b next found : ℕ) (partners : List ℕ) (w : IsWalk n root a b partners) (s : Sig) → IsNet n → ((p : ℕ) → s ≡ sigs.Place p → (w.gate.a ≡ sigs.Place p) ⊎ (w.gate.b ≡ sigs.Place p)) → IsEarlier n w.bound (place_of s) found → found ≡ next → next ≢ 0 → SharesBelow n root next × (next < w.bound)
 shares n root a b next found partners w s net operand is same some =
     ⊎_elim
@@ -108,7 +108,7 @@ shares n root a b next found partners w s net operand is same some =
     (record { below = omega (arith, below, w.to); shared = p; first = of_reads n root p w.gate w.is (operand p (names s p refl low.0)); second = reads }, below))
     is.found
 
--- the greater of the two readers
+-- the greater of the two fanouts
 pub walk_next : (n : Net) (root a b next : ℕ) (partners : List ℕ) (w : IsWalk n root a b partners) → IsNet n → next ≡ max a b → next ≢ 0 → SharesBelow n root next × (next < w.bound)
 walk_next n root a b next partners w net is some =
     ⊎_elim
@@ -116,7 +116,7 @@ walk_next n root a b next partners w net is some =
     (λ (high : b ≤ a). shares n root a b next a partners w w.gate.a net (λ p e. inl e) w.first (omega (arith, high, is)) some)
     (cases_lt a b)
 
--- a gate that shares a place with the root and stands below the bound is none above the two readers
+-- a gate that shares a fanin with the root and is below the bound is at most the greater of the two fanouts
 reader_high : (n : Net) (root a b h : ℕ) (partners : List ℕ) (w : IsWalk n root a b partners) → SharesBelow n root h → h < w.bound → h ≤ max a b
 reader_high n root a b h partners w s low =
     ⊎_elim

@@ -1,5 +1,6 @@
-//! The window of a root, a partner or none, and a count: the gates that they take, with what goes in and out. It is
-//! one where it has the partner and at most 6 inputs; it has no more outputs than gates.
+//! The window of a root, a partner or none, and a count: the gates that they take, with their inputs and
+//! outputs. These are a window where the partner is among them and they have at most 6 inputs; they never
+//! have more outputs than gates.
 
 ghost use Rattle.std.specs.Prelude.{◌≡◌, ◌≤◌, true, length, IfOk, IfSome, IfNone};
 ghost use Rattle.window_theory.specs.Paths.{IsGate};
@@ -27,7 +28,7 @@ fn has_partner(partner: Option<u32>, gates: &[u32]) -> bool
     }
 }
 
-/// The window of the gates `gates`, or None where the partner isn't among them or they have too many inputs.
+/// The window of the gates `gates`; None where the partner isn't among them or they have too many inputs.
 fn window_of(
     alloc: Global,
     net: &Net,
@@ -43,7 +44,7 @@ fn window_of(
     ensures some { IfOk result (λ answer. IfSome answer (λ w. IsWindow net.now root partner (length gates.items) w)) }
     ensures none { IfOk result (λ answer. IfNone answer ((w : definition.Window) → IsWindow net.now root partner (length gates.items) w → ⊥)) }
 {
-    let _sources = net.sources(); // brings the net's invariant into the proof
+    let _sources = net.sources(); // for the prover: brings the net's invariant into the proof
     if !has_partner(partner, &gates) {
         return Ok(None);
     }
@@ -55,9 +56,9 @@ fn window_of(
     Ok(Some(Window::new(root, partner, gates, inputs, outputs)))
 }
 
-/// The window of a root, a partner or none, and a count from 1 to 8, where it counts, by the index of the net. None
-/// comes exactly where fewer than `count` gates can be taken, the partner isn't among them, or they have more than 6
-/// inputs or 8 outputs.
+/// The window of a root, a partner or none, and a count from 1 to 8, by the index of the net. None is
+/// returned exactly where fewer than `count` gates can be taken, the partner isn't among them, or they have
+/// more than 6 inputs or 8 outputs.
 pub fn window_by(
     alloc: Global,
     net: &Net,
@@ -80,7 +81,7 @@ pub fn window_by(
     }
 }
 
-/// The window of a root, a partner or none, and a count, without an index: it is made for this window alone.
+/// As `window_by`, but with an index of its own, made for this one call.
 pub fn window(
     alloc: Global,
     net: &Net,

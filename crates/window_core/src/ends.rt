@@ -1,4 +1,4 @@
-//! The inputs of a part of a net: the fanins of its gates that lie outside.
+//! The inputs of a set of gates: their fanins outside.
 
 ghost use Rattle.std.specs.Prelude.{◌≡◌, ℕ, true, IfOk, OnOk};
 ghost use Rattle.window_theory.specs.Places.{among, IsRising, AreJust};
@@ -12,7 +12,7 @@ use crate::shape::MOST_GATES;
 use net_core::{Net, Sig};
 use std::alloc::{AllocError, Global};
 
-/// Adds the place that `sig` names to `inputs`, unless it is one of `gates`.
+/// Adds the node that `sig` names to `inputs`, unless it is one of `gates`.
 fn put_outside(inputs: &mut Vec<u32>, gates: &[u32], sig: Sig) -> Result<(), AllocError>
     requires { IsRising inputs.old.items }
     ensures { OnOk result (inputs.new.items ≡ put_outside gates.now sig inputs.old.items) }
@@ -25,7 +25,7 @@ fn put_outside(inputs: &mut Vec<u32>, gates: &[u32], sig: Sig) -> Result<(), All
     Ok(())
 }
 
-/// The fanins of `gates` that aren't among them, rising.
+/// The fanins of `gates` outside, ascending.
 pub fn all_inputs(alloc: Global, net: &Net, gates: &[u32]) -> Result<Vec<u32>, AllocError>
     requires { (p : ℕ) → among gates.now p ≡ true → IsGate net.now p }
     ensures { IfOk result (λ inputs. AreJust (IsInput net.now gates.now) inputs.items) }

@@ -1,6 +1,6 @@
-//! Which gates a window has. It grows greedily by the greatest candidate: the root, the partner, or a fanin of a gate
-//! that is taken. A candidate that isn't taken stands below the gate that was taken last, so that none has to be looked
-//! for among those that are taken.
+//! Which gates a window has. It grows greedily by the greatest candidate: the root, the partner, or a fanin
+//! of a gate that is taken. Each candidate that isn't taken is below the gate that was taken last, so the
+//! search needn't look among the gates that are taken.
 
 ghost use Rattle.std.specs.Prelude.{◌≡◌, ℕ, true, [], length, IfSome, IfNone, IfOk};
 ghost use Rattle.net_theory.specs.Net.{IsNet};
@@ -14,7 +14,7 @@ use crate::shape::MOST_GATES;
 use net_core::{Gate, Net, Sig};
 use std::alloc::{AllocError, Global};
 
-/// The gate at a place.
+/// The gate at a node.
 pub fn gate_at(net: &Net, place: u32) -> &Gate
     requires { IsGate net.now place }
     ensures gate { IsGateOf net.now place result.now }
@@ -44,7 +44,7 @@ fn greater_in(bound: u32, best: u32, place: Option<u32>) -> u32
     }
 }
 
-/// The greater of `best` and the place that `sig` names where that is below `bound`, and else `best`.
+/// The greater of `best` and the node that `sig` names where that is below `bound`, and else `best`.
 fn greater_sig(bound: u32, best: u32, sig: Sig) -> u32
     ensures { IsGreaterSig bound best sig result }
 {
@@ -54,7 +54,7 @@ fn greater_sig(bound: u32, best: u32, sig: Sig) -> u32
     }
 }
 
-/// The least of the gates that are taken, or the first number that is no place.
+/// The least of the gates that are taken; before any is taken, the first number after the nodes.
 fn bound_of(net: &Net, taken: &[u32]) -> u32
     ensures { result ≡ bound_of_taken net.now taken.now }
 {
@@ -64,8 +64,8 @@ fn bound_of(net: &Net, taken: &[u32]) -> u32
     }
 }
 
-/// The greatest place below the bound that is the root, the partner or read by a gate that is taken; the last source
-/// where that is no gate.
+/// The greatest node below the bound that is the root, the partner or a fanin of a gate that is taken; where
+/// no gate is, the last source.
 fn greatest(net: &Net, root: u32, partner: Option<u32>, taken: &[u32], bound: u32) -> u32
     requires { (p : ℕ) → among taken.now p ≡ true → IsGate net.now p }
     ensures { IsSought net.now root partner taken.now bound [] result }
@@ -96,8 +96,8 @@ fn next_gate(net: &Net, root: u32, partner: Option<u32>, taken: &[u32]) -> Optio
     Some(best)
 }
 
-/// The gates that a root, a partner or none, and a count take, or None where there are fewer than `count`. They are
-/// sorted ascending: each gate taken has a smaller place than those taken before it.
+/// The gates that a root, a partner or none, and a count take; None where there are fewer than `count`. They
+/// are ascending: each gate taken is below those taken before it.
 pub fn take_gates(
     alloc: Global,
     net: &Net,

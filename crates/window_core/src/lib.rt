@@ -1,36 +1,36 @@
-//! Windows of a net: small parts that a shorter chain may take the place of, after Kulikov, Pechenev and Slezkin. What a
-//! window is, and what it has to compute, is said in the definitions of `window_theory`.
+//! Windows of a net: small subcircuits that a shorter chain may replace, after Kulikov, Pechenev and Slezkin.
+//! What a window is, and what its specification is, is defined in `window_theory`.
 //!
-//! It rests on an index of the net that is made once (`Readers`): how often each place is named, which gate below a gate
-//! named it last, and which one above it does next. With it the time for a window and its partners grows with their size and not with the net's, and
-//! that for a specification with the size of the window and its surround. `partners` and `window` make the index
-//! themselves.
+//! An index of the net (`Readers`) is made once for all its windows: the reference count of each node, and
+//! linked fanout lists. With it the time for a window and its partners grows with their size and not with the
+//! net's, and the time for a specification with the size of the window and its fanin cone. `partners` and
+//! `window` make an index of their own.
 //!
-//! The one theorem: `window_by` gives the window of a root, a partner or none, and a count, and None exactly where there
-//! is none; `partners_by` gives the partners; and `spec_of` gives the window's specification.
+//! What is proved: `window_by` gives the window of a root, a partner or none, and a count, and None exactly
+//! where there is none; `partners_by` gives the partners; and `spec_of` gives the window's specification.
 //!
-//! What is said here with the words of the definitions has these names in ABC and mockturtle:
+//! In ABC and mockturtle these are called:
 //!
 //! | Here | There |
 //! |---|---|
-//! | net; place; source, sink | logic network of two-input nodes; node index; combinational input (primary input or latch output), combinational output |
-//! | reads, is read; names, uses | fanin, fanout; reference, reference count |
-//! | `Readers`: earlier; first, later | fanout lists, linked from a fanout of a node to the one before; and from the first to the next |
+//! | net; source, sink | logic network of two-input nodes; CI (primary input, latch output), CO |
+//! | reads; uses | fanin; reference count |
+//! | `Readers` | fanout lists: each gate has, for both fanins, their next lower and their next higher fanout |
 //! | window; root; inputs, outputs | window or subcircuit; pivot; leaves (a cut), roots |
 //! | candidate, taken | greedy growth, by the fanin of greatest index |
 //! | partner | sibling: a node that shares a fanin |
-//! | surround; leaves; opened | bounded transitive fanin cone; its cut of at most 12 leaves; expanded, a leaf replaced by its fanins |
-//! | care row; the other rows | care minterm; satisfiability don't-cares (SDC) |
+//! | fanin cone; leaves | bounded transitive fanin cone; its cut of at most 12 leaves |
+//! | care row; other rows | care minterm; satisfiability don't-cares (SDC) |
 //! | specification of a window | local function with don't-cares |
 //! | a shorter chain for a window | resynthesis of the window |
 //!
-//! A window isn't a maximum fanout-free cone (MFFC): a gate of it that has a fanout outside is one of its outputs.
-//! Gates of which nobody sees the value, observability don't-cares (ODC) in the transitive fanout (TFO), are in
-//! `observe_core`, and structural hashing is in `merge_core`.
+//! A window isn't a maximum fanout-free cone (MFFC): a gate of it that has a fanout outside is one of its
+//! outputs. Observability don't-cares (ODC), from the transitive fanout (TFO), are in `observe_core`, and
+//! structural hashing is in `merge_core`.
 //!
 //! ```text
-//! let readers = readers_of(alloc, &net)?;
-//! if let Some(window) = window_by(alloc, &net, &readers, root, None, 3)? {
+//! let fanouts = fanouts_of(alloc, &net)?;
+//! if let Some(window) = window_by(alloc, &net, &fanouts, root, None, 3)? {
 //!     let spec = spec_of(alloc, &net, &window)?;
 //! }
 //! ```

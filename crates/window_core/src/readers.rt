@@ -1,5 +1,6 @@
-//! The index of a net, made in three passes over its gates: the reference count of each place, and linked fanout lists,
-//! in which each gate has the next lower fanout of its fanins, and the next higher one. It serves all windows of the net.
+//! The index of a net, made in three loops over its gates: the reference count of each node, and linked
+//! fanout lists, in which each gate has, for both of its fanins, their next lower and their next higher
+//! fanout. It serves all windows of the net.
 
 ghost use Rattle.std.specs.Prelude.{◌≡◌, ℕ, ◌+◌, ◌<◌, min, List, [], length, slice_index_or, All, IfOk, OnOk};
 ghost use Rattle.net_theory.specs.declared.data.Gate.{Gate as GateValue};
@@ -13,16 +14,17 @@ use net_core::{Gate, Net, Sig};
 use std::alloc::{AllocError, Global};
 use std::marker::Model;
 
-/// The gates next to a gate that read its first and its second operand, the greatest below it or the least above it; 0 where
-/// there is none.
+/// The nearest fanouts of a gate's first and second operand, the greatest below the gate or the least above
+/// it; 0 where there is none.
 #[derive(Clone, Copy)]
 pub struct Nearest {
     pub first: u32,
     pub second: u32,
 }
 
-/// The index of a net: how many operands and sinks name each place, 255 for 255 or more, the earlier and the later readers of
-/// what each gate reads, the later ones from the last gate on, and the first reader of each place.
+/// The index of a net: the reference count of each node, 255 for 255 or more; for each gate the earlier and
+/// the later fanouts of its operands, the later ones from the last gate on; and the first fanout of each
+/// node.
 #[derive(Drop)]
 pub struct Readers {
     uses: Vec<u8>,
@@ -39,7 +41,7 @@ impl Model for Readers {
     ghost view = { λ r. record { uses = r.uses.items; earlier = r.earlier.items; later = r.later.items; first = r.first.items } };
 }
 
-/// Counts a use of what a signal names.
+/// Counts a reference by a signal.
 fn count_use(uses: &mut [u8], sig: Sig)
     requires { IsBefore (length uses.old) sig }
     ensures { AreGrown (λ p. named_by p sig) uses.old uses.new }
@@ -49,7 +51,7 @@ fn count_use(uses: &mut [u8], sig: Sig)
     }
 }
 
-/// Counts the uses by gates.
+/// Counts the references by gates.
 fn count_gates(uses: &mut [u8], gates: &[Gate])
     requires { AreBefore (length uses.old) gates.now }
     ensures { AreGrown (λ p. sum_gates (λ q g. named_by_gate p g) 0 gates.now) uses.old uses.new }
@@ -62,7 +64,7 @@ fn count_gates(uses: &mut [u8], gates: &[Gate])
     }
 }
 
-/// Counts the uses by sinks.
+/// Counts the references by sinks.
 fn count_sinks(uses: &mut [u8], sinks: &[Sig])
     requires { All (IsBefore (length uses.old)) sinks.now }
     ensures { AreGrown (λ p. named_by_sinks p sinks.now) uses.old uses.new }
@@ -74,7 +76,7 @@ fn count_sinks(uses: &mut [u8], sinks: &[Sig])
     }
 }
 
-/// The place that a signal names, 0 for a constant.
+/// The node that a signal names; 0 for a constant.
 pub fn place_of(sig: Sig) -> u32
     ensures { result ≡ place_named sig }
 {
@@ -84,7 +86,7 @@ pub fn place_of(sig: Sig) -> u32
     }
 }
 
-/// Notes a gate as the last reader of what a signal names.
+/// Sets a gate as the last fanout of the node that a signal names.
 fn note(last: &mut [u32], sig: Sig, place: u32)
     requires { IsBefore (length last.old) sig }
     ensures { IsNoted sig place last.old last.new }
@@ -94,8 +96,8 @@ fn note(last: &mut [u32], sig: Sig, place: u32)
     }
 }
 
-/// The last readers so far of a gate's operands; then the gate is noted as their last reader. Both are looked up before
-/// it is noted, since a gate may read one place twice.
+/// The last fanouts so far of a gate's operands; then the gate becomes their last fanout. Both are read
+/// first, since both operands of a gate may be one node.
 fn note_gate(last: &mut [u32], place: u32, gate: &Gate) -> Nearest
     requires some { 0 < length last.old }
     requires first { IsBefore (length last.old) gate.now.a }
@@ -111,7 +113,7 @@ fn note_gate(last: &mut [u32], place: u32, gate: &Gate) -> Nearest
     Nearest { first, second }
 }
 
-/// The earlier readers of what the gates read, by a table of last readers that has none yet.
+/// The earlier fanouts of the gates' operands; `last` is the table of last fanouts, empty at first.
 fn note_gates(last: &mut [u32], earlier: &mut Vec<Nearest>, net: &Net) -> Result<(), AllocError>
     requires noted { HasNoted net.now 0 last.old }
     requires none { earlier.old.items ≡ [] }
@@ -126,7 +128,8 @@ fn note_gates(last: &mut [u32], earlier: &mut Vec<Nearest>, net: &Net) -> Result
     Ok(())
 }
 
-/// The later readers of what the gates read, from the last gate on, by a table of first readers that has none yet.
+/// The later fanouts of the gates' operands, from the last gate on; `first` is the table of first fanouts,
+/// empty at first.
 fn note_later(first: &mut [u32], later: &mut Vec<Nearest>, net: &Net) -> Result<(), AllocError>
     requires noted { HasFirst net.now (length net.now.gates) first.old }
     requires none { later.old.items ≡ [] }
@@ -143,7 +146,7 @@ fn note_later(first: &mut [u32], later: &mut Vec<Nearest>, net: &Net) -> Result<
     Ok(())
 }
 
-/// Counts all uses in a net.
+/// Counts all references of a net.
 fn count_all(uses: &mut [u8], net: &Net)
     requires { length uses.old ≡ end_of net.now }
     ensures { AreGrown (uses_of net.now) uses.old uses.new }
@@ -152,7 +155,7 @@ fn count_all(uses: &mut [u8], net: &Net)
     count_sinks(uses, net.sinks());
 }
 
-/// How often each place of a net is named.
+/// The reference count of each node.
 fn all_uses(alloc: Global, net: &Net) -> Result<Vec<u8>, AllocError>
     ensures size { IfOk result (λ uses. length uses.items ≡ end_of net.now) }
     ensures each { IfOk result (λ uses. (p : ℕ) → p < end_of net.now → slice_index_or uses.items p 0 ≡ min (uses_of net.now p) 255) }
@@ -182,7 +185,7 @@ pub fn readers_of(alloc: Global, net: &Net) -> Result<Readers, AllocError>
     })
 }
 
-/// The earlier readers of what a gate reads.
+/// The earlier fanouts of a gate's operands.
 pub fn earlier_of(net: &Net, readers: &Readers, place: u32) -> Nearest
     requires index { AreReaders net.now readers.now }
     requires gate { IsGate net.now place }
@@ -191,7 +194,7 @@ pub fn earlier_of(net: &Net, readers: &Readers, place: u32) -> Nearest
     readers.earlier[(place - net.sources() - 1) as usize]
 }
 
-/// How often a place is named, 255 for 255 or more.
+/// The reference count of a node; 255 for 255 or more.
 pub fn uses_at(readers: &Readers, net: &Net, place: u32) -> u8
     requires index { AreReaders net.now readers.now }
     requires place { place < end_of net.now }
@@ -200,7 +203,7 @@ pub fn uses_at(readers: &Readers, net: &Net, place: u32) -> u8
     readers.uses[place as usize]
 }
 
-/// The later readers of what a gate reads.
+/// The later fanouts of a gate's operands.
 pub fn later_of(net: &Net, readers: &Readers, place: u32) -> Nearest
     requires index { AreReaders net.now readers.now }
     requires gate { IsGate net.now place }
@@ -210,7 +213,7 @@ pub fn later_of(net: &Net, readers: &Readers, place: u32) -> Nearest
     readers.later[net.sources() as usize + gates.len() - place as usize]
 }
 
-/// The first gate that reads a place, 0 if there is none.
+/// The first fanout of a node; 0 where there is none.
 pub fn first_reader(readers: &Readers, net: &Net, place: u32) -> u32
     requires index { AreReaders net.now readers.now }
     requires place { place < end_of net.now }

@@ -1,4 +1,4 @@
-//! Rising lists of places.
+//! Ascending lists of nodes.
 
 ghost use Rattle.std.specs.Prelude.{◌≡◌, ℕ, true, false, ◌-◌, ◌≤◌, ◌<◌, length, slice_index_or, OnOk};
 ghost use Rattle.window_theory.specs.Places.{among, IsRising};
@@ -14,7 +14,7 @@ pub fn has(places: &[u32], place: u32) -> bool
     places.iter().any(|one| place == *one)
 }
 
-/// How many of `places`, which rise, are not above `place`.
+/// How many of `places`, which ascend, are at most `place`.
 fn rank(places: &[u32], place: u32) -> usize
     ensures within { result ≤ length places.now }
     ensures above { (k d : ℕ) → result ≤ k → k < length places.now → place < slice_index_or places.now k d }
@@ -27,7 +27,7 @@ fn rank(places: &[u32], place: u32) -> usize
     count
 }
 
-/// Whether a place is the last of the first `count`.
+/// Whether a node is the last of the first `count`.
 fn is_last(places: &[u32], count: usize, place: u32) -> bool
     requires { count ≤ length places.now }
     ensures yes { result ≡ true → (1 ≤ count) × (slice_index_or places.now (count - 1) 0 ≡ place) }
@@ -39,7 +39,7 @@ fn is_last(places: &[u32], count: usize, place: u32) -> bool
     places[count - 1] == place
 }
 
-/// Puts a place into a rising list, if it isn't there.
+/// Inserts a node into an ascending list, unless it is there.
 pub fn put(places: &mut Vec<u32>, place: u32) -> Result<(), AllocError>
     requires { IsRising places.old.items }
     ensures { OnOk result (places.new.items ≡ put_in place places.old.items) }
@@ -52,7 +52,7 @@ pub fn put(places: &mut Vec<u32>, place: u32) -> Result<(), AllocError>
     Ok(())
 }
 
-/// Puts the place that a signal names, if it names one.
+/// Inserts the node that a signal names, if it names one.
 pub fn put_sig(places: &mut Vec<u32>, sig: Sig) -> Result<(), AllocError>
     requires { IsRising places.old.items }
     ensures { OnOk result (places.new.items ≡ put_sig_in sig places.old.items) }

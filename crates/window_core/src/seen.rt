@@ -1,5 +1,5 @@
-//! Which gates of a window are outputs: those with references from outside, more in all than by the gates inside. The
-//! index has the number of all references, so that no pass over the net is needed.
+//! Which gates of a window are outputs: those with more references in all than from the gates inside. The
+//! index has the reference counts, so the rest of the net needn't be visited.
 
 ghost use Rattle.std.specs.Prelude.{◌≡◌, ℕ, ◌≤◌, true, length, IfOk};
 ghost use Rattle.window_theory.specs.Places.{among, IsRising, AreJust};
@@ -14,7 +14,7 @@ use crate::shape::MOST_OUTPUTS;
 use net_core::{Gate, Net, Sig};
 use std::alloc::{AllocError, Global};
 
-/// How often a signal names a place.
+/// How often a signal names a node.
 fn named(place: u32, sig: Sig) -> u32
     ensures { result ≡ named_by place sig }
 {
@@ -24,7 +24,7 @@ fn named(place: u32, sig: Sig) -> u32
     }
 }
 
-/// How often the operands of a gate name a place.
+/// How often the operands of a gate name a node.
 fn named_in(place: u32, gate: &Gate) -> u32
     ensures value { result ≡ named_by_gate place gate.now }
     ensures few { result ≤ 2 }
@@ -32,7 +32,7 @@ fn named_in(place: u32, gate: &Gate) -> u32
     named(place, gate.a) + named(place, gate.b)
 }
 
-/// How often gates of a net name a place.
+/// How often the gates `gates` of a net name a node.
 fn inside_uses(net: &Net, gates: &[u32], place: u32) -> u32
     requires rising { IsRising gates.now }
     requires gates { (p : ℕ) → among gates.now p ≡ true → IsGate net.now p }
@@ -64,7 +64,7 @@ fn is_output(net: &Net, readers: &Readers, gates: &[u32], place: u32) -> bool
     inside < u32::from(all)
 }
 
-/// Those of some gates, at most 24, that a gate outside or a sink reads, rising.
+/// The gates, of at most 24, that a gate outside or a sink reads, ascending.
 pub fn all_outputs(
     alloc: Global,
     net: &Net,

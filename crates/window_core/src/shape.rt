@@ -1,22 +1,22 @@
-//! Windows. That the lists rise and are short is the invariant of the type, so that one word holds the truth table of an
-//! output.
+//! Windows. The type's invariant says that the lists ascend and are short, so that one word holds the truth
+//! table of an output.
 
 ghost use Rattle.std.specs.Prelude.{◌≡◌};
 ghost use Rattle.window_core.specs.Shape.{IsShaped};
 
 use std::marker::Model;
 
-/// The most gates of a window: as many as the settings may ask for.
+/// The most gates of a window: the greatest cap that the settings allow.
 pub const MOST_GATES: usize = improve_settings::MOST_GATES_OF_WINDOW as usize;
 
-/// The most inputs of a window: as many as a specification may have.
+/// The most inputs of a window: as many as a specification can have.
 pub const MOST_INPUTS: usize = tt_core::MOST_INPUTS as usize;
 
-/// The most outputs of a window: as many as a specification may have.
+/// The most outputs of a window: as many as a specification can have.
 pub const MOST_OUTPUTS: usize = tt_core::MOST_OUTPUTS;
 
-/// A part of a net: the root that it grew from, its partner, and the places of its 1 to 8 gates, of at most 6 inputs
-/// and of at most 8 outputs, each list rising.
+/// A window: the root that it grew from, its partner, and the nodes of its 1 to 8 gates, of at most 6 inputs
+/// and of at most 8 outputs, each list ascending.
 #[derive(Drop)]
 pub struct Window {
     root: u32,
@@ -58,21 +58,21 @@ impl Window {
         }
     }
 
-    /// The place of the gate that the window grew from.
+    /// The gate that the window grew from.
     pub fn root(&self) -> u32
         ensures { result ≡ self.now.root }
     {
         self.root
     }
 
-    /// The place of the root's partner, if the window has one.
+    /// The root's partner, if the window has one.
     pub fn partner(&self) -> Option<u32>
         ensures { result ≡ self.now.partner }
     {
         self.partner
     }
 
-    /// The places of the gates, rising.
+    /// The gates, ascending.
     pub fn gates(&self) -> &[u32]
         ensures value { result.now ≡ self.now.gates }
         ensures whole { IsShaped self.now }
@@ -80,7 +80,7 @@ impl Window {
         &self.gates
     }
 
-    /// The places of the inputs, rising.
+    /// The inputs, ascending.
     pub fn inputs(&self) -> &[u32]
         ensures value { result.now ≡ self.now.inputs }
         ensures whole { IsShaped self.now }
@@ -88,7 +88,7 @@ impl Window {
         &self.inputs
     }
 
-    /// The places of the outputs, rising.
+    /// The outputs, ascending.
     pub fn outputs(&self) -> &[u32]
         ensures value { result.now ≡ self.now.outputs }
         ensures whole { IsShaped self.now }

@@ -1,5 +1,6 @@
-//! Partners of a gate, its siblings: gates below it that share a fanin with it, the eight greatest. They are found by
-//! going down the fanouts of its two fanins from one to the next lower, so that the cost doesn't grow with their number.
+//! Partners of a gate, its siblings: gates below it that share a fanin with it, the eight greatest of them.
+//! They are found by walking down the fanout lists of its two fanins, so the cost doesn't grow with the
+//! number of fanouts.
 
 ghost use Rattle.std.specs.Prelude.{ℕ, ◌≤◌, ◌<◌, IfOk};
 ghost use Rattle.window_theory.specs.Paths.{IsGate};
@@ -14,7 +15,8 @@ use std::alloc::{AllocError, Global};
 /// The most partners of a gate.
 const MOST_PARTNERS: usize = 8;
 
-/// The next fanout of `place` below the gate `found`: `reader`, or where that is `found` itself, the fanout below it.
+/// The next fanout of `place` below the gate `found`: `reader`, or where that is `found` itself, the fanout
+/// below it.
 fn onward(net: &Net, readers: &Readers, place: u32, reader: u32, found: u32) -> u32
     requires index { AreReaders net.now readers.now }
     requires found { IsGate net.now found }
@@ -32,7 +34,7 @@ fn onward(net: &Net, readers: &Readers, place: u32, reader: u32, found: u32) -> 
     }
 }
 
-/// The partners of a gate, falling: the lower fanouts of its two fanins, merged from the greatest on.
+/// The partners of a gate, descending: the lower fanouts of its two fanins, merged from the greatest on.
 pub fn partners_by(
     alloc: Global,
     net: &Net,
@@ -62,7 +64,7 @@ pub fn partners_by(
     Ok(partners)
 }
 
-/// The partners of a gate, falling, without an index: it is made for this gate alone.
+/// As `partners_by`, but with an index of its own, made for this one call.
 pub fn partners(alloc: Global, net: &Net, root: u32) -> Result<Vec<u32>, AllocError>
     requires { IsGate net.now root }
     ensures { IfOk result (λ partners. ArePartners net.now root partners.items) }

@@ -1,6 +1,6 @@
-//! The specification of a window, its local function with don't-cares. Its care rows are the patterns that its inputs
-//! show in their surround; the other rows are its satisfiability don't-cares. Its values come from its gates by
-//! themselves, on all rows of its inputs at once.
+//! The specification of a window, its local function with don't-cares. Its care rows are the patterns that
+//! its inputs take in their fanin cone; the other rows are its satisfiability don't-cares. Its values come
+//! from its own gates, simulated on all rows of its inputs at once.
 
 ghost use Rattle.std.specs.Prelude.{◌≡◌, ℕ, ◌≤◌, ◌<◌, ◌^◌, true, [], length, map, slice_get, Some, All, IfOk};
 ghost use Rattle.chain_theory.specs.Operator.{digit};
@@ -31,7 +31,7 @@ pub fn signals_of(alloc: Global, places: &[u32]) -> Result<Vec<Sig>, AllocError>
     places.iter().map(|place| Sig::Place(*place)).collect(alloc)
 }
 
-/// The patterns that some places show in a cone, as the digits of a mask.
+/// The patterns that some nodes take in a cone, as the bits of a mask.
 fn shown_by(alloc: Global, cone: &Cone, places: &[u32]) -> Result<u64, AllocError>
     requires few { length places.now ≤ 6 }
     requires known { All (IsSigAmong (places_in cone.now)) (map sigs.Place places.now) }
@@ -42,19 +42,19 @@ fn shown_by(alloc: Global, cone: &Cone, places: &[u32]) -> Result<u64, AllocErro
     Ok(patterns(&words, cone, &signals))
 }
 
-/// The care rows of some places, as the digits of a mask.
+/// The care rows of some nodes, as the bits of a mask.
 fn care_rows(alloc: Global, net: &Net, places: &[u32]) -> Result<u64, AllocError>
     requires rising { IsRising places.now }
     requires few { length places.now ≤ 6 }
     requires within { (p : ℕ) → among places.now p ≡ true → p < end_of net.now }
     ensures { IfOk result (λ mask. IsCareMask net.now places.now mask) }
 {
-    let _sources = net.sources(); // brings the net's invariant into the proof
+    let _sources = net.sources(); // for the prover: brings the net's invariant into the proof
     let cone = surround(alloc, net, places)?;
     shown_by(alloc, &cone, places)
 }
 
-/// The gates at some places, with their places.
+/// The gates at some nodes, with their nodes.
 fn placed_gates(alloc: Global, net: &Net, places: &[u32]) -> Result<Vec<(u32, Gate)>, AllocError>
     requires { (p : ℕ) → among places.now p ≡ true → IsGate net.now p }
     ensures { IfOk result (λ gates. ArePlaced net.now places.now [] gates.items) }
@@ -83,7 +83,7 @@ fn inner_cone(alloc: Global, net: &Net, window: &Window) -> Result<Cone, AllocEr
     ensures places { IfOk result (λ cone. gate_places cone.gates ≡ window.now.gates) }
     ensures gates { IfOk result (λ cone. AreAbove net.now cone.leaves cone.gates) }
 {
-    let _sources = net.sources(); // brings the net's invariant into the proof
+    let _sources = net.sources(); // for the prover: brings the net's invariant into the proof
     let mut inputs = Vec::with_capacity(alloc, MOST_INPUTS)?;
     inputs.extend_from_slice(window.inputs())?;
     let gates = placed_gates(alloc, net, window.gates())?;
@@ -102,7 +102,7 @@ fn index_of(places: &[u32], place: u32) -> usize
     index
 }
 
-/// The word of one of a window's gates, on all rows of the inputs.
+/// The word of one of a window's gates: its values on all rows of the inputs.
 fn gate_word(window: &Window, cone: &Cone, words: &Words, place: u32) -> u64
     requires words { AreWords cone.now words.now }
     requires leaves { cone.now.leaves ≡ window.now.inputs }
@@ -115,7 +115,7 @@ fn gate_word(window: &Window, cone: &Cone, words: &Words, place: u32) -> u64
     lanes_of(words)[inputs + index_of(window.gates(), place)]
 }
 
-/// The specification by a mask of care rows and the words of all gates.
+/// The specification with these care rows, from the words of all gates.
 fn masked_spec(
     alloc: Global,
     window: &Window,
@@ -142,7 +142,7 @@ fn masked_spec(
     Ok(Spec::new(inputs as u32, on, cares))
 }
 
-/// The specification by a mask of care rows and a cone that has all gates.
+/// The specification with these care rows, from a cone that has all gates.
 fn spec_by(alloc: Global, window: &Window, cone: &Cone, mask: u64) -> Result<Spec, AllocError>
     requires leaves { cone.now.leaves ≡ window.now.inputs }
     requires gates { gate_places cone.now.gates ≡ window.now.gates }
@@ -154,13 +154,13 @@ fn spec_by(alloc: Global, window: &Window, cone: &Cone, mask: u64) -> Result<Spe
     masked_spec(alloc, window, cone, &words, mask)
 }
 
-/// The specification of a window: on a care row of its inputs, in rising place, the cells are the values of its
-/// outputs, in rising place, and all other cells are free.
+/// The specification of a window: on a care row of its inputs the cells are the values of its outputs, and
+/// all other cells are don't-cares. Inputs and outputs are in ascending order.
 pub fn spec_of(alloc: Global, net: &Net, window: &Window) -> Result<Spec, AllocError>
     requires { Belongs net.now window.now }
     ensures { IfOk result (λ s. IsSpecificationOf net.now window.now (specification s)) }
 {
-    let _sources = net.sources(); // brings the net's invariant into the proof
+    let _sources = net.sources(); // for the prover: brings the net's invariant into the proof
     let mask = care_rows(alloc, net, window.inputs())?;
     let cone = inner_cone(alloc, net, window)?;
     spec_by(alloc, window, &cone, mask)

@@ -1,6 +1,6 @@
-//! The surround of some places, a bounded fanin cone above a cut: as long as the greatest leaf is a gate it is opened,
-//! its fanins come in its place, if at most 12 leaves are left. Gates are opened from the greatest place down, so that
-//! the leaves stand below all of them.
+//! The bounded fanin cone of some nodes: as long as the greatest leaf is a gate, and at most 12 leaves
+//! result, its fanins replace it. Gates are expanded from the greatest down, so the leaves stay below all of
+//! them.
 
 ghost use Rattle.std.specs.Prelude.{◌≡◌, ℕ, ◌+◌, ◌≤◌, ◌<◌, true, false, List, ◌∷◌, [], ◌++◌, length, reverse, if◌then◌else◌, IfSome, IfNone, IfOk};
 ghost use Rattle.net_theory.specs.Net.{end_of};
@@ -16,10 +16,10 @@ use lane_sim::{Cone, MOST_LEAVES};
 use net_core::{Gate, Net, Sig};
 use std::alloc::{AllocError, Global};
 
-/// For how many leaves, and gates, there is room from the beginning; few surrounds have more gates.
+/// The leaves and gates for which there is room from the start; few fanin cones have more gates.
 const ROOM: usize = 16;
 
-/// Whether a signal names a place that isn't among `places`.
+/// Whether a signal names a node that isn't among `places`.
 fn is_new(places: &[u32], sig: Sig) -> bool
     requires { IsRising places.now }
     ensures { length (put_sig_in sig places.now) ≡ length places.now + (if result then 1 else 0) }
@@ -30,7 +30,7 @@ fn is_new(places: &[u32], sig: Sig) -> bool
     }
 }
 
-/// Whether two signals name one place.
+/// Whether two signals name one node.
 fn same_place(a: Sig, b: Sig) -> bool
     ensures { result ≡ same_place_of a b }
 {
@@ -57,7 +57,7 @@ fn one_if(holds: bool) -> usize
     if holds { 1 } else { 0 }
 }
 
-/// How many leaves there are when the gate at the leaf after `front` is opened.
+/// How many leaves there are once the gate at the leaf after `front` is expanded.
 fn count_behind(front: &[u32], gate: &Gate) -> usize
     requires { IsRising front.now }
     ensures { result ≡ length (behind_of front.now gate.now) }
@@ -68,7 +68,7 @@ fn count_behind(front: &[u32], gate: &Gate) -> usize
     front.len() + one_if(first) + one_if(other)
 }
 
-/// Whether more than 12 leaves come of opening the greatest one.
+/// Whether expanding the greatest leaf gives more than 12 leaves.
 fn is_too_much(leaves: &[u32], gate: &Gate) -> bool
     requires { IsRising leaves.now }
     ensures yes { result ≡ true → (front : List ℕ) (p : ℕ) → leaves.now ≡ front ++ p ∷ [] → 12 < length (behind_of front gate.now) }
@@ -96,7 +96,8 @@ fn last_gate(net: &Net, leaves: &[u32]) -> Option<u32>
     Some(*last)
 }
 
-/// Opens the greatest leaf, if it is a gate and not too many leaves come of it, and says whether it was opened.
+/// Expands the greatest leaf, if it is a gate and not too many leaves result. Returns whether it was
+/// expanded.
 fn open(net: &Net, leaves: &mut Vec<u32>, gates: &mut Vec<(u32, Gate)>) -> Result<bool, AllocError>
     requires rising { IsRising leaves.old.items }
     requires within { (p : ℕ) → among leaves.old.items p ≡ true → p < end_of net.now }
@@ -126,19 +127,19 @@ fn open(net: &Net, leaves: &mut Vec<u32>, gates: &mut Vec<(u32, Gate)>) -> Resul
     Ok(true)
 }
 
-/// The cone of leaves and of gates that were opened from the greatest on.
+/// The cone of these leaves and gates; the gates were expanded from the greatest on.
 fn cone_of(net: &Net, leaves: Vec<u32>, gates: Vec<(u32, Gate)>) -> Cone
     requires { AreAbove net.now leaves.items (reverse gates.items) }
     ensures { result ≡ record { leaves = leaves.items; gates = reverse gates.items } }
 {
-    let _sources = net.sources(); // brings the net's invariant into the proof
+    let _sources = net.sources(); // for the prover: brings the net's invariant into the proof
     let mut rising = gates;
     rising.reverse();
     Cone::new(leaves, rising)
 }
 
-/// The surround of some places: a cone whose leaves are those that the places lead to. Its gates are among the places
-/// and their transitive fanins.
+/// The fanin cone of some nodes. Its leaves are those that the nodes expand to, and its gates are among the
+/// nodes and their transitive fanin.
 pub fn surround(alloc: Global, net: &Net, places: &[u32]) -> Result<Cone, AllocError>
     requires rising { IsRising places.now }
     requires few { length places.now ≤ 12 }
@@ -148,7 +149,7 @@ pub fn surround(alloc: Global, net: &Net, places: &[u32]) -> Result<Cone, AllocE
     ensures covered { IfOk result (λ cone. AreCovered cone.leaves cone.gates places.now) }
     ensures behind { IfOk result (λ cone. (p : ℕ) → among (gate_places cone.gates) p ≡ true → IsBehind net.now places.now p) }
 {
-    let _sources = net.sources(); // brings the net's invariant into the proof
+    let _sources = net.sources(); // for the prover: brings the net's invariant into the proof
     let mut leaves = Vec::with_capacity(alloc, ROOM)?;
     leaves.extend_from_slice(places)?;
     let mut gates = Vec::with_capacity(alloc, ROOM)?;

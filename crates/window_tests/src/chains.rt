@@ -1,4 +1,4 @@
-//! Chains that take the places of windows (substitution).
+//! Chains substituted for windows.
 
 ghost use Rattle.std.specs.Prelude.{◌≤◌, length, IfOk, IfSome, IsTrue};
 ghost use Rattle.window_theory.specs.Window.{Belongs};
@@ -44,8 +44,8 @@ fn pair_of(alloc: Global, net: &Net, root: u32, count: u32, block: &[u8]) -> Opt
     Some(Pair { window, chain })
 }
 
-/// A net, a window, a chain for it, the net after substitution, and, where the chain computes what
-/// is asked, that net without dead gates.
+/// A net, a window, a chain for it, the net after substitution, and, where the chain implements the window,
+/// that net without dangling gates.
 struct Row {
     plan: &'static Plan,
     root: u32,
@@ -61,7 +61,7 @@ fn is_spliced(alloc: Global, net: &Net, pair: &Pair, left: &Plan) -> bool
     requires fits { Fits pair.now.window pair.now.chain }
     requires few { length pair.now.chain.steps ≤ length pair.now.window.gates }
 {
-    // for the prover: brings the invariant of the net
+    // for the prover: brings the net's invariant into the proof
     let _sources = net.sources();
     let lists = WindowLists {
         gates: pair.window.gates(),
@@ -74,7 +74,7 @@ fn is_spliced(alloc: Global, net: &Net, pair: &Pair, left: &Plan) -> bool
     }
 }
 
-/// Whether a chain computes what is asked of a window.
+/// Whether a chain implements the specification of a window.
 fn agrees(alloc: Global, net: &Net, pair: &Pair) -> Result<bool, AllocError>
     requires belongs { Belongs net.now pair.now.window }
     requires fits { Fits pair.now.window pair.now.chain }
@@ -84,7 +84,7 @@ fn agrees(alloc: Global, net: &Net, pair: &Pair) -> Result<bool, AllocError>
     Ok(first_difference(&pair.chain, &spec).is_none())
 }
 
-/// Whether a chain does, and leaves the net `left`, and `live` without dead gates.
+/// Whether it does, and the substitution leaves the net `left`, and `live` without dangling gates.
 fn is_substituted(alloc: Global, net: &Net, pair: &Pair, left: &Plan, live: &Plan) -> bool
     requires belongs { Belongs net.now pair.now.window }
     requires fits { Fits pair.now.window pair.now.chain }
@@ -93,7 +93,7 @@ fn is_substituted(alloc: Global, net: &Net, pair: &Pair, left: &Plan, live: &Pla
     let Ok(true) = agrees(alloc, net, pair) else {
         return false;
     };
-    // for the prover: brings the invariant of the net
+    // for the prover: brings the net's invariant into the proof
     let _sources = net.sources();
     let lists = WindowLists {
         gates: pair.window.gates(),
@@ -112,7 +112,7 @@ fn is_substituted(alloc: Global, net: &Net, pair: &Pair, left: &Plan, live: &Pla
     }
 }
 
-/// Whether a chain leaves what `row` says.
+/// Whether the substitution leaves the nets of `row`.
 fn leaves(alloc: Global, net: &Net, pair: &Pair, row: &Row) -> bool
     requires belongs { Belongs net.now pair.now.window }
     requires fits { Fits pair.now.window pair.now.chain }
@@ -124,7 +124,7 @@ fn leaves(alloc: Global, net: &Net, pair: &Pair, row: &Row) -> bool
     }
 }
 
-/// Whether the chain of `row` leaves what it says.
+/// Whether the window and the chain of `row` do.
 fn is_left(alloc: Global, row: &Row) -> bool {
     let Some(net) = planned(alloc, row.plan) else {
         return false;
@@ -164,7 +164,7 @@ const THREE: Plan = Plan {
     sinks: &[Sig::Place(4), Sig::Place(5), Sig::Place(3), Sig::Place(2)],
 };
 
-/// The rest of them where a source takes the place of the first.
+/// The remaining ones where a source replaces the first.
 const THREE_LEFT: Plan = Plan {
     sources: 2,
     gates: &[
@@ -200,7 +200,7 @@ const AROUND: Plan = Plan {
     sinks: &[Sig::Place(6), Sig::Place(6), Sig::Place(4)],
 };
 
-/// The same with another gate in the place of the third.
+/// The same with another gate in place of the third.
 const AROUND_LEFT: Plan = Plan {
     sources: 2,
     gates: &[
@@ -240,9 +240,9 @@ const LIVE: Plan = Plan {
     sinks: &[Sig::Place(3), Sig::Place(2)],
 };
 
-/// Chains for windows, and what they leave.
+/// Nets, windows and chains, and the nets after substitution.
 const ROWS: &[Row] = &[
-    // one step takes the place of two gates
+    // one step replaces two gates
     Row {
         plan: &TWO,
         root: 4,
@@ -278,7 +278,7 @@ const ROWS: &[Row] = &[
         left: &AROUND_LEFT,
         live: None,
     },
-    // a chain that computes what is asked may leave dead gates
+    // a chain that implements the window may leave dangling gates
     Row {
         plan: &DEAD,
         root: 4,

@@ -1,17 +1,17 @@
-//! Gates with one value under every assignment, which become one.
+//! Functional hashing: gates with the same value under every assignment become one.
 
 use crate::nets::{Plan, is_planned, planned};
 use net_core::Sig::{One, Place, Zero};
 use std::alloc::Global;
 use table_merge::merge_equal;
 
-/// A net, and the net that is left of it.
+/// A net, and the net after merging.
 struct Row {
     net: Plan,
     left: Plan,
 }
 
-/// What is left of nets by hand.
+/// Nets and their merged nets, worked out by hand.
 const ROWS: &[Row] = &[
     // AND, NOR of the complements, and XOR of the two, which is 0
     Row {
@@ -36,7 +36,7 @@ const ROWS: &[Row] = &[
             sinks: &[Place(5), Zero, Place(4), Place(1)],
         },
     },
-    // NOT of NOT is the source, and XNOR of a place with itself is 1
+    // NOT of NOT is the source, and XNOR of a node with itself is 1
     Row {
         net: Plan {
             sources: 1,
@@ -67,7 +67,7 @@ const ROWS: &[Row] = &[
             sinks: &[One],
         },
     },
-    // two words a place; what read a gate that went reads the one that is left
+    // two words a node; a gate that read a merged gate reads the one that remains
     Row {
         net: Plan {
             sources: 7,
@@ -89,7 +89,7 @@ const ROWS: &[Row] = &[
             sinks: &[Place(10), Place(9)],
         },
     },
-    // 13 sources: as it is
+    // 13 sources: the net stays as it is
     Row {
         net: Plan {
             sources: 13,
@@ -104,7 +104,7 @@ const ROWS: &[Row] = &[
     },
 ];
 
-/// Whether of the net of a row its other net is left.
+/// Whether merging the net of a row leaves its other net.
 fn is_left(alloc: Global, row: &Row) -> bool {
     let Some(net) = planned(alloc, &row.net) else {
         return false;

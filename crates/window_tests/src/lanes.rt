@@ -1,6 +1,5 @@
-//! Bit-parallel simulation: words of cones and patterns of signals, some that can be counted by
-//! hand, and those of pseudorandom cones, compared with a plain program that goes through the
-//! assignments one by one.
+//! Bit-parallel simulation: words of cones and patterns of signals, some counted by hand, and those of
+//! pseudorandom cones, compared with a plain program that evaluates one assignment after the other.
 
 ghost use Rattle.std.specs.Prelude.{IsTrue, All};
 ghost use Rattle.lane_sim.specs.Cone.{IsSigAmong, places};
@@ -12,14 +11,14 @@ use lane_sim::{Cone, cone_words, lanes_of, patterns};
 use net_core::{Gate, Sig};
 use std::alloc::{AllocError, Global};
 
-/// Whether all signals are constants or places of `cone`.
+/// Whether all signals are constants or nodes of `cone`.
 fn are_among(cone: &Cone, signals: &[Sig]) -> bool
     ensures { IsTrue result → All (IsSigAmong (places cone.now)) signals.now }
 {
     signals.iter().all(|sig| cone.has(*sig))
 }
 
-/// A gate as a constant: its place, its operator's truth table, below 16, and its operands.
+/// A gate as a constant: its node, its operator's truth table, below 16, and its operands.
 type Step = (u32, u8, Sig, Sig);
 
 /// The gates of `steps`.
@@ -42,7 +41,7 @@ fn cone_of(alloc: Global, leaves: &[u32], steps: &[Step]) -> Option<Cone> {
     }
 }
 
-/// Whether `signals` show the patterns of `mask` in `cone`, and no others.
+/// Whether `signals` take the patterns of `mask` in `cone`, and no others.
 fn shows(alloc: Global, cone: &Cone, signals: &[Sig], mask: u64) -> bool {
     if signals.len() > 6 || !are_among(cone, signals) {
         return false;
@@ -78,13 +77,13 @@ const SEVEN: &[Step] = &[
     (13, 1, Sig::Place(12), Sig::Place(7)),
 ];
 
-/// Leaves, steps, signals, and the mask of the patterns that the signals show: constants and
-/// leaves, and the one assignment of seven leaves, and of twelve, under which AND is 1.
+/// Leaves, steps, signals, and the mask of the patterns that the signals take: constants and leaves, and the
+/// one assignment of seven leaves, and of twelve, under which AND is 1.
 const SHOWN: &[(&[u32], &[Step], &[Sig], u64)] = &[
     (&[], &[], &[Sig::One], 2),
     (&[], &[], &[], 1),
     (&[1, 2, 3], &[], &[Sig::Place(1), Sig::Place(3)], 15),
-    // places after the first word of a set
+    // nodes after the first word of a set
     (&[63, 64, 97], &[], &[Sig::Place(64), Sig::Place(97)], 15),
     (&[1, 2, 3, 4, 5, 6, 7], SEVEN, &[Sig::Place(13)], 3),
     (
@@ -95,7 +94,7 @@ const SHOWN: &[(&[u32], &[Step], &[Sig], u64)] = &[
     ),
 ];
 
-/// Whether the signals of the cone show the patterns of `mask`.
+/// Whether the signals of the cone take the patterns of `mask`.
 fn is_shown(alloc: Global, leaves: &[u32], steps: &[Step], signals: &[Sig], mask: u64) -> bool {
     match cone_of(alloc, leaves, steps) {
         Some(cone) => shows(alloc, &cone, signals, mask),
@@ -113,7 +112,7 @@ fn signals_show_patterns(rt: HostRuntime) {
     }
 }
 
-/// The leaves that are 1 under the assignment `row`, whose last digit is that of the last leaf.
+/// The leaves that are 1 under the assignment `row`, whose last bit is that of the last leaf.
 fn leaf_ones(leaves: &[u32], row: u32) -> u64 {
     let mut ones = 0;
     let mut digits = row;
@@ -126,7 +125,7 @@ fn leaf_ones(leaves: &[u32], row: u32) -> u64 {
     ones
 }
 
-/// The places of `cone` that are 1 under the assignment `row`.
+/// The nodes of `cone` that are 1 under the assignment `row`.
 fn ones_of(cone: &Cone, row: u32) -> u64 {
     let mut ones = leaf_ones(cone.leaves(), row);
     for (place, gate) in cone.gates() {
@@ -137,7 +136,7 @@ fn ones_of(cone: &Cone, row: u32) -> u64 {
     ones
 }
 
-/// Whether the digit of `row` in the words of each of the first `count` places is the place's bit.
+/// Whether bit `row` of the words of each of the first `count` nodes is the node's bit.
 fn are_digits(lanes: &[u64], width: usize, row: u32, ones: u64, count: u32) -> bool {
     let mut start = (row / 64) as usize;
     for index in 0..count {
@@ -152,7 +151,7 @@ fn are_digits(lanes: &[u64], width: usize, row: u32, ones: u64, count: u32) -> b
     true
 }
 
-/// Whether `lanes` are the bits of the first `count` places of `cone` under each assignment.
+/// Whether `lanes` are the bits of the first `count` nodes of `cone` under each assignment.
 fn are_plain(cone: &Cone, lanes: &[u64], count: u32) -> bool {
     let rows = 1u32 << cone.leaves().len();
     let width = (rows as usize).div_ceil(64);
@@ -170,12 +169,12 @@ fn next(state: &mut u32) -> u32 {
     *state >> 8
 }
 
-/// A place for each number below 61, in no order.
+/// A node for each number below 61, not in ascending order.
 fn place_of(index: u32) -> u32 {
     index.wrapping_mul(35) % 61
 }
 
-/// A constant or one of the first `count` places.
+/// A constant or one of the first `count` nodes.
 fn any_signal(state: &mut u32, count: u32) -> Sig {
     let number = next(state) % 64;
     match number {
@@ -186,7 +185,7 @@ fn any_signal(state: &mut u32, count: u32) -> Sig {
     }
 }
 
-/// The places of `count` leaves.
+/// The nodes of `count` leaves.
 fn some_leaves(alloc: Global, count: u32) -> Result<Vec<u32>, AllocError> {
     let mut leaves = Vec::new(alloc);
     for index in 0..count {

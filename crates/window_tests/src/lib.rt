@@ -1,6 +1,6 @@
-//! Tests of the public calls of the crates of windows: windows with their specifications (SDC and
-//! ODC) and bit-parallel simulation of cones, compared with plain programs, chains that take the places
-//! of windows, and gates with equal tables.
+//! Tests of the public functions of the crates of windows: windows with their specifications (SDC and ODC)
+//! and bit-parallel simulation of cones, compared with plain programs, chains substituted for windows, and
+//! functional hashing.
 #![tactic(auto)]
 
 #[cfg(test)]

@@ -22,7 +22,7 @@ pub fn gate(op: u8, a: Sig, b: Sig) -> Gate {
     }
 }
 
-/// Whether a signal is a constant or a place below `place`.
+/// Whether a signal is a constant or a node below `place`.
 fn is_below(place: u32, sig: Sig) -> bool
     ensures { IsTrue result → IsSigBelow place sig }
 {
@@ -36,12 +36,12 @@ fn is_below(place: u32, sig: Sig) -> bool
 fn is_gate_at(place: u32, gate: &Gate) -> bool
     ensures { IsTrue result → IsGateAt place gate.now }
 {
-    // for the prover: brings the invariant of the operator
+    // for the prover: brings the operator's invariant into the proof
     let _word = gate.op.get();
     is_below(place, gate.a) && is_below(place, gate.b)
 }
 
-/// Whether each gate's operands are below its place.
+/// Whether each gate's operands are below the gate.
 fn are_gates(sources: u32, gates: &[Gate]) -> bool
     requires { sources + length gates.now < 2 ^ 31 }
     ensures { IsTrue result → AreGates sources gates.now }
@@ -56,7 +56,7 @@ fn are_gates(sources: u32, gates: &[Gate]) -> bool
     true
 }
 
-/// Whether all sinks are constants or places below `place`.
+/// Whether all sinks are constants or nodes below `place`.
 fn are_sinks(place: u32, sinks: &[Sig]) -> bool
     ensures { IsTrue result → All (IsSigBelow place) sinks.now }
 {

@@ -1,5 +1,4 @@
-//! TFO windows (tails) and specifications with observability don't-cares, compared with a plain
-//! program.
+//! Fanout cones and specifications with observability don't-cares, compared with a plain program.
 
 ghost use Rattle.window_theory.specs.Window.{Belongs};
 
@@ -21,7 +20,7 @@ fn next_follower(net: &Net, gates: u64) -> u32 {
     0
 }
 
-/// The gates of a window and of its tail: its bounded transitive fanout.
+/// The gates of a window and of its fanout cone.
 fn with_tail(net: &Net, gates: u64) -> u64 {
     let mut all = gates;
     for _taken in 0..16u32 {
@@ -34,8 +33,8 @@ fn with_tail(net: &Net, gates: u64) -> u64 {
     all
 }
 
-/// Whether a tail has the gates, the watchers and the side inputs of the plain program, and is as
-/// bare.
+/// Whether a fanout cone has the gates, outputs and side inputs of the plain program, and the same answer to
+/// whether the window is directly observable.
 fn is_plain_tail(net: &Net, gates: u64, found: &Tail) -> bool {
     let all = with_tail(net, gates);
     let seen = outputs(net, all);
@@ -44,8 +43,8 @@ fn is_plain_tail(net: &Net, gates: u64, found: &Tail) -> bool {
     places && are(&found.sides, sides) && found.bare == (seen & gates != 0)
 }
 
-/// Whether under the assignment `row` of `leaves` forcing some bits on the outputs changes a
-/// watcher.
+/// Whether under the assignment `row` of `leaves` some bits of the window's outputs change an output of the
+/// fanout cone.
 fn is_told(net: &Net, leaves: u64, outputs: u64, watchers: u64, row: u32) -> bool {
     let given = ones_of(leaves, row);
     let own = values(net, leaves, given);
@@ -58,7 +57,7 @@ fn is_told(net: &Net, leaves: u64, outputs: u64, watchers: u64, row: u32) -> boo
     false
 }
 
-/// The rows of a window's inputs on which it is observed, a digit for each.
+/// The rows of a window's inputs on which it is observable, a bit for each.
 fn seen_rows(net: &Net, gates: u64) -> u64 {
     let all = with_tail(net, gates);
     let watchers = outputs(net, all);
@@ -77,7 +76,7 @@ fn seen_rows(net: &Net, gates: u64) -> u64 {
     seen
 }
 
-/// Whether the window of `gates` has the tail and the observed specification of the plain program.
+/// Whether the window of `gates` has the fanout cone and the observed specification of the plain program.
 pub fn is_seen_plainly(alloc: Global, net: &Net, window: &Window, gates: u64) -> bool
     requires { Belongs net.now window.now }
 {

@@ -1,5 +1,5 @@
-//! The definitions of windows, computed plainly: by passes over all places of a net. A set of
-//! places is a word with a digit for each place; all nets here have fewer than 64.
+//! The definitions of windows, computed plainly: by passes over all nodes of a net. A set of nodes is a word
+//! with a bit for each node; all nets here have fewer than 64.
 
 ghost use Rattle.std.specs.Prelude.{◌≡◌};
 ghost use Rattle.net_theory.specs.Net.{end_of as end_of_net};
@@ -15,7 +15,7 @@ pub fn gate_of(net: &Net, place: u32) -> Option<&Gate> {
     net.gates().get((place - first) as usize)
 }
 
-/// The number after the last place.
+/// The first number after the nodes.
 pub fn end_of(net: &Net) -> u32
     ensures { result ≡ end_of_net net.now }
 {
@@ -33,7 +33,7 @@ pub fn has(places: u64, place: u32) -> bool {
     (places >> (place % 64)) & 1 == 1
 }
 
-/// The greatest place of a set; 0 if it is empty.
+/// The greatest node of a set; 0 if it is empty.
 pub fn greatest(places: u64) -> u32 {
     63u32.saturating_sub(places.leading_zeros())
 }
@@ -50,7 +50,7 @@ pub fn are(list: &[u32], places: u64) -> bool {
     left == 0
 }
 
-/// The set with the place of a signal; empty for a constant.
+/// The set with the node of a signal; empty for a constant.
 fn place_of(sig: Sig) -> u64 {
     match sig {
         Sig::Place(place) => only(place),

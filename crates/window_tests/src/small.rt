@@ -1,4 +1,4 @@
-//! Hundreds of small pseudorandom nets: their partners, windows, specifications and tails, compared
+//! Hundreds of small pseudorandom nets: their partners, windows, specifications and fanout cones, compared
 //! with a plain program. And a window of eight outputs.
 
 ghost use Rattle.window_theory.specs.Window.{Belongs};
@@ -18,7 +18,7 @@ fn next(state: &mut u32) -> u32 {
     *state >> 8
 }
 
-/// A constant or a place below `place`.
+/// A constant or a node below `place`.
 fn any_signal(state: &mut u32, place: u32) -> Sig {
     if place == 0 {
         return Sig::Zero;
@@ -94,8 +94,8 @@ fn is_specified(alloc: Global, net: &Net, window: &Window, gates: u64) -> bool
     }
 }
 
-/// Whether the window of `root` alone with `count` gates is that of the plain program, with its
-/// specification and its tail, or there is none.
+/// Whether the window of `root` alone with `count` gates is that of the plain program, with its specification
+/// and its fanout cone, or there is none.
 fn is_plain(alloc: Global, net: &Net, root: u32, count: u32) -> bool {
     let gates = taken(net, root, 0, count);
     match alone(alloc, net, root, count) {

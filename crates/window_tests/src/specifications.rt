@@ -116,7 +116,7 @@ const WORDS: &[(&Plan, u32, u32, bool, u64, u64)] = &[
     (&BARE, 3, 1, true, 0b1001, 0b1111),
 ];
 
-/// Whether the window in the net of `plan` has them.
+/// Whether the window in the net of `plan` has these words.
 fn has_planned_words(
     alloc: Global,
     plan: &Plan,

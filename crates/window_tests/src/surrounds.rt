@@ -1,10 +1,10 @@
-//! Leaves, care rows and values of places of a net, computed plainly: by simulation of the whole
-//! net under one assignment after the other.
+//! Leaves, care rows and values of nodes of a net, computed plainly: by simulation of the whole net under one
+//! assignment after the other.
 
 use crate::plain::{end_of, gate_of, gates_of, greatest, has, inputs, only, operands, outputs};
 use net_core::{Net, Sig};
 
-/// The bit of a signal, where `ones` are the places whose bit is 1.
+/// The bit of a signal, where `ones` are the nodes whose bit is 1.
 pub fn bit_of(ones: u64, sig: Sig) -> bool {
     match sig {
         Sig::Zero => false,
@@ -13,7 +13,7 @@ pub fn bit_of(ones: u64, sig: Sig) -> bool {
     }
 }
 
-/// The bit of a gate, where `ones` are the places whose bit is 1; 0 where no gate is at `place`.
+/// The bit of a gate, where `ones` are the nodes whose bit is 1; 0 where no gate is at `place`.
 fn gate_bit(net: &Net, ones: u64, place: u32) -> bool {
     match gate_of(net, place) {
         Some(gate) => gate.op.apply(bit_of(ones, gate.a), bit_of(ones, gate.b)),
@@ -21,7 +21,7 @@ fn gate_bit(net: &Net, ones: u64, place: u32) -> bool {
     }
 }
 
-/// The places whose bit is 1, where those of `given` have their bit in `ones`; other sources are 0.
+/// The nodes whose bit is 1, where those of `given` have their bit in `ones`; other sources are 0.
 pub fn values(net: &Net, given: u64, ones: u64) -> u64 {
     let mut all = ones;
     for place in 0..end_of(net) {
@@ -32,8 +32,8 @@ pub fn values(net: &Net, given: u64, ones: u64) -> u64 {
     all
 }
 
-/// The leaves of the surround of `places`: the greatest leaf that is a gate is expanded again and
-/// again, as long as there are at most twelve.
+/// The leaves of the fanin cone of `places`: the greatest leaf that is a gate is expanded again and again, as
+/// long as there are at most twelve.
 pub fn leaves(net: &Net, places: u64) -> u64 {
     let gates = gates_of(net);
     let mut leaves = places;
@@ -53,7 +53,7 @@ pub fn rows_of(places: u64) -> u32 {
     1u32 << (places.count_ones() % 32)
 }
 
-/// The places to which `row` gives 1; the last place has the last digit.
+/// The nodes to which `row` gives 1; the last node has the last bit.
 pub fn ones_of(places: u64, row: u32) -> u64 {
     let mut ones = 0;
     let mut digits = u64::from(row);
@@ -68,7 +68,7 @@ pub fn ones_of(places: u64, row: u32) -> u64 {
     ones
 }
 
-/// The row of `places`, where `ones` are the places whose bit is 1.
+/// The row of `places`, where `ones` are the nodes whose bit is 1.
 pub fn row_of(ones: u64, places: u64) -> u32 {
     let mut row = 0u32;
     for place in 0..64u32 {
@@ -82,7 +82,7 @@ pub fn row_of(ones: u64, places: u64) -> u32 {
     row
 }
 
-/// The care rows of `places`, a digit for each.
+/// The care rows of `places`, a bit for each.
 pub fn care_rows(net: &Net, places: u64) -> u64 {
     let leaves = leaves(net, places);
     let mut care = 0;
@@ -93,7 +93,7 @@ pub fn care_rows(net: &Net, places: u64) -> u64 {
     care
 }
 
-/// The rows of the inputs on which an output is 1, a digit for each.
+/// The rows of the inputs on which an output is 1, a bit for each.
 fn on_rows(net: &Net, inputs: u64, output: u32) -> u64 {
     let mut on = 0;
     for row in 0..rows_of(inputs) {

@@ -21,7 +21,7 @@ fn is_gate(net: &Net, place: u32) -> bool
 pub fn alone(alloc: Global, net: &Net, root: u32, count: u32) -> Result<Option<Window>, AllocError>
     ensures { IfOk result (λ answer. IfSome answer (λ w. Belongs net.now w)) }
 {
-    // for the prover: brings the invariant of the net
+    // for the prover: brings the net's invariant into the proof
     let _sources = net.sources();
     if count == 0 || count > 8 || !is_gate(net, root) {
         return Ok(None);
@@ -58,7 +58,7 @@ pub fn partners_at(alloc: Global, net: &Net, root: u32) -> Result<Vec<u32>, Allo
     partners(alloc, net, root)
 }
 
-/// Two gates that compute the same side by side.
+/// Two gates side by side that compute the same.
 const TWINS: Plan = Plan {
     sources: 2,
     gates: &[
@@ -187,13 +187,13 @@ fn window_of(alloc: Global, net: &Net, found: &Found) -> Result<Option<Window>, 
     alone(alloc, net, found.root, found.count)
 }
 
-/// Whether a window has the parts that `found` says.
+/// Whether a window has the parts of `found`.
 fn has_parts(window: &Window, found: &Found) -> bool {
     let places = window.gates() == found.gates && window.inputs() == found.inputs;
     places && window.outputs() == found.outputs
 }
 
-/// Whether `net` has the window that `found` says, or none.
+/// Whether `net` has the window of `found`, or none.
 fn has_window(alloc: Global, net: &Net, found: &Found) -> bool {
     match window_of(alloc, net, found) {
         Ok(Some(window)) => has_parts(&window, found),

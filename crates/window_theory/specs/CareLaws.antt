@@ -1,5 +1,4 @@
--- Under every assignment of the sources the bits of places are a care row; so are those of a
--- window's inputs.
+-- Under every assignment of the sources the bits of nodes are a care row; so are those of a window's inputs.
 use Rattle.std.specs.Prelude.{◌≡◌, ℕ, suc, ◌+◌, ◌<◌, ◌^◌, Bool, if◌then◌else◌, List, [], ◌∷◌, length, slice_get, slice_index_or, Some, refl}
 use Rattle.std.proofs.Common.{arith, sym, ◌∙◌, ap, ⊎_elim, add-zero}
 use Rattle.std.proofs.lemmas.Bool.{cond_both, cases_eq}
@@ -24,7 +23,7 @@ sig_same f g (Place p) same = same p
 gate_same : (f g : ℕ → Bool) (x : Gate) → ((p : ℕ) → f p ≡ g p) → gate_value f x ≡ gate_value g x
 gate_same f g x same = rw (sig_same f g x.a same, sig_same f g x.b same) refl
 
--- Where places are fixed to their real values all places have theirs.
+-- Where nodes are fixed to the values that they have, all nodes keep their values.
 fixed_real : (fixed real bits : ℕ → Bool) (place : ℕ) (gs : List Gate) → ((i : ℕ) (g : Gate) → slice_get gs i ≡ Some g → real (place + i) ≡ gate_value real g) → ((q : ℕ) → bits q ≡ real q) → (q : ℕ) → fixed_after fixed real bits place gs q ≡ real q
 unfolding fixed_after
 fixed_real fixed real bits place [] gates same q = same q

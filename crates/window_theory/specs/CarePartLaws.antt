@@ -9,7 +9,7 @@ use Rattle.window_theory.specs.Care.{values_with, IsPart, HasRow, IsCareRow}
 use Rattle.window_theory.specs.FixedLaws.{part_values}
 use Rattle.window_theory.specs.PairLaws.{among_at}
 
--- the places are in the part
+-- the nodes are in the part
 abbrev pub AreInside : (ℕ → Bool) → List ℕ → Type 0
 AreInside inside places = (p : ℕ) → among places p ≡ true → inside p ≡ true
 

@@ -64,7 +64,7 @@ leads_reach : (n : Net) (roots : ℕ → Bool) (p g : ℕ) → IsNet n → Leads
 leads_reach n roots _ _ net (at_once p g reads) e = read_reached n roots p g net reads e
 leads_reach n roots _ _ net (by_way_of p q g before reads) e = leads_reach n roots p q net before (read_reached n roots q g net reads e)
 
--- ---- places that don't depend on gates
+-- ---- nodes that don't depend on gates
 
 -- Their transitive fanin is outside the gates,
 pub apart_outside : (n : Net) (gates places : List ℕ) (p : ℕ) → ((q : ℕ) → among places q ≡ true → IsApart n gates q) → reach n (among places) p ≡ true → among gates p ≡ false
@@ -79,7 +79,7 @@ apart_outside n gates places p apart early =
     (λ off. off)
     (cases_Bool (among gates p))
 
--- and that tells them.
+-- and this characterizes them.
 pub outside_apart : (n : Net) (gates places : List ℕ) (p : ℕ) → IsNet n → ((g : ℕ) → among gates g ≡ true → reach n (among places) g ≡ false) → among places p ≡ true → IsApart n gates p
 outside_apart n gates places p net off on =
     let there : reach n (among places) p ≡ true = (reach_closed n (among places) net).starts p on in
@@ -90,11 +90,11 @@ outside_apart n gates places p net off on =
 
 -- ---- windows
 
--- No gate of a window is early, which means in the transitive fanin of its inputs.
+-- No gate of a window is early, that is, in the transitive fanin of its inputs.
 pub early_outside : (n : Net) (w : Window) (p : ℕ) → Belongs n w → is_early n w p ≡ true → among w.gates p ≡ false
 early_outside n w p is early = apart_outside n w.gates w.inputs p is.apart early
 
--- A path that leaves a window's gates would come back to them by an input.
+-- A path that leaves a window's gates would come back to them through an input.
 comes_back : (n : Net) (w : Window) (p q r : ℕ) → Belongs n w → among w.gates p ≡ true → LeadsUp n p q → among w.gates q ≡ false → LeadsUp n q r → among w.gates r ≡ true → ⊥
 comes_back n w p _ _ is inside up off (at_once q r reads) on =
     (is.apart q (is.read q (record { outside = off; read = record { reader = r; inside = on; reads = reads } }))).above p inside up

@@ -45,7 +45,8 @@ nand_not_is_and = refl
 
 -- ---- a gate with a gate and a sink as fanouts
 
--- AND at 3, OR of the first source and it at 4, XOR of the sources at 5; all three are sinks, and a source is one
+-- AND at 3, OR of the first source and it at 4, XOR of the sources at 5; all three are sinks, and so is a
+-- source
 abbrev pub three_gates : Net
 three_gates = record { sources = 2; gates = gate_of 1 (Place 1) (Place 2) ∷ gate_of 7 (Place 1) (Place 3) ∷ gate_of 6 (Place 1) (Place 2) ∷ []; sinks = Place 4 ∷ Place 5 ∷ Place 3 ∷ Place 2 ∷ [] }
 

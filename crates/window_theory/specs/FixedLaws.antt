@@ -1,4 +1,4 @@
--- The values where the bits of some places are fixed, without recursion.
+-- The values where the bits of some nodes are fixed, without recursion.
 use Rattle.std.specs.Prelude.{◌≡◌, ℕ, zero, suc, ◌+◌, ◌≤◌, ◌<◌, Bool, true, false, if◌then◌else◌, List, [], ◌∷◌, slice_get, Some, refl}
 use Rattle.std.proofs.Common.{arith, sym, ◌∙◌, ap, subst, inl, inr, ⊎_elim}
 use Rattle.std.proofs.lemmas.Bool.{cond-true, cond-false, cases_eq, cases_Bool, both_ways, cases_lt}
@@ -16,9 +16,9 @@ use Rattle.window_theory.specs.Window.{Window, Belongs}
 use Rattle.window_theory.specs.WindowLaws.{reads_low, gate_at}
 use Rattle.window_theory.specs.Care.{fixed_after, values_with, IsGiven, IsPart}
 
--- ---- one place
+-- ---- one node
 
--- gates leave the bits of the places below them
+-- gates don't change the bits of the nodes below them
 fixed_below : (fixed given bits : ℕ → Bool) (place p : ℕ) (gs : List Gate) → p < place → fixed_after fixed given bits place gs p ≡ bits p
 unfolding fixed_after
 fixed_below fixed given bits place p [] low = refl
@@ -41,7 +41,7 @@ fixed_holds fixed given bits place p (g ∷ gs) on same =
     (λ other. extended-other bits place p bit other ∙ same)
     (cases_eq p place))
 
--- and so has a fixed place
+-- and so has a fixed node
 pub with_fixed : (n : Net) (fixed given : ℕ → Bool) (p : ℕ) → fixed p ≡ true → values_with n fixed given p ≡ given p
 with_fixed n fixed given p on = fixed_holds fixed given given (n.sources + 1) p n.gates on refl
 
@@ -127,7 +127,7 @@ window_below n w f g (suc bound) p net is same low inside =
 pub window_same : (n : Net) (w : Window) (f g : ℕ → Bool) (p : ℕ) → IsNet n → Belongs n w → ((q : ℕ) → among w.inputs q ≡ true → f q ≡ g q) → among w.gates p ≡ true → values_with n (among w.inputs) f p ≡ values_with n (among w.inputs) g p
 window_same n w f g p net is same inside = window_below n w f g (suc p) p net is same (omega arith) inside
 
--- ---- all places
+-- ---- all nodes
 
 same_below : (n : Net) (fixed f g : ℕ → Bool) (bound p : ℕ) → IsNet n → ((q : ℕ) → IsGiven n fixed q → f q ≡ g q) → p < bound → p < end_of n → values_with n fixed f p ≡ values_with n fixed g p
 same_below n fixed f g zero p net same low within = absurd (omega arith)
@@ -145,6 +145,6 @@ same_below n fixed f g (suc bound) p net same low within =
     (cases_lt p (n.sources + 1)))
     (cases_Bool (fixed p))
 
--- Bits that agree on sources and fixed places give all places the same values.
+-- Bits that agree on sources and fixed nodes give all nodes the same values.
 pub with_same : (n : Net) (fixed f g : ℕ → Bool) (p : ℕ) → IsNet n → ((q : ℕ) → IsGiven n fixed q → f q ≡ g q) → p < end_of n → values_with n fixed f p ≡ values_with n fixed g p
 with_same n fixed f g p net same within = same_below n fixed f g (suc p) p net same (omega arith) within

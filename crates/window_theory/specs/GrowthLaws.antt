@@ -8,7 +8,7 @@ use Rattle.window_theory.specs.Window.{Window, IsCandidate, AreTaken, Takes, IsI
 use Rattle.window_theory.specs.WindowLaws.{taken_one, gates_one}
 use Rattle.window_theory.specs.PlaceLaws.{just_same}
 
--- Where more gates can be taken than those of xs, xs has a candidate.
+-- Where more gates can be taken than those of xs, a candidate for xs is left.
 taken_next : (n : Net) (root : ℕ) (partner : Option ℕ) (xs ys : List ℕ) → AreTaken n root partner xs → AreTaken n root partner ys → length xs < length ys → (p : ℕ) × IsCandidate n root partner xs p
 unfolding AreTaken
 taken_next n root partner xs [] a b more = absurd (omega arith)
@@ -33,7 +33,7 @@ window_size n root partner count taken w are none is =
     let most : length is.takes.taken ≤ length taken = taken_most n root partner taken is.takes.taken are none is.takes.are in
     omega (arith, most, is.takes.count_is)
 
--- A window of gates that are taken has their inputs and outputs.
+-- A window of gates that are taken has the inputs and outputs of these gates.
 pub window_partner : (n : Net) (root : ℕ) (partner : Option ℕ) (count : ℕ) (gates : List ℕ) (w : Window) → Takes n root partner count gates → IsWindow n root partner count w → HasPartner partner gates
 window_partner n root partner count gates w takes is =
     subst (HasPartner partner) (gates_one n root partner count w.gates gates is.takes takes) is.has_partner

@@ -1,4 +1,4 @@
--- A window has one specification up to the chains that implement it.
+-- A window has one specification up to don't-cares that no chain distinguishes.
 use Rattle.std.specs.Prelude.{◌≡◌, ℕ, ◌≤◌, ◌<◌, ◌^◌, Bool, true, length}
 use Rattle.std.proofs.Common.{sym, ◌∙◌, ap, subst, ⊎_elim}
 use Rattle.std.proofs.lemmas.Bool.{cases_Bool, both_ways}
@@ -18,8 +18,8 @@ care_same n w s z h t a b low high row care =
     let given : ℕ → Bool = values_with n (among care.leaves) care.given in
     a.care h t given low high row care care.bits ∙ sym (b.care h t given low high row care care.bits)
 
--- A bit that meets a cell of s meets that of z: if it didn't, the row couldn't be a care row, and
--- the cell of z would be a don't-care.
+-- A bit that meets a cell of s meets the same cell of z: otherwise the row couldn't be a care row, and the
+-- cell of z would be a don't-care.
 met_same : (n : Net) (w : Window) (s z : Specification) (h t : ℕ) (bit : Bool) → IsSpecificationOf n w s → IsSpecificationOf n w z → 1 ≤ h → h ≤ length w.outputs → t < 2 ^ length w.inputs → is_met (s.cell h t) bit ≡ true → is_met (z.cell h t) bit ≡ true
 met_same n w s z h t bit a b low high row met =
     ⊎_elim
@@ -43,7 +43,7 @@ agrees_same n w s z c a b agrees =
           (agrees.cells h t low (subst (λ (k : ℕ). h ≤ k) (sym outputs) high) (subst (λ (k : ℕ). t < 2 ^ k) (sym inputs) row));
     }
 
--- The specifications of a window have the same chains.
+-- The same chains implement both specifications of a window.
 pub chains_same : (n : Net) (w : Window) (s z : Specification) (basis : Basis) (r : ℕ) → IsSpecificationOf n w s → IsSpecificationOf n w z → HasChain s basis r → HasChain z basis r
 chains_same n w s z basis r a b has =
     record { chain = has.chain; is_chain = has.is_chain; size = has.size; is_over = has.is_over; agrees = agrees_same n w s z has.chain a b has.agrees }

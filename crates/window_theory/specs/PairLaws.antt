@@ -1,4 +1,4 @@
--- The signals and bits of places that a chain's outputs replace.
+-- The signals and bits of nodes that a chain's outputs replace.
 use Rattle.std.specs.Prelude.{◌≡◌, ℕ, zero, suc, ◌<◌, Bool, true, false, List, [], ◌∷◌, length, map, slice_get, slice_index_or, Some, nat_eq, ◌==◌, refl}
 use Rattle.std.proofs.Common.{arith, sym, ◌∙◌, ap, ⊎_elim, ◌≢◌}
 use Rattle.std.proofs.lemmas.Bool.{cond-true, cond-false, eq-eqb, ne_eqb, or_left, or_parts, cases_eq, both_ways}
@@ -9,13 +9,13 @@ use Rattle.window_theory.specs.Places.{among}
 use Rattle.window_theory.specs.PlaceLaws.{among_cases, among_first, among_later}
 use Rattle.window_theory.specs.Splice.{with_bits, with_sigs}
 
--- a place at an index of a list is in the list
+-- a node at an index of a list is in the list
 pub among_at : (places : List ℕ) (i d : ℕ) → i < length places → among places (slice_index_or places i d) ≡ true
 among_at [] i d low = absurd (omega arith)
 among_at (p ∷ places) zero d low = among_first p places
 among_at (p ∷ places) (suc i) d low = among_later p (slice_index_or places i d) places (among_at places i d (omega arith))
 
--- other places stay
+-- other nodes stay
 pub sigs_other : (sigs : ℕ → Sig) (places : List ℕ) (set : List Sig) (p : ℕ) → among places p ≡ false → with_sigs sigs places set p ≡ sigs p
 unfolding with_sigs
 sigs_other sigs [] set p out = refl
@@ -32,7 +32,7 @@ bits_other bits (q ∷ places) (b ∷ set) p out =
     let other : p ≢ q = λ same. both_ways (among (q ∷ places) p) out (or_left (nat_eq p q) (among places p) (eq-eqb p q same)) in
     extended-other (with_bits bits places set) q p b other ∙ bits_other bits places set p (or_parts (nat_eq p q) (among places p) out).1
 
--- A place of `places` has the signal and the bit of the output at its index.
+-- A node of `places` has the signal and the bit of the output at its index.
 pub record IsSet (sigs : ℕ → Sig) (bits : ℕ → Bool) (places : List ℕ) (outs : List Out) (sig : Out → Sig) (bit : Out → Bool) (p : ℕ) : Type 0 where
   pub index : ℕ
   pub out : Out

@@ -11,10 +11,10 @@ pub record SharesBelow (n : Net) (g h : ℕ) : Type 0 where
   pub first : Reads n g shared
   pub second : Reads n h shared
 
--- The partners of a gate, descending: all gates below that share a fanin with it, or the eight
--- greatest, where there are more.
--- Example: where the gates at 3 and 4 are both AND of the places 1 and 2, 3 is the partner of 4,
--- and 3 has none.
+-- The partners of a gate, descending: all gates below it that share a fanin with it, or the eight greatest of
+-- them where there are more.
+-- Example: where the gates at 3 and 4 are both AND of the nodes 1 and 2, 3 is the partner of 4, and 3 has
+-- none.
 pub record ArePartners (n : Net) (g : ℕ) (partners : List ℕ) : Type 0 where
   pub falling : IsFalling partners
   pub share : (h : ℕ) → among partners h ≡ true → SharesBelow n g h

@@ -1,4 +1,4 @@
--- A gate has one list of partners.
+-- A gate has exactly one list of partners.
 use Rattle.std.specs.Prelude.{◌≡◌, ℕ, ◌<◌, true, false, List, [], ◌∷◌, length, ◌⊎◌, refl}
 use Rattle.std.proofs.Common.{arith, sym, ◌∙◌, ap, inl, inr, ⊎_elim}
 use Rattle.net_theory.specs.Net.{Net}
@@ -8,7 +8,7 @@ use Rattle.window_theory.specs.Partner.{ArePartners}
 
 -- ---- descending lists
 
--- A descending list within another of greater head is within the other's tail.
+-- A descending list within another one with a greater head is within the rest of the other one.
 behind_head : (x y : ℕ) (xs ys : List ℕ) → IsFalling (x ∷ xs) → IsFalling (y ∷ ys) → x < y → ((p : ℕ) → among (x ∷ xs) p ≡ true → among (y ∷ ys) p ≡ true) → (p : ℕ) → among (x ∷ xs) p ≡ true → among ys p ≡ true
 unfolding IsFalling
 behind_head x y xs ys falling_x falling_y low within p e =

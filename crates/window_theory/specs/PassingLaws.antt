@@ -24,7 +24,7 @@ passing_kept test marks sources start k place (g ∷ gs) =
       one true = passing_push test start k.gates (moved_gate k.places g)
       one false = omega arith
 
--- Two tests that exclude each other and together are a third.
+-- Two tests that exclude each other, and the test that one of them holds.
 pub passing_parts : (a b both : ℕ → ℕ → Bool) (place : ℕ) (gs : List Gate) → ((p op : ℕ) → (if a p op then 1 else 0) + (if b p op then 1 else 0) ≡ (if both p op then 1 else 0)) → passing a place gs + passing b place gs ≡ passing both place gs
 unfolding passing
 passing_parts a b both place [] one = refl
@@ -43,7 +43,7 @@ unfolding passing
 passing_all place [] = refl
 passing_all place (g ∷ gs) = omega (arith, passing_all (place + 1) gs)
 
--- the places are those of gates of the list
+-- the nodes are those of gates of the list
 abbrev pub AreWithin : ℕ → List Gate → List ℕ → Type 0
 AreWithin place gs places = (p : ℕ) → among places p ≡ true → (place ≤ p) × (p < place + length gs)
 
@@ -57,7 +57,7 @@ among_same x q places other =
     (λ off. not_among (x ∷ places) q (λ e. ⊎_elim (λ (same : q ≡ x). other same) (λ later. both_ways (among places q) off later) (among_cases x q places e)) ∙ sym off)
     (cases_Bool (among places q))
 
--- As many gates are at places of a list as the list has places.
+-- As many gates are at nodes of a list as the list has nodes.
 pub passing_among : (place : ℕ) (gs : List Gate) (places : List ℕ) → IsRising places → AreWithin place gs places → passing (λ p op. among places p) place gs ≡ length places
 unfolding passing IsRising
 passing_among place [] [] rising within = refl

@@ -4,7 +4,7 @@ use Rattle.net_theory.specs.declared.data.Gate.{Gate}
 use Rattle.net_theory.specs.Net.{Net}
 use Rattle.net_theory.specs.Reach.{ReadsPlace}
 
--- a gate is at the place p
+-- p is the node of a gate
 pub record IsGate (n : Net) (p : ℕ) : Type 0 where
   pub index : ℕ
   pub gate : Gate
@@ -16,7 +16,7 @@ pub record Reads (n : Net) (g p : ℕ) : Type 0 where
   pub reader : IsGate n g
   pub reads : ReadsPlace reader.gate p
 
--- g is in the transitive fanout (TFO) of p: it reads p, or a place to which a path leads from p.
+-- g is in the transitive fanout (TFO) of p: it reads p, or a node to which a path leads from p.
 pub data LeadsUp (n : Net) : ℕ → ℕ → Type 0 where
   at_once : (p g : ℕ) → Reads n g p → LeadsUp n p g
   by_way_of : (p q g : ℕ) → LeadsUp n p q → Reads n g q → LeadsUp n p g

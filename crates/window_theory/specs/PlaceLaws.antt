@@ -1,4 +1,5 @@
--- An ascending list is determined by its elements, and each test of places below a bound has one.
+-- An ascending list is determined by its elements, and each decidable set of nodes below a bound has such a
+-- list.
 use Rattle.std.specs.Prelude.{◌≡◌, ℕ, zero, suc, ◌+◌, ◌≤◌, ◌<◌, Bool, true, false, nat_eq, if◌then◌else◌, List, [], ◌∷◌, ◌⊎◌, refl}
 use Rattle.std.proofs.Common.{arith, sym, ◌∙◌, ap, inl, inr, ⊎_elim}
 use Rattle.std.proofs.lemmas.Bool.{cond_both, cond-true, eqb-true, eq-eqb, or_cases, or_left, or_right, cases_eq}
@@ -82,7 +83,7 @@ listed_rising test start (suc count) =
     (λ on. (λ q e. omega (arith, (listed_only test (start + 1) count q e).0), listed_rising test (start + 1) count))
     (λ off. listed_rising test (start + 1) count)
 
--- a property that a test decides, of places below a bound, has its list
+-- a property of nodes below a bound that a test decides has a list
 pub just_listed : (P : ℕ → Type 0) (test : ℕ → Bool) (bound : ℕ) → ((q : ℕ) → test q ≡ true → P q) → ((q : ℕ) → P q → (test q ≡ true) × (q < bound)) → AreJust P (listed test 0 bound)
 just_listed P test bound holds tests =
     record {

@@ -74,7 +74,7 @@ still_spliced n w c (Place p) is still = source_spliced n w c p is still
 
 -- ---- the net
 
--- The substitution gives a net, where that has fewer than 2^31 places.
+-- The substitution gives a net, where the result has fewer than 2^31 nodes.
 pub spliced_is : (n : Net) (w : Window) (c : Chain) → IsNet n → Belongs n w → Fits w c → n.sources + length n.gates + length c.steps < 2 ^ 31 + length w.gates → IsSpliced n w c (spliced n w c)
 unfolding spliced
 spliced_is n w c net is fits few =
@@ -96,8 +96,7 @@ spliced_is n w c net is fits few =
 pub substituted_values : (n m : Net) (w : Window) (s : Specification) (c : Chain) (given : ℕ → Bool) → IsNet n → Belongs n w → IsChain c → IsSpecificationOf n w s → Agrees c s → IsSpliced n w c m → sink_values m given ≡ sink_values n given
 substituted_values n m w s c given net is chain spec agrees new = new.values given ∙ signals_real n w s c given net is chain spec agrees
 
--- And where it has no more steps than the window has gates, the new net answers what the old one
--- does.
+-- And where it has no more steps than the window has gates, the new net implements the old one.
 pub substituted_answers : (n m : Net) (w : Window) (s : Specification) (c : Chain) → IsNet n → Belongs n w → IsChain c → IsSpecificationOf n w s → Agrees c s → IsSpliced n w c m → length c.steps ≤ length w.gates → Answers n m
 substituted_answers n m w s c net is chain spec agrees new few =
     record {

@@ -1,10 +1,10 @@
--- The row that the bits of places are.
+-- The row that the bits of some nodes form.
 use Rattle.std.specs.Prelude.{◌≡◌, ℕ, ◌+◌, ◌-◌, ◌^◌, ◌<◌, Bool, List, length, slice_index_or}
 use Rattle.std.proofs.Common.{arith, sym, ◌∙◌, ap}
 use Rattle.chain_theory.specs.Rows.{row_of, row_digit, row_low}
 use Rattle.window_theory.specs.Care.{HasRow}
 
--- Bits of places are a row.
+-- The bits of nodes are a row.
 pub has_row : (bits : ℕ → Bool) (places : List ℕ) → (t : ℕ) × (t < 2 ^ length places) × HasRow bits places t
 has_row bits places =
     let count : ℕ = length places in

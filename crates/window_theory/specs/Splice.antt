@@ -1,4 +1,4 @@
--- Substitution: a chain in the place of a window.
+-- Substitution: a chain replaces a window.
 use Rattle.std.specs.Prelude.{◌≡◌, ℕ, ◌+◌, ◌-◌, ◌<◌, Bool, true, false, not, ◌&&◌, List, [], ◌∷◌, length, map, slice_get, slice_index_or, if◌then◌else◌, Some}
 use Rattle.chain_theory.specs.Chain.{Step, Chain, IsChain}
 use Rattle.chain_theory.specs.Value.{extended, values_after}
@@ -22,13 +22,13 @@ pub record Fits (w : Window) (c : Chain) : Type 0 where
   pub inputs : c.n ≡ length w.inputs
   pub outs : length c.outs ≡ length w.outputs
 
--- the place of input j, where inputs are numbered from 1
+-- the node of input j, where inputs are numbered from 1
 abbrev pub input_place : Window → ℕ → ℕ
 input_place w j = slice_index_or w.inputs (j - 1) 0
 
 -- ---- values
 
--- the bits of the chain's places, where its inputs have those of the window's inputs
+-- the bits of the chain's places, where its inputs have the bits of the window's inputs
 abbrev pub chain_bits : Net → Window → Chain → (ℕ → Bool) → ℕ → Bool
 chain_bits n w c given = values_after (λ j. value n given (input_place w j)) (c.n + 1) c.steps
 
@@ -37,7 +37,7 @@ out_bit bits outs.Zero = false
 out_bit bits outs.One = true
 out_bit bits (outs.Place p) = bits p
 
--- the bits `bits`, with those of the listed places replaced
+-- the bits `bits`, with those of the listed nodes replaced
 unfoldable pub with_bits : (ℕ → Bool) → List ℕ → List Bool → ℕ → Bool
 with_bits bits [] set = bits
 with_bits bits (p ∷ places) [] = bits
@@ -46,20 +46,20 @@ with_bits bits (p ∷ places) (b ∷ set) = extended (with_bits bits places set)
 abbrev pub spliced_bits : Net → Window → Chain → (ℕ → Bool) → ℕ → Bool
 spliced_bits n w c given = with_bits given w.outputs (map (out_bit (chain_bits n w c given)) c.outs)
 
--- The values of the net where the window's outputs have the values of the chain's outputs, computed
--- from the window's inputs.
--- Example: where the window is the gate 3, AND of the sources 1 and 2, and the chain's output is
--- the constant 1, place 3 has 1, and NOT of it at place 4 has 0.
+-- The values of the net where the window's outputs have the values of the chain's outputs, computed from the
+-- window's inputs.
+-- Example: where the window is the gate 3, AND of the sources 1 and 2, and the chain's output is the constant
+-- 1, node 3 has 1, and NOT of it at node 4 has 0.
 abbrev pub spliced_value : Net → Window → Chain → (ℕ → Bool) → ℕ → Bool
 spliced_value n w c given = values_with n (among w.outputs) (spliced_bits n w c given)
 
 -- ---- the net
 
--- the transitive fanin (TFI) of the window's inputs, with the inputs
+-- the window's inputs with their transitive fanin (TFI)
 abbrev pub is_early : Net → Window → ℕ → Bool
 is_early n w = reach n (among w.inputs)
 
--- all other places outside the window
+-- all other nodes outside the window
 abbrev pub is_late : Net → Window → ℕ → Bool
 is_late n w p = not (is_early n w p) && not (among w.gates p)
 
@@ -71,7 +71,7 @@ out_sig places outs.Zero = Zero
 out_sig places outs.One = One
 out_sig places (outs.Place p) = places p
 
--- the signals `sigs`, with those of the listed places replaced
+-- the signals `sigs`, with those of the listed nodes replaced
 unfoldable pub with_sigs : (ℕ → Sig) → List ℕ → List Sig → ℕ → Sig
 with_sigs sigs [] set = sigs
 with_sigs sigs (p ∷ places) [] = sigs
@@ -98,22 +98,22 @@ spliced n w c = record { sources = n.sources; gates = (all_kept n w c).gates; si
 
 -- ---- its properties
 
--- the number of gates that pass a test of their place and their operator; the first is at `place`
+-- the number of gates that pass a test of their node and their operator; the first gate is at node `place`
 unfoldable pub passing : (ℕ → ℕ → Bool) → ℕ → List Gate → ℕ
 passing test place [] = 0
 passing test place (g ∷ gs) = (if test place g.op then 1 else 0) + passing test (place + 1) gs
 
--- As many gates of m pass a test of operators as gates of n outside the window and steps together.
--- So each gate outside keeps its operator, each step's operator is a gate's, and there are no
--- others.
+-- For each test of operators, as many gates of m pass it as gates of n outside the window and steps together.
+-- So each gate outside keeps its operator, each step's operator is the operator of a gate, and there are no
+-- other gates.
 abbrev pub HasOperators : Net → Window → Chain → Net → Type 0
 HasOperators n w c m = (test : ℕ → Bool) → passing (λ p op. test op) (m.sources + 1) m.gates ≡ passing (λ p op. not (among w.gates p) && test op) (n.sources + 1) n.gates + passing (λ p op. test op) (c.n + 1) (map step_gate c.steps)
 
--- m is n with the chain in the place of the window: its sinks have the values that n gives with the
--- chain's outputs for the window's, and its gates are those of n outside the window and one for
--- each step. A sink that is a source or a constant stays as it is, and equal sinks stay equal.
--- Example: of NAND of the sources at place 3 and NOT of it at place 4, which is the sink, the
--- window of both and the chain of one step AND leave the one gate AND.
+-- m is n with the chain substituted for the window: its sinks have the values that n gives with the chain's
+-- outputs in place of the window's, and its gates are those of n outside the window and one for each step. A
+-- sink that is a source or a constant stays as it is, and equal sinks stay equal.
+-- Example: with NAND of the sources at node 3 and NOT of it, the sink, at node 4, the window of both gates
+-- and the chain of one step AND leave the one gate AND.
 pub record IsSpliced (n : Net) (w : Window) (c : Chain) (m : Net) : Type 0 where
   pub net : IsNet m
   pub sources : m.sources ≡ n.sources

@@ -26,7 +26,7 @@ use Rattle.window_theory.specs.Splice.{Fits, input_place, chain_bits, out_bit, s
 use Rattle.window_theory.specs.EarlyLaws.{early_outside}
 use Rattle.window_theory.specs.PairLaws.{among_at, sigs_other, bits_other, IsSet, is_set}
 
--- ---- early places: the window's inputs and their transitive fanin
+-- ---- early nodes: the window's inputs and their transitive fanin
 
 -- a source, or an early gate
 abbrev pub IsEarly : Net → Window → ℕ → Type 0
@@ -37,7 +37,7 @@ early_moves n w net =
     (keep_all n.sources (value n) (IsSourcePlace n.sources) (is_early n w) (nothing_kept n.sources) (n.sources + 1) n.gates (moves_start n)
     (net_movable n (IsSourcePlace n.sources) (is_early n w) net (λ p e. e) (λ i p g at reads on. inr ((reach_closed n (among w.inputs) net).gates i p g at reads on)))).0
 
--- a marked place of the net is a source or a marked gate
+-- a marked node of the net is a source or a marked gate
 placed : (n : Net) (marks : ℕ → Bool) (p : ℕ) → 1 ≤ p → p < end_of n → marks p ≡ true → IsSourcePlace n.sources p ⊎ IsMarked marks (n.sources + 1) (length n.gates) p
 placed n marks p some low on =
     ⊎_elim
@@ -116,7 +116,7 @@ out_same n w c outs.Zero given moves names = refl
 out_same n w c outs.One given moves names = refl
 out_same n w c (outs.Place q) given moves names = moves.same given q (chain_place c q names)
 
--- ---- values of early places
+-- ---- values of early nodes
 
 pub value_gate : (n : Net) (given : ℕ → Bool) (p : ℕ) (is : IsGate n p) → IsNet n → value n given p ≡ gate_value (value n given) is.gate
 value_gate n given p is net =
@@ -151,11 +151,11 @@ early_below n w c given (suc bound) p net is low early =
     ∙ sym (with_gate n (among w.outputs) (spliced_bits n w c given) p gate net free))
     early
 
--- Early places don't depend on the window's outputs.
+-- Early nodes don't depend on the window's outputs.
 early_same : (n : Net) (w : Window) (c : Chain) (given : ℕ → Bool) (p : ℕ) → IsNet n → Belongs n w → IsEarly n w p → value n given p ≡ spliced_value n w c given p
 early_same n w c given p net is early = early_below n w c given (suc p) p net is (omega arith) early
 
--- ---- late places: all others outside the window
+-- ---- late nodes: all others outside the window
 
 -- early, or an output of the window
 abbrev IsKnown : Net → Window → ℕ → Type 0
@@ -201,7 +201,7 @@ late_outside n w p late = not-true (among w.gates p) (and_parts (not (is_early n
 is_late_there : (n : Net) (w : Window) (p : ℕ) → is_early n w p ≡ false → among w.gates p ≡ false → is_late n w p ≡ true
 is_late_there n w p not_early outside = and_from (not (is_early n w p)) (not (among w.gates p)) (ap not not_early) (ap not outside)
 
--- A place of the net that isn't hidden in the window is known, or late.
+-- A node of the net that isn't hidden in the window is known, or late.
 seen_known : (n : Net) (w : Window) (p : ℕ) → 1 ≤ p → p < end_of n → (among w.gates p ≡ true → among w.outputs p ≡ true) → IsKnown n w p ⊎ IsMarked (is_late n w) (n.sources + 1) (length n.gates) p
 seen_known n w p some low seen =
     ⊎_elim
@@ -250,7 +250,7 @@ map_values f g move [] same = refl
 map_values f g move (s ∷ ss) same =
     rw (same 0 s refl, map_values f g move ss (λ i t e. same (suc i) t e)) refl
 
--- The sinks have the values that the net gives with the chain's outputs for the window's.
+-- The sinks have the values that the net gives with the chain's outputs in place of the window's.
 pub spliced_values : (n : Net) (w : Window) (c : Chain) (given : ℕ → Bool) → IsNet n → Belongs n w → Fits w c → sink_values (spliced n w c) given ≡ map (sig_value (spliced_value n w c given)) n.sinks
 unfolding spliced
 spliced_values n w c given net is fits =

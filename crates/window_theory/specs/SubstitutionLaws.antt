@@ -47,7 +47,7 @@ steps_same f g place (s ∷ ss) are same p some low =
     (cases_eq q place) in
     steps_same (extended f place (step_value f s)) (extended g place (step_value g s)) (place + 1) ss later agree p some (omega arith)
 
--- An output has on a row the value that it has from the bits of a window's inputs, where these are the row.
+-- On a row, an output has the value that it has from the bits of a window's inputs where these are the row.
 pub out_row : (n : Net) (w : Window) (c : Chain) (given : ℕ → Bool) (t : ℕ) (x : Out) → Fits w c → HasRow (value n given) w.inputs t → NamesPlace (c.n + length c.steps) x → out_value c t x ≡ out_bit (chain_bits n w c given) x
 out_row n w c given t outs.Zero fits row names = refl
 out_row n w c given t outs.One fits row names = refl
@@ -85,7 +85,7 @@ output_real n w c s given p i x net is fits spec agrees place at =
     ∙ sym out
     ∙ met_cell (value n given p) (output_value c (i + 1) row.0) (ap (λ (k : Cell). is_met k (output_value c (i + 1) row.0)) (sym cell) ∙ met)
 
--- ---- all places
+-- ---- all nodes
 
 real_below : (n : Net) (w : Window) (c : Chain) (s : Specification) (given : ℕ → Bool) (bound p : ℕ) → IsNet n → Belongs n w → Fits w c → IsSpecificationOf n w s → Agrees c s → p < bound → p < end_of n → spliced_value n w c given p ≡ value n given p
 real_below n w c s given zero p net is fits spec agrees low within = absurd (omega arith)

@@ -1,4 +1,4 @@
--- The surround of places: their fanin cone, bounded by a cut of at most 12 leaves.
+-- The fanin cone of some nodes, bounded by a cut of at most 12 leaves.
 use Rattle.std.specs.Prelude.{◌≡◌, ℕ, ◌≤◌, ◌<◌, true, List, length, ◌⊎◌}
 use Rattle.std.proofs.Common.{◌≢◌}
 use Rattle.net_theory.specs.Net.{Net}
@@ -11,7 +11,7 @@ pub record IsGreatestGate (n : Net) (leaves : List ℕ) (p : ℕ) : Type 0 where
   pub gate : IsGate n p
   pub greatest : (q : ℕ) → among leaves q ≡ true → IsGate n q → q ≤ p
 
--- the leaves after the leaf g is replaced by its fanins
+-- the leaves after the leaf p is replaced by its fanins
 abbrev pub IsLeafBehind : Net → List ℕ → ℕ → ℕ → Type 0
 IsLeafBehind n leaves p q = ((among leaves q ≡ true) × (q ≢ p)) ⊎ Reads n p q
 
@@ -25,7 +25,7 @@ pub record Opens (n : Net) (leaves behind : List ℕ) : Type 0 where
 abbrev pub IsLast : Net → List ℕ → Type 0
 IsLast n leaves = (behind : List ℕ) → Opens n leaves behind → 12 < length behind
 
--- The leaves after all expansions of a list of places.
+-- The leaves after all expansions of a list of nodes.
 -- Example: where gate 3 is AND of the sources 1 and 2, the leaves of 2, 3 are 1, 2.
 pub data LeadsTo (n : Net) : List ℕ → List ℕ → Type 0 where
   stays : (leaves : List ℕ) → IsLast n leaves → LeadsTo n leaves leaves

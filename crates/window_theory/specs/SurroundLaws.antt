@@ -1,4 +1,4 @@
--- Each list of places has leaves, and they are unique.
+-- Each list of nodes has leaves, and they are unique.
 use Rattle.std.specs.Prelude.{◌≡◌, ℕ, zero, suc, ◌+◌, ◌≤◌, ◌<◌, Bool, true, not, ◌&&◌, ◌||◌, ◌==◌, List, length, slice_get, Some, ◌⊎◌, refl}
 use Rattle.std.proofs.Common.{arith, sym, ◌∙◌, ap, subst, inl, inr, ⊎_elim, ◌≢◌}
 use Rattle.std.proofs.lemmas.Bool.{eqb-true, eq-eqb, ne_eqb, or_cases, or_left, or_right, and_parts, and_from, not-true, both_ways, cases_Bool, cases_lt, cases_eq}
@@ -33,7 +33,7 @@ reads_tested : (g : Gate) (q : ℕ) → ReadsPlace g q → reads_test g q ≡ tr
 reads_tested g q reads =
     ⊎_elim (λ a. or_left (is_place q g.a) (is_place q g.b) (place_test q g.a a)) (λ b. or_right (is_place q g.a) (is_place q g.b) (place_test q g.b b)) reads
 
--- one gate is at a place
+-- a node has only one gate
 pub gate_one : (n : Net) (p : ℕ) (a b : IsGate n p) → a.gate ≡ b.gate
 gate_one n p a b =
     let same : a.index ≡ b.index = omega (arith, a.place, b.place) in
@@ -62,7 +62,7 @@ behind_tested n leaves p is q e =
     (λ r. or_right (among leaves q && not (q == p)) (reads_test is.gate q) (reads_tested is.gate q (subst (λ (g : Gate). ReadsPlace g q) (gate_one n p r.reader is) r.reads)))
     e
 
--- the places are below a bound
+-- the nodes are below a bound
 abbrev pub AreBelow : ℕ → List ℕ → Type 0
 AreBelow bound places = (p : ℕ) → among places p ≡ true → p < bound
 
@@ -151,7 +151,7 @@ leads n (suc count) bound leaves net below low =
     (λ none. leads n count bound leaves net below (fewer_gates n leaves count low none))
     (greatest_or_not n leaves count low)
 
--- Places of a net have leaves,
+-- Nodes of a net have leaves,
 pub has_leaves : (n : Net) (places : List ℕ) → IsNet n → AreBelow (n.sources + 1 + length n.gates) places → (leaves : List ℕ) × LeadsTo n places leaves
 has_leaves n places net below =
     leads n (length n.gates) (n.sources + 1 + length n.gates) places net below (λ p leaf gate. omega (arith, (gate_high n p gate).1))

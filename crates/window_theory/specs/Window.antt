@@ -7,7 +7,7 @@ use Rattle.window_theory.specs.Places.{among, IsRising, AreJust}
 use Rattle.window_theory.specs.Paths.{IsGate, Reads, LeadsUp}
 use Rattle.window_theory.specs.Partner.{IsPartner}
 
--- a window, a small subcircuit, by places: its gates, its inputs and its outputs
+-- a window, a small subcircuit, by its nodes: its gates, its inputs and its outputs
 pub record Window : Type 0 where
   pub root : ℕ
   pub partner : Option ℕ
@@ -21,7 +21,7 @@ abbrev pub IsRootOrPartner : ℕ → Option ℕ → ℕ → Type 0
 IsRootOrPartner root None p = p ≡ root
 IsRootOrPartner root (Some h) p = (p ≡ root) ⊎ (p ≡ h)
 
--- the place is a fanin of some gate of `gates`
+-- the node is a fanin of some gate of `gates`
 pub record IsReadBy (n : Net) (gates : List ℕ) (p : ℕ) : Type 0 where
   pub reader : ℕ
   pub inside : among gates reader ≡ true
@@ -37,17 +37,16 @@ pub record IsGreatestCandidate (n : Net) (root : ℕ) (partner : Option ℕ) (ta
   pub candidate : IsCandidate n root partner taken p
   pub greatest : (q : ℕ) → IsCandidate n root partner taken q → q ≤ p
 
--- Greedy growth: each gate taken is the greatest candidate; the list has the gate taken first at
--- its end.
--- Example: from the root 9, which reads the gates 3 and 8, where 8 reads the gate 6 and a source,
--- come 9, 8, 6, and then 3 or a gate that 6 reads, whichever is the greatest.
+-- Greedy growth: each gate taken is the greatest candidate. The gate taken first is the last of the list.
+-- Example: the root 9 reads the gates 3 and 8, and 8 reads the gate 6 and a source. Then 9, 8 and 6 are
+-- taken, and next 3 or a gate that 6 reads, whichever is the greatest.
 unfoldable pub AreTaken : Net → ℕ → Option ℕ → List ℕ → Type 0
 AreTaken n root partner [] = Unit {0}
 AreTaken n root partner (p ∷ before) = IsGreatestCandidate n root partner before p × AreTaken n root partner before
 
 -- ---- inputs and outputs
 
--- an input: a place outside that a gate inside reads
+-- an input: a node outside that a gate inside reads
 pub record IsInput (n : Net) (gates : List ℕ) (p : ℕ) : Type 0 where
   pub outside : among gates p ≡ false
   pub read : IsReadBy n gates p
@@ -62,20 +61,20 @@ pub record IsOutput (n : Net) (gates : List ℕ) (p : ℕ) : Type 0 where
   pub inside : among gates p ≡ true
   pub seen : IsReadOutside n gates p ⊎ (is_sink n p ≡ true)
 
--- a place outside the gates and outside their transitive fanout (TFO)
+-- a node outside the gates and outside their transitive fanout (TFO)
 pub record IsApart (n : Net) (gates : List ℕ) (p : ℕ) : Type 0 where
   pub outside : among gates p ≡ false
   pub above : (g : ℕ) → among gates g ≡ true → LeadsUp n g p → ⊥
 
--- A window belongs to a net where its inputs are places of the net that don't depend on its gates,
--- among them each place outside that a gate inside reads, and its outputs are exactly those of its
--- gates. So its gates are a convex set, and a convex set of gates with exactly its inputs and
--- outputs belongs (laws say both). A window is wide where it has inputs that no gate inside reads:
--- further divisors, of which a chain in its place may compute the outputs (resubstitution).
--- Example: where the gates at 3 and 4 are both AND of the places 1 and 2, and both are sinks, the
--- gate 4 with the inputs 1, 2 and the output 4 belongs, and so it does with the further input 3: a
--- chain without steps that has this input for its output can take its place. Where gate 4 is NOT of
--- gate 3, the gate 3 with the inputs 1, 2, 4 doesn't belong.
+-- A window belongs to a net where its inputs are nodes of the net that don't depend on its gates, among them
+-- each node outside that a gate inside reads, and its outputs are exactly those of its gates. So its gates
+-- are a convex set, and a convex set of gates with exactly its inputs and outputs belongs (laws say both). A
+-- window is wide where it has inputs that no gate inside reads: further divisors, from which a chain that
+-- replaces it may compute the outputs (resubstitution).
+-- Example: where the gates at 3 and 4 are both AND of the nodes 1 and 2, and both are sinks, the gate 4 with
+-- the inputs 1, 2 and the output 4 belongs, and so it does with the further input 3: a chain without steps
+-- whose output is this input can replace it. Where gate 4 is NOT of gate 3, the gate 3 with the inputs 1, 2,
+-- 4 doesn't belong.
 pub record Belongs (n : Net) (w : Window) : Type 0 where
   pub rising : IsRising w.gates
   pub gates : (p : ℕ) → among w.gates p ≡ true → IsGate n p
@@ -102,11 +101,10 @@ pub record Takes (n : Net) (root : ℕ) (partner : Option ℕ) (count : ℕ) (ga
   pub count_is : length taken ≡ count
   pub gates_are : AreJust (λ p. among taken p ≡ true) gates
 
--- The window of a root, a partner or none, and a count, which it must have as many gates as: the
--- partner is one of them, and there are at most 6 inputs and 8 outputs.
--- Example: where the gates at 3 and 4 are both AND of the places 1 and 2, and both are sinks, the
--- window of 4 with its partner 3 and the count 2 has the gates 3, 4, the inputs 1, 2 and the
--- outputs 3, 4.
+-- The window of a root, a partner or none, and a count, which is its number of gates: the partner is one of
+-- them, and there are at most 6 inputs and 8 outputs.
+-- Example: where the gates at 3 and 4 are both AND of the nodes 1 and 2, and both are sinks, the window of 4
+-- with its partner 3 and the count 2 has the gates 3, 4, the inputs 1, 2 and the outputs 3, 4.
 pub record IsWindow (n : Net) (root : ℕ) (partner : Option ℕ) (count : ℕ) (w : Window) : Type 0 where
   pub root_is : w.root ≡ root
   pub partner_is : w.partner ≡ partner

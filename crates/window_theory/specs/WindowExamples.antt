@@ -1,5 +1,5 @@
--- Worked examples: two gates side by side, both AND of the two sources and both sinks, as a window with a partner and
--- as a wide window; and an input that a window may not have.
+-- Worked examples: two gates side by side, both AND of the two sources and both sinks, as a window with a
+-- partner and as a wide window; and an input that a window can't have.
 use Rattle.std.specs.Prelude.{◌≡◌, ℕ, zero, suc, ◌≤◌, ◌<◌, true, false, [], ◌∷◌, slice_get, Some, refl}
 use Rattle.std.proofs.Common.{arith, sym, ◌∙◌, ap, subst, inl, inr, ⊎_elim, ◌≢◌}
 use Rattle.std.proofs.lemmas.Bool.{cases_Bool}
@@ -15,7 +15,7 @@ use Rattle.window_theory.specs.WindowLaws.{gate_high}
 use Rattle.window_theory.specs.Examples.{two_ands, wide_second, nand_not, input_above}
 use Rattle.window_theory.specs.RowExamples.{none_among, two_cases, three_cases, low_two, low_three, rising_two, rising_three}
 
--- the window of the second gate with the first for its partner
+-- the window of the second gate with the first as its partner
 abbrev pub side_by_side : Window
 side_by_side = record { root = 4; partner = Some 3; gates = 3 ∷ 4 ∷ []; inputs = 1 ∷ 2 ∷ []; outputs = 3 ∷ 4 ∷ [] }
 
@@ -155,7 +155,7 @@ one_to_three p e = ⊎_elim
 four_outside : (p : ℕ) → p < 4 → among (4 ∷ []) p ≡ false
 four_outside p low = ⊎_elim (λ on. absurd (omega (arith, low, just_four p on))) (λ off. off) (cases_Bool (among (4 ∷ []) p))
 
--- The second gate with the first for a further input.
+-- The second gate with the first as a further input.
 pub wide_belongs : Belongs two_ands wide_second
 wide_belongs =
     record {

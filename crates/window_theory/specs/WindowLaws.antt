@@ -1,5 +1,5 @@
--- The gates that a root takes are above all their inputs, so that they are convex, and that the
--- window of a root belongs to the net.
+-- The gates that a root takes are above all their inputs, so they are convex, and the window of a root
+-- belongs to the net.
 use Rattle.std.specs.Prelude.{◌≡◌, ℕ, zero, suc, ◌+◌, ◌-◌, ◌≤◌, ◌<◌, true, false, nat_eq, List, [], ◌∷◌, length, Option, Some, slice_get, ◌⊎◌, refl}
 use Rattle.std.proofs.Common.{arith, sym, ◌∙◌, ap, subst, inl, inr, ⊎_elim, ◌≢◌}
 use Rattle.std.proofs.lemmas.Bool.{eq-eqb, or_left, or_parts, both_ways, cases_Bool, cases_lt}
@@ -18,7 +18,7 @@ some_there [] i low = absurd (omega arith)
 some_there (x ∷ xs) zero low = (x, refl)
 some_there (x ∷ xs) (suc i) low = some_there xs i (omega arith)
 
--- a fanin of a gate is a place below it
+-- a fanin of a gate is a node below it
 pub reads_low : (n : Net) (g p : ℕ) → IsNet n → Reads n g p → (1 ≤ p) × (p < g)
 reads_low n g p net r =
     let low = reads_below (n.sources + 1 + r.reader.index) p r.reader.gate (net.gates.each r.reader.index r.reader.gate r.reader.at) r.reads in
@@ -27,7 +27,7 @@ reads_low n g p net r =
 pub gate_high : (n : Net) (g : ℕ) → IsGate n g → (n.sources < g) × (g < n.sources + 1 + length n.gates)
 gate_high n g is = (omega (arith, is.place), omega (arith, is.place, slice_get_within n.gates is.index is.gate is.at))
 
--- a gate is at each place after the sources and below the end
+-- each node after the sources and below the end has a gate
 pub gate_at : (n : Net) (p : ℕ) → n.sources + 1 ≤ p → p < n.sources + 1 + length n.gates → IsGate n p
 gate_at n p above within =
     let index : ℕ = p - (n.sources + 1) in
@@ -95,8 +95,7 @@ taken_gate n root partner (t ∷ before) p are e =
     (λ earlier. taken_gate n root partner before p are.1 earlier)
     (among_cases t p before e)
 
--- A place that isn't taken and is a fanin of a gate that is taken is below all gates that are
--- taken.
+-- A node that isn't taken and is a fanin of a gate that is taken is below all gates that are taken.
 pub outside_low : (n : Net) (root : ℕ) (partner : Option ℕ) (taken : List ℕ) (p q : ℕ) → IsNet n → AreTaken n root partner taken → among taken p ≡ false → IsReadBy n taken p → among taken q ≡ true → p < q
 unfolding AreTaken IsRising
 outside_low n root partner [] p q net are outside read inside = absurd cc
@@ -120,7 +119,7 @@ pub input_low : (n : Net) (root : ℕ) (partner : Option ℕ) (count : ℕ) (gat
 input_low n root partner count gates p q net takes is inside =
     outside_low n root partner takes.taken p q net takes.are (not_taken takes.taken gates p takes.gates_are is.outside) (read_taken n takes.taken gates p takes.gates_are is.read) (takes.gates_are.only q inside)
 
--- a path into a set of gates enters it from a place outside
+-- a path into a set of gates enters it from a node outside
 entered : (n : Net) (gates : List ℕ) (q r : ℕ) → IsNet n → LeadsUp n q r → among gates q ≡ false → among gates r ≡ true → (x : ℕ) × (q ≤ x) × IsInput n gates x
 entered n gates _ _ net (at_once q r reads) outside inside =
     (q, omega arith, record { outside = outside; read = record { reader = r; inside = inside; reads = reads } })
@@ -143,7 +142,7 @@ taken_convex n root partner count gates net takes p q r inside_p inside_r up_q u
 pub window_low : (n : Net) (root : ℕ) (partner : Option ℕ) (count : ℕ) (w : Window) (p q : ℕ) → IsNet n → IsWindow n root partner count w → IsInput n w.gates p → among w.gates q ≡ true → p < q
 window_low n root partner count w p q net is input inside = input_low n root partner count w.gates p q net is.takes input inside
 
--- A fanin of a gate is a place of the net.
+-- A fanin of a gate is a node of the net.
 pub read_there : (n : Net) (g p : ℕ) → IsNet n → Reads n g p → (1 ≤ p) × (p < end_of n)
 read_there n g p net r =
     let low = reads_low n g p net r in

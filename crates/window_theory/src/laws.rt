@@ -1,4 +1,4 @@
-//! Laws of the definitions, each the contract of a function that does nothing.
+//! Laws about the definitions, each the contract of a function that does nothing.
 ghost use Rattle.std.specs.Prelude.{◌≡◌, ℕ, ◌+◌, ◌^◌, ◌≤◌, ◌<◌, Bool, true, false, Option, List, length};
 ghost use Rattle.chain_theory.specs.Operator.{Basis};
 ghost use Rattle.chain_theory.specs.Specification.{Specification};
@@ -16,10 +16,10 @@ ghost use Rattle.window_theory.specs.Care.{values_with, IsGiven, IsPart, HasRow,
 ghost use Rattle.window_theory.specs.CarePartLaws.{AreInside};
 ghost use Rattle.window_theory.specs.Splice.{Fits, IsSpliced};
 
-/// A convex set of gates, with exactly its inputs and outputs, belongs to the net, and the gates of
-/// whatever belongs are convex. The inputs of the window of a root are below all its gates, so that
-/// it belongs. A root, a partner or none, and a count have at most one window, and a gate has one
-/// list of partners.
+/// A convex set of gates with exactly its inputs and outputs belongs to the net, and the gates of every
+/// window that belongs are convex. The inputs of the window of a root are below all its gates, so this window
+/// belongs. A root, a partner or none, and a count have at most one window, and a gate has exactly one list
+/// of partners.
 pub fn windows_belong()
     ensures low { (n : Net) (root : ℕ) (partner : Option ℕ) (count : ℕ) (w : Window) (p q : ℕ) → IsNet n →
         IsWindow n root partner count w → IsInput n w.gates p → among w.gates q ≡ true → p < q }
@@ -33,9 +33,9 @@ pub fn windows_belong()
     ensures partners { (n : Net) (g : ℕ) (a b : List ℕ) → ArePartners n g a → ArePartners n g b → a ≡ b }
 {}
 
-/// Where there is no window. Once no candidate is left no window has more gates than were taken,
-/// and the gates that are taken decide whether there is a window of them: the partner is among
-/// them, and there are at most 6 inputs and 8 outputs.
+/// Where there is no window: once no candidate is left, no window has more gates than were taken; and the
+/// gates that are taken decide whether they form a window, since the partner is among them and they have at
+/// most 6 inputs and 8 outputs.
 pub fn windows_end()
     ensures longest { (n : Net) (root : ℕ) (partner : Option ℕ) (count : ℕ) (taken : List ℕ) (w : Window) →
         AreTaken n root partner taken → ((p : ℕ) → IsCandidate n root partner taken p → ⊥) →
@@ -48,9 +48,9 @@ pub fn windows_end()
         Takes n root partner count gates → AreJust (IsOutput n gates) outputs → IsWindow n root partner count w → length outputs ≤ 8 }
 {}
 
-/// Values where the bits of some places are fixed, without recursion: sources and fixed places have
-/// their given bits, and each other gate its operator's value. So a part of a net may be evaluated
-/// by itself, and the gates of a window depend on its inputs alone.
+/// Values where the bits of some nodes are fixed, without recursion: sources and fixed nodes have their given
+/// bits, and each other gate has its operator's value. So a part of a net can be evaluated by itself, and the
+/// gates of a window depend on its inputs alone.
 pub fn parts_have_values()
     ensures source { (n : Net) (fixed given : ℕ → Bool) (p : ℕ) → p ≤ n.sources → values_with n fixed given p ≡ given p }
     ensures fixed { (n : Net) (fixed given : ℕ → Bool) (p : ℕ) → fixed p ≡ true → values_with n fixed given p ≡ given p }
@@ -65,8 +65,8 @@ pub fn parts_have_values()
         values_with n (among w.inputs) f p ≡ values_with n (among w.inputs) g p }
 {}
 
-/// Places of a net have one list of leaves, and under every assignment of the sources the bits of
-/// the places are a care row. So are the bits of a window's inputs.
+/// The nodes of a net have exactly one list of leaves, and under every assignment of the sources the bits of
+/// the nodes are a care row. So are the bits of a window's inputs.
 pub fn real_rows_are_care_rows()
     ensures leaves { (n : Net) (places : List ℕ) → IsNet n → AreBelow (end_of n) places → (leaves : List ℕ) × LeadsTo n places leaves }
     ensures one { (n : Net) (places a b : List ℕ) → LeadsTo n places a → LeadsTo n places b → a ≡ b }
@@ -77,9 +77,8 @@ pub fn real_rows_are_care_rows()
         (t : ℕ) × (t < 2 ^ length w.inputs) × HasRow (value n given) w.inputs t × IsCareRow n w.inputs t }
 {}
 
-/// Care rows are found by evaluating the surround by itself: a row that occurs in a part of the net
-/// under some bits of the leaves is a care row, and each care row occurs under some bits of the
-/// leaves.
+/// Care rows are found by evaluating the fanin cone by itself: a row that occurs in this part of the net
+/// under some bits of the leaves is a care row, and each care row occurs under some bits of the leaves.
 pub fn care_rows_are_shown()
     ensures shown { (n : Net) (places leaves : List ℕ) (given inside bits : ℕ → Bool) (t : ℕ) → IsNet n → LeadsTo n places leaves →
         IsPart n (among leaves) given inside bits → AreInside inside places → HasRow bits places t → IsCareRow n places t }
@@ -87,8 +86,8 @@ pub fn care_rows_are_shown()
         LeadsTo n places leaves → IsPart n (among leaves) care.given inside bits → AreInside inside places → HasRow bits places t }
 {}
 
-/// All specifications of a window have the same chains. So it is enough to know of one that no
-/// chain of fewer steps implements it.
+/// The same chains implement all specifications of a window. So if no chain of fewer steps implements one of
+/// them, none implements the others.
 pub fn specifications_are_one()
     ensures chains { (n : Net) (w : Window) (s z : Specification) (basis : Basis) (r : ℕ) → IsSpecificationOf n w s →
         IsSpecificationOf n w z → HasChain s basis r → HasChain z basis r }
@@ -96,9 +95,9 @@ pub fn specifications_are_one()
         IsSpecificationOf n w s → q < count → HasChain s basis q → ⊥ }
 {}
 
-/// A chain can be substituted for any window that belongs to a net, if the result has fewer than
-/// 2^31 places. Where it implements the window's specification, the sinks keep their values, and
-/// where it has no more steps than the window has gates, the new net answers what the old one does.
+/// A chain can be substituted for any window that belongs to a net, if the result has fewer than 2^31 nodes.
+/// Where it implements the window's specification, the sinks keep their values, and where it also has no more
+/// steps than the window has gates, the new net implements the old one.
 pub fn chains_take_places()
     ensures some { (n : Net) (w : Window) (c : Chain) → IsNet n → Belongs n w → Fits w c →
         n.sources + length n.gates + length c.steps < 2 ^ 31 + length w.gates → (m : Net) × IsSpliced n w c m }

@@ -1,11 +1,10 @@
-//! Windows of a net: small subcircuits for which a shorter chain can be substituted. The
-//! definitions say which gates a root (seed), a partner (sibling) and a count take by greedy
-//! growth, the inputs and outputs, the specification of a window with satisfiability don't-cares
-//! (SDC), found by its surround, a bounded fanin cone (`specs/Window.antt`, `Surround.antt`,
-//! `Care.antt`), and the net after a substitution (`specs/Splice.antt`). A window may be wide: have
-//! further inputs than its gates read. The laws rest on one fact: the inputs of a window don't
-//! depend on its gates; and on one notion of values, those of a net where the bits of some places
-//! are fixed.
+//! Windows of a net: small subcircuits for which a shorter chain can be substituted. The definitions say
+//! which gates a root (seed), a partner (sibling) and a count take by greedy growth, what the inputs and
+//! outputs are, what the specification of a window with satisfiability don't-cares (SDC) is, by way of a
+//! bounded fanin cone (`specs/Window.antt`, `Surround.antt`, `Care.antt`), and what the net is after a
+//! substitution (`specs/Splice.antt`). A window may be wide, which means that it has inputs that none of its
+//! gates reads. The laws rest on one fact: the inputs of a window don't depend on its gates; and on one
+//! notion of values: those of a net where the bits of some nodes are fixed.
 #![tactic(auto)]
 
 pub mod examples;

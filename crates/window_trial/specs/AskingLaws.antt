@@ -1,4 +1,4 @@
--- What is asked of a window, and that no chain of fewer steps does it.
+-- The local specification of a window, and that no chain of fewer steps implements it.
 use Rattle.std.specs.Prelude.{ℕ, Bool, true, false}
 use Rattle.chain_theory.specs.Operator.{Basis}
 use Rattle.chain_theory.specs.Agreement.{NoneBelow}

@@ -1,4 +1,4 @@
--- What an improvement leaves of a net.
+-- The result of an improvement.
 use Rattle.std.specs.Prelude.{◌≡◌, ◌+◌, ◌≤◌, Bool, true, false, List, [], length, All}
 use Rattle.op_basis.specs.Basis.{members}
 use Rattle.net_theory.specs.Net.{Net}
@@ -11,9 +11,10 @@ use Rattle.sweep_core.specs.Outcomes.{Leads}
 use Rattle.sweep_core.specs.Visits.{IsRising}
 use Rattle.net_theory.specs.Operators.{HasOperatorsWithin}
 
--- m is left of n by a sweep of n, or of a net that n leads to. Settled, no window up to the cap has a shorter chain for
--- what the settings ask of it, but for those that are named, each once and in the order of visits, and each of these is
--- undecided by a certificate. Else as many gates have gone as there were rounds, and none is named.
+-- m is the result of resynthesis of n, or of a net that may replace n. If it is settled, no window up to the
+-- cap has a shorter chain for its local specification, but for those that are named, each once and in the
+-- order of candidates, and each of these is undecided by a certificate. Otherwise at least as many gates have
+-- gone as there were rounds, and none is named.
 pub record Sweeps (s : ImproveSettings) (n m : Net) (settled : Bool) (undecided : List Undecided) : Type 0 where
   pub leads : Leads (members s.basis) n m
   pub settled_is : settled ≡ true → IsSettled s m (visits undecided)
@@ -22,11 +23,11 @@ pub record Sweeps (s : ImproveSettings) (n m : Net) (settled : Bool) (undecided 
   pub stopped : settled ≡ false → length m.gates + s.rounds ≤ length n.gates
   pub none_named : settled ≡ false → undecided ≡ []
 
--- m is left of n by the settings. It answers what n answers, with no more gates, and some sink reads each of its
--- gates; each operator is of the basis or of n. Settled, no window up to the cap has a shorter chain for what the
--- settings ask of it, but for those that are named, each once and in the order of visits, and each of these is
--- undecided by a certificate. Else as many gates have gone besides dead ones as there were rounds, and none is named.
--- With the cap 0 dead gates alone go.
+-- m is n improved by the settings. It implements n, with no more gates, and each of its gates is in the
+-- transitive fanin of a sink; each operator is of the basis or of n. If it is settled, no window up to the
+-- cap has a shorter chain for its local specification, but for those that are named, each once and in the
+-- order of candidates, and each of these is undecided by a certificate. Otherwise at least as many gates have
+-- gone besides dangling ones as there were rounds, and none is named. With the cap 0 only dangling gates go.
 pub record Leaves (s : ImproveSettings) (n m : Net) (settled : Bool) (undecided : List Undecided) : Type 0 where
   pub pruned : IsPruned n m
   pub operators : HasOperatorsWithin (members s.basis) n m

@@ -1,4 +1,4 @@
--- A sweep after the loss of dead gates, and after moves over the whole net, is an improvement.
+-- Resynthesis after cleanup, and after moves over the whole net, is an improvement.
 use Rattle.std.specs.Prelude.{◌≡◌, ◌+◌, ◌≤◌, Bool, true, false, Option, None, Some, IfSome, unwrap_or, List, [], length, All, refl}
 use Rattle.std.proofs.Common.{arith, sym, subst, inl, inr, ⊎_elim}
 use Rattle.std.proofs.lemmas.Bool.{both_ways}
@@ -67,12 +67,12 @@ left_leads basis n = leads_itself basis n
 pub then_leads : (basis : Basis) (n d m : Net) → Leads basis n d → Leads basis d m → Leads basis n m
 then_leads basis n d m first second = leads_on basis n d m first second
 
--- what a net leads to, or else the net itself
+-- a net that may replace n, or else n itself
 pub found_leads : (basis : Basis) (n m : Net) (found : Option Net) → IfSome found (Leads basis n) → m ≡ unwrap_or found n → Leads basis n m
 found_leads basis n m None leads same = subst (Leads basis n) (sym same) (leads_itself basis n)
 found_leads basis n m (Some d) leads same = subst (Leads basis n) (sym same) leads
 
--- what has no dead gates can stand in its own place
+-- a net without dangling gates implements itself
 pub pruned_itself : (n m : Net) → IsPruned n m → IsPruned m m
 pruned_itself n m is = record {
   answers = record {
@@ -90,9 +90,9 @@ pruned_itself n m is = record {
 leads_to_fewer : (basis : Basis) (n m : Net) → IsPruned n n → Leads basis n m → length m.gates ≤ length n.gates
 leads_to_fewer basis n m itself leads = (leads.pruned n itself).answers.fewer
 
--- ---- sweeps
+-- ---- resynthesis
 
--- a sweep of what n leads to
+-- resynthesis of a net that may replace n
 pub sweeps_on : (s : ImproveSettings) (n d m : Net) (settled : Bool) (named : List Undecided) → IsPruned n n → Leads (members s.basis) n d → Sweeps s d m settled named → Sweeps s n m settled named
 sweeps_on s n d m settled named itself leads swept = record {
   leads = leads_on (members s.basis) n d m leads swept.leads;
@@ -103,7 +103,7 @@ sweeps_on s n d m settled named itself leads swept = record {
   none_named = swept.none_named;
 }
 
--- and one of what the net that a sweep left leads to
+-- and of a net that may replace the result of resynthesis
 pub sweeps_again : (s : ImproveSettings) (n d e m : Net) (before settled : Bool) (first named : List Undecided) → IsPruned n n → Sweeps s n d before first → Leads (members s.basis) d e → Sweeps s e m settled named → Sweeps s n m settled named
 sweeps_again s n d e m before settled first named itself swept more last = sweeps_on s n e m settled named itself (leads_on (members s.basis) n d e swept.leads more) last
 

@@ -1,4 +1,4 @@
--- A net whose gates that are alike are one takes the place of the one before.
+-- A net whose structurally equal gates were merged may replace the old one.
 use Rattle.std.specs.Prelude.{◌≡◌, ℕ, ◌<◌, true, length, slice_get, Option, Some, IfSome}
 use Rattle.std.proofs.Common.{arith, refl, sym, ◌∙◌, ◌≢◌, subst, inr}
 use Rattle.std.proofs.lemmas.Grind.{common_steps}
@@ -15,7 +15,7 @@ use Rattle.improve_settings.specs.declared.improve.ImproveSettings.{ImproveSetti
 use Rattle.merge_core.specs.Merging.{HaveOperatorsOf}
 use Rattle.sweep_core.specs.Outcomes.{Leads, IsShrunk}
 
--- the gates without the dead ones have operators of the first net
+-- after cleanup the gates have operators of the first net
 left_operator : (n m k : Net) (i : ℕ) (g : Gate) → Answers n m → HaveOperatorsOf n m.gates → k ≡ dropped m → slice_get k.gates i ≡ Some g → HasOperator n g.op
 left_operator n m k i g answers old exact at =
     let was = dropped_operators m g.op answers.net (record { index = i; gate = g; at = subst (λ (x : Net). slice_get x.gates i ≡ Some g) exact at; same = refl }) in
@@ -31,7 +31,7 @@ merged_leads basis n m k answers old exact pruned = record {
 pub merged_fewer : (n m k : Net) → Answers n m → IsPruned m k → length m.gates ≢ length n.gates → length k.gates < length n.gates
 merged_fewer n m k answers pruned other = omega (arith, answers.fewer, pruned.answers.fewer, other)
 
--- the net that was handed on
+-- the net that was stored
 pub shrunk_by : (s : ImproveSettings) (n own m new : Net) (o : Option Net) → own ≡ n → m ≡ new → o ≡ Some new → ((basis : Basis) → IfSome o (λ x. Leads basis own x)) → IfSome o (λ x. length x.gates < length own.gates) → IsShrunk s n m true
 shrunk_by s n own m new o is_own put some leads less =
     subst (λ (x : Net). IsShrunk s n x true) (sym put)

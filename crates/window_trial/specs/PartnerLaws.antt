@@ -1,4 +1,4 @@
--- The partners of a root are falling, so that the first one below a place is the greatest.
+-- The partners of a root are descending, so the first one below a node is the greatest.
 use Rattle.std.specs.Prelude.{◌≡◌, ℕ, ◌≤◌, ◌<◌, true, false, nat_lt, if◌then◌else◌, List, [], ◌∷◌, Option, None, Some}
 use Rattle.std.proofs.Common.{arith, sym, subst, ⊎_elim}
 use Rattle.std.proofs.lemmas.Bool.{cond-true, cond-false, both_ways, cases_lt}
@@ -10,14 +10,14 @@ use Rattle.window_theory.specs.Partner.{ArePartners, IsPartner}
 use Rattle.window_theory.specs.PartnerLaws.{partners_one}
 use Rattle.sweep_core.specs.Visits.{IsNextPartner}
 
--- the first of the places that is below another
+-- the first of the nodes below another one
 unfoldable pub first_below : List ℕ → ℕ → Option ℕ
 first_below [] below = None
 first_below (p ∷ places) below = if nat_lt p below then Some p else first_below places below
 
--- ---- falling places
+-- ---- descending nodes
 
--- None is below, or the first one that is: it is one of them, and no other that is below is greater.
+-- None is below, or the first one that is: no other one below is greater.
 abbrev IsFirst : List ℕ → ℕ → Option ℕ → Type 0
 IsFirst places below None = (q : ℕ) → among places q ≡ true → q < below → ⊥
 IsFirst places below (Some p) = (p < below) × (among places p ≡ true) × ((q : ℕ) → among places q ≡ true → q < below → q ≤ p)

@@ -1,4 +1,4 @@
--- What the trial of a window comes to.
+-- The result of an attempt.
 use Rattle.std.specs.Prelude.{◌≡◌, ℕ, ◌+◌, ◌≤◌, ◌<◌, length}
 use Rattle.tt_core.specs.Words.{specification}
 use Rattle.op_basis.specs.Basis.{members}
@@ -17,7 +17,7 @@ use Rattle.sweep_core.specs.Outcomes.{Leads, IsDone}
 use Rattle.window_trial.specs.declared.trying.Outcome.{Outcome}
 use Rattle.window_trial.specs.declared.trying.Outcome.TheVariants.{Passed, Open, Smaller}
 
--- settings, a net, its index, and the basis of the memory
+-- the settings, a net, its index, and the basis of the cache
 pub record Trying : Type 0 where
   pub settings : ImproveSettings
   pub net : Net
@@ -29,7 +29,8 @@ pub record IsTrying (t : Trying) : Type 0 where
   pub readers : AreReaders t.net t.readers
   pub basis : t.basis ≡ t.settings.basis
 
--- A heading asks by the settings for what is asked of a window, and for fewer steps than it has gates.
+-- The header has the local specification of the window by the settings, and asks for fewer steps than the
+-- window has gates.
 pub record AsksFor (s : ImproveSettings) (n : Net) (w : Window) (h : Heading) : Type 0 where
   pub tables : IsAskedOf s.observe n w (specification h.spec)
   pub basis_is : h.basis ≡ s.basis
@@ -37,14 +38,14 @@ pub record AsksFor (s : ImproveSettings) (n : Net) (w : Window) (h : Heading) : 
   pub conflicts_is : h.conflicts ≡ s.conflicts
   pub max_is : h.max + 1 ≡ length w.gates
 
--- and that is decided, with nothing left open where at most four steps are asked for
+-- and the search decided it, which it always does where at most four steps are asked for
 pub record IsDecidedFor (s : ImproveSettings) (n : Net) (w : Window) (d : Decided) : Type 0 where
   pub heading : Heading
   pub asks : AsksFor s n w heading
   pub decided : IsDecided heading d
   pub closed : heading.max ≤ 4 → IsClosed d
 
--- a visit to a net, with the net that takes its place, if one does
+-- the result of an attempt of a candidate of n
 abbrev pub IsOutcome : ImproveSettings → Net → Visit → Outcome → Type 0
 IsOutcome s n v Passed = IsDone s n v
 IsOutcome s n v (Open search) = IsUndecided n s (record { visit = v; search = search })

@@ -1,4 +1,4 @@
--- What is known of a visit, by what was found of its window.
+-- What the search of a window's chain says about the candidate.
 use Rattle.std.specs.Prelude.{◌≡◌, ℕ, ◌+◌, ◌≤◌, ◌<◌, List, length, Option, refl}
 use Rattle.std.proofs.Common.{arith, sym, ◌∙◌, ap, subst, inl, inr}
 use Rattle.std.proofs.lemmas.Grind.{common_steps}
@@ -28,7 +28,7 @@ use Rattle.walk_core.specs.Asked.{MeetsAsked}
 use Rattle.window_trial.specs.Trying.{AsksFor, IsDecidedFor}
 use Rattle.window_trial.specs.AskingLaws.{none_asked}
 
--- ---- headings
+-- ---- headers
 
 abbrev heading_by : ImproveSettings → Words → ℕ → Heading
 heading_by s spec max = record { spec = spec; basis = s.basis; method = s.method; conflicts = s.conflicts; max = max }
@@ -52,18 +52,18 @@ decided_by s n w spec max d tables size is closed =
 
 -- ---- windows
 
--- a window has as many gates as it counts
+-- a window has as many gates as its count
 pub window_size : (n : Net) (root : ℕ) (partner : Option ℕ) (count : ℕ) (w : Window) → IsNet n → IsWindow n root partner count w → length w.gates ≡ count
 window_size n root partner count w net is =
     let taken : List ℕ = is.takes.taken in
     let same : w.gates ≡ taken = rising_same w.gates taken is.takes.gates_are.rising (taken_rising n root partner taken net is.takes.are) is.takes.gates_are.only is.takes.gates_are.all in
     ap (λ (ps : List ℕ). length ps) same ∙ is.takes.count_is
 
--- the window of a visit
+-- the window of a candidate
 abbrev IsOf : Net → Visit → Window → Type 0
 IsOf n v w = IsWindow n v.root v.partner v.count w
 
--- ---- what is left as it is
+-- ---- no gain
 
 least_of : (s : ImproveSettings) (n : Net) (v : Visit) (w : Window) → IsOf n v w → HasNoFewerAsked s.observe n (members s.basis) w v.count → IsDone s n v
 least_of s n v w is least = record {
@@ -103,9 +103,9 @@ shorter_fewer s n w c is = omega (arith, is.decided.found.size_is, is.decided.fo
 shorter_over : (s : ImproveSettings) (n : Net) (w : Window) (c : Chain) → IsDecidedFor s n w (decisions.Shorter c) → IsOver (members s.basis) c
 shorter_over s n w c is = subst (λ (b : ℕ). IsOver (members b) c) is.asks.basis_is is.decided.found.over
 
--- ---- what stays open
+-- ---- undecided
 
--- what isn't decided asks for five steps at least, and so it has six gates at least
+-- an undecided search asks for at least five steps, so the window has at least six gates
 large_by : (most count : ℕ) → most + 1 ≡ count → (most ≤ 4 → ⊥) → 6 ≤ count
 large_by most count size many = elim (cases_lt 4 most) [
   | inl more ↦ omega (arith, size, more)
@@ -151,7 +151,7 @@ trial_few s n w d c decided e = omega (arith, trial_fewer s n w d c decided e)
 pub trial_over : (s : ImproveSettings) (n : Net) (w : Window) (d : Decided) (c : Chain) → IsDecidedFor s n w d → d ≡ decisions.Shorter c → IsOver (members s.basis) c
 trial_over s n w d c decided e = shorter_over s n w c (decided_as s n w d (decisions.Shorter c) e decided)
 
--- ---- visits
+-- ---- candidates
 
 pub visit_belongs : (n : Net) (root : ℕ) (partner : Option ℕ) (count : ℕ) (w : Window) → IsNet n → IsWindow n root partner count w → Belongs n w
 visit_belongs n root partner count w net is = window_belongs n root partner count w net is

@@ -1,5 +1,5 @@
-//! A net improved: dead gates go, moves over the whole net and walks over convex windows make it smaller, and then the sweep
-//! tries the windows that it lists.
+//! An improved net: cleanup, moves over the whole net, walks over convex windows, and then resynthesis of the
+//! listed windows.
 ghost use Rattle.std.specs.Prelude.{◌≤◌, IfOk, IfSome};
 ghost use Rattle.op_basis.specs.Basis.{members};
 ghost use Rattle.net_theory.specs.Answers.{IsPruned};
@@ -17,33 +17,33 @@ use std::alloc::{AllocError, Global};
 use sweep_core::{Swept, Undecided, sweep};
 use walk_core::walked;
 
-/// A net of fewer gates is left to windows, where no rounds of moves are asked for: a window or two show all of it.
+/// A net of fewer gates isn't moved, unless `effort` asks for rounds of moves: its few windows cover it.
 const LEAST_MOVED: usize = 6;
 
-/// How many rounds of moves that keep the size a small net goes through, also where none are asked for.
+/// The least number of rounds of size-preserving moves for a small net, whatever `effort` says.
 const FEW_ROUNDS: u32 = 3;
 
 /// The most gates of a small net.
 const FEW_GATES: usize = 1000;
 
-/// How often moves follow windows at most.
+/// The most times that moves follow resynthesis.
 const MOST_TURNS: u32 = 8;
 
-/// In a net of more gates moves don't follow windows.
+/// In a net of more gates moves don't follow resynthesis.
 const MANY_GATES: usize = 10_000;
 
-/// What is left of a net.
+/// An improved net.
 #[derive(Drop)]
 pub struct ImprovedNet {
     pub net: Net,
     /// Whether no window up to the cap has a shorter chain, but for those that are undecided.
     pub settled: bool,
-    /// The windows that a search left undecided, in the order of their visits; none where it isn't settled.
+    /// The windows that stayed undecided, in the order of candidates. Empty where `settled` is false.
     pub undecided: Vec<Undecided>,
 }
 
-/// Puts shorter chains in the place of windows of a net, until no window up to the cap has one, or `settings.rounds`
-/// rounds have changed something.
+/// Resynthesizes a net, until no window up to the cap has a shorter chain, or `settings.rounds` rounds have
+/// changed something.
 #[tactic(auto, using(crate::specs::ImprovementLaws::improving))]
 fn swept<S: Solver>(
     alloc: Global,
@@ -63,12 +63,13 @@ fn swept<S: Solver>(
     })
 }
 
-/// Whether a net is restructured: where rounds of moves are asked for, and else from `LEAST_MOVED` gates on.
+/// Whether a net is moved: where `effort` asks for rounds of moves, and otherwise from `LEAST_MOVED` gates
+/// on.
 fn is_moved(net: &Net, effort: u32) -> bool {
     effort > 0 || LEAST_MOVED <= net.gates().len()
 }
 
-/// How many rounds of moves that keep the size a net goes through.
+/// The number of rounds of size-preserving moves for a net.
 fn rounds_of(net: &Net, effort: u32) -> u32 {
     if net.gates().len() > FEW_GATES {
         effort
@@ -77,8 +78,8 @@ fn rounds_of(net: &Net, effort: u32) -> u32 {
     }
 }
 
-/// How often moves follow windows. Where a net has as many gates as before, it is the same net, in which moves without
-/// rounds found nothing: they would find nothing again.
+/// How often moves follow resynthesis. A net with as many gates as before is the same net, and where moves
+/// without such rounds found nothing before, they would find nothing again.
 fn turns_of(net: &Net, before: usize, rounds: u32) -> u32 {
     let gates = net.gates().len();
     if gates > MANY_GATES || (rounds == 0 && gates == before) {
@@ -107,7 +108,8 @@ fn moved<S: Solver>(
     }
 }
 
-/// A smaller net by walks over convex windows, if they find one. A net that is left to the sweep isn't walked over.
+/// A smaller net by walks over convex windows, if they find one. A net that isn't moved isn't walked over
+/// either.
 #[tactic(auto, using(crate::specs::ImprovementLaws::improving))]
 fn walked_over(
     alloc: Global,
@@ -124,7 +126,7 @@ fn walked_over(
     Ok(found)
 }
 
-/// The net after moves over the whole net and walks over its windows.
+/// The net after moves and walks.
 #[tactic(auto, using(crate::specs::ImprovementLaws::improving))]
 fn begun<S: Solver>(
     alloc: Global,
@@ -140,8 +142,8 @@ fn begun<S: Solver>(
     Ok(smaller.unwrap_or(best))
 }
 
-/// Moves over the whole net and walks, and then windows and moves by turns: as long as the moves find a smaller net after the
-/// windows, and a few times at most, once where the net is large.
+/// Moves and walks, and then resynthesis. Moves follow it again as long as they find a smaller net, at most
+/// `MOST_TURNS` times, and never in a large net.
 #[tactic(auto, using(crate::specs::ImprovementLaws::improving))]
 fn improved<S: Solver>(
     alloc: Global,
@@ -168,8 +170,8 @@ fn improved<S: Solver>(
     Ok(left)
 }
 
-/// Drops the dead gates of a net, makes it smaller by moves over the whole net and by walks, and then puts shorter chains in
-/// the place of windows, until no window up to the cap has one, or `settings.rounds` rounds have changed something.
+/// Improves a net: cleanup, moves over the whole net and walks over convex windows, and then resynthesis,
+/// until no window up to the cap has a shorter chain, or `settings.rounds` rounds have changed something.
 #[tactic(auto, using(crate::specs::ImprovementLaws::improving))]
 pub fn improve_net<S: Solver>(
     alloc: Global,
@@ -179,7 +181,7 @@ pub fn improve_net<S: Solver>(
     requires { IsInRange settings }
     ensures { IfOk result (λ left. Leaves settings net.now left.net left.settled left.undecided.items) }
 {
-    // for the prover: brings the invariant of the net
+    // for the prover: brings the net's invariant into the proof
     let _gates = net.gates();
     let tidy = drop_dead(alloc, net)?;
     if settings.cap == 0 {

@@ -1,15 +1,15 @@
-//! A net whose windows are tried: what the sweep asks of a trial, by windows, specifications, searches and
+//! Improvement of a net, with the attempts that resynthesis makes: windows, specifications, searches and
 //! substitution.
 //!
-//! It stands on `window_core` for the windows, on `walk_core` for what is asked of them and for the net in which a chain has
-//! taken a window's place, on `decide_core` for the search of a shorter chain, on `merge_core` for gates that are alike, on
-//! `table_merge` for gates with equal tables, on any `Solver` of `sat_solve`, and it is a `Trial` of `sweep_core`. The net and
-//! its index are kept together; the index is made anew when the net changes.
+//! It stands on `window_core` for the windows, on `walk_core` for their local specifications and for
+//! replacing a window by a chain, on `decide_core` for the search of a shorter chain, on `merge_core` and
+//! `table_merge` for equal gates, and on any `Solver` of `sat_solve`; it implements the trait `Trial` of
+//! `sweep_core`. The net is kept with its index, which is made anew when the net changes.
 //!
-//! The one theorem is that of `improve_net`, which drops dead gates, makes the net smaller by moves over all of it
-//! (`restructure`) and by walks over convex windows (`walk_core`), and then sweeps: what is left answers what the net
-//! answers, and once it is settled no listed window up to the cap has a shorter chain for what the settings ask of it, but
-//! for those that are named.
+//! What is proved of `improve_net`: the net that it returns implements the given one, and if it is settled,
+//! no listed window up to the cap has a shorter chain for its local specification, but for those that are
+//! named. Besides resynthesis it makes moves over the whole net (`restructure`) and walks over convex windows
+//! (`walk_core`).
 //!
 //! ```text
 //! let left = improve_net::<S>(alloc, &net, ImproveSettings::usual())?;

@@ -1,4 +1,4 @@
-//! Gates that are alike become one.
+//! Structural hashing, with cleanup.
 ghost use Rattle.std.specs.Prelude.{◌<◌, length, IfOk, IfSome};
 ghost use Rattle.chain_theory.specs.Operator.{Basis};
 ghost use Rattle.sweep_core.specs.Outcomes.{Leads};
@@ -7,7 +7,8 @@ use merge_core::merge_alike;
 use net_core::{Net, drop_dead};
 use std::alloc::{AllocError, Global};
 
-/// The net in which gates that are alike are one, without dead gates. None where no two are alike.
+/// The net in which structurally equal gates are merged, without dangling gates. None where no two are
+/// structurally equal.
 #[tactic(auto, using(crate::specs::MergedLaws::merging))]
 pub fn merged(alloc: Global, net: &Net) -> Result<Option<Net>, AllocError>
     ensures leads { (basis : Basis) → IfOk result (λ left. IfSome left (λ new. Leads basis net.now new)) }

@@ -10,7 +10,7 @@ use net_core::Net;
 use std::alloc::{AllocError, Global};
 use window_core::{Readers, partners_by};
 
-/// The first of `places` that is below `below`. The places fall.
+/// The first of `places` below `below`. `places` is descending.
 #[tactic(auto, unfolding(crate::specs::PartnerLaws::first_below))]
 fn first_below(places: &[u32], below: u32) -> Option<u32>
     ensures { result ≡ first_below_of places.now below }
@@ -25,7 +25,7 @@ fn first_below(places: &[u32], below: u32) -> Option<u32>
     None
 }
 
-/// The greatest partner of the gate `root` below the place `below`.
+/// The greatest partner of the gate `root` below `below`.
 #[tactic(auto, using(crate::specs::PartnerLaws::choosing))]
 pub fn next_partner(
     alloc: Global,

@@ -1,4 +1,4 @@
-//! Gates with equal tables become one, in a net of few sources.
+//! Functional hashing with cleanup, in a net of few sources.
 ghost use Rattle.std.specs.Prelude.{◌≤◌, length, IfOk};
 ghost use Rattle.chain_theory.specs.Operator.{Basis};
 ghost use Rattle.sweep_core.specs.Outcomes.{Leads};
@@ -7,11 +7,11 @@ use net_core::{Net, drop_dead};
 use std::alloc::{AllocError, Global};
 use table_merge::merge_equal;
 
-/// A net of no more gates is left to moves and windows.
+/// A net of at most this many gates is left to moves and windows.
 const MANY_EQUAL: usize = 1000;
 
-/// The net in which gates with one value under every assignment are one, without dead gates. Where it has more than 12
-/// sources dead gates alone go.
+/// The net in which gates with the same value under every assignment are merged, without dangling gates.
+/// Where it has more than 12 sources there is only the cleanup.
 fn equal_merged(alloc: Global, net: &Net) -> Result<Net, AllocError>
     ensures leads { (basis : Basis) → IfOk result (Leads basis net.now) }
     ensures fewer { IfOk result (λ left. length left.gates ≤ length net.now.gates) }
@@ -21,8 +21,8 @@ fn equal_merged(alloc: Global, net: &Net) -> Result<Net, AllocError>
     Ok(left)
 }
 
-/// The net after that, where it has many gates and the cap allows it: a cap of 1 leaves two gates that are alike, since
-/// each of them alone needs a step.
+/// The net after that, if it has many gates and the cap is at least 2: with a cap of 1 equal gates are kept,
+/// since each of them alone needs a step.
 #[tactic(auto, using(crate::specs::ImprovementLaws::improving))]
 pub fn many_merged(alloc: Global, net: Net, cap: u32) -> Result<Net, AllocError>
     ensures leads { (basis : Basis) → IfOk result (Leads basis net) }

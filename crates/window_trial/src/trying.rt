@@ -1,4 +1,4 @@
-//! The trial of a window: its specification, the search, and the new net.
+//! The attempt of a window: its specification, the search, and the new net.
 ghost use Rattle.std.specs.Prelude.{◌≡◌, ◌≤◌, IfOk, OnOk};
 ghost use Rattle.improve_settings.specs.Improve.{IsInRange};
 ghost use Rattle.window_theory.specs.Paths.{IsGate};
@@ -20,7 +20,8 @@ use sweep_core::{Trial, Tried, Visit};
 use walk_core::{asked_spec, replaced};
 use window_core::{Readers, Window, readers_of, window_by};
 
-/// A net whose windows are tried by a solver, with its index, the settings, and what was found of windows before.
+/// A net whose windows are attempted by a solver, with its index, the settings, and the cache of earlier
+/// searches.
 #[derive(Drop)]
 pub struct WindowTrial<S> {
     settings: ImproveSettings,
@@ -40,7 +41,7 @@ impl<S> Model for WindowTrial<S> {
     ghost invariant = { λ t. IsTrying (record { settings = t.settings; net = t.net; readers = t.readers; basis = t.memory.basis }) };
 }
 
-/// Whether a window of a net has a shorter chain, by a heading that asks for what the settings ask of it.
+/// Searches for a chain shorter than the window, for its local specification by the settings.
 #[tactic(auto, using(crate::specs::TryingLaws::trying))]
 fn decide_window<S: Solver>(
     alloc: Global,
@@ -59,7 +60,7 @@ fn decide_window<S: Solver>(
 {
     let max = window.gates().len() as u32 - 1;
     let spec = asked_spec(alloc, net, readers, window, settings.observe)?;
-    // for the prover: brings the invariants of the specification and of the basis
+    // for the prover: brings the invariants of the specification and of the basis into the proof
     let _inputs = spec.n();
     let _operators = settings.basis.get();
     let heading = Heading {
@@ -73,7 +74,7 @@ fn decide_window<S: Solver>(
     Ok(decided)
 }
 
-/// What a visit came to, with the net that takes the place of the one before, if one does.
+/// The result of an attempt, with the new net where there is one.
 #[derive(Drop)]
 enum Outcome {
     Passed,
@@ -81,7 +82,7 @@ enum Outcome {
     Smaller(Net),
 }
 
-/// Tries a window of a net.
+/// Attempts a window of a net.
 #[tactic(auto, using(crate::specs::TryingLaws::trying))]
 fn try_window<S: Solver>(
     alloc: Global,
@@ -98,7 +99,7 @@ fn try_window<S: Solver>(
     ensures outcome { (visit : VisitValue) → IsWindow net.now visit.root visit.partner visit.count window.now → IsListed net.now settings.cap visit → IfOk result (λ outcome. IsOutcome settings net.now visit outcome) }
     ensures basis { memory.new.basis ≡ memory.old.basis }
 {
-    // for the prover: brings the invariant of the net
+    // for the prover: brings the net's invariant into the proof
     let _gates = net.gates();
     match decide_window::<S>(alloc, net, readers, window, settings, memory)? {
         Decided::Least => Ok(Outcome::Passed),
@@ -109,7 +110,7 @@ fn try_window<S: Solver>(
     }
 }
 
-/// Tries the window of a visit, if there is one that counts.
+/// Attempts the window of a candidate, if there is one.
 #[tactic(auto, using(crate::specs::TryingLaws::trying))]
 fn try_visit<S: Solver>(
     alloc: Global,
@@ -128,7 +129,7 @@ fn try_visit<S: Solver>(
     ensures outcome { IfOk result (λ outcome. IsOutcome settings net.now visit outcome) }
     ensures basis { memory.new.basis ≡ memory.old.basis }
 {
-    // for the prover: brings the invariant of the net
+    // for the prover: brings the net's invariant into the proof
     let _gates = net.gates();
     if !is_partner_or_none(alloc, net, readers, visit.root, visit.partner)? {
         return Ok(Outcome::Passed);
@@ -140,7 +141,7 @@ fn try_visit<S: Solver>(
 }
 
 impl<S> WindowTrial<S> {
-    /// A net whose windows are to be tried by some settings.
+    /// The net with its index, an empty cache and these settings.
     pub fn new(
         alloc: Global,
         net: Net,
@@ -161,7 +162,7 @@ impl<S> WindowTrial<S> {
         })
     }
 
-    /// The net as it is in the end.
+    /// The final net.
     pub fn into_net(self) -> Net
         ensures { result ≡ self.net }
     {
@@ -175,7 +176,7 @@ impl<S> WindowTrial<S> {
         net
     }
 
-    /// Puts a net in the place of the one before.
+    /// Replaces the net, and makes its index anew.
     fn put(&mut self, alloc: Global, net: Net) -> Result<(), AllocError>
         ensures net { OnOk result (self.new.net ≡ net) }
         ensures settings { OnOk result (self.new.settings ≡ self.old.settings) }
@@ -199,7 +200,7 @@ impl<S: Solver> Trial for WindowTrial<S> {
         &self.net
     }
 
-    // A cap of 1 leaves two gates that are alike: each of them alone needs a step.
+    // A cap of 1 keeps structurally equal gates: each of them alone needs a step.
     #[tactic(auto, using(crate::specs::MergedLaws::merging))]
     fn merge_alike(&mut self, alloc: Global) -> Result<bool, AllocError> {
         if self.settings.cap < 2 {

@@ -4,7 +4,7 @@ use Rattle.std.specs.Prelude.{slice_get, Some, ◌⊎◌}
 use Rattle.xag_core.specs.declared.xag.XagGate.{XagGate}
 use Rattle.xag_core.specs.Xag.{IsXagGateAt, AreXagGates, IsGrown}
 
--- what is in a list with one more element
+-- the elements of a list with one more element
 at_push : {A : Type 0} (xs : List A) (x y : A) (i : ℕ) → slice_get (xs ++ x ∷ []) i ≡ Some y → (slice_get xs i ≡ Some y) ⊎ ((i ≡ length xs) × (x ≡ y))
 at_push [] x y zero e = inr (refl, cc)
 at_push [] x y (suc i) e = absurd cc

@@ -1,4 +1,4 @@
--- Xor-and graphs. A literal is 2 * node, or 2 * node + 1 for the complement.
+-- XOR-AND graphs. A literal is 2 * node, or 2 * node + 1 for the complement.
 use Rattle.std.specs.Prelude.{◌≡◌, ℕ, ◌+◌, ◌*◌, ◌<◌, ◌^◌, List, length, slice_get, Some, All}
 use Rattle.xag_core.specs.declared.xag.XagGate.{XagGate}
 
@@ -37,12 +37,12 @@ pub record IsGrown (b : Grown) : Type 0 where
   pub gates : AreXagGates b.sources b.gates
   pub nodes : b.sources + length b.gates < 2 ^ 31
 
--- as many sinks as literals, each of a node that is there
+-- as many sinks as literals, each of a node of the graph
 pub record HasSinks (b : Grown) (literals sinks : List ℕ) : Type 0 where
   pub count : length sinks ≡ length literals
   pub below : All (IsLiteralBelow (b.sources + 1 + length b.gates)) sinks
 
--- a graph with the sources and the number of sinks of another
+-- y has the sources and the number of sinks of x
 pub record HasEnds (x y : Xag) : Type 0 where
   pub sources : y.sources ≡ x.sources
   pub sinks : length y.sinks ≡ length x.sinks

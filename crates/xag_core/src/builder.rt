@@ -1,6 +1,6 @@
-//! Graphs that grow gate by gate, with structural hashing: a gate that is there already isn't made
-//! again, and gates with a constant operand, or twice the same one, aren't made at all. XOR gates read
-//! their operands uncomplemented.
+//! Graphs that grow gate by gate, with structural hashing: a gate that exists isn't made again, and gates
+//! with a constant operand, or with the same operand twice, aren't made at all. XOR gates read their operands
+//! uncomplemented.
 ghost use Rattle.std.specs.Prelude.{◌≡◌, ◌+◌, OnOk, IfOk, length};
 ghost use Rattle.xag_core.specs.Xag.{IsGrown, HasSinks, IsLiteralBelow};
 
@@ -29,7 +29,8 @@ impl Model for Builder {
     ghost invariant = { λ b. IsGrown (record { sources = b.sources; gates = b.gates.items }) };
 }
 
-/// The least power of two that is greater than twice `gates`, at most 2^31.
+/// The size of the hash table: the least power of two from 16 on that is greater than twice `gates`, at most
+/// 2^31.
 fn table_size(gates: usize) -> usize {
     let mut size = 16;
     for _doubled in 0..27 {
@@ -41,7 +42,7 @@ fn table_size(gates: usize) -> usize {
     size
 }
 
-/// A hash of a gate (multiplicative hashing).
+/// A hash of a gate: multiplicative hashing by 2^64 divided by the golden ratio.
 fn hash_of(gate: XagGate) -> u32 {
     let pair = u64::from(gate.first).wrapping_shl(32) | u64::from(gate.second);
     let turned = if gate.is_xor { !pair } else { pair };
@@ -70,7 +71,7 @@ impl Builder {
         self.gates.len()
     }
 
-    /// The slot that holds the gate, or a free one for it; where the table is full, any number beyond it.
+    /// The slot that holds the gate, or a free one for it; where the table is full, a number beyond its end.
     fn slot_of(&self, gate: XagGate) -> u32 {
         let mask = (self.slots.len() as u64).wrapping_sub(1);
         let mut slot = u64::from(hash_of(gate)) & mask;
@@ -85,7 +86,7 @@ impl Builder {
         u32::MAX
     }
 
-    /// Whether the gate is that of the node.
+    /// Whether the node is this gate.
     fn has(&self, node: u32, gate: XagGate) -> bool {
         let index = node.wrapping_sub(self.sources).wrapping_sub(1) as usize;
         match self.gates.get(index) {
@@ -94,7 +95,7 @@ impl Builder {
         }
     }
 
-    /// The literal itself; 0 where its node isn't there.
+    /// The literal itself; 0 where its node isn't in the graph.
     fn within(&self, literal: u32) -> u32
         ensures { IsLiteralBelow (self.now.sources + 1 + length self.now.gates) result }
     {
@@ -106,7 +107,7 @@ impl Builder {
         }
     }
 
-    /// The literal of a gate that is there or is appended.
+    /// The literal of the gate, which is appended unless it exists.
     fn hashed(&mut self, first: u32, second: u32, is_xor: bool) -> Result<u32, AllocError>
         ensures { OnOk result (self.new.sources ≡ self.old.sources) }
     {
@@ -125,7 +126,8 @@ impl Builder {
         Ok(node.wrapping_mul(2))
     }
 
-    /// Appends a gate whose operands are there. With 2^31 nodes there is no room.
+    /// Appends a gate, with 0 for an operand that isn't in the graph. Fails as if out of memory at 2^31
+    /// nodes.
     #[tactic(auto, using(crate::proofs::Growing::grown_push))]
     fn append(&mut self, gate: XagGate) -> Result<u32, AllocError>
         ensures { OnOk result (self.new.sources ≡ self.old.sources) }
@@ -144,7 +146,7 @@ impl Builder {
         Ok(node as u32)
     }
 
-    /// XOR of two literals: complements go to the literal of the gate.
+    /// XOR of two literals: complements go to the result.
     fn xor(&mut self, first: u32, second: u32) -> Result<u32, AllocError>
         ensures { OnOk result (self.new.sources ≡ self.old.sources) }
     {
@@ -175,7 +177,7 @@ impl Builder {
         self.hashed(low, high, false)
     }
 
-    /// The literal of AND, or XOR where `is_xor`, of two literals. A literal whose node isn't there
+    /// The literal of AND, or XOR where `is_xor`, of two literals. A literal whose node isn't in the graph
     /// counts as the constant 0.
     pub fn gate(&mut self, first: u32, second: u32, is_xor: bool) -> Result<u32, AllocError>
         ensures { OnOk result (self.new.sources ≡ self.old.sources) }
@@ -189,7 +191,7 @@ impl Builder {
         }
     }
 
-    /// The sinks, with 0 for a literal whose node isn't there.
+    /// The sinks, with 0 for a literal whose node isn't in the graph.
     fn sinks_within(&self, alloc: Global, literals: &[u32]) -> Result<Vec<u32>, AllocError>
         ensures { IfOk result (λ sinks. HasSinks self.now literals.now sinks.items) }
     {
@@ -200,7 +202,7 @@ impl Builder {
         Ok(sinks)
     }
 
-    /// The graph with these sinks. A literal whose node isn't there counts as the constant 0.
+    /// The graph with these sinks. A literal whose node isn't in the graph counts as the constant 0.
     pub fn finish(self, alloc: Global, literals: &[u32]) -> Result<Xag, AllocError>
         ensures sources { IfOk result (λ xag. xag.sources ≡ self.sources) }
         ensures sinks { IfOk result (λ xag. length xag.sinks ≡ length literals.now) }

@@ -1,14 +1,15 @@
-//! Who reads what: the fanouts of each node, how many references it has (fanouts and sinks), and its
-//! maximal fanout-free cone (MFFC).
+//! The fanouts of each node, its reference count (fanouts and sinks), and its maximum fanout-free cone
+//! (MFFC).
 
 use crate::rows::{at, bit_at, put, raise};
 use crate::xag::{Xag, mark_sinks};
 use std::alloc::{AllocError, Global};
 
-/// The most gates of a cone that `cone_of` lists.
+/// The most gates of an MFFC whose operands `cone_of` visits.
 const LARGEST_CONE: usize = 200;
 
-/// The fanouts of all nodes in one row, those of a node from its start to the start of the next.
+/// The fanouts of all nodes in one row, those of a node from its start to the start of the next; the
+/// reference counts; and whether a sink reads each node.
 #[derive(Drop)]
 pub struct Context {
     starts: Vec<u32>,
@@ -17,7 +18,7 @@ pub struct Context {
     feeds_sink: Vec<bool>,
 }
 
-/// The number of fanouts of each node, at the next node's entry.
+/// The number of fanouts of each node, at the entry of the next node.
 fn reader_counts(alloc: Global, xag: &Xag) -> Result<Vec<u32>, AllocError> {
     let mut counts = vec![in alloc; 0u32; xag.nodes() as usize + 2]?;
     for gate in xag.gates() {
@@ -29,7 +30,7 @@ fn reader_counts(alloc: Global, xag: &Xag) -> Result<Vec<u32>, AllocError> {
     Ok(counts)
 }
 
-/// Each number becomes the sum of those up to it.
+/// Prefix sums: each number becomes the sum of all numbers up to it.
 fn add_up(row: &mut [u32]) {
     let mut sum = 0u32;
     for number in row.iter_mut() {
@@ -59,7 +60,8 @@ fn reader_row(alloc: Global, xag: &Xag, starts: &[u32]) -> Result<Vec<u32>, Allo
     Ok(readers)
 }
 
-/// The references of each node: its fanouts, whose number stands at the next node's entry, and the sinks that read it.
+/// The reference count of each node: its fanouts, whose number is at the entry of the next node, and the
+/// sinks that read it.
 fn reference_counts(alloc: Global, xag: &Xag, fanouts: &[u32]) -> Result<Vec<u32>, AllocError> {
     let mut references = Vec::from_slice(alloc, fanouts.get(1..).unwrap_or(&[]))?;
     for sink in xag.sinks() {
@@ -85,14 +87,14 @@ impl Context {
         })
     }
 
-    /// The fanouts of a node, rising.
+    /// The fanouts of a node, ascending.
     pub fn readers(&self, node: u32) -> &[u32] {
         let first = at(&self.starts, node) as usize;
         let end = at(&self.starts, node.saturating_add(1)) as usize;
         self.readers.get(first..end).unwrap_or(&[])
     }
 
-    /// How many gates and sinks read a node.
+    /// The reference count of a node: how many gates and sinks read it.
     pub fn references(&self, node: u32) -> u32 {
         at(&self.references, node)
     }
@@ -102,14 +104,14 @@ impl Context {
         bit_at(&self.feeds_sink, node)
     }
 
-    /// Takes one reference from a node, and answers how many are left.
+    /// Takes one reference from a node, and returns how many are left.
     fn lower(&mut self, node: u32) -> u32 {
         let left = at(&self.references, node).saturating_sub(1);
         put(&mut self.references, node, left);
         left
     }
 
-    /// Takes one reference from an operand; one that has none left joins the cone.
+    /// Takes one reference from an operand; a gate without references left joins the MFFC.
     fn release(&mut self, xag: &Xag, literal: u32, cone: &mut Vec<u32>) -> Result<(), AllocError> {
         let node = literal >> 1;
         if !xag.is_gate(node) {
@@ -121,7 +123,8 @@ impl Context {
         Ok(())
     }
 
-    /// Grows a cone by the operands that nothing else reads, and answers how many of its gates gave up theirs.
+    /// Grows an MFFC by the operands that nothing else reads, and returns how many of its gates released
+    /// their operands.
     fn grow_cone(&mut self, xag: &Xag, cone: &mut Vec<u32>) -> Result<usize, AllocError> {
         for index in 0..LARGEST_CONE {
             let Some(member) = cone.get(index) else {
@@ -134,7 +137,7 @@ impl Context {
         Ok(LARGEST_CONE)
     }
 
-    /// The first gates of a cone read their operands again.
+    /// Undoes the release: the first `count` gates of the MFFC reference their operands again.
     fn take_back(&mut self, xag: &Xag, cone: &[u32], count: usize) {
         for member in cone.iter().take(count) {
             let gate = xag.gate(*member);
@@ -143,8 +146,8 @@ impl Context {
         }
     }
 
-    /// Lists the maximal fanout-free cone of a gate, the gate first: the gates that would be dead
-    /// without it. Of a large cone only some 200 gates are listed.
+    /// Lists the maximum fanout-free cone of a gate, the gate first: the gates that would dangle without it.
+    /// Of a large one only some 200 gates are listed.
     pub fn cone_of(&mut self, xag: &Xag, node: u32, cone: &mut Vec<u32>) -> Result<(), AllocError> {
         cone.clear();
         cone.push(node)?;
@@ -153,7 +156,7 @@ impl Context {
         Ok(())
     }
 
-    /// The listed cone of a gate goes: what its gates read has a reader less for each.
+    /// The listed MFFC of a gate is about to be removed: its operands lose a reference for each gate.
     pub fn give_up(&mut self, xag: &Xag, cone: &[u32]) {
         for member in cone.iter().take(LARGEST_CONE) {
             let gate = xag.gate(*member);
@@ -162,12 +165,12 @@ impl Context {
         }
     }
 
-    /// A new gate reads the node.
+    /// Adds a reference: a new gate reads the node.
     pub fn hold(&mut self, node: u32) {
         raise(&mut self.references, node);
     }
 
-    /// The node goes with no cone from now on.
+    /// Excludes the node from all MFFCs listed later.
     pub fn pin(&mut self, node: u32) {
         put(&mut self.references, node, u32::MAX);
     }

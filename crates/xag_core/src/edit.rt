@@ -1,4 +1,5 @@
-//! A change of a graph that isn't made yet: gates above its end, and nodes that become literals.
+//! A pending substitution: a change of a graph that isn't made yet, with new gates, and nodes that literals
+//! replace.
 
 use crate::xag::{Xag, XagGate};
 use std::alloc::{AllocError, Global};
@@ -6,8 +7,8 @@ use std::alloc::{AllocError, Global};
 /// No literal.
 pub const NONE: u32 = 0xFFFF_FFFF;
 
-/// New gates, whose nodes follow those of the graph, and redirects of nodes of the graph to literals.
-/// Both may name new nodes.
+/// New gates, numbered after the nodes of the graph, and for some nodes of the graph the literals that
+/// replace them. Both may name new nodes.
 #[derive(Drop)]
 pub struct Edit {
     pub(crate) first: u32,
@@ -25,7 +26,7 @@ impl Edit {
         }
     }
 
-    /// Appends a gate and answers its literal.
+    /// Appends a gate and returns its literal. Fails as if out of memory at 2^31 nodes.
     pub fn gate(&mut self, gate: XagGate) -> Result<u32, AllocError> {
         let node = u64::from(self.first) + self.gates.len() as u64;
         if node >= 0x8000_0000 {
@@ -35,7 +36,7 @@ impl Edit {
         Ok(node as u32 * 2)
     }
 
-    /// All that reads `node` reads `literal` instead.
+    /// Substitutes `literal` for `node` in all its fanouts.
     pub fn redirect(&mut self, node: u32, literal: u32) -> Result<(), AllocError> {
         self.redirects.push((node, literal))?;
         Ok(())

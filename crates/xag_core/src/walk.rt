@@ -1,6 +1,7 @@
-//! A graph is rebuilt with a change by a depth-first walk from its sinks, and before that from the gates that stay, in their
-//! order, where the graph keeps it. So its gates come in the order of that walk, and dead ones are left out. A node that
-//! waits for itself shows a cycle.
+//! A graph is rebuilt with a pending substitution by a depth-first traversal from its sinks. Where the graph
+//! keeps the order of its gates, the traversal first visits the gates that remain, in their order. So the
+//! gates come out in topological order, and dangling ones are left out. A node that waits for itself is on a
+//! cycle.
 ghost use Rattle.std.specs.Prelude.{◌≡◌, OnOk, IfOk, IfSome, length};
 ghost use Rattle.xag_core.specs.Xag.{HasEnds};
 
@@ -10,8 +11,8 @@ use crate::rows::{at, bit_at, put};
 use crate::xag::{Xag, XagGate, mark_sinks};
 use std::alloc::{AllocError, Global};
 
-/// The walk: for each old node the literal that it is redirected to, its new literal once that is found
-/// (NONE before), and whether the walk has come to it; and the nodes that wait for others.
+/// The traversal: for each old node the literal that replaces it, if any, its new literal once that is found
+/// (NONE before), and whether the node was entered; and the stack of nodes that wait for others.
 #[derive(Drop)]
 struct Walk {
     targets: Vec<u32>,
@@ -21,7 +22,7 @@ struct Walk {
     builder: Builder,
 }
 
-/// Marks what nodes are redirected to.
+/// Sets the literals that replace nodes.
 fn put_redirects(edit: &Edit, targets: &mut [u32]) {
     for (node, literal) in &edit.redirects {
         put(targets, *node, *literal);
@@ -35,7 +36,7 @@ fn put_given(xag: &Xag, found: &mut [u32]) {
     }
 }
 
-/// The walk before its first step.
+/// The traversal before its first step.
 fn start(alloc: Global, xag: &Xag, edit: &Edit) -> Result<Walk, AllocError>
     ensures { IfOk result (λ walk. walk.builder.sources ≡ xag.now.sources) }
 {
@@ -57,17 +58,17 @@ fn start(alloc: Global, xag: &Xag, edit: &Edit) -> Result<Walk, AllocError>
 }
 
 impl Walk {
-    /// Whether the new literal of an old one is known.
+    /// Whether the new literal for an old one is known.
     fn is_found(&self, literal: u32) -> bool {
         at(&self.found, literal >> 1) != NONE
     }
 
-    /// The new literal of an old one.
+    /// The new literal for an old one.
     fn moved(&self, literal: u32) -> u32 {
         at(&self.found, literal >> 1) ^ (literal & 1)
     }
 
-    /// Puts the node of a literal on the stack. False where the walk has come to it already.
+    /// Pushes the node of a literal. False where the node was entered already.
     fn enter(&mut self, literal: u32) -> Result<bool, AllocError>
         ensures { OnOk result (self.new.builder.sources ≡ self.old.builder.sources) }
     {
@@ -80,7 +81,7 @@ impl Walk {
         Ok(true)
     }
 
-    /// The node on top of the stack has this new literal.
+    /// Sets the new literal of the node on top of the stack, and pops it.
     fn settle(&mut self, node: u32, literal: u32)
         ensures { self.new.builder.sources ≡ self.old.builder.sources }
     {
@@ -105,7 +106,7 @@ impl Walk {
         Ok(true)
     }
 
-    /// One step at the node on top of the stack. False where it waits for a node that waits for it.
+    /// One step at the node on top of the stack. False at a cycle.
     fn step(&mut self, xag: &Xag, edit: &Edit, node: u32) -> Result<bool, AllocError>
         ensures { OnOk result (self.new.builder.sources ≡ self.old.builder.sources) }
     {
@@ -121,7 +122,7 @@ impl Walk {
         Ok(true)
     }
 
-    /// Walks until the new literal of `root` is found. False at a cycle.
+    /// Traverses until the new literal of `root` is found. False at a cycle.
     fn visit(&mut self, xag: &Xag, edit: &Edit, root: u32) -> Result<bool, AllocError>
         ensures { OnOk result (self.new.builder.sources ≡ self.old.builder.sources) }
     {
@@ -144,7 +145,7 @@ impl Walk {
         Ok(true)
     }
 
-    /// The graph that the walk made, with these sinks.
+    /// The traversed graph, with these sinks.
     fn graph(self, alloc: Global, sinks: &[u32], keeps_order: bool) -> Result<Xag, AllocError>
         ensures sources { IfOk result (λ xag. xag.sources ≡ self.builder.sources) }
         ensures sinks { IfOk result (λ xag. length xag.sinks ≡ length sinks.now) }
@@ -161,7 +162,7 @@ impl Walk {
     }
 }
 
-/// Puts what a node is computed from on a stack: what it is redirected to, or the operands of its gate.
+/// Pushes what a node depends on: the literal that replaces it, or the operands of its gate.
 fn put_sources(
     walk: &Walk,
     xag: &Xag,
@@ -191,7 +192,7 @@ fn sink_nodes(alloc: Global, xag: &Xag) -> Result<Vec<u32>, AllocError> {
     Ok(nodes)
 }
 
-/// Which nodes the sinks are computed from.
+/// The transitive fanin of the sinks.
 fn live_nodes(alloc: Global, walk: &Walk, xag: &Xag, edit: &Edit) -> Result<Vec<bool>, AllocError> {
     let mut live = vec![in alloc; false; walk.found.len()]?;
     let mut waiting = sink_nodes(alloc, xag)?;
@@ -210,7 +211,7 @@ fn live_nodes(alloc: Global, walk: &Walk, xag: &Xag, edit: &Edit) -> Result<Vec<
     Ok(live)
 }
 
-/// Walks from the gates that stay, in their order, where the graph keeps it. False at a cycle.
+/// Traverses from the gates that remain, in their order, where the graph keeps it. False at a cycle.
 fn walk_gates(alloc: Global, walk: &mut Walk, xag: &Xag, edit: &Edit) -> Result<bool, AllocError>
     ensures { OnOk result (walk.new.builder.sources ≡ walk.old.builder.sources) }
 {
@@ -246,7 +247,7 @@ fn walk_sinks(
     Ok(Some(sinks))
 }
 
-/// The graph with the change, by one walk; None at a cycle.
+/// The graph with the substitution, in one traversal; None at a cycle.
 fn walked(alloc: Global, xag: &Xag, edit: &Edit) -> Result<Option<Xag>, AllocError>
     ensures { IfOk result (λ other. IfSome other (HasEnds xag.now)) }
 {
@@ -272,9 +273,10 @@ fn is_live(alloc: Global, xag: &Xag) -> Result<bool, AllocError> {
     Ok(gates.iter().all(|is_read| *is_read))
 }
 
-/// The graph with a change, without gates that nothing reads: in the order of a depth-first walk from the sinks, or, where
-/// the graph keeps the order of its gates, with those that stay in that order and each new one before the first that
-/// reads it. None where a redirect makes a cycle.
+/// The graph with a pending substitution, without dangling gates. Its gates are in the order of a depth-first
+/// traversal from the sinks; where the graph keeps the order of its gates, those that remain are in that
+/// order, and each new gate comes before the first gate that reads it. None where the substitution makes a
+/// cycle.
 pub fn rebuild(alloc: Global, xag: &Xag, edit: &Edit) -> Result<Option<Xag>, AllocError>
     ensures { IfOk result (λ other. IfSome other (HasEnds xag.now)) }
 {

@@ -15,9 +15,10 @@ pub struct XagGate {
 }
 
 /// A graph: node 0 is the constant 0, the nodes 1 to `sources` are the sources, and the gates follow in
-/// topological order. Sinks are literals. It has fewer than 2^31 nodes. Where `keeps_order`, gates that stay keep their
-/// order when the graph is rebuilt, else they come in the order of a depth-first walk from the sinks. That order is a
-/// heuristic: no clause speaks of it, and the view doesn't show `keeps_order`.
+/// topological order. Sinks are literals. It has fewer than 2^31 nodes. With `keeps_order`, gates that remain
+/// keep their order when the graph is rebuilt; otherwise they come in the order of a depth-first traversal
+/// from the sinks. That order is a heuristic: nothing is proved about it, and the view doesn't show
+/// `keeps_order`.
 #[derive(Drop)]
 pub struct Xag {
     pub(crate) sources: u32,
@@ -77,7 +78,8 @@ impl Xag {
         })
     }
 
-    /// The same graph, to keep the order of its gates from now on, or not. Nothing is promised of that order.
+    /// The same graph, with or without the order of its gates kept when it is rebuilt. Nothing is proved
+    /// about that order.
     pub fn with_order(self, keeps_order: bool) -> Xag
         ensures { result ≡ self }
     {

@@ -13,7 +13,7 @@ pub record IsGrownNet (b : GrownNet) : Type 0 where
   pub gates : AreGates b.sources b.gates
   pub places : b.sources + length b.gates < 2 ^ 31
 
--- as many sinks as signals, each of a place that is there
+-- as many sinks as signals, each of them in the net
 pub record HasSignals (b : GrownNet) (signals sinks : List Sig) : Type 0 where
   pub count : length sinks ≡ length signals
   pub below : All (IsSigBelow (b.sources + 1 + length b.gates)) sinks

@@ -1,7 +1,9 @@
-//! Nets as xor-and graphs, and back: what moves over a graph (`share_core`, `resub_core`) begin with and end in.
+//! Conversion of nets to XOR-AND graphs (XAGs) and back, for the moves over graphs (`share_core`,
+//! `resub_core`).
 //!
-//! Nothing is promised of the values here either, since the net that comes out is judged by an equivalence check
-//! (`move_check`). What is proved is that it is a net, with the sources and the number of sinks of the graph.
+//! Nothing is proved about values here either, since an equivalence check judges the resulting net
+//! (`move_check`). What is proved is that the result is a net, with the sources and the number of sinks of
+//! the graph.
 //!
 //! ```text
 //! let xag = from_net(alloc, &net, false)?; // in depth-first order

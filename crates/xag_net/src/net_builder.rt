@@ -1,5 +1,5 @@
-//! Nets that grow gate by gate. An operand that isn't there counts as the constant 0, so that what is
-//! built is a net whatever is asked for.
+//! Nets that grow gate by gate. An operand that isn't in the net counts as the constant 0, so the result is a
+//! net whatever operands are given.
 ghost use Rattle.std.specs.Prelude.{◌≡◌, ◌<◌, OnOk, IfOk, length};
 ghost use Rattle.net_theory.specs.Net.{IsSigBelow};
 ghost use Rattle.xag_net.specs.Grown.{IsGrownNet, HasSignals};
@@ -26,7 +26,7 @@ impl Model for NetBuilder {
     ghost invariant = { λ b. IsGrownNet (record { sources = b.sources; gates = b.gates.items }) };
 }
 
-/// The signal itself, or 0 where it isn't below the place `end`.
+/// The signal itself, or the constant 0 where its node isn't below `end`.
 fn below(end: u64, sig: Sig) -> Sig
     ensures { IsSigBelow end result }
 {
@@ -56,12 +56,12 @@ impl NetBuilder {
         })
     }
 
-    /// The place after the last.
+    /// The number after the last node.
     fn end(&self) -> u64 {
         u64::from(self.sources) + 1 + self.gates.len() as u64
     }
 
-    /// Appends a gate and answers its place. With 2^31 places there is no room.
+    /// Appends a gate and returns its node. Fails as if out of memory at 2^31 nodes.
     pub fn append(&mut self, op: Op, first: u32, second: u32) -> Result<u32, AllocError>
         ensures { OnOk result (self.new.sources ≡ self.old.sources) }
     {
@@ -75,7 +75,7 @@ impl NetBuilder {
         Ok(end as u32)
     }
 
-    /// The signals, with 0 for one that isn't there.
+    /// The signals, with the constant 0 for each that isn't in the net.
     fn signals_within(&self, alloc: Global, signals: &[Sig]) -> Result<Vec<Sig>, AllocError>
         ensures { IfOk result (λ sinks. HasSignals self.now signals.now sinks.items) }
     {

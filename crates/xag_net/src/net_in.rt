@@ -1,11 +1,11 @@
-//! A net as a graph: an operator of two bits is AND or XOR with complements, or no gate at all.
+//! A net as a graph: each operator becomes AND or XOR with complements, or no gate at all.
 ghost use Rattle.std.specs.Prelude.{◌≡◌, OnOk, IfOk, length};
 
 use net_core::{Net, Op, Sig};
 use std::alloc::{AllocError, Global};
 use xag_core::{Builder, Edit, Xag, at, rebuild};
 
-/// The literal of a signal, by the literals of the places.
+/// The literal of a signal, by the literals of the nodes.
 fn literal_of(places: &[u32], sig: Sig) -> u32 {
     match sig {
         Sig::Zero => 0,
@@ -14,7 +14,8 @@ fn literal_of(places: &[u32], sig: Sig) -> u32 {
     }
 }
 
-/// AND of two literals, each complemented where the operator has its only 1 there: 1, 2, 4 or 8.
+/// AND of two literals, each complemented so that the operator's only 1 is there: its truth table is 1, 2, 4
+/// or 8.
 fn and_of(builder: &mut Builder, word: u8, a: u32, b: u32) -> Result<u32, AllocError>
     ensures { OnOk result (builder.new.sources ≡ builder.old.sources) }
 {
@@ -42,7 +43,7 @@ fn joined(builder: &mut Builder, op: Op, a: u32, b: u32) -> Result<u32, AllocErr
     }
 }
 
-/// The literals of the places.
+/// The literals of the nodes.
 fn place_literals(alloc: Global, net: &Net, builder: &mut Builder) -> Result<Vec<u32>, AllocError>
     ensures { OnOk result (builder.new.sources ≡ builder.old.sources) }
 {
@@ -71,7 +72,7 @@ fn sink_literals(alloc: Global, places: &[u32], sinks: &[Sig]) -> Result<Vec<u32
     Ok(literals)
 }
 
-/// The graph of a net, dead gates and all.
+/// The graph of a net, with its dangling gates.
 fn whole_graph(alloc: Global, net: &Net) -> Result<Xag, AllocError>
     ensures sources { IfOk result (λ xag. xag.sources ≡ net.now.sources) }
     ensures sinks { IfOk result (λ xag. length xag.sinks ≡ length net.now.sinks) }
@@ -82,8 +83,9 @@ fn whole_graph(alloc: Global, net: &Net) -> Result<Xag, AllocError>
     builder.finish(alloc, &sinks)
 }
 
-/// The graph of a net without dead gates, each operator as AND or XOR with complements. Its gates are to have the order of
-/// the net, and to keep it, where `keeps_order`, else that of a depth-first walk. Nothing is promised of either order.
+/// The graph of a net without its dangling gates, each operator as AND or XOR with complements. With
+/// `keeps_order` its gates are in the order of the net, and keep it when the graph is rebuilt; otherwise they
+/// are in depth-first order. Nothing is proved about either order.
 pub fn from_net(alloc: Global, net: &Net, keeps_order: bool) -> Result<Xag, AllocError>
     ensures sources { IfOk result (λ xag. xag.sources ≡ net.now.sources) }
     ensures sinks { IfOk result (λ xag. length xag.sinks ≡ length net.now.sinks) }

@@ -1,5 +1,5 @@
-//! A graph as a net. Complements go into operators: a gate that only complemented sinks read is made
-//! complemented, and a NOT gate is made only where sinks read a gate both ways, or a source complemented.
+//! A graph as a net. Complements go into operators: a gate that only complemented sinks read is complemented
+//! itself, and a NOT gate is made only where sinks read a gate both ways, or a source complemented.
 ghost use Rattle.std.specs.Prelude.{◌≡◌, OnOk, IfOk, length};
 
 use crate::net_builder::NetBuilder;
@@ -7,7 +7,7 @@ use net_core::{Net, Op, Sig};
 use std::alloc::{AllocError, Global};
 use xag_core::{Edit, Xag, XagGate, at, bit_at, put, rebuild};
 
-/// Which nodes are made complemented: the gates that sinks read, and only complemented.
+/// Which nodes become complemented: the gates that some sinks read, all of them complemented.
 fn turned_nodes(alloc: Global, xag: &Xag) -> Result<Vec<bool>, AllocError> {
     let mut turned = vec![in alloc; false; xag.nodes() as usize]?;
     for sink in xag.sinks() {
@@ -23,12 +23,13 @@ fn turned_nodes(alloc: Global, xag: &Xag) -> Result<Vec<bool>, AllocError> {
     Ok(turned)
 }
 
-/// Whether a literal is the complement of what stands at its node's place.
+/// Whether a literal is the complement of the net's signal for its node.
 fn is_turned(turned: &[bool], literal: u32) -> bool {
     bit_at(turned, literal >> 1) != (literal & 1 == 1)
 }
 
-/// The operator of a gate, by which operands it reads complemented and whether it is made complemented (`all`).
+/// The operator of a gate, by which operands it reads complemented and whether its own value is complemented
+/// (`all`).
 pub fn operator(gate: XagGate, first: bool, second: bool, all: bool) -> Op {
     if gate.is_xor {
         let is_odd = (first != second) != all;
@@ -42,7 +43,7 @@ pub fn operator(gate: XagGate, first: bool, second: bool, all: bool) -> Op {
     )
 }
 
-/// Appends the gates, each at the place of its node.
+/// Appends the gates, each with the number of its node.
 fn append_gates(net: &mut NetBuilder, xag: &Xag, turned: &[bool]) -> Result<(), AllocError>
     ensures { OnOk result (net.new.sources ≡ net.old.sources) }
 {
@@ -60,7 +61,7 @@ fn append_gates(net: &mut NetBuilder, xag: &Xag, turned: &[bool]) -> Result<(), 
     Ok(())
 }
 
-/// The signal of a sink. `opposites` has the places of the NOT gates that are made, 0 for none.
+/// The signal of a sink. `opposites` has the nodes of the NOT gates made so far, 0 for none.
 fn sink_signal(
     net: &mut NetBuilder,
     turned: &[bool],
@@ -116,8 +117,8 @@ fn whole_net(alloc: Global, xag: &Xag) -> Result<Net, AllocError>
     net.finish(alloc, &signals)
 }
 
-/// The net of a graph: its gates in the order that `rebuild` gives them, without dead ones, and then the NOT gates that
-/// sinks need.
+/// The net of a graph: its gates in the order of `rebuild`, without dangling ones, and then the NOT gates
+/// that sinks need.
 pub fn into_net(alloc: Global, xag: &Xag) -> Result<Net, AllocError>
     ensures sources { IfOk result (λ net. net.sources ≡ xag.now.sources) }
     ensures sinks { IfOk result (λ net. length net.sinks ≡ length xag.now.sinks) }

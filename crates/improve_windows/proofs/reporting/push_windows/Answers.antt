@@ -1,4 +1,4 @@
--- One window more is written.
+-- One more window is written.
 use Rattle.improve_windows.specs.Report.{window_text}
 use Rattle.improve_windows.specs.ReportLaws.{CanBeWritten, windows_more, all_behind}
 use Rattle.improve_windows.proofs.reporting.push_windows.Goals as goal

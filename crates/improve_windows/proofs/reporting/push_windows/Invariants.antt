@@ -1,4 +1,4 @@
--- What is written and the text of what is left is the text of all.
+-- What is written so far and the text of the remaining windows are the text of all.
 use Rattle.std.proofs.Common.{◌≡◌, ◌++◌, length, All}
 use Rattle.std.specs.List.{flat_map}
 use Rattle.improve_windows.specs.Report.{window_text}

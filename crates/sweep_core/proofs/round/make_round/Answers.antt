@@ -1,4 +1,4 @@
--- Gates that are alike have become one, and all visits were made.
+-- Structurally equal gates were merged, and all candidates attempted.
 use Rattle.sweep_core.specs.Swept.{stage}
 use Rattle.sweep_core.specs.SweptLaws.{asked_cap}
 use Rattle.sweep_core.specs.RoundLaws.{round_made}

@@ -1,4 +1,4 @@
--- The window that was left open joins those that are named.
+-- The window that stayed undecided joins those that are named.
 use Rattle.std.proofs.Common.{subst, sym, refl, ap, ◌∙◌}
 use Rattle.net_theory.specs.Net.{Net}
 use Rattle.window_theory.specs.Paths.{IsGate}

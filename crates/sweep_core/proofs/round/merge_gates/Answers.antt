@@ -1,4 +1,4 @@
--- No two gates were alike.
+-- No two gates were structurally equal.
 use Rattle.std.specs.Prelude.{Bool}
 use Rattle.std.proofs.Common.{subst}
 use Rattle.sweep_core.specs.Outcomes.{IsShrunk}

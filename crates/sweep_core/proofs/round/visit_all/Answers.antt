@@ -1,4 +1,4 @@
--- One root more was visited, and in the end all.
+-- One more root was attempted, and in the end all.
 use Rattle.std.specs.Prelude.{◌≡◌, ◌+◌, ◌≤◌, ◌<◌}
 use Rattle.std.proofs.Common.{ap, ◌∙◌, arith}
 use Rattle.net_theory.specs.Net.{Net, end_of}

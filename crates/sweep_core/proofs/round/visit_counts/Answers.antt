@@ -1,4 +1,4 @@
--- One count more was visited.
+-- One more count was attempted.
 use Rattle.std.specs.Prelude.{◌≤◌}
 use Rattle.std.proofs.Common.{ap, ◌+◌, arith}
 use Rattle.improve_settings.specs.declared.improve.ImproveSettings.{ImproveSettings}

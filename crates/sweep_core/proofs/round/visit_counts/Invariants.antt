@@ -1,4 +1,4 @@
--- The visits of the counts so far were made.
+-- The candidates of the counts so far were attempted.
 use Rattle.std.specs.Prelude.{◌≡◌, ◌≤◌, ◌+◌}
 use Rattle.sweep_core.specs.Visits.{IsOfCounts}
 use Rattle.sweep_core.specs.Swept.{stage, IsSwept}

@@ -1,4 +1,4 @@
--- One partner more was visited, or there is no more.
+-- One more partner was attempted, or there is no other.
 use Rattle.std.proofs.Common.{subst}
 use Rattle.std.specs.Prelude.{ℕ, Option}
 use Rattle.sweep_core.specs.Visits.{IsNextPartner}

@@ -1,4 +1,4 @@
--- The visits with partners from the last one on were made.
+-- The candidates with partners from the last one on were attempted.
 use Rattle.sweep_core.specs.Visits.{IsOfPartners}
 use Rattle.sweep_core.specs.Swept.{stage, IsSwept}
 use Rattle.sweep_core.proofs.round.visit_partners.Given as goal

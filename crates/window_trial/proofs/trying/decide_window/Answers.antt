@@ -1,4 +1,4 @@
--- What the heading asks is decided, and nothing stays open where it asks for at most four steps.
+-- The header's question is decided, and never stays open where it asks for at most four steps.
 use Rattle.std.specs.Prelude.{◌≡◌, ℕ, ◌+◌, ◌-◌, List, length}
 use Rattle.std.proofs.Common.{arith, ◌∙◌, ap}
 use Rattle.window_trial.specs.TryingLaws.{decided_by}

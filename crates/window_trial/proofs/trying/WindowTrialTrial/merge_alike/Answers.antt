@@ -1,4 +1,4 @@
--- The net of the trial is the one in which gates that were alike are one.
+-- The new net is the one in which structurally equal gates were merged.
 use Rattle.std.proofs.Common.{ap}
 use Rattle.window_trial.specs.Trying.{Trying}
 use Rattle.window_trial.specs.MergedLaws.{shrunk_by}

@@ -1,4 +1,4 @@
--- There are as many sinks as literals that were passed, each of a node that is there.
+-- There are as many sinks as literals so far, each of a node of the graph.
 use Rattle.std.proofs.Common.{◌≡◌, ◌+◌, length}
 use Rattle.std.specs.Prelude.{All}
 use Rattle.xag_core.specs.Xag.{IsLiteralBelow}

@@ -1,4 +1,4 @@
--- There are as many sinks as signals that were passed, each of a place that is there.
+-- There are as many sinks as signals so far, each of them in the net.
 use Rattle.std.proofs.Common.{◌≡◌, ◌+◌, length}
 use Rattle.std.specs.Prelude.{All}
 use Rattle.net_theory.specs.Net.{IsSigBelow}
