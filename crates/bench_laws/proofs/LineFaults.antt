@@ -4,7 +4,7 @@ use Rattle.std.specs.List.{list_all}
 use Rattle.std.proofs.lemmas.Bool.{cond_both}
 use Rattle.text_core.specs.Lines.{Line, lines_of}
 use Rattle.net_theory.specs.Document.{Name, is_name, is_same, Table, LatchLine}
-use Rattle.net_text.specs.Contents.{is_nothing, content_of}
+use Rattle.net_document.specs.Contents.{is_nothing, content_of}
 use Rattle.blif_text.specs.Words.{has_long}
 use Rattle.blif_text.specs.Reading.{◌>>=◌}
 use Rattle.net_core.specs.declared.error.NetError.{NetError}

@@ -6,7 +6,7 @@ use Rattle.std.proofs.lemmas.Bool.{and_parts, cond-true, cond-false, or_from, le
 use Rattle.std.proofs.lemmas.List.Elements.{All-head}
 use Rattle.text_core.specs.Lines.{lines_of}
 use Rattle.net_theory.specs.Document.{Name, is_name, LatchLine}
-use Rattle.net_text.specs.Contents.{is_blank, is_nothing}
+use Rattle.net_document.specs.Contents.{is_blank, is_nothing}
 use Rattle.blif_text.specs.Words.{has_long}
 use Rattle.blif_text.specs.Reading.{◌>>=◌}
 use Rattle.net_document.specs.Listed.{Listed}

@@ -7,8 +7,8 @@ use Rattle.text_core.specs.Lines.{lines_of}
 use Rattle.text_core.specs.Words.{is_free}
 use Rattle.text_core.specs.ReadBack.{line_back}
 use Rattle.net_theory.specs.Document.{Name, is_name, is_name_byte}
-use Rattle.net_text.specs.Contents.{is_blank, before_from, before_comment, trimmed, or_whole, content_of}
-use Rattle.net_text.specs.EndLaws.{trimmed-other, without_last-push}
+use Rattle.net_document.specs.Contents.{is_blank, before_from, before_comment, trimmed, or_whole, content_of}
+use Rattle.net_document.specs.EndLaws.{trimmed-other, without_last-push}
 use Rattle.blif_text.specs.Words.{word_then, has_long}
 use Rattle.blif_text.specs.Reading.{◌>>=◌}
 use Rattle.net_document.specs.Listed.{Listed}

@@ -1,6 +1,6 @@
 -- The items (tokens) of a line: words and punctuation marks.
 use Rattle.std.specs.Prelude.{ℕ, Bool, false, ◌||◌, ◌==◌, if◌then◌else◌, List, [], ◌∷◌, ◌++◌}
-use Rattle.net_text.specs.Contents.{is_blank}
+use Rattle.net_document.specs.Contents.{is_blank}
 use Rattle.blif_text.specs.Words.{word_then}
 
 -- `(`, `)`, `,` and `=`

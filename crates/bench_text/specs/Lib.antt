@@ -1,5 +1,5 @@
 pub use Rattle.net_theory.specs.Document
-pub use Rattle.net_text.specs.Contents
+pub use Rattle.net_document.specs.Contents
 pub use Rattle.net_document.specs.Listed
 pub use Rattle.blif_text.specs.Reading
 pub mod Items

@@ -24,11 +24,11 @@ use Rattle.net_document.specs.Listed.{Listed, IsListed, AreFree}
 use Rattle.net_document.specs.TimesLaws.{times-append}
 use Rattle.blif_text.specs.Reading.{◌>>=◌}
 use Rattle.blif_text.specs.SaidLaws.{bind_fine}
-use Rattle.net_text.specs.Contents.{is_blank, is_nothing, content_of}
+use Rattle.net_document.specs.Contents.{is_blank, is_nothing, content_of}
 use Rattle.blif_text.specs.Words.{word_then}
 use Rattle.blif_text.specs.Words.{has_long}
 use Rattle.blif_text.specs.SaidLaws.{AreShort, short_cons, short_words}
-use Rattle.net_text.specs.SizeLaws.{content_short}
+use Rattle.net_document.specs.SizeLaws.{content_short}
 use Rattle.bench_text.specs.declared.keywords.Keyword.{Keyword}
 use Rattle.bench_text.specs.declared.keywords.Keyword.TheVariants.{Input, Output, Gate, Dff, Lut, Constant, Unknown}
 use Rattle.bench_text.specs.Items.{is_mark, is_mark_item, items_from, items_of}

@@ -19,7 +19,7 @@ use Rattle.net_core.specs.declared.error.NetError.TheVariants.{Syntax, TooWide}
 use Rattle.net_document.specs.Listed.{Listed, times}
 use Rattle.net_document.specs.TimesLaws.{times-append}
 use Rattle.blif_text.specs.SaidLaws.{bind_fine}
-use Rattle.net_text.specs.Contents.{is_nothing}
+use Rattle.net_document.specs.Contents.{is_nothing}
 use Rattle.bench_text.specs.declared.keywords.GateKey.{GateKey}
 use Rattle.bench_text.specs.Items.{is_mark, is_mark_item}
 use Rattle.bench_text.specs.Statements.{nothing, with_input, with_output, with_latch, with_table, operands_from, operands_of, names_by, names_of, alone, is_counted, gate_table, table_of, plain_latch, latch_of as latch_from, port_by, port_of}

@@ -11,8 +11,8 @@ use Rattle.net_core.specs.declared.error.NetError.{NetError}
 use Rattle.net_core.specs.declared.error.NetError.TheVariants.{Syntax, NotSupported, TooWide, LineTooLong, NameTooLong}
 use Rattle.net_document.specs.Listed.{Listed}
 use Rattle.blif_text.specs.Reading.{◌>>=◌}
-use Rattle.net_text.specs.Contents.{is_nothing, content_of}
-use Rattle.net_text.specs.Limits.{is_long_line}
+use Rattle.net_document.specs.Contents.{is_nothing, content_of}
+use Rattle.net_document.specs.Limits.{is_long_line}
 use Rattle.blif_text.specs.Words.{has_long}
 use Rattle.bench_text.specs.declared.keywords.GateKey.{GateKey}
 use Rattle.bench_text.specs.declared.keywords.Keyword.{Keyword}

@@ -6,7 +6,7 @@ ghost use Rattle.bench_text.specs.Items.{is_mark as is_mark_of, is_mark_item as 
 ghost use Rattle.blif_text.specs.Words.{has_long as has_long_of};
 ghost use Rattle.bench_text.specs.Walks.{items_in};
 
-use net_text::{is_blank, is_long_word};
+use net_document::{is_blank, is_long_word};
 
 /// Whether a byte is `(`, `)`, `,` or `=`.
 fn is_mark(byte: u8) -> bool

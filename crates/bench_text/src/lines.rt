@@ -12,8 +12,10 @@ use crate::items::{has_long, is_item, is_mark_item, next_item};
 use crate::keywords::{GateKey, Keyword, keyword_of};
 use crate::operands::{alone, names_of, port_of};
 use net_core::Whole;
-use net_document::{Body, Latch, LatchLine, Listed, Name, NetError, Table, add_copies};
-use net_text::{content_of, is_long_line, is_name};
+use net_document::{
+    Body, Latch, LatchLine, Listed, Name, NetError, Table, add_copies, content_of, is_long_line,
+    is_name,
+};
 use std::alloc::{AllocError, Global};
 
 /// `INPUT(a)`

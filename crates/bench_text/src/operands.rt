@@ -10,8 +10,7 @@ ghost use Rattle.std.specs.Option.{option_map};
 
 use crate::items::{is_item, is_mark_item, next_item};
 use blif_text::MOST_WIDTH;
-use net_document::{Name, NetError};
-use net_text::is_name;
+use net_document::{Name, NetError, is_name};
 use std::alloc::{AllocError, Global};
 
 /// Adds the words up to the closing parenthesis to `names`, and returns whether they are separated by commas and

@@ -13,7 +13,7 @@ use Rattle.net_theory.specs.WellFormed.{IsTable, IsLatchLine, IsControl, IsInit}
 use Rattle.net_core.specs.declared.error.NetError.{NetError}
 use Rattle.blif_text.specs.Reading.{◌>>=◌}
 use Rattle.blif_text.specs.Logical.{logical_from, logical_of}
-use Rattle.net_text.specs.Contents.{is_nothing}
+use Rattle.net_document.specs.Contents.{is_nothing}
 use Rattle.blif_text.specs.Rows.{bit_in, row_in, with_row, row_of}
 use Rattle.blif_text.specs.Latches.{trigger_in, init_in, tail_with, with_control, tail_by, tail_by_both, tail_in, latch_with, latch_of}
 use Rattle.blif_text.specs.Statements.{Said, nothing, closed, are_names, with_model, front_of, last_of, empty_table, table_of, with_table, with_latch, directed, begins_dot, keyword_of, stated, steps, listed_by}

@@ -7,11 +7,11 @@ use Rattle.text_core.specs.Lines.{Line, lines_of}
 use Rattle.text_core.specs.Words.{is_free}
 use Rattle.text_core.specs.ReadBack.{line_back, free_both}
 use Rattle.net_theory.specs.Document.{Name, IsName, is_name, is_name_byte}
-use Rattle.net_text.specs.Contents.{is_blank, before_from, before_comment, trimmed, without_last, or_whole, content_of}
+use Rattle.net_document.specs.Contents.{is_blank, before_from, before_comment, trimmed, without_last, or_whole, content_of}
 use Rattle.blif_text.specs.Logical.{Logical, begun_at, ended_by, going_on, line_then, logical_from, logical_of}
 use Rattle.blif_text.specs.Words.{word_then, words_from, words_of, has_long}
 use Rattle.blif_text.specs.Statements.{Said, stated, step}
-use Rattle.net_text.specs.EndLaws.{trimmed-other, without_last-push}
+use Rattle.net_document.specs.EndLaws.{trimmed-other, without_last-push}
 use Rattle.blif_core.specs.Spelling.{words_text}
 
 -- a line of words, separated by blanks

@@ -3,8 +3,8 @@ pub use Rattle.text_core.specs.Cuts
 pub use Rattle.net_theory.specs.Document
 pub use Rattle.net_theory.specs.Cover
 pub use Rattle.net_document.specs.Listed
-pub use Rattle.net_text.specs.Contents
-pub use Rattle.net_text.specs.Limits
+pub use Rattle.net_document.specs.Contents
+pub use Rattle.net_document.specs.Limits
 pub mod Logical
 pub mod Words
 pub mod Walks

@@ -2,7 +2,7 @@
 -- continued by the next one.
 use Rattle.std.specs.Prelude.{ℕ, ◌+◌, ◌==◌, if◌then◌else◌, List, [], ◌∷◌, ◌++◌, length, Option, Some, None}
 use Rattle.text_core.specs.Lines.{Line, lines_of}
-use Rattle.net_text.specs.Contents.{without_last, content_of}
+use Rattle.net_document.specs.Contents.{without_last, content_of}
 
 -- a logical line: the number of its first line, the number of bytes of all its lines without their
 -- LFs but with comments, and its content

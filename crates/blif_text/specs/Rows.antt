@@ -2,7 +2,7 @@
 use Rattle.std.specs.Prelude.{ℕ, Bool, true, false, not, ◌||◌, ◌==◌, nat_le, if◌then◌else◌, List, [], ◌∷◌, ◌++◌, length, Option, Some, None, Result, Ok, Err}
 use Rattle.net_theory.specs.Cover.{is_cube}
 use Rattle.net_theory.specs.Document.{Table}
-use Rattle.net_text.specs.Contents.{is_nothing}
+use Rattle.net_document.specs.Contents.{is_nothing}
 use Rattle.net_core.specs.declared.error.NetError.{NetError}
 use Rattle.net_core.specs.declared.error.NetError.TheVariants.{Syntax, MixedCover, TooManyRows}
 

@@ -16,7 +16,7 @@ use Rattle.net_theory.specs.Naming.{control_of, second_of}
 use Rattle.net_core.specs.declared.error.NetError.{NetError}
 use Rattle.net_document.specs.Listed.{times}
 use Rattle.net_document.specs.TimesLaws.{times-append}
-use Rattle.net_text.specs.Limits.{is_long_word}
+use Rattle.net_document.specs.Limits.{is_long_word}
 use Rattle.blif_text.specs.Reading.{◌>>=◌}
 use Rattle.blif_text.specs.Words.{has_long}
 use Rattle.blif_text.specs.Statements.{Control, Said, nothing, closed, with_table, with_latch, control_at}

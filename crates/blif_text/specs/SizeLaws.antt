@@ -5,8 +5,8 @@ use Rattle.std.specs.List.{sum_by}
 use Rattle.std.proofs.lemmas.Bool.{cond_both}
 use Rattle.std.proofs.lemmas.List.Sums.{sum_by-cons}
 use Rattle.text_core.specs.Lines.{Line, lines_from, lines_of}
-use Rattle.net_text.specs.Contents.{is_blank, without_last, content_of}
-use Rattle.net_text.specs.SizeLaws.{without_found, content_short}
+use Rattle.net_document.specs.Contents.{is_blank, without_last, content_of}
+use Rattle.net_document.specs.SizeLaws.{without_found, content_short}
 use Rattle.blif_text.specs.Logical.{Logical, begun_at, going_on, ended_by, line_then, logical_from, logical_of}
 use Rattle.blif_text.specs.Words.{word_then, words_from, words_of}
 

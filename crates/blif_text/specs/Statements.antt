@@ -9,8 +9,8 @@ use Rattle.net_core.specs.declared.error.NetError.TheVariants.{Syntax, NotSuppor
 use Rattle.net_document.specs.Listed.{Listed}
 use Rattle.blif_text.specs.declared.keywords.Keyword.{Keyword}
 use Rattle.blif_text.specs.declared.keywords.Keyword.TheVariants.{Model, Inputs, Outputs, Clock, Names, Latch, End, Unknown}
-use Rattle.net_text.specs.Contents.{is_nothing}
-use Rattle.net_text.specs.Limits.{is_long_line}
+use Rattle.net_document.specs.Contents.{is_nothing}
+use Rattle.net_document.specs.Limits.{is_long_line}
 use Rattle.blif_text.specs.Logical.{Logical, logical_of}
 use Rattle.blif_text.specs.Words.{words_of, has_long}
 use Rattle.blif_text.specs.Rows.{row_of}

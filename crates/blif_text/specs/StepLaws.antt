@@ -17,7 +17,7 @@ use Rattle.blif_text.specs.declared.keywords.Keyword.{Keyword}
 use Rattle.blif_text.specs.declared.keywords.Keyword.TheVariants.{Model, Inputs, Outputs, Clock, Names, Latch as LatchWord, End, Unknown}
 use Rattle.blif_text.specs.Logical.{Logical}
 use Rattle.blif_text.specs.Words.{words_of, has_long}
-use Rattle.net_text.specs.Contents.{is_nothing}
+use Rattle.net_document.specs.Contents.{is_nothing}
 use Rattle.blif_text.specs.Rows.{Row, bit_in, row_with, row_in, agrees, with_row, row_of}
 use Rattle.blif_text.specs.Latches.{Tail, trigger_in, init_in, tail_with, with_control, tail_by, tail_by_both, tail_in, latch_with, latch_of}
 use Rattle.blif_text.specs.Statements.{Said, closed, are_names, with_model, front_of, last_of, empty_table, table_of, with_table, with_latch, directed, covered, behind_end, begins_dot, keyword_of, stated, step, steps}

@@ -1,8 +1,8 @@
 -- The words of a logical line.
 use Rattle.std.specs.Prelude.{ℕ, Bool, if◌then◌else◌, List, [], ◌∷◌, ◌++◌}
 use Rattle.std.specs.List.{list_any}
-use Rattle.net_text.specs.Contents.{is_blank}
-use Rattle.net_text.specs.Limits.{is_long_word}
+use Rattle.net_document.specs.Contents.{is_blank}
+use Rattle.net_document.specs.Limits.{is_long_word}
 
 abbrev pub word_then : List ℕ → List (List ℕ) → List (List ℕ)
 word_then [] ws = ws

@@ -8,8 +8,7 @@ ghost use Rattle.blif_text.specs.Latches.{with_control, tail_in as tail_in_of, l
 ghost use Rattle.blif_text.specs.Found.{control_found, tail_found};
 
 use crate::words::{is_word, next_word};
-use net_document::{Latch, LatchLine, Name, NetError, Trigger};
-use net_text::is_name;
+use net_document::{Latch, LatchLine, Name, NetError, Trigger, is_name};
 use std::alloc::{AllocError, Global};
 
 /// The trigger that a word names.

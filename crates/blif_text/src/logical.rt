@@ -5,7 +5,7 @@ ghost use Rattle.std.specs.Prelude.{◌≡◌, ◌+◌, ◌≤◌, ◌<◌, ◌^
 ghost use Rattle.blif_text.specs.Logical.{logical_of};
 ghost use Rattle.blif_text.specs.Walks.{logical_in};
 
-use net_text::{content_of, without_last};
+use net_document::{content_of, without_last};
 use std::alloc::{AllocError, Global};
 use std::marker::Model;
 use text_core::next_line;

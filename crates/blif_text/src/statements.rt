@@ -19,8 +19,7 @@ use crate::logical::LogicalLine;
 use crate::reading::{Control, CoverTable, Reading};
 use crate::rows::take_row;
 use crate::words::{add_words, are_names, count_words, has_long, is_word, next_word};
-use net_document::{Cover, LatchLine, Name, NetError, Trigger, add_copies};
-use net_text::{is_long_line, is_name};
+use net_document::{Cover, LatchLine, Name, NetError, Trigger, add_copies, is_long_line, is_name};
 use std::alloc::{AllocError, Global};
 
 /// The maximal number of inputs of a table.

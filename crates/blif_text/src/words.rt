@@ -6,8 +6,7 @@ ghost use Rattle.blif_text.specs.Words.{words_of, has_long as has_long_of};
 ghost use Rattle.blif_text.specs.Walks.{words_in};
 ghost use Rattle.blif_text.specs.Statements.{are_names as are_names_of};
 
-use net_document::Name;
-use net_text::{is_blank, is_long_word, is_name};
+use net_document::{Name, is_blank, is_long_word, is_name};
 use std::alloc::AllocError;
 
 /// The first word of a text and the rest after it; None if the text has no word.

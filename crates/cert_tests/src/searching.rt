@@ -1,6 +1,6 @@
 //! The search for a chain of the fewest steps.
-use bundle_core::{Bundle, Verdict};
 use cdcl_core::Cdcl;
+use cert_theory::{Bundle, Verdict};
 use op_basis::Basis;
 use settings::Method;
 use size_loop::{Advance, Search, search};

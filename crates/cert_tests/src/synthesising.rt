@@ -1,6 +1,6 @@
 //! The certificates of `synth`.
-use bundle_core::Verdict;
 use cdcl_core::Cdcl;
+use cert_theory::Verdict;
 use op_basis::Basis;
 use settings::Method;
 use size_loop::Search;

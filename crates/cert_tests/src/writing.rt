@@ -1,6 +1,6 @@
 //! Certificates as they are written, piece by piece.
-use bundle_core::{Ended, PartLog, Section, Verdict};
-use bundle_text::{write_ending, write_heading, write_section};
+use cert_text::{write_ending, write_heading, write_section};
+use cert_theory::{Ended, PartLog, Section, Verdict};
 use cnf_core::Lit;
 use enc_theory::Part;
 use fence_core::Fence;

@@ -11,3 +11,4 @@ pub mod Judging
 pub mod GivesLaws
 pub mod SectionLaws
 pub mod FrontLaws
+pub mod Thrift

@@ -13,17 +13,23 @@
 //! - `specs/Judging.antt`: the lines of a certificate, and the first fault where they aren't a valid one.
 //! - `specs/Meaning.antt`: what each verdict says about chains.
 //!
-//! `Bundle` is a certificate as data: made by the loop over sizes and written by `bundle_text`. Contracts see
+//! `Bundle` is a certificate as data: made by the loop over sizes and written by `cert_text`. Contracts see
 //! it as the value of `specs/Bundle.antt`.
 //!
 //! The theorems, in `cert_laws`: lines are accepted with a verdict exactly where they spell a valid certificate
 //! that has it, and the verdict of a valid certificate is true.
 #![tactic(auto)]
 
+mod bundle;
 mod data;
 pub mod laws;
+mod part_log;
+mod section;
 mod titles;
 mod verdicts;
 
+pub use bundle::Bundle;
 pub use data::{BundleError, Ended, Heading, PartError, Verdict};
+pub use part_log::PartLog;
+pub use section::Section;
 pub use titles::title_of;

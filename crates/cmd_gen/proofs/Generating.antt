@@ -4,7 +4,7 @@ use Rattle.std.proofs.Common.{subst}
 use Rattle.std.proofs.lemmas.Grind.{common_steps}
 use Rattle.blif_core.specs.Blif.{blif_format}
 use Rattle.gen_core.specs.Generated.{generated_text}
-use Rattle.improve_settings.specs.Improve.{usual}
+use Rattle.settings.specs.Improve.{usual}
 use Rattle.improve_windows.specs.Improving.{IsReported}
 use Rattle.command_line.specs.declared.command.Deed.TheVariants.{Write, Improve}
 use Rattle.frame_core.specs.Told.{Reply}

@@ -1,7 +1,7 @@
 -- The task of `gen`, and its replies.
 use Rattle.std.specs.Prelude.{ℕ, None}
 use Rattle.gen_core.specs.Generated.{generated_text}
-use Rattle.improve_settings.specs.Improve.{usual}
+use Rattle.settings.specs.Improve.{usual}
 use Rattle.command_line.specs.declared.command.Deed.{Deed}
 use Rattle.command_line.specs.declared.command.Deed.TheVariants.{Write, Improve}
 use Rattle.command_line.specs.declared.command.Format.TheVariants.{Blif}

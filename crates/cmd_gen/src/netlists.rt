@@ -9,11 +9,11 @@ ghost use Rattle.cmd_gen.specs.GenReport.{gen_reply, gen_task};
 use command_line::Deed;
 use frame_core::{Replier, Reply, Status, Stop};
 use gen_core::generate;
-use gen_laws::{generated_netlists_are_netlists, generated_netlists_are_small};
-use improve_settings::ImproveSettings;
+use gen_core::laws::{generated_netlists_are_netlists, generated_netlists_are_small};
 use improve_windows::improve_blif;
 use net_core::NetError;
 use sat_solve::Solver;
+use settings::ImproveSettings;
 use std::alloc::{AllocError, Global};
 use std::marker::PhantomData;
 

@@ -5,7 +5,7 @@ use Rattle.net_core.specs.declared.error.NetError.{NetError}
 use Rattle.net_core.specs.declared.error.NetError.TheVariants as nets
 use Rattle.net_document.specs.Format.{IsRefusedText}
 use Rattle.op_basis.specs.Text.{bench_set}
-use Rattle.improve_settings.specs.declared.improve.ImproveSettings.{ImproveSettings}
+use Rattle.settings.specs.declared.improve.ImproveSettings.{ImproveSettings}
 use Rattle.improve_windows.specs.Improving.{FitsFormat, IsReported}
 use Rattle.improve_windows.specs.FitsLaws.{fits_bench}
 use Rattle.command_line.specs.declared.command.Format.TheVariants.{Bench}

@@ -7,7 +7,7 @@ use Rattle.net_document.specs.Format.{IsNetlist, ListsWell}
 use Rattle.net_document.specs.FormatLaws.{fault_one, fault_never}
 use Rattle.blif_text.specs.ListingLaws as tables
 use Rattle.bench_text.specs.ListingLaws as gates
-use Rattle.improve_settings.specs.declared.improve.ImproveSettings.{ImproveSettings}
+use Rattle.settings.specs.declared.improve.ImproveSettings.{ImproveSettings}
 use Rattle.improve_windows.specs.Improving.{IsReported}
 use Rattle.command_line.specs.declared.command.Command.TheVariants.{Improve}
 use Rattle.command_line.specs.declared.command.Format.TheVariants.{Blif, Bench}

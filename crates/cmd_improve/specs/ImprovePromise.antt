@@ -2,7 +2,7 @@
 use Rattle.std.specs.Prelude.{◌≡◌, ℕ, ◌≤◌, ◌⊎◌, List, length}
 use Rattle.command_line.specs.declared.command.Command.TheVariants.{Improve}
 use Rattle.command_line.specs.CommandLine.{AsksFor}
-use Rattle.improve_settings.specs.declared.improve.ImproveSettings.{ImproveSettings}
+use Rattle.settings.specs.declared.improve.ImproveSettings.{ImproveSettings}
 use Rattle.net_core.specs.declared.error.NetError.{NetError}
 use Rattle.net_document.specs.Format.{IsNetlist}
 use Rattle.frame_core.specs.declared.status.Status.TheVariants.{Done, Undecided, Refused}

@@ -6,7 +6,7 @@ use Rattle.blif_core.specs.Blif.{blif_format}
 use Rattle.bench_core.specs.Bench.{bench_format}
 use Rattle.command_line.specs.declared.command.Format as asked_format
 use Rattle.command_line.specs.declared.command.Format.TheVariants.{Blif, Bench}
-use Rattle.improve_settings.specs.declared.improve.ImproveSettings.{ImproveSettings}
+use Rattle.settings.specs.declared.improve.ImproveSettings.{ImproveSettings}
 use Rattle.improve_windows.specs.Improving.{IsReported}
 use Rattle.frame_core.specs.declared.status.Status.TheVariants.{Done}
 use Rattle.frame_core.specs.Told.{Reply, Refusal}

@@ -9,10 +9,10 @@ ghost use Rattle.frame_core.specs.Views.{reply_value, refusal_value};
 use cmd_lines::{name_net, net_status};
 use command_line::Format;
 use frame_core::{Field, Refusal, Replier, Reply, Report, Status, Stop};
-use improve_settings::ImproveSettings;
 use improve_windows::{ImprovedText, improve_bench, improve_blif};
 use net_core::NetError;
 use sat_solve::Solver;
+use settings::ImproveSettings;
 use std::alloc::Global;
 use std::marker::PhantomData;
 

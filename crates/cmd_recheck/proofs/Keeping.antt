@@ -5,7 +5,7 @@ use Rattle.text_core.specs.Lines.{Line}
 use Rattle.frame_core.specs.declared.replies.Refusal.{Refusal}
 use Rattle.frame_core.specs.Task.{Task, Refuses, IsWithin}
 use Rattle.frame_core.specs.Views.{refusal_value}
-use Rattle.cmd_verdicts.specs.Verdicts.{most_of_bundle}
+use Rattle.depth_theory.specs.Verdicts.{most_of_bundle}
 use Rattle.cmd_recheck.specs.declared.job.Reading.{Reading}
 use Rattle.cmd_recheck.specs.declared.job.Reading.TheVariants.{Refused}
 use Rattle.cmd_recheck.specs.Keeping.{Keeps}

@@ -9,13 +9,13 @@ use Rattle.cert_theory.specs.declared.data.BundleError.TheVariants as bundles
 use Rattle.cert_theory.specs.Judging.{bundle_of}
 use Rattle.cert_theory.specs.Gives.{Fails}
 use Rattle.cert_laws.specs.BundlesAgain.{text_again}
-use Rattle.cmd_verdicts.specs.Verdicts.{most_of_bundle}
+use Rattle.depth_theory.specs.Verdicts.{most_of_bundle}
 use Rattle.cert_file.specs.Standing.{Ends}
 use Rattle.frame_core.specs.declared.status.Status.TheVariants.{Done}
 use Rattle.cmd_recheck.specs.RecheckReport.{verdict_text, recheck_reply, recheck_refusal, recheck_task}
 use Rattle.frame_core.specs.Told.{Reply, Refusal}
 use Rattle.frame_core.specs.Task.{Tells, Refuses}
-use Rattle.cmd_verdicts.specs.VerdictLaws.{is_verdict}
+use Rattle.depth_theory.specs.VerdictLaws.{is_verdict}
 
 -- ---- the result of judging a certificate
 

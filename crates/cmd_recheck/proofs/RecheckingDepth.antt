@@ -19,7 +19,7 @@ use Rattle.depth_theory.specs.DepthSpelling.{IsDepthText, HasDepth}
 use Rattle.depth_theory.specs.DepthAgain.{judged_again}
 use Rattle.frame_core.specs.Told.{Reply, Field, Word, Refusal}
 use Rattle.frame_core.specs.Task.{Tells, Refuses}
-use Rattle.cmd_verdicts.specs.Verdicts.{most_of_bundle}
+use Rattle.depth_theory.specs.Verdicts.{most_of_bundle}
 use Rattle.cmd_recheck.specs.RecheckReport.{named_bundle}
 use Rattle.depth_file.specs.Standing.{Ends}
 use Rattle.frame_core.specs.declared.status.Status.TheVariants.{Done}

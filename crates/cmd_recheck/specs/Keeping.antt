@@ -5,7 +5,7 @@ use Rattle.line_reader.specs.Reader.{IsReader, StandsFor}
 use Rattle.line_reader.specs.Seen.{seen}
 use Rattle.frame_core.specs.Task.{Task, Refuses}
 use Rattle.frame_core.specs.Views.{refusal_value}
-use Rattle.cmd_verdicts.specs.Verdicts.{most_of_bundle}
+use Rattle.depth_theory.specs.Verdicts.{most_of_bundle}
 use Rattle.cmd_recheck.specs.declared.job.Reading.{Reading}
 use Rattle.cmd_recheck.specs.declared.job.Reading.TheVariants.{Good, Refused}
 

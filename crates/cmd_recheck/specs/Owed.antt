@@ -9,7 +9,7 @@ use Rattle.frame_core.specs.declared.status.Status.{Status}
 use Rattle.frame_core.specs.declared.status.Status.TheVariants.{Done}
 use Rattle.frame_core.specs.Run.{Run}
 use Rattle.cmd_lines.specs.Owing.{AsksWell, Owes}
-use Rattle.cmd_verdicts.specs.Verdicts.{most_of_bundle}
+use Rattle.depth_theory.specs.Verdicts.{most_of_bundle}
 use Rattle.cmd_recheck.specs.RecheckPromise.{RecheckPromise}
 use Rattle.cmd_recheck.specs.RecheckDepthPromise.{RecheckDepthPromise}
 

@@ -20,7 +20,7 @@ use Rattle.frame_core.specs.Run.{Run}
 use Rattle.frame_core.specs.Promise.{Stands, CommandPromise}
 use Rattle.frame_core.specs.TaskLaws.{at_once_task}
 use Rattle.depth_file.specs.SpentLaws.{log_is_spent}
-use Rattle.cmd_verdicts.specs.Verdicts.{most_of_bundle, GivesLevels}
+use Rattle.depth_theory.specs.Verdicts.{most_of_bundle, GivesLevels}
 use Rattle.cmd_recheck.specs.RecheckReport.{bundle_status}
 use Rattle.cmd_recheck.specs.RecheckDepthReport.{named_depth, depth_reply, depth_refusal, HasDepthFault, depth_task}
 use Rattle.cmd_recheck.specs.RecheckDepthPromise.{TellsLevels, RecheckDepthPromise}

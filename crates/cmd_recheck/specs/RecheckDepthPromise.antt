@@ -12,7 +12,7 @@ use Rattle.depth_theory.specs.DepthMeaning.{Means}
 use Rattle.depth_file.specs.Spent.{IsLeftOpen}
 use Rattle.cmd_recheck.specs.RecheckDepthReport.{depth_reply, depth_task}
 use Rattle.cmd_recheck.specs.Rechecks.{Rechecks}
-use Rattle.cmd_verdicts.specs.Verdicts.{GivesLevels}
+use Rattle.depth_theory.specs.Verdicts.{GivesLevels}
 use Rattle.frame_core.specs.Run.{Run}
 use Rattle.frame_core.specs.Promise.{Stands}
 

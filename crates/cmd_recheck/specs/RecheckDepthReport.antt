@@ -13,7 +13,7 @@ use Rattle.frame_core.specs.declared.status.Status.{Status}
 use Rattle.frame_core.specs.declared.status.Status.TheVariants.{Done, Malformed, Memory, Refused}
 use Rattle.frame_core.specs.Told.{Reply, Field, Word, Refusal, plain, at, memory}
 use Rattle.frame_core.specs.Task.{Task, at_once}
-use Rattle.cmd_verdicts.specs.Verdicts.{most_of_bundle, GivesLevels}
+use Rattle.depth_theory.specs.Verdicts.{most_of_bundle, GivesLevels}
 use Rattle.cmd_recheck.specs.RecheckReport.{bundle_status, named_step, named_bundle}
 
 -- the output: the line of the levels

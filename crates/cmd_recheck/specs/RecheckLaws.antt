@@ -13,7 +13,7 @@ use Rattle.cert_laws.specs.QuestionLaws.{bundle_asks, verdict_answers}
 use Rattle.command_line.specs.declared.command.Command.TheVariants.{Recheck}
 use Rattle.command_line.specs.CommandLine.{AsksFor}
 use Rattle.frame_core.specs.declared.status.Status.TheVariants.{Malformed, Refused}
-use Rattle.cmd_verdicts.specs.Verdicts.{most_of_bundle, GivesVerdict}
+use Rattle.depth_theory.specs.Verdicts.{most_of_bundle, GivesVerdict}
 use Rattle.cmd_recheck.specs.RecheckReport.{bundle_status, named_bundle, recheck_reply, recheck_refusal, HasBundleFault, recheck_task}
 use Rattle.frame_core.specs.Told.{memory_refusal}
 use Rattle.frame_core.specs.Task.{IsTask}

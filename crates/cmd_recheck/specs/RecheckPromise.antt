@@ -8,7 +8,7 @@ use Rattle.cert_theory.specs.Bundle.{Bundle}
 use Rattle.cert_theory.specs.Meaning.{Means}
 use Rattle.cert_theory.specs.Spelling.{IsBundle}
 use Rattle.cert_theory.specs.Question.{HasQuestion}
-use Rattle.cmd_verdicts.specs.Verdicts.{GivesVerdict}
+use Rattle.depth_theory.specs.Verdicts.{GivesVerdict}
 use Rattle.cmd_recheck.specs.RecheckReport.{recheck_reply, recheck_task}
 use Rattle.cmd_recheck.specs.Rechecks.{Rechecks}
 use Rattle.frame_core.specs.Run.{Run}

@@ -13,7 +13,7 @@ use Rattle.frame_core.specs.declared.status.Status.{Status}
 use Rattle.frame_core.specs.declared.status.Status.TheVariants.{Done, Malformed, Memory, Refused}
 use Rattle.frame_core.specs.Told.{Reply, Field, Word, Number, Refusal, at, memory}
 use Rattle.frame_core.specs.Task.{Task, at_once}
-use Rattle.cmd_verdicts.specs.Verdicts.{most_of_bundle, GivesVerdict}
+use Rattle.depth_theory.specs.Verdicts.{most_of_bundle, GivesVerdict}
 
 -- the output: the verdict line
 unfoldable pub verdict_text : Verdict → List ℕ

@@ -7,7 +7,7 @@ use Rattle.frame_core.specs.Task.{Task}
 use Rattle.frame_core.specs.Run.{Run}
 use Rattle.frame_core.specs.Promise.{InputHeld, OutputHeld, Stands, TellsError, Replies, Faults}
 use Rattle.cmd_lines.specs.Runs.{Runs}
-use Rattle.cmd_verdicts.specs.Verdicts.{most_of_bundle}
+use Rattle.depth_theory.specs.Verdicts.{most_of_bundle}
 
 -- `command` has the task `task`. `Spells` says which bytes are the text of a valid certificate, `verdict` is its
 -- verdict, and the predicate on runs says what the reported verdict means.

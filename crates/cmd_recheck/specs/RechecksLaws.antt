@@ -11,7 +11,7 @@ use Rattle.frame_core.specs.Promise.{OutputHeld, Stands, Replies, Faults, Comman
 use Rattle.frame_core.specs.KeepingLaws.{of_input}
 use Rattle.frame_core.specs.ReadOffLaws.{gets, done_replies, limit_beyond, refused_faults, never_undecided}
 use Rattle.cmd_lines.specs.Runs.{Runs}
-use Rattle.cmd_verdicts.specs.Verdicts.{most_of_bundle}
+use Rattle.depth_theory.specs.Verdicts.{most_of_bundle}
 use Rattle.cmd_recheck.specs.Rechecks.{Rechecks}
 
 -- The refusal of a fault has the status `Malformed` or `Refused`, or memory ran out.

@@ -3,7 +3,7 @@
 ghost use Rattle.std.specs.Prelude.{◌≡◌, ℕ, ◌+◌, ◌^◌, ◌<◌, ◌≤◌, List, ◌++◌, Some, None, Ok, Err, IfOk, length};
 ghost use Rattle.line_reader.specs.Reader.{IsReader, StandsFor};
 ghost use Rattle.line_reader.specs.Seen.{seen};
-ghost use Rattle.cmd_verdicts.specs.Verdicts.{most_of_bundle};
+ghost use Rattle.depth_theory.specs.Verdicts.{most_of_bundle};
 ghost use Rattle.cmd_recheck.specs.Keeping.{Keeps, IsWhole, count_of};
 ghost use Rattle.frame_core.specs.declared.status.Status.TheVariants.{Done};
 ghost use Rattle.frame_core.specs.Task.{Task, Tells};

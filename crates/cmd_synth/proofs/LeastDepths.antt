@@ -18,15 +18,15 @@ use Rattle.depth_theory.specs.DepthSpelling.{IsDepthText}
 use Rattle.depth_file.specs.JudgedLaws.{text_judged}
 use Rattle.settings.specs.declared.synth.SynthSettings.{SynthSettings}
 use Rattle.synth_core.specs.Tables.{tables_alone}
-use Rattle.depth_run.specs.declared.certificate.Found.{Found}
-use Rattle.depth_run.specs.declared.certificate.Found.TheVariants.{Least, Other}
-use Rattle.depth_run.specs.Certifying.{IsLeast, IsCertificate}
+use Rattle.synth_core.specs.declared.least_depth.Found.{Found}
+use Rattle.synth_core.specs.declared.least_depth.Found.TheVariants.{Least, Other}
+use Rattle.synth_core.specs.DepthCertifying.{IsLeast, IsCertificate}
 use Rattle.frame_core.specs.Told.{Reply, Refusal}
 use Rattle.frame_core.specs.Task.{Tells, Refuses}
 use Rattle.cmd_lines.specs.TableLines.{most_of_tables}
 use Rattle.cmd_synth.specs.SynthReport.{synth_refusal, AreTables}
 use Rattle.cmd_synth.specs.LeastDepthReport.{least_depth_reply, Means, IsJudgedSo, IsAcceptedSo, least_depth_task}
-use Rattle.cmd_verdicts.specs.Verdicts.{most_of_bundle, GivesLevels}
+use Rattle.depth_theory.specs.Verdicts.{most_of_bundle, GivesLevels}
 use Rattle.cmd_synth.specs.CertifiedLaws.{its_meaning, its_verdict, its_recheck}
 use Rattle.cmd_synth.proofs.Synthesising.{told_fault}
 use Rattle.cmd_synth.specs.LeastDepthLaws.{least_levels}

@@ -19,10 +19,10 @@ use Rattle.cert_laws.specs.Meanings.{verdict_means}
 use Rattle.settings.specs.declared.synth.SynthSettings.{SynthSettings}
 use Rattle.synth_core.specs.Certifying.{IsCertificate}
 use Rattle.synth_core.specs.Tables.{words_alone, tables_alone}
-use Rattle.cmd_verdicts.specs.Verdicts.{most_of_bundle, GivesVerdict}
+use Rattle.depth_theory.specs.Verdicts.{most_of_bundle, GivesVerdict}
 use Rattle.cmd_lines.specs.TableLines.{most_of_tables}
 use Rattle.cmd_synth.specs.SynthReport.{Certified, IsCertified}
-use Rattle.cmd_verdicts.specs.VerdictLaws.{is_verdict}
+use Rattle.depth_theory.specs.VerdictLaws.{is_verdict}
 
 -- the verdict of a valid certificate is true
 bundle_means : (b : Bundle) (bytes : List ℕ) → IsBundle bytes b → Means (specification b.heading.spec) (members b.heading.basis) b.verdict

@@ -19,9 +19,9 @@ use Rattle.depth_file.specs.SpentLaws.{log_is_spent}
 use Rattle.synth_core.specs.Asking.{heading_of}
 use Rattle.settings.specs.declared.synth.SynthSettings.{SynthSettings}
 use Rattle.synth_core.specs.Tables.{tables_alone}
-use Rattle.depth_run.specs.declared.certificate.Found.{Found}
-use Rattle.depth_run.specs.declared.certificate.Found.TheVariants.{Least, Other}
-use Rattle.depth_run.specs.Certifying.{IsLeast, IsOther, IsCertificate}
+use Rattle.synth_core.specs.declared.least_depth.Found.{Found}
+use Rattle.synth_core.specs.declared.least_depth.Found.TheVariants.{Least, Other}
+use Rattle.synth_core.specs.DepthCertifying.{IsLeast, IsOther, IsCertificate}
 use Rattle.command_line.specs.CommandLine.{AsksFor}
 use Rattle.command_line.specs.declared.command.Command.TheVariants.{LeastDepth}
 use Rattle.frame_core.specs.declared.status.Status.TheVariants.{Done, Undecided, Refused}

@@ -12,16 +12,16 @@ use Rattle.cert_theory.specs.Judging.{bundle_of}
 use Rattle.depth_theory.specs.declared.data.DepthVerdict.TheVariants.{Levels, Bounded}
 use Rattle.depth_theory.specs.DepthMeaning as depths
 use Rattle.depth_theory.specs.DepthJudging.{IsJudged}
-use Rattle.depth_run.specs.declared.certificate.Found.{Found}
-use Rattle.depth_run.specs.declared.certificate.Found.TheVariants.{Least, Other}
-use Rattle.depth_run.specs.Certifying.{IsCertificate}
+use Rattle.synth_core.specs.declared.least_depth.Found.{Found}
+use Rattle.synth_core.specs.declared.least_depth.Found.TheVariants.{Least, Other}
+use Rattle.synth_core.specs.DepthCertifying.{IsCertificate}
 use Rattle.frame_core.specs.declared.status.Status.{Status}
 use Rattle.frame_core.specs.declared.status.Status.TheVariants.{Done, Undecided}
 use Rattle.frame_core.specs.Told.{Reply}
 use Rattle.frame_core.specs.Task.{Task, at_once}
 use Rattle.cmd_lines.specs.TableLines.{most_of_tables}
-use Rattle.cmd_verdicts.specs.Verdicts.{most_of_bundle, GivesVerdict}
-use Rattle.cmd_verdicts.specs.Verdicts.{GivesLevels}
+use Rattle.depth_theory.specs.Verdicts.{most_of_bundle, GivesVerdict}
+use Rattle.depth_theory.specs.Verdicts.{GivesLevels}
 use Rattle.cmd_synth.specs.SynthReport.{verdict_status, synth_refusal, AreTables, HasTablesFault}
 
 -- If the fewest levels are known, the status is `Done`; if a budget was reached before, it is `Undecided`.

@@ -6,8 +6,8 @@ use Rattle.settings.specs.declared.synth.SynthSettings.{SynthSettings}
 use Rattle.cert_theory.specs.declared.data.Verdict.{Verdict}
 use Rattle.cert_theory.specs.declared.data.Verdict.TheVariants as verdicts
 use Rattle.depth_theory.specs.declared.data.DepthVerdict.TheVariants as depths
-use Rattle.depth_run.specs.declared.certificate.Found.{Found}
-use Rattle.depth_run.specs.declared.certificate.Found.TheVariants.{Least, Other}
+use Rattle.synth_core.specs.declared.least_depth.Found.{Found}
+use Rattle.synth_core.specs.declared.least_depth.Found.TheVariants.{Least, Other}
 use Rattle.command_line.specs.declared.command.Command.TheVariants.{Synth, LeastDepth}
 use Rattle.frame_core.specs.declared.status.Status.{Status}
 use Rattle.frame_core.specs.declared.status.Status.TheVariants.{Done, Undecided}

@@ -19,7 +19,7 @@ use Rattle.frame_core.specs.declared.status.Status.{Status}
 use Rattle.frame_core.specs.declared.status.Status.TheVariants.{Done, Undecided}
 use Rattle.cmd_lines.specs.TableLines.{most_of_tables}
 use Rattle.cmd_lines.specs.TableLines.{spec_status, named_spec}
-use Rattle.cmd_verdicts.specs.Verdicts.{most_of_bundle, GivesVerdict}
+use Rattle.depth_theory.specs.Verdicts.{most_of_bundle, GivesVerdict}
 use Rattle.frame_core.specs.Told.{Reply, Refusal}
 use Rattle.frame_core.specs.Task.{Task, in_pieces}
 

@@ -7,12 +7,12 @@ ghost use Rattle.cmd_synth.specs.LeastDepthReport.{found_status as found_status_
 
 use crate::synth::{refusal_of, verdict_status};
 use cmd_lines::MOST_BYTES_OF_TABLES;
-use depth_run::{DepthCertificate, DepthVerdict, Found, certify_depth};
 use frame_core::{Replier, Reply, Status, Stop};
 use sat_solve::Solver;
 use settings::SynthSettings;
 use std::alloc::Global;
 use std::marker::PhantomData;
+use synth_core::{DepthCertificate, DepthVerdict, Found, certify_depth};
 use tt_core::SpecError;
 
 /// The status of what was found.

@@ -11,9 +11,9 @@ use Rattle.op_basis.specs.declared.error.BasisError.{BasisError}
 use Rattle.settings.specs.declared.methods.Method.{Method}
 use Rattle.settings.specs.declared.methods.Method.TheVariants.{Plain, Ssv, Select, Fence}
 use Rattle.settings.specs.declared.synth.SynthSettings.{SynthSettings}
-use Rattle.improve_settings.specs.declared.improve.ImproveSettings.{ImproveSettings}
+use Rattle.settings.specs.declared.improve.ImproveSettings.{ImproveSettings}
 use Rattle.settings.specs.Synth.{IsInRange, most_conflicts}
-use Rattle.improve_settings.specs.Improve as improver
+use Rattle.settings.specs.Improve as improver
 use Rattle.command_line.specs.declared.command.Command.{Command}
 use Rattle.command_line.specs.declared.command.Command.TheVariants as commands
 use Rattle.command_line.specs.declared.table.Kind.{Kind}

@@ -7,8 +7,8 @@ use Rattle.settings.specs.declared.methods.Method.TheVariants.{Fence}
 use Rattle.settings.specs.declared.synth.SynthSettings.{SynthSettings}
 use Rattle.settings.specs.Synth.{most_conflicts, IsInRange}
 use Rattle.op_basis.specs.Text.{bench_set}
-use Rattle.improve_settings.specs.declared.improve.ImproveSettings.{ImproveSettings}
-use Rattle.improve_settings.specs.Improve as improver
+use Rattle.settings.specs.declared.improve.ImproveSettings.{ImproveSettings}
+use Rattle.settings.specs.Improve as improver
 use Rattle.command_line.specs.declared.command.Command.{Command}
 use Rattle.command_line.specs.declared.command.Command.TheVariants as commands
 use Rattle.command_line.specs.declared.command.WordsError.{WordsError}

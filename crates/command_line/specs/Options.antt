@@ -8,7 +8,7 @@ use Rattle.op_basis.specs.declared.error.BasisError.{BasisError}
 use Rattle.settings.specs.declared.methods.Method.{Method}
 use Rattle.settings.specs.Methods.{method_named}
 use Rattle.settings.specs.Synth.{usual, most_steps, most_conflicts}
-use Rattle.improve_settings.specs.Improve as improver
+use Rattle.settings.specs.Improve as improver
 use Rattle.command_line.specs.declared.table.Kind.{Kind}
 use Rattle.command_line.specs.declared.table.Kind.TheVariants.{Agree, Recheck, Synth, Improve, Equiv, Gen}
 use Rattle.command_line.specs.declared.command.Deed.{Deed}

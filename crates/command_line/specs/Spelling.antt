@@ -4,7 +4,7 @@ use Rattle.std.specs.List.{IsDistinct, flat_map}
 use Rattle.std.specs.Map.{keys_of}
 use Rattle.settings.specs.declared.methods.Method.TheVariants.{Fence}
 use Rattle.settings.specs.declared.synth.SynthSettings.{SynthSettings}
-use Rattle.improve_settings.specs.declared.improve.ImproveSettings.{ImproveSettings}
+use Rattle.settings.specs.declared.improve.ImproveSettings.{ImproveSettings}
 use Rattle.command_line.specs.declared.command.Command.{Command}
 use Rattle.command_line.specs.declared.command.Command.TheVariants as commands
 use Rattle.command_line.specs.declared.table.Kind.{Kind}

@@ -1,7 +1,6 @@
 //! The commands that a command line can ask for.
 
-use improve_settings::ImproveSettings;
-use settings::SynthSettings;
+use settings::{ImproveSettings, SynthSettings};
 
 /// A format of netlists.
 #[derive(Clone, Copy, PartialEq, Eq)]

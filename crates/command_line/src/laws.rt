@@ -3,9 +3,9 @@ ghost use Rattle.std.specs.Prelude.{◌≡◌, ◌↔◌, ◌≤◌, true, ℕ, 
 ghost use Rattle.std.specs.List.Sorted.{IsPermutation};
 ghost use Rattle.settings.specs.declared.methods.Method.TheVariants.{Fence};
 ghost use Rattle.settings.specs.declared.synth.SynthSettings.{SynthSettings};
-ghost use Rattle.improve_settings.specs.declared.improve.ImproveSettings.{ImproveSettings};
+ghost use Rattle.settings.specs.declared.improve.ImproveSettings.{ImproveSettings};
 ghost use Rattle.settings.specs.Synth.{usual, IsInRange};
-ghost use Rattle.improve_settings.specs.Improve as improver;
+ghost use Rattle.settings.specs.Improve as improver;
 ghost use Rattle.command_line.specs.declared.command.Format.{Format};
 ghost use Rattle.command_line.specs.declared.command.Format.TheVariants.{Blif, Bench};
 ghost use Rattle.command_line.specs.declared.command.Deed.{Deed};

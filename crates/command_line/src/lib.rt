@@ -21,6 +21,5 @@ mod table;
 mod words;
 
 pub use command::{Command, Deed, Format, WordsError};
-pub use improve_settings::ImproveSettings;
-pub use settings::SynthSettings;
+pub use settings::{ImproveSettings, SynthSettings};
 pub use words::read_words;

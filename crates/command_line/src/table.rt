@@ -8,9 +8,11 @@ ghost use Rattle.command_line.specs.CommandLine.{value};
 
 use crate::command::{Deed, Format};
 use crate::pairs::{is_word, word_behind};
-use improve_settings::{ImproveSettings, MOST_EFFORT, MOST_GATES_OF_WINDOW, MOST_ROUNDS};
 use op_basis::{BENCH, Basis, read_basis};
-use settings::{MOST_CONFLICTS, MOST_STEPS, Method, SynthSettings, method_named};
+use settings::{
+    ImproveSettings, MOST_CONFLICTS, MOST_EFFORT, MOST_GATES_OF_WINDOW, MOST_ROUNDS, MOST_STEPS,
+    Method, SynthSettings, method_named,
+};
 use text_core::number_up_to;
 
 /// The names of the options.

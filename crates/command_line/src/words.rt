@@ -10,8 +10,7 @@ use crate::table::{
     given_depth, given_effort, given_format, given_least_depth, given_max, given_method,
     given_observe, given_rounds, kind_named,
 };
-use improve_settings::ImproveSettings;
-use settings::{Method, SynthSettings};
+use settings::{ImproveSettings, Method, SynthSettings};
 
 /// The settings of `synth`.
 fn asked_in(words: &[String]) -> Option<SynthSettings>

@@ -8,7 +8,7 @@ use Rattle.cert_theory.specs.declared.data.Heading.{Heading}
 use Rattle.cert_theory.specs.declared.data.Verdict.{Verdict}
 use Rattle.cert_theory.specs.declared.data.Verdict.TheVariants as verdicts
 use Rattle.cert_theory.specs.Bundle.{Bundle, IsValid, IsFound, HasOutput}
-use Rattle.size_loop.specs.Thrift.{AreThrifty}
+use Rattle.cert_theory.specs.Thrift.{AreThrifty}
 use Rattle.decide_core.specs.declared.deciding.Decided.{Decided}
 use Rattle.decide_core.specs.declared.deciding.Searched.{Searched}
 use Rattle.decide_core.specs.declared.deciding.Searched.TheVariants as searches

@@ -14,7 +14,7 @@ use Rattle.cert_theory.specs.Bundle.{Section, Bundle, IsHeading, IsSection, AreS
 use Rattle.cert_theory.specs.Meaning.{Means}
 use Rattle.cert_laws.specs.CodingLaws.{method_is_coding}
 use Rattle.cert_laws.specs.Meanings.{all_refuted, verdict_true}
-use Rattle.size_loop.specs.Thrift.{AreThrifty}
+use Rattle.cert_theory.specs.Thrift.{AreThrifty}
 use Rattle.decide_core.specs.Decided.{Fewer, HasNone, IsShorter, IsOpenVerdict, IsLeftOpen}
 
 -- ---- sizes

@@ -2,7 +2,7 @@
 use Rattle.std.specs.Prelude.{◌≡◌, ℕ, List}
 use Rattle.tt_core.specs.Words.{specification}
 use Rattle.cert_theory.specs.declared.data.Heading.{Heading}
-use Rattle.spec_order.specs.Order.{IsOrder, IsTurned}
+use Rattle.spec_cache.specs.Order.{IsOrder, IsTurned}
 
 -- k has the tables of h with their inputs permuted, the same `max` and the same basis
 pub record IsTurnedTo (h k : Heading) (order : List ℕ) : Type 0 where

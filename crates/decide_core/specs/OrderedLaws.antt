@@ -6,9 +6,9 @@ use Rattle.tt_core.specs.Words.{Words, IsSpec, specification}
 use Rattle.op_basis.specs.Basis.{members}
 use Rattle.cert_theory.specs.declared.data.Heading.{Heading}
 use Rattle.cert_theory.specs.Bundle.{IsHeading}
-use Rattle.spec_order.specs.Order.{IsOrder, IsPermuting, GoesBack, IsTurned}
-use Rattle.spec_order.specs.OrderLaws.{turned_chain, none_turned, chain_stands, size_turned, over_turned, agrees_turned}
-use Rattle.spec_order.specs.BackLaws.{turned_back}
+use Rattle.spec_cache.specs.Order.{IsOrder, IsPermuting, GoesBack, IsTurned}
+use Rattle.spec_cache.specs.OrderLaws.{turned_chain, none_turned, chain_stands, size_turned, over_turned, agrees_turned}
+use Rattle.spec_cache.specs.BackLaws.{turned_back}
 use Rattle.decide_core.specs.Decided.{Fewer, HasNone, IsShorter}
 use Rattle.decide_core.specs.Ordered.{IsTurnedTo}
 use Rattle.decide_core.specs.DecidedLaws.{deciding}

@@ -15,8 +15,8 @@ use Rattle.chain_core.specs.Steps.{IsSmallChain}
 use Rattle.chain_core.specs.Outside.{IsFirstOutside, IsJudged}
 use Rattle.cert_theory.specs.declared.data.Heading.{Heading}
 use Rattle.cert_theory.specs.Bundle.{IsHeading}
-use Rattle.spec_memory.specs.Facts.{spelled, IsFact}
-use Rattle.spec_memory.specs.FactLaws.{known_fact}
+use Rattle.spec_cache.specs.Facts.{spelled, IsFact}
+use Rattle.spec_cache.specs.FactLaws.{known_fact}
 use Rattle.decide_core.specs.declared.deciding.Sized.{Sized}
 use Rattle.decide_core.specs.declared.deciding.Sized.TheVariants as sizes
 use Rattle.decide_core.specs.declared.deciding.Searched.{Searched}

@@ -7,7 +7,7 @@ ghost use Rattle.cert_theory.specs.Meaning.{Means};
 ghost use Rattle.decide_core.specs.Decided.{Fewer, IsSearched, IsSized, IsShorter, IsOpenVerdict};
 
 use crate::question::Question;
-use bundle_core::{Bundle, Heading, Verdict};
+use cert_theory::{Bundle, Heading, Verdict};
 use chain_core::Chain;
 use sat_solve::Solver;
 use size_loop::{SizeOutcome, search, search_size};

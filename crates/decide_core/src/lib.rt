@@ -6,7 +6,7 @@
 //! Only if a size stays open is a certificate made: the whole search is then repeated with the whole budget, and
 //! its verdict holds; if the budget is no greater than that of the first search, there is this search alone. What
 //! both searches find, and that the first was left open, is cached (`spec_memory`) for the tables with their
-//! inputs in a normal order (`spec_order`); chains are permuted back. What stays open is searched again.
+//! inputs in a normal order (`spec_cache`); chains are permuted back. What stays open is searched again.
 //!
 //! The theorem is that of `decide`: `Shorter` has a chain of at most `max` steps over the basis that implements
 //! the tables, `Least` comes only if there is no such chain, `Open` only with a valid certificate that leaves a
@@ -25,7 +25,7 @@ mod question;
 mod remembering;
 mod stepping;
 
-pub use bundle_core::{Bundle, Heading};
+pub use cert_theory::{Bundle, Heading};
 pub use deciding::Decided;
 pub use ordering::decide;
-pub use spec_memory::Memory;
+pub use spec_cache::Memory;

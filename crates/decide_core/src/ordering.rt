@@ -7,7 +7,7 @@ ghost use Rattle.std.specs.Prelude.{◌≡◌, ℕ, ◌≤◌, IfOk};
 ghost use Rattle.tt_core.specs.Words.{specification};
 ghost use Rattle.cert_theory.specs.declared.data.Heading.{Heading as HeadingOf};
 ghost use Rattle.cert_theory.specs.Bundle.{IsHeading};
-ghost use Rattle.spec_order.specs.Order.{IsOrder, IsPermuting, IsTurned};
+ghost use Rattle.spec_cache.specs.Order.{IsOrder, IsPermuting, IsTurned};
 ghost use Rattle.decide_core.specs.Decided.{Fewer, IsDecided, IsClosed, IsShorter};
 ghost use Rattle.decide_core.specs.Ordered.{IsTurnedTo};
 
@@ -16,11 +16,10 @@ use crate::question::Question;
 use crate::remembering::{decide_sizes, with_chain, without_chain};
 use crate::stepping::decide_few;
 use bound_core::lower_bound;
-use bundle_core::Heading;
+use cert_theory::Heading;
 use chain_core::Chain;
 use sat_solve::Solver;
-use spec_memory::{Key, Memory};
-use spec_order::{inverse, normal_order, turned_chain, turned_spec};
+use spec_cache::{Key, Memory, inverse, normal_order, turned_chain, turned_spec};
 use std::alloc::{AllocError, Global};
 
 /// The conflict limit of the first search of a size, which keeps no certificate. What it leaves open is searched

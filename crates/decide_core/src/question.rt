@@ -2,7 +2,7 @@
 ghost use Rattle.std.specs.Prelude.{◌≡◌, ◌<◌, length};
 ghost use Rattle.cert_theory.specs.Bundle.{IsHeading};
 
-use bundle_core::Heading;
+use cert_theory::Heading;
 
 /// A header whose settings are in range and whose tables have at least one output. The question is whether a chain
 /// of at most `heading.max` steps over its basis implements its tables.

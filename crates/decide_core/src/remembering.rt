@@ -4,16 +4,16 @@ ghost use Rattle.std.specs.Prelude.{◌≡◌, ◌≤◌, true, false, length, I
 ghost use Rattle.tt_core.specs.Words.{specification};
 ghost use Rattle.op_basis.specs.Basis.{members};
 ghost use Rattle.chain_theory.specs.Agreement.{IsOver, Agrees};
-ghost use Rattle.spec_memory.specs.Facts.{spelled, chain_of, found_at};
+ghost use Rattle.spec_cache.specs.Facts.{spelled, chain_of, found_at};
 ghost use Rattle.decide_core.specs.Decided.{Fewer, IsSized, IsShorter, IsUseless};
 
 use crate::deciding::{Sized, search_from};
 use crate::question::Question;
-use bundle_core::Heading;
+use cert_theory::Heading;
 use chain_core::{Chain, first_difference, first_outside};
 use op_basis::Basis;
 use sat_solve::Solver;
-use spec_memory::{Found, Key, Memory};
+use spec_cache::{Found, Key, Memory};
 use std::alloc::{AllocError, Global};
 use tt_core::Spec;
 

@@ -2,17 +2,16 @@
 //! of a search, with the inputs in normal order. Chains of one or two steps are enumerated faster than they are
 //! looked up.
 ghost use Rattle.std.specs.Prelude.{◌≡◌, ◌≤◌, length, IfSome, IfNone, IfOk};
-ghost use Rattle.spec_order.specs.Order.{IsPermuting};
+ghost use Rattle.spec_cache.specs.Order.{IsPermuting};
 ghost use Rattle.decide_core.specs.Decided.{IsDecided, IsClosed, IsShorter, HasNone};
 
 use crate::deciding::Decided;
 use crate::ordering::{reordered, turned_heading};
 use crate::question::Question;
 use crate::remembering::{copied, remembered, with_chain, without_chain};
-use bundle_core::Heading;
+use cert_theory::Heading;
 use chain_core::Chain;
-use spec_memory::{Key, Memory};
-use spec_order::{inverse, normal_order};
+use spec_cache::{Key, Memory, inverse, normal_order};
 use std::alloc::{AllocError, Global};
 use step_core::few_steps;
 

@@ -32,7 +32,7 @@ use Rattle.size_loop.specs.declared.trying.PartOutcome.TheVariants as outcomes
 use Rattle.size_loop.specs.Outcomes.{IsTried, AreLogged}
 use Rattle.size_loop.specs.OutcomeLaws.{logged_none}
 use Rattle.size_loop.specs.Coded.{IsCodedBy}
-use Rattle.size_loop.specs.Thrift.{IsThriftyLog, AreThrifty}
+use Rattle.cert_theory.specs.Thrift.{IsThriftyLog, AreThrifty}
 use Rattle.depth_theory.specs.declared.data.DepthVerdict.{DepthVerdict}
 use Rattle.depth_theory.specs.Flatter.{fences_for, has_levels, of_levels, by_levels, flatter}
 use Rattle.depth_theory.specs.FlatterLaws.{flatter_is, level_is, by_levels_more}

@@ -11,7 +11,7 @@ use Rattle.cert_theory.specs.Bundle.{PartLog, Section, Bundle, IsPartLog, IsFoun
 use Rattle.size_loop.specs.declared.trying.PartOutcome.{PartOutcome}
 use Rattle.size_loop.specs.declared.trying.PartOutcome.TheVariants as parts
 use Rattle.size_loop.specs.Outcomes.{AreLogged}
-use Rattle.size_loop.specs.Thrift.{IsThriftyLog, AreThrifty}
+use Rattle.cert_theory.specs.Thrift.{IsThriftyLog, AreThrifty}
 use Rattle.depth_theory.specs.Flatter.{fences_for, of_levels, flatter}
 use Rattle.depth_theory.specs.DepthBundle.{DepthBundle, part_levels, IsDepth}
 use Rattle.depth_core.specs.declared.levels.Level.{Level}

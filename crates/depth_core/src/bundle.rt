@@ -1,5 +1,5 @@
 //! Depth certificates, as contracts see them.
-use bundle_core::{Bundle, PartLog};
+use cert_theory::{Bundle, PartLog};
 use depth_theory::DepthVerdict;
 use std::marker::Model;
 

@@ -8,7 +8,7 @@ ghost use Rattle.depth_theory.specs.DepthBundle.{part_levels, open_levels as ope
 ghost use Rattle.enc_theory.specs.Parts.{parts_for};
 ghost use Rattle.depth_core.specs.Flattened.{IsTriedLow, IsLevel, at_level, is_flatter};
 
-use bundle_core::{Ended, Heading, PartLog};
+use cert_theory::{Ended, Heading, PartLog};
 use chain_core::Chain;
 use enc_fence::FenceEnc;
 use enc_theory::Part;

@@ -4,13 +4,13 @@ ghost use Rattle.settings.specs.Synth.{IsInRange};
 ghost use Rattle.chain_theory.specs.Levels.{depth};
 ghost use Rattle.settings.specs.declared.methods.Method.TheVariants.{Fence};
 ghost use Rattle.cert_theory.specs.Bundle.{IsHeading, IsFound, IsValid};
-ghost use Rattle.size_loop.specs.Thrift.{AreThrifty};
+ghost use Rattle.cert_theory.specs.Thrift.{AreThrifty};
 ghost use Rattle.depth_theory.specs.DepthBundle.{open_levels as open_levels_of, levels_found};
 ghost use Rattle.depth_core.specs.Flattened.{IsFlat, IsDeep, AreSearched, minimum_of};
 
 use crate::DepthBundle;
 use crate::levels::{Level, flatter_than, open_levels, search_level};
-use bundle_core::{Bundle, Heading, PartLog, Section, Verdict};
+use cert_theory::{Bundle, Heading, PartLog, Section, Verdict};
 use chain_core::{Chain, depth_of};
 use depth_theory::DepthVerdict;
 use enc_fence::FenceEnc;

@@ -8,8 +8,8 @@ ghost use Rattle.depth_theory.specs.DepthSpelling as spelling;
 ghost use Rattle.depth_core.specs.Texts.{whole_text};
 
 use crate::DepthBundle;
-use bundle_core::{Bundle, PartLog};
-use bundle_text::{push_numbered, write_bundle, write_parts};
+use cert_text::{push_numbered, write_bundle, write_parts};
+use cert_theory::{Bundle, PartLog};
 use depth_theory::DepthVerdict;
 use std::alloc::AllocError;
 use text_core::push_number;

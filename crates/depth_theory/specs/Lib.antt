@@ -9,3 +9,5 @@ pub mod DepthMeanings
 pub mod FrontLines
 pub mod DepthSpellings
 pub mod DepthAgain
+pub mod VerdictLaws
+pub mod Verdicts

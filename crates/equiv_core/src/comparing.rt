@@ -18,9 +18,9 @@ use crate::interface::same_interface;
 use crate::mitering::miter;
 use crate::values::first_difference;
 use cnf_core::{Assign, Cnf};
-use equal_points::{Swept, sweep};
 use net_core::{Circuit, Net};
 use sat_solve::{Solved, Solver};
+use sat_sweep::{Swept, sweep};
 use std::alloc::{AllocError, Global};
 
 /// A counterexample: under the values `at` of the sources the values of the sink `sink`, counted from 1, differ.

@@ -1,5 +1,5 @@
 //! Combinational equivalence checking (CEC) of two circuits. Their miter, which `equiv_theory` defines, is written
-//! clause by clause and given to the solver `S`, any of the trait of `sat_solve`. SAT sweeping (`equal_points`)
+//! clause by clause and given to the solver `S`, any of the trait of `sat_solve`. SAT sweeping (`sat_sweep`)
 //! has the solver derive internal equivalences first, so that the refutation is short.
 //!
 //! The theorem is that of `equiv`: two circuits of one interface are equal only with a log that refutes their

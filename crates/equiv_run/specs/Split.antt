@@ -3,7 +3,7 @@ use Rattle.std.specs.Prelude.{◌≡◌, ℕ, ◌+◌, Bool, true, false, List, 
 use Rattle.std.specs.List.{flat_map}
 use Rattle.text_core.specs.Lines.{Line, lines_of, line_bytes}
 use Rattle.net_theory.specs.Document.{is_same}
-use Rattle.net_text.specs.Contents.{without_last, content_of}
+use Rattle.net_document.specs.Contents.{without_last, content_of}
 use Rattle.blif_text.specs.Words.{words_of}
 use Rattle.blif_text.specs.Logical.{Logical, begun_at, logical_from, logical_of}
 

@@ -9,7 +9,7 @@ use Rattle.std.proofs.lemmas.List.Elements.{All-nil, All-cons, All-append, All-p
 use Rattle.text_core.specs.Lines.{Line, lines_from, lines_of, line_bytes}
 use Rattle.text_core.specs.ReadBack.{lines_spell}
 use Rattle.text_core.specs.Rest.{IsRest, whole_rest, rest_of_rest}
-use Rattle.net_text.specs.Contents.{is_blank, without_last, content_of}
+use Rattle.net_document.specs.Contents.{is_blank, without_last, content_of}
 use Rattle.blif_text.specs.Words.{word_then, words_from, words_of}
 use Rattle.blif_text.specs.Walks.{words_in}
 use Rattle.blif_text.specs.Logical.{Logical, begun_at, going_on, ended_by, line_then, logical_from, logical_of}

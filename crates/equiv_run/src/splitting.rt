@@ -5,7 +5,7 @@ ghost use Rattle.blif_text.specs.Words.{words_of};
 ghost use Rattle.equiv_run.specs.Split.{first_ends, is_told, or_first, split_of, IsSplit, HasNoEnd};
 
 use blif_text::next_word;
-use net_text::{content_of, without_last};
+use net_document::{content_of, without_last};
 use text_core::next_line;
 
 /// Whether the first word of a text is `.end`; None if it has no word.

@@ -11,5 +11,6 @@
 
 mod blocks;
 mod generating;
+pub mod laws;
 
 pub use generating::generate;

@@ -1,5 +1,5 @@
 //! How the tests improve a netlist: the settings, and the expected result.
-ghost use Rattle.improve_settings.specs.Improve.{IsInRange};
+ghost use Rattle.settings.specs.Improve.{IsInRange};
 ghost use Rattle.bench_core.specs.Bench.{bench_format};
 ghost use Rattle.improve_windows.specs.Improving.{FitsFormat};
 

@@ -6,10 +6,30 @@
 #[cfg(test)]
 mod asking;
 #[cfg(test)]
+mod chains;
+#[cfg(test)]
 mod dropping;
+#[cfg(test)]
+mod equal;
 #[cfg(test)]
 mod judging;
 #[cfg(test)]
+mod lanes;
+#[cfg(test)]
+mod nets;
+#[cfg(test)]
+mod observed;
+#[cfg(test)]
+mod plain;
+#[cfg(test)]
 mod shrinking;
 #[cfg(test)]
+mod small;
+#[cfg(test)]
+mod specifications;
+#[cfg(test)]
+mod surrounds;
+#[cfg(test)]
 mod walking;
+#[cfg(test)]
+mod windows;

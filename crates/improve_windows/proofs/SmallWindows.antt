@@ -5,10 +5,10 @@ use Rattle.std.proofs.Common.{arith, ◌∙◌, ap, subst, append-nil}
 use Rattle.net_theory.specs.Net.{Net}
 use Rattle.net_theory.specs.Naming.{gate_names}
 use Rattle.net_document.specs.Format.{Format}
-use Rattle.improve_settings.specs.declared.improve.ImproveSettings.{ImproveSettings}
-use Rattle.sweep_core.specs.Settled.{IsSettled}
-use Rattle.sweep_core.specs.Undecided.{Undecided, visits, IsUndecided}
-use Rattle.window_trial.specs.Improvement.{Leaves}
+use Rattle.settings.specs.declared.improve.ImproveSettings.{ImproveSettings}
+use Rattle.improve_theory.specs.Settled.{IsSettled}
+use Rattle.improve_theory.specs.Undecided.{Undecided, visits, IsUndecided}
+use Rattle.improve_theory.specs.Improvement.{Leaves}
 use Rattle.improve_windows.specs.Report.{window_text, first_line, last_line}
 use Rattle.improve_windows.specs.Improving.{IsReported}
 

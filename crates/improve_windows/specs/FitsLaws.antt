@@ -8,7 +8,7 @@ use Rattle.op_basis.specs.Closed.{every_below, every, implies}
 use Rattle.op_basis.specs.Laws.{every_each}
 use Rattle.op_basis.specs.Text.{bench_set}
 use Rattle.bench_core.specs.Bench.{is_gate_word, bench_format}
-use Rattle.improve_settings.specs.declared.improve.ImproveSettings.{ImproveSettings}
+use Rattle.settings.specs.declared.improve.ImproveSettings.{ImproveSettings}
 use Rattle.improve_windows.specs.Improving.{FitsFormat}
 
 abbrev is_gate_where_member : ℕ → Bool

@@ -12,9 +12,9 @@ use Rattle.net_theory.specs.WellFormed.{IsWellFormed}
 use Rattle.net_document.specs.Listed.{Listed}
 use Rattle.net_document.specs.Format.{Format}
 use Rattle.net_document.specs.Alike.{AreAlike}
-use Rattle.improve_settings.specs.declared.improve.ImproveSettings.{ImproveSettings}
-use Rattle.sweep_core.specs.Undecided.{Undecided}
-use Rattle.window_trial.specs.Improvement.{Leaves}
+use Rattle.settings.specs.declared.improve.ImproveSettings.{ImproveSettings}
+use Rattle.improve_theory.specs.Undecided.{Undecided}
+use Rattle.improve_theory.specs.Improvement.{Leaves}
 use Rattle.improve_windows.specs.Report.{report_text}
 
 -- Gates in this format may have each operator of the basis.

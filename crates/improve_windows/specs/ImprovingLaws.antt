@@ -22,10 +22,10 @@ use Rattle.bench_core.specs.Spelling as gates
 use Rattle.bench_core.specs.Bench.{bench_format}
 use Rattle.bench_core.specs.Writable.{IsBenchCircuit}
 use Rattle.bench_laws.specs.Spelled as bench
-use Rattle.improve_settings.specs.declared.improve.ImproveSettings.{ImproveSettings}
+use Rattle.settings.specs.declared.improve.ImproveSettings.{ImproveSettings}
 use Rattle.net_theory.specs.Operators.{HasOperatorsWithin}
-use Rattle.sweep_core.specs.Undecided.{Undecided, IsUndecided}
-use Rattle.window_trial.specs.Improvement.{Leaves}
+use Rattle.improve_theory.specs.Undecided.{Undecided, IsUndecided}
+use Rattle.improve_theory.specs.Improvement.{Leaves}
 use Rattle.improve_windows.specs.Report.{report_text}
 use Rattle.improve_windows.specs.ReportLaws.{CanBeWritten}
 use Rattle.improve_windows.specs.Improving.{FitsFormat, IsBetter, IsImproved, IsReported}

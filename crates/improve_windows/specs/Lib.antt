@@ -1,9 +1,10 @@
 pub use Rattle.net_theory.specs.Circuit
 pub use Rattle.net_document.specs.Format
-pub use Rattle.window_trial.specs.Improvement
+pub use Rattle.improve_theory.specs.Improvement
 pub mod Report
 pub mod ReportLaws
 pub mod Improving
 pub mod ImprovingLaws
 pub mod FitsLaws
 pub mod CostLaws
+pub mod ImprovementLaws

@@ -3,7 +3,7 @@ use Rattle.std.specs.Prelude.{ℕ, ◌+◌, ◌-◌, Bool, true, false, List, []
 use Rattle.std.specs.List.{flat_map}
 use Rattle.net_theory.specs.Document.{Name}
 use Rattle.cert_theory.specs.Spelling.{bundle_text}
-use Rattle.sweep_core.specs.Undecided.{Undecided}
+use Rattle.improve_theory.specs.Undecided.{Undecided}
 
 abbrev pub or_nothing : Option Name → Name
 or_nothing None = []

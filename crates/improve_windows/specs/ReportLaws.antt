@@ -4,7 +4,7 @@ use Rattle.std.specs.List.{flat_map}
 use Rattle.std.proofs.Common.{arith, subst}
 use Rattle.std.proofs.lemmas.Grind.{common_steps}
 use Rattle.cert_theory.specs.Bundle.{IsValid, HasOutput}
-use Rattle.sweep_core.specs.Undecided.{Undecided}
+use Rattle.improve_theory.specs.Undecided.{Undecided}
 
 -- the certificate is valid and has an output, so it can be written
 pub record CanBeWritten (u : Undecided) : Type 0 where

@@ -6,16 +6,18 @@ ghost use Rattle.net_core.specs.Names.{HasRoom};
 ghost use Rattle.blif_core.specs.Written.{written as written_of};
 ghost use Rattle.blif_core.specs.Spelling.{HasInit};
 ghost use Rattle.blif_core.specs.Blif.{blif_format};
-ghost use Rattle.improve_settings.specs.Improve.{IsInRange};
-ghost use Rattle.window_trial.specs.Improvement.{Leaves};
+ghost use Rattle.settings.specs.Improve.{IsInRange};
+ghost use Rattle.improve_theory.specs.Improvement.{Leaves};
 ghost use Rattle.improve_windows.specs.Improving.{IsBetter};
 
 use crate::costing::{CostedDocument, costed};
+use crate::passes::{ImprovedNet, improve_net};
 use blif_core::Circuit;
+use improve_theory::Undecided;
 use net_document::Document;
 use sat_solve::Solver;
+use settings::ImproveSettings;
 use std::alloc::{AllocError, Global};
-use window_trial::{ImproveSettings, ImprovedNet, Undecided, improve_net};
 
 /// An improved circuit.
 #[derive(Drop)]

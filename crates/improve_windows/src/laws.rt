@@ -2,10 +2,10 @@
 ghost use Rattle.std.specs.Prelude.{◌≡◌, ℕ, ◌≤◌, Bool, true, List, [], ◌++◌};
 ghost use Rattle.net_theory.specs.Net.{Net};
 ghost use Rattle.net_document.specs.Format.{Format, IsNetlist};
-ghost use Rattle.improve_settings.specs.declared.improve.ImproveSettings.{ImproveSettings};
-ghost use Rattle.sweep_core.specs.Settled.{IsSettled};
-ghost use Rattle.sweep_core.specs.Undecided.{Undecided};
-ghost use Rattle.window_trial.specs.Improvement.{Leaves};
+ghost use Rattle.settings.specs.declared.improve.ImproveSettings.{ImproveSettings};
+ghost use Rattle.improve_theory.specs.Settled.{IsSettled};
+ghost use Rattle.improve_theory.specs.Undecided.{Undecided};
+ghost use Rattle.improve_theory.specs.Improvement.{Leaves};
 ghost use Rattle.improve_windows.specs.Report.{first_line, last_line};
 ghost use Rattle.improve_windows.specs.Improving.{IsReported};
 

@@ -1,6 +1,6 @@
 //! Improvement of netlists: of circuits, and of BLIF and BENCH texts. It stands on `window_trial` for nets,
 //! on `blif_core` and `bench_core` for reading and writing, on `blif_laws` and `bench_laws` for the meaning
-//! of written texts, and on `bundle_text` for the certificates of a report. Any solver can make the searches.
+//! of written texts, and on `cert_text` for the certificates of a report. Any solver can make the searches.
 //!
 //! What is proved of `improve_blif` and `improve_bench`: the text that they return is a well-formed netlist
 //! with the same outputs and next states under every assignment and no more gates; each gate is in the
@@ -18,10 +18,13 @@
 mod circuits;
 mod costing;
 pub mod laws;
+mod passes;
 mod reporting;
 mod texts;
 
 pub use blif_core::{Circuit, NetError};
 pub use circuits::{Improved, improve_circuit};
+pub use improve_theory::{Undecided, Visit};
+pub use passes::{ImprovedNet, improve_net};
+pub use settings::ImproveSettings;
 pub use texts::{ImprovedText, improve_bench, improve_blif};
-pub use window_trial::{ImproveSettings, Undecided, Visit};

@@ -5,11 +5,11 @@ ghost use Rattle.std.specs.List.{flat_map};
 ghost use Rattle.improve_windows.specs.Report.{name_at, partner_text, window_text, first_line, last_line, report_text};
 ghost use Rattle.improve_windows.specs.ReportLaws.{CanBeWritten};
 
-use bundle_text::write_bundle;
+use cert_text::write_bundle;
+use improve_theory::Undecided;
 use net_core::Name;
 use std::alloc::{AllocError, Global};
 use text_core::push_number;
-use window_trial::Undecided;
 
 /// Appends the name of a gate.
 #[tactic(auto, unfolding(crate::specs::Report::name_at))]

@@ -10,7 +10,7 @@ ghost use Rattle.blif_core.specs.Blif.{blif_format};
 ghost use Rattle.bench_core.specs.Spelling.{circuit_text as gates_text};
 ghost use Rattle.bench_core.specs.Bench.{bench_format};
 ghost use Rattle.bench_core.specs.Writable.{IsBenchCircuit};
-ghost use Rattle.improve_settings.specs.Improve.{IsInRange};
+ghost use Rattle.settings.specs.Improve.{IsInRange};
 ghost use Rattle.improve_windows.specs.Report.{report_text};
 ghost use Rattle.improve_windows.specs.ReportLaws.{CanBeWritten};
 ghost use Rattle.improve_windows.specs.Improving.{FitsFormat, IsReported};
@@ -24,8 +24,8 @@ use blif_laws::blif_is_a_format;
 use net_core::gate_names;
 use net_document::Document;
 use sat_solve::Solver;
+use settings::ImproveSettings;
 use std::alloc::{AllocError, Global};
-use window_trial::ImproveSettings;
 
 /// The text of the improved netlist, and the report.
 #[derive(Drop)]

@@ -4,3 +4,9 @@ pub mod FormLaws
 pub mod Merging
 pub mod MergingLaws
 pub mod ApartLaws
+pub mod Whole
+pub mod WholeLaws
+pub mod Stands
+pub mod StandLaws
+pub mod Passing
+pub mod PassingLaws

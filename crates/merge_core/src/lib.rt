@@ -12,8 +12,13 @@
 //! ```
 #![tactic(auto)]
 
+mod equal;
 mod form;
 mod merging;
+mod rows;
+mod stands;
+mod whole;
 
+pub use equal::merge_equal;
 pub use form::{Form, form_of};
 pub use merging::merge_alike;

@@ -10,3 +10,8 @@ pub mod TimesLaws
 pub mod FormatLaws
 pub mod AlikeLaws
 pub mod OnceLaws
+pub use Rattle.text_core.specs.Lines
+pub mod Contents
+pub mod Limits
+pub mod EndLaws
+pub mod SizeLaws

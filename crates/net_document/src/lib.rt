@@ -10,13 +10,17 @@
 //! ```
 #![tactic(auto)]
 
+mod contents;
 mod document;
 mod laws;
+mod name_bytes;
 mod names;
 
+pub use contents::{content_of, is_blank, without_last};
 pub use document::{Document, LatchLine, Listed, Table};
 pub use laws::{
     documents_of_like_circuits_are_the_same, laws_of_counts, laws_of_refusals, netlists_are_read,
 };
+pub use name_bytes::{is_long_line, is_long_word, is_name};
 pub use names::add_copies;
 pub use net_core::{Body, Connective, Cover, Cube, Latch, Name, NetError, Trigger, Whole};

@@ -4,8 +4,9 @@
 use crate::growing::grow;
 use crate::tail::{shown, sides_of, tail_of};
 use crate::variables::{row_mask, variable_word, word_count};
+use rows::{at, bit_at, put};
 use std::alloc::{AllocError, Global};
-use xag_core::{Context, Xag, at, bit_at, complement_mask, put, put_word, word_at};
+use xag_core::{Context, Xag, complement_mask, put_word, word_at};
 
 /// The most nodes of a region.
 const MOST_SLOTS: usize = 320;

@@ -1,7 +1,7 @@
 //! Classes of nodes that are equal up to complement (union-find with parities), for the choice of polarities.
 
+use rows::{at, put};
 use std::alloc::{AllocError, Global};
-use xag_core::{at, put};
 
 /// For each node a literal of an earlier node of its class that equals it; its own literal where it is the
 /// first of its class.

@@ -6,9 +6,9 @@
 use crate::parities::Parities;
 use net_core::{Net, Op, Sig};
 use op_basis::Basis;
+use rows::{at, bit_at, put};
 use std::alloc::{AllocError, Global};
-use xag_core::{Xag, XagGate, at, bit_at, put};
-use xag_net::{NetBuilder, operator};
+use xag_core::{NetBuilder, Xag, XagGate, operator};
 
 /// The growing net. By nodes of the graph: whether each is complemented, its node in the net, and the net's
 /// node for its complement, 0 where there is none.

@@ -11,8 +11,7 @@ use net_core::Net;
 use op_basis::Basis;
 use sat_solve::Solver;
 use std::alloc::{AllocError, Global};
-use xag_core::Xag;
-use xag_net::{from_net, into_net};
+use xag_core::{Xag, from_net, into_net};
 
 /// The conflict limit of the equivalence check.
 const MOST_CLAUSES: u32 = 100_000;

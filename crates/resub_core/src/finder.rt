@@ -8,8 +8,9 @@ use crate::batches::Batch;
 use crate::collecting::collect;
 use region_core::Region;
 use resub_search::{Divisors, Recipe, Search, Wanted, add_to, read_nodes};
+use rows::{Random, bit_at, put};
 use std::alloc::{AllocError, Global};
-use xag_core::{Context, Edit, Random, Xag, XagGate, bit_at, put, rebuild};
+use xag_core::{Context, Edit, Xag, XagGate, rebuild};
 
 /// The most rebuilt gates that trials of one search may cost.
 const MOST_WORK: usize = 40_000;

@@ -5,8 +5,8 @@
 //! So a target that is changed stands inside no other region, nor does a recipe read it or its tail.
 
 use region_core::Region;
+use rows::{bit_at, put};
 use std::alloc::{AllocError, Global};
-use xag_core::{bit_at, put};
 
 /// By nodes: whether it is a target that is changed, whether a region that was noted has it above its leaves, and whether a
 /// recipe reads it.

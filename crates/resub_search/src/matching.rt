@@ -4,8 +4,9 @@
 use crate::divisors::Divisors;
 use crate::recipe::Step;
 use crate::wanted::{Wanted, differ_as};
+use rows::{at, put};
 use std::alloc::{AllocError, Global};
-use xag_core::{NONE, XagGate, at, put, word_at};
+use xag_core::{NONE, XagGate, word_at};
 
 /// Where signatures are taken: a row that matters, and four words.
 #[derive(Clone, Copy)]

@@ -13,10 +13,12 @@
 //! ```
 #![tactic(auto)]
 
+mod improve;
 pub mod laws;
 mod methods;
 mod synth;
 
 pub use chain_theory::MOST_STEPS;
+pub use improve::{ImproveSettings, MOST_EFFORT, MOST_GATES_OF_WINDOW, MOST_ROUNDS};
 pub use methods::{Method, method_name, method_named};
 pub use synth::{MOST_CONFLICTS, SynthSettings};

@@ -1,8 +1,9 @@
 //! The roots of the trees of a kind, and the row of literals of each.
 
 use crate::kind::Kind;
+use rows::{bit_at, put};
 use std::alloc::{AllocError, Global};
-use xag_core::{Context, Xag, XagGate, bit_at, put};
+use xag_core::{Context, Xag, XagGate};
 
 /// The most literals of a row, since the number of its pairs grows quadratically.
 const MOST_LITERALS: usize = 100;

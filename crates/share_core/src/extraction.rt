@@ -3,8 +3,9 @@
 
 use crate::collecting::Row;
 use crate::pairs::{Pair, Pairs};
+use rows::{Random, at, put};
 use std::alloc::{AllocError, Global};
-use xag_core::{Edit, NONE, Random, XagGate, at, put};
+use xag_core::{Edit, NONE, XagGate};
 
 /// The most pairs that are counted at the start.
 const MOST_PAIRS: usize = 4_000_000;

@@ -2,9 +2,9 @@
 //! outdated ranks are skipped.
 
 use indexmap::IndexSet;
+use rows::{Random, at, put};
 use std::alloc::{AllocError, Global};
 use std::collections::BinaryHeap;
-use xag_core::{Random, at, put};
 
 /// The greatest number of 26 bits.
 const MOST: u64 = 0x3FF_FFFF;

@@ -5,8 +5,9 @@ ghost use Rattle.xag_core.specs.Xag.{HasEnds};
 use crate::collecting::{Row, rows_of};
 use crate::extraction::{extract, fold, shuffle};
 use crate::kind::Kind;
+use rows::Random;
 use std::alloc::{AllocError, Global};
-use xag_core::{Edit, Random, Xag, rebuild};
+use xag_core::{Edit, Xag, rebuild};
 
 /// Shuffles each row.
 fn shuffle_rows(rows: &mut [Row], random: Random) {

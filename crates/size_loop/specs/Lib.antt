@@ -1,4 +1,3 @@
-pub mod Thrift
 pub mod Coded
 pub mod State
 pub mod Searched

@@ -10,7 +10,7 @@ use Rattle.step_core.specs.Short.{IsAnswer}
 use Rattle.enc_theory.specs.declared.part.Part.{Part}
 use Rattle.cert_theory.specs.declared.data.Heading.{Heading}
 use Rattle.cert_theory.specs.Bundle.{PartLog, IsPartLog, part_of, IsFound, IsEnding, found as found_at}
-use Rattle.size_loop.specs.Thrift.{IsThriftyLog}
+use Rattle.cert_theory.specs.Thrift.{IsThriftyLog}
 use Rattle.size_loop.specs.Outcomes.{AreLogged, IsWalked, HasSize}
 
 -- without subproblems there are no logs

@@ -9,7 +9,7 @@ use Rattle.size_loop.specs.declared.trying.PartOutcome.{PartOutcome}
 use Rattle.size_loop.specs.declared.trying.PartOutcome.TheVariants as parts
 use Rattle.size_loop.specs.declared.sizes.SizeOutcome.{SizeOutcome}
 use Rattle.size_loop.specs.declared.sizes.SizeOutcome.TheVariants as sizes
-use Rattle.size_loop.specs.Thrift.{IsThriftyLog, IsThriftySection}
+use Rattle.cert_theory.specs.Thrift.{IsThriftyLog, IsThriftySection}
 
 -- A chain of the size that fits the subproblem; or the subproblem's log, which ends as it states, with its bounds
 -- on live additions.

@@ -1,7 +1,7 @@
 -- The sections of a search so far.
 use Rattle.std.specs.Prelude.{◌≡◌, ◌+◌, ◌≤◌, List, length}
 use Rattle.cert_theory.specs.Bundle.{Section, AreSections, first_open}
-use Rattle.size_loop.specs.Thrift.{AreThrifty}
+use Rattle.cert_theory.specs.Thrift.{AreThrifty}
 use Rattle.size_loop.specs.State.{State}
 
 -- the sections of all sizes below the next one, with the bounds on live additions of their logs

@@ -8,7 +8,7 @@ use Rattle.cert_theory.specs.declared.data.Heading.{Heading}
 use Rattle.cert_theory.specs.declared.data.Verdict.{Verdict}
 use Rattle.cert_theory.specs.Bundle.{Section, IsHeading, IsSection, AreSections, first_open, IsEnding, IsValid}
 use Rattle.cert_theory.specs.SectionLaws.{AreSections-push}
-use Rattle.size_loop.specs.Thrift.{IsThriftySection}
+use Rattle.cert_theory.specs.Thrift.{IsThriftySection}
 use Rattle.size_loop.specs.State.{State}
 use Rattle.size_loop.specs.Searched.{HasSearched}
 use Rattle.size_loop.specs.Advancing.{open_with, behind}

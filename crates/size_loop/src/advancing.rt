@@ -5,12 +5,12 @@ ghost use Rattle.std.specs.Prelude.{◌≡◌, ◌≤◌, None, IsTrue, IfOk};
 ghost use Rattle.settings.specs.Synth.{IsInRange};
 ghost use Rattle.cert_theory.specs.Bundle.{IsHeading, IsSection, IsEnding};
 ghost use Rattle.size_loop.specs.Advancing.{IfSection, IfEnded, behind, open_with};
-ghost use Rattle.size_loop.specs.Thrift.{IsThriftySection};
+ghost use Rattle.cert_theory.specs.Thrift.{IsThriftySection};
 ghost use Rattle.size_loop.specs.State.{IsState};
 ghost use Rattle.size_loop.specs.Outcomes.{IsWalked, HasSize};
 
 use crate::sizes::{SizeOutcome, search_formulas, walked};
-use bundle_core::{Heading, Section, Verdict};
+use cert_theory::{Heading, Section, Verdict};
 use chain_core::Chain;
 use op_basis::Basis;
 use sat_solve::Solver;

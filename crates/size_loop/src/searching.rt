@@ -3,10 +3,10 @@
 ghost use Rattle.std.specs.Prelude.{◌≡◌, IfOk};
 ghost use Rattle.settings.specs.Synth.{IsInRange};
 ghost use Rattle.cert_theory.specs.Bundle.{IsValid};
-ghost use Rattle.size_loop.specs.Thrift.{AreThrifty};
+ghost use Rattle.cert_theory.specs.Thrift.{AreThrifty};
 
 use crate::advancing::{Advance, Search};
-use bundle_core::{Bundle, Heading};
+use cert_theory::{Bundle, Heading};
 use op_basis::Basis;
 use sat_solve::Solver;
 use settings::Method;

@@ -8,7 +8,7 @@ ghost use Rattle.size_loop.specs.Outcomes.{IsSized, IsWalked};
 ghost use Rattle.size_loop.specs.Coded.{IsCodedBy};
 
 use crate::trying::{PartOutcome, try_part};
-use bundle_core::{Heading, Section};
+use cert_theory::{Heading, Section};
 use chain_core::Chain;
 use enc_fence::FenceEnc;
 use enc_frame::Encoding;

@@ -6,7 +6,7 @@ ghost use Rattle.cert_theory.specs.Coding.{coding_of};
 ghost use Rattle.size_loop.specs.Outcomes.{IsTried};
 ghost use Rattle.size_loop.specs.Coded.{IsCodedBy};
 
-use bundle_core::{Ended, Heading, PartLog};
+use cert_theory::{Ended, Heading, PartLog};
 use chain_core::Chain;
 use enc_frame::Encoding;
 use enc_theory::Part;

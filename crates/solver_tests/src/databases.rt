@@ -3,9 +3,9 @@ ghost use Rattle.std.specs.Prelude.{◌≡◌, ℤ, ◌≤◌, List, Some, Conta
 ghost use Rattle.sat_theory.specs.Formula.{variable as variable_of};
 ghost use Rattle.clause_db.specs.Stored.{live_in, IsLong};
 
+use crate::building::formula;
 use clause_db::ClauseDb;
 use cnf_core::Lit;
-use lrat_tests::building::formula;
 use std::alloc::{AllocError, Global};
 
 fn are(lits: &[Lit], numbers: &[i32]) -> bool {

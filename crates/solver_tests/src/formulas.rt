@@ -1,6 +1,6 @@
 //! Literals, clauses, formulas and assignments that satisfy them.
+use crate::building::formula;
 use cnf_core::{Assign, Cnf, Lit, satisfied};
-use lrat_tests::building::formula;
 use std::alloc::{AllocError, Global};
 
 /// Bits of three variables, and whether they satisfy (1 or not 2) and (2 or 3).

@@ -2,6 +2,9 @@
 //! parts of the solver, and the solver on formulas of increasing difficulty, with each of its logs checked.
 #![tactic(auto)]
 
+pub mod building;
+#[cfg(test)]
+mod checking;
 #[cfg(test)]
 mod databases;
 #[cfg(test)]
@@ -9,7 +12,11 @@ mod formulas;
 #[cfg(test)]
 mod heaps;
 #[cfg(test)]
+mod lines;
+#[cfg(test)]
 mod pigeons;
+#[cfg(test)]
+mod plain;
 #[cfg(test)]
 mod probing;
 #[cfg(test)]

@@ -1,6 +1,6 @@
 //! Formulas built clause by clause, and the pigeonhole formulas.
+use crate::building::{clause, push_within};
 use cnf_core::Cnf;
-use lrat_tests::building::{clause, push_within};
 use std::alloc::{AllocError, Global};
 
 /// Appends a number.

@@ -1,8 +1,8 @@
 //! Solving under assumptions: the result of a call, the values after it, and the answer to the formula
 //! afterwards.
+use crate::building::{clause, formula};
 use cdcl_core::{Cdcl, Solved};
 use cnf_core::{Clause, Cnf};
-use lrat_tests::building::{clause, formula};
 use sat_solve::{Cones, Probed, Solver};
 use std::alloc::{AllocError, Global};
 

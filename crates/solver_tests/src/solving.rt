@@ -1,11 +1,11 @@
 //! The solver on formulas of increasing difficulty: its answers, the number of learnt clauses, and each log
 //! fed to the checker.
+use crate::building::formula;
 use crate::pigeons::{pigeons, push};
 use cdcl_core::{Cdcl, Solved};
 use cnf_core::Cnf;
 use log_core::{Log, write_log};
 use lrat_check::Checker;
-use lrat_tests::building::formula;
 use lrat_text::{Line, read_line, write_line};
 use sat_solve::Solver;
 use std::alloc::{AllocError, Global};

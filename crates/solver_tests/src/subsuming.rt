@@ -4,9 +4,9 @@ ghost use Rattle.sat_theory.specs.Formula.{variable as variable_of};
 ghost use Rattle.clause_db.specs.Stored.{live_in};
 ghost use Rattle.subsume_core.specs.Units.{IsUnitsOf};
 
+use crate::building::formula;
 use clause_db::ClauseDb;
 use cnf_core::Lit;
-use lrat_tests::building::formula;
 use std::alloc::{AllocError, Global};
 use subsume_core::{Finder, Found, Marks, Units, contains_all, holds, is_new, keep_others};
 

@@ -13,7 +13,7 @@ use Rattle.cert_theory.specs.Spelling.{heading_lines, section_lines, ending_line
 use Rattle.cert_theory.specs.Front.{begun_lines}
 use Rattle.cert_theory.specs.FrontLaws.{heading_begins, section_goes_on}
 use Rattle.size_loop.specs.State.{State}
-use Rattle.size_loop.specs.Thrift.{IsThriftySection}
+use Rattle.cert_theory.specs.Thrift.{IsThriftySection}
 use Rattle.size_loop.specs.SearchedLaws.{searched_none, searched_more, searched_valid}
 use Rattle.size_loop.specs.Advancing.{behind}
 use Rattle.settings.specs.declared.synth.SynthSettings.{SynthSettings}

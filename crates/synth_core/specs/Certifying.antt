@@ -6,7 +6,7 @@ use Rattle.tt_core.specs.Spelling.{SpellsTables}
 use Rattle.cert_theory.specs.declared.data.Verdict.{Verdict}
 use Rattle.cert_theory.specs.Bundle.{Bundle}
 use Rattle.cert_theory.specs.Spelling.{IsBundle}
-use Rattle.size_loop.specs.Thrift.{AreThrifty}
+use Rattle.cert_theory.specs.Thrift.{AreThrifty}
 use Rattle.settings.specs.declared.synth.SynthSettings.{SynthSettings}
 use Rattle.synth_core.specs.Asking.{heading_of}
 

@@ -2,3 +2,4 @@ pub mod Asking
 pub mod Tables
 pub mod Certifying
 pub mod Pieces
+pub mod DepthCertifying

@@ -1,6 +1,6 @@
 //! Exact synthesis on texts, from truth tables to a certificate of the fewest steps: what the command `synth` does
 //! with its input. The crate rests on `tt_core` for reading tables, on `size_loop` for the search and on
-//! `bundle_text` for writing certificates. The basis, the method and the limits are `SynthSettings`. It is generic
+//! `cert_text` for writing certificates. The basis, the method and the limits are `SynthSettings`. It is generic
 //! in the solver `S`.
 //!
 //! `begin` writes the header, and each call of `go_on` what one more size adds. Nothing is kept of the text handed
@@ -13,10 +13,13 @@
 //! ```
 #![tactic(auto)]
 
+mod least_depth;
 mod pieces;
 mod reading;
 
-pub use bundle_core::Verdict;
+pub use cert_theory::Verdict;
+pub use depth_theory::DepthVerdict;
+pub use least_depth::{DepthCertificate, Found, certify_depth};
 pub use pieces::{Begun, Piece, begin, go_on};
 pub use reading::tables;
 pub use settings::SynthSettings;

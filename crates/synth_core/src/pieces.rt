@@ -9,8 +9,8 @@ ghost use Rattle.synth_core.specs.Pieces.{IsUnderWay, GoesOn, GoesUp};
 ghost use Rattle.synth_core.specs.Tables.{tables_alone};
 
 use crate::reading::tables;
-use bundle_core::Verdict;
-use bundle_text::{write_ending, write_heading, write_section};
+use cert_text::{write_ending, write_heading, write_section};
+use cert_theory::Verdict;
 use sat_solve::Solver;
 use settings::SynthSettings;
 use size_loop::{Advance, Search};

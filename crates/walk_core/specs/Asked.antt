@@ -5,7 +5,7 @@ use Rattle.chain_theory.specs.Agreement.{Agrees}
 use Rattle.chain_theory.specs.Specification.{Specification}
 use Rattle.net_theory.specs.Net.{Net}
 use Rattle.window_theory.specs.Window.{Window}
-use Rattle.sweep_core.specs.Asked.{IsAskedOf}
+use Rattle.improve_theory.specs.Asked.{IsAskedOf}
 
 -- The chain agrees with what is asked of the window.
 pub record MeetsAsked (observe : Bool) (n : Net) (w : Window) (c : Chain) : Type 0 where

@@ -13,7 +13,7 @@ use Rattle.observe_core.specs.Observing.{MeetsSeen}
 use Rattle.observe_core.specs.SubstitutingLaws.{seen_keeps, seen_fits}
 use Rattle.subst_core.specs.Substitution.{Meets, KeepsSinks}
 use Rattle.subst_core.specs.SubstitutionLaws.{agrees_keeps}
-use Rattle.sweep_core.specs.Asked.{IsAskedOf}
+use Rattle.improve_theory.specs.Asked.{IsAskedOf}
 use Rattle.walk_core.specs.Asked.{MeetsAsked}
 
 -- ---- specifications

@@ -11,7 +11,7 @@ use Rattle.window_theory.specs.Window.{Window}
 use Rattle.subst_core.specs.Lists.{HaveSameLists}
 use Rattle.subst_core.specs.ListsLaws.{same_size}
 use Rattle.subst_core.specs.Substitution.{HasRoom, IsStepOperator, HasOldOperators}
-use Rattle.sweep_core.specs.Outcomes.{Leads}
+use Rattle.improve_theory.specs.Leading.{Leads}
 
 pub room_there : (n : Net) (w : Window) (c : Chain) → IsNet n → length c.steps ≤ length w.gates → HasRoom n w c
 room_there n w c net few = omega (arith, net.places, few)

@@ -9,7 +9,7 @@ use Rattle.chain_theory.specs.Agreement.{IsOver}
 use Rattle.net_theory.specs.Net.{Net}
 use Rattle.window_theory.specs.Window.{Window}
 use Rattle.step_core.specs.Short.{IsFitting, IsShort}
-use Rattle.sweep_core.specs.Asked.{IsAskedOf}
+use Rattle.improve_theory.specs.Asked.{IsAskedOf}
 use Rattle.walk_core.specs.Asked.{MeetsAsked}
 
 pub short_fits : (s : Specification) (basis : Basis) (most count : ℕ) (c : Chain) → IsShort s basis most c → most ≤ count → IsFitting s basis count c

@@ -9,8 +9,8 @@ use Rattle.net_theory.specs.ExchangeLaws.{answers_on}
 use Rattle.net_theory.specs.Dead.{dropped}
 use Rattle.net_theory.specs.DeadLaws.{dropped_operators}
 use Rattle.net_theory.specs.Operators.{HasOperatorsWithin}
-use Rattle.sweep_core.specs.Outcomes.{Leads}
-use Rattle.sweep_core.specs.SweptLaws.{leads_itself, leads_on}
+use Rattle.improve_theory.specs.Leading.{Leads}
+use Rattle.improve_theory.specs.LeadingLaws.{leads_itself, leads_on}
 
 dropped_within : (basis : Basis) (n : Net) → IsNet n → HasOperatorsWithin basis n (dropped n)
 dropped_within basis n net = record { each = λ i g at. inr (dropped_operators n g.op net (record { index = i; gate = g; at = at; same = refl })) }

@@ -3,7 +3,7 @@ ghost use Rattle.std.specs.Prelude.{IfOk};
 ghost use Rattle.tt_core.specs.Words.{specification};
 ghost use Rattle.window_theory.specs.Window.{Belongs};
 ghost use Rattle.window_core.specs.Readers.{AreReaders};
-ghost use Rattle.sweep_core.specs.Asked.{IsAskedOf};
+ghost use Rattle.improve_theory.specs.Asked.{IsAskedOf};
 
 use net_core::Net;
 use observe_core::observed_spec_by;

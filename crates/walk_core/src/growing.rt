@@ -6,11 +6,11 @@ ghost use Rattle.window_core.specs.Readers.{AreReaders};
 ghost use Rattle.walk_core.specs.Gates.{AreGates};
 
 use net_core::Net;
+use rows::{Random, at};
 use std::alloc::{AllocError, Global};
 use window_core::{
     MOST_GATES, Readers, all_inputs, first_reader, gate_at, has, later_of, place_of, put,
 };
-use xag_core::{Random, at};
 
 /// The most inputs of a set.
 pub(crate) const MOST_INPUTS: usize = tt_core::MOST_INPUTS as usize;

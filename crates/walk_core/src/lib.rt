@@ -1,5 +1,5 @@
 //! Convex windows: any few gates of a net whose inputs don't depend on them, tried in a walk over the net. What
-//! `sweep_core` lists for each root grows by operands from one gate or two, so that of the windows of five gates over six
+//! `resyn_core` lists for each root grows by operands from one gate or two, so that of the windows of five gates over six
 //! inputs it shows few; here a set grows from a gate at random, by operands, readers and gates that share an operand, and
 //! may have several outputs over one cut.
 //!
@@ -31,7 +31,7 @@ mod walking;
 
 pub use asking::asked_spec;
 pub use convex::convex_window;
-pub use improve_settings::ImproveSettings;
 pub use net_core::Net;
 pub use replacing::replaced;
+pub use settings::ImproveSettings;
 pub use walking::walked;

@@ -3,13 +3,13 @@ ghost use Rattle.std.specs.Prelude.{◌≤◌, ◌<◌, length, IfOk};
 ghost use Rattle.chain_theory.specs.Agreement.{IsOver};
 ghost use Rattle.op_basis.specs.Basis.{members};
 ghost use Rattle.window_theory.specs.Window.{Belongs};
-ghost use Rattle.sweep_core.specs.Outcomes.{Leads};
+ghost use Rattle.improve_theory.specs.Leading.{Leads};
 ghost use Rattle.walk_core.specs.Asked.{MeetsAsked};
 
 use chain_core::Chain;
-use improve_settings::ImproveSettings;
 use net_core::Net;
 use observe_core::lists_of;
+use settings::ImproveSettings;
 use std::alloc::{AllocError, Global};
 use subst_core::replace_keeping;
 use window_core::Window;

@@ -5,21 +5,21 @@ ghost use Rattle.tt_core.specs.Words.{specification};
 ghost use Rattle.step_core.specs.Short.{IsFitting};
 ghost use Rattle.window_theory.specs.Window.{Belongs};
 ghost use Rattle.window_core.specs.Readers.{AreReaders};
-ghost use Rattle.sweep_core.specs.Outcomes.{Leads};
+ghost use Rattle.improve_theory.specs.Leading.{Leads};
 
 use crate::asking::asked_spec;
 use crate::convex::convex_window;
 use crate::growing::grown;
 use crate::replacing::replaced;
 use chain_core::Chain;
-use improve_settings::ImproveSettings;
 use net_core::Net;
 use op_basis::Basis;
+use rows::Random;
+use settings::ImproveSettings;
 use std::alloc::{AllocError, Global};
 use step_core::{few_steps, nth_chain};
 use tt_core::Spec;
 use window_core::{Readers, Window};
-use xag_core::Random;
 
 /// The chain that is wanted for a window.
 #[derive(Clone, Copy)]

@@ -3,14 +3,14 @@ ghost use Rattle.std.specs.Prelude.{◌≡◌, ◌≤◌, ◌<◌, length, IfOk,
 ghost use Rattle.op_basis.specs.Basis.{members};
 ghost use Rattle.net_theory.specs.Answers.{IsPruned};
 ghost use Rattle.window_core.specs.Readers.{AreReaders};
-ghost use Rattle.sweep_core.specs.Outcomes.{Leads};
+ghost use Rattle.improve_theory.specs.Leading.{Leads};
 
 use crate::trying::{Wanted, tried};
-use improve_settings::ImproveSettings;
 use net_core::{Net, drop_dead};
+use rows::Random;
+use settings::ImproveSettings;
 use std::alloc::{AllocError, Global};
 use window_core::{Readers, readers_of};
-use xag_core::Random;
 
 /// A net of more gates isn't walked over: each try costs a pass over the net, by which its set is found to be convex.
 const MOST_WALKED: usize = 10_000;

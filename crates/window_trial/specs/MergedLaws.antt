@@ -11,9 +11,11 @@ use Rattle.net_theory.specs.Dead.{dropped}
 use Rattle.net_theory.specs.Operators.{HasOperator}
 use Rattle.net_theory.specs.DeadLaws.{dropped_operators}
 use Rattle.op_basis.specs.Basis.{members}
-use Rattle.improve_settings.specs.declared.improve.ImproveSettings.{ImproveSettings}
+use Rattle.settings.specs.declared.improve.ImproveSettings.{ImproveSettings}
 use Rattle.merge_core.specs.Merging.{HaveOperatorsOf}
-use Rattle.sweep_core.specs.Outcomes.{Leads, IsShrunk}
+use Rattle.improve_theory.specs.Leading.{Leads}
+use Rattle.improve_theory.specs.LeadingLaws.{leads_itself}
+use Rattle.resyn_core.specs.Outcomes.{IsShrunk}
 
 -- after cleanup the gates have operators of the first net
 left_operator : (n m k : Net) (i : ℕ) (g : Gate) → Answers n m → HaveOperatorsOf n m.gates → k ≡ dropped m → slice_get k.gates i ≡ Some g → HasOperator n g.op
@@ -40,4 +42,4 @@ shrunk_by s n own m new o is_own put some leads less =
       subst (λ (x : Option Net). IfSome x (λ y. length y.gates < length own.gates)) some less,
     ))
 
-pub ruleset merging = (common_steps, merged_leads, merged_fewer)
+pub ruleset merging = (common_steps, leads_itself, merged_leads, merged_fewer)

@@ -8,7 +8,7 @@ use Rattle.window_theory.specs.Places.{among, IsFalling}
 use Rattle.window_theory.specs.PlaceLaws.{among_cases, among_first, among_later}
 use Rattle.window_theory.specs.Partner.{ArePartners, IsPartner}
 use Rattle.window_theory.specs.PartnerLaws.{partners_one}
-use Rattle.sweep_core.specs.Visits.{IsNextPartner}
+use Rattle.improve_theory.specs.Visits.{IsNextPartner}
 
 -- the first of the nodes below another one
 unfoldable pub first_below : List ℕ → ℕ → Option ℕ

@@ -5,15 +5,16 @@ use Rattle.op_basis.specs.Basis.{members}
 use Rattle.net_theory.specs.Net.{Net}
 use Rattle.window_theory.specs.Window.{Window}
 use Rattle.window_core.specs.Readers.{Readers, AreReaders}
-use Rattle.improve_settings.specs.declared.improve.ImproveSettings.{ImproveSettings}
-use Rattle.improve_settings.specs.Improve.{IsInRange}
+use Rattle.settings.specs.declared.improve.ImproveSettings.{ImproveSettings}
+use Rattle.settings.specs.Improve.{IsInRange}
 use Rattle.cert_theory.specs.declared.data.Heading.{Heading}
 use Rattle.decide_core.specs.declared.deciding.Decided.{Decided}
 use Rattle.decide_core.specs.Decided.{IsDecided, IsClosed}
-use Rattle.sweep_core.specs.declared.visit.Visit.{Visit}
-use Rattle.sweep_core.specs.Asked.{IsAskedOf}
-use Rattle.sweep_core.specs.Undecided.{IsUndecided}
-use Rattle.sweep_core.specs.Outcomes.{Leads, IsDone}
+use Rattle.improve_theory.specs.declared.visit.Visit.{Visit}
+use Rattle.improve_theory.specs.Asked.{IsAskedOf}
+use Rattle.improve_theory.specs.Undecided.{IsUndecided}
+use Rattle.improve_theory.specs.Leading.{Leads}
+use Rattle.resyn_core.specs.Outcomes.{IsDone}
 use Rattle.window_trial.specs.declared.trying.Outcome.{Outcome}
 use Rattle.window_trial.specs.declared.trying.Outcome.TheVariants.{Passed, Open, Smaller}
 

@@ -12,18 +12,18 @@ use Rattle.window_theory.specs.PlaceLaws.{rising_same}
 use Rattle.window_theory.specs.Paths.{IsGate}
 use Rattle.window_theory.specs.Window.{Window, IsPartnerOrNone, IsWindow, Belongs}
 use Rattle.window_theory.specs.WindowLaws.{taken_rising, window_one, window_belongs}
-use Rattle.improve_settings.specs.declared.improve.ImproveSettings.{ImproveSettings}
-use Rattle.improve_settings.specs.Improve.{IsInRange}
+use Rattle.settings.specs.declared.improve.ImproveSettings.{ImproveSettings}
+use Rattle.settings.specs.Improve.{IsInRange}
 use Rattle.cert_theory.specs.declared.data.Heading.{Heading}
 use Rattle.cert_theory.specs.Bundle.{Bundle, IsHeading}
 use Rattle.decide_core.specs.declared.deciding.Decided.{Decided}
 use Rattle.decide_core.specs.declared.deciding.Decided.TheVariants as decisions
 use Rattle.decide_core.specs.Decided.{HasNone, IsLeftOpen, IsDecided, IsClosed}
-use Rattle.sweep_core.specs.declared.visit.Visit.{Visit}
-use Rattle.sweep_core.specs.Asked.{IsAskedOf, HasNoFewerAsked}
-use Rattle.sweep_core.specs.Settled.{IsListed}
-use Rattle.sweep_core.specs.Undecided.{IsUndecided}
-use Rattle.sweep_core.specs.Outcomes.{IsDone}
+use Rattle.improve_theory.specs.declared.visit.Visit.{Visit}
+use Rattle.improve_theory.specs.Asked.{IsAskedOf, HasNoFewerAsked}
+use Rattle.improve_theory.specs.Settled.{IsListed}
+use Rattle.improve_theory.specs.Undecided.{IsUndecided}
+use Rattle.resyn_core.specs.Outcomes.{IsDone}
 use Rattle.walk_core.specs.Asked.{MeetsAsked}
 use Rattle.window_trial.specs.Trying.{AsksFor, IsDecidedFor}
 use Rattle.window_trial.specs.AskingLaws.{none_asked}

@@ -1,7 +1,7 @@
 //! Structural hashing, with cleanup.
 ghost use Rattle.std.specs.Prelude.{◌<◌, length, IfOk, IfSome};
 ghost use Rattle.chain_theory.specs.Operator.{Basis};
-ghost use Rattle.sweep_core.specs.Outcomes.{Leads};
+ghost use Rattle.improve_theory.specs.Leading.{Leads};
 
 use merge_core::merge_alike;
 use net_core::{Net, drop_dead};

@@ -3,7 +3,7 @@ ghost use Rattle.std.specs.Prelude.{◌≡◌, true, false, IfOk};
 ghost use Rattle.window_core.specs.Readers.{AreReaders};
 ghost use Rattle.window_theory.specs.Paths.{IsGate};
 ghost use Rattle.window_theory.specs.Window.{IsPartnerOrNone};
-ghost use Rattle.sweep_core.specs.Visits.{IsNextPartner};
+ghost use Rattle.improve_theory.specs.Visits.{IsNextPartner};
 ghost use Rattle.window_trial.specs.PartnerLaws.{first_below as first_below_of};
 
 use net_core::Net;

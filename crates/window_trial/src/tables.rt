@@ -1,11 +1,11 @@
 //! Functional hashing with cleanup, in a net of few sources.
 ghost use Rattle.std.specs.Prelude.{◌≤◌, length, IfOk};
 ghost use Rattle.chain_theory.specs.Operator.{Basis};
-ghost use Rattle.sweep_core.specs.Outcomes.{Leads};
+ghost use Rattle.improve_theory.specs.Leading.{Leads};
 
+use merge_core::merge_equal;
 use net_core::{Net, drop_dead};
 use std::alloc::{AllocError, Global};
-use table_merge::merge_equal;
 
 /// A net of at most this many gates is left to moves and windows.
 const MANY_EQUAL: usize = 1000;
@@ -23,7 +23,7 @@ fn equal_merged(alloc: Global, net: &Net) -> Result<Net, AllocError>
 
 /// The net after that, if it has many gates and the cap is at least 2: with a cap of 1 equal gates are kept,
 /// since each of them alone needs a step.
-#[tactic(auto, using(crate::specs::ImprovementLaws::improving))]
+#[tactic(auto, using(crate::specs::MergedLaws::merging))]
 pub fn many_merged(alloc: Global, net: Net, cap: u32) -> Result<Net, AllocError>
     ensures leads { (basis : Basis) → IfOk result (Leads basis net) }
     ensures fewer { IfOk result (λ left. length left.gates ≤ length net.gates) }

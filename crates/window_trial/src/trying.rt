@@ -1,22 +1,23 @@
 //! The attempt of a window: its specification, the search, and the new net.
 ghost use Rattle.std.specs.Prelude.{◌≡◌, ◌≤◌, IfOk, OnOk};
-ghost use Rattle.improve_settings.specs.Improve.{IsInRange};
+ghost use Rattle.settings.specs.Improve.{IsInRange};
 ghost use Rattle.window_theory.specs.Paths.{IsGate};
 ghost use Rattle.window_theory.specs.Window.{IsWindow, Belongs};
-ghost use Rattle.sweep_core.specs.declared.visit.Visit.{Visit as VisitValue};
-ghost use Rattle.sweep_core.specs.Settled.{IsListed};
+ghost use Rattle.improve_theory.specs.declared.visit.Visit.{Visit as VisitValue};
+ghost use Rattle.improve_theory.specs.Settled.{IsListed};
 ghost use Rattle.window_core.specs.Readers.{AreReaders};
 ghost use Rattle.window_trial.specs.Trying.{IsDecidedFor, IsOutcome};
 
 use crate::merging::merged;
 use crate::partners::{is_partner_or_none, next_partner};
 use decide_core::{Decided, Heading, Memory, decide};
-use improve_settings::ImproveSettings;
+use improve_theory::Visit;
 use net_core::Net;
+use resyn_core::{Trial, Tried};
 use sat_solve::Solver;
+use settings::ImproveSettings;
 use std::alloc::{AllocError, Global};
 use std::marker::{Model, PhantomData};
-use sweep_core::{Trial, Tried, Visit};
 use walk_core::{asked_spec, replaced};
 use window_core::{Readers, Window, readers_of, window_by};
 

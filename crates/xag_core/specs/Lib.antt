@@ -1,1 +1,2 @@
 pub mod Xag
+pub mod Grown

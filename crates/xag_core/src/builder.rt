@@ -4,8 +4,8 @@
 ghost use Rattle.std.specs.Prelude.{◌≡◌, ◌+◌, OnOk, IfOk, length};
 ghost use Rattle.xag_core.specs.Xag.{IsGrown, HasSinks, IsLiteralBelow};
 
-use crate::rows::{at, put};
 use crate::xag::{Xag, XagGate};
+use rows::{at, put};
 use std::alloc::{AllocError, Global};
 use std::marker::Model;
 

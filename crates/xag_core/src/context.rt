@@ -1,8 +1,8 @@
 //! The fanouts of each node, its reference count (fanouts and sinks), and its maximum fanout-free cone
 //! (MFFC).
 
-use crate::rows::{at, bit_at, put, raise};
 use crate::xag::{Xag, mark_sinks};
+use rows::{at, bit_at, put, raise};
 use std::alloc::{AllocError, Global};
 
 /// The most gates of an MFFC whose operands `cone_of` visits.

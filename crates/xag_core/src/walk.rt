@@ -7,8 +7,8 @@ ghost use Rattle.xag_core.specs.Xag.{HasEnds};
 
 use crate::builder::Builder;
 use crate::edit::{Edit, NONE};
-use crate::rows::{at, bit_at, put};
 use crate::xag::{Xag, XagGate, mark_sinks};
+use rows::{at, bit_at, put};
 use std::alloc::{AllocError, Global};
 
 /// The traversal: for each old node the literal that replaces it, if any, its new literal once that is found

@@ -2,7 +2,7 @@
 ghost use Rattle.std.specs.Prelude.{◌≡◌, IfOk};
 ghost use Rattle.xag_core.specs.Xag.{IsXag};
 
-use crate::rows::put;
+use rows::put;
 use std::alloc::{AllocError, Global};
 use std::marker::Model;
 

@@ -2,7 +2,7 @@ use Rattle.std.proofs.Common.{◌≡◌, arith, subst}
 use Rattle.std.proofs.lemmas.Grind.{common_steps}
 use Rattle.blif_core.specs.Blif.{blif_format}
 use Rattle.gen_core.specs.Generated.{generated_text}
-use Rattle.improve_settings.specs.declared.improve.ImproveSettings.{ImproveSettings}
+use Rattle.settings.specs.declared.improve.ImproveSettings.{ImproveSettings}
 use Rattle.improve_windows.specs.Improving.{IsReported}
 use Rattle.frame_core.specs.Views.{reply_value}
 use Rattle.cmd_gen.proofs.Generating.{tells_improved}

@@ -2,7 +2,7 @@
 -- original ones.
 use Rattle.std.proofs.Common.{ℕ, List, sym, subst}
 use Rattle.cert_theory.specs.declared.data.Heading.{Heading}
-use Rattle.spec_order.specs.Order.{IsOrder}
+use Rattle.spec_cache.specs.Order.{IsOrder}
 use Rattle.decide_core.specs.Decided.{Fewer, IsSized}
 use Rattle.decide_core.specs.Ordered.{IsTurnedTo}
 use Rattle.decide_core.specs.RememberedLaws.{found_none, found_shorter}

@@ -3,7 +3,7 @@ use Rattle.std.proofs.Common.{◌≡◌, sym, subst}
 use Rattle.std.proofs.lemmas.Result.{IfOk-weaker}
 use Rattle.chain_theory.specs.Chain.{Chain}
 use Rattle.cert_theory.specs.declared.data.Heading.{Heading}
-use Rattle.spec_order.specs.OrderLaws.{turned_chain}
+use Rattle.spec_cache.specs.OrderLaws.{turned_chain}
 use Rattle.decide_core.specs.Decided.{IsShorter}
 use Rattle.decide_core.specs.Ordered.{IsTurnedTo}
 use Rattle.decide_core.specs.OrderedLaws.{shorter_turned}

@@ -1,6 +1,6 @@
 -- If no chain implements the permuted tables, none implements the original ones; and a chain is permuted back.
 use Rattle.std.proofs.Common.{ℕ, List, sym, subst}
-use Rattle.spec_order.specs.Order.{IsOrder}
+use Rattle.spec_cache.specs.Order.{IsOrder}
 use Rattle.decide_core.specs.Ordered.{IsTurnedTo}
 use Rattle.decide_core.specs.OrderedLaws.{turned_to, turned_from, least_turned, chain_ordered}
 use Rattle.decide_core.specs.StepLaws.{none_known, some_known}

@@ -1,7 +1,7 @@
 -- The certificate, taken apart.
 use Rattle.std.proofs.Common.{◌≡◌, Some, sym, subst}
 use Rattle.cert_theory.specs.Bundle.{Bundle, IsValid}
-use Rattle.size_loop.specs.Thrift.{AreThrifty}
+use Rattle.cert_theory.specs.Thrift.{AreThrifty}
 use Rattle.depth_core.specs.Flattened.{minimum_of}
 use Rattle.depth_core.proofs.LevelLogs.{is_searched, no_chain}
 use Rattle.depth_core.proofs.searching.deepened.Goals as goal

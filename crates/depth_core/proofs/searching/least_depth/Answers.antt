@@ -1,7 +1,7 @@
 -- No minimum was found.
 use Rattle.std.proofs.Common.{sym, ◌∙◌, subst}
 use Rattle.cert_theory.specs.declared.data.Heading.{Heading}
-use Rattle.size_loop.specs.Thrift.{AreThrifty}
+use Rattle.cert_theory.specs.Thrift.{AreThrifty}
 use Rattle.depth_core.proofs.searching.least_depth.Goals as goal
 
 pub returns-in-None : goal.returns-in-None

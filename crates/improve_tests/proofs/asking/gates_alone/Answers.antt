@@ -1,5 +1,5 @@
-use Rattle.improve_settings.specs.declared.improve.ImproveSettings.{ImproveSettings}
-use Rattle.improve_settings.specs.Improve.{usual}
+use Rattle.settings.specs.declared.improve.ImproveSettings.{ImproveSettings}
+use Rattle.settings.specs.Improve.{usual}
 use Rattle.improve_windows.specs.FitsLaws.{all_fit}
 use Rattle.improve_tests.proofs.asking.gates_alone.Goals as goal
 

@@ -2,7 +2,7 @@
 use Rattle.std.specs.Prelude.{◌≡◌, ◌++◌, decimal}
 use Rattle.std.proofs.Common.{subst}
 use Rattle.cert_theory.specs.Spelling.{bundle_text}
-use Rattle.sweep_core.specs.Undecided.{Undecided}
+use Rattle.improve_theory.specs.Undecided.{Undecided}
 use Rattle.improve_windows.specs.Report.{name_at, partner_text, window_text}
 use Rattle.improve_windows.specs.ReportLaws.{appended}
 use Rattle.improve_windows.proofs.reporting.push_window.Goals as goal

@@ -1,7 +1,7 @@
 use Rattle.std.proofs.Common.{◌≡◌, ◌≤◌, subst}
 use Rattle.size_loop.specs.declared.advancing.Advance.{Advance}
 use Rattle.size_loop.specs.Advancing.{IfSection, behind}
-use Rattle.size_loop.specs.Thrift.{IsThriftySection}
+use Rattle.cert_theory.specs.Thrift.{IsThriftySection}
 use Rattle.size_loop.specs.SearchedLaws.{searched_more}
 use Rattle.cert_theory.specs.Bundle.{IsSection}
 use Rattle.size_loop.proofs.searching.search.Goals as goal

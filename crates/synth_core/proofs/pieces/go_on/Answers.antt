@@ -5,7 +5,7 @@ use Rattle.cert_theory.specs.Bundle.{IsSection, IsEnding}
 use Rattle.size_loop.specs.declared.advancing.Advance.{Advance}
 use Rattle.size_loop.specs.Advancing.{IfSection, IfEnded, behind}
 use Rattle.size_loop.specs.State.{State}
-use Rattle.size_loop.specs.Thrift.{IsThriftySection}
+use Rattle.cert_theory.specs.Thrift.{IsThriftySection}
 use Rattle.synth_core.proofs.UnderWay.{section_more, ended}
 use Rattle.synth_core.proofs.pieces.go_on.Goals as goal
 

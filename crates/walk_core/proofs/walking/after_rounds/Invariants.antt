@@ -1,6 +1,6 @@
 use Rattle.std.specs.Prelude.{◌≤◌, length}
 use Rattle.op_basis.specs.Basis.{members}
-use Rattle.sweep_core.specs.Outcomes.{Leads}
+use Rattle.improve_theory.specs.Leading.{Leads}
 use Rattle.walk_core.proofs.walking.after_rounds.Given as goal
 
 abbrev pub invariant-loop-round : goal.invariant-loop-round

@@ -1,7 +1,7 @@
 use Rattle.std.specs.Prelude.{◌≤◌, length}
 use Rattle.op_basis.specs.Basis.{members}
 use Rattle.window_core.specs.Readers.{AreReaders}
-use Rattle.sweep_core.specs.Outcomes.{Leads}
+use Rattle.improve_theory.specs.Leading.{Leads}
 use Rattle.walk_core.proofs.walking.walk.Given as goal
 
 abbrev pub invariant-loop-try : goal.invariant-loop-try

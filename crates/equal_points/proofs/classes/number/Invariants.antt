@@ -1,6 +1,0 @@
-use Rattle.std.proofs.Common.{◌≤◌}
-use Rattle.indexmap.specs.IndexSet.{index_set_len}
-use Rattle.equal_points.proofs.classes.number.Given as goal
-
-abbrev pub invariant-loop-variable : goal.invariant-loop-variable
-invariant-loop-variable l = index_set_len l.marks ≤ l.variable

@@ -1,5 +1,0 @@
-use Rattle.gen_laws.proofs.Sizes.{text_small}
-use Rattle.gen_laws.proofs.generated_netlists_are_small.Goals as goal
-
-pub returns : goal.returns
-returns c blocks few = text_small blocks few

@@ -1,0 +1,9 @@
+pub use Rattle.net_theory.specs.Net
+pub use Rattle.window_theory.specs.Window
+pub mod Leading
+pub mod LeadingLaws
+pub mod Asked
+pub mod Settled
+pub mod Undecided
+pub mod Visits
+pub mod Improvement

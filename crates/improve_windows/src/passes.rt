@@ -1,0 +1,196 @@
+//! An improved net: cleanup, moves over the whole net, walks over convex windows, and then resynthesis of the
+//! listed windows.
+ghost use Rattle.std.specs.Prelude.{◌≤◌, IfOk, IfSome};
+ghost use Rattle.op_basis.specs.Basis.{members};
+ghost use Rattle.net_theory.specs.Answers.{IsPruned};
+ghost use Rattle.settings.specs.Improve.{IsInRange};
+ghost use Rattle.improve_theory.specs.Leading.{Leads};
+ghost use Rattle.improve_theory.specs.Improvement.{Sweeps, Leaves};
+
+use improve_theory::Undecided;
+use net_core::{Net, drop_dead};
+use restructure::restructured;
+use resyn_core::{Swept, sweep};
+use sat_solve::Solver;
+use settings::ImproveSettings;
+use std::alloc::{AllocError, Global};
+use walk_core::walked;
+use window_trial::{WindowTrial, many_merged};
+
+/// A net of fewer gates isn't moved, unless `effort` asks for rounds of moves: its few windows cover it.
+const LEAST_MOVED: usize = 6;
+
+/// The least number of rounds of size-preserving moves for a small net, whatever `effort` says.
+const FEW_ROUNDS: u32 = 3;
+
+/// The most gates of a small net.
+const FEW_GATES: usize = 1000;
+
+/// The most times that moves follow resynthesis.
+const MOST_TURNS: u32 = 8;
+
+/// In a net of more gates moves don't follow resynthesis.
+const MANY_GATES: usize = 10_000;
+
+/// An improved net.
+#[derive(Drop)]
+pub struct ImprovedNet {
+    pub net: Net,
+    /// Whether no window up to the cap has a shorter chain, but for those that are undecided.
+    pub settled: bool,
+    /// The windows that stayed undecided, in the order of candidates. Empty where `settled` is false.
+    pub undecided: Vec<Undecided>,
+}
+
+/// Resynthesizes a net, until no window up to the cap has a shorter chain, or `settings.rounds` rounds have
+/// changed something.
+#[tactic(auto, using(crate::specs::ImprovementLaws::improving))]
+fn swept<S: Solver>(
+    alloc: Global,
+    net: Net,
+    settings: &ImproveSettings,
+) -> Result<ImprovedNet, AllocError>
+    requires range { IsInRange settings.now }
+    requires cap { 1 ≤ settings.now.cap }
+    ensures { IfOk result (λ left. Sweeps settings.now net left.net left.settled left.undecided.items) }
+{
+    let mut trial = WindowTrial::<S>::new(alloc, net, *settings)?;
+    let Swept { settled, undecided } = sweep(alloc, &mut trial)?;
+    Ok(ImprovedNet {
+        net: trial.into_net(),
+        settled,
+        undecided,
+    })
+}
+
+/// Whether a net is moved: where `effort` asks for rounds of moves, and otherwise from `LEAST_MOVED` gates
+/// on.
+fn is_moved(net: &Net, effort: u32) -> bool {
+    effort > 0 || LEAST_MOVED <= net.gates().len()
+}
+
+/// The number of rounds of size-preserving moves for a net.
+fn rounds_of(net: &Net, effort: u32) -> u32 {
+    if net.gates().len() > FEW_GATES {
+        effort
+    } else {
+        effort.max(FEW_ROUNDS)
+    }
+}
+
+/// How often moves follow resynthesis. A net with as many gates as before is the same net, and where moves
+/// without such rounds found nothing before, they would find nothing again.
+fn turns_of(net: &Net, before: usize, rounds: u32) -> u32 {
+    let gates = net.gates().len();
+    if gates > MANY_GATES || (rounds == 0 && gates == before) {
+        0
+    } else {
+        MOST_TURNS
+    }
+}
+
+/// A smaller net by moves over the whole net, if they find one.
+#[tactic(auto, using(crate::specs::ImprovementLaws::improving))]
+fn moved<S: Solver>(
+    alloc: Global,
+    net: &Net,
+    settings: &ImproveSettings,
+    rounds: u32,
+) -> Result<Option<Net>, AllocError>
+    ensures { IfOk result (λ found. IfSome found (Leads (members settings.now.basis) net.now)) }
+{
+    if !is_moved(net, settings.effort) {
+        return Ok(None);
+    }
+    match restructured::<S>(alloc, net, settings.basis, rounds)? {
+        Some(smaller) => Ok(Some(smaller)),
+        None => Ok(None),
+    }
+}
+
+/// A smaller net by walks over convex windows, if they find one. A net that isn't moved isn't walked over
+/// either.
+#[tactic(auto, using(crate::specs::ImprovementLaws::improving))]
+fn walked_over(
+    alloc: Global,
+    net: &Net,
+    settings: &ImproveSettings,
+    rounds: u32,
+) -> Result<Option<Net>, AllocError>
+    ensures { IfOk result (λ found. IfSome found (Leads (members settings.now.basis) net.now)) }
+{
+    if !is_moved(net, settings.effort) {
+        return Ok(None);
+    }
+    let found = walked(alloc, net, settings, rounds)?;
+    Ok(found)
+}
+
+/// The net after moves and walks.
+#[tactic(auto, using(crate::specs::ImprovementLaws::improving))]
+fn begun<S: Solver>(
+    alloc: Global,
+    net: Net,
+    settings: &ImproveSettings,
+    rounds: u32,
+) -> Result<Net, AllocError>
+    ensures { IfOk result (Leads (members settings.now.basis) net) }
+{
+    let found = moved::<S>(alloc, &net, settings, rounds)?;
+    let best = found.unwrap_or(net);
+    let smaller = walked_over(alloc, &best, settings, rounds)?;
+    Ok(smaller.unwrap_or(best))
+}
+
+/// Moves and walks, and then resynthesis. Moves follow it again as long as they find a smaller net, at most
+/// `MOST_TURNS` times, and never in a large net.
+#[tactic(auto, using(crate::specs::ImprovementLaws::improving))]
+fn improved<S: Solver>(
+    alloc: Global,
+    net: Net,
+    settings: &ImproveSettings,
+) -> Result<ImprovedNet, AllocError>
+    requires range { IsInRange settings.now }
+    requires cap { 1 ≤ settings.now.cap }
+    requires itself { IsPruned net net }
+    ensures { IfOk result (λ left. Sweeps settings.now net left.net left.settled left.undecided.items) }
+{
+    let net = many_merged(alloc, net, settings.cap)?;
+    let before = net.gates().len();
+    let rounds = rounds_of(&net, settings.effort);
+    let best = begun::<S>(alloc, net, settings, rounds)?;
+    let mut left = swept::<S>(alloc, best, settings)?;
+    let turns = turns_of(&left.net, before, rounds);
+    for _turn in 0..turns {
+        match moved::<S>(alloc, &left.net, settings, 0)? {
+            None => break,
+            Some(smaller) => left = swept::<S>(alloc, smaller, settings)?,
+        }
+    }
+    Ok(left)
+}
+
+/// Improves a net: cleanup, moves over the whole net and walks over convex windows, and then resynthesis,
+/// until no window up to the cap has a shorter chain, or `settings.rounds` rounds have changed something.
+#[tactic(auto, using(crate::specs::ImprovementLaws::improving))]
+pub fn improve_net<S: Solver>(
+    alloc: Global,
+    net: &Net,
+    settings: ImproveSettings,
+) -> Result<ImprovedNet, AllocError>
+    requires { IsInRange settings }
+    ensures { IfOk result (λ left. Leaves settings net.now left.net left.settled left.undecided.items) }
+{
+    // for the prover: brings the net's invariant into the proof
+    let _gates = net.gates();
+    let tidy = drop_dead(alloc, net)?;
+    if settings.cap == 0 {
+        return Ok(ImprovedNet {
+            net: tidy,
+            settled: true,
+            undecided: Vec::new(alloc),
+        });
+    }
+    let left = improved::<S>(alloc, tidy, &settings)?;
+    Ok(left)
+}

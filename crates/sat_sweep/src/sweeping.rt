@@ -1,0 +1,128 @@
+//! A sweep: a round over structurally equal gates, and then rounds over all gates and sinks, each with ten times
+//! the conflict limit of the round before.
+ghost use Rattle.std.specs.Prelude.{◌≡◌, ℕ, ◌+◌, ◌<◌, ◌^◌, length, OnOk};
+ghost use Rattle.sat_theory.specs.Formula.{Formula};
+ghost use Rattle.sat_sweep.specs.Stays.{Stays};
+
+use crate::gates::{Heard, shorten_gates, visit_gates};
+use crate::joining::join_alike;
+use crate::sinks::visit_sinks;
+use crate::state::Sweeping;
+use net_core::Net;
+use sat_solve::Solver;
+use std::alloc::{AllocError, Global};
+
+/// The conflict limit of a question, round by round.
+const LIMITS: [u32; 4] = [20, 200, 2_000, 20_000];
+
+/// The result of a sweep over two nets.
+#[derive(Drop)]
+pub enum Swept {
+    /// A sink may differ under these values of the sources, source 1 first. The caller has to check that.
+    Differ(Vec<bool>),
+    /// No counterexample was found. `spent` counts the conflicts of the questions that were given up, which count
+    /// against the budget.
+    Swept { spent: u32 },
+}
+
+/// One round over the gates and the sinks.
+fn round<S: Solver>(
+    solver: &mut S,
+    vars: u32,
+    sweeping: &mut Sweeping,
+    limit: u32,
+) -> Result<Heard, AllocError>
+    requires vars { S.vars_of solver.old ≡ vars }
+    requires small { vars < 2 ^ 31 }
+    ensures { OnOk result (Stays S.IsSolverOf S.vars_of solver.old solver.new) }
+{
+    let heard = visit_gates(solver, vars, sweeping, limit)?;
+    if heard != Heard::Nothing {
+        return Ok(heard);
+    }
+    visit_sinks(solver, vars, sweeping, false, limit)
+}
+
+/// Rounds, as long as a sink is open.
+fn rounds<S: Solver>(
+    solver: &mut S,
+    vars: u32,
+    sweeping: &mut Sweeping,
+) -> Result<Heard, AllocError>
+    requires vars { S.vars_of solver.old ≡ vars }
+    requires small { vars < 2 ^ 31 }
+    ensures { OnOk result (Stays S.IsSolverOf S.vars_of solver.old solver.new) }
+{
+    for limit in LIMITS {
+        let heard = round(solver, vars, sweeping, limit)?;
+        if heard != Heard::Nothing {
+            return Ok(heard);
+        }
+        if !sweeping.has_open() {
+            return Ok(Heard::Nothing);
+        }
+        sweeping.begin_round();
+    }
+    Ok(Heard::Nothing)
+}
+
+/// Derives the binary clauses of the gates that are still needed, and then goes through the rounds.
+fn go_on<S: Solver>(solver: &mut S, vars: u32, sweeping: &mut Sweeping) -> Result<Heard, AllocError>
+    requires vars { S.vars_of solver.old ≡ vars }
+    requires small { vars < 2 ^ 31 }
+    ensures { OnOk result (Stays S.IsSolverOf S.vars_of solver.old solver.new) }
+{
+    sweeping.begin_round();
+    let heard = shorten_gates(solver, vars, sweeping)?;
+    if heard != Heard::Nothing {
+        return Ok(heard);
+    }
+    rounds(solver, vars, sweeping)
+}
+
+/// Merges structurally equal gates, and goes on if a sink is still open.
+fn go<S: Solver>(solver: &mut S, vars: u32, sweeping: &mut Sweeping) -> Result<Heard, AllocError>
+    requires vars { S.vars_of solver.old ≡ vars }
+    requires small { vars < 2 ^ 31 }
+    ensures { OnOk result (Stays S.IsSolverOf S.vars_of solver.old solver.new) }
+{
+    sweeping.begin_round();
+    let heard = join_alike(solver, vars, sweeping)?;
+    if heard != Heard::Nothing || !sweeping.has_open() {
+        return Ok(heard);
+    }
+    go_on(solver, vars, sweeping)
+}
+
+/// Sweeps two nets with equally many sources and equally many sinks: finds signals that are equal or
+/// complementary, and has `solver`, a solver of the nets' miter, derive that. It stops when the questions that
+/// were given up have taken `budget` conflicts. Whatever it finds, the solver stays a solver of its formula.
+pub fn sweep<S: Solver>(
+    alloc: Global,
+    first: &Net,
+    second: &Net,
+    solver: &mut S,
+    budget: u32,
+) -> Result<Swept, AllocError>
+    requires vars { S.vars_of solver.old ≡ first.now.sources + length first.now.gates + length second.now.gates + length first.now.sinks }
+    requires small { S.vars_of solver.old < 2 ^ 31 }
+    ensures kept { (f : Formula) (least : ℕ) → S.IsSolverOf f least solver.old → OnOk result (S.IsSolverOf f least solver.new) }
+    ensures vars { OnOk result (S.vars_of solver.new ≡ S.vars_of solver.old) }
+{
+    let gates = first.gates().len() as u32 + second.gates().len() as u32;
+    let vars = first.sources() + gates + first.sinks().len() as u32;
+    let mut sweeping = Sweeping::new(alloc, first, second, budget)?;
+    let heard = if sweeping.patterns.is_different(&sweeping.points) {
+        Heard::Difference
+    } else {
+        go(solver, vars, &mut sweeping)?
+    };
+    let spent = sweeping.spent();
+    if heard != Heard::Difference {
+        return Ok(Swept::Swept { spent });
+    }
+    match sweeping.patterns.difference(alloc, &sweeping.points)? {
+        Some(bits) => Ok(Swept::Differ(bits)),
+        None => Ok(Swept::Swept { spent }),
+    }
+}

@@ -1,0 +1,9 @@
+pub mod Order
+pub mod OrderLaws
+pub mod BackLaws
+pub mod WordLaws
+pub mod Ranks
+pub mod Permuting
+pub mod ListLaws
+pub mod Facts
+pub mod FactLaws
