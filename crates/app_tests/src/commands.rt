@@ -1,5 +1,5 @@
 //! Runs of each command in memory, as tables: the input, the status, and what is written.
-use crate::running::{Seen, tells, told};
+use crate::running::{Seen, reported, reports};
 use std::alloc::{AllocError, Global};
 
 const XOR: &str = "inputs 2\n0110\nchain 1\nx3 x1 x2 0110\nout x3\nend\n";
@@ -165,7 +165,7 @@ const RUNS: &[(&str, &str, u8, &str, &str)] = &[
 #[test]
 fn commands_tell(rt: HostRuntime) {
     for &(line, input, status, out, note) in RUNS {
-        let well = tells(rt.alloc(), line, input.as_bytes(), status, out, note);
+        let well = reports(rt.alloc(), line, input.as_bytes(), status, out, note);
         assert!(rt; well, "{line} {input}");
     }
 }
@@ -185,7 +185,7 @@ fn joined(alloc: Global, first: &str, second: &str) -> Result<String, AllocError
 /// Whether `equiv` on two texts ends with `status`, and writes `out` and `note`.
 fn are_judged(alloc: Global, first: &str, second: &str, status: u8, out: &str, note: &str) -> bool {
     match joined(alloc, first, second) {
-        Ok(input) => tells(alloc, "equiv", input.as_bytes(), status, out, note),
+        Ok(input) => reports(alloc, "equiv", input.as_bytes(), status, out, note),
         Err(_) => false,
     }
 }
@@ -218,7 +218,7 @@ const PAIRS: &[(&str, &str, u8, &str, &str)] = &[
 ];
 
 #[test]
-fn equiv_tells(rt: HostRuntime) {
+fn equiv_reports(rt: HostRuntime) {
     for &(first, second, status, out, note) in PAIRS {
         let well = are_judged(rt.alloc(), first, second, status, out, note);
         assert!(rt; well, "{first} {second}");
@@ -240,11 +240,18 @@ fn is_log(seen: &Seen, status: u8, word: &str) -> bool {
 }
 
 /// Whether the output of an `equiv` command line on two texts is `word` and then a log, with empty notes.
-fn tells_log(alloc: Global, line: &str, first: &str, second: &str, status: u8, word: &str) -> bool {
+fn reports_log(
+    alloc: Global,
+    line: &str,
+    first: &str,
+    second: &str,
+    status: u8,
+    word: &str,
+) -> bool {
     let Ok(input) = joined(alloc, first, second) else {
         return false;
     };
-    match told(alloc, line, input.as_bytes()) {
+    match reported(alloc, line, input.as_bytes()) {
         Ok(seen) => is_log(&seen, status, word),
         Err(_) => false,
     }
@@ -258,9 +265,9 @@ const LOGS: &[(&str, &str, &str, u8, &str)] = &[
 ];
 
 #[test]
-fn equiv_tells_its_log(rt: HostRuntime) {
+fn equiv_reports_its_log(rt: HostRuntime) {
     for &(line, first, second, status, word) in LOGS {
-        let well = tells_log(rt.alloc(), line, first, second, status, word);
+        let well = reports_log(rt.alloc(), line, first, second, status, word);
         assert!(rt; well, "{line} {word}");
     }
 }

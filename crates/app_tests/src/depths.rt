@@ -1,6 +1,6 @@
 //! Chains of the fewest levels: what `synth --least-depth yes` writes, and what `recheck --depth yes` reports on
 //! valid and on faulty certificates.
-use crate::running::{tells, told};
+use crate::running::{reported, reports};
 use std::alloc::{AllocError, Global};
 
 const SYNTH: &str = "synth --method fence --least-depth yes";
@@ -8,7 +8,7 @@ const SYNTH: &str = "synth --method fence --least-depth yes";
 const RECHECK: &str = "recheck --depth yes";
 
 /// The first lines of a certificate of x1 AND x2 and of x1 AND x2 AND x3: two steps on two levels.
-const FRONT: &str =
+const PREFIX: &str =
     "chains 1\ninputs 3\n00000011\n00000001\nbasis all\nmethod fence\nconflicts 100000\nmax 16\nsize 0\nfence\nrefuted\ndone\nsize 1\nfence 1\nrefuted\n132 0 1 2 9 17 0\ndone\nchain 2\nx4 x1 x2 0001\nx5 x3 x4 0001\nout x4\nout x5\nminimum 2\nend\n";
 
 /// The log that refutes its only fence with fewer levels.
@@ -31,14 +31,14 @@ fn joined(alloc: Global, parts: [&str; 4]) -> Result<String, AllocError> {
 /// Whether `recheck --depth yes` reports this on the text of these parts.
 fn is_judged(alloc: Global, parts: [&str; 4], status: u8, out: &str, note: &str) -> bool {
     match joined(alloc, parts) {
-        Ok(text) => tells(alloc, RECHECK, text.as_bytes(), status, out, note),
+        Ok(text) => reports(alloc, RECHECK, text.as_bytes(), status, out, note),
         Err(_) => false,
     }
 }
 
 /// Whether `recheck --depth yes` finds a text valid.
 fn is_valid(alloc: Global, text: &[u8]) -> bool {
-    match told(alloc, RECHECK, text) {
+    match reported(alloc, RECHECK, text) {
         Ok(seen) => seen.status == 0,
         Err(_) => false,
     }
@@ -46,7 +46,7 @@ fn is_valid(alloc: Global, text: &[u8]) -> bool {
 
 /// Whether `synth` writes a certificate of the fewest levels with this trailer, which is found valid.
 fn is_found(alloc: Global, input: &str, ending: &str) -> bool {
-    match told(alloc, SYNTH, input.as_bytes()) {
+    match reported(alloc, SYNTH, input.as_bytes()) {
         Ok(seen) => {
             seen.status == 0
                 && seen.note.written().is_empty()
@@ -99,7 +99,7 @@ const JUDGED: &[(&str, &str, &str, &str, u8, &str, &str)] = &[
         "error: WrongLevels 30\n",
     ),
     (
-        FRONT,
+        PREFIX,
         "depth 2\n",
         FLATTER,
         "levels 2\nend\n",
@@ -108,7 +108,7 @@ const JUDGED: &[(&str, &str, &str, &str, u8, &str, &str)] = &[
         "",
     ),
     (
-        FRONT,
+        PREFIX,
         "depth 2\n",
         "",
         "levels 2\nend\n",
@@ -117,7 +117,7 @@ const JUDGED: &[(&str, &str, &str, &str, u8, &str, &str)] = &[
         "error: NotRefuted 26\n",
     ),
     (
-        FRONT,
+        PREFIX,
         "depth 3\n",
         FLATTER,
         "levels 2\nend\n",
@@ -126,7 +126,7 @@ const JUDGED: &[(&str, &str, &str, &str, u8, &str, &str)] = &[
         "error: WrongDepth 25\n",
     ),
     (
-        FRONT,
+        PREFIX,
         "depth\n",
         FLATTER,
         "levels 2\nend\n",
@@ -135,7 +135,7 @@ const JUDGED: &[(&str, &str, &str, &str, u8, &str, &str)] = &[
         "error: Syntax 25\n",
     ),
     (
-        FRONT,
+        PREFIX,
         "depth 2\n",
         FLATTER,
         "levels 1\nend\n",
@@ -144,7 +144,7 @@ const JUDGED: &[(&str, &str, &str, &str, u8, &str, &str)] = &[
         "error: WrongLevels 37\n",
     ),
     (
-        FRONT,
+        PREFIX,
         "depth 2\n",
         FLATTER,
         "levels-bounded 1 2\nend\n",
@@ -153,7 +153,7 @@ const JUDGED: &[(&str, &str, &str, &str, u8, &str, &str)] = &[
         "error: WrongLevels 37\n",
     ),
     (
-        FRONT,
+        PREFIX,
         "depth 2\n",
         FLATTER,
         "fence 1 1\n",
@@ -162,7 +162,7 @@ const JUDGED: &[(&str, &str, &str, &str, u8, &str, &str)] = &[
         "error: NotRefuted 37\n",
     ),
     (
-        FRONT,
+        PREFIX,
         "depth 2\n",
         FLATTER,
         "levels 2\n",
@@ -171,7 +171,7 @@ const JUDGED: &[(&str, &str, &str, &str, u8, &str, &str)] = &[
         "error: Syntax 38\n",
     ),
     (
-        FRONT,
+        PREFIX,
         "depth 2\n",
         FLATTER,
         "levels 2\nend\n\n",
@@ -180,7 +180,7 @@ const JUDGED: &[(&str, &str, &str, &str, u8, &str, &str)] = &[
         "error: Syntax 39\n",
     ),
     (
-        FRONT,
+        PREFIX,
         "depth 2\n",
         "fence 1 1\n",
         "",
@@ -189,7 +189,7 @@ const JUDGED: &[(&str, &str, &str, &str, u8, &str, &str)] = &[
         "error: NotRefuted 26\n",
     ),
     (
-        FRONT,
+        PREFIX,
         "depth 2\n",
         "fence 2\nrefuted\n276 0 0\n",
         "",
@@ -198,7 +198,7 @@ const JUDGED: &[(&str, &str, &str, &str, u8, &str, &str)] = &[
         "error: StepRefused 28 NoConflict\n",
     ),
     (
-        FRONT,
+        PREFIX,
         "depth 2\n",
         "fence 2\nrefuted\ndone\n",
         "",
@@ -207,7 +207,7 @@ const JUDGED: &[(&str, &str, &str, &str, u8, &str, &str)] = &[
         "error: NotRefuted 28\n",
     ),
     (
-        FRONT,
+        PREFIX,
         "depth 2\n",
         "fence 2\nopen\ndone\n",
         "",
@@ -215,7 +215,7 @@ const JUDGED: &[(&str, &str, &str, &str, u8, &str, &str)] = &[
         "",
         "error: OpenTooShort 28\n",
     ),
-    (FRONT, "", "", "", 2, "", "error: Syntax 25\n"),
+    (PREFIX, "", "", "", 2, "", "error: Syntax 25\n"),
     ("chains 1\n", "", "", "", 2, "", "error: Bundle Syntax 2\n"),
     ("", "", "", "", 2, "", "error: Bundle Syntax 1\n"),
     (
@@ -230,9 +230,9 @@ const JUDGED: &[(&str, &str, &str, &str, u8, &str, &str)] = &[
 ];
 
 #[test]
-fn depth_bundles_are_judged(rt: HostRuntime) {
-    for &(front, depth, logs, ending, status, out, note) in JUDGED {
-        let well = is_judged(rt.alloc(), [front, depth, logs, ending], status, out, note);
+fn depth_certificates_are_judged(rt: HostRuntime) {
+    for &(prefix, depth, logs, ending, status, out, note) in JUDGED {
+        let well = is_judged(rt.alloc(), [prefix, depth, logs, ending], status, out, note);
         assert!(rt; well, "{note}");
     }
 }

@@ -1,5 +1,5 @@
 //! Fault injection: for every command, each read, each write and each call of the notes fails in its turn.
-use crate::running::{Fails, Seen, run_on, tells, told};
+use crate::running::{Fails, Seen, reported, reports, run_on};
 use std::alloc::{AllocError, Global};
 
 const XOR: &str = "inputs 2\n0110\nchain 1\nx3 x1 x2 0110\nout x3\nend\n";
@@ -99,7 +99,7 @@ fn makes(alloc: Global, run: (&str, &[u8], u8), whole: &[u8], port: Port, some: 
 /// Whether each failure of a call in a run is reported and leaves the right output. The run writes, and reads and
 /// writes notes as given.
 fn withstands(alloc: Global, run: (&str, &[u8], u8), reads: bool, notes: bool) -> bool {
-    let Ok(seen) = told(alloc, run.0, run.1) else {
+    let Ok(seen) = reported(alloc, run.0, run.1) else {
         return false;
     };
     let whole = seen.out.written();
@@ -122,7 +122,7 @@ const RUNS: &[(&str, &str, u8, bool, bool)] = &[
 ];
 
 #[test]
-fn each_call_that_fails_is_told(rt: HostRuntime) {
+fn each_call_that_fails_is_reported(rt: HostRuntime) {
     for &(line, input, status, reads, notes) in RUNS {
         let run = (line, input.as_bytes(), status);
         assert!(rt; withstands(rt.alloc(), run, reads, notes), "{line}");
@@ -153,8 +153,8 @@ fn certificates_go_out_in_pieces(rt: HostRuntime) {
 }
 
 /// A text that is longer than one read.
-fn long(alloc: Global, front: &str) -> Result<Vec<u8>, AllocError> {
-    let mut text = Vec::from_slice(alloc, front.as_bytes())?;
+fn long(alloc: Global, prefix: &str) -> Result<Vec<u8>, AllocError> {
+    let mut text = Vec::from_slice(alloc, prefix.as_bytes())?;
     for _ in 0..5_000u32 {
         text.push(b'\n')?;
     }
@@ -163,8 +163,8 @@ fn long(alloc: Global, front: &str) -> Result<Vec<u8>, AllocError> {
 
 /// Whether a run on a refused text makes three reads, the last of which finds the end, and each failure is
 /// reported.
-fn is_read_on(alloc: Global, line: &str, front: &str) -> bool {
-    match long(alloc, front) {
+fn is_read_on(alloc: Global, line: &str, prefix: &str) -> bool {
+    match long(alloc, prefix) {
         Ok(text) => calls_of(alloc, line, &text, Port::Reads, b"", 2) == Some(3),
         Err(_) => false,
     }
@@ -182,9 +182,9 @@ const LONG: &[(&str, &str)] = &[
 ];
 
 #[test]
-fn reads_that_fail_after_a_refused_line_are_told(rt: HostRuntime) {
-    for &(line, front) in LONG {
-        assert!(rt; is_read_on(rt.alloc(), line, front), "{line} {front}");
+fn reads_that_fail_after_a_refused_line_are_reported(rt: HostRuntime) {
+    for &(line, prefix) in LONG {
+        assert!(rt; is_read_on(rt.alloc(), line, prefix), "{line} {front}");
     }
 }
 
@@ -237,9 +237,9 @@ fn line_after(text: &[u8]) -> u32 {
 
 /// Whether a certificate that is truncated to `length` bytes is refused at the line where it ends.
 fn is_cut_off(alloc: Global, length: usize) -> bool {
-    let (front, _) = NONE.as_bytes().split_at(length.min(NONE.len()));
-    match format!(in alloc; "error: Syntax {}\n", line_after(front)) {
-        Ok(note) => tells(alloc, "recheck", front, 2, "", note.as_str()),
+    let (prefix, _) = NONE.as_bytes().split_at(length.min(NONE.len()));
+    match format!(in alloc; "error: Syntax {}\n", line_after(prefix)) {
+        Ok(note) => reports(alloc, "recheck", prefix, 2, "", note.as_str()),
         Err(_) => false,
     }
 }

@@ -1,6 +1,6 @@
 //! Limits of tables, netlists and certificates at their values and one past them, and netlists that depend on
 //! themselves.
-use crate::running::{Seen, told};
+use crate::running::{Seen, reported};
 use std::alloc::{AllocError, Global};
 
 /// Appends `byte`, `count` times.
@@ -141,7 +141,7 @@ fn notes(alloc: Global, line: &str, text: Made, status: u8, note: &str) -> bool 
     let Ok(text) = bytes_of(alloc, text) else {
         return false;
     };
-    match told(alloc, line, &text) {
+    match reported(alloc, line, &text) {
         Ok(seen) => is_answer(&seen, status, note),
         Err(_) => false,
     }

@@ -1,7 +1,9 @@
 //! Tests of the command line: which command each line asks for.
 
 use crate::running::words_of;
-use command_line::{Command, Deed, Format, ImproveSettings, SynthSettings, WordsError, read_words};
+use command_line::{
+    Command, Format, GenAction, ImproveSettings, SynthSettings, WordsError, read_words,
+};
 use op_basis::Basis;
 use settings::Method;
 use std::alloc::Global;
@@ -21,7 +23,7 @@ enum Bare {
     Recheck,
     RecheckDepth,
     Equiv(u32),
-    Gen(u32, Deed),
+    Gen(u32, GenAction),
 }
 
 /// The command without settings.
@@ -31,7 +33,7 @@ fn command_of(command: Bare) -> Command {
         Bare::Recheck => Command::Recheck,
         Bare::RecheckDepth => Command::RecheckDepth,
         Bare::Equiv(conflicts) => Command::Equiv(conflicts),
-        Bare::Gen(blocks, deed) => Command::Gen { blocks, deed },
+        Bare::Gen(blocks, action) => Command::Gen { blocks, action },
     }
 }
 
@@ -43,12 +45,15 @@ const COMMANDS: &[(&str, Bare)] = &[
     ("recheck --depth yes", Bare::RecheckDepth),
     ("equiv", Bare::Equiv(100_000)),
     ("equiv --conflicts 7", Bare::Equiv(7)),
-    ("gen --blocks 3", Bare::Gen(3, Deed::Write)),
+    ("gen --blocks 3", Bare::Gen(3, GenAction::Write)),
     (
         "gen --run write --blocks 10000",
-        Bare::Gen(10_000, Deed::Write),
+        Bare::Gen(10_000, GenAction::Write),
     ),
-    ("gen --run improve --blocks 1", Bare::Gen(1, Deed::Improve)),
+    (
+        "gen --run improve --blocks 1",
+        Bare::Gen(1, GenAction::Improve),
+    ),
 ];
 
 #[test]

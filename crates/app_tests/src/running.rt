@@ -86,12 +86,12 @@ pub(crate) fn run_on(
 }
 
 /// Runs without a failure.
-pub(crate) fn told(alloc: Global, line: &str, input: &[u8]) -> Result<Seen, AllocError> {
+pub(crate) fn reported(alloc: Global, line: &str, input: &[u8]) -> Result<Seen, AllocError> {
     run_on(alloc, line, input, Fails::None, Fails::None, Fails::None)
 }
 
 /// Whether a run without a failure ends with this status, this output and these notes.
-pub(crate) fn tells(
+pub(crate) fn reports(
     alloc: Global,
     line: &str,
     input: &[u8],
@@ -99,7 +99,7 @@ pub(crate) fn tells(
     out: &str,
     note: &str,
 ) -> bool {
-    match told(alloc, line, input) {
+    match reported(alloc, line, input) {
         Ok(seen) => seen.is(status, out.as_bytes(), note.as_bytes()),
         Err(_) => false,
     }

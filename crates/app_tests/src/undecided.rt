@@ -1,6 +1,6 @@
 //! Certificates of windows that stay undecided: each is taken from the report of `improve`, and `recheck` has to
 //! report its verdict.
-use crate::running::told;
+use crate::running::reported;
 use std::alloc::{AllocError, Global};
 
 /// Two full adders in a row. With a budget of one clause, four windows of six gates stay undecided.
@@ -13,12 +13,12 @@ const GATES: &str =
 
 /// Whether `recheck` reports the verdict `open`, which is the last line of a certificate given without its line
 /// `end`.
-fn is_found_open(alloc: Global, front: &[u8]) -> Result<bool, AllocError> {
-    let mut certificate = Vec::from_slice(alloc, front)?;
+fn is_found_open(alloc: Global, prefix: &[u8]) -> Result<bool, AllocError> {
+    let mut certificate = Vec::from_slice(alloc, prefix)?;
     certificate.extend_from_slice(b"end\n")?;
-    let seen = told(alloc, "recheck", &certificate)?;
+    let seen = reported(alloc, "recheck", &certificate)?;
     let out = seen.out.written();
-    Ok(seen.status == 0 && out.starts_with(b"open ") && front.ends_with(out))
+    Ok(seen.status == 0 && out.starts_with(b"open ") && prefix.ends_with(out))
 }
 
 /// How many certificates a report has; None if `recheck` doesn't report the verdict of one of them.
@@ -44,7 +44,7 @@ fn certificates_of(alloc: Global, report: &[u8]) -> Result<Option<u32>, AllocErr
 
 /// Whether the report of a command line has this many certificates, and `recheck` reports the verdict of each.
 fn are_found_open(alloc: Global, line: &str, input: &str, count: u32) -> bool {
-    let Ok(seen) = told(alloc, line, input.as_bytes()) else {
+    let Ok(seen) = reported(alloc, line, input.as_bytes()) else {
         return false;
     };
     match certificates_of(alloc, seen.note.written()) {

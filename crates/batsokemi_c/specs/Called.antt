@@ -6,7 +6,7 @@ use Rattle.text_core.specs.Items.{items_of}
 use Rattle.frame_core.specs.declared.status.Status.{Status}
 use Rattle.frame_core.specs.declared.status.Status.TheVariants.{Memory}
 use Rattle.frame_core.specs.Statuses.{number_of}
-use Rattle.frame_core.specs.Outside.{Side}
+use Rattle.frame_core.specs.Outside.{PortState}
 use Rattle.frame_core.specs.Run.{run_of}
 use Rattle.chain_app.specs.KeepsPromises.{KeepsPromises}
 
@@ -20,28 +20,28 @@ abbrev pub AreWords : List ℕ → List (List ℕ) → Type 0
 AreWords command words = (words ≡ items_of command) ⊎ IsNoText command words
 
 -- a source or a sink in memory, with these bytes
-abbrev pub holding : List ℕ → ℕ → Side
+abbrev pub holding : List ℕ → ℕ → PortState
 holding bytes faults = record { bytes = Some bytes; faults = faults }
 
 -- a sink as a run sees it
-abbrev pub seen : Store → Side
+abbrev pub seen : Store → PortState
 seen sink = holding sink.written sink.schedule.faults
 
 -- The program ran with the words of `command`, its source held the input, and it kept its promises.
 pub record HasRun (command input : List ℕ) (out out' note note' : Store) (status : Status) : Type 0 where
   pub words : List (List ℕ)
   pub are_words : AreWords command words
-  pub left : Side
+  pub left : PortState
   pub keeps : KeepsPromises (run_of words (holding input 0, left) (seen out, seen out') (seen note, seen note') status)
 
 -- Memory ran out before the run, and nothing was written.
-pub record IsStarved (out out' note note' : Store) (status : Status) : Type 0 where
+pub record IsOutOfMemory (out out' note note' : Store) (status : Status) : Type 0 where
   pub status_is : status ≡ Memory
   pub on_out : out' ≡ out
   pub on_note : note' ≡ note
 
 abbrev pub IsCalled : List ℕ → List ℕ → Store → Store → Store → Store → Status → Type 0
-IsCalled command input out out' note note' status = HasRun command input out out' note note' status ⊎ IsStarved out out' note note' status
+IsCalled command input out out' note note' status = HasRun command input out out' note note' status ⊎ IsOutOfMemory out out' note note' status
 
 -- If the text fits, it is at the start of the buffer, and otherwise the buffer is unchanged.
 pub record IsPut (text old new : List ℕ) : Type 0 where

@@ -8,6 +8,6 @@ pub fn put(text: &[u8], buffer: &mut [u8])
     if text.len() > buffer.len() {
         return;
     }
-    let (front, _) = buffer.split_at_mut(text.len());
-    front.copy_from_slice(text);
+    let (prefix, _) = buffer.split_at_mut(text.len());
+    prefix.copy_from_slice(text);
 }

@@ -7,13 +7,16 @@ use Rattle.std.proofs.lemmas.Bool.{cond_both}
 use Rattle.std.proofs.lemmas.List.Elements.{All-nil, All-cons, All-append}
 use Rattle.chain_theory.specs.Operator.{apply}
 use Rattle.net_theory.specs.declared.data.Sig.{Sig}
-use Rattle.net_theory.specs.declared.data.Sig.TheVariants.{Zero, One, Place}
+use Rattle.net_theory.specs.declared.data.Sig.TheVariants.{Zero, One, Node}
 use Rattle.net_theory.specs.declared.data.Gate.{Gate}
 use Rattle.net_theory.specs.Cover.{is_cube}
 use Rattle.net_theory.specs.Document.{Name, has, Table, Document}
 use Rattle.net_theory.specs.Circuit.{Circuit}
-use Rattle.net_theory.specs.Naming.{gate_names, first_spare, place_name}
-use Rattle.blif_core.specs.Written.{row_if, constant_table, unary_table, binary_cubes, binary_table, with_place, with_bit, table_by, gate_table, gate_tables, is_zero, is_one, next_states, one_name, table_if, constant_tables, output_table, output_tables, driven_before, tables_of, written}
+use Rattle.net_theory.specs.Naming.{gate_names, first_spare, node_name}
+use Rattle.blif_core.specs.Written.{row_if, constant_table, unary_table, binary_cubes, binary_table, with_node}
+use Rattle.blif_core.specs.Written.{with_bit, table_by, gate_table, gate_tables, is_zero, is_one, next_states, one_name}
+use Rattle.blif_core.specs.Written.{table_if, constant_tables, output_table, output_tables, driven_before, tables_of}
+use Rattle.blif_core.specs.Written.{written}
 use Rattle.bench_core.specs.Spelling.{IsSmallTable}
 
 abbrev AreCubes : ℕ → List (List ℕ) → Type 0
@@ -30,7 +33,15 @@ constant_small : (bit : Bool) (output : Name) → IsSmallTable (constant_table b
 constant_small bit output = record { width = refl; cover = record { cubes = row_cubes 0 bit [] refl; parity = λ e. absurd cc }; narrow = omega arith }
 
 unary_small : (z o : Bool) (a output : Name) → IsSmallTable (unary_table z o a output)
-unary_small z o a output = record { width = refl; cover = record { cubes = both_cubes 1 (row_if z (48 ∷ [])) (row_if o (49 ∷ [])) (row_cubes 1 z (48 ∷ []) refl) (row_cubes 1 o (49 ∷ []) refl); parity = λ e. absurd cc }; narrow = omega arith }
+unary_small z o a output = record {
+  width = refl;
+  cover = record {
+    cubes = both_cubes 1 (row_if z (48 ∷ [])) (row_if o (49 ∷ [])) (row_cubes 1 z (48 ∷ []) refl)
+        (row_cubes 1 o (49 ∷ []) refl);
+    parity = λ e. absurd cc;
+  };
+  narrow = omega arith;
+}
 
 binary_are_cubes : (op : ℕ) → AreCubes 2 (binary_cubes op)
 unfolding binary_cubes
@@ -50,10 +61,10 @@ binary_small op a b output = record { width = refl; cover = record { cubes = bin
 
 -- ---- gates
 
-place_small : (name : ℕ → Name) (output : Name) (op p : ℕ) (s : Sig) → IsSmallTable (with_place name output op p s)
-place_small name output op p Zero = unary_small (apply op false false) (apply op true false) (name p) output
-place_small name output op p One = unary_small (apply op false true) (apply op true true) (name p) output
-place_small name output op p (Place q) =
+node_small : (name : ℕ → Name) (output : Name) (op p : ℕ) (s : Sig) → IsSmallTable (with_node name output op p s)
+node_small name output op p Zero = unary_small (apply op false false) (apply op true false) (name p) output
+node_small name output op p One = unary_small (apply op false true) (apply op true true) (name p) output
+node_small name output op p (Node q) =
     cond_both (p == q) (unary_table (apply op false false) (apply op true true) (name p) output) (binary_table op (name p) (name q) output) IsSmallTable
     (λ e. unary_small (apply op false false) (apply op true true) (name p) output)
     (λ e. binary_small op (name p) (name q) output)
@@ -61,12 +72,12 @@ place_small name output op p (Place q) =
 bit_small : (name : ℕ → Name) (output : Name) (op : ℕ) (a : Bool) (s : Sig) → IsSmallTable (with_bit name output op a s)
 bit_small name output op a Zero = constant_small (apply op a false) output
 bit_small name output op a One = constant_small (apply op a true) output
-bit_small name output op a (Place q) = unary_small (apply op a false) (apply op a true) (name q) output
+bit_small name output op a (Node q) = unary_small (apply op a false) (apply op a true) (name q) output
 
 by_small : (name : ℕ → Name) (output : Name) (op : ℕ) (a b : Sig) → IsSmallTable (table_by name output op a b)
 by_small name output op Zero b = bit_small name output op false b
 by_small name output op One b = bit_small name output op true b
-by_small name output op (Place p) b = place_small name output op p b
+by_small name output op (Node p) b = node_small name output op p b
 
 gate_small : (name : ℕ → Name) (output : Name) (g : Gate) → IsSmallTable (gate_table name output g)
 unfolding gate_table
@@ -94,7 +105,7 @@ constants_small c =
 output_small : (name : ℕ → Name) (output : Name) (s : Sig) → IsSmallTable (output_table name output s)
 output_small name output Zero = constant_small false output
 output_small name output One = constant_small true output
-output_small name output (Place p) = unary_small false true (name p) output
+output_small name output (Node p) = unary_small false true (name p) output
 
 outputs_small : (name : ℕ → Name) (done outs : List Name) (sinks : List Sig) → All IsSmallTable (output_tables name done outs sinks)
 unfolding output_tables
@@ -107,9 +118,9 @@ outputs_small name done (o ∷ os) (s ∷ sinks) =
 
 tables_small : (c : Circuit) → All IsSmallTable (tables_of c)
 tables_small c =
-    All-append IsSmallTable (gate_tables (place_name c) c.net.gates (gate_names c) ++ constant_tables c) (output_tables (place_name c) (driven_before c) c.outputs c.net.sinks)
-    (All-append IsSmallTable (gate_tables (place_name c) c.net.gates (gate_names c)) (constant_tables c) (gates_small (place_name c) c.net.gates (gate_names c)) (constants_small c))
-    (outputs_small (place_name c) (driven_before c) c.outputs c.net.sinks)
+    All-append IsSmallTable (gate_tables (node_name c) c.net.gates (gate_names c) ++ constant_tables c) (output_tables (node_name c) (driven_before c) c.outputs c.net.sinks)
+    (All-append IsSmallTable (gate_tables (node_name c) c.net.gates (gate_names c)) (constant_tables c) (gates_small (node_name c) c.net.gates (gate_names c)) (constants_small c))
+    (outputs_small (node_name c) (driven_before c) c.outputs c.net.sinks)
 
 pub written_tables_small : (c : Circuit) (d : Document) → d ≡ written c → All IsSmallTable d.tables
 unfolding written

@@ -33,7 +33,11 @@ unary_line output name true false = record { output = output; key = key_by And f
 
 -- the key of a truth table of two operands: AND, NAND, OR, NOR or XOR, and XNOR for any other
 unfoldable pub binary_key : ℕ → GateKey
-binary_key word = if word == 1 then key_by And true false else (if word == 14 then key_by And false false else (if word == 7 then key_by Or true false else (if word == 8 then key_by Or false false else (if word == 6 then key_by Xor true false else key_by Xor false false))))
+binary_key word = if word == 1 then key_by And true false
+    else (if word == 14 then key_by And false false
+    else (if word == 7 then key_by Or true false
+    else (if word == 8 then key_by Or false false else (if word == 6 then key_by Xor true false else key_by Xor false
+    false))))
 
 abbrev pub binary_line : Name → Name → Name → ℕ → GateLine
 binary_line output first second word = record { output = output; key = binary_key word; first = first; second = Some second }

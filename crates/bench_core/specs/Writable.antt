@@ -1,6 +1,6 @@
 -- Circuits that BENCH can express.
 use Rattle.std.specs.Prelude.{◌≡◌, ◌≢◌, ℕ, ◌<◌, ◌⊎◌, true, [], All, None, codes}
-use Rattle.net_theory.specs.declared.data.Sig.TheVariants.{Place}
+use Rattle.net_theory.specs.declared.data.Sig.TheVariants.{Node}
 use Rattle.net_theory.specs.declared.data.Gate.{Gate}
 use Rattle.net_theory.specs.Circuit.{Circuit, IsProper}
 use Rattle.net_theory.specs.Document.{Latch}
@@ -15,7 +15,7 @@ pub record IsPlainState (l : Latch) : Type 0 where
 
 -- a gate with two distinct fanins is AND, OR, XOR or a complement of these
 abbrev pub HasGateWord : Gate → Type 0
-HasGateWord g = (p q : ℕ) → g.a ≡ Place p → g.b ≡ Place q → p ≢ q → is_gate_word g.op ≡ true
+HasGateWord g = (p q : ℕ) → g.a ≡ Node p → g.b ≡ Node q → p ≢ q → is_gate_word g.op ≡ true
 
 -- A circuit that BENCH can express: the model's name is `top`, there are no clocks, names contain no marks,
 -- latches have no controls and initial values, and gates with two distinct fanins have operators of the format.

@@ -48,7 +48,8 @@ fn push_gate(
     first: &[u8],
     second: Option<&[u8]>,
 ) -> Result<(), AllocError>
-    ensures { OnOk result (text.new.items ≡ text.old.items ++ gate_text (record { output = output.now; key = key; first = first.now; second = option_copied second.entry })) }
+    ensures { OnOk result (text.new.items ≡ text.old.items ++
+        gate_text (record { output = output.now; key = key; first = first.now; second = option_copied second.entry })) }
 {
     text.extend_from_slice(output)?;
     text.extend_from_slice(b" = ")?;
@@ -89,7 +90,8 @@ fn push_unary(
     at_zero: bool,
     at_one: bool,
 ) -> Result<(), AllocError>
-    ensures { OnOk result (text.new.items ≡ text.old.items ++ gate_text (unary_line output.now name.now at_zero at_one)) }
+    ensures { OnOk result (text.new.items ≡ text.old.items ++
+        gate_text (unary_line output.now name.now at_zero at_one)) }
 {
     match (at_zero, at_one) {
         (false, false) => push_constant(text, output, name, false),

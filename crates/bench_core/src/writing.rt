@@ -2,7 +2,7 @@
 //! appended if memory runs out.
 
 ghost use Rattle.std.specs.Prelude.{◌≡◌, ◌++◌, OnOk, OnErr};
-ghost use Rattle.net_core.specs.Names.{HasRoom};
+ghost use Rattle.net_core.specs.Names.{HasRoomForNames};
 ghost use Rattle.blif_core.specs.Written.{written};
 ghost use Rattle.bench_core.specs.Gates.{first_source as first_source_of};
 ghost use Rattle.bench_core.specs.Spelling.{circuit_text};
@@ -57,7 +57,7 @@ pub fn write_gates(
 pub fn write_bench(circuit: &Circuit, out: &mut Vec<u8>) -> Result<(), AllocError>
     requires { IsBenchCircuit circuit.now }
     ensures ok { OnOk result (out.new.items ≡ out.old.items ++ circuit_text circuit.now) }
-    ensures room { OnOk result (HasRoom circuit.now) }
+    ensures room { OnOk result (HasRoomForNames circuit.now) }
     ensures err { OnErr result (out.new.items ≡ out.old.items) }
 {
     let document = document_of(*out.allocator(), circuit)?;

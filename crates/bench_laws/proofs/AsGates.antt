@@ -10,7 +10,7 @@ use Rattle.net_theory.specs.Document.{Name, has, are_distinct, Table, Document, 
 use Rattle.net_theory.specs.NameLaws.{has_left, has_right, has_either, has_map_at, all_at, at_all, all_has, has_all, map_at, at_map, distinct_apart}
 use Rattle.net_theory.specs.WellFormed.{IsTable, IsFreeOf, IsWellFormed}
 use Rattle.net_theory.specs.Cost.{table_cost, cost}
-use Rattle.net_theory.specs.Dependence.{Reads, DependsOn, at_once, by_way_of}
+use Rattle.net_theory.specs.Dependence.{ReadsTable, DependsOn, at_once, by_way_of}
 use Rattle.net_theory.specs.Behaviour.{HoldsIn, IsMapOf}
 use Rattle.net_theory.specs.Circuit.{Circuit, Describes}
 
@@ -65,7 +65,9 @@ no_output d n k t distinct source at same =
     (distinct_apart (source_names d) (map table_output d.tables) n distinct source)
     (subst (λ (m : Name). has (map table_output d.tables) m ≡ true) same (has_map_at table_output d.tables k t at))
 
-reads_like : (source : Name) (f : Table → Table) (d : Document) (i j : ℕ) → DoLike source f d → are_distinct (driven_names d) ≡ true → has (source_names d) source ≡ true → Reads (with_tables d f) i j → Reads d i j
+reads_like : (source : Name) (f : Table → Table) (d : Document) (i j : ℕ) → DoLike source f d →
+    are_distinct (driven_names d) ≡ true → has (source_names d) source ≡ true → ReadsTable (with_tables d f) i j →
+    ReadsTable d i j
 reads_like source f d i j are distinct is r =
     let a = at_map f d.tables i r.reader r.is_reader in
     let b = at_map f d.tables j r.driver r.is_driver in
@@ -81,7 +83,9 @@ reads_like source f d i j are distinct is r =
       read = ⊎_elim (λ there. there) (λ same. absurd (no_output d source j b.0 distinct is b.1 same)) (like_a.inputs b.0.output read);
     }
 
-depends_like : (source : Name) (f : Table → Table) (d : Document) (i j : ℕ) → DoLike source f d → are_distinct (driven_names d) ≡ true → has (source_names d) source ≡ true → DependsOn (with_tables d f) i j → DependsOn d i j
+depends_like : (source : Name) (f : Table → Table) (d : Document) (i j : ℕ) → DoLike source f d →
+    are_distinct (driven_names d) ≡ true → has (source_names d) source ≡ true → DependsOn (with_tables d f) i j →
+    DependsOn d i j
 depends_like source f d _ _ are distinct is (at_once i j r) = at_once i j (reads_like source f d i j are distinct is r)
 depends_like source f d _ _ are distinct is (by_way_of i j k r on) = by_way_of i j k (reads_like source f d i j are distinct is r) (depends_like source f d j k are distinct is on)
 
@@ -139,7 +143,9 @@ holds_back source v t u is holds = ap v (sym is.output) ∙ holds ∙ is.value v
 map_like : (source : Name) (f : Table → Table) (d : Document) (given v : Name → Bool) → DoLike source f d → IsMapOf d given v → IsMapOf (with_tables d f) given v
 map_like source f d given v are is = record {
   sources = is.sources;
-  tables = at_all (HoldsIn v) (map f d.tables) (λ k u e. let a = at_map f d.tables k u e in subst (HoldsIn v) a.2 (holds_like source v a.0 (f a.0) (like_at source f d are k a.0 a.1) (all_at (HoldsIn v) d.tables k a.0 is.tables a.1)));
+  tables = at_all (HoldsIn v) (map f d.tables) (λ k u e. let a = at_map f d.tables k u e in
+      subst (HoldsIn v) a.2 (holds_like source v a.0 (f a.0) (like_at source f d are k a.0 a.1)
+      (all_at (HoldsIn v) d.tables k a.0 is.tables a.1)));
 }
 
 map_back : (source : Name) (f : Table → Table) (d : Document) (given v : Name → Bool) → DoLike source f d → IsMapOf (with_tables d f) given v → IsMapOf d given v

@@ -16,24 +16,26 @@ use Rattle.bench_core.specs.Gates.{first_source, as_gates, line_of, line_table}
 use Rattle.bench_core.specs.Spelling.{circuit_text}
 use Rattle.bench_core.specs.Bench.{bench_format}
 use Rattle.bench_core.specs.Writable.{IsPlainState}
-use Rattle.bench_laws.specs.Spelled.{IsPlainLine, IsSpelled, IsWritable}
+use Rattle.bench_laws.specs.Spelled.{IsPlainLine, IsBenchSpelling, IsWritable}
 use Rattle.bench_laws.proofs.GateDocuments.{gates_well, gates_describe, gates_cost}
 use Rattle.bench_laws.proofs.ReadBack.{read_back}
 use Rattle.bench_laws.proofs.WrittenGates.{written_model, lines_plain, written_spelled, written_spell, no_tables}
 
-has_front : (ns : List Name) → 0 < length ns → has ns (slice_index_or ns 0 []) ≡ true
-has_front [] some = absurd (omega arith)
-has_front (n ∷ ns) some = has_first n ns
+has_prefix : (ns : List Name) → 0 < length ns → has ns (slice_index_or ns 0 []) ≡ true
+has_prefix [] some = absurd (omega arith)
+has_prefix (n ∷ ns) some = has_first n ns
 
 states_plain : (ls : List Latch) → All IsPlainState ls → All IsPlainName (map latch_output ls)
 states_plain [] all = All-nil IsPlainName
 states_plain (l ∷ ls) all = All-cons IsPlainName l.output (map latch_output ls) (All-head IsPlainState l ls all).output (states_plain ls (All-tail IsPlainState l ls all))
 
 source_there : (c : Circuit) → IsWritable c → 0 < c.net.sources → has (sources_of c) (first_source c) ≡ true
-source_there c can some = has_front (sources_of c) (omega (arith, some, can.fits.proper.source_count))
+source_there c can some = has_prefix (sources_of c) (omega (arith, some, can.fits.proper.source_count))
 
 source_plain : (c : Circuit) → IsWritable c → 0 < c.net.sources → IsPlainName (first_source c)
-source_plain c can some = all_has IsPlainName (sources_of c) (first_source c) (All-append IsPlainName c.inputs (map latch_output c.latches) can.fits.inputs (states_plain c.latches can.fits.latches)) (source_there c can some)
+source_plain c can some = all_has IsPlainName (sources_of c) (first_source c)
+    (All-append IsPlainName c.inputs (map latch_output c.latches) can.fits.inputs
+    (states_plain c.latches can.fits.latches)) (source_there c can some)
 
 pub interface_sources : (d : Document) (c : Circuit) → Describes d c → source_names d ≡ sources_of c
 interface_sources d c is = ap (λ (ns : List Name). ns ++ map latch_output (latches_of d)) is.inputs ∙ ap (λ (ls : List Latch). c.inputs ++ map latch_output ls) is.latches
@@ -44,7 +46,7 @@ record IsGood (c : Circuit) (d e : Document) : Type 0 where
   describes : Describes e c
   cheap : cost e ≤ length c.net.gates
 
-text_by : (c : Circuit) → IsWritable c → IsSpelled (first_source c) (written c) → IsGood c (written c) (as_gates (first_source c) (written c)) → IsTextOf bench_format (circuit_text c) c
+text_by : (c : Circuit) → IsWritable c → IsBenchSpelling (first_source c) (written c) → IsGood c (written c) (as_gates (first_source c) (written c)) → IsTextOf bench_format (circuit_text c) c
 text_by c can spelled good =
     let back = read_back (first_source c) (written c) spelled in
     let well : IsWellFormed back.listed.document = subst IsWellFormed (sym back.document) good.well in
@@ -60,9 +62,16 @@ text_by c can spelled good =
     }
 
 same_gates : (source : Name) (d : Document) → d.tables ≡ [] → as_gates source d ≡ d
-same_gates source d e = ap (λ (ts : List Table). record { model = d.model; inputs = d.inputs; outputs = d.outputs; clocks = d.clocks; latches = d.latches; tables = ts }) (ap (map (λ t. line_table (line_of source t))) e ∙ sym e)
+same_gates source d e = ap (λ (ts : List Table). record {
+  model = d.model;
+  inputs = d.inputs;
+  outputs = d.outputs;
+  clocks = d.clocks;
+  latches = d.latches;
+  tables = ts;
+}) (ap (map (λ t. line_table (line_of source t))) e ∙ sym e)
 
-pub text_is : (c : Circuit) → IsFormat blif.blif_format blif.CanWrite → IsWritable c → IsTextOf bench_format (circuit_text c) c
+pub text_is : (c : Circuit) → IsFormat blif.blif_format blif.CanWriteBench → IsWritable c → IsTextOf bench_format (circuit_text c) c
 text_is c format can =
     let old = format.read_back c (can.fits.proper, can.room) in
     let d = written c in
@@ -89,7 +98,7 @@ text_is c format can =
     }))
     can.fits.source
 
-pub cost_is : (c : Circuit) → IsFormat blif.blif_format blif.CanWrite → IsWritable c → cost (as_gates (first_source c) (written c)) ≡ cost (written c)
+pub cost_is : (c : Circuit) → IsFormat blif.blif_format blif.CanWriteBench → IsWritable c → cost (as_gates (first_source c) (written c)) ≡ cost (written c)
 cost_is c format can =
     let old = format.read_back c (can.fits.proper, can.room) in
     let d = written c in

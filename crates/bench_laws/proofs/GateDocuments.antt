@@ -2,7 +2,7 @@
 use Rattle.std.proofs.Common.{◌≡◌, true, map, subst, ⊎_elim}
 use Rattle.std.specs.Prelude.{All}
 use Rattle.net_theory.specs.Document.{Name, IsName, has, Table, Document, latch_of, latch_output, latches_of, source_names}
-use Rattle.net_theory.specs.NameLaws.{has_either, has_map_place, all_has, all_at, at_all, at_map}
+use Rattle.net_theory.specs.NameLaws.{has_either, has_map_index, all_has, all_at, at_all, at_map}
 use Rattle.net_theory.specs.WellFormed.{IsLatchLine, IsTable, IsWellFormed}
 use Rattle.net_theory.specs.Cost.{cost}
 use Rattle.net_theory.specs.Circuit.{Circuit, Describes}
@@ -16,7 +16,7 @@ source_named d n well there =
     ⊎_elim
     (λ input. all_has IsName d.inputs n well.inputs input)
     (λ latch.
-    let a = has_map_place latch_output (latches_of d) n latch in
+    let a = has_map_index latch_output (latches_of d) n latch in
     let b = at_map latch_of d.latches a.0 a.1 a.2 in
     let is : IsLatchLine b.0 = all_at IsLatchLine d.latches a.0 b.0 well.latches b.1 in
     subst IsName a.3 (subst (λ l. IsName (latch_output l)) b.2 is.latch.output))

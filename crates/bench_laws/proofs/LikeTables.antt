@@ -62,7 +62,12 @@ constant_cost : (a output : Name) (bit : Bool) → table_cost (line_table (const
 unfolding table_cost merged_table
 constant_cost a output bit =
     let t = line_table (constant_line output a bit) in
-    let m : merged t (a ∷ a ∷ []) ≡ record { inputs = a ∷ []; output = output; cover = unary_cover (cover_value t.cover (false ∷ false ∷ [])) (cover_value t.cover (true ∷ true ∷ [])) } = cond-true (is_same a a) _ _ (same_itself a) in
+    let m : merged t (a ∷ a ∷ []) ≡ record {
+      inputs = a ∷ [];
+      output = output;
+      cover = unary_cover (cover_value t.cover (false ∷ false ∷ [])) (cover_value t.cover (true ∷ true ∷ []));
+    } =
+    cond-true (is_same a a) _ _ (same_itself a) in
     ap (λ (x : Table). cover_cost x.cover x.inputs) m
     ∙ ap (λ (b : Bool). unary_cost (unary_word (unary_cover b (cover_value t.cover (true ∷ true ∷ []))))) (twice bit false)
     ∙ ap (λ (b : Bool). unary_cost (unary_word (unary_cover bit b))) (twice bit true)
@@ -112,13 +117,17 @@ single_cost a output true = refl
 single_cost a output false = refl
 
 -- a table of one input, by its values at 0 and 1
-one_by : (source : Name) (t : Table) (a : Name) (z o : Bool) → IsTable t → IsName a → t.inputs ≡ a ∷ [] → cover_value t.cover (false ∷ []) ≡ z → cover_value t.cover (true ∷ []) ≡ o → DoesLike source t (line_table (unary_line t.output a z o))
+one_by : (source : Name) (t : Table) (a : Name) (z o : Bool) → IsTable t → IsName a → t.inputs ≡ a ∷ [] →
+    cover_value t.cover (false ∷ []) ≡ z → cover_value t.cover (true ∷ []) ≡ o →
+    DoesLike source t (line_table (unary_line t.output a z o))
 one_by source t a z o is name e f g = record {
   table = is_table z o;
   output = output z o;
   inputs = λ n h. inl (subst (λ (ns : List Name). has ns n ≡ true) (sym e) (subst (λ (m : Name). has (a ∷ []) m ≡ true) (sym (there z o n h)) (same_there)));
   value = λ v. values v z o f g ∙ ap (λ (ns : List Name). cover_value t.cover (map v ns)) (sym e);
-  cost = costs z o ∙ sym (one_cost t a e ∙ ap (λ (b : Bool). unary_cost (2 * digit_of b + digit_of (cover_value t.cover (true ∷ [])))) f ∙ ap (λ (b : Bool). unary_cost (2 * digit_of z + digit_of b)) g);
+  cost = costs z o ∙ sym (one_cost t a e ∙ ap (λ (b : Bool).
+      unary_cost (2 * digit_of b + digit_of (cover_value t.cover (true ∷ [])))) f
+      ∙ ap (λ (b : Bool). unary_cost (2 * digit_of z + digit_of b)) g);
 } where
   same_there : has (a ∷ []) a ≡ true
   same_there = has_first a []
@@ -153,7 +162,9 @@ one_by source t a z o is name e f g = record {
   if_turned true = refl
   if_turned false = refl
 
-  values : (v : Name → Bool) (z o : Bool) → cover_value t.cover (false ∷ []) ≡ z → cover_value t.cover (true ∷ []) ≡ o → cover_value (line_table (unary_line t.output a z o)).cover (map v (line_table (unary_line t.output a z o)).inputs) ≡ cover_value t.cover (v a ∷ [])
+  values : (v : Name → Bool) (z o : Bool) → cover_value t.cover (false ∷ []) ≡ z →
+      cover_value t.cover (true ∷ []) ≡ o → cover_value (line_table (unary_line t.output a z o)).cover
+      (map v (line_table (unary_line t.output a z o)).inputs) ≡ cover_value t.cover (v a ∷ [])
   values v false false e f = twice false (v a) ∙ sym (by_bits t.cover false false (v a) e f ∙ if_same false (v a))
   values v true true e f = twice true (v a) ∙ sym (by_bits t.cover true true (v a) e f ∙ if_same true (v a))
   values v false true e f = copy_value true (v a) ∙ sym (by_bits t.cover false true (v a) e f ∙ if_itself (v a))
@@ -217,11 +228,19 @@ cost_of x = cover_cost x.cover x.inputs
 abbrev alone : Table → Name → Table
 alone x a = record { inputs = a ∷ []; output = x.output; cover = unary_cover (cover_value x.cover (false ∷ false ∷ [])) (cover_value x.cover (true ∷ true ∷ [])) }
 
-cost_by : (t u : Table) (a b : Name) (s : Bool) → t.inputs ≡ a ∷ b ∷ [] → u.inputs ≡ a ∷ b ∷ [] → ((x y : Bool) → cover_value u.cover (x ∷ y ∷ []) ≡ cover_value t.cover (x ∷ y ∷ [])) → binary_word u.cover ≡ binary_word t.cover → cost_of (if s then alone u a else u) ≡ cost_of (if s then alone t a else t)
-cost_by t u a b true e f same word = ap (λ (x : Bool). unary_cost (unary_word (unary_cover x (cover_value u.cover (true ∷ true ∷ []))))) (same false false) ∙ ap (λ (x : Bool). unary_cost (unary_word (unary_cover (cover_value t.cover (false ∷ false ∷ [])) x))) (same true true)
+cost_by : (t u : Table) (a b : Name) (s : Bool) → t.inputs ≡ a ∷ b ∷ [] → u.inputs ≡ a ∷ b ∷ [] →
+    ((x y : Bool) → cover_value u.cover (x ∷ y ∷ []) ≡ cover_value t.cover (x ∷ y ∷ [])) →
+    binary_word u.cover ≡ binary_word t.cover → cost_of (if s then alone u a else u) ≡
+    cost_of (if s then alone t a else t)
+cost_by t u a b true e f same word = ap (λ (x : Bool).
+    unary_cost (unary_word (unary_cover x (cover_value u.cover (true ∷ true ∷ []))))) (same false false)
+    ∙ ap (λ (x : Bool). unary_cost (unary_word (unary_cover (cover_value t.cover (false ∷ false ∷ [])) x)))
+    (same true true)
 cost_by t u a b false e f same word = ap (λ (ns : List Name). cover_cost u.cover ns) f ∙ ap binary_cost word ∙ sym (ap (λ (ns : List Name). cover_cost t.cover ns) e)
 
-two_cost : (t u : Table) (a b : Name) → t.inputs ≡ a ∷ b ∷ [] → u.inputs ≡ a ∷ b ∷ [] → ((x y : Bool) → cover_value u.cover (x ∷ y ∷ []) ≡ cover_value t.cover (x ∷ y ∷ [])) → binary_word u.cover ≡ binary_word t.cover → table_cost u ≡ table_cost t
+two_cost : (t u : Table) (a b : Name) → t.inputs ≡ a ∷ b ∷ [] → u.inputs ≡ a ∷ b ∷ [] →
+    ((x y : Bool) → cover_value u.cover (x ∷ y ∷ []) ≡ cover_value t.cover (x ∷ y ∷ [])) →
+    binary_word u.cover ≡ binary_word t.cover → table_cost u ≡ table_cost t
 unfolding table_cost merged_table
 two_cost t u a b e f same word =
     ap (λ (ns : List Name). cost_of (merged u ns)) f
@@ -232,7 +251,9 @@ two_cost t u a b e f same word =
 word_values : (c k : Cover) (x y : Bool) → binary_word c ≡ binary_word k → cover_value c (x ∷ y ∷ []) ≡ cover_value k (x ∷ y ∷ [])
 word_values c k x y e = sym (binary_word_value c x y) ∙ ap (λ (w : ℕ). apply w x y) e ∙ binary_word_value k x y
 
-like_two : (source : Name) (t : Table) (a b : Name) → IsTable t → IsName a → IsName b → t.inputs ≡ a ∷ b ∷ [] → is_gate_word (binary_word t.cover) ≡ true → DoesLike source t (line_table (binary_line t.output a b (binary_word t.cover)))
+like_two : (source : Name) (t : Table) (a b : Name) → IsTable t → IsName a → IsName b → t.inputs ≡ a ∷ b ∷ [] →
+    is_gate_word (binary_word t.cover) ≡ true → DoesLike source t
+    (line_table (binary_line t.output a b (binary_word t.cover)))
 like_two source t a b is x y e can =
     let word = binary_word t.cover in
     let u = line_table (binary_line t.output a b word) in

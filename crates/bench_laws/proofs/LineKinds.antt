@@ -14,9 +14,12 @@ use Rattle.net_core.specs.declared.joining.Connective.{Connective}
 use Rattle.net_core.specs.declared.joining.Connective.TheVariants.{And, Or, Xor}
 use Rattle.net_core.specs.declared.error.NetError.{NetError}
 use Rattle.bench_text.specs.declared.keywords.GateKey.{GateKey}
-use Rattle.bench_text.specs.declared.keywords.Keyword.TheVariants.{Gate}
+use Rattle.bench_text.specs.declared.keywords.BenchKeyword.TheVariants.{Gate}
 use Rattle.bench_text.specs.Items.{is_mark, is_mark_item, items_of}
-use Rattle.bench_text.specs.Statements.{with_input, with_output, with_latch, with_table, keyword_of, is_key, operands_from, operands_of, names_by, names_of, is_counted, gate_table, table_of, plain_latch, latch_of as latch_from, port_by, port_of, ported, driven, driven_by, stated, steps}
+use Rattle.bench_text.specs.Statements.{with_input, with_output, with_latch, with_table, keyword_of, is_key}
+use Rattle.bench_text.specs.Statements.{operands_from, operands_of, names_by, names_of, is_counted, gate_table}
+use Rattle.bench_text.specs.Statements.{table_of, plain_latch, latch_of as latch_from, port_by, port_of, ported, driven}
+use Rattle.bench_text.specs.Statements.{driven_by, stated, steps}
 use Rattle.bench_text.specs.SaidLaws.{IsPlainName, IsPlainLatch}
 use Rattle.bench_core.specs.Gates.{GateLine, line_table}
 use Rattle.bench_core.specs.Spelling.{port_text, latch_text, key_by_text, key_text, second_text, gate_text}
@@ -115,7 +118,8 @@ input_read line s n rest is =
     (none_long (codes "INPUT" ∷ (40 ∷ []) ∷ n ∷ (41 ∷ []) ∷ []) (omega arith, (omega arith, (is.name.short, (omega arith, tt)))))
     (input_stated line s n is)
 
-pub output_read : (line : ℕ) (s : Listed) (n : Name) (rest : List ℕ) → IsPlainName n → steps line s (lines_of (port_text (codes "OUTPUT(") n ++ rest)) ≡ steps (line + 1) (with_output s n) (lines_of rest)
+pub output_read : (line : ℕ) (s : Listed) (n : Name) (rest : List ℕ) → IsPlainName n →
+    steps line s (lines_of (port_text (codes "OUTPUT(") n ++ rest)) ≡ steps (line + 1) (with_output s n) (lines_of rest)
 output_read line s n rest is =
     line_on line s (with_output s n) (codes "OUTPUT(" ++ n) rest (codes "OUTPUT" ∷ (40 ∷ []) ∷ n ∷ (41 ∷ []) ∷ [])
     (clean_both (codes "OUTPUT(" ++ n) (41 ∷ []) (clean_both (codes "OUTPUT(") n (clean_by (codes "OUTPUT(") refl) (plain_clean n is)) (clean_by (41 ∷ []) refl))
@@ -155,7 +159,9 @@ latch_read line s l rest is =
     let q = l.latch.output in
     let d = l.input in
     line_on line s (with_latch s (plain_latch q d)) ((q ++ codes " = DFF(") ++ d) rest (q ∷ (61 ∷ []) ∷ codes "DFF" ∷ (40 ∷ []) ∷ d ∷ (41 ∷ []) ∷ [])
-    (clean_both ((q ++ codes " = DFF(") ++ d) (41 ∷ []) (clean_both (q ++ codes " = DFF(") d (clean_both q (codes " = DFF(") (plain_clean q is.output) (clean_by (codes " = DFF(") refl)) (plain_clean d is.input)) (clean_by (41 ∷ []) refl))
+    (clean_both ((q ++ codes " = DFF(") ++ d) (41 ∷ []) (clean_both (q ++
+    codes " = DFF(") d (clean_both q (codes " = DFF(") (plain_clean q is.output) (clean_by (codes " = DFF(") refl))
+    (plain_clean d is.input)) (clean_by (41 ∷ []) refl))
     (omega (arith, length-append ((q ++ codes " = DFF(") ++ d) (41 ∷ []), length-append (q ++ codes " = DFF(") d, length-append q (codes " = DFF("), is.output.name.short, is.input.name.short))
     (ap items_of (latch_shape q d)
     ∙ equal_items q (codes "DFF") (d ++ 41 ∷ []) (name_text q is.output) (text_by (codes "DFF") refl refl)
@@ -192,7 +198,9 @@ operands_read a (Some b) x all =
     word_mark a (32 ∷ (b ++ 41 ∷ [])) 44 (name_text a x) refl refl
     ∙ ap (λ (ws : List (List ℕ)). a ∷ (44 ∷ []) ∷ ws) (blank_first (b ++ 41 ∷ []) ∙ word_mark b [] 41 (name_text b y) refl refl ∙ ap (λ (ws : List (List ℕ)). b ∷ (41 ∷ []) ∷ ws) no_items)
 
-operands_named : (line : ℕ) (a : Name) (second : Option Name) → IsPlainName a → All IsPlainName (option_to_list second) → names_of line ((40 ∷ []) ∷ operand_items a second) ≡ Ok (a ∷ option_to_list second)
+operands_named : (line : ℕ) (a : Name) (second : Option Name) → IsPlainName a →
+    All IsPlainName (option_to_list second) → names_of line ((40 ∷ []) ∷ operand_items a second) ≡
+    Ok (a ∷ option_to_list second)
 operands_named line a None x all = names_one line a x
 operands_named line a (Some b) x all = names_two line a b x (All-head IsPlainName b [] all)
 
@@ -215,18 +223,24 @@ gate_of : (line : ℕ) (key : GateKey) (output : Name) (inputs : List Name) → 
 unfolding table_of
 gate_of line key output inputs e f = cond-true _ _ _ (both_true (is_name output) (is_counted key inputs) e f)
 
-by_key : (line : ℕ) (s : Listed) (output word : Name) (items : List (List ℕ)) (key : GateKey) (inputs : List Name) → names_of line items ≡ Ok inputs → table_of line key output inputs ≡ Ok (gate_table key output inputs) → driven line s output word items (Gate key) ≡ Ok (with_table s (gate_table key output inputs))
+by_key : (line : ℕ) (s : Listed) (output word : Name) (items : List (List ℕ)) (key : GateKey) (inputs : List Name) →
+    names_of line items ≡ Ok inputs → table_of line key output inputs ≡ Ok (gate_table key output inputs) →
+    driven line s output word items (Gate key) ≡ Ok (with_table s (gate_table key output inputs))
 unfolding driven
 by_key line s output word items key inputs e f =
     ap (λ (r : Result (List Name) NetError). r >>= λ xs. table_of line key output xs >>= λ t. Ok (with_table s t)) e
     ∙ ap (λ (r : Result _ NetError). r >>= λ t. Ok (with_table s t)) f
 
-gate_stated : (line : ℕ) (s : Listed) (l : GateLine) → IsPlainLine l → stated line s (l.output ∷ (61 ∷ []) ∷ key_text l.key ∷ (40 ∷ []) ∷ operand_items l.first l.second) ≡ Ok (with_table s (line_table l))
+gate_stated : (line : ℕ) (s : Listed) (l : GateLine) → IsPlainLine l →
+    stated line s (l.output ∷ (61 ∷ []) ∷ key_text l.key ∷ (40 ∷ []) ∷ operand_items l.first l.second) ≡
+    Ok (with_table s (line_table l))
 unfolding stated driven_by
 gate_stated line s l is =
     cond-false (is_mark_item l.output) _ _ (plain_item l.output is.output)
     ∙ ap (driven line s l.output (key_text l.key) ((40 ∷ []) ∷ operand_items l.first l.second)) is.key
-    ∙ by_key line s l.output (key_text l.key) ((40 ∷ []) ∷ operand_items l.first l.second) l.key (l.first ∷ option_to_list l.second) (operands_named line l.first l.second is.first is.second) (gate_of line l.key l.output (l.first ∷ option_to_list l.second) is.output.name.spelled is.counted)
+    ∙ by_key line s l.output (key_text l.key) ((40 ∷ []) ∷ operand_items l.first l.second) l.key
+    (l.first ∷ option_to_list l.second) (operands_named line l.first l.second is.first is.second)
+    (gate_of line l.key l.output (l.first ∷ option_to_list l.second) is.output.name.spelled is.counted)
 
 gate_shape : (y k a b : List ℕ) → (((((y ++ codes " = ") ++ k) ++ codes "(") ++ a) ++ b) ++ 41 ∷ [] ≡ y ++ 32 ∷ 61 ∷ 32 ∷ (k ++ 40 ∷ (a ++ (b ++ 41 ∷ [])))
 gate_shape y k a b =

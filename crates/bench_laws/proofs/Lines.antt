@@ -92,33 +92,33 @@ mark_item (b ∷ c ∷ bs) e = refl
 pub plain_item : (n : Name) → IsPlainName n → is_mark_item n ≡ false
 plain_item n is = mark_item n is.plain
 
-front_on : (front w rest : List ℕ) → AreWordBytes w → items_from front (w ++ rest) ≡ items_from (front ++ w) rest
+prefix_on : (prefix w rest : List ℕ) → AreWordBytes w → items_from prefix (w ++ rest) ≡ items_from (prefix ++ w) rest
 unfolding items_from
-front_on front [] rest is = ap (λ (xs : List ℕ). items_from xs rest) (sym (append-nil front))
-front_on front (b ∷ w) rest is =
+prefix_on prefix [] rest is = ap (λ (xs : List ℕ). items_from xs rest) (sym (append-nil prefix))
+prefix_on prefix (b ∷ w) rest is =
     cond-false (is_blank b) _ _ is.0.blank
     ∙ cond-false (is_mark b) _ _ is.0.mark
-    ∙ front_on (front ++ b ∷ []) w rest is.1
-    ∙ ap (λ (xs : List ℕ). items_from xs rest) (append_assoc front (b ∷ []) w)
+    ∙ prefix_on (prefix ++ b ∷ []) w rest is.1
+    ∙ ap (λ (xs : List ℕ). items_from xs rest) (append_assoc prefix (b ∷ []) w)
 
-mark_on : (front rest : List ℕ) (m : ℕ) → is_blank m ≡ false → is_mark m ≡ true → items_from front (m ∷ rest) ≡ word_then front ((m ∷ []) ∷ items_of rest)
+mark_on : (prefix rest : List ℕ) (m : ℕ) → is_blank m ≡ false → is_mark m ≡ true → items_from prefix (m ∷ rest) ≡ word_then prefix ((m ∷ []) ∷ items_of rest)
 unfolding items_from
-mark_on front rest m blank mark = cond-false (is_blank m) _ _ blank ∙ cond-true (is_mark m) _ _ mark
+mark_on prefix rest m blank mark = cond-false (is_blank m) _ _ blank ∙ cond-true (is_mark m) _ _ mark
 
-blank_on : (front rest : List ℕ) → items_from front (32 ∷ rest) ≡ word_then front (items_of rest)
+blank_on : (prefix rest : List ℕ) → items_from prefix (32 ∷ rest) ≡ word_then prefix (items_of rest)
 unfolding items_from
-blank_on front rest = refl
+blank_on prefix rest = refl
 
 then_text : (w : List ℕ) (ws : List (List ℕ)) → IsText w → word_then w ws ≡ w ∷ ws
 then_text w ws is = subst (λ (xs : List ℕ). word_then xs ws ≡ xs ∷ ws) (sym is.is) refl
 
 -- a word before a mark
 pub word_mark : (w rest : List ℕ) (m : ℕ) → IsText w → is_blank m ≡ false → is_mark m ≡ true → items_of (w ++ m ∷ rest) ≡ w ∷ (m ∷ []) ∷ items_of rest
-word_mark w rest m is blank mark = front_on [] w (m ∷ rest) is.bytes ∙ mark_on w rest m blank mark ∙ then_text w ((m ∷ []) ∷ items_of rest) is
+word_mark w rest m is blank mark = prefix_on [] w (m ∷ rest) is.bytes ∙ mark_on w rest m blank mark ∙ then_text w ((m ∷ []) ∷ items_of rest) is
 
 -- a word before a blank
 pub word_blank : (w rest : List ℕ) → IsText w → items_of (w ++ 32 ∷ rest) ≡ w ∷ items_of rest
-word_blank w rest is = front_on [] w (32 ∷ rest) is.bytes ∙ blank_on w rest ∙ then_text w (items_of rest) is
+word_blank w rest is = prefix_on [] w (32 ∷ rest) is.bytes ∙ blank_on w rest ∙ then_text w (items_of rest) is
 
 pub mark_first : (rest : List ℕ) (m : ℕ) → is_blank m ≡ false → is_mark m ≡ true → items_of (m ∷ rest) ≡ (m ∷ []) ∷ items_of rest
 mark_first rest m blank mark = mark_on [] rest m blank mark
@@ -132,10 +132,10 @@ no_items = refl
 
 -- ---- lines
 
-before_clean : (front text : List ℕ) → AreClean text → before_from front text ≡ front ++ text
+before_clean : (prefix text : List ℕ) → AreClean text → before_from prefix text ≡ prefix ++ text
 unfolding before_from
-before_clean front [] is = sym (append-nil front)
-before_clean front (b ∷ bs) is = cond-false (b == 35) _ _ is.0 ∙ before_clean (front ++ b ∷ []) bs is.2 ∙ append_assoc front (b ∷ []) bs
+before_clean prefix [] is = sym (append-nil prefix)
+before_clean prefix (b ∷ bs) is = cond-false (b == 35) _ _ is.0 ∙ before_clean (prefix ++ b ∷ []) bs is.2 ∙ append_assoc prefix (b ∷ []) bs
 
 clean_free : (text : List ℕ) → AreClean text → is_free 10 text ≡ true
 unfolding is_free
@@ -143,28 +143,33 @@ clean_free [] is = refl
 clean_free (b ∷ bs) is = cond-false (b == 10) _ _ is.1 ∙ clean_free bs is.2
 
 -- a line that ends with a parenthesis is its own content
-bracket_content : (front : List ℕ) → AreClean (front ++ 41 ∷ []) → content_of (record { text = front ++ 41 ∷ []; ended = true }) ≡ front ++ 41 ∷ []
-bracket_content front is =
-    ap (λ (r : Option (List ℕ)). trimmed (before_comment (or_whole (front ++ 41 ∷ []) r))) (without_last-push 13 front 41)
-    ∙ ap trimmed (before_clean [] (front ++ 41 ∷ []) is)
-    ∙ trimmed-other front 41 refl
+bracket_content : (prefix : List ℕ) → AreClean (prefix ++ 41 ∷ []) → content_of (record { text = prefix ++ 41 ∷ []; ended = true }) ≡ prefix ++ 41 ∷ []
+bracket_content prefix is =
+    ap (λ (r : Option (List ℕ)). trimmed (before_comment (or_whole (prefix ++ 41 ∷ []) r))) (without_last-push 13 prefix 41)
+    ∙ ap trimmed (before_clean [] (prefix ++ 41 ∷ []) is)
+    ∙ trimmed-other prefix 41 refl
 
-step_on : (line : ℕ) (s t : Listed) (front : List ℕ) (items : List (List ℕ)) → AreClean (front ++ 41 ∷ []) → length (front ++ 41 ∷ []) ≤ 1048576 → items_of (front ++ 41 ∷ []) ≡ items → has_long items ≡ false → stated line s items ≡ Ok t → step line s (record { text = front ++ 41 ∷ []; ended = true }) ≡ Ok t
+step_on : (line : ℕ) (s t : Listed) (prefix : List ℕ) (items : List (List ℕ)) → AreClean (prefix ++ 41 ∷ []) →
+    length (prefix ++ 41 ∷ []) ≤ 1048576 → items_of (prefix ++ 41 ∷ []) ≡ items → has_long items ≡ false →
+    stated line s items ≡ Ok t → step line s (record { text = prefix ++ 41 ∷ []; ended = true }) ≡ Ok t
 unfolding step
-step_on line s t front items clean short is long said =
-    let same : items_of (content_of (record { text = front ++ 41 ∷ []; ended = true })) ≡ items = ap items_of (bracket_content front clean) ∙ is in
-    cond-false (nat_lt 1048576 (length (front ++ 41 ∷ []))) _ _ (le-ltb 1048576 (length (front ++ 41 ∷ [])) short)
+step_on line s t prefix items clean short is long said =
+    let same : items_of (content_of (record { text = prefix ++ 41 ∷ []; ended = true })) ≡ items = ap items_of (bracket_content prefix clean) ∙ is in
+    cond-false (nat_lt 1048576 (length (prefix ++ 41 ∷ []))) _ _ (le-ltb 1048576 (length (prefix ++ 41 ∷ [])) short)
     ∙ cond-false _ _ _ (ap has_long same ∙ long)
     ∙ ap (stated line s) same
     ∙ said
 
-shape : (front rest : List ℕ) → (front ++ 41 ∷ 10 ∷ []) ++ rest ≡ (front ++ 41 ∷ []) ++ 10 ∷ rest
-shape front rest = append_assoc front (41 ∷ 10 ∷ []) rest ∙ sym (append_assoc front (41 ∷ []) (10 ∷ rest))
+shape : (prefix rest : List ℕ) → (prefix ++ 41 ∷ 10 ∷ []) ++ rest ≡ (prefix ++ 41 ∷ []) ++ 10 ∷ rest
+shape prefix rest = append_assoc prefix (41 ∷ 10 ∷ []) rest ∙ sym (append_assoc prefix (41 ∷ []) (10 ∷ rest))
 
 -- one step of the parser, on a line that ends with a parenthesis
-pub line_on : (line : ℕ) (s t : Listed) (front rest : List ℕ) (items : List (List ℕ)) → AreClean (front ++ 41 ∷ []) → length (front ++ 41 ∷ []) ≤ 1048576 → items_of (front ++ 41 ∷ []) ≡ items → has_long items ≡ false → stated line s items ≡ Ok t → steps line s (lines_of ((front ++ 41 ∷ 10 ∷ []) ++ rest)) ≡ steps (line + 1) t (lines_of rest)
+pub line_on : (line : ℕ) (s t : Listed) (prefix rest : List ℕ) (items : List (List ℕ)) → AreClean (prefix ++ 41 ∷ []) →
+    length (prefix ++ 41 ∷ []) ≤ 1048576 → items_of (prefix ++ 41 ∷ []) ≡ items → has_long items ≡ false →
+    stated line s items ≡ Ok t → steps line s (lines_of ((prefix ++ 41 ∷ 10 ∷ []) ++ rest)) ≡
+    steps (line + 1) t (lines_of rest)
 unfolding steps
-line_on line s t front rest items clean short is long said =
-    ap (λ (xs : List ℕ). steps line s (lines_of xs)) (shape front rest)
-    ∙ ap (steps line s) (line_back (front ++ 41 ∷ []) rest (clean_free (front ++ 41 ∷ []) clean))
-    ∙ ap (λ (r : Result Listed _). r >>= λ x. steps (line + 1) x (lines_of rest)) (step_on line s t front items clean short is long said)
+line_on line s t prefix rest items clean short is long said =
+    ap (λ (xs : List ℕ). steps line s (lines_of xs)) (shape prefix rest)
+    ∙ ap (steps line s) (line_back (prefix ++ 41 ∷ []) rest (clean_free (prefix ++ 41 ∷ []) clean))
+    ∙ ap (λ (r : Result Listed _). r >>= λ x. steps (line + 1) x (lines_of rest)) (step_on line s t prefix items clean short is long said)

@@ -12,7 +12,9 @@ use Rattle.net_theory.specs.Cover.{Cover, cover_value, matches}
 use Rattle.net_theory.specs.Document.{Name, is_same, Table, Document}
 use Rattle.net_theory.specs.NameLaws.{all_at}
 use Rattle.net_theory.specs.Cost.{unary_cover, merged, merged_table}
-use Rattle.net_theory.specs.Expansion.{Built, Joined, gate_of, unary_word, binary_word, with_not, unary_built, binary_built, and_word, or_word, xor_word, joined, join_from, signed, join_all, unsigned, complemented, last_complemented, finished, wide_built, expanded}
+use Rattle.net_theory.specs.Expansion.{Built, Joined, gate_of, unary_word, binary_word, with_not, unary_built}
+use Rattle.net_theory.specs.Expansion.{binary_built, and_word, or_word, xor_word, joined, join_from, signed, join_all}
+use Rattle.net_theory.specs.Expansion.{unsigned, complemented, last_complemented, finished, wide_built, expanded}
 use Rattle.net_theory.specs.WholeLaws.{and_built, or_built_wide, xor_built}
 use Rattle.net_theory.specs.NetOf.{Growth, signal_of, with_table, with_table_at, with_tables, sources_only, source_count, net_in_order, graph_of, net_of}
 use Rattle.graph_core.specs.Visit.{order_of}
@@ -48,14 +50,18 @@ complement_word op e =
 
 -- ---- joined gates
 
-join_words : (word : Bool → Bool → ℕ) (sources : ℕ) (j : Joined) (inputs : List Sig) → is_gate_word (word false false) ≡ true → j.out.turned ≡ false → All IsGateWord j.gates → All IsGateWord (join_from word sources j (unsigned inputs)).gates
+join_words : (word : Bool → Bool → ℕ) (sources : ℕ) (j : Joined) (inputs : List Sig) →
+    is_gate_word (word false false) ≡ true → j.out.turned ≡ false → All IsGateWord j.gates →
+    All IsGateWord (join_from word sources j (unsigned inputs)).gates
 unfolding join_from unsigned
 join_words word sources j [] h flat all = all
 join_words word sources j (a ∷ inputs) h flat all =
     join_words word sources (joined word sources j (signed a false)) inputs h refl
     (All-push IsGateWord j.gates (gate_of (word j.out.turned false) j.out.sig a) all (subst (λ (t : Bool). is_gate_word (word t false) ≡ true) (sym flat) h))
 
-all_words : (word : Bool → Bool → ℕ) (sources : ℕ) (gates : List Gate) (inputs : List Sig) → is_gate_word (word false false) ≡ true → All IsGateWord gates → All IsGateWord (join_all word sources gates (unsigned inputs)).gates
+all_words : (word : Bool → Bool → ℕ) (sources : ℕ) (gates : List Gate) (inputs : List Sig) →
+    is_gate_word (word false false) ≡ true → All IsGateWord gates →
+    All IsGateWord (join_all word sources gates (unsigned inputs)).gates
 unfolding join_all unsigned
 all_words word sources gates [] h all = all
 all_words word sources gates (a ∷ inputs) h all = join_words word sources (record { gates = gates; out = signed a false }) inputs h refl all
@@ -73,7 +79,11 @@ not_words sources gates a all = All-push IsGateWord gates (gate_of 14 a a) all r
 finished_words : (sources before : ℕ) (gates : List Gate) (a : Sig) (turned : Bool) → All IsGateWord gates → All IsGateWord (finished sources before gates a turned).gates
 unfolding finished
 finished_words sources before gates a turned all =
-    cond_both turned (if length gates == before then with_not sources gates a else record { gates = last_complemented gates; sig = a }) (record { gates = gates; sig = a }) (λ (b : Built). All IsGateWord b.gates)
+    cond_both turned (if length gates == before then with_not sources gates a else record {
+      gates =
+          last_complemented gates;
+      sig = a;
+    }) (record { gates = gates; sig = a }) (λ (b : Built). All IsGateWord b.gates)
     (λ e. cond_both (length gates == before) (with_not sources gates a) (record { gates = last_complemented gates; sig = a }) (λ (b : Built). All IsGateWord b.gates)
     (λ f. not_words sources gates a all)
     (λ f. last_words gates all))
@@ -82,11 +92,23 @@ finished_words sources before gates a turned all =
 abbrev HasWords : Built → Type 0
 HasWords b = All IsGateWord b.gates
 
-wide_words : (k : Connective) (on : Bool) (sources : ℕ) (gates : List Gate) (inputs : List Sig) → 0 < length inputs → All IsGateWord gates → HasWords (wide_built sources gates (joined_cover k (length inputs) on) inputs)
+wide_words : (k : Connective) (on : Bool) (sources : ℕ) (gates : List Gate) (inputs : List Sig) → 0 < length inputs →
+    All IsGateWord gates → HasWords (wide_built sources gates (joined_cover k (length inputs) on) inputs)
 unfolding is_gate_word
-wide_words And on sources gates inputs some all = let j = join_all and_word sources gates (unsigned inputs) in subst HasWords (sym (and_built sources gates on inputs some)) (finished_words sources (length gates) j.gates j.out.sig (if on then j.out.turned else not j.out.turned) (all_words and_word sources gates inputs refl all))
-wide_words Or on sources gates inputs some all = let j = join_all or_word sources gates (unsigned inputs) in subst HasWords (sym (or_built_wide sources gates on inputs some)) (finished_words sources (length gates) j.gates j.out.sig (if on then j.out.turned else not j.out.turned) (all_words or_word sources gates inputs refl all))
-wide_words Xor on sources gates inputs some all = let j = join_all xor_word sources gates (unsigned inputs) in subst HasWords (sym (xor_built sources gates on inputs)) (finished_words sources (length gates) j.gates j.out.sig (if on then j.out.turned else not j.out.turned) (all_words xor_word sources gates inputs refl all))
+wide_words And on sources gates inputs some all =
+    let j = join_all and_word sources gates (unsigned inputs) in
+    subst HasWords (sym (and_built sources gates on inputs some))
+    (finished_words sources (length gates) j.gates j.out.sig (if on then j.out.turned else not j.out.turned)
+    (all_words and_word sources gates inputs refl all))
+wide_words Or on sources gates inputs some all =
+    let j = join_all or_word sources gates (unsigned inputs) in
+    subst HasWords (sym (or_built_wide sources gates on inputs some))
+    (finished_words sources (length gates) j.gates j.out.sig (if on then j.out.turned else not j.out.turned)
+    (all_words or_word sources gates inputs refl all))
+wide_words Xor on sources gates inputs some all =
+    let j = join_all xor_word sources gates (unsigned inputs) in
+    subst HasWords (sym (xor_built sources gates on inputs)) (finished_words sources (length gates) j.gates j.out.sig
+    (if on then j.out.turned else not j.out.turned) (all_words xor_word sources gates inputs refl all))
 
 -- ---- tables
 
@@ -117,10 +139,13 @@ pair_word Or false = refl
 pair_word Xor true = refl
 pair_word Xor false = refl
 
-expanded_words : (k : Connective) (on : Bool) (c : Cover) (n sources : ℕ) (gates : List Gate) (inputs : List Sig) → c ≡ joined_cover k n on → n ≡ length inputs → All IsGateWord gates → HasWords (expanded sources gates c inputs)
+expanded_words : (k : Connective) (on : Bool) (c : Cover) (n sources : ℕ) (gates : List Gate) (inputs : List Sig) →
+    c ≡ joined_cover k n on → n ≡ length inputs → All IsGateWord gates → HasWords (expanded sources gates c inputs)
 expanded_words k on c n sources gates [] e wide all = all
 expanded_words k on c n sources gates (a ∷ []) e wide all = unary_words sources gates (unary_word c) a all
-expanded_words k on c n sources gates (a ∷ b ∷ []) e wide all = binary_words sources gates (binary_word c) a b (subst (λ (x : Cover). is_gate_word (binary_word x) ≡ true) (sym (e ∙ ap (λ (m : ℕ). joined_cover k m on) wide)) (pair_word k on)) all
+expanded_words k on c n sources gates (a ∷ b ∷ []) e wide all =
+    binary_words sources gates (binary_word c) a b (subst (λ (x : Cover). is_gate_word (binary_word x) ≡ true)
+    (sym (e ∙ ap (λ (m : ℕ). joined_cover k m on) wide)) (pair_word k on)) all
 expanded_words k on c n sources gates (a ∷ b ∷ d ∷ inputs) e wide all =
     subst (λ (x : Cover). HasWords (wide_built sources gates x (a ∷ b ∷ d ∷ inputs))) (sym (e ∙ ap (λ (m : ℕ). joined_cover k m on) wide))
     (wide_words k on sources gates (a ∷ b ∷ d ∷ inputs) (omega arith) all)
@@ -128,11 +153,17 @@ expanded_words k on c n sources gates (a ∷ b ∷ d ∷ inputs) e wide all =
 table_words : (t : Table) (sources : ℕ) (gates : List Gate) (f : Name → Sig) → IsGateTable t → All IsGateWord gates → HasWords (expanded sources gates t.cover (map f t.inputs))
 table_words t sources gates f is all = expanded_words is.connective is.on t.cover (length t.inputs) sources gates (map f t.inputs) is.cover (sym (length-map t.inputs f)) all
 
-merged_words : (t : Table) (ns : List Name) (sources : ℕ) (gates : List Gate) (f : Name → Sig) → IsGateTable t → All IsGateWord gates → HasWords (expanded sources gates (merged t ns).cover (map f (merged t ns).inputs))
+merged_words : (t : Table) (ns : List Name) (sources : ℕ) (gates : List Gate) (f : Name → Sig) → IsGateTable t →
+    All IsGateWord gates → HasWords (expanded sources gates (merged t ns).cover (map f (merged t ns).inputs))
 merged_words t [] sources gates f is all = table_words t sources gates f is all
 merged_words t (a ∷ []) sources gates f is all = table_words t sources gates f is all
 merged_words t (a ∷ b ∷ []) sources gates f is all =
-    cond_both (is_same a b) (record { inputs = a ∷ []; output = t.output; cover = unary_cover (cover_value t.cover (false ∷ false ∷ [])) (cover_value t.cover (true ∷ true ∷ [])) }) t (λ (m : Table). HasWords (expanded sources gates m.cover (map f m.inputs)))
+    cond_both (is_same a b) (record {
+      inputs = a ∷ [];
+      output = t.output;
+      cover = unary_cover (cover_value t.cover (false ∷ false ∷ [])) (cover_value t.cover (true ∷ true ∷ []));
+    }) t
+    (λ (m : Table). HasWords (expanded sources gates m.cover (map f m.inputs)))
     (λ same. unary_words sources gates (unary_word (unary_cover (cover_value t.cover (false ∷ false ∷ [])) (cover_value t.cover (true ∷ true ∷ [])))) (f a) all)
     (λ other. table_words t sources gates f is all)
 merged_words t (a ∷ b ∷ c ∷ ns) sources gates f is all = table_words t sources gates f is all
@@ -148,7 +179,8 @@ at_words sources g (Some t) h all = with_words sources g t (h t refl) all
 tables_words : (sources : ℕ) (ts : List Table) (g : Growth) (order : List ℕ) → All IsGateTable ts → All IsGateWord g.gates → All IsGateWord (with_tables sources ts g order).gates
 unfolding with_tables
 tables_words sources ts g [] are all = all
-tables_words sources ts g (k ∷ order) are all = tables_words sources ts (with_table_at sources g (slice_get ts k)) order are (at_words sources g (slice_get ts k) (λ t e. all_at IsGateTable ts k t are e) all)
+tables_words sources ts g (k ∷ order) are all = tables_words sources ts (with_table_at sources g (slice_get ts k))
+    order are (at_words sources g (slice_get ts k) (λ t e. all_at IsGateTable ts k t are e) all)
 
 order_words : (d : Document) (order : List ℕ) → All IsGateTable d.tables → All IsGateWord (net_in_order d order).gates
 unfolding net_in_order

@@ -12,27 +12,28 @@ use Rattle.net_theory.specs.NameLaws.{has_first, has_none, has_left, has_right, 
 use Rattle.net_theory.specs.WellFormed.{IsWellFormed}
 use Rattle.net_theory.specs.Cost.{table_cost, cost}
 use Rattle.net_theory.specs.Circuit.{Circuit}
-use Rattle.net_theory.specs.Answers.{Answers}
+use Rattle.net_theory.specs.Implements.{Implements}
 use Rattle.net_theory.specs.ExchangeLaws.{with_net, exchanged_proper}
 use Rattle.net_theory.specs.NetOf.{driver_of, graph_of}
-use Rattle.net_theory.specs.GraphLaws.{driver_finds, kept_in, length-graph_of, reads_of-graph, graph_closed, acyclic_order}
+use Rattle.net_theory.specs.GraphLaws.{driver_finds, kept_in, length-graph_of, fanins_of-graph, graph_closed, acyclic_order}
 use Rattle.graph_core.specs.Visit.{has_ended}
-use Rattle.graph_core.specs.VisitLaws.{Comes, IsOrder, order_is}
-use Rattle.net_core.specs.Names.{HasRoom}
+use Rattle.graph_core.specs.VisitLaws.{MayFinishNext, IsTopologicalOrder, order_is}
+use Rattle.net_core.specs.Names.{HasRoomForNames}
 use Rattle.net_document.specs.Format.{IsCircuitOfText, CanOperate, IsFormat}
 use Rattle.blif_core.specs.Blif as blif
 use Rattle.bench_text.specs.SaidLaws.{IsPlainName, IsPlainLatch, IsGateTable}
 use Rattle.bench_text.specs.ListingLaws.{text_fine, texts_list}
 use Rattle.bench_core.specs.Bench.{bench_format, is_gate_word}
 use Rattle.bench_core.specs.Writable.{IsPlainState, HasGateWord, IsBenchCircuit}
-use Rattle.bench_laws.specs.Spelled.{IsGateWord, CanWrite}
+use Rattle.bench_laws.specs.Spelled.{IsGateWord, CanWriteBench}
 use Rattle.bench_laws.proofs.Operators.{net_words}
 use Rattle.bench_laws.proofs.CircuitTexts.{interface_sources, text_is}
 
 -- ---- documents without sources
 
 -- the first table in topological order reads no table
-first_reads : (d : Document) (k : ℕ) (t : Table) → IsWellFormed d → IsGateTable t → slice_get d.tables k ≡ Some t → Comes (graph_of d.tables) (length (graph_of d.tables)) [] k → source_names d ≡ [] → ⊥
+first_reads : (d : Document) (k : ℕ) (t : Table) → IsWellFormed d → IsGateTable t → slice_get d.tables k ≡ Some t →
+    MayFinishNext (graph_of d.tables) (length (graph_of d.tables)) [] k → source_names d ≡ [] → ⊥
 first_reads d k t well is at comes none = by t.inputs refl is.some where
   by : (ns : List Name) → t.inputs ≡ ns → 0 < length t.inputs → ⊥
   by [] e some = omega (arith, some, ap (length {A = Name}) e)
@@ -40,17 +41,19 @@ first_reads d k t well is at comes none = by t.inputs refl is.some where
       let there : has t.inputs n ≡ true = subst (λ (xs : List Name). has xs n ≡ true) (sym e) (has_first n ns) in
       let used : has (used_names d) n ≡ true = has_left (flat_map table_inputs d.tables) (sink_names d) n (has_flat_at table_inputs d.tables k t n at there) in
       let driven = all_has (λ (m : Name). has (driven_names d) m ≡ true) (used_names d) n well.used_driven used in
-      let output : has (map table_output d.tables) n ≡ true = ⊎_elim (λ source. absurd (has_none n (subst (λ (xs : List Name). has xs n ≡ true) none source))) (λ table. table) (has_either (source_names d) (map table_output d.tables) n driven) in
+      let output : has (map table_output d.tables) n ≡ true =
+      ⊎_elim (λ source. absurd (has_none n (subst (λ (xs : List Name). has xs n ≡ true) none source))) (λ table.
+      table) (has_either (source_names d) (map table_output d.tables) n driven) in
       let found = driver_finds 0 d.tables n output in
       let reads = kept_in (driver_of d.tables) t.inputs n found.0 there found.1 in
-      absurd (let r = comes.ready found.0 (subst (λ (xs : List ℕ). has_ended xs found.0 ≡ true) (sym (reads_of-graph d.tables k t at)) reads) in cc)
+      absurd (let r = comes.ready found.0 (subst (λ (xs : List ℕ). has_ended xs found.0 ≡ true) (sym (fanins_of-graph d.tables k t at)) reads) in cc)
 
 low_table : (ts : List Table) (k : ℕ) → k < length ts → (t : Table) × (slice_get ts k ≡ Some t)
 low_table [] k low = absurd (omega arith)
 low_table (t ∷ ts) zero low = (t, refl)
 low_table (t ∷ ts) (suc k) low = low_table ts k (omega arith)
 
-first_of : (d : Document) (order : List ℕ) → IsWellFormed d → All IsGateTable d.tables → source_names d ≡ [] → IsOrder (graph_of d.tables) order → 0 < length d.tables → ⊥
+first_of : (d : Document) (order : List ℕ) → IsWellFormed d → All IsGateTable d.tables → source_names d ≡ [] → IsTopologicalOrder (graph_of d.tables) order → 0 < length d.tables → ⊥
 first_of d [] well are none is some = absurd (let w = is.whole 0 (omega (arith, some, length-graph_of d.tables)) in cc)
 first_of d (k ∷ order) well are none is some =
     let comes = is.run.0 in
@@ -106,7 +109,9 @@ empty_circuit bytes c is zero_sources =
     let none : source_names d ≡ [] = list_none (source_names d) (ap (length {A = Name}) (interface_sources d c is.circuit.describes) ∙ sym is.circuit.proper.source_count ∙ zero_sources) in
     let empty = no_tables d is.well fine.tables none in
     let sinks : length (sink_names d) ≡ 0 = ap (length {A = Name}) (sinks_none d is.well empty none) in
-    let count : length (sink_names d) ≡ length d.outputs + length d.latches = length-append d.outputs (map latch_input d.latches) ∙ ap (λ (k : ℕ). length d.outputs + k) (length-map d.latches latch_input) in
+    let count : length (sink_names d) ≡ length d.outputs + length d.latches =
+    length-append d.outputs (map latch_input d.latches)
+    ∙ ap (λ (k : ℕ). length d.outputs + k) (length-map d.latches latch_input) in
     let outs : length d.outputs ≡ length c.outputs = ap (length {A = Name}) is.circuit.describes.outputs in
     let latches : length d.latches ≡ length c.latches = sym (length-map d.latches latch_of) ∙ ap (length {A = Latch}) is.circuit.describes.latches in
     (list_none c.net.gates (sym is.circuit.gates ∙ cost_none d empty), list_none c.net.sinks (omega (arith, is.circuit.proper.sink_count, sinks, count, outs, latches)))
@@ -134,32 +139,38 @@ text_fits bytes c is =
       source = ⊎_elim (λ some. inl some) (λ none. inr (empty_circuit bytes c is none)) (some_or_none c.net.sources);
     }
 
-kept_is : (bytes : List ℕ) (c : Circuit) → IsCircuitOfText bench_format bytes c → HasRoom c → CanWrite c
+kept_is : (bytes : List ℕ) (c : Circuit) → IsCircuitOfText bench_format bytes c → HasRoomForNames c → CanWriteBench c
 kept_is bytes c is room = record { writable = record { fits = text_fits bytes c is; room = room }; operators = text_words bytes c is }
 
 -- ---- other nets
 
-other_words : (c : Circuit) (m : Net) → CanWrite c → CanOperate bench_format c.net m → All IsGateWord m.gates
-other_words c m can operate = at_all IsGateWord m.gates (λ j h at. ⊎_elim (λ has_it. has_it) (λ old. subst (λ (op : ℕ). is_gate_word op ≡ true) old.same (all_at IsGateWord c.net.gates old.index old.gate can.operators old.at)) (operate.each j h at))
+other_words : (c : Circuit) (m : Net) → CanWriteBench c → CanOperate bench_format c.net m → All IsGateWord m.gates
+other_words c m can operate = at_all IsGateWord m.gates (λ j h at.
+    ⊎_elim (λ has_it. has_it) (λ old. subst (λ (op : ℕ). is_gate_word op ≡ true) old.same
+    (all_at IsGateWord c.net.gates old.index old.gate can.operators old.at)) (operate.each j h at))
 
-other_fits : (c : Circuit) (m : Net) → IsBenchCircuit c → Answers c.net m → All IsGateWord m.gates → IsBenchCircuit (with_net c m)
-other_fits c m fits answers words = record {
-  proper = exchanged_proper c m fits.proper answers;
+other_fits : (c : Circuit) (m : Net) → IsBenchCircuit c → Implements c.net m → All IsGateWord m.gates → IsBenchCircuit (with_net c m)
+other_fits c m fits implements words = record {
+  proper = exchanged_proper c m fits.proper implements;
   model = fits.model;
   inputs = fits.inputs;
   outputs = fits.outputs;
   clocks = fits.clocks;
   latches = fits.latches;
   operators = gate_words m.gates words;
-  source = ⊎_elim (λ some. inl (omega (arith, some, answers.sources))) (λ none. inr (list_none m.gates (omega (arith, answers.fewer, ap (length {A = Gate}) none.0)), list_none m.sinks (omega (arith, answers.sink_count, ap (length {A = Sig}) none.1)))) fits.source;
+  source = ⊎_elim (λ some. inl (omega (arith, some, implements.sources))) (λ none.
+      inr (
+        list_none m.gates (omega (arith, implements.fewer, ap (length {A = Gate}) none.0)),
+        list_none m.sinks (omega (arith, implements.sink_count, ap (length {A = Sig}) none.1)),
+      )) fits.source;
 }
 
-exchanged_is : (c : Circuit) (m : Net) → CanWrite c → Answers c.net m → CanOperate bench_format c.net m → CanWrite (with_net c m)
-exchanged_is c m can answers operate =
+exchanged_is : (c : Circuit) (m : Net) → CanWriteBench c → Implements c.net m → CanOperate bench_format c.net m → CanWriteBench (with_net c m)
+exchanged_is c m can implements operate =
     let words = other_words c m can operate in
-    record { writable = record { fits = other_fits c m can.writable.fits answers words; room = can.writable.room }; operators = words }
+    record { writable = record { fits = other_fits c m can.writable.fits implements words; room = can.writable.room }; operators = words }
 
-pub bench_is_format : IsFormat blif.blif_format blif.CanWrite → IsFormat bench_format CanWrite
+pub bench_is_format : IsFormat blif.blif_format blif.CanWriteBench → IsFormat bench_format CanWriteBench
 bench_is_format format = record {
   lists = texts_list;
   proper = λ c can. can.writable.fits.proper;

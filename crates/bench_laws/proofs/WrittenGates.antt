@@ -6,7 +6,7 @@ use Rattle.std.proofs.lemmas.Bool.{cond_both, eqb-true, eqb-false}
 use Rattle.std.proofs.lemmas.List.Elements.{All-nil, All-cons, All-head, All-tail, All-append}
 use Rattle.chain_theory.specs.Operator.{apply}
 use Rattle.net_theory.specs.declared.data.Sig.{Sig}
-use Rattle.net_theory.specs.declared.data.Sig.TheVariants.{Zero, One, Place}
+use Rattle.net_theory.specs.declared.data.Sig.TheVariants.{Zero, One, Node}
 use Rattle.net_theory.specs.declared.data.Gate.{Gate}
 use Rattle.net_theory.specs.Cover.{Cover, cover_value, matches}
 use Rattle.net_theory.specs.Expansion.{binary_word}
@@ -14,33 +14,36 @@ use Rattle.net_theory.specs.Document.{Name, IsName, has, Table, Latch, LatchLine
 use Rattle.net_theory.specs.NameLaws.{all_at, at_all}
 use Rattle.net_theory.specs.WellFormed.{IsTable, IsLatchLine, IsWellFormed}
 use Rattle.net_theory.specs.Circuit.{Circuit}
-use Rattle.net_theory.specs.Naming.{gate_names, first_spare, second_spare, place_name}
-use Rattle.blif_core.specs.Written.{constant_table, unary_table, binary_cubes, binary_table, with_place, with_bit, table_by, gate_table, gate_tables, is_zero, is_one, next_states, one_name, sig_name, table_if, constant_tables, latch_lines, output_table, output_tables, driven_before, tables_of, written}
-use Rattle.bench_text.specs.declared.keywords.Keyword.TheVariants.{Gate as GateWord}
+use Rattle.net_theory.specs.Naming.{gate_names, first_spare, second_spare, node_name}
+use Rattle.blif_core.specs.Written.{constant_table, unary_table, binary_cubes, binary_table, with_node, with_bit}
+use Rattle.blif_core.specs.Written.{table_by, gate_table, gate_tables, is_zero, is_one, next_states, one_name, sig_name}
+use Rattle.blif_core.specs.Written.{table_if, constant_tables, latch_lines, output_table, output_tables, driven_before}
+use Rattle.blif_core.specs.Written.{tables_of, written}
+use Rattle.bench_text.specs.declared.keywords.BenchKeyword.TheVariants.{Gate as GateWord}
 use Rattle.bench_text.specs.Statements.{keyword_of, gate_key_of, is_key, is_counted}
 use Rattle.bench_text.specs.SaidLaws.{IsPlainName, IsPlainLatch}
 use Rattle.bench_core.specs.Gates.{constant_line, unary_line, binary_key, line_by, line_of}
 use Rattle.bench_core.specs.Spelling.{key_text}
 use Rattle.bench_core.specs.Bench.{is_gate_word}
 use Rattle.bench_core.specs.Writable.{IsPlainState, HasGateWord}
-use Rattle.bench_laws.specs.Spelled.{CanSpellBy, CanSpell, IsPlainLine, IsSpelled, IsFree, IsWritable}
+use Rattle.bench_laws.specs.Spelled.{CanSpellBy, CanSpell, IsPlainLine, IsBenchSpelling, IsMarkFree, IsWritable}
 use Rattle.bench_laws.proofs.Operators.{either}
-use Rattle.bench_laws.proofs.FreeNames.{outputs_free, gates_free, first_spare_free, second_spare_free, place_free}
+use Rattle.bench_laws.proofs.FreeNames.{outputs_free, gates_free, first_spare_free, second_spare_free, node_free}
 
 -- ---- tables
 
 pub record IsFit (t : Table) : Type 0 where
-  pub output : IsFree t.output
-  pub inputs : All IsFree t.inputs
+  pub output : IsMarkFree t.output
+  pub inputs : All IsMarkFree t.inputs
   pub spell : CanSpell t
 
-one_free : (a : Name) → IsFree a → All IsFree (a ∷ [])
-one_free a is = All-cons IsFree a [] is (All-nil IsFree)
+one_free : (a : Name) → IsMarkFree a → All IsMarkFree (a ∷ [])
+one_free a is = All-cons IsMarkFree a [] is (All-nil IsMarkFree)
 
-constant_fit : (bit : Bool) (o : Name) → IsFree o → IsFit (constant_table bit o)
-constant_fit bit o out = record { output = out; inputs = All-nil IsFree; spell = tt }
+constant_fit : (bit : Bool) (o : Name) → IsMarkFree o → IsFit (constant_table bit o)
+constant_fit bit o out = record { output = out; inputs = All-nil IsMarkFree; spell = tt }
 
-unary_fit : (z w : Bool) (a o : Name) → IsFree a → IsFree o → IsFit (unary_table z w a o)
+unary_fit : (z w : Bool) (a o : Name) → IsMarkFree a → IsMarkFree o → IsFit (unary_table z w a o)
 unary_fit z w a o x out = record { output = out; inputs = one_free a x; spell = tt }
 
 abbrev pair_cover : ℕ → Cover
@@ -66,43 +69,48 @@ pair_word : (op : ℕ) → is_gate_word op ≡ true → IsPairWord op
 unfolding is_gate_word binary_cubes cover_value matches
 pair_word op e = by_words (λ k. IsPairWord k) op refl refl refl refl refl refl e
 
-binary_fit : (op : ℕ) (a b o : Name) → is_gate_word op ≡ true → IsFree a → IsFree b → IsFree o → IsFit (binary_table op a b o)
-binary_fit op a b o e x y out = record { output = out; inputs = All-cons IsFree a (b ∷ []) x (one_free b y); spell = pair_word op e }
+binary_fit : (op : ℕ) (a b o : Name) → is_gate_word op ≡ true → IsMarkFree a → IsMarkFree b → IsMarkFree o → IsFit (binary_table op a b o)
+binary_fit op a b o e x y out = record { output = out; inputs = All-cons IsMarkFree a (b ∷ []) x (one_free b y); spell = pair_word op e }
 
-place_fit : (name : ℕ → Name) (o : Name) (op p : ℕ) (s : Sig) → ((k : ℕ) → IsFree (name k)) → IsFree o → ((q : ℕ) → s ≡ Place q → p ≢ q → is_gate_word op ≡ true) → IsFit (with_place name o op p s)
-place_fit name o op p Zero free out word = unary_fit (apply op false false) (apply op true false) (name p) o (free p) out
-place_fit name o op p One free out word = unary_fit (apply op false true) (apply op true true) (name p) o (free p) out
-place_fit name o op p (Place q) free out word =
+node_fit : (name : ℕ → Name) (o : Name) (op p : ℕ) (s : Sig) → ((k : ℕ) → IsMarkFree (name k)) → IsMarkFree o →
+    ((q : ℕ) → s ≡ Node q → p ≢ q → is_gate_word op ≡ true) → IsFit (with_node name o op p s)
+node_fit name o op p Zero free out word = unary_fit (apply op false false) (apply op true false) (name p) o (free p) out
+node_fit name o op p One free out word = unary_fit (apply op false true) (apply op true true) (name p) o (free p) out
+node_fit name o op p (Node q) free out word =
     cond_both (p == q) (unary_table (apply op false false) (apply op true true) (name p) o) (binary_table op (name p) (name q) o) IsFit
     (λ f. unary_fit (apply op false false) (apply op true true) (name p) o (free p) out)
     (λ f. binary_fit op (name p) (name q) o (word q refl (eqb-false p q f)) (free p) (free q) out)
 
-bit_fit : (name : ℕ → Name) (o : Name) (op : ℕ) (a : Bool) (s : Sig) → ((k : ℕ) → IsFree (name k)) → IsFree o → IsFit (with_bit name o op a s)
+bit_fit : (name : ℕ → Name) (o : Name) (op : ℕ) (a : Bool) (s : Sig) → ((k : ℕ) → IsMarkFree (name k)) → IsMarkFree o → IsFit (with_bit name o op a s)
 bit_fit name o op a Zero free out = constant_fit (apply op a false) o out
 bit_fit name o op a One free out = constant_fit (apply op a true) o out
-bit_fit name o op a (Place q) free out = unary_fit (apply op a false) (apply op a true) (name q) o (free q) out
+bit_fit name o op a (Node q) free out = unary_fit (apply op a false) (apply op a true) (name q) o (free q) out
 
-by_fit : (name : ℕ → Name) (o : Name) (op : ℕ) (a b : Sig) → ((k : ℕ) → IsFree (name k)) → IsFree o → ((p q : ℕ) → a ≡ Place p → b ≡ Place q → p ≢ q → is_gate_word op ≡ true) → IsFit (table_by name o op a b)
+by_fit : (name : ℕ → Name) (o : Name) (op : ℕ) (a b : Sig) → ((k : ℕ) → IsMarkFree (name k)) → IsMarkFree o →
+    ((p q : ℕ) → a ≡ Node p → b ≡ Node q → p ≢ q → is_gate_word op ≡ true) → IsFit (table_by name o op a b)
 by_fit name o op Zero b free out word = bit_fit name o op false b free out
 by_fit name o op One b free out word = bit_fit name o op true b free out
-by_fit name o op (Place p) b free out word = place_fit name o op p b free out (λ q e. word p q refl e)
+by_fit name o op (Node p) b free out word = node_fit name o op p b free out (λ q e. word p q refl e)
 
-gate_fit : (name : ℕ → Name) (o : Name) (g : Gate) → ((k : ℕ) → IsFree (name k)) → IsFree o → HasGateWord g → IsFit (gate_table name o g)
+gate_fit : (name : ℕ → Name) (o : Name) (g : Gate) → ((k : ℕ) → IsMarkFree (name k)) → IsMarkFree o → HasGateWord g → IsFit (gate_table name o g)
 unfolding gate_table
 gate_fit name o g free out word = by_fit name o g.op g.a g.b free out word
 
-gates_fit : (name : ℕ → Name) (gs : List Gate) (ns : List Name) → ((k : ℕ) → IsFree (name k)) → All IsFree ns → All HasGateWord gs → All IsFit (gate_tables name gs ns)
+gates_fit : (name : ℕ → Name) (gs : List Gate) (ns : List Name) → ((k : ℕ) → IsMarkFree (name k)) → All IsMarkFree ns → All HasGateWord gs → All IsFit (gate_tables name gs ns)
 unfolding gate_tables
 gates_fit name [] ns free outs words = All-nil IsFit
 gates_fit name (g ∷ gs) [] free outs words = All-nil IsFit
-gates_fit name (g ∷ gs) (n ∷ ns) free outs words = All-cons IsFit (gate_table name n g) (gate_tables name gs ns) (gate_fit name n g free (All-head IsFree n ns outs) (All-head HasGateWord g gs words)) (gates_fit name gs ns free (All-tail IsFree n ns outs) (All-tail HasGateWord g gs words))
+gates_fit name (g ∷ gs) (n ∷ ns) free outs words =
+    All-cons IsFit (gate_table name n g) (gate_tables name gs ns)
+    (gate_fit name n g free (All-head IsMarkFree n ns outs) (All-head HasGateWord g gs words))
+    (gates_fit name gs ns free (All-tail IsMarkFree n ns outs) (All-tail HasGateWord g gs words))
 
 if_fit : (b : Bool) (t : Table) → IsFit t → All IsFit (table_if b t)
 if_fit true t is = All-cons IsFit t [] is (All-nil IsFit)
 if_fit false t is = All-nil IsFit
 
-one_name_free : (c : Circuit) → IsWritable c → IsFree (one_name c)
-one_name_free c can = cond_both (list_any is_zero (next_states c)) (second_spare c) (first_spare c) IsFree (λ e. second_spare_free c can) (λ e. first_spare_free c can)
+one_name_free : (c : Circuit) → IsWritable c → IsMarkFree (one_name c)
+one_name_free c can = cond_both (list_any is_zero (next_states c)) (second_spare c) (first_spare c) IsMarkFree (λ e. second_spare_free c can) (λ e. first_spare_free c can)
 
 constants_fit : (c : Circuit) → IsWritable c → All IsFit (constant_tables c)
 unfolding constant_tables
@@ -111,25 +119,29 @@ constants_fit c can =
     (if_fit (list_any is_zero (next_states c)) (constant_table false (first_spare c)) (constant_fit false (first_spare c) (first_spare_free c can)))
     (if_fit (list_any is_one (next_states c)) (constant_table true (one_name c)) (constant_fit true (one_name c) (one_name_free c can)))
 
-output_fit : (name : ℕ → Name) (o : Name) (s : Sig) → ((k : ℕ) → IsFree (name k)) → IsFree o → IsFit (output_table name o s)
+output_fit : (name : ℕ → Name) (o : Name) (s : Sig) → ((k : ℕ) → IsMarkFree (name k)) → IsMarkFree o → IsFit (output_table name o s)
 output_fit name o Zero free out = constant_fit false o out
 output_fit name o One free out = constant_fit true o out
-output_fit name o (Place p) free out = unary_fit false true (name p) o (free p) out
+output_fit name o (Node p) free out = unary_fit false true (name p) o (free p) out
 
-outputs_fit : (name : ℕ → Name) (done outs : List Name) (sinks : List Sig) → ((k : ℕ) → IsFree (name k)) → All IsFree outs → All IsFit (output_tables name done outs sinks)
+outputs_fit : (name : ℕ → Name) (done outs : List Name) (sinks : List Sig) → ((k : ℕ) → IsMarkFree (name k)) → All IsMarkFree outs → All IsFit (output_tables name done outs sinks)
 unfolding output_tables
 outputs_fit name done [] sinks free all = All-nil IsFit
 outputs_fit name done (o ∷ os) [] free all = All-nil IsFit
 outputs_fit name done (o ∷ os) (s ∷ sinks) free all =
     cond_both (has done o) (output_tables name done os sinks) (output_table name o s ∷ output_tables name (done ++ o ∷ []) os sinks) (λ (ts : List Table). All IsFit ts)
-    (λ e. outputs_fit name done os sinks free (All-tail IsFree o os all))
-    (λ e. All-cons IsFit (output_table name o s) (output_tables name (done ++ o ∷ []) os sinks) (output_fit name o s free (All-head IsFree o os all)) (outputs_fit name (done ++ o ∷ []) os sinks free (All-tail IsFree o os all)))
+    (λ e. outputs_fit name done os sinks free (All-tail IsMarkFree o os all))
+    (λ e. All-cons IsFit (output_table name o s) (output_tables name (done ++ o ∷ []) os sinks)
+    (output_fit name o s free (All-head IsMarkFree o os all)) (outputs_fit name (done ++
+    o ∷ []) os sinks free (All-tail IsMarkFree o os all)))
 
 tables_fit : (c : Circuit) → IsWritable c → All IsFit (tables_of c)
 tables_fit c can =
-    All-append IsFit (gate_tables (place_name c) c.net.gates (gate_names c) ++ constant_tables c) (output_tables (place_name c) (driven_before c) c.outputs c.net.sinks)
-    (All-append IsFit (gate_tables (place_name c) c.net.gates (gate_names c)) (constant_tables c) (gates_fit (place_name c) c.net.gates (gate_names c) (λ k. place_free c k can) (gates_free c can) can.fits.operators) (constants_fit c can))
-    (outputs_fit (place_name c) (driven_before c) c.outputs c.net.sinks (λ k. place_free c k can) (outputs_free c can))
+    All-append IsFit (gate_tables (node_name c) c.net.gates (gate_names c) ++ constant_tables c) (output_tables (node_name c) (driven_before c) c.outputs c.net.sinks)
+    (All-append IsFit (gate_tables (node_name c) c.net.gates (gate_names c)) (constant_tables c)
+    (gates_fit (node_name c) c.net.gates (gate_names c) (λ k. node_free c k can)
+    (gates_free c can) can.fits.operators) (constants_fit c can))
+    (outputs_fit (node_name c) (driven_before c) c.outputs c.net.sinks (λ k. node_free c k can) (outputs_free c can))
 
 pub written_fit : (c : Circuit) → IsWritable c → All IsFit (written c).tables
 unfolding written
@@ -138,23 +150,29 @@ written_fit c can = tables_fit c can
 -- ---- latches
 
 pub record IsQuiet (l : LatchLine) : Type 0 where
-  pub input : IsFree l.input
+  pub input : IsMarkFree l.input
   pub output : IsPlainName l.latch.output
   pub control : l.latch.control ≡ None
   pub init : l.latch.init ≡ None
 
-sig_free : (c : Circuit) (s : Sig) → IsWritable c → IsFree (sig_name c s)
+sig_free : (c : Circuit) (s : Sig) → IsWritable c → IsMarkFree (sig_name c s)
 sig_free c Zero can = first_spare_free c can
 sig_free c One can = one_name_free c can
-sig_free c (Place p) can = place_free c p can
+sig_free c (Node p) can = node_free c p can
 
-lines_quiet : (name : Sig → Name) (ls : List Latch) (sinks : List Sig) → ((s : Sig) → IsFree (name s)) → All IsPlainState ls → All IsQuiet (latch_lines name ls sinks)
+lines_quiet : (name : Sig → Name) (ls : List Latch) (sinks : List Sig) → ((s : Sig) → IsMarkFree (name s)) → All IsPlainState ls → All IsQuiet (latch_lines name ls sinks)
 unfolding latch_lines
 lines_quiet name [] sinks free all = All-nil IsQuiet
 lines_quiet name (l ∷ ls) [] free all = All-nil IsQuiet
 lines_quiet name (l ∷ ls) (s ∷ sinks) free all =
     let is = All-head IsPlainState l ls all in
-    All-cons IsQuiet (record { input = name s; latch = l }) (latch_lines name ls sinks) (record { input = free s; output = is.output; control = is.control; init = is.init }) (lines_quiet name ls sinks free (All-tail IsPlainState l ls all))
+    All-cons IsQuiet (record { input = name s; latch = l }) (latch_lines name ls sinks) (record {
+      input = free s;
+      output = is.output;
+      control = is.control;
+      init =
+          is.init;
+    }) (lines_quiet name ls sinks free (All-tail IsPlainState l ls all))
 
 pub written_quiet : (c : Circuit) → IsWritable c → All IsQuiet (written c).latches
 unfolding written
@@ -162,7 +180,7 @@ written_quiet c can = lines_quiet (sig_name c) c.latches (next_states c) (λ s. 
 
 -- ---- lines
 
-plain : (n : Name) → IsName n → IsFree n → IsPlainName n
+plain : (n : Name) → IsName n → IsMarkFree n → IsPlainName n
 plain n name free = record { name = name; plain = free }
 
 one_plain : (n : Name) → IsPlainName n → All IsPlainName (n ∷ [])
@@ -205,9 +223,9 @@ line_plain source t (a ∷ b ∷ []) s out all can =
     }
 line_plain source t (a ∷ b ∷ c ∷ ns) s out all can = absurd can
 
-plain_all : (ns : List Name) → All IsName ns → All IsFree ns → All IsPlainName ns
+plain_all : (ns : List Name) → All IsName ns → All IsMarkFree ns → All IsPlainName ns
 plain_all [] x y = All-nil IsPlainName
-plain_all (n ∷ ns) x y = All-cons IsPlainName n ns (plain n (All-head IsName n ns x) (All-head IsFree n ns y)) (plain_all ns (All-tail IsName n ns x) (All-tail IsFree n ns y))
+plain_all (n ∷ ns) x y = All-cons IsPlainName n ns (plain n (All-head IsName n ns x) (All-head IsMarkFree n ns y)) (plain_all ns (All-tail IsName n ns x) (All-tail IsMarkFree n ns y))
 
 table_plain : (source : Name) (t : Table) → IsPlainName source → IsTable t → IsFit t → IsPlainLine (line_of source t)
 unfolding line_of
@@ -235,15 +253,21 @@ unfolding written
 written_model c = refl
 
 pub lines_plain : (c : Circuit) (source : Name) → IsWritable c → IsPlainName source → IsWellFormed (written c) → All (λ (t : Table). IsPlainLine (line_of source t)) (written c).tables
-lines_plain c source can s well = at_all (λ (t : Table). IsPlainLine (line_of source t)) (written c).tables (λ k t e. table_plain source t s (all_at IsTable (written c).tables k t well.tables e) (all_at IsFit (written c).tables k t (written_fit c can) e))
+lines_plain c source can s well = at_all (λ (t : Table). IsPlainLine (line_of source t)) (written c).tables (λ k t e.
+    table_plain source t s (all_at IsTable (written c).tables k t well.tables e)
+    (all_at IsFit (written c).tables k t (written_fit c can) e))
 
-pub written_spelled : (c : Circuit) (source : Name) → IsWritable c → All (λ (t : Table). IsPlainLine (line_of source t)) (written c).tables → IsWellFormed (written c) → IsSpelled source (written c)
+pub written_spelled : (c : Circuit) (source : Name) → IsWritable c →
+    All (λ (t : Table). IsPlainLine (line_of source t)) (written c).tables → IsWellFormed (written c) →
+    IsBenchSpelling source (written c)
 written_spelled c source can lines well = record {
   model = written_model c ∙ can.fits.model;
   inputs = subst (All IsPlainName) (sym (written_inputs c)) can.fits.inputs;
   outputs = subst (All IsPlainName) (sym (written_outputs c)) can.fits.outputs;
   clocks = written_clocks c ∙ can.fits.clocks;
-  latches = at_all IsPlainLatch (written c).latches (λ k l e. latch_plain l (all_at IsLatchLine (written c).latches k l well.latches e) (all_at IsQuiet (written c).latches k l (written_quiet c can) e));
+  latches = at_all IsPlainLatch (written c).latches (λ k l e.
+      latch_plain l (all_at IsLatchLine (written c).latches k l well.latches e)
+      (all_at IsQuiet (written c).latches k l (written_quiet c can) e));
   tables = lines;
 }
 
@@ -277,11 +301,12 @@ no_constants : (c : Circuit) → c.net.sinks ≡ [] → constant_tables c ≡ []
 unfolding constant_tables
 no_constants c e =
     let none : next_states c ≡ [] = drop_none (length c.outputs) c.net.sinks e in
-    no_ifs (list_any is_zero (next_states c)) (list_any is_one (next_states c)) (constant_table false (first_spare c)) (constant_table true (one_name c)) (ap (list_any is_zero) none) (ap (list_any is_one) none)
+    no_ifs (list_any is_zero (next_states c)) (list_any is_one (next_states c)) (constant_table false (first_spare c))
+    (constant_table true (one_name c)) (ap (list_any is_zero) none) (ap (list_any is_one) none)
 
 pub no_tables : (c : Circuit) → c.net.gates ≡ [] → c.net.sinks ≡ [] → (written c).tables ≡ []
 unfolding written
 no_tables c e f =
-    ap (λ (ts : List Table). (ts ++ constant_tables c) ++ output_tables (place_name c) (driven_before c) c.outputs c.net.sinks) (no_gates (place_name c) c.net.gates (gate_names c) e)
-    ∙ ap (λ (ts : List Table). ts ++ output_tables (place_name c) (driven_before c) c.outputs c.net.sinks) (no_constants c f)
-    ∙ no_outputs (place_name c) (driven_before c) c.outputs c.net.sinks f
+    ap (λ (ts : List Table). (ts ++ constant_tables c) ++ output_tables (node_name c) (driven_before c) c.outputs c.net.sinks) (no_gates (node_name c) c.net.gates (gate_names c) e)
+    ∙ ap (λ (ts : List Table). ts ++ output_tables (node_name c) (driven_before c) c.outputs c.net.sinks) (no_constants c f)
+    ∙ no_outputs (node_name c) (driven_before c) c.outputs c.net.sinks f

@@ -3,13 +3,13 @@ use Rattle.std.specs.Prelude.{◌≡◌, true, false, List, [], ◌∷◌, All, 
 use Rattle.std.specs.List.{list_any}
 use Rattle.net_theory.specs.declared.data.Gate.{Gate}
 use Rattle.net_theory.specs.Circuit.{Circuit}
-use Rattle.net_core.specs.Names.{HasRoom}
+use Rattle.net_core.specs.Names.{HasRoomForNames}
 use Rattle.net_core.specs.declared.error.NetError.{NetError}
 use Rattle.net_core.specs.declared.error.NetError.TheVariants.{Syntax, NotSupported, TooWide, LineTooLong, NameTooLong}
 use Rattle.bench_text.specs.Items.{is_mark}
 use Rattle.net_theory.specs.Document.{Name, Table, Document}
 use Rattle.net_theory.specs.Expansion.{binary_word}
-use Rattle.bench_text.specs.declared.keywords.Keyword.TheVariants.{Gate as GateWord}
+use Rattle.bench_text.specs.declared.keywords.BenchKeyword.TheVariants.{Gate as GateWord}
 use Rattle.bench_text.specs.Statements.{keyword_of, is_counted}
 use Rattle.bench_text.specs.SaidLaws.{IsPlainName, IsPlainLatch}
 use Rattle.bench_core.specs.Gates.{GateLine, line_of}
@@ -37,7 +37,7 @@ pub record IsPlainLine (l : GateLine) : Type 0 where
 
 -- A document with a BENCH text: the model's name is `top`, there are no clocks, names contain no marks, latches
 -- have no controls and initial values, and tables have at most two inputs.
-pub record IsSpelled (source : Name) (d : Document) : Type 0 where
+pub record IsBenchSpelling (source : Name) (d : Document) : Type 0 where
   pub model : d.model ≡ codes "top"
   pub inputs : All IsPlainName d.inputs
   pub outputs : All IsPlainName d.outputs
@@ -46,20 +46,20 @@ pub record IsSpelled (source : Name) (d : Document) : Type 0 where
   pub tables : All (λ (t : Table). IsPlainLine (line_of source t)) d.tables
 
 -- a name without marks
-abbrev pub IsFree : Name → Type 0
-IsFree n = list_any is_mark n ≡ false
+abbrev pub IsMarkFree : Name → Type 0
+IsMarkFree n = list_any is_mark n ≡ false
 
 -- A circuit that BENCH can express and whose gates can be named.
 pub record IsWritable (c : Circuit) : Type 0 where
   pub fits : IsBenchCircuit c
-  pub room : HasRoom c
+  pub room : HasRoomForNames c
 
 -- a gate with an operator of the format
 abbrev pub IsGateWord : Gate → Type 0
 IsGateWord g = is_gate_word g.op ≡ true
 
 -- such a circuit whose gates all have operators of the format, as in the circuit of a text
-pub record CanWrite (c : Circuit) : Type 0 where
+pub record CanWriteBench (c : Circuit) : Type 0 where
   pub writable : IsWritable c
   pub operators : All IsGateWord c.net.gates
 

@@ -12,7 +12,7 @@ ghost use Rattle.net_document.specs.Format.{IsCircuitOfText, IsReadBack, IsTextO
 ghost use Rattle.bench_core.specs.Spelling.{spelled, circuit_text};
 ghost use Rattle.blif_core.specs.Written.{written};
 ghost use Rattle.bench_core.specs.Gates.{as_gates, bench_written};
-ghost use Rattle.bench_laws.specs.Spelled.{CanSpell, IsSpelled, IsWritable, CanWrite, IsLineFault};
+ghost use Rattle.bench_laws.specs.Spelled.{CanSpell, IsBenchSpelling, IsWritable, CanWriteBench, IsLineFault};
 ghost use Rattle.bench_text.specs.Statements.{listed_of};
 ghost use Rattle.bench_core.specs.Bench.{bench_format, is_gate_word};
 ghost use Rattle.bench_core.specs.Writable.{IsBenchCircuit};
@@ -21,20 +21,25 @@ use blif_laws::blif_is_a_format;
 
 /// Each gate of the circuit of a BENCH text has an operator of the format: AND, OR, XOR or a complement of these.
 pub fn gates_have_operators_of_gates()
-    ensures { (bytes : List ℕ) (c : Circuit) (i : ℕ) (g : Gate) → IsCircuitOfText bench_format bytes c → slice_get c.net.gates i ≡ Some g → is_gate_word g.op ≡ true }
+    ensures { (bytes : List ℕ) (c : Circuit) (i : ℕ) (g : Gate) → IsCircuitOfText bench_format bytes c →
+        slice_get c.net.gates i ≡ Some g → is_gate_word g.op ≡ true }
 {}
 
 /// If each table of a well-formed document can be written as a gate, replacing the tables by gates (constants by
 /// gates over one of its sources) keeps the document's functions and its cost.
 pub fn documents_of_gates_do_the_same()
-    ensures well { (source : Name) (d : Document) → IsWellFormed d → All CanSpell d.tables → has (source_names d) source ≡ true → IsWellFormed (as_gates source d) }
-    ensures describes { (source : Name) (d : Document) (c : Circuit) → IsWellFormed d → All CanSpell d.tables → has (source_names d) source ≡ true → Describes d c → Describes (as_gates source d) c }
-    ensures cost { (source : Name) (d : Document) → IsWellFormed d → All CanSpell d.tables → has (source_names d) source ≡ true → cost (as_gates source d) ≡ cost d }
+    ensures well { (source : Name) (d : Document) → IsWellFormed d → All CanSpell d.tables →
+        has (source_names d) source ≡ true → IsWellFormed (as_gates source d) }
+    ensures describes { (source : Name) (d : Document) (c : Circuit) → IsWellFormed d → All CanSpell d.tables →
+        has (source_names d) source ≡ true → Describes d c → Describes (as_gates source d) c }
+    ensures cost { (source : Name) (d : Document) → IsWellFormed d → All CanSpell d.tables →
+        has (source_names d) source ≡ true → cost (as_gates source d) ≡ cost d }
 {}
 
 /// A document with a BENCH text is read back from it, with its tables as gates.
 pub fn documents_are_read_back()
-    ensures { (source : Name) (d : Document) → IsSpelled source d → IsReadBack bench_format (spelled source d) (as_gates source d) }
+    ensures { (source : Name) (d : Document) → IsBenchSpelling source d →
+        IsReadBack bench_format (spelled source d) (as_gates source d) }
 {}
 
 /// The circuit of every BENCH text can be written in BENCH.
@@ -61,7 +66,7 @@ pub fn circuits_cost_the_same()
 /// circuit of every text is writable, also after its net is replaced by one that implements it with operators of
 /// the format.
 pub fn bench_is_a_format()
-    ensures { IsFormat bench_format CanWrite }
+    ensures { IsFormat bench_format CanWriteBench }
 {
     blif_is_a_format();
 }

@@ -6,7 +6,9 @@ use Rattle.net_theory.specs.Document.{Name, is_same}
 use Rattle.bench_text.specs.Items.{is_mark_item}
 use Rattle.bench_text.specs.Statements.{operands_from}
 
-pub going_on : (names new : List Name) (items later rest : List (List ℕ)) (w m : List ℕ) → items ≡ w ∷ later → later ≡ m ∷ rest → is_mark_item w ≡ false → is_same m (codes ")") ≡ false → is_same m (codes ",") ≡ true → new ≡ names ++ w ∷ [] → operands_from new rest ≡ operands_from names items
+pub going_on : (names new : List Name) (items later rest : List (List ℕ)) (w m : List ℕ) → items ≡ w ∷ later →
+    later ≡ m ∷ rest → is_mark_item w ≡ false → is_same m (codes ")") ≡ false → is_same m (codes ",") ≡ true →
+    new ≡ names ++ w ∷ [] → operands_from new rest ≡ operands_from names items
 unfolding operands_from
 going_on names new items later rest w m e f word open_still comma same =
     ap (λ (ns : List Name). operands_from ns rest) same

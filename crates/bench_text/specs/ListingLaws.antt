@@ -20,7 +20,7 @@ use Rattle.net_core.specs.Wholes.{whole_cover}
 use Rattle.net_core.specs.BodyLaws.{whole_cost-wide}
 use Rattle.net_core.specs.declared.error.NetError.{NetError}
 use Rattle.net_core.specs.declared.error.NetError.TheVariants.{Syntax, NotSupported, LineTooLong, NameTooLong}
-use Rattle.net_document.specs.Listed.{Listed, IsListed, AreFree}
+use Rattle.net_document.specs.Listed.{Listed, IsWellListed, AreControlsFree}
 use Rattle.net_document.specs.TimesLaws.{times-append}
 use Rattle.blif_text.specs.Reading.{◌>>=◌}
 use Rattle.blif_text.specs.SaidLaws.{bind_fine}
@@ -29,11 +29,15 @@ use Rattle.blif_text.specs.Words.{word_then}
 use Rattle.blif_text.specs.Words.{has_long}
 use Rattle.blif_text.specs.SaidLaws.{AreShort, short_cons, short_words}
 use Rattle.net_document.specs.SizeLaws.{content_short}
-use Rattle.bench_text.specs.declared.keywords.Keyword.{Keyword}
-use Rattle.bench_text.specs.declared.keywords.Keyword.TheVariants.{Input, Output, Gate, Dff, Lut, Constant, Unknown}
+use Rattle.bench_text.specs.declared.keywords.BenchKeyword.{BenchKeyword}
+use Rattle.bench_text.specs.declared.keywords.BenchKeyword.TheVariants.{Input, Output, Gate, Dff, Lut, Constant, Unknown}
 use Rattle.bench_text.specs.Items.{is_mark, is_mark_item, items_from, items_of}
-use Rattle.bench_text.specs.Statements.{nothing, with_input, with_output, with_latch, with_table, names_of, table_of, latch_of as latch_from, port_of, ported, driven, driven_by, keyword_of, stated, step, steps, listed_of}
-use Rattle.bench_text.specs.SaidLaws.{IsWord, AreItems, IsPlainName, IsPlainLatch, IsGateTable, IsFine, AreOperands, gate_is_table, table_width, nothing_fine, fine_more, input_fine, output_fine, latch_fine, table_fine, names_fine, port_fine, gate_fine, dff_fine}
+use Rattle.bench_text.specs.Statements.{nothing, with_input, with_output, with_latch, with_table, names_of, table_of}
+use Rattle.bench_text.specs.Statements.{latch_of as latch_from, port_of, ported, driven, driven_by, keyword_of, stated}
+use Rattle.bench_text.specs.Statements.{step, steps, listed_of}
+use Rattle.bench_text.specs.SaidLaws.{IsWord, AreItems, IsPlainName, IsPlainLatch, IsGateTable, IsFine, AreOperandNames}
+use Rattle.bench_text.specs.SaidLaws.{gate_is_table, table_width, nothing_fine, fine_more, input_fine, output_fine}
+use Rattle.bench_text.specs.SaidLaws.{latch_fine, table_fine, names_fine, port_fine, gate_fine, dff_fine}
 
 -- ---- items
 
@@ -45,33 +49,35 @@ or_false : (a b : Bool) → a ≡ false → b ≡ false → (a || b) ≡ false
 or_false false b e f = f
 or_false true b e f = absurd cc
 
-marks_push : (front : List ℕ) (b : ℕ) → list_any is_mark front ≡ false → is_mark b ≡ false → list_any is_mark (front ++ b ∷ []) ≡ false
+marks_push : (prefix : List ℕ) (b : ℕ) → list_any is_mark prefix ≡ false → is_mark b ≡ false → list_any is_mark (prefix ++ b ∷ []) ≡ false
 marks_push [] b e f = or_false (is_mark b) false f refl
-marks_push (c ∷ front) b e f = or_false (is_mark c) (list_any is_mark (front ++ b ∷ [])) (head (is_mark c) (list_any is_mark front) e) (marks_push front b (tail (is_mark c) (list_any is_mark front) e) f) where
-  head : (a b : Bool) → (a || b) ≡ false → a ≡ false
-  head false b e = refl
-  head true b e = absurd cc
+marks_push (c ∷ prefix) b e f = or_false (is_mark c) (list_any is_mark (prefix ++ b ∷ []))
+    (head (is_mark c) (list_any is_mark prefix) e)
+    (marks_push prefix b (tail (is_mark c) (list_any is_mark prefix) e) f) where
+      head : (a b : Bool) → (a || b) ≡ false → a ≡ false
+      head false b e = refl
+      head true b e = absurd cc
 
-  tail : (a b : Bool) → (a || b) ≡ false → b ≡ false
-  tail false b e = e
-  tail true b e = absurd cc
+      tail : (a b : Bool) → (a || b) ≡ false → b ≡ false
+      tail false b e = e
+      tail true b e = absurd cc
 
-then_plain : (front : List ℕ) (ws : List (List ℕ)) → list_any is_mark front ≡ false → ArePlain ws → ArePlain (word_then front ws)
+then_plain : (prefix : List ℕ) (ws : List (List ℕ)) → list_any is_mark prefix ≡ false → ArePlain ws → ArePlain (word_then prefix ws)
 then_plain [] ws e is = is
-then_plain (b ∷ front) ws e is = (λ f. e, is)
+then_plain (b ∷ prefix) ws e is = (λ f. e, is)
 
 mark_plain : (b : ℕ) (ws : List (List ℕ)) → is_mark b ≡ true → ArePlain ws → ArePlain ((b ∷ []) ∷ ws)
 mark_plain b ws e is = ((λ f. absurd (let g : true ≡ false = sym e ∙ f in cc)), is)
 
-items_plain : (front text : List ℕ) → list_any is_mark front ≡ false → ArePlain (items_from front text)
+items_plain : (prefix text : List ℕ) → list_any is_mark prefix ≡ false → ArePlain (items_from prefix text)
 unfolding items_from
-items_plain front [] e = then_plain front [] e tt
-items_plain front (b ∷ bs) e =
-    cond_both (is_blank b) (word_then front (items_from [] bs)) (if is_mark b then word_then front ((b ∷ []) ∷ items_from [] bs) else items_from (front ++ b ∷ []) bs) ArePlain
-    (λ blank. then_plain front (items_from [] bs) e (items_plain [] bs refl))
-    (λ none. cond_both (is_mark b) (word_then front ((b ∷ []) ∷ items_from [] bs)) (items_from (front ++ b ∷ []) bs) ArePlain
-    (λ mark. then_plain front ((b ∷ []) ∷ items_from [] bs) e (mark_plain b (items_from [] bs) mark (items_plain [] bs refl)))
-    (λ other. items_plain (front ++ b ∷ []) bs (marks_push front b e other)))
+items_plain prefix [] e = then_plain prefix [] e tt
+items_plain prefix (b ∷ bs) e =
+    cond_both (is_blank b) (word_then prefix (items_from [] bs)) (if is_mark b then word_then prefix ((b ∷ []) ∷ items_from [] bs) else items_from (prefix ++ b ∷ []) bs) ArePlain
+    (λ blank. then_plain prefix (items_from [] bs) e (items_plain [] bs refl))
+    (λ none. cond_both (is_mark b) (word_then prefix ((b ∷ []) ∷ items_from [] bs)) (items_from (prefix ++ b ∷ []) bs) ArePlain
+    (λ mark. then_plain prefix ((b ∷ []) ∷ items_from [] bs) e (mark_plain b (items_from [] bs) mark (items_plain [] bs refl)))
+    (λ other. items_plain (prefix ++ b ∷ []) bs (marks_push prefix b e other)))
 
 are_items : (ws : List (List ℕ)) → ArePlain ws → AreShort ws → AreItems ws
 are_items [] plain short = tt
@@ -80,43 +86,54 @@ are_items (w ∷ ws) plain short = let s = short_cons w ws short in (record { sh
 pub items_fine : (text : List ℕ) → has_long (items_of text) ≡ false → AreItems (items_of text)
 items_fine text e = are_items (items_of text) (items_plain [] text refl) (short_words (items_of text) e)
 
-then_long : (front : List ℕ) (ws : List (List ℕ)) (k : ℕ) → length ws ≤ k → length (word_then front ws) ≤ length front + k
+then_long : (prefix : List ℕ) (ws : List (List ℕ)) (k : ℕ) → length ws ≤ k → length (word_then prefix ws) ≤ length prefix + k
 then_long [] ws k h = omega (arith, h)
-then_long (b ∷ front) ws k h = omega (arith, h)
+then_long (b ∷ prefix) ws k h = omega (arith, h)
 
-items_fit : (front text : List ℕ) → length (items_from front text) ≤ length front + length text
+items_fit : (prefix text : List ℕ) → length (items_from prefix text) ≤ length prefix + length text
 unfolding items_from
-items_fit front [] = then_long front [] 0 (omega arith)
-items_fit front (b ∷ bs) =
-    cond_both (is_blank b) (word_then front (items_from [] bs)) (if is_mark b then word_then front ((b ∷ []) ∷ items_from [] bs) else items_from (front ++ b ∷ []) bs) (λ (ws : List (List ℕ)). length ws ≤ length front + suc (length bs))
-    (λ blank. then_long front (items_from [] bs) (suc (length bs)) (omega (arith, items_fit [] bs)))
-    (λ none. cond_both (is_mark b) (word_then front ((b ∷ []) ∷ items_from [] bs)) (items_from (front ++ b ∷ []) bs) (λ (ws : List (List ℕ)). length ws ≤ length front + suc (length bs))
-    (λ mark. then_long front ((b ∷ []) ∷ items_from [] bs) (suc (length bs)) (omega (arith, items_fit [] bs)))
-    (λ other. omega (arith, items_fit (front ++ b ∷ []) bs, length-append front (b ∷ []))))
+items_fit prefix [] = then_long prefix [] 0 (omega arith)
+items_fit prefix (b ∷ bs) =
+    cond_both (is_blank b) (word_then prefix (items_from [] bs))
+    (if is_mark b then word_then prefix ((b ∷ []) ∷ items_from [] bs) else items_from (prefix ++ b ∷ []) bs)
+    (λ (ws : List (List ℕ)). length ws ≤ length prefix + suc (length bs))
+    (λ blank. then_long prefix (items_from [] bs) (suc (length bs)) (omega (arith, items_fit [] bs)))
+    (λ none. cond_both (is_mark b) (word_then prefix ((b ∷ []) ∷ items_from [] bs)) (items_from (prefix ++ b ∷ []) bs) (λ (ws : List (List ℕ)). length ws ≤ length prefix + suc (length bs))
+    (λ mark. then_long prefix ((b ∷ []) ∷ items_from [] bs) (suc (length bs)) (omega (arith, items_fit [] bs)))
+    (λ other. omega (arith, items_fit (prefix ++ b ∷ []) bs, length-append prefix (b ∷ []))))
 
 -- ---- lines
 
 abbrev Fine : ℕ → Result Listed NetError → Type 0
 Fine size r = IfOk r (λ s. IsFine s size)
 
-ported_fine : (line : ℕ) (s : Listed) (items : List (List ℕ)) (k : Keyword) (size more : ℕ) → IsFine s size → AreItems items → size + 2 ≤ more → Fine more (ported line s items k)
+ported_fine : (line : ℕ) (s : Listed) (items : List (List ℕ)) (k : BenchKeyword) (size more : ℕ) → IsFine s size → AreItems items → size + 2 ≤ more → Fine more (ported line s items k)
 unfolding ported
-ported_fine line s items Input size more is items_are h = bind_fine (port_of line items) (λ n. Ok (with_input s n)) IsPlainName (λ x. IsFine x more) (port_fine line items items_are) (λ n name. input_fine s size more n is name h)
-ported_fine line s items Output size more is items_are h = bind_fine (port_of line items) (λ n. Ok (with_output s n)) IsPlainName (λ x. IsFine x more) (port_fine line items items_are) (λ n name. output_fine s size more n is name h)
+ported_fine line s items Input size more is items_are h =
+    bind_fine (port_of line items) (λ n. Ok (with_input s n)) IsPlainName (λ x. IsFine x more)
+    (port_fine line items items_are) (λ n name. input_fine s size more n is name h)
+ported_fine line s items Output size more is items_are h =
+    bind_fine (port_of line items) (λ n. Ok (with_output s n)) IsPlainName (λ x. IsFine x more)
+    (port_fine line items items_are) (λ n name. output_fine s size more n is name h)
 ported_fine line s items (Gate key) size more is items_are h = tt
 ported_fine line s items Dff size more is items_are h = tt
 ported_fine line s items Lut size more is items_are h = tt
 ported_fine line s items Constant size more is items_are h = tt
 ported_fine line s items Unknown size more is items_are h = tt
 
-driven_fine : (line : ℕ) (s : Listed) (output word : Name) (items : List (List ℕ)) (k : Keyword) (size more : ℕ) → IsFine s size → IsWord output → AreItems items → size + 2 + length items ≤ more → Fine more (driven line s output word items k)
+driven_fine : (line : ℕ) (s : Listed) (output word : Name) (items : List (List ℕ)) (k : BenchKeyword) (size more : ℕ) →
+    IsFine s size → IsWord output → AreItems items → size + 2 + length items ≤ more →
+    Fine more (driven line s output word items k)
 unfolding driven
 driven_fine line s output word items (Gate key) size more is out items_are h =
-    bind_fine (names_of line items) (λ inputs. table_of line key output inputs >>= λ t. Ok (with_table s t)) (λ ns. AreOperands ns (length items)) (λ x. IsFine x more) (names_fine line items items_are)
-    (λ inputs are. bind_fine (table_of line key output inputs) (λ t. Ok (with_table s t)) (λ t. IsGateTable t × (length t.inputs ≤ length items)) (λ x. IsFine x more) (gate_fine line key output inputs (length items) out are)
+    bind_fine (names_of line items) (λ inputs. table_of line key output inputs >>= λ t. Ok (with_table s t))
+    (λ ns. AreOperandNames ns (length items)) (λ x. IsFine x more) (names_fine line items items_are)
+    (λ inputs are. bind_fine (table_of line key output inputs) (λ t. Ok (with_table s t)) (λ t. IsGateTable t ×
+    (length t.inputs ≤ length items)) (λ x. IsFine x more) (gate_fine line key output inputs (length items) out are)
     (λ t gate. table_fine s size more t is gate.0 (omega (arith, gate.1, h))))
 driven_fine line s output word items Dff size more is out items_are h =
-    bind_fine (names_of line items) (λ inputs. latch_from line output inputs >>= λ l. Ok (with_latch s l)) (λ ns. AreOperands ns (length items)) (λ x. IsFine x more) (names_fine line items items_are)
+    bind_fine (names_of line items) (λ inputs. latch_from line output inputs >>= λ l. Ok (with_latch s l))
+    (λ ns. AreOperandNames ns (length items)) (λ x. IsFine x more) (names_fine line items items_are)
     (λ inputs are. bind_fine (latch_from line output inputs) (λ l. Ok (with_latch s l)) IsPlainLatch (λ x. IsFine x more) (dff_fine line output inputs (length items) out are)
     (λ l latch. latch_fine s size more l is latch (omega (arith, h))))
 driven_fine line s output word items Lut size more is out items_are h = tt
@@ -125,7 +142,8 @@ driven_fine line s output word items Input size more is out items_are h = tt
 driven_fine line s output word items Output size more is out items_are h = tt
 driven_fine line s output word items Unknown size more is out items_are h = tt
 
-driven_by_fine : (line : ℕ) (s : Listed) (output : Name) (items : List (List ℕ)) (size more : ℕ) → IsFine s size → IsWord output → AreItems items → size + 2 + length items ≤ more → Fine more (driven_by line s output items)
+driven_by_fine : (line : ℕ) (s : Listed) (output : Name) (items : List (List ℕ)) (size more : ℕ) → IsFine s size →
+    IsWord output → AreItems items → size + 2 + length items ≤ more → Fine more (driven_by line s output items)
 unfolding driven_by
 driven_by_fine line s output [] size more is out items_are h = tt
 driven_by_fine line s output (w ∷ items) size more is out items_are h = driven_fine line s output w items (keyword_of w) size more is out items_are.1 (omega (arith, h))
@@ -144,7 +162,9 @@ stated_fine line s (w ∷ m ∷ items) size more is items_are h =
 step_fine : (line : ℕ) (s : Listed) (l : Line) (size : ℕ) → IsFine s size → Fine (size + length l.text) (step line s l)
 unfolding step
 step_fine line s l size is =
-    cond_both (nat_lt 1048576 (length l.text)) (Err (LineTooLong line)) (if has_long (items_of (content_of l)) then Err (NameTooLong line) else stated line s (items_of (content_of l))) (Fine (size + length l.text))
+    cond_both (nat_lt 1048576 (length l.text)) (Err (LineTooLong line))
+    (if has_long (items_of (content_of l)) then Err (NameTooLong line) else stated line s (items_of (content_of l)))
+    (Fine (size + length l.text))
     (λ e. tt)
     (λ e. cond_both (has_long (items_of (content_of l))) (Err (NameTooLong line)) (stated line s (items_of (content_of l))) (Fine (size + length l.text))
     (λ f. tt)
@@ -160,24 +180,25 @@ steps_fine line s (l ∷ ls) size is =
     bind_fine (step line s l) (λ t. steps (line + 1) t ls) (λ t. IsFine t (size + length l.text)) (λ t. IsFine t (size + sum_by line_size (l ∷ ls))) (step_fine line s l size is)
     (λ t fine. subst (λ (k : ℕ). Fine k (steps (line + 1) t ls)) (omega (arith, sum_by-cons line_size l ls)) (steps_fine (line + 1) t ls (size + length l.text) fine))
 
-last_size : (front : List ℕ) → sum_by line_size (last_line front) ≤ length front
+last_size : (prefix : List ℕ) → sum_by line_size (last_line prefix) ≤ length prefix
 last_size [] = omega arith
-last_size (b ∷ front) = omega (arith, sum_by-cons line_size (record { text = b ∷ front; ended = false }) [])
+last_size (b ∷ prefix) = omega (arith, sum_by-cons line_size (record { text = b ∷ prefix; ended = false }) [])
 
-lines_size : (front bytes : List ℕ) → sum_by line_size (lines_from front bytes) ≤ length front + length bytes
+lines_size : (prefix bytes : List ℕ) → sum_by line_size (lines_from prefix bytes) ≤ length prefix + length bytes
 unfolding lines_from
-lines_size front [] = omega (arith, last_size front)
-lines_size front (b ∷ bs) =
-    cond_both (b == 10) (record { text = front; ended = true } ∷ lines_from [] bs) (lines_from (front ++ b ∷ []) bs) (λ (ls : List Line). sum_by line_size ls ≤ length front + suc (length bs))
-    (λ e. omega (arith, sum_by-cons line_size (record { text = front; ended = true }) (lines_from [] bs), lines_size [] bs))
-    (λ e. omega (arith, lines_size (front ++ b ∷ []) bs, length-append front (b ∷ [])))
+lines_size prefix [] = omega (arith, last_size prefix)
+lines_size prefix (b ∷ bs) =
+    cond_both (b == 10) (record { text = prefix; ended = true } ∷ lines_from [] bs) (lines_from (prefix ++ b ∷ []) bs) (λ (ls : List Line). sum_by line_size ls ≤ length prefix + suc (length bs))
+    (λ e. omega (arith, sum_by-cons line_size (record { text = prefix; ended = true }) (lines_from [] bs), lines_size [] bs))
+    (λ e. omega (arith, lines_size (prefix ++ b ∷ []) bs, length-append prefix (b ∷ [])))
 
 listed_by_fine : (bytes : List ℕ) → Fine (0 + sum_by line_size (lines_of bytes)) (listed_of bytes)
 unfolding listed_of
 listed_by_fine bytes = steps_fine 1 nothing (lines_of bytes) 0 nothing_fine
 
 pub text_fine : (bytes : List ℕ) (l : Listed) → listed_of bytes ≡ Ok l → IsFine l (length bytes)
-text_fine bytes l e = fine_more l (0 + sum_by line_size (lines_of bytes)) (length bytes) (omega (arith, lines_size [] bytes)) (subst (Fine (0 + sum_by line_size (lines_of bytes))) e (listed_by_fine bytes))
+text_fine bytes l e = fine_more l (0 + sum_by line_size (lines_of bytes)) (length bytes)
+    (omega (arith, lines_size [] bytes)) (subst (Fine (0 + sum_by line_size (lines_of bytes))) e (listed_by_fine bytes))
 
 -- ---- the listed document
 
@@ -194,7 +215,7 @@ latch_is l is = record {
   };
 }
 
-pub fine_listed : (l : Listed) (size : ℕ) → IsFine l size → IsListed l
+pub fine_listed : (l : Listed) (size : ℕ) → IsFine l size → IsWellListed l
 unfolding is_name
 fine_listed l size is = record {
   model = subst IsName (sym is.model) (record { spelled = refl; short = omega arith });
@@ -221,8 +242,10 @@ fine_listed l size is = record {
 free_is : (names : List Name) (l : LatchLine) → IsPlainLatch l → IsFreeOf names l.latch.control
 free_is names l is = subst (IsFreeOf names) (sym is.control) tt
 
-pub fine_free : (l : Listed) (size : ℕ) → IsFine l size → AreFree l.document
-fine_free l size is = at_all (λ (x : LatchLine). IsFreeOf (map table_output l.document.tables) x.latch.control) l.document.latches (λ k x e. free_is (map table_output l.document.tables) x (all_at IsPlainLatch l.document.latches k x is.latches e))
+pub fine_free : (l : Listed) (size : ℕ) → IsFine l size → AreControlsFree l.document
+fine_free l size is = at_all (λ (x : LatchLine). IsFreeOf (map table_output l.document.tables) x.latch.control)
+    l.document.latches (λ k x e. free_is (map table_output l.document.tables) x
+    (all_at IsPlainLatch l.document.latches k x is.latches e))
 
 -- ---- costs
 
@@ -267,7 +290,9 @@ pub fine_small : (l : Listed) (size : ℕ) → IsFine l size → 2 * source_coun
 unfolding cost
 fine_small l size is =
     let ls = l.document.latches in
-    let sources : length (l.document.inputs ++ map latch_output (map latch_of ls)) ≡ length l.document.inputs + length ls = length-append l.document.inputs (map latch_output (map latch_of ls)) ∙ ap (λ k. length l.document.inputs + k) (length-map (map latch_of ls) latch_output ∙ length-map ls latch_of) in
+    let sources : length (l.document.inputs ++ map latch_output (map latch_of ls)) ≡
+    length l.document.inputs + length ls = length-append l.document.inputs (map latch_output (map latch_of ls))
+    ∙ ap (λ k. length l.document.inputs + k) (length-map (map latch_of ls) latch_output ∙ length-map ls latch_of) in
     omega (arith, is.small, tables_small l.document.tables is.tables, sources)
 
 pub fine_few : (l : Listed) (size : ℕ) → IsFine l size → length l.document.tables ≤ size
@@ -275,10 +300,10 @@ fine_few l size is = omega (arith, is.small, tables_few l.document.tables is.tab
 
 -- ---- texts
 
-pub texts_list : (bytes : List ℕ) (l : Listed) → listed_of bytes ≡ Ok l → IsListed l
+pub texts_list : (bytes : List ℕ) (l : Listed) → listed_of bytes ≡ Ok l → IsWellListed l
 texts_list bytes l e = fine_listed l (length bytes) (text_fine bytes l e)
 
-pub texts_are_free : (bytes : List ℕ) (l : Listed) → listed_of bytes ≡ Ok l → AreFree l.document
+pub texts_are_free : (bytes : List ℕ) (l : Listed) → listed_of bytes ≡ Ok l → AreControlsFree l.document
 texts_are_free bytes l e = fine_free l (length bytes) (text_fine bytes l e)
 
 pub texts_are_small : (bytes : List ℕ) (l : Listed) → listed_of bytes ≡ Ok l → 2 * source_count l.document + cost l.document ≤ length bytes

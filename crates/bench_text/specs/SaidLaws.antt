@@ -22,7 +22,9 @@ use Rattle.blif_text.specs.SaidLaws.{bind_fine}
 use Rattle.net_document.specs.Contents.{is_nothing}
 use Rattle.bench_text.specs.declared.keywords.GateKey.{GateKey}
 use Rattle.bench_text.specs.Items.{is_mark, is_mark_item}
-use Rattle.bench_text.specs.Statements.{nothing, with_input, with_output, with_latch, with_table, operands_from, operands_of, names_by, names_of, alone, is_counted, gate_table, table_of, plain_latch, latch_of as latch_from, port_by, port_of}
+use Rattle.bench_text.specs.Statements.{nothing, with_input, with_output, with_latch, with_table, operands_from}
+use Rattle.bench_text.specs.Statements.{operands_of, names_by, names_of, alone, is_counted, gate_table, table_of}
+use Rattle.bench_text.specs.Statements.{plain_latch, latch_of as latch_from, port_by, port_of}
 
 -- ---- items, names, latches and gates
 
@@ -112,7 +114,19 @@ nothing_fine = record {
 
 -- the document of a prefix is within the size of a longer text
 pub fine_more : (s : Listed) (size more : ℕ) → size ≤ more → IsFine s size → IsFine s more
-fine_more s size more h is = record { model = is.model; inputs = is.inputs; outputs = is.outputs; clocks = is.clocks; latches = is.latches; tables = is.tables; driven = is.driven; used = is.used; small = omega (arith, is.small, h); named = omega (arith, is.named, h) }
+fine_more s size more h is = record {
+  model = is.model;
+  inputs = is.inputs;
+  outputs = is.outputs;
+  clocks = is.clocks;
+  latches = is.latches;
+  tables = is.tables;
+  driven = is.driven;
+  used = is.used;
+  small =
+      omega (arith, is.small, h);
+  named = omega (arith, is.named, h);
+}
 
 pub input_fine : (s : Listed) (size more : ℕ) (n : Name) → IsFine s size → IsPlainName n → size + 2 ≤ more → IsFine (with_input s n) more
 input_fine s size more n is name h = record {
@@ -129,7 +143,20 @@ input_fine s size more n is name h = record {
 }
 
 pub output_fine : (s : Listed) (size more : ℕ) (n : Name) → IsFine s size → IsPlainName n → size + 2 ≤ more → IsFine (with_output s n) more
-output_fine s size more n is name h = record { model = is.model; inputs = is.inputs; outputs = All-push IsPlainName s.document.outputs n is.outputs name; clocks = is.clocks; latches = is.latches; tables = is.tables; driven = is.driven; used = is.used; small = omega (arith, is.small, h); named = omega (arith, is.named, h, length-append s.document.outputs (n ∷ [])) }
+output_fine s size more n is name h = record {
+  model = is.model;
+  inputs = is.inputs;
+  outputs = All-push IsPlainName s.document.outputs n is.outputs name;
+  clocks = is.clocks;
+  latches =
+      is.latches;
+  tables = is.tables;
+  driven = is.driven;
+  used = is.used;
+  small = omega (arith, is.small, h);
+  named =
+      omega (arith, is.named, h, length-append s.document.outputs (n ∷ []));
+}
 
 pub latch_fine : (s : Listed) (size more : ℕ) (l : LatchLine) → IsFine s size → IsPlainLatch l → size + 2 ≤ more → IsFine (with_latch s l) more
 latch_fine s size more l is latch h =
@@ -143,10 +170,15 @@ latch_fine s size more l is latch h =
       latches = All-push IsPlainLatch ls l is.latches latch;
       tables = is.tables;
       driven = λ n.
-          let outs : times n (map latch_output (map latch_of (ls ++ l ∷ []))) ≡ times n (map latch_output (map latch_of ls)) + times n (l.latch.output ∷ []) = ap (λ (xs : List Latch). times n (map latch_output xs)) latches ∙ ap (times n) (map-append latch_output (map latch_of ls) (l.latch ∷ [])) ∙ times-append n (map latch_output (map latch_of ls)) (l.latch.output ∷ []) in
+          let outs : times n (map latch_output (map latch_of (ls ++ l ∷ []))) ≡
+          times n (map latch_output (map latch_of ls)) + times n (l.latch.output ∷ []) =
+          ap (λ (xs : List Latch). times n (map latch_output xs)) latches
+          ∙ ap (times n) (map-append latch_output (map latch_of ls) (l.latch ∷ []))
+          ∙ times-append n (map latch_output (map latch_of ls)) (l.latch.output ∷ []) in
           omega (arith, is.driven n, times-append n s.driven (l.latch.output ∷ []), outs);
       used = λ n.
-          let ins : times n (map latch_input (ls ++ l ∷ [])) ≡ times n (map latch_input ls) + times n (l.input ∷ []) = ap (times n) (map-append latch_input ls (l ∷ [])) ∙ times-append n (map latch_input ls) (l.input ∷ []) in
+          let ins : times n (map latch_input (ls ++ l ∷ [])) ≡ times n (map latch_input ls) + times n (l.input ∷ []) =
+          ap (times n) (map-append latch_input ls (l ∷ [])) ∙ times-append n (map latch_input ls) (l.input ∷ []) in
           omega (arith, is.used n, times-append n s.used (l.input ∷ []), ins);
       small = omega (arith, is.small, h, length-append ls (l ∷ []));
       named = omega (arith, is.named, h);
@@ -180,29 +212,34 @@ table_fine s size more t is gate h =
 -- ---- operands
 
 -- words, at least one, and at most half as many as the items
-pub record AreWords (ns : List Name) (room : ℕ) : Type 0 where
+pub record AreItemWords (ns : List Name) (room : ℕ) : Type 0 where
   pub words : All IsWord ns
   pub some : 0 < length ns
   pub few : 2 * length ns ≤ room
 
-operands_fine : (names : List Name) (items : List (List ℕ)) (ns : List Name) → All IsWord names → AreItems items → operands_from names items ≡ Some ns → AreWords ns (2 * length names + length items)
+operands_fine : (names : List Name) (items : List (List ℕ)) (ns : List Name) → All IsWord names → AreItems items →
+    operands_from names items ≡ Some ns → AreItemWords ns (2 * length names + length items)
 unfolding operands_from
 operands_fine names [] ns words is e = absurd cc
 operands_fine names (w ∷ []) ns words is e = absurd cc
 operands_fine names (w ∷ m ∷ rest) ns words is e =
-    cond_both (is_mark_item w) None (if is_same m (codes ")") then (if is_nothing rest then Some (names ++ w ∷ []) else None) else (if is_same m (codes ",") then operands_from (names ++ w ∷ []) rest else None)) (λ (r : Option (List Name)). r ≡ Some ns → AreWords ns (2 * length names + suc (suc (length rest))))
+    cond_both (is_mark_item w) None (if is_same m (codes ")") then (if is_nothing rest then Some (names ++
+    w ∷ []) else None) else (if is_same m (codes ",") then operands_from (names ++ w ∷ []) rest else None))
+    (λ (r : Option (List Name)). r ≡ Some ns → AreItemWords ns (2 * length names + suc (suc (length rest))))
     (λ mark f. absurd cc)
     (λ word f.
     let all = All-push IsWord names w words (record { short = is.0.short; plain = is.0.plain word }) in
     let long = length-append names (w ∷ []) in
-    cond_both (is_same m (codes ")")) (if is_nothing rest then Some (names ++ w ∷ []) else None) (if is_same m (codes ",") then operands_from (names ++ w ∷ []) rest else None) (λ (r : Option (List Name)). r ≡ Some ns → AreWords ns (2 * length names + suc (suc (length rest))))
-    (λ closing g. cond_both (is_nothing rest) (Some (names ++ w ∷ [])) None (λ (r : Option (List Name)). r ≡ Some ns → AreWords ns (2 * length names + suc (suc (length rest))))
+    cond_both (is_same m (codes ")")) (if is_nothing rest then Some (names ++ w ∷ []) else None)
+    (if is_same m (codes ",") then operands_from (names ++ w ∷ []) rest else None) (λ (r : Option (List Name)). r ≡
+    Some ns → AreItemWords ns (2 * length names + suc (suc (length rest))))
+    (λ closing g. cond_both (is_nothing rest) (Some (names ++ w ∷ [])) None (λ (r : Option (List Name)). r ≡ Some ns → AreItemWords ns (2 * length names + suc (suc (length rest))))
     (λ last h.
     let same : names ++ w ∷ [] ≡ ns = cc in
-    subst (λ (xs : List Name). AreWords xs (2 * length names + suc (suc (length rest)))) same (record { words = all; some = omega (arith, long); few = omega (arith, long) }))
+    subst (λ (xs : List Name). AreItemWords xs (2 * length names + suc (suc (length rest)))) same (record { words = all; some = omega (arith, long); few = omega (arith, long) }))
     (λ more h. absurd cc)
     g)
-    (λ other g. cond_both (is_same m (codes ",")) (operands_from (names ++ w ∷ []) rest) None (λ (r : Option (List Name)). r ≡ Some ns → AreWords ns (2 * length names + suc (suc (length rest))))
+    (λ other g. cond_both (is_same m (codes ",")) (operands_from (names ++ w ∷ []) rest) None (λ (r : Option (List Name)). r ≡ Some ns → AreItemWords ns (2 * length names + suc (suc (length rest))))
     (λ comma h.
     let on = operands_fine (names ++ w ∷ []) rest ns all is.1.1 h in
     record { words = on.words; some = on.some; few = omega (arith, on.few, long) })
@@ -211,18 +248,18 @@ operands_fine names (w ∷ m ∷ rest) ns words is e =
     f)
     e
 
-bracket_fine : (items : List (List ℕ)) (ns : List Name) → AreItems items → operands_of items ≡ Some ns → AreWords ns (length items)
+bracket_fine : (items : List (List ℕ)) (ns : List Name) → AreItems items → operands_of items ≡ Some ns → AreItemWords ns (length items)
 unfolding operands_of
 bracket_fine [] ns is e = absurd cc
 bracket_fine (m ∷ rest) ns is e =
-    cond_both (is_same m (codes "(")) (operands_from [] rest) None (λ (r : Option (List Name)). r ≡ Some ns → AreWords ns (suc (length rest)))
+    cond_both (is_same m (codes "(")) (operands_from [] rest) None (λ (r : Option (List Name)). r ≡ Some ns → AreItemWords ns (suc (length rest)))
     (λ begun f.
     let on = operands_fine [] rest ns (All-nil IsWord) is.1 f in
     record { words = on.words; some = on.some; few = omega (arith, on.few) })
     (λ other f. absurd cc)
     e
 
-pub record AreOperands (ns : List Name) (room : ℕ) : Type 0 where
+pub record AreOperandNames (ns : List Name) (room : ℕ) : Type 0 where
   pub names : All IsPlainName ns
   pub some : 0 < length ns
   pub narrow : length ns ≤ 256
@@ -241,19 +278,19 @@ plain_names (w ∷ ws) all e =
     let both = both_true (is_name w) (list_all is_name ws) e in
     All-cons IsPlainName w ws (plain_name w (All-head IsWord w ws all) both.0) (plain_names ws (All-tail IsWord w ws all) both.1)
 
-names_by_fine : (line : ℕ) (r : Option (List Name)) (room : ℕ) → ((ns : List Name) → r ≡ Some ns → AreWords ns room) → IfOk (names_by line r) (λ ns. AreOperands ns room)
+names_by_fine : (line : ℕ) (r : Option (List Name)) (room : ℕ) → ((ns : List Name) → r ≡ Some ns → AreItemWords ns room) → IfOk (names_by line r) (λ ns. AreOperandNames ns room)
 names_by_fine line None room h = tt
 names_by_fine line (Some ns) room h =
     let is = h ns refl in
-    cond_both (nat_lt 256 (length ns)) (Err (TooWide line)) (if list_all is_name ns then Ok ns else Err (Syntax line)) (λ (r : Result (List Name) NetError). IfOk r (λ xs. AreOperands xs room))
+    cond_both (nat_lt 256 (length ns)) (Err (TooWide line)) (if list_all is_name ns then Ok ns else Err (Syntax line)) (λ (r : Result (List Name) NetError). IfOk r (λ xs. AreOperandNames xs room))
     (λ wide. tt)
-    (λ narrow. cond_both (list_all is_name ns) (Ok ns) (Err (Syntax line)) (λ (r : Result (List Name) NetError). IfOk r (λ xs. AreOperands xs room))
+    (λ narrow. cond_both (list_all is_name ns) (Ok ns) (Err (Syntax line)) (λ (r : Result (List Name) NetError). IfOk r (λ xs. AreOperandNames xs room))
     (λ named.
     let few : length ns ≤ 256 = grind (arith, common_steps, narrow) in
     record { names = plain_names ns is.words named; some = is.some; narrow = few; few = omega (arith, is.few) })
     (λ none. tt))
 
-pub names_fine : (line : ℕ) (items : List (List ℕ)) → AreItems items → IfOk (names_of line items) (λ ns. AreOperands ns (length items))
+pub names_fine : (line : ℕ) (items : List (List ℕ)) → AreItems items → IfOk (names_of line items) (λ ns. AreOperandNames ns (length items))
 unfolding names_of
 names_fine line items is = names_by_fine line (operands_of items) (length items) (λ ns e. bracket_fine items ns is e)
 
@@ -276,7 +313,8 @@ port_fine line items is = port_by_fine line (operands_of items) (λ ns e. (brack
 
 -- ---- gates and latches
 
-pub gate_fine : (line : ℕ) (key : GateKey) (output : Name) (inputs : List Name) (room : ℕ) → IsWord output → AreOperands inputs room → IfOk (table_of line key output inputs) (λ t. IsGateTable t × (length t.inputs ≤ room))
+pub gate_fine : (line : ℕ) (key : GateKey) (output : Name) (inputs : List Name) (room : ℕ) → IsWord output →
+    AreOperandNames inputs room → IfOk (table_of line key output inputs) (λ t. IsGateTable t × (length t.inputs ≤ room))
 unfolding table_of
 gate_fine line key output inputs room word is =
     cond_both (is_name output && is_counted key inputs) (Ok (gate_table key output inputs)) (Err (Syntax line)) (λ (r : Result Table NetError). IfOk r (λ t. IsGateTable t × (length t.inputs ≤ room)))
@@ -294,7 +332,7 @@ gate_fine line key output inputs room word is =
     ))
     (λ e. tt)
 
-pub dff_fine : (line : ℕ) (output : Name) (inputs : List Name) (room : ℕ) → IsWord output → AreOperands inputs room → IfOk (latch_from line output inputs) IsPlainLatch
+pub dff_fine : (line : ℕ) (output : Name) (inputs : List Name) (room : ℕ) → IsWord output → AreOperandNames inputs room → IfOk (latch_from line output inputs) IsPlainLatch
 unfolding latch_from
 dff_fine line output inputs room word is =
     bind_fine (alone line inputs) (λ n. if is_name output then Ok (plain_latch output n) else Err (Syntax line)) IsPlainName IsPlainLatch (alone_fine line inputs IsPlainName is.names)

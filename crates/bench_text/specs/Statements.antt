@@ -15,8 +15,8 @@ use Rattle.net_document.specs.Contents.{is_nothing, content_of}
 use Rattle.net_document.specs.Limits.{is_long_line}
 use Rattle.blif_text.specs.Words.{has_long}
 use Rattle.bench_text.specs.declared.keywords.GateKey.{GateKey}
-use Rattle.bench_text.specs.declared.keywords.Keyword.{Keyword}
-use Rattle.bench_text.specs.declared.keywords.Keyword.TheVariants.{Input, Output, Gate, Dff, Lut, Constant, Unknown}
+use Rattle.bench_text.specs.declared.keywords.BenchKeyword.{BenchKeyword}
+use Rattle.bench_text.specs.declared.keywords.BenchKeyword.TheVariants.{Input, Output, Gate, Dff, Lut, Constant, Unknown}
 use Rattle.bench_text.specs.Items.{is_mark_item, items_of}
 
 -- ---- the document so far
@@ -47,16 +47,24 @@ lower b = if nat_le 65 b && nat_le b 90 then b + 32 else b
 unfoldable pub is_key : List ℕ → List ℕ → Bool
 is_key word key = is_same (map lower word) key
 
-abbrev pub gate_key : Connective → Bool → Bool → Keyword
+abbrev pub gate_key : Connective → Bool → Bool → BenchKeyword
 gate_key connective on is_single = Gate (record { connective = connective; on = on; is_single = is_single })
 
 -- The keyword of a gate: AND, OR or XOR of its operands, or the complement. BUFF is AND of one operand, and NOT
 -- is its complement.
-unfoldable pub gate_key_of : List ℕ → Keyword
-gate_key_of w = if is_key w (codes "and") then gate_key And true false else (if is_key w (codes "nand") then gate_key And false false else (if is_key w (codes "or") then gate_key Or true false else (if is_key w (codes "nor") then gate_key Or false false else (if is_key w (codes "xor") then gate_key Xor true false else (if is_key w (codes "xnor") then gate_key Xor false false else (if is_key w (codes "not") then gate_key And false true else (if is_key w (codes "buff") || is_key w (codes "buf") then gate_key And true true else Unknown)))))))
+unfoldable pub gate_key_of : List ℕ → BenchKeyword
+gate_key_of w = if is_key w (codes "and") then gate_key And true false else (if is_key w
+    (codes "nand") then gate_key And false false else (if is_key w
+    (codes "or") then gate_key Or true false else (if is_key w (codes "nor") then gate_key Or false false
+    else (if is_key w (codes "xor") then gate_key Xor true false else (if is_key w
+    (codes "xnor") then gate_key Xor false false else (if is_key w (codes "not") then gate_key And false true
+    else (if is_key w (codes "buff") || is_key w (codes "buf") then gate_key And true true else Unknown)))))))
 
-unfoldable pub keyword_of : List ℕ → Keyword
-keyword_of w = if is_key w (codes "input") then Input else (if is_key w (codes "output") then Output else (if is_key w (codes "dff") then Dff else (if is_key w (codes "lut") then Lut else (if is_key w (codes "vdd") || is_key w (codes "gnd") then Constant else gate_key_of w))))
+unfoldable pub keyword_of : List ℕ → BenchKeyword
+keyword_of w = if is_key w (codes "input") then Input else (if is_key w
+    (codes "output") then Output else (if is_key w
+    (codes "dff") then Dff else (if is_key w (codes "lut") then Lut else (if is_key w (codes "vdd") ||
+    is_key w (codes "gnd") then Constant else gate_key_of w))))
 
 -- ---- operands
 
@@ -64,7 +72,9 @@ keyword_of w = if is_key w (codes "input") then Input else (if is_key w (codes "
 unfoldable pub operands_from : List Name → List (List ℕ) → Option (List Name)
 operands_from names [] = None
 operands_from names (w ∷ []) = None
-operands_from names (w ∷ m ∷ rest) = if is_mark_item w then None else (if is_same m (codes ")") then (if is_nothing rest then Some (names ++ w ∷ []) else None) else (if is_same m (codes ",") then operands_from (names ++ w ∷ []) rest else None))
+operands_from names (w ∷ m ∷ rest) = if is_mark_item w then None else (if is_same m
+    (codes ")") then (if is_nothing rest then Some (names ++ w ∷ []) else None) else (if is_same m
+    (codes ",") then operands_from (names ++ w ∷ []) rest else None))
 
 -- Example: `(`, `a`, `,`, `b` and `)` give a and b.
 unfoldable pub operands_of : List (List ℕ) → Option (List Name)
@@ -112,7 +122,7 @@ port_by line (Some names) = alone line names >>= λ n. (if is_name n then Ok n e
 unfoldable pub port_of : ℕ → List (List ℕ) → Result Name NetError
 port_of line items = port_by line (operands_of items)
 
-unfoldable pub ported : ℕ → Listed → List (List ℕ) → Keyword → Result Listed NetError
+unfoldable pub ported : ℕ → Listed → List (List ℕ) → BenchKeyword → Result Listed NetError
 ported line s items Input = port_of line items >>= λ n. Ok (with_input s n)
 ported line s items Output = port_of line items >>= λ n. Ok (with_output s n)
 ported line s items (Gate key) = Err (Syntax line)
@@ -123,7 +133,7 @@ ported line s items Unknown = Err (Syntax line)
 
 -- A line `output = word ..`. `LUT` isn't supported, whatever follows it; `vdd` and `gnd` aren't supported if
 -- nothing follows.
-unfoldable pub driven : ℕ → Listed → Name → Name → List (List ℕ) → Keyword → Result Listed NetError
+unfoldable pub driven : ℕ → Listed → Name → Name → List (List ℕ) → BenchKeyword → Result Listed NetError
 driven line s output word items (Gate key) = names_of line items >>= λ inputs. table_of line key output inputs >>= λ t. Ok (with_table s t)
 driven line s output word items Dff = names_of line items >>= λ inputs. latch_of line output inputs >>= λ l. Ok (with_latch s l)
 driven line s output word items Lut = Err (NotSupported line word)

@@ -16,7 +16,7 @@ fn is_mark(byte: u8) -> bool
 }
 
 /// The first item of a text and the rest after it; None if the text has no item.
-#[tactic(auto, using(text_core::specs::Cuts::cuts), unfolding(crate::specs::Items::items_from))]
+#[tactic(auto, using(text_core::specs::Splits::splits), unfolding(crate::specs::Items::items_from))]
 pub fn next_item(text: &[u8]) -> Option<(&[u8], &[u8])>
     ensures items { items_of text.now ≡ items_in result }
     ensures shorter { IfSome result (λ x. length x.1.now < length text.now) }

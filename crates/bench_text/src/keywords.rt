@@ -1,7 +1,8 @@
 //! Keywords, which are case-insensitive.
 
 ghost use Rattle.std.specs.Prelude.{◌≡◌};
-ghost use Rattle.bench_text.specs.Statements.{gate_key, lower as lower_of, is_key as is_key_of, gate_key_of as gate_key_of_word, keyword_of as keyword_of_word};
+ghost use Rattle.bench_text.specs.Statements.{gate_key, lower as lower_of, is_key as is_key_of};
+ghost use Rattle.bench_text.specs.Statements.{gate_key_of as gate_key_of_word, keyword_of as keyword_of_word};
 
 use net_core::Connective;
 
@@ -16,7 +17,7 @@ pub struct GateKey {
 
 /// The keyword of a word.
 #[derive(Clone, Copy)]
-pub enum Keyword {
+pub enum BenchKeyword {
     /// `INPUT`
     Input,
     /// `OUTPUT`
@@ -65,10 +66,10 @@ fn is_key(word: &[u8], key: &[u8]) -> bool
 }
 
 /// The keyword of a gate.
-fn gate(connective: Connective, on: bool, is_single: bool) -> Keyword
+fn gate(connective: Connective, on: bool, is_single: bool) -> BenchKeyword
     ensures { result ≡ gate_key connective on is_single }
 {
-    Keyword::Gate(GateKey {
+    BenchKeyword::Gate(GateKey {
         connective,
         on,
         is_single,
@@ -77,7 +78,7 @@ fn gate(connective: Connective, on: bool, is_single: bool) -> Keyword
 
 /// The keyword of a word that names a gate.
 #[tactic(auto, unfolding(crate::specs::Statements::gate_key_of))]
-fn gate_key_of(word: &[u8]) -> Keyword
+fn gate_key_of(word: &[u8]) -> BenchKeyword
     ensures { result ≡ gate_key_of_word word.now }
 {
     if is_key(word, b"and") {
@@ -97,25 +98,25 @@ fn gate_key_of(word: &[u8]) -> Keyword
     } else if is_key(word, b"buff") || is_key(word, b"buf") {
         gate(Connective::And, true, true)
     } else {
-        Keyword::Unknown
+        BenchKeyword::Unknown
     }
 }
 
 /// The keyword of a word.
 #[tactic(auto, unfolding(crate::specs::Statements::keyword_of))]
-pub fn keyword_of(word: &[u8]) -> Keyword
+pub fn keyword_of(word: &[u8]) -> BenchKeyword
     ensures { result ≡ keyword_of_word word.now }
 {
     if is_key(word, b"input") {
-        Keyword::Input
+        BenchKeyword::Input
     } else if is_key(word, b"output") {
-        Keyword::Output
+        BenchKeyword::Output
     } else if is_key(word, b"dff") {
-        Keyword::Dff
+        BenchKeyword::Dff
     } else if is_key(word, b"lut") {
-        Keyword::Lut
+        BenchKeyword::Lut
     } else if is_key(word, b"vdd") || is_key(word, b"gnd") {
-        Keyword::Constant
+        BenchKeyword::Constant
     } else {
         gate_key_of(word)
     }

@@ -14,6 +14,6 @@ mod operands;
 mod walking;
 
 pub use items::next_item;
-pub use keywords::{GateKey, Keyword};
+pub use keywords::{BenchKeyword, GateKey};
 pub use net_document::{Listed, NetError};
 pub use walking::read_listed;

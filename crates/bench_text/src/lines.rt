@@ -4,12 +4,14 @@
 ghost use Rattle.std.specs.Prelude.{◌≡◌, ℕ, ◌<◌, ◌≤◌, List, [], ◌∷◌, ◌++◌, length, OnOk};
 ghost use Rattle.blif_text.specs.Reading.{Gives};
 ghost use Rattle.bench_text.specs.Items.{items_of};
-ghost use Rattle.bench_text.specs.Statements.{is_counted as is_counted_of, table_of as table_of_names, latch_of as latch_of_names};
-ghost use Rattle.bench_text.specs.Statements.{ported, driven, driven_by, keyword_of as keyword_of_word, stated, step, with_table, with_latch};
-ghost use Rattle.bench_text.specs.declared.keywords.Keyword.TheVariants.{Input, Output, Gate, Dff};
+ghost use Rattle.bench_text.specs.Statements.{is_counted as is_counted_of, table_of as table_of_names};
+ghost use Rattle.bench_text.specs.Statements.{latch_of as latch_of_names};
+ghost use Rattle.bench_text.specs.Statements.{ported, driven, driven_by, keyword_of as keyword_of_word, stated, step};
+ghost use Rattle.bench_text.specs.Statements.{with_table, with_latch};
+ghost use Rattle.bench_text.specs.declared.keywords.BenchKeyword.TheVariants.{Input, Output, Gate, Dff};
 
 use crate::items::{has_long, is_item, is_mark_item, next_item};
-use crate::keywords::{GateKey, Keyword, keyword_of};
+use crate::keywords::{BenchKeyword, GateKey, keyword_of};
 use crate::operands::{alone, names_of, port_of};
 use net_core::Whole;
 use net_document::{
@@ -51,8 +53,8 @@ fn port(
     ensures { Gives (λ _. listed.new) result (ported line listed.old (items_of text.now) (keyword_of_word word.now)) }
 {
     match keyword_of(word) {
-        Keyword::Input => take_input(alloc, line, listed, text),
-        Keyword::Output => take_output(alloc, line, listed, text),
+        BenchKeyword::Input => take_input(alloc, line, listed, text),
+        BenchKeyword::Output => take_output(alloc, line, listed, text),
         _ => Err(NetError::Syntax(line)),
     }
 }
@@ -121,7 +123,8 @@ fn take_gate(
     key: GateKey,
     text: &[u8],
 ) -> Result<(), NetError>
-    ensures { (word : List ℕ) → Gives (λ _. listed.new) result (driven line listed.old output.now word (items_of text.now) (Gate key)) }
+    ensures { (word : List ℕ) → Gives (λ _. listed.new) result
+        (driven line listed.old output.now word (items_of text.now) (Gate key)) }
 {
     let inputs = names_of(alloc, line, text)?;
     let table = table_of(alloc, line, key, output, inputs)?;
@@ -185,7 +188,8 @@ fn take_latch(
     output: &[u8],
     text: &[u8],
 ) -> Result<(), NetError>
-    ensures { (word : List ℕ) → Gives (λ _. listed.new) result (driven line listed.old output.now word (items_of text.now) Dff) }
+    ensures { (word : List ℕ) → Gives (λ _. listed.new) result
+        (driven line listed.old output.now word (items_of text.now) Dff) }
 {
     let inputs = names_of(alloc, line, text)?;
     let latch = latch_of(alloc, line, output, inputs)?;
@@ -203,13 +207,14 @@ fn drive(
     word: &[u8],
     text: &[u8],
 ) -> Result<(), NetError>
-    ensures { Gives (λ _. listed.new) result (driven line listed.old output.now word.now (items_of text.now) (keyword_of_word word.now)) }
+    ensures { Gives (λ _. listed.new) result (driven line listed.old output.now word.now (items_of text.now)
+        (keyword_of_word word.now)) }
 {
     match keyword_of(word) {
-        Keyword::Gate(key) => take_gate(alloc, line, listed, output, key, text),
-        Keyword::Dff => take_latch(alloc, line, listed, output, text),
-        Keyword::Lut => Err(NetError::NotSupported(line, Name::of(alloc, word)?)),
-        Keyword::Constant => {
+        BenchKeyword::Gate(key) => take_gate(alloc, line, listed, output, key, text),
+        BenchKeyword::Dff => take_latch(alloc, line, listed, output, text),
+        BenchKeyword::Lut => Err(NetError::NotSupported(line, Name::of(alloc, word)?)),
+        BenchKeyword::Constant => {
             if next_item(text).is_some() {
                 return Err(NetError::Syntax(line));
             }
@@ -241,10 +246,10 @@ fn drive_by(
 fn state(alloc: Global, line: u32, listed: &mut Listed, text: &[u8]) -> Result<(), NetError>
     ensures { Gives (λ _. listed.new) result (stated line listed.old (items_of text.now)) }
 {
-    let Some((word, behind)) = next_item(text) else {
+    let Some((word, after)) = next_item(text) else {
         return Ok(());
     };
-    let Some((mark, rest)) = next_item(behind) else {
+    let Some((mark, rest)) = next_item(after) else {
         return Err(NetError::Syntax(line));
     };
     if is_mark_item(word) {
@@ -253,7 +258,7 @@ fn state(alloc: Global, line: u32, listed: &mut Listed, text: &[u8]) -> Result<(
     if is_item(mark, b'=') {
         drive_by(alloc, line, listed, word, rest)
     } else {
-        port(alloc, line, listed, word, behind)
+        port(alloc, line, listed, word, after)
     }
 }
 

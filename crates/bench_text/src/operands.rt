@@ -5,7 +5,8 @@ ghost use Rattle.std.specs.List.{list_all};
 ghost use Rattle.net_theory.specs.Document.{is_name as is_name_of};
 ghost use Rattle.blif_text.specs.Reading.{Gives};
 ghost use Rattle.bench_text.specs.Items.{items_of};
-ghost use Rattle.bench_text.specs.Statements.{operands_of as operands_of_items, operands_from, names_of as names_of_items, port_of as port_of_items, alone as alone_of};
+ghost use Rattle.bench_text.specs.Statements.{operands_of as operands_of_items, operands_from};
+ghost use Rattle.bench_text.specs.Statements.{names_of as names_of_items, port_of as port_of_items, alone as alone_of};
 ghost use Rattle.std.specs.Option.{option_map};
 
 use crate::items::{is_item, is_mark_item, next_item};
@@ -17,7 +18,8 @@ use std::alloc::{AllocError, Global};
 /// the parenthesis ends the text.
 #[tactic(auto, unfolding(crate::specs::Statements::operands_from))]
 fn add_operands(alloc: Global, names: &mut Vec<Name>, text: &[u8]) -> Result<bool, AllocError>
-    ensures operands { IfOk result (λ closed. (if closed then Some names.new.items else None) ≡ operands_from names.old.items (items_of text.now)) }
+    ensures operands { IfOk result (λ closed. (if closed then Some names.new.items else None) ≡
+        operands_from names.old.items (items_of text.now)) }
     ensures some { IfOk result (λ closed. closed ≡ true → 0 < length names.new.items) }
 {
     let mut left = text;
@@ -46,7 +48,8 @@ fn add_operands(alloc: Global, names: &mut Vec<Name>, text: &[u8]) -> Result<boo
 
 /// The words up to the closing parenthesis, which must end the text; None if they aren't separated by commas.
 fn closed_operands(alloc: Global, text: &[u8]) -> Result<Option<Vec<Name>>, AllocError>
-    ensures operands { IfOk result (λ found. option_map (λ names. names.items) found ≡ operands_from [] (items_of text.now)) }
+    ensures operands { IfOk result (λ found. option_map (λ names. names.items) found ≡
+        operands_from [] (items_of text.now)) }
     ensures some { IfOk result (λ found. IfSome found (λ names. 0 < length names.items)) }
 {
     let mut names = Vec::new(alloc);
@@ -60,7 +63,8 @@ fn closed_operands(alloc: Global, text: &[u8]) -> Result<Option<Vec<Name>>, Allo
 /// The words in parentheses.
 #[tactic(auto, unfolding(crate::specs::Statements::operands_of))]
 fn operands_of(alloc: Global, text: &[u8]) -> Result<Option<Vec<Name>>, AllocError>
-    ensures operands { IfOk result (λ found. option_map (λ names. names.items) found ≡ operands_of_items (items_of text.now)) }
+    ensures operands { IfOk result (λ found. option_map (λ names. names.items) found ≡
+        operands_of_items (items_of text.now)) }
     ensures some { IfOk result (λ found. IfSome found (λ names. 0 < length names.items)) }
 {
     let Some((mark, rest)) = next_item(text) else {

@@ -2,7 +2,7 @@
 
 ghost use Rattle.std.specs.Prelude.{◌≡◌, ◌+◌, ◌*◌, ◌≤◌, ◌<◌, ◌^◌, length, IfOk};
 ghost use Rattle.blif_text.specs.Reading.{Gives};
-ghost use Rattle.net_document.specs.Listed.{IsListed, AreFree};
+ghost use Rattle.net_document.specs.Listed.{IsWellListed, AreControlsFree};
 ghost use Rattle.net_theory.specs.Cost.{cost};
 ghost use Rattle.net_theory.specs.NetOf.{source_count};
 ghost use Rattle.bench_text.specs.Statements.{nothing as nothing_of, listed_of};
@@ -55,8 +55,8 @@ fn read_lines(alloc: Global, bytes: &[u8]) -> Result<Listed, NetError>
 pub fn read_listed(alloc: Global, bytes: &[u8]) -> Result<Listed, NetError>
     requires { length bytes.now < 2 ^ 31 }
     ensures exact { Gives (λ l. l) result (listed_of bytes.now) }
-    ensures listed { IfOk result IsListed }
-    ensures free { IfOk result (λ l. AreFree l.document) }
+    ensures listed { IfOk result IsWellListed }
+    ensures free { IfOk result (λ l. AreControlsFree l.document) }
     ensures few { IfOk result (λ l. length l.document.tables ≤ length bytes.now) }
     ensures small { IfOk result (λ l. 2 * source_count l.document + cost l.document ≤ length bytes.now) }
 {

@@ -43,9 +43,9 @@ fn size_by<E: Encoding>(alloc: Global, encoding: &E, spec: &Spec, r: u32) -> Opt
         clauses: 0,
         literals: 0,
     };
-    for part in encoding.parts(alloc, spec, r).ok()? {
+    for subproblem in encoding.subproblems(alloc, spec, r).ok()? {
         let basis = Basis::new(u16::MAX);
-        let cnf = encoding.formula(alloc, spec, basis, r, &part).ok()?;
+        let cnf = encoding.formula(alloc, spec, basis, r, &subproblem).ok()?;
         count(&mut size, &cnf);
     }
     Some(size)

@@ -3,11 +3,11 @@
 ghost use Rattle.std.specs.Prelude.{◌≤◌, ◌<◌, Some};
 ghost use Rattle.window_theory.specs.Paths.{IsGate};
 ghost use Rattle.window_theory.specs.Window.{IsPartnerOrNone};
-ghost use Rattle.window_core.specs.Readers.{AreReaders};
+ghost use Rattle.window_core.specs.Fanouts.{AreFanouts};
 
 use net_core::Net;
 use std::alloc::{AllocError, Global};
-use window_core::{Readers, partners_by, readers_of, spec_of, window_by};
+use window_core::{Fanouts, fanouts_of, partners_by, spec_of, window_by};
 
 /// The number of windows, and totals over all of them.
 #[derive(Clone, Copy)]
@@ -23,20 +23,20 @@ pub struct Count {
 fn count_windows(
     alloc: Global,
     net: &Net,
-    readers: &Readers,
+    fanouts: &Fanouts,
     root: u32,
     partner: Option<u32>,
     first: u32,
     count: &mut Count,
 ) -> Result<(), AllocError>
-    requires readers { AreReaders net.now readers.now }
+    requires fanouts { AreFanouts net.now fanouts.now }
     requires root { IsGate net.now root }
     requires partner { IsPartnerOrNone net.now root partner }
     requires first { 1 ≤ first }
 {
     let _sources = net.sources(); // for the prover
     for size in first..6 {
-        let Some(window) = window_by(alloc, net, readers, root, partner, size)? else {
+        let Some(window) = window_by(alloc, net, fanouts, root, partner, size)? else {
             continue;
         };
         let spec = spec_of(alloc, net, &window)?;
@@ -55,17 +55,17 @@ fn count_windows(
 fn count_root(
     alloc: Global,
     net: &Net,
-    readers: &Readers,
+    fanouts: &Fanouts,
     root: u32,
     count: &mut Count,
 ) -> Result<(), AllocError>
-    requires readers { AreReaders net.now readers.now }
+    requires fanouts { AreFanouts net.now fanouts.now }
     requires root { IsGate net.now root }
 {
-    count_windows(alloc, net, readers, root, None, 1, count)?;
-    let partners = partners_by(alloc, net, readers, root)?;
+    count_windows(alloc, net, fanouts, root, None, 1, count)?;
+    let partners = partners_by(alloc, net, fanouts, root)?;
     for i in 0..partners.len() {
-        count_windows(alloc, net, readers, root, Some(partners[i]), 2, count)?;
+        count_windows(alloc, net, fanouts, root, Some(partners[i]), 2, count)?;
     }
     Ok(())
 }
@@ -79,10 +79,10 @@ pub fn count_all(alloc: Global, net: &Net) -> Result<Count, AllocError> {
         outputs: 0,
         rows: 0,
     };
-    let readers = readers_of(alloc, net)?;
+    let fanouts = fanouts_of(alloc, net)?;
     let first = net.sources() + 1;
     for i in 0..net.gates().len() {
-        count_root(alloc, net, &readers, first + i as u32, &mut count)?;
+        count_root(alloc, net, &fanouts, first + i as u32, &mut count)?;
     }
     Ok(count)
 }

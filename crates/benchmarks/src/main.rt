@@ -92,8 +92,8 @@ fn report_formulas(
 }
 
 /// The report of the number of gates after the changes that a word names, at a node.
-fn report_changes(alloc: Global, word: &str, place: &str) -> Result<String, AllocError> {
-    let root = match place.parse::<u32>() {
+fn report_changes(alloc: Global, word: &str, node: &str) -> Result<String, AllocError> {
+    let root = match node.parse::<u32>() {
         Ok(root) => root,
         Err(_) => 50_000,
     };

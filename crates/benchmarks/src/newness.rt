@@ -16,9 +16,9 @@ pub struct Counted {
 
 impl Counted {
     /// Counts one more addition.
-    fn count(&mut self, is_new: bool) {
+    fn count(&mut self, is_unsubsumed: bool) {
         self.additions = self.additions.saturating_add(1);
-        self.new = self.new.saturating_add(u64::from(is_new));
+        self.new = self.new.saturating_add(u64::from(is_unsubsumed));
     }
 }
 
@@ -31,7 +31,7 @@ fn feed_line(
 ) -> Result<(), Fault> {
     let line = read_line(alloc, text)?;
     if let Line::Add { lits, .. } = &line {
-        counted.count(checker.is_new(lits));
+        counted.count(checker.is_unsubsumed(lits));
     }
     Ok(checker.feed(line)?)
 }

@@ -23,7 +23,7 @@ pub enum Answer {
 
 /// The outcome of a search.
 #[derive(Clone, Copy)]
-pub struct Outcome {
+pub struct SolveOutcome {
     /// How the formula was decided.
     pub answer: Answer,
     /// The number of conflicts, which are the additions of the log; 0 if the formula is satisfied.
@@ -33,7 +33,7 @@ pub struct Outcome {
 }
 
 /// The outcome that a log of the solver shows.
-fn outcome_of(alloc: Global, answer: Answer, log: &Log) -> Result<Outcome, AllocError> {
+fn outcome_of(alloc: Global, answer: Answer, log: &Log) -> Result<SolveOutcome, AllocError> {
     let mut conflicts = 0u64;
     let mut hints = 0u64;
     let mut left = log.lines();
@@ -43,7 +43,7 @@ fn outcome_of(alloc: Global, answer: Answer, log: &Log) -> Result<Outcome, Alloc
             hints = hints.saturating_add(shown.len() as u64);
         }
     }
-    Ok(Outcome {
+    Ok(SolveOutcome {
         answer,
         conflicts,
         hints,
@@ -51,9 +51,9 @@ fn outcome_of(alloc: Global, answer: Answer, log: &Log) -> Result<Outcome, Alloc
 }
 
 /// Solves a formula.
-fn solve_cnf(alloc: Global, cnf: &Cnf) -> Result<Outcome, AllocError> {
+fn solve_cnf(alloc: Global, cnf: &Cnf) -> Result<SolveOutcome, AllocError> {
     match Cdcl::solve(alloc, cnf, BUDGET)? {
-        Solved::Sat(_) => Ok(Outcome {
+        Solved::Sat(_) => Ok(SolveOutcome {
             answer: Answer::Satisfied,
             conflicts: 0,
             hints: 0,
@@ -64,7 +64,7 @@ fn solve_cnf(alloc: Global, cnf: &Cnf) -> Result<Outcome, AllocError> {
 }
 
 /// Solves the formula at the beginning of a text.
-pub fn solve_front(alloc: Global, text: &[u8]) -> Result<Outcome, Fault> {
+pub fn solve_front(alloc: Global, text: &[u8]) -> Result<SolveOutcome, Fault> {
     let (cnf, _log) = formula(alloc, text)?;
     Ok(solve_cnf(alloc, &cnf)?)
 }

@@ -1,4 +1,4 @@
-//! Measures the cost of changing a net: substituting a chain of one step for a gate (`splice`), removing dangling
+//! Measures the cost of changing a net: substituting a chain of one step for a gate (`rebuild_substituted`), removing dangling
 //! gates (`drop`), and building the index of a net (`index`), each 200 times on a fixed pseudorandom net of
 //! 100,000 gates.
 ghost use Rattle.std.specs.Prelude.{◌≡◌, ◌+◌, ◌≤◌, ◌<◌, ◌^◌, length, vec_len, IfOk, All};
@@ -6,10 +6,10 @@ ghost use Rattle.net_theory.specs.Net.{AreGates, IsNet, IsSigBelow};
 ghost use Rattle.window_theory.specs.Window.{Belongs};
 
 use chain_core::read_chain;
-use net_core::{Gate, Net, Op, Sig, drop_dead};
+use net_core::{Gate, Net, Op, Sig, remove_dangling};
 use std::alloc::{AllocError, Global};
-use subst_core::{WindowLists, splice};
-use window_core::{Window, readers_of, window};
+use subst_core::{WindowLists, rebuild_substituted};
+use window_core::{Window, fanouts_of, window};
 
 /// The next number of a linear congruential generator (Numerical Recipes).
 fn next(seed: u32) -> u32 {
@@ -17,12 +17,12 @@ fn next(seed: u32) -> u32 {
 }
 
 /// A pseudorandom node of the last 2,000 below `end`.
-fn place_below(seed: u32, end: u32) -> Sig
+fn node_below(seed: u32, end: u32) -> Sig
     requires { 2 ≤ end }
     ensures { IsSigBelow end result }
 {
     let span = if end - 1 < 2000 { end - 1 } else { 2000 };
-    Sig::Place(end - 1 - (seed >> 4) % span)
+    Sig::Node(end - 1 - (seed >> 4) % span)
 }
 
 /// XOR gates on earlier nodes.
@@ -41,8 +41,8 @@ fn gates(alloc: Global, sources: u32, count: u32) -> Result<Vec<Gate>, AllocErro
         let end = sources + 1 + index;
         let gate = Gate {
             op: Op::new(6),
-            a: place_below(first, end),
-            b: place_below(second, end),
+            a: node_below(first, end),
+            b: node_below(second, end),
         };
         gates.push(gate)?;
     }
@@ -56,7 +56,7 @@ fn sinks(alloc: Global, end: u32, count: u32) -> Result<Vec<Sig>, AllocError>
 {
     let mut sinks = Vec::new(alloc);
     for index in 0..count {
-        sinks.push(Sig::Place(end - 1 - index))?;
+        sinks.push(Sig::Node(end - 1 - index))?;
     }
     Ok(sinks)
 }
@@ -92,11 +92,11 @@ fn replaced(
         inputs: window.inputs(),
         outputs: window.outputs(),
     };
-    Ok(Some(splice(alloc, net, &lists, &chain)?))
+    Ok(Some(rebuild_substituted(alloc, net, &lists, &chain)?))
 }
 
 /// The net with the chain of a block substituted for the window of a root and a number of gates.
-fn spliced_net(
+fn substituted_net(
     alloc: Global,
     net: &Net,
     root: u32,
@@ -117,8 +117,8 @@ fn spliced_net(
 }
 
 /// The net with XOR substituted for a gate, if possible.
-fn spliced(alloc: Global, net: Net, root: u32) -> Result<Net, AllocError> {
-    match spliced_net(
+fn after_substitution(alloc: Global, net: Net, root: u32) -> Result<Net, AllocError> {
+    match substituted_net(
         alloc,
         &net,
         root,
@@ -132,7 +132,7 @@ fn spliced(alloc: Global, net: Net, root: u32) -> Result<Net, AllocError> {
 
 /// Builds the index of a net and drops it.
 fn indexed(alloc: Global, net: &Net) -> Result<(), AllocError> {
-    let _readers = readers_of(alloc, net)?;
+    let _fanouts = fanouts_of(alloc, net)?;
     Ok(())
 }
 
@@ -141,12 +141,12 @@ pub fn substitute(alloc: Global, word: &str, root: u32) -> Result<usize, AllocEr
     let mut net = random_net(alloc)?;
     if word == "splice" {
         for _turn in 0..200u32 {
-            net = spliced(alloc, net, root)?;
+            net = after_substitution(alloc, net, root)?;
         }
     }
     if word == "drop" {
         for _turn in 0..200u32 {
-            net = drop_dead(alloc, &net)?;
+            net = remove_dangling(alloc, &net)?;
         }
     }
     if word == "index" {

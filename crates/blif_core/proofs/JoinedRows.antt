@@ -33,33 +33,33 @@ dashes-push i cube =
     sym (append_assoc (dashes i) (45 ∷ []) cube) ∙ ap (λ (xs : List ℕ). xs ++ cube) (dashes-last i ∙ ap dashes e)
 
 -- the cubes, each prefixed by n dashes
-abbrev pub behind : ℕ → List (List ℕ) → List (List ℕ)
-behind i cubes = map (λ (cube : List ℕ). dashes i ++ cube) cubes
+abbrev pub after : ℕ → List (List ℕ) → List (List ℕ)
+after i cubes = map (λ (cube : List ℕ). dashes i ++ cube) cubes
 
-behind-push : (i : ℕ) (cubes : List (List ℕ)) → behind i (map (λ (cube : List ℕ). 45 ∷ cube) cubes) ≡ behind (i + 1) cubes
-behind-push i [] = refl
-behind-push i (c ∷ cubes) = let e = dashes-push i c in let f = behind-push i cubes in λ k. e k ∷ f k
+after-push : (i : ℕ) (cubes : List (List ℕ)) → after i (map (λ (cube : List ℕ). 45 ∷ cube) cubes) ≡ after (i + 1) cubes
+after-push i [] = refl
+after-push i (c ∷ cubes) = let e = dashes-push i c in let f = after-push i cubes in λ k. e k ∷ f k
 
-behind-zero : (cubes : List (List ℕ)) → behind 0 cubes ≡ cubes
-behind-zero [] = refl
-behind-zero (c ∷ cubes) = ap (λ (cs : List (List ℕ)). c ∷ cs) (behind-zero cubes)
+after-zero : (cubes : List (List ℕ)) → after 0 cubes ≡ cubes
+after-zero [] = refl
+after-zero (c ∷ cubes) = ap (λ (cs : List (List ℕ)). c ∷ cs) (after-zero cubes)
 
 -- the remaining cover lines of OR
 abbrev pub lines_left : (List ℕ → List ℕ) → ℕ → ℕ → List ℕ
-lines_left line width i = flat_map line (behind i (single_ones (width - i)))
+lines_left line width i = flat_map line (after i (single_ones (width - i)))
 
 pub lines-step : (line : List ℕ → List ℕ) (width i : ℕ) → i < width → lines_left line width i ≡ line (dashes i ++ 49 ∷ dashes (width - i - 1)) ++ lines_left line width (i + 1)
 lines-step line width i low =
     let e : width - i ≡ suc (width - (i + 1)) = omega arith in
     let f : width - (i + 1) ≡ width - i - 1 = omega arith in
-    ap (λ (n : ℕ). flat_map line (behind i (single_ones n))) e
-    ∙ ap (λ (n : ℕ). line (dashes i ++ 49 ∷ dashes n) ++ flat_map line (behind i (map (λ (cube : List ℕ). 45 ∷ cube) (single_ones (width - (i + 1)))))) f
-    ∙ ap (λ (cs : List (List ℕ)). line (dashes i ++ 49 ∷ dashes (width - i - 1)) ++ flat_map line cs) (behind-push i (single_ones (width - (i + 1))))
+    ap (λ (n : ℕ). flat_map line (after i (single_ones n))) e
+    ∙ ap (λ (n : ℕ). line (dashes i ++ 49 ∷ dashes n) ++ flat_map line (after i (map (λ (cube : List ℕ). 45 ∷ cube) (single_ones (width - (i + 1)))))) f
+    ∙ ap (λ (cs : List (List ℕ)). line (dashes i ++ 49 ∷ dashes (width - i - 1)) ++ flat_map line cs) (after-push i (single_ones (width - (i + 1))))
 
 pub lines-all : (line : List ℕ → List ℕ) (width : ℕ) → lines_left line width 0 ≡ flat_map line (single_ones width)
-lines-all line width = let e : width - 0 ≡ width = omega arith in ap (λ (n : ℕ). flat_map line (behind 0 (single_ones n))) e ∙ ap (flat_map line) (behind-zero (single_ones width))
+lines-all line width = let e : width - 0 ≡ width = omega arith in ap (λ (n : ℕ). flat_map line (after 0 (single_ones n))) e ∙ ap (flat_map line) (after-zero (single_ones width))
 
 pub lines-none : (line : List ℕ → List ℕ) (width : ℕ) → lines_left line width width ≡ []
-lines-none line width = let e : width - width ≡ 0 = omega arith in ap (λ (n : ℕ). flat_map line (behind width (single_ones n))) e
+lines-none line width = let e : width - width ≡ 0 = omega arith in ap (λ (n : ℕ). flat_map line (after width (single_ones n))) e
 
 pub ruleset rows = (common_steps, lines-step, lines-all, lines-none)

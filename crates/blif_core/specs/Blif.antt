@@ -1,7 +1,7 @@
 -- BLIF as a value of `Format`.
 use Rattle.std.specs.Prelude.{true}
 use Rattle.net_theory.specs.Circuit.{Circuit, IsProper}
-use Rattle.net_core.specs.Names.{HasRoom}
+use Rattle.net_core.specs.Names.{HasRoomForNames}
 use Rattle.net_document.specs.Format.{Format}
 use Rattle.blif_text.specs.Statements.{listed_of}
 use Rattle.blif_core.specs.Written.{written}
@@ -12,5 +12,5 @@ abbrev pub blif_format : Format
 blif_format = record { listed = listed_of; written = written; text = circuit_text; operators = λ op. true }
 
 -- Proper circuits can be written. They have fewer than 2^63 names, as every circuit that fits into memory.
-abbrev pub CanWrite : Circuit → Type 0
-CanWrite c = IsProper c × HasRoom c
+abbrev pub CanWriteBlif : Circuit → Type 0
+CanWriteBlif c = IsProper c × HasRoomForNames c

@@ -72,12 +72,12 @@ abbrev pub model_text : Name → List ℕ
 model_text model = codes ".model" ++ word_text model ++ 10 ∷ []
 
 -- model, inputs, outputs and clocks
-abbrev pub heading_text : Document → List ℕ
-heading_text d = model_text d.model ++ list_text (codes ".inputs") d.inputs ++ list_text (codes ".outputs") d.outputs ++ clocks_text d.clocks
+abbrev pub header_text : Document → List ℕ
+header_text d = model_text d.model ++ list_text (codes ".inputs") d.inputs ++ list_text (codes ".outputs") d.outputs ++ clocks_text d.clocks
 
 -- the whole text: model, inputs, outputs, clocks, latches, tables and `.end`
 unfoldable pub spelled : Document → List ℕ
-spelled d = heading_text d ++ flat_map latch_text d.latches ++ flat_map table_text d.tables ++ codes ".end\n"
+spelled d = header_text d ++ flat_map latch_text d.latches ++ flat_map table_text d.tables ++ codes ".end\n"
 
 -- the text of a circuit
 abbrev pub circuit_text : Circuit → List ℕ

@@ -4,11 +4,11 @@ use Rattle.std.specs.List.{list_any}
 use Rattle.std.proofs.Common.{drop}
 use Rattle.chain_theory.specs.Operator.{apply}
 use Rattle.net_theory.specs.declared.data.Sig.{Sig}
-use Rattle.net_theory.specs.declared.data.Sig.TheVariants.{Zero, One, Place}
+use Rattle.net_theory.specs.declared.data.Sig.TheVariants.{Zero, One, Node}
 use Rattle.net_theory.specs.declared.data.Gate.{Gate}
 use Rattle.net_theory.specs.Document.{Name, has, Table, Latch, LatchLine, Document}
 use Rattle.net_theory.specs.Circuit.{Circuit, sources_of}
-use Rattle.net_theory.specs.Naming.{each_once, gate_names, first_spare, second_spare, place_name}
+use Rattle.net_theory.specs.Naming.{each_once, gate_names, first_spare, second_spare, node_name}
 
 -- ---- covers from values
 
@@ -29,7 +29,8 @@ unary_table at_zero at_one input output = table_with (input ∷ []) (row_if at_z
 
 -- the rows 00, 01, 10 and 11 on which an operator is 1
 unfoldable pub binary_cubes : ℕ → List (List ℕ)
-binary_cubes op = row_if (apply op false false) (48 ∷ 48 ∷ []) ++ row_if (apply op false true) (48 ∷ 49 ∷ []) ++ row_if (apply op true false) (49 ∷ 48 ∷ []) ++ row_if (apply op true true) (49 ∷ 49 ∷ [])
+binary_cubes op = row_if (apply op false false) (48 ∷ 48 ∷ []) ++ row_if (apply op false true) (48 ∷ 49 ∷ []) ++
+    row_if (apply op true false) (49 ∷ 48 ∷ []) ++ row_if (apply op true true) (49 ∷ 49 ∷ [])
 
 abbrev pub binary_table : ℕ → Name → Name → Name → Table
 binary_table op first second output = table_with (first ∷ second ∷ []) (binary_cubes op) output
@@ -37,19 +38,19 @@ binary_table op first second output = table_with (first ∷ second ∷ []) (bina
 -- ---- gates
 
 -- a gate whose first operand is a node
-abbrev pub with_place : (ℕ → Name) → Name → ℕ → ℕ → Sig → Table
-with_place name output op p (Place q) = if p == q then unary_table (apply op false false) (apply op true true) (name p) output else binary_table op (name p) (name q) output
-with_place name output op p Zero = unary_table (apply op false false) (apply op true false) (name p) output
-with_place name output op p One = unary_table (apply op false true) (apply op true true) (name p) output
+abbrev pub with_node : (ℕ → Name) → Name → ℕ → ℕ → Sig → Table
+with_node name output op p (Node q) = if p == q then unary_table (apply op false false) (apply op true true) (name p) output else binary_table op (name p) (name q) output
+with_node name output op p Zero = unary_table (apply op false false) (apply op true false) (name p) output
+with_node name output op p One = unary_table (apply op false true) (apply op true true) (name p) output
 
 -- a gate whose first operand is a constant
 abbrev pub with_bit : (ℕ → Name) → Name → ℕ → Bool → Sig → Table
-with_bit name output op a (Place q) = unary_table (apply op a false) (apply op a true) (name q) output
+with_bit name output op a (Node q) = unary_table (apply op a false) (apply op a true) (name q) output
 with_bit name output op a Zero = constant_table (apply op a false) output
 with_bit name output op a One = constant_table (apply op a true) output
 
 abbrev pub table_by : (ℕ → Name) → Name → ℕ → Sig → Sig → Table
-table_by name output op (Place p) b = with_place name output op p b
+table_by name output op (Node p) b = with_node name output op p b
 table_by name output op Zero b = with_bit name output op false b
 table_by name output op One b = with_bit name output op true b
 
@@ -68,12 +69,12 @@ gate_tables name (g ∷ gs) (n ∷ ns) = gate_table name n g ∷ gate_tables nam
 abbrev pub is_zero : Sig → Bool
 is_zero Zero = true
 is_zero One = false
-is_zero (Place p) = false
+is_zero (Node p) = false
 
 abbrev pub is_one : Sig → Bool
 is_one Zero = false
 is_one One = true
-is_one (Place p) = false
+is_one (Node p) = false
 
 -- the sinks that are the latches' inputs
 abbrev pub next_states : Circuit → List Sig
@@ -86,7 +87,7 @@ one_name c = if list_any is_zero (next_states c) then second_spare c else first_
 abbrev pub sig_name : Circuit → Sig → Name
 sig_name c Zero = first_spare c
 sig_name c One = one_name c
-sig_name c (Place p) = place_name c p
+sig_name c (Node p) = node_name c p
 
 abbrev pub table_if : Bool → Table → List Table
 table_if true t = t ∷ []
@@ -106,7 +107,7 @@ latch_lines name (l ∷ ls) (s ∷ sinks) = record { input = name s; latch = l }
 abbrev pub output_table : (ℕ → Name) → Name → Sig → Table
 output_table name output Zero = constant_table false output
 output_table name output One = constant_table true output
-output_table name output (Place p) = unary_table false true (name p) output
+output_table name output (Node p) = unary_table false true (name p) output
 
 -- the tables of the outputs whose names aren't in `written`
 unfoldable pub output_tables : (ℕ → Name) → List Name → List Name → List Sig → List Table
@@ -121,18 +122,18 @@ abbrev pub driven_before : Circuit → List Name
 driven_before c = each_once [] (sources_of c ++ gate_names c)
 
 abbrev pub tables_of : Circuit → List Table
-tables_of c = gate_tables (place_name c) c.net.gates (gate_names c) ++ constant_tables c ++ output_tables (place_name c) (driven_before c) c.outputs c.net.sinks
+tables_of c = gate_tables (node_name c) c.net.gates (gate_names c) ++ constant_tables c ++ output_tables (node_name c) (driven_before c) c.outputs c.net.sinks
 
 -- the document of a circuit, without its latches and tables
-abbrev pub heading : Circuit → Document
-heading c = record { model = c.model; inputs = c.inputs; outputs = c.outputs; clocks = c.clocks; latches = []; tables = [] }
+abbrev pub header : Circuit → Document
+header c = record { model = c.model; inputs = c.inputs; outputs = c.outputs; clocks = c.clocks; latches = []; tables = [] }
 
 -- The gates in the order of their nodes, then the constants that latches read, then the outputs that no source or
 -- gate names. A gate that drives outputs has the name of the first of them.
 -- Example: for XOR of a and b with the outputs y and z it is `.names a b y` with `01 1` and `10 1`,
 -- and `.names y z` with `1 1`.
 unfoldable pub written : Circuit → Document
-written c = record (heading c) {
+written c = record (header c) {
   latches = latch_lines (sig_name c) c.latches (next_states c);
   tables = tables_of c;
 }

@@ -13,7 +13,8 @@ lines_init : (name : Sig → Name) (ls : List Latch) (sinks : List Sig) → All 
 unfolding latch_lines
 lines_init name [] sinks all = All-nil HasInit
 lines_init name (l ∷ ls) [] all = All-nil HasInit
-lines_init name (l ∷ ls) (s ∷ sinks) all = All-cons HasInit (record { input = name s; latch = l }) (latch_lines name ls sinks) (All-head IsLatch l ls all).init (lines_init name ls sinks (All-tail IsLatch l ls all))
+lines_init name (l ∷ ls) (s ∷ sinks) all = All-cons HasInit (record { input = name s; latch = l })
+    (latch_lines name ls sinks) (All-head IsLatch l ls all).init (lines_init name ls sinks (All-tail IsLatch l ls all))
 
 pub written_init : (c : Circuit) → IsProper c → All HasInit (written c).latches
 unfolding written

@@ -21,12 +21,12 @@ fn ones(alloc: Global, width: u32) -> Result<Vec<u8>, AllocError>
 
 /// The cube whose only literal is the input with this index, counted from 0.
 #[tactic(auto, using(crate::proofs::JoinedRows::cubes))]
-fn single(alloc: Global, width: u32, place: u32) -> Result<Vec<u8>, AllocError>
-    requires { place < width }
-    ensures { IfOk result (λ cube. cube.items ≡ dashes place ++ 49 ∷ dashes (width - place - 1)) }
+fn single(alloc: Global, width: u32, index: u32) -> Result<Vec<u8>, AllocError>
+    requires { index < width }
+    ensures { IfOk result (λ cube. cube.items ≡ dashes index ++ 49 ∷ dashes (width - index - 1)) }
 {
     let mut cube = vec![in alloc; b'-'; width as usize]?;
-    cube[place as usize] = b'1';
+    cube[index as usize] = b'1';
     Ok(cube)
 }
 
@@ -43,8 +43,8 @@ fn push_ones(text: &mut Vec<u8>, on: bool, width: u32) -> Result<(), AllocError>
 fn push_singles(text: &mut Vec<u8>, on: bool, width: u32) -> Result<(), AllocError>
     ensures { OnOk result (text.new.items ≡ text.old.items ++ flat_map (spelling.row_text on) (single_ones width)) }
 {
-    for place in 0..width {
-        let cube = single(*text.allocator(), width, place)?;
+    for index in 0..width {
+        let cube = single(*text.allocator(), width, index)?;
         push_row(text, on, &cube)?;
     }
     Ok(())
@@ -52,7 +52,8 @@ fn push_singles(text: &mut Vec<u8>, on: bool, width: u32) -> Result<(), AllocErr
 
 /// Adds the cover lines of AND or OR of all inputs.
 pub fn push_joined(text: &mut Vec<u8>, whole: Whole) -> Result<(), AllocError>
-    ensures { OnOk result (text.new.items ≡ text.old.items ++ flat_map (spelling.row_text (whole_cover whole).on) (whole_cover whole).cubes) }
+    ensures { OnOk result (text.new.items ≡ text.old.items ++
+        flat_map (spelling.row_text (whole_cover whole).on) (whole_cover whole).cubes) }
 {
     match whole.connective {
         Connective::And => push_ones(text, whole.on, whole.width),

@@ -12,7 +12,7 @@
 #![tactic(auto)]
 
 mod joined;
-mod places;
+mod nodes;
 mod reading;
 mod spelling;
 mod tables;

@@ -224,8 +224,8 @@ fn push_model(text: &mut Vec<u8>, model: &[u8]) -> Result<(), AllocError>
 }
 
 /// Adds the lines of the model, the inputs, the outputs and the clocks.
-fn push_heading(text: &mut Vec<u8>, document: &Document) -> Result<(), AllocError>
-    ensures { OnOk result (text.new.items ≡ text.old.items ++ spelling.heading_text document.now) }
+fn push_header(text: &mut Vec<u8>, document: &Document) -> Result<(), AllocError>
+    ensures { OnOk result (text.new.items ≡ text.old.items ++ spelling.header_text document.now) }
 {
     push_model(text, document.model.get())?;
     push_list(text, b".inputs", &document.inputs)?;
@@ -240,7 +240,7 @@ fn push_document(text: &mut Vec<u8>, document: &Document) -> Result<(), AllocErr
     requires { All HasInit document.now.latches }
     ensures { OnOk result (text.new.items ≡ text.old.items ++ spelling.spelled document.now) }
 {
-    push_heading(text, document)?;
+    push_header(text, document)?;
     push_latches(text, &document.latches)?;
     push_tables(text, &document.tables)?;
     text.extend_from_slice(b".end\n")?;

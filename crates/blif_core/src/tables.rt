@@ -1,11 +1,11 @@
 //! The tables of gates and constants.
 
 ghost use Rattle.std.specs.Prelude.{◌≡◌, ◌++◌, OnOk, IfOk};
-ghost use Rattle.net_theory.specs.Naming.{gate_names, place_name as place_name_of};
+ghost use Rattle.net_theory.specs.Naming.{gate_names, node_name as node_name_of};
 ghost use Rattle.blif_core.specs.Written as written;
 ghost use Rattle.blif_core.specs.Written.{row_if, binary_cubes as binary_cubes_of};
 
-use crate::places::place_name;
+use crate::nodes::node_name;
 use net_core::{Body, Circuit, Cover, Cube, Gate, Name, Op, Sig};
 use net_document::Table;
 use std::alloc::{AllocError, Global};
@@ -107,7 +107,7 @@ fn binary_table(
 }
 
 /// The table of a gate whose first operand is a node.
-fn with_place(
+fn with_node(
     alloc: Global,
     circuit: &Circuit,
     names: &[Name],
@@ -117,9 +117,9 @@ fn with_place(
     second: Sig,
 ) -> Result<Table, AllocError>
     requires { names.now ≡ gate_names circuit.now }
-    ensures { IfOk result (λ t. t ≡ written.with_place (place_name_of circuit.now) output.now op first second) }
+    ensures { IfOk result (λ t. t ≡ written.with_node (node_name_of circuit.now) output.now op first second) }
 {
-    let name = place_name(circuit, names, first);
+    let name = node_name(circuit, names, first);
     match second {
         Sig::Zero => {
             let (zero, one) = (op.apply(false, false), op.apply(true, false));
@@ -129,12 +129,12 @@ fn with_place(
             let (zero, one) = (op.apply(false, true), op.apply(true, true));
             unary_table(alloc, zero, one, name, output)
         }
-        Sig::Place(place) => {
-            if first == place {
+        Sig::Node(node) => {
+            if first == node {
                 let (zero, one) = (op.apply(false, false), op.apply(true, true));
                 return unary_table(alloc, zero, one, name, output);
             }
-            binary_table(alloc, op, name, place_name(circuit, names, place), output)
+            binary_table(alloc, op, name, node_name(circuit, names, node), output)
         }
     }
 }
@@ -150,13 +150,13 @@ fn with_bit(
     second: Sig,
 ) -> Result<Table, AllocError>
     requires { names.now ≡ gate_names circuit.now }
-    ensures { IfOk result (λ t. t ≡ written.with_bit (place_name_of circuit.now) output.now op first second) }
+    ensures { IfOk result (λ t. t ≡ written.with_bit (node_name_of circuit.now) output.now op first second) }
 {
     match second {
         Sig::Zero => constant_table(alloc, op.apply(first, false), output),
         Sig::One => constant_table(alloc, op.apply(first, true), output),
-        Sig::Place(place) => {
-            let name = place_name(circuit, names, place);
+        Sig::Node(node) => {
+            let name = node_name(circuit, names, node);
             unary_table(
                 alloc,
                 op.apply(first, false),
@@ -178,12 +178,12 @@ pub fn gate_table(
     gate: &Gate,
 ) -> Result<Table, AllocError>
     requires { names.now ≡ gate_names circuit.now }
-    ensures { IfOk result (λ t. t ≡ written.gate_table (place_name_of circuit.now) output.now gate.now) }
+    ensures { IfOk result (λ t. t ≡ written.gate_table (node_name_of circuit.now) output.now gate.now) }
 {
     let op = gate.op;
     match gate.a {
         Sig::Zero => with_bit(alloc, circuit, names, output, op, false, gate.b),
         Sig::One => with_bit(alloc, circuit, names, output, op, true, gate.b),
-        Sig::Place(place) => with_place(alloc, circuit, names, output, op, place, gate.b),
+        Sig::Node(node) => with_node(alloc, circuit, names, output, op, node, gate.b),
     }
 }

@@ -2,7 +2,7 @@
 
 ghost use Rattle.std.specs.Prelude.{◌≡◌, ◌++◌, OnOk, OnErr};
 ghost use Rattle.net_theory.specs.Circuit.{IsProper};
-ghost use Rattle.net_core.specs.Names.{HasRoom};
+ghost use Rattle.net_core.specs.Names.{HasRoomForNames};
 ghost use Rattle.blif_core.specs.Spelling.{circuit_text};
 
 use crate::spelling::write_document;
@@ -17,7 +17,7 @@ use std::alloc::AllocError;
 pub fn write_blif(circuit: &Circuit, out: &mut Vec<u8>) -> Result<(), AllocError>
     requires { IsProper circuit.now }
     ensures ok { OnOk result (out.new.items ≡ out.old.items ++ circuit_text circuit.now) }
-    ensures room { OnOk result (HasRoom circuit.now) }
+    ensures room { OnOk result (HasRoomForNames circuit.now) }
     ensures err { OnErr result (out.new.items ≡ out.old.items) }
 {
     let document = document_of(*out.allocator(), circuit)?;

@@ -5,13 +5,13 @@ ghost use Rattle.std.specs.List.{list_any};
 ghost use Rattle.net_theory.specs.declared.data.Sig.{Sig};
 ghost use Rattle.net_theory.specs.Document.{Name, has};
 ghost use Rattle.net_theory.specs.Circuit.{IsProper, sources_of};
-ghost use Rattle.net_theory.specs.Naming.{each_once, gate_names, first_spare, second_spare, place_name as place_name_of};
-ghost use Rattle.net_core.specs.Names.{HasRoom};
+ghost use Rattle.net_theory.specs.Naming.{each_once, gate_names, first_spare, second_spare, node_name as node_name_of};
+ghost use Rattle.net_core.specs.Names.{HasRoomForNames};
 ghost use Rattle.blif_core.specs.Written as written;
 ghost use Rattle.blif_core.specs.Written.{output_tables as output_tables_of, is_zero as is_zero_of};
 ghost use Rattle.blif_core.specs.Written.{is_one as is_one_of, next_states, sig_name as sig_name_of, table_if};
 
-use crate::places::place_name;
+use crate::nodes::node_name;
 use crate::tables::{constant_table, gate_table, unary_table};
 use indexmap::IndexSet;
 use net_core::{
@@ -74,7 +74,8 @@ fn push_gates(
     tables: &mut Vec<Table>,
 ) -> Result<(), AllocError>
     requires { names.now ≡ gate_names circuit.now }
-    ensures { OnOk result (tables.new.items ≡ tables.old.items ++ written.gate_tables (place_name_of circuit.now) gates.now outputs.now) }
+    ensures { OnOk result (tables.new.items ≡ tables.old.items ++
+        written.gate_tables (node_name_of circuit.now) gates.now outputs.now) }
 {
     let mut left = gates;
     let mut left_names = outputs;
@@ -115,7 +116,7 @@ fn sig_name<'a>(
     match sig {
         Sig::Zero => names.first_spare.get(),
         Sig::One => one_name(names, is_zero_needed),
-        Sig::Place(place) => place_name(circuit, &names.names, place),
+        Sig::Node(node) => node_name(circuit, &names.names, node),
     }
 }
 
@@ -165,7 +166,8 @@ fn push_latches(
     requires first { names.now.first_spare ≡ first_spare circuit.now }
     requires second { names.now.second_spare ≡ second_spare circuit.now }
     ensures { OnOk result
-        (lines.new.items ≡ lines.old.items ++ written.latch_lines (sig_name_of circuit.now) latches.now (next_states circuit.now)) }
+        (lines.new.items ≡ lines.old.items ++ written.latch_lines (sig_name_of circuit.now) latches.now
+        (next_states circuit.now)) }
 {
     let sinks = latch_sinks(circuit);
     let is_zero_needed = has_zero(sinks);
@@ -194,7 +196,8 @@ fn push_constant(
     name: &[u8],
     tables: &mut Vec<Table>,
 ) -> Result<(), AllocError>
-    ensures { OnOk result (tables.new.items ≡ tables.old.items ++ table_if is_needed (written.constant_table bit name.now)) }
+    ensures { OnOk result (tables.new.items ≡ tables.old.items ++
+        table_if is_needed (written.constant_table bit name.now)) }
 {
     if is_needed {
         tables.push(constant_table(alloc, bit, name)?)?;
@@ -237,19 +240,13 @@ fn output_table(
     sink: Sig,
 ) -> Result<Table, AllocError>
     requires { names.now ≡ gate_names circuit.now }
-    ensures { IfOk result (λ t. t ≡ written.output_table (place_name_of circuit.now) output.now sink) }
+    ensures { IfOk result (λ t. t ≡ written.output_table (node_name_of circuit.now) output.now sink) }
 {
     match sink {
         Sig::Zero => constant_table(alloc, false, output),
         Sig::One => constant_table(alloc, true, output),
-        Sig::Place(place) => {
-            unary_table(
-                alloc,
-                false,
-                true,
-                place_name(circuit, names, place),
-                output,
-            )
+        Sig::Node(node) => {
+            unary_table(alloc, false, true, node_name(circuit, names, node), output)
         }
     }
 }
@@ -267,8 +264,9 @@ fn push_output(
 ) -> Result<(), AllocError>
     requires { names.now ≡ gate_names circuit.now }
     ensures { OnOk result ((os : List Name) (sinks : List Sig)
-        → tables.new.items ++ output_tables_of (place_name_of circuit.now) done.new.keys os sinks
-        ≡ tables.old.items ++ output_tables_of (place_name_of circuit.now) done.old.keys (output.now ∷ os) (sink ∷ sinks)) }
+        → tables.new.items ++ output_tables_of (node_name_of circuit.now) done.new.keys os sinks
+        ≡ tables.old.items ++ output_tables_of (node_name_of circuit.now) done.old.keys (output.now ∷ os)
+        (sink ∷ sinks)) }
 {
     if done.contains(output) {
         return Ok(());
@@ -291,7 +289,8 @@ fn push_outputs(
 ) -> Result<(), AllocError>
     requires { names.now ≡ gate_names circuit.now }
     ensures { OnOk result
-        (tables.new.items ≡ tables.old.items ++ output_tables_of (place_name_of circuit.now) done.old.keys outputs.now sinks.now) }
+        (tables.new.items ≡ tables.old.items ++ output_tables_of (node_name_of circuit.now) done.old.keys outputs.now
+        sinks.now) }
 {
     let mut left = outputs;
     let mut left_sinks = sinks;
@@ -314,7 +313,8 @@ fn take_written(
     written: &mut IndexSet<Name>,
 ) -> Result<(), AllocError>
     requires { names.now ≡ gate_names circuit.now }
-    ensures { OnOk result (written.new.keys ≡ each_once written.old.keys (sources_of circuit.now ++ gate_names circuit.now)) }
+    ensures { OnOk result (written.new.keys ≡ each_once written.old.keys (sources_of circuit.now ++
+        gate_names circuit.now)) }
 {
     take_names(written, &circuit.inputs)?;
     take_latches(written, &circuit.latches)?;
@@ -332,7 +332,7 @@ fn push_others(
     requires { names.now ≡ gate_names circuit.now }
     ensures { OnOk result
         (tables.new.items ≡ tables.old.items
-        ++ output_tables_of (place_name_of circuit.now) (written.driven_before circuit.now) circuit.now.outputs circuit.now.net.sinks) }
+        ++ output_tables_of (node_name_of circuit.now) (written.driven_before circuit.now) circuit.now.outputs circuit.now.net.sinks) }
 {
     let mut written = IndexSet::new(alloc);
     take_written(circuit, names, &mut written)?;
@@ -379,7 +379,7 @@ fn push_lists(
         (lines.new.items ≡ lines.old.items
         ++ written.latch_lines (sig_name_of circuit.now) circuit.now.latches (next_states circuit.now)) }
     ensures tables { OnOk result (tables.new.items ≡ tables.old.items ++ written.tables_of circuit.now) }
-    ensures room { OnOk result (HasRoom circuit.now) }
+    ensures room { OnOk result (HasRoomForNames circuit.now) }
 {
     let names = all_names(alloc, circuit)?;
     push_tables(alloc, circuit, &names, tables)?;
@@ -387,8 +387,8 @@ fn push_lists(
 }
 
 /// The document of a circuit, without its latches and tables.
-fn heading(alloc: Global, circuit: &Circuit) -> Result<Document, AllocError>
-    ensures { IfOk result (λ d. d ≡ written.heading circuit.now) }
+fn header(alloc: Global, circuit: &Circuit) -> Result<Document, AllocError>
+    ensures { IfOk result (λ d. d ≡ written.header circuit.now) }
 {
     Ok(Document {
         model: circuit.model.copied()?,
@@ -406,9 +406,9 @@ fn heading(alloc: Global, circuit: &Circuit) -> Result<Document, AllocError>
 pub fn document_of(alloc: Global, circuit: &Circuit) -> Result<Document, AllocError>
     requires { IsProper circuit.now }
     ensures written { IfOk result (λ d. d ≡ written.written circuit.now) }
-    ensures room { IfOk result (λ _. HasRoom circuit.now) }
+    ensures room { IfOk result (λ _. HasRoomForNames circuit.now) }
 {
-    let mut document = heading(alloc, circuit)?;
+    let mut document = header(alloc, circuit)?;
     push_lists(alloc, circuit, &mut document.latches, &mut document.tables)?;
     Ok(document)
 }

@@ -117,12 +117,12 @@ range_length from zero = refl
 range_length from (suc count) = ap suc (range_length (from + 1) count)
 
 -- free names are valid and distinct, and none is taken
-pub record AreFree (taken free : List Name) : Type 0 where
+pub record AreControlsFree (taken free : List Name) : Type 0 where
   pub names : (n : Name) → has free n ≡ true → IsName n
   pub apart : (n : Name) → has free n ≡ true → has taken n ≡ false
   pub distinct : are_distinct free ≡ true
 
-pub free_are : (taken : List Name) (from count : ℕ) → from + count ≤ 2 ^ 64 → AreFree taken (free_names taken from count)
+pub free_are : (taken : List Name) (from count : ℕ) → from + count ≤ 2 ^ 64 → AreControlsFree taken (free_names taken from count)
 unfolding free_names
 free_are taken from count low =
     let test : Name → Bool = λ n. not (has taken n) in

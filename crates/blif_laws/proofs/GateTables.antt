@@ -8,7 +8,7 @@ use Rattle.std.proofs.lemmas.Grind.{common_steps}
 use Rattle.std.proofs.lemmas.List.Elements.{All-nil, All-cons, All-append}
 use Rattle.chain_theory.specs.Operator.{apply}
 use Rattle.net_theory.specs.declared.data.Sig.{Sig}
-use Rattle.net_theory.specs.declared.data.Sig.TheVariants.{Zero, One, Place}
+use Rattle.net_theory.specs.declared.data.Sig.TheVariants.{Zero, One, Node}
 use Rattle.net_theory.specs.declared.data.Gate.{Gate}
 use Rattle.net_theory.specs.Net.{IsSigBelow, IsGateAt, sig_value, gate_value}
 use Rattle.net_theory.specs.Cover.{is_cube, matches, value_by, cover_value}
@@ -16,7 +16,7 @@ use Rattle.net_theory.specs.Document.{Name, IsName, is_same, has, Table}
 use Rattle.net_theory.specs.NameLaws.{has_none, has_cases}
 use Rattle.net_theory.specs.Expansion.{unary_word, binary_word}
 use Rattle.net_theory.specs.Cost.{unary_cost, binary_cost, merged_table, cover_cost, table_cost}
-use Rattle.blif_core.specs.Written.{row_if, constant_table, unary_table, binary_cubes, binary_table, with_place, with_bit, table_by, gate_table, output_table}
+use Rattle.blif_core.specs.Written.{row_if, constant_table, unary_table, binary_cubes, binary_table, with_node, with_bit, table_by, gate_table, output_table}
 use Rattle.blif_laws.specs.Spelled.{IsSpelledTable}
 
 -- ---- values
@@ -53,7 +53,9 @@ any_row test true row = or_none (test row) where
   or_none true = refl
   or_none false = refl
 
-any_four : (test : List ℕ → Bool) (a b c d : Bool) (p q r s : List ℕ) → list_any test (row_if a p ++ row_if b q ++ row_if c r ++ row_if d s) ≡ ((((a && test p) || (b && test q)) || (c && test r)) || (d && test s))
+any_four : (test : List ℕ → Bool) (a b c d : Bool) (p q r s : List ℕ) →
+    list_any test (row_if a p ++ row_if b q ++ row_if c r ++ row_if d s) ≡
+    ((((a && test p) || (b && test q)) || (c && test r)) || (d && test s))
 any_four test a b c d p q r s =
     any_append test (row_if a p ++ row_if b q ++ row_if c r) (row_if d s)
     ∙ ap (λ x. x || list_any test (row_if d s)) (any_append test (row_if a p ++ row_if b q) (row_if c r))
@@ -65,7 +67,9 @@ any_four test a b c d p q r s =
 
 -- one of four rows is covered
 picked : (a b c d : Bool) (x y : Bool) →
-    ((((a && matches (48 ∷ 48 ∷ []) (x ∷ y ∷ [])) || (b && matches (48 ∷ 49 ∷ []) (x ∷ y ∷ []))) || (c && matches (49 ∷ 48 ∷ []) (x ∷ y ∷ []))) || (d && matches (49 ∷ 49 ∷ []) (x ∷ y ∷ []))) ≡ (if x then (if y then d else c) else (if y then b else a))
+    ((((a && matches (48 ∷ 48 ∷ []) (x ∷ y ∷ [])) || (b && matches (48 ∷ 49 ∷ []) (x ∷ y ∷ []))) ||
+    (c && matches (49 ∷ 48 ∷ []) (x ∷ y ∷ []))) || (d && matches (49 ∷ 49 ∷ []) (x ∷ y ∷ []))) ≡
+    (if x then (if y then d else c) else (if y then b else a))
 unfolding matches
 picked a b c d false false = first a b c d where
   first : (a b c d : Bool) → ((((a && true) || (b && false)) || (c && false)) || (d && false)) ≡ a
@@ -124,7 +128,12 @@ unary_is at_zero at_one input output is_in is_out = record {
     inputs = All-cons IsName input [] is_in (All-nil IsName);
     output = is_out;
     width = refl;
-    cover = record { cubes = All-append (λ (cube : List ℕ). is_cube 1 cube ≡ true) (row_if at_zero (48 ∷ [])) (row_if at_one (49 ∷ [])) (cube_row 1 at_zero (48 ∷ []) refl) (cube_row 1 at_one (49 ∷ []) refl); parity = λ e. absurd cc };
+    cover = record {
+      cubes = All-append (λ (cube : List ℕ). is_cube 1 cube ≡ true) (row_if at_zero (48 ∷ []))
+          (row_if at_one (49 ∷ [])) (cube_row 1 at_zero (48 ∷ []) refl) (cube_row 1 at_one (49 ∷ []) refl);
+      parity =
+          λ e. absurd cc;
+    };
     narrow = omega arith;
     few = omega (arith, row_few at_zero (48 ∷ []), row_few at_one (49 ∷ []), length-append (row_if at_zero (48 ∷ [])) (row_if at_one (49 ∷ [])));
   };
@@ -199,19 +208,20 @@ binary_table_cost op first second output =
 
 -- ---- a gate
 
--- t has the value of the gate g, reads nodes below `place`, and costs at most one gate
-pub record IsGateTable (name : ℕ → Name) (place : ℕ) (output : Name) (g : Gate) (t : Table) : Type 0 where
+-- t has the value of the gate g, reads nodes below `node`, and costs at most one gate
+pub record IsGateTable (name : ℕ → Name) (node : ℕ) (output : Name) (g : Gate) (t : Table) : Type 0 where
   pub drives : t.output ≡ output
   pub table : IsSpelledTable t
   pub cost : table_cost t ≤ 1
-  pub inputs : (n : Name) → has t.inputs n ≡ true → (p : ℕ) × (1 ≤ p) × (p < place) × (n ≡ name p)
+  pub inputs : (n : Name) → has t.inputs n ≡ true → (p : ℕ) × (1 ≤ p) × (p < node) × (n ≡ name p)
   pub value : (v : Name → Bool) → cover_value t.cover (map v t.inputs) ≡ gate_value (λ p. v (name p)) g
 
 abbrev ReadsAt : ℕ → ℕ → Type 0
-ReadsAt place p = (1 ≤ p) × (p < place)
+ReadsAt node p = (1 ≤ p) × (p < node)
 
-constant_gate : (name : ℕ → Name) (place : ℕ) (output : Name) (g : Gate) (bit : Bool) → IsName output → ((bits : ℕ → Bool) → bit ≡ gate_value bits g) → IsGateTable name place output g (constant_table bit output)
-constant_gate name place output g bit is value = record {
+constant_gate : (name : ℕ → Name) (node : ℕ) (output : Name) (g : Gate) (bit : Bool) → IsName output →
+    ((bits : ℕ → Bool) → bit ≡ gate_value bits g) → IsGateTable name node output g (constant_table bit output)
+constant_gate name node output g bit is value = record {
   drives = refl;
   table = constant_is bit output is;
   cost = omega (arith, constant_cost bit output);
@@ -219,8 +229,10 @@ constant_gate name place output g bit is value = record {
   value = λ v. constant_value bit output ∙ value (λ p. v (name p));
 }
 
-unary_gate : (name : ℕ → Name) (place : ℕ) (output : Name) (g : Gate) (at_zero at_one : Bool) (p : ℕ) → ReadsAt place p → IsName (name p) → IsName output → ((bits : ℕ → Bool) → (if bits p then at_one else at_zero) ≡ gate_value bits g) → IsGateTable name place output g (unary_table at_zero at_one (name p) output)
-unary_gate name place output g at_zero at_one p reads is_in is_out value = record {
+unary_gate : (name : ℕ → Name) (node : ℕ) (output : Name) (g : Gate) (at_zero at_one : Bool) (p : ℕ) → ReadsAt node p →
+    IsName (name p) → IsName output → ((bits : ℕ → Bool) → (if bits p then at_one else at_zero) ≡ gate_value bits g) →
+    IsGateTable name node output g (unary_table at_zero at_one (name p) output)
+unary_gate name node output g at_zero at_one p reads is_in is_out value = record {
   drives = refl;
   table = unary_is at_zero at_one (name p) output is_in is_out;
   cost = unary_table_cost at_zero at_one (name p) output;
@@ -228,8 +240,10 @@ unary_gate name place output g at_zero at_one p reads is_in is_out value = recor
   value = λ v. unary_value at_zero at_one (v (name p)) (name p) output ∙ value (λ q. v (name q));
 }
 
-binary_gate : (name : ℕ → Name) (place : ℕ) (output : Name) (op p q : ℕ) → ReadsAt place p → ReadsAt place q → IsName (name p) → IsName (name q) → IsName output → IsGateTable name place output (record { op = op; a = Place p; b = Place q }) (binary_table op (name p) (name q) output)
-binary_gate name place output op p q at_p at_q is_p is_q is_out = record {
+binary_gate : (name : ℕ → Name) (node : ℕ) (output : Name) (op p q : ℕ) → ReadsAt node p → ReadsAt node q →
+    IsName (name p) → IsName (name q) → IsName output →
+    IsGateTable name node output (record { op = op; a = Node p; b = Node q }) (binary_table op (name p) (name q) output)
+binary_gate name node output op p q at_p at_q is_p is_q is_out = record {
   drives = refl;
   table = binary_is op (name p) (name q) output is_p is_q is_out;
   cost = binary_table_cost op (name p) (name q) output;
@@ -254,51 +268,61 @@ pick_both op false = refl
 pick_both op true = refl
 
 abbrev pub AreNamesBelow : (ℕ → Name) → ℕ → Type 0
-AreNamesBelow name place = (p : ℕ) → 1 ≤ p → p < place → IsName (name p)
+AreNamesBelow name node = (p : ℕ) → 1 ≤ p → p < node → IsName (name p)
 
 abbrev gate_with : ℕ → Sig → Sig → Gate
 gate_with op a b = record { op = op; a = a; b = b }
 
-place_first : (name : ℕ → Name) (place : ℕ) (output : Name) (op p : ℕ) (b : Sig) → AreNamesBelow name place → IsName output → ReadsAt place p → IsSigBelow place b → IsGateTable name place output (gate_with op (Place p) b) (with_place name output op p b)
-place_first name place output op p Zero names is at_p below =
-    unary_gate name place output (gate_with op (Place p) Zero) (apply op false false) (apply op true false) p at_p (names p at_p.0 at_p.1) is (λ bits. pick_first op (bits p) false)
-place_first name place output op p One names is at_p below =
-    unary_gate name place output (gate_with op (Place p) One) (apply op false true) (apply op true true) p at_p (names p at_p.0 at_p.1) is (λ bits. pick_first op (bits p) true)
-place_first name place output op p (Place q) names is at_p below =
-    cond_both (p == q) (unary_table (apply op false false) (apply op true true) (name p) output) (binary_table op (name p) (name q) output) (IsGateTable name place output (gate_with op (Place p) (Place q)))
-    (λ same. unary_gate name place output (gate_with op (Place p) (Place q)) (apply op false false) (apply op true true) p at_p (names p at_p.0 at_p.1) is (λ bits. pick_both op (bits p) ∙ ap (λ (x : ℕ). apply op (bits p) (bits x)) (eqb-true p q same)))
-    (λ other. binary_gate name place output op p q at_p below (names p at_p.0 at_p.1) (names q below.0 below.1) is)
+node_first : (name : ℕ → Name) (node : ℕ) (output : Name) (op p : ℕ) (b : Sig) → AreNamesBelow name node →
+    IsName output → ReadsAt node p → IsSigBelow node b →
+    IsGateTable name node output (gate_with op (Node p) b) (with_node name output op p b)
+node_first name node output op p Zero names is at_p below =
+    unary_gate name node output (gate_with op (Node p) Zero) (apply op false false) (apply op true false) p at_p (names p at_p.0 at_p.1) is (λ bits. pick_first op (bits p) false)
+node_first name node output op p One names is at_p below =
+    unary_gate name node output (gate_with op (Node p) One) (apply op false true) (apply op true true) p at_p (names p at_p.0 at_p.1) is (λ bits. pick_first op (bits p) true)
+node_first name node output op p (Node q) names is at_p below =
+    cond_both (p == q) (unary_table (apply op false false) (apply op true true) (name p) output)
+    (binary_table op (name p) (name q) output) (IsGateTable name node output (gate_with op (Node p) (Node q)))
+    (λ same. unary_gate name node output (gate_with op (Node p) (Node q)) (apply op false false)
+    (apply op true true) p at_p (names p at_p.0 at_p.1) is (λ bits. pick_both op (bits p)
+    ∙ ap (λ (x : ℕ). apply op (bits p) (bits x)) (eqb-true p q same)))
+    (λ other. binary_gate name node output op p q at_p below (names p at_p.0 at_p.1) (names q below.0 below.1) is)
 
-bit_first : (name : ℕ → Name) (place : ℕ) (output : Name) (op : ℕ) (a : Sig) (x : Bool) (b : Sig) → ((bits : ℕ → Bool) → sig_value bits a ≡ x) → AreNamesBelow name place → IsName output → IsSigBelow place b → IsGateTable name place output (gate_with op a b) (with_bit name output op x b)
-bit_first name place output op a x Zero known names is below =
-    constant_gate name place output (gate_with op a Zero) (apply op x false) is (λ bits. ap (λ (y : Bool). apply op y false) (sym (known bits)))
-bit_first name place output op a x One known names is below =
-    constant_gate name place output (gate_with op a One) (apply op x true) is (λ bits. ap (λ (y : Bool). apply op y true) (sym (known bits)))
-bit_first name place output op a x (Place q) known names is below =
-    unary_gate name place output (gate_with op a (Place q)) (apply op x false) (apply op x true) q below (names q below.0 below.1) is
+bit_first : (name : ℕ → Name) (node : ℕ) (output : Name) (op : ℕ) (a : Sig) (x : Bool) (b : Sig) →
+    ((bits : ℕ → Bool) → sig_value bits a ≡ x) → AreNamesBelow name node → IsName output → IsSigBelow node b →
+    IsGateTable name node output (gate_with op a b) (with_bit name output op x b)
+bit_first name node output op a x Zero known names is below =
+    constant_gate name node output (gate_with op a Zero) (apply op x false) is (λ bits. ap (λ (y : Bool). apply op y false) (sym (known bits)))
+bit_first name node output op a x One known names is below =
+    constant_gate name node output (gate_with op a One) (apply op x true) is (λ bits. ap (λ (y : Bool). apply op y true) (sym (known bits)))
+bit_first name node output op a x (Node q) known names is below =
+    unary_gate name node output (gate_with op a (Node q)) (apply op x false) (apply op x true) q below (names q below.0 below.1) is
     (λ bits. pick_second op x (bits q) ∙ ap (λ (y : Bool). apply op y (bits q)) (sym (known bits)))
 
-gate_by : (name : ℕ → Name) (place : ℕ) (output : Name) (op : ℕ) (a b : Sig) → AreNamesBelow name place → IsName output → IsSigBelow place a → IsSigBelow place b → IsGateTable name place output (gate_with op a b) (table_by name output op a b)
-gate_by name place output op Zero b names is below_a below_b = bit_first name place output op Zero false b (λ bits. refl) names is below_b
-gate_by name place output op One b names is below_a below_b = bit_first name place output op One true b (λ bits. refl) names is below_b
-gate_by name place output op (Place p) b names is below_a below_b = place_first name place output op p b names is below_a below_b
+gate_by : (name : ℕ → Name) (node : ℕ) (output : Name) (op : ℕ) (a b : Sig) → AreNamesBelow name node → IsName output →
+    IsSigBelow node a → IsSigBelow node b → IsGateTable name node output (gate_with op a b)
+    (table_by name output op a b)
+gate_by name node output op Zero b names is below_a below_b = bit_first name node output op Zero false b (λ bits. refl) names is below_b
+gate_by name node output op One b names is below_a below_b = bit_first name node output op One true b (λ bits. refl) names is below_b
+gate_by name node output op (Node p) b names is below_a below_b = node_first name node output op p b names is below_a below_b
 
-pub gate_is : (name : ℕ → Name) (place : ℕ) (output : Name) (g : Gate) → AreNamesBelow name place → IsName output → IsGateAt place g → IsGateTable name place output g (gate_table name output g)
+pub gate_is : (name : ℕ → Name) (node : ℕ) (output : Name) (g : Gate) → AreNamesBelow name node → IsName output → IsGateAt node g → IsGateTable name node output g (gate_table name output g)
 unfolding gate_table
-gate_is name place output g names is at = gate_by name place output g.op g.a g.b names is at.first at.second
+gate_is name node output g names is at = gate_by name node output g.op g.a g.b names is at.first at.second
 
 -- ---- an output
 
--- t has the value of the signal s, reads nodes below `place`, and costs nothing
-pub record IsOutputTable (name : ℕ → Name) (place : ℕ) (output : Name) (s : Sig) (t : Table) : Type 0 where
+-- t has the value of the signal s, reads nodes below `node`, and costs nothing
+pub record IsOutputTable (name : ℕ → Name) (node : ℕ) (output : Name) (s : Sig) (t : Table) : Type 0 where
   pub drives : t.output ≡ output
   pub table : IsSpelledTable t
   pub cost : table_cost t ≡ 0
-  pub inputs : (n : Name) → has t.inputs n ≡ true → (p : ℕ) × (1 ≤ p) × (p < place) × (n ≡ name p)
+  pub inputs : (n : Name) → has t.inputs n ≡ true → (p : ℕ) × (1 ≤ p) × (p < node) × (n ≡ name p)
   pub value : (v : Name → Bool) → cover_value t.cover (map v t.inputs) ≡ sig_value (λ p. v (name p)) s
 
-constant_output : (name : ℕ → Name) (place : ℕ) (output : Name) (s : Sig) (bit : Bool) → IsName output → ((bits : ℕ → Bool) → bit ≡ sig_value bits s) → IsOutputTable name place output s (constant_table bit output)
-constant_output name place output s bit is value = record {
+constant_output : (name : ℕ → Name) (node : ℕ) (output : Name) (s : Sig) (bit : Bool) → IsName output →
+    ((bits : ℕ → Bool) → bit ≡ sig_value bits s) → IsOutputTable name node output s (constant_table bit output)
+constant_output name node output s bit is value = record {
   drives = refl;
   table = constant_is bit output is;
   cost = constant_cost bit output;
@@ -310,10 +334,10 @@ pick_copy : (x : Bool) → (if x then true else false) ≡ x
 pick_copy false = refl
 pick_copy true = refl
 
-pub output_is : (name : ℕ → Name) (place : ℕ) (output : Name) (s : Sig) → AreNamesBelow name place → IsName output → IsSigBelow place s → IsOutputTable name place output s (output_table name output s)
-output_is name place output Zero names is below = constant_output name place output Zero false is (λ bits. refl)
-output_is name place output One names is below = constant_output name place output One true is (λ bits. refl)
-output_is name place output (Place p) names is below = record {
+pub output_is : (name : ℕ → Name) (node : ℕ) (output : Name) (s : Sig) → AreNamesBelow name node → IsName output → IsSigBelow node s → IsOutputTable name node output s (output_table name output s)
+output_is name node output Zero names is below = constant_output name node output Zero false is (λ bits. refl)
+output_is name node output One names is below = constant_output name node output One true is (λ bits. refl)
+output_is name node output (Node p) names is below = record {
   drives = refl;
   table = unary_is false true (name p) output (names p below.0 below.1) is;
   cost = copy_cost (name p) output;

@@ -1,5 +1,7 @@
 -- How lines of words change the parser state, one after the other.
-use Rattle.std.specs.Prelude.{◌≡◌, ℕ, zero, suc, ◌+◌, ◌≤◌, ◌<◌, Bool, true, false, not, ◌&&◌, ◌||◌, ◌==◌, nat_le, nat_lt, if◌then◌else◌, List, [], ◌∷◌, ◌++◌, length, map, All, Option, Some, None, Result, Ok, Err, codes, refl}
+use Rattle.std.specs.Prelude.{◌≡◌, ℕ, zero, suc, ◌+◌, ◌≤◌, ◌<◌, Bool, true, false, not, ◌&&◌, ◌||◌, ◌==◌, nat_le}
+use Rattle.std.specs.Prelude.{nat_lt, if◌then◌else◌, List, [], ◌∷◌, ◌++◌, length, map, All, Option, Some, None, Result}
+use Rattle.std.specs.Prelude.{Ok, Err, codes, refl}
 use Rattle.std.specs.List.{flat_map, list_all}
 use Rattle.std.proofs.Common.{arith, sym, ◌∙◌, ap, subst, append_assoc, append-nil, length-append}
 use Rattle.std.proofs.lemmas.Bool.{and_from, and_parts, or_right, cond-true, cond-false, cond_both, eq-eqb, eqb-true, false_from_ne_true, lt-leb, le-ltb}
@@ -16,7 +18,9 @@ use Rattle.blif_text.specs.Logical.{logical_from, logical_of}
 use Rattle.net_document.specs.Contents.{is_nothing}
 use Rattle.blif_text.specs.Rows.{bit_in, row_in, with_row, row_of}
 use Rattle.blif_text.specs.Latches.{trigger_in, init_in, tail_with, with_control, tail_by, tail_by_both, tail_in, latch_with, latch_of}
-use Rattle.blif_text.specs.Statements.{Said, nothing, closed, are_names, with_model, front_of, last_of, empty_table, table_of, with_table, with_latch, directed, begins_dot, keyword_of, stated, steps, listed_by}
+use Rattle.blif_text.specs.Statements.{Said, nothing, closed, are_names, with_model, prefix_of, last_of, empty_table}
+use Rattle.blif_text.specs.Statements.{table_of, with_table, with_latch, directed, begins_dot, keyword_of, stated}
+use Rattle.blif_text.specs.Statements.{steps, listed_by}
 use Rattle.blif_core.specs.Spelling.{trigger_text}
 use Rattle.blif_laws.specs.Spelled.{IsSpelledTable}
 use Rattle.blif_laws.proofs.WordLines.{line_of, logical_line, step_line}
@@ -100,7 +104,8 @@ names_are [] all = refl
 names_are (w ∷ ws) all = and_from (is_name w) (list_all is_name ws) (All-head IsName w ws all).spelled (names_are ws (All-tail IsName w ws all))
 
 -- a statement after the first line
-directs : (n : ℕ) (s : Said) (word : Name) (ws : List Name) → s.is_ended ≡ false → begins_dot word ≡ true → s.is_begun ≡ true → stated n s (word ∷ ws) ≡ directed n (closed s) false word ws (keyword_of word)
+directs : (n : ℕ) (s : Said) (word : Name) (ws : List Name) → s.is_ended ≡ false → begins_dot word ≡ true →
+    s.is_begun ≡ true → stated n s (word ∷ ws) ≡ directed n (closed s) false word ws (keyword_of word)
 directs n s word ws going dot begun =
     cond-false s.is_ended _ _ going
     ∙ cond-true (begins_dot word) _ _ dot
@@ -142,17 +147,22 @@ all_push xs n all is = All-push IsName xs n all is
 one_name : (n : Name) → IsName n → All IsName (n ∷ [])
 one_name n is = All-cons IsName n [] is (All-nil IsName)
 
-pub list_said : (keyword : Name) (add : List Name → Document → Document) → Adds keyword add → (n : ℕ) (names : List Name) (count : ℕ) (ns : List Name) (d : Document) (s : Said) → All IsName names → All IsName ns → Has d s → Says n (rest_lines keyword names count ns) s (Has (add (names ++ ns) d))
+pub list_said : (keyword : Name) (add : List Name → Document → Document) → Adds keyword add →
+    (n : ℕ) (names : List Name) (count : ℕ) (ns : List Name) (d : Document) (s : Said) → All IsName names →
+    All IsName ns → Has d s → Says n (rest_lines keyword names count ns) s (Has (add (names ++ ns) d))
 unfolding rest_lines
 list_said keyword add adds n names count [] d s all more has =
     has_same (add names d) (add (names ++ []) d) (ap (λ (xs : List Name). add xs d) (sym (append-nil names))) n (line keyword names ∷ []) s (adds.once n names d s all has)
 list_said keyword add adds n names count (m ∷ ns) d s all more has =
-    cond_both (count == 16) (line keyword names ∷ rest_lines keyword (m ∷ []) 1 ns) (rest_lines keyword (names ++ m ∷ []) (count + 1) ns) (λ (ls : List WordLine). Says n ls s (Has (add (names ++ m ∷ ns) d)))
+    cond_both (count == 16) (line keyword names ∷ rest_lines keyword (m ∷ []) 1 ns) (rest_lines keyword (names ++
+    m ∷ []) (count + 1) ns) (λ (ls : List WordLine). Says n ls s (Has (add (names ++ m ∷ ns) d)))
     (λ full. has_same (add (m ∷ ns) (add names d)) (add (names ++ m ∷ ns) d) (adds.twice names (m ∷ ns) d) n (line keyword names ∷ rest_lines keyword (m ∷ []) 1 ns) s
     (says_then n (line keyword names ∷ []) (rest_lines keyword (m ∷ []) 1 ns) s (Has (add names d)) (Has (add (m ∷ ns) (add names d)))
     (adds.once n names d s all has)
     (λ k t h. list_said keyword add adds k (m ∷ []) 1 ns (add names d) t (one_name m (All-head IsName m ns more)) (All-tail IsName m ns more) h)))
-    (λ room. has_same (add ((names ++ m ∷ []) ++ ns) d) (add (names ++ m ∷ ns) d) (ap (λ (xs : List Name). add xs d) (append_assoc names (m ∷ []) ns)) n (rest_lines keyword (names ++ m ∷ []) (count + 1) ns) s
+    (λ room. has_same (add ((names ++ m ∷ []) ++ ns) d) (add (names ++ m ∷ ns) d)
+    (ap (λ (xs : List Name). add xs d) (append_assoc names (m ∷ []) ns)) n (rest_lines keyword (names ++
+    m ∷ []) (count + 1) ns) s
     (list_said keyword add adds n (names ++ m ∷ []) (count + 1) ns d s (all_push names m all (All-head IsName m ns more)) (All-tail IsName m ns more) has))
 
 abbrev pub add_inputs : List Name → Document → Document
@@ -165,18 +175,18 @@ abbrev pub add_clocks : List Name → Document → Document
 add_clocks ws d = record d { clocks = d.clocks ++ ws }
 
 -- the document of a state whose current table is complete, with its tables as parsed back
-abbrev behind : Said → Document
-behind s = record (listed_by (closed s)).document { tables = (closed s).tables ++ [] }
+abbrev after : Said → Document
+after s = record (listed_by (closed s)).document { tables = (closed s).tables ++ [] }
 
-behind_is : (d : Document) (s : Said) → Has d s → behind s ≡ d
-behind_is d s has = ap (λ (ts : List Table). let e : Document = record (listed_by (closed s)).document { tables = ts } in e) (append-nil (closed s).tables) ∙ has.document
+after_is : (d : Document) (s : Said) → Has d s → after s ≡ d
+after_is d s has = ap (λ (ts : List Table). let e : Document = record (listed_by (closed s)).document { tables = ts } in e) (append-nil (closed s).tables) ∙ has.document
 
 pub adds_inputs : Adds (codes ".inputs") add_inputs
 unfolding directed keyword_of
 adds_inputs = record {
   once = λ n ws d s all has. says_one n (line (codes ".inputs") ws) s (record (closed s) { inputs = s.inputs ++ ws; driven = s.driven ++ ws }) (Has (add_inputs ws d))
       (directs n s (codes ".inputs") ws has.going refl has.begun ∙ cond-true (are_names ws) _ _ (names_are ws all))
-      (record { document = ap (add_inputs ws) (behind_is d s has); begun = refl; going = has.going });
+      (record { document = ap (add_inputs ws) (after_is d s has); begun = refl; going = has.going });
   twice = λ xs ys d. ap (λ (zs : List Name). let e : Document = record d { inputs = zs } in e) (append_assoc d.inputs xs ys);
 }
 
@@ -185,7 +195,7 @@ unfolding directed keyword_of
 adds_outputs = record {
   once = λ n ws d s all has. says_one n (line (codes ".outputs") ws) s (record (closed s) { outputs = s.outputs ++ ws }) (Has (add_outputs ws d))
       (directs n s (codes ".outputs") ws has.going refl has.begun ∙ cond-true (are_names ws) _ _ (names_are ws all))
-      (record { document = ap (add_outputs ws) (behind_is d s has); begun = refl; going = has.going });
+      (record { document = ap (add_outputs ws) (after_is d s has); begun = refl; going = has.going });
   twice = λ xs ys d. ap (λ (zs : List Name). let e : Document = record d { outputs = zs } in e) (append_assoc d.outputs xs ys);
 }
 
@@ -194,7 +204,7 @@ unfolding directed keyword_of
 adds_clocks = record {
   once = λ n ws d s all has. says_one n (line (codes ".clock") ws) s (record (closed s) { clocks = s.clocks ++ ws }) (Has (add_clocks ws d))
       (directs n s (codes ".clock") ws has.going refl has.begun ∙ cond-true (are_names ws) _ _ (names_are ws all))
-      (record { document = ap (add_clocks ws) (behind_is d s has); begun = refl; going = has.going });
+      (record { document = ap (add_clocks ws) (after_is d s has); begun = refl; going = has.going });
   twice = λ xs ys d. ap (λ (zs : List Name). let e : Document = record d { clocks = zs } in e) (append_assoc d.clocks xs ys);
 }
 
@@ -233,7 +243,8 @@ init_back (suc (suc (suc (suc n)))) low = absurd (omega arith)
 control_back : (c : Trigger × Name) → IsName c.1 → with_control (trigger_in (trigger_text c.0)) c.1 ≡ Some c
 control_back c is = ap (λ (t : Option Trigger). with_control t c.1) (trigger_back c.0) ∙ cond-true (is_name c.1) _ _ is.spelled
 
-tail_back : (control : Option (Trigger × Name)) (init : Option ℕ) → IsControl control → IsInit init → tail_in (control_words control ++ init_words init) ≡ Some (record { control = control; init = init })
+tail_back : (control : Option (Trigger × Name)) (init : Option ℕ) → IsControl control → IsInit init →
+    tail_in (control_words control ++ init_words init) ≡ Some (record { control = control; init = init })
 unfolding tail_in
 tail_back None None c i = refl
 tail_back None (Some init) c i = ap (tail_with None) (init_back init i)
@@ -255,13 +266,15 @@ unfolding directed keyword_of
 latch_said n l d s is has =
     says_one n (latch_line l) s (with_latch n (closed s) l) (Has (add_latches (l ∷ []) d))
     (directs n s (codes ".latch") (latch_words l) has.going refl has.begun ∙ ap (λ (r : Result LatchLine NetError). r >>= λ m. Ok (with_latch n (closed s) m)) (latch_back n l is))
-    (record { document = ap (add_latches (l ∷ [])) (behind_is d s has); begun = refl; going = has.going })
+    (record { document = ap (add_latches (l ∷ [])) (after_is d s has); begun = refl; going = has.going })
 
 pub latches_said : (n : ℕ) (ls : List LatchLine) (d : Document) (s : Said) → All IsLatchLine ls → Has d s → Says n (map latch_line ls) s (Has (add_latches ls d))
 latches_said n [] d s all has =
     says_none n s (Has (add_latches [] d)) (subst (λ (e : Document). Has e s) (ap (λ (ls : List LatchLine). let e : Document = record d { latches = ls } in e) (sym (append-nil d.latches))) has)
 latches_said n (l ∷ ls) d s all has =
-    has_same (add_latches ls (add_latches (l ∷ []) d)) (add_latches (l ∷ ls) d) (ap (λ (xs : List LatchLine). let e : Document = record d { latches = xs } in e) (append_assoc d.latches (l ∷ []) ls)) n (map latch_line (l ∷ ls)) s
+    has_same (add_latches ls (add_latches (l ∷ []) d)) (add_latches (l ∷ ls) d)
+    (ap (λ (xs : List LatchLine). let e : Document = record d { latches = xs } in
+    e) (append_assoc d.latches (l ∷ []) ls)) n (map latch_line (l ∷ ls)) s
     (says_then n (latch_line l ∷ []) (map latch_line ls) s (Has (add_latches (l ∷ []) d)) (Has (add_latches ls (add_latches (l ∷ []) d)))
     (latch_said n l d s (All-head IsLatchLine l ls all) has)
     (λ m t h. latches_said m ls (add_latches (l ∷ []) d) t (All-tail IsLatchLine l ls all) h))
@@ -283,10 +296,10 @@ table_lines t = names_line t ∷ map row_line t.cover.cubes
 abbrev with_cubes : Table → List (List ℕ) → Table
 with_cubes t cubes = record { inputs = t.inputs; output = t.output; cover = record { width = t.cover.width; cubes = cubes; on = true; parity = false } }
 
-front_back : (w : Name) (ws : List Name) (output : Name) → front_of w (ws ++ output ∷ []) ≡ w ∷ ws
-unfolding front_of
-front_back w [] output = refl
-front_back w (v ∷ ws) output = ap (λ (xs : List Name). w ∷ xs) (front_back v ws output)
+prefix_back : (w : Name) (ws : List Name) (output : Name) → prefix_of w (ws ++ output ∷ []) ≡ w ∷ ws
+unfolding prefix_of
+prefix_back w [] output = refl
+prefix_back w (v ∷ ws) output = ap (λ (xs : List Name). w ∷ xs) (prefix_back v ws output)
 
 last_back : (w : Name) (ws : List Name) (output : Name) → last_of w (ws ++ output ∷ []) ≡ output
 unfolding last_of
@@ -294,12 +307,12 @@ last_back w [] output = refl
 last_back w (v ∷ ws) output = last_back v ws output
 
 table_back : (n : ℕ) (inputs : List Name) (output : Name) → All IsName inputs → IsName output → length inputs ≤ 256 → table_of n (inputs ++ output ∷ []) ≡ Ok (empty_table inputs output)
-unfolding table_of front_of last_of
+unfolding table_of prefix_of last_of
 table_back n [] output all is narrow = cond-true (are_names (output ∷ [])) _ _ (names_are (output ∷ []) (one_name output is))
 table_back n (w ∷ ws) output all is narrow =
     cond-false (nat_lt 256 (length (ws ++ output ∷ []))) _ _ (le-ltb 256 (length (ws ++ output ∷ [])) (omega (arith, narrow, length-append ws (output ∷ []))))
     ∙ cond-true (are_names (w ∷ (ws ++ output ∷ []))) _ _ (names_are (w ∷ (ws ++ output ∷ [])) (all_push (w ∷ ws) output all is))
-    ∙ ap (λ (xs : List Name). Ok (empty_table xs (last_of w (ws ++ output ∷ [])))) (front_back w ws output)
+    ∙ ap (λ (xs : List Name). Ok (empty_table xs (last_of w (ws ++ output ∷ [])))) (prefix_back w ws output)
     ∙ ap (λ (o : Name). Ok (empty_table (w ∷ ws) o)) (last_back w ws output)
 
 cube_no_dot : (width b : ℕ) (bs : List ℕ) → is_cube width (b ∷ bs) ≡ true → begins_dot (b ∷ bs) ≡ false
@@ -319,7 +332,9 @@ row_words_back width [] is =
     cond-true (width == 0) _ _ (eq-eqb width 0 (sym none))
 row_words_back width (b ∷ bs) is = cond-true (is_cube width (b ∷ bs)) _ _ is
 
-row_back : (n : ℕ) (t : Table) (done : List (List ℕ)) (cube : List ℕ) → is_cube t.cover.width cube ≡ true → length done < 4096 → row_of n (with_cubes t done) ((row_line cube).first ∷ (row_line cube).rest) ≡ Ok (with_cubes t (done ++ cube ∷ []))
+row_back : (n : ℕ) (t : Table) (done : List (List ℕ)) (cube : List ℕ) → is_cube t.cover.width cube ≡ true →
+    length done < 4096 → row_of n (with_cubes t done) ((row_line cube).first ∷ (row_line cube).rest) ≡
+    Ok (with_cubes t (done ++ cube ∷ []))
 unfolding row_of
 row_back n t done cube is room =
     ap (with_row n (with_cubes t done)) (row_words_back t.cover.width cube is)
@@ -348,7 +363,9 @@ rows_said n s t done [] going all room =
     says_none n (open_table s (with_cubes t done)) (λ u. u ≡ open_table s (with_cubes t (done ++ []))) (ap (λ (cs : List (List ℕ)). open_table s (with_cubes t cs)) (sym (append-nil done)))
 rows_said n s t done (cube ∷ cubes) going all room =
     subst (λ (cs : List (List ℕ)). Says n (row_line cube ∷ map row_line cubes) (open_table s (with_cubes t done)) (λ u. u ≡ open_table s (with_cubes t cs))) (append_assoc done (cube ∷ []) cubes)
-    (says_then n (row_line cube ∷ []) (map row_line cubes) (open_table s (with_cubes t done)) (λ u. u ≡ open_table s (with_cubes t (done ++ cube ∷ []))) (λ u. u ≡ open_table s (with_cubes t ((done ++ cube ∷ []) ++ cubes)))
+    (says_then n (row_line cube ∷ []) (map row_line cubes) (open_table s (with_cubes t done)) (λ u. u ≡
+    open_table s (with_cubes t (done ++ cube ∷ []))) (λ u. u ≡
+    open_table s (with_cubes t ((done ++ cube ∷ []) ++ cubes)))
     (row_said n s t done cube going (All-head (λ (c : List ℕ). is_cube t.cover.width c ≡ true) cube cubes all) (omega (arith, room)))
     (λ m u same. subst (λ (v : Said). Says m (map row_line cubes) v (λ w. w ≡ open_table s (with_cubes t ((done ++ cube ∷ []) ++ cubes)))) (sym same)
     (rows_said m s t (done ++ cube ∷ []) cubes going (All-tail (λ (c : List ℕ). is_cube t.cover.width c ≡ true) cube cubes all) (omega (arith, room, length-append done (cube ∷ []))))))
@@ -356,18 +373,27 @@ rows_said n s t done (cube ∷ cubes) going all room =
 abbrev pub add_tables : List Table → Document → Document
 add_tables ts d = record d { tables = d.tables ++ ts }
 
-names_said : (n : ℕ) (t : Table) (s : Said) (d : Document) → IsTable t → Has d s → Says n (names_line t ∷ []) s (λ u. u ≡ open_table (with_table (closed s) t) (with_cubes (empty_table t.inputs t.output) []))
+names_said : (n : ℕ) (t : Table) (s : Said) (d : Document) → IsTable t → Has d s →
+    Says n (names_line t ∷ []) s (λ u. u ≡ open_table (with_table (closed s) t)
+    (with_cubes (empty_table t.inputs t.output) []))
 unfolding directed keyword_of
 names_said n t s d is has =
     says_one n (names_line t) s (with_table (closed s) (empty_table t.inputs t.output)) (λ u. u ≡ open_table (with_table (closed s) t) (with_cubes (empty_table t.inputs t.output) []))
-    (directs n s (codes ".names") (t.inputs ++ t.output ∷ []) has.going refl has.begun ∙ ap (λ (r : Result Table NetError). r >>= λ u. Ok (with_table (closed s) u)) (table_back n t.inputs t.output is.inputs is.output is.narrow))
+    (directs n s (codes ".names") (t.inputs ++ t.output ∷ []) has.going refl has.begun
+    ∙ ap (λ (r : Result Table NetError). r >>= λ u. Ok (with_table (closed s) u))
+    (table_back n t.inputs t.output is.inputs is.output is.narrow))
     refl
 
 table_whole : (t : Table) → IsSpelledTable t → with_cubes (empty_table t.inputs t.output) t.cover.cubes ≡ t
 table_whole t is =
     ap (λ (w : ℕ). let u : Table = record { inputs = t.inputs; output = t.output; cover = record { width = w; cubes = t.cover.cubes; on = true; parity = false } } in u) (sym is.table.width)
     ∙ ap (λ (on : Bool). let u : Table = record { inputs = t.inputs; output = t.output; cover = record { width = t.cover.width; cubes = t.cover.cubes; on = on; parity = false } } in u) (sym is.on)
-    ∙ ap (λ (p : Bool). let u : Table = record { inputs = t.inputs; output = t.output; cover = record { width = t.cover.width; cubes = t.cover.cubes; on = t.cover.on; parity = p } } in u) (sym is.cubes)
+    ∙ ap (λ (p : Bool). let u : Table = record {
+      inputs = t.inputs;
+      output = t.output;
+      cover = record { width = t.cover.width; cubes = t.cover.cubes; on = t.cover.on; parity = p };
+    } in
+    u) (sym is.cubes)
 
 opened_has : (d : Document) (s : Said) (t : Table) → Has d s → Has (add_tables (t ∷ []) d) (open_table (with_table (closed s) t) t)
 opened_has d s t has = record {
@@ -395,7 +421,9 @@ pub tables_said : (n : ℕ) (ts : List Table) (d : Document) (s : Said) → All 
 tables_said n [] d s all has =
     says_none n s (Has (add_tables [] d)) (subst (λ (e : Document). Has e s) (ap (λ (ts : List Table). let e : Document = record d { tables = ts } in e) (sym (append-nil d.tables))) has)
 tables_said n (t ∷ ts) d s all has =
-    has_same (add_tables ts (add_tables (t ∷ []) d)) (add_tables (t ∷ ts) d) (ap (λ (xs : List Table). let e : Document = record d { tables = xs } in e) (append_assoc d.tables (t ∷ []) ts)) n (flat_map table_lines (t ∷ ts)) s
+    has_same (add_tables ts (add_tables (t ∷ []) d)) (add_tables (t ∷ ts) d)
+    (ap (λ (xs : List Table). let e : Document = record d { tables = xs } in e) (append_assoc d.tables (t ∷ []) ts))
+    n (flat_map table_lines (t ∷ ts)) s
     (says_then n (table_lines t) (flat_map table_lines ts) s (Has (add_tables (t ∷ []) d)) (Has (add_tables ts (add_tables (t ∷ []) d)))
     (table_said n t d s (All-head IsSpelledTable t ts all) has)
     (λ m u h. tables_said m ts (add_tables (t ∷ []) d) u (All-tail IsSpelledTable t ts all) h))
@@ -410,5 +438,5 @@ unfolding said_by directed keyword_of
 end_said n d s has = (
   closed (record (closed s) { is_ended = true }),
   ap (λ (r : Result Said NetError). r >>= λ u. Ok (closed u)) (directs n s (codes ".end") [] has.going refl has.begun),
-  behind_is d s has,
+  after_is d s has,
 )

@@ -13,19 +13,23 @@ use Rattle.net_theory.specs.Document.{Name, IsName, is_name, is_name_byte, has, 
 use Rattle.net_theory.specs.WellFormed.{IsTable, IsLatchLine, IsControl, IsInit, IsFreeOf}
 use Rattle.net_theory.specs.Naming.{control_of, second_of}
 use Rattle.net_core.specs.declared.error.NetError.{NetError}
-use Rattle.net_document.specs.Listed.{AreFree}
+use Rattle.net_document.specs.Listed.{AreControlsFree}
 use Rattle.blif_text.specs.Logical.{logical_of}
 use Rattle.blif_text.specs.Reading.{◌>>=◌}
 use Rattle.blif_text.specs.Statements.{Said, Control, nothing, steps, said_of, listed_of, listed_by, control_fault, unless}
 use Rattle.blif_text.specs.SaidLaws.{control_name}
-use Rattle.blif_text.specs.StepLaws.{IsWhole}
+use Rattle.blif_text.specs.StepLaws.{IsComplete}
 use Rattle.blif_text.specs.ListingLaws.{said_whole, text_listed}
 use Rattle.blif_core.specs.Spelling.{word_text, words_text, rest_text, list_text, clocks_text, trigger_text, control_text, init_text, latch_text, row_text, table_text, model_text, spelled}
 use Rattle.net_document.specs.Format.{IsReadBack}
 use Rattle.blif_core.specs.Blif.{blif_format}
-use Rattle.blif_laws.specs.Spelled.{IsSpelledTable, IsSpelled}
+use Rattle.blif_laws.specs.Spelled.{IsSpelledTable, IsBlifSpelling}
 use Rattle.blif_laws.proofs.WordLines.{line_of}
-use Rattle.blif_laws.proofs.Saying.{WordLine, line, line_text, IsLine, said_by, lines_said, Says, says_none, says_then, Has, model_line, model_alone, model_said, rest_lines, list_said, add_inputs, add_outputs, add_clocks, adds_inputs, adds_outputs, adds_clocks, control_words, init_words, latch_words, latch_line, add_latches, latches_said, names_line, row_line, table_lines, add_tables, tables_said, end_line, end_said}
+use Rattle.blif_laws.proofs.Saying.{WordLine, line, line_text, IsLine, said_by, lines_said, Says, says_none, says_then}
+use Rattle.blif_laws.proofs.Saying.{Has, model_line, model_alone, model_said, rest_lines, list_said, add_inputs}
+use Rattle.blif_laws.proofs.Saying.{add_outputs, add_clocks, adds_inputs, adds_outputs, adds_clocks, control_words}
+use Rattle.blif_laws.proofs.Saying.{init_words, latch_words, latch_line, add_latches, latches_said, names_line}
+use Rattle.blif_laws.proofs.Saying.{row_line, table_lines, add_tables, tables_said, end_line, end_said}
 
 -- ---- its lines
 
@@ -135,7 +139,9 @@ rows_spelled (c ∷ cs) =
 table_spelled : (t : Table) → t.cover.on ≡ true → table_text t ≡ lines_text (table_lines t)
 table_spelled t on =
     ap (λ (b : Bool). (((codes ".names" ++ words_text t.inputs) ++ word_text t.output) ++ 10 ∷ []) ++ flat_map (row_text b) t.cover.cubes) on
-    ∙ ap (λ (xs : List ℕ). (xs ++ 10 ∷ []) ++ flat_map (row_text true) t.cover.cubes) (append_assoc (codes ".names") (words_text t.inputs) (word_text t.output) ∙ ap (λ (xs : List ℕ). codes ".names" ++ xs) (sym (words_push t.inputs t.output)))
+    ∙ ap (λ (xs : List ℕ). (xs ++ 10 ∷ []) ++ flat_map (row_text true) t.cover.cubes)
+    (append_assoc (codes ".names") (words_text t.inputs) (word_text t.output)
+    ∙ ap (λ (xs : List ℕ). codes ".names" ++ xs) (sym (words_push t.inputs t.output)))
     ∙ ap (λ (xs : List ℕ). line_text (names_line t) ++ xs) (rows_spelled t.cover.cubes)
 
 tables_spelled : (ts : List Table) → All IsSpelledTable ts → flat_map table_text ts ≡ lines_text (flat_map table_lines ts)
@@ -153,7 +159,7 @@ model_spelled : (model : Name) → model_text model ≡ lines_text (model_line m
 model_spelled model =
     ap (λ (xs : List ℕ). (codes ".model" ++ xs) ++ 10 ∷ []) (sym (append-nil (word_text model))) ∙ sym (append-nil (line_text (model_line model)))
 
-document_spelled : (d : Document) → IsSpelled d → spelled d ≡ lines_text (document_lines d)
+document_spelled : (d : Document) → IsBlifSpelling d → spelled d ≡ lines_text (document_lines d)
 unfolding spelled
 document_spelled d is =
     joined_spelled _ (codes ".end\n") (table_part d) (end_line ∷ [])
@@ -161,7 +167,8 @@ document_spelled d is =
     (joined_spelled _ (flat_map latch_text d.latches) (clock_part d) (map latch_line d.latches)
     (joined_spelled _ (clocks_text d.clocks) (output_part d) (clock_lines d.clocks)
     (joined_spelled _ (list_text (codes ".outputs") d.outputs) (input_part d) (list_lines (codes ".outputs") d.outputs)
-    (joined_spelled (model_text d.model) (list_text (codes ".inputs") d.inputs) (model_line d.model ∷ []) (list_lines (codes ".inputs") d.inputs) (model_spelled d.model) (list_spelled (codes ".inputs") d.inputs))
+    (joined_spelled (model_text d.model) (list_text (codes ".inputs") d.inputs) (model_line d.model ∷ [])
+    (list_lines (codes ".inputs") d.inputs) (model_spelled d.model) (list_spelled (codes ".inputs") d.inputs))
     (list_spelled (codes ".outputs") d.outputs))
     (clocks_spelled d.clocks))
     (latches_spelled d.latches))
@@ -176,7 +183,8 @@ keyword_name keyword e short = record { spelled = e; short = short }
 short_line : (keyword : Name) (names : List Name) → IsName keyword → All IsName names → length names ≤ 1000 → IsLine (line keyword names)
 short_line keyword names is all few = record { names = All-cons IsName keyword names is all; few = few }
 
-rest_are : (keyword : Name) (names : List Name) (count : ℕ) (ns : List Name) → IsName keyword → All IsName names → All IsName ns → length names ≡ count → count ≤ 16 → All IsLine (rest_lines keyword names count ns)
+rest_are : (keyword : Name) (names : List Name) (count : ℕ) (ns : List Name) → IsName keyword → All IsName names →
+    All IsName ns → length names ≡ count → count ≤ 16 → All IsLine (rest_lines keyword names count ns)
 unfolding rest_lines
 rest_are keyword names count [] is all more same low = All-cons IsLine (line keyword names) [] (short_line keyword names is all (omega (arith, same, low))) (All-nil IsLine)
 rest_are keyword names count (n ∷ ns) is all more same low =
@@ -186,7 +194,9 @@ rest_are keyword names count (n ∷ ns) is all more same low =
     (λ full. All-cons IsLine (line keyword names) (rest_lines keyword (n ∷ []) 1 ns) (short_line keyword names is all (omega (arith, same, low)))
     (rest_are keyword (n ∷ []) 1 ns is (All-cons IsName n [] head (All-nil IsName)) tail refl (omega arith)))
     (λ room. let other = eqb-false count 16 room in
-    rest_are keyword (names ++ n ∷ []) (count + 1) ns is (All-push IsName names n all head) tail (omega (arith, same, length-append names (n ∷ []))) (⊎_elim (λ lt. omega (arith, lt)) (λ ge. absurd (other (omega (arith, low, ge)))) (cases_lt count 16)))
+    rest_are keyword (names ++ n ∷ []) (count + 1) ns is (All-push IsName names n all head) tail
+    (omega (arith, same, length-append names (n ∷ [])))
+    (⊎_elim (λ lt. omega (arith, lt)) (λ ge. absurd (other (omega (arith, low, ge)))) (cases_lt count 16)))
 
 clocks_are : (clocks : List Name) → All IsName clocks → All IsLine (clock_lines clocks)
 unfolding is_name
@@ -271,7 +281,9 @@ table_are : (t : Table) → IsTable t → All IsLine (table_lines t)
 unfolding is_name
 table_are t is =
     All-cons IsLine (names_line t) (map row_line t.cover.cubes)
-    (short_line (codes ".names") (t.inputs ++ t.output ∷ []) (keyword_name (codes ".names") refl (omega arith)) (All-push IsName t.inputs t.output is.inputs is.output) (omega (arith, is.narrow, length-append t.inputs (t.output ∷ []))))
+    (short_line (codes ".names") (t.inputs ++ t.output ∷ []) (keyword_name (codes ".names") refl (omega arith))
+    (All-push IsName t.inputs t.output is.inputs is.output)
+    (omega (arith, is.narrow, length-append t.inputs (t.output ∷ []))))
     (rows_are t.cover.width t.cover.cubes (omega (arith, is.width, is.narrow)) is.cover.cubes)
 
 tables_are : (ts : List Table) → All IsSpelledTable ts → All IsLine (flat_map table_lines ts)
@@ -285,7 +297,7 @@ end_are : All IsLine (end_line ∷ [])
 unfolding is_name
 end_are = All-cons IsLine end_line [] (short_line (codes ".end") [] (keyword_name (codes ".end") refl (omega arith)) (All-nil IsName) (omega arith)) (All-nil IsLine)
 
-document_are : (d : Document) → IsSpelled d → All IsLine (document_lines d)
+document_are : (d : Document) → IsBlifSpelling d → All IsLine (document_lines d)
 unfolding is_name
 document_are d is =
     All-append IsLine (table_part d) (end_line ∷ [])
@@ -294,7 +306,9 @@ document_are d is =
     (All-append IsLine (output_part d) (clock_lines d.clocks)
     (All-append IsLine (input_part d) (list_lines (codes ".outputs") d.outputs)
     (All-append IsLine (model_line d.model ∷ []) (list_lines (codes ".inputs") d.inputs)
-    (All-cons IsLine (model_line d.model) [] (short_line (codes ".model") (d.model ∷ []) (keyword_name (codes ".model") refl (omega arith)) (All-cons IsName d.model [] is.model (All-nil IsName)) (omega arith)) (All-nil IsLine))
+    (All-cons IsLine (model_line d.model) [] (short_line (codes ".model") (d.model ∷ [])
+    (keyword_name (codes ".model") refl (omega arith)) (All-cons IsName d.model [] is.model (All-nil IsName))
+    (omega arith)) (All-nil IsLine))
     (list_are (codes ".inputs") d.inputs (keyword_name (codes ".inputs") refl (omega arith)) is.inputs))
     (list_are (codes ".outputs") d.outputs (keyword_name (codes ".outputs") refl (omega arith)) is.outputs))
     (clocks_are d.clocks is.clocks))
@@ -315,12 +329,14 @@ named d = add_clocks d.clocks (add_outputs d.outputs (add_inputs d.inputs (model
 abbrev tabled : Document → Document
 tabled d = add_tables d.tables (add_latches d.latches (named d))
 
-parts_said : (d : Document) → IsSpelled d → Says 1 (table_part d) nothing (Has (tabled d))
+parts_said : (d : Document) → IsBlifSpelling d → Says 1 (table_part d) nothing (Has (tabled d))
 parts_said d is =
     says_then 1 (latch_part d) (flat_map table_lines d.tables) nothing (Has (add_latches d.latches (named d))) (Has (tabled d))
     (says_then 1 (clock_part d) (map latch_line d.latches) nothing (Has (named d)) (Has (add_latches d.latches (named d)))
     (says_then 1 (output_part d) (clock_lines d.clocks) nothing (Has (add_outputs d.outputs (add_inputs d.inputs (model_alone d.model)))) (Has (named d))
-    (says_then 1 (input_part d) (list_lines (codes ".outputs") d.outputs) nothing (Has (add_inputs d.inputs (model_alone d.model))) (Has (add_outputs d.outputs (add_inputs d.inputs (model_alone d.model))))
+    (says_then 1 (input_part d) (list_lines (codes ".outputs") d.outputs) nothing
+    (Has (add_inputs d.inputs (model_alone d.model)))
+    (Has (add_outputs d.outputs (add_inputs d.inputs (model_alone d.model))))
     (says_then 1 (model_line d.model ∷ []) (list_lines (codes ".inputs") d.inputs) nothing (Has (model_alone d.model)) (Has (add_inputs d.inputs (model_alone d.model)))
     (model_said d.model is.model)
     (λ n s has. list_said (codes ".inputs") add_inputs adds_inputs n [] 0 d.inputs (model_alone d.model) s (All-nil IsName) is.inputs has))
@@ -329,7 +345,7 @@ parts_said d is =
     (λ n s has. latches_said n d.latches (named d) s is.latches has))
     (λ n s has. tables_said n d.tables (add_latches d.latches (named d)) s is.tables has)
 
-document_said : (d : Document) → IsSpelled d → (s : Said) × (said_by 1 nothing (document_lines d) ≡ Ok s) × ((listed_by s).document ≡ d)
+document_said : (d : Document) → IsBlifSpelling d → (s : Said) × (said_by 1 nothing (document_lines d) ≡ Ok s) × ((listed_by s).document ≡ d)
 document_said d is =
     let t = parts_said d is in
     let e = end_said t.next d t.end t.good in
@@ -337,7 +353,7 @@ document_said d is =
 
 -- ---- the document
 
-said_back : (d : Document) → IsSpelled d → (s : Said) × (said_of (spelled d) ≡ Ok s) × ((listed_by s).document ≡ d)
+said_back : (d : Document) → IsBlifSpelling d → (s : Said) × (said_of (spelled d) ≡ Ok s) × ((listed_by s).document ≡ d)
 unfolding said_of
 said_back d is =
     let r = document_said d is in
@@ -362,19 +378,20 @@ free_all ns (l ∷ ls) all =
     free_first ns l.latch.control (filter_map control_of (map latch_of ls)) (All-head (λ (x : LatchLine). IsFreeOf ns x.latch.control) l ls all)
     (free_all ns ls (All-tail (λ (x : LatchLine). IsFreeOf ns x.latch.control) l ls all))
 
-controls_free : (s : Said) (size : ℕ) → IsWhole s size → AreFree (listed_by s).document → control_fault (map table_output s.tables) s.controls ≡ None
+controls_free : (s : Said) (size : ℕ) → IsComplete s size → AreControlsFree (listed_by s).document → control_fault (map table_output s.tables) s.controls ≡ None
 controls_free s size is free =
     no_fault (map table_output s.tables) s.controls (subst (λ (ms : List Name). AreNone (map table_output s.tables) ms) (sym is.said.controls) (free_all (map table_output s.tables) s.latches free))
 
 -- a document with a BLIF text is read back
-pub read_back : (d : Document) → IsSpelled d → AreFree d → IsReadBack blif_format (spelled d) d
+pub read_back : (d : Document) → IsBlifSpelling d → AreControlsFree d → IsReadBack blif_format (spelled d) d
 unfolding listed_of
 read_back d is free =
     let r = said_back d is in
-    let none = controls_free r.0 _ (said_whole (spelled d) r.0 r.1) (subst AreFree (sym r.2) free) in
+    let none = controls_free r.0 _ (said_whole (spelled d) r.0 r.1) (subst AreControlsFree (sym r.2) free) in
     record {
       listed = listed_by r.0;
-      said = ap (λ (x : Result Said NetError). x >>= λ s. unless (control_fault (map table_output s.tables) s.controls) (listed_by s)) r.1 ∙ ap (λ (f : Option NetError). unless f (listed_by r.0)) none;
+      said = ap (λ (x : Result Said NetError). x >>= λ s. unless (control_fault (map table_output s.tables) s.controls)
+          (listed_by s)) r.1 ∙ ap (λ (f : Option NetError). unless f (listed_by r.0)) none;
       document = r.2;
       is = text_listed (spelled d) r.0 r.1;
     }

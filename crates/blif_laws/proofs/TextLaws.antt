@@ -6,13 +6,13 @@ use Rattle.net_theory.specs.WellFormed.{IsWellFormed}
 use Rattle.net_theory.specs.Cost.{cost}
 use Rattle.net_theory.specs.Circuit.{Circuit, IsProper, Describes}
 use Rattle.net_theory.specs.ExchangeLaws.{exchanged_proper}
-use Rattle.net_core.specs.Names.{HasRoom}
+use Rattle.net_core.specs.Names.{HasRoomForNames}
 use Rattle.net_document.specs.Format.{IsTextOf, IsFormat}
 use Rattle.net_document.specs.FormatLaws.{fault_none}
 use Rattle.blif_text.specs.ListingLaws.{texts_list}
 use Rattle.blif_core.specs.Written.{written}
 use Rattle.blif_core.specs.Spelling.{circuit_text}
-use Rattle.blif_core.specs.Blif.{blif_format, CanWrite}
+use Rattle.blif_core.specs.Blif.{blif_format, CanWriteBlif}
 use Rattle.blif_laws.proofs.Spelled.{read_back}
 use Rattle.blif_laws.proofs.CircuitNames.{AreNamed, circuit_named}
 use Rattle.blif_laws.proofs.WrittenDocument.{written_spelled, written_cost, written_well}
@@ -38,10 +38,10 @@ text_by c is named =
       cheap = subst (λ (d : Document). cost d ≤ length c.net.gates) (sym back.document) (written_cost c is named);
     }
 
-pub text_is : (c : Circuit) → IsProper c → HasRoom c → IsTextOf blif_format (circuit_text c) c
+pub text_is : (c : Circuit) → IsProper c → HasRoomForNames c → IsTextOf blif_format (circuit_text c) c
 text_is c is small = text_by c is (circuit_named c is small)
 
-pub blif_is_format : IsFormat blif_format CanWrite
+pub blif_is_format : IsFormat blif_format CanWriteBlif
 blif_is_format = record {
   lists = texts_list;
   proper = λ c can. can.0;

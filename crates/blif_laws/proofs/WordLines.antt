@@ -22,28 +22,28 @@ line_of w ws = w ++ words_text ws
 
 -- the last byte isn't removed at the end of a line
 record EndsWell (text : List ℕ) : Type 0 where
-  front : List ℕ
+  prefix : List ℕ
   last : ℕ
-  is : text ≡ front ++ last ∷ []
+  is : text ≡ prefix ++ last ∷ []
   good : is_name_byte last ≡ true
   other : (last == 92) ≡ false
 
 end_more : (b : ℕ) (text : List ℕ) → EndsWell text → EndsWell (b ∷ text)
-end_more b text e = record { front = b ∷ e.front; last = e.last; is = ap (λ (xs : List ℕ). b ∷ xs) e.is; good = e.good; other = e.other }
+end_more b text e = record { prefix = b ∷ e.prefix; last = e.last; is = ap (λ (xs : List ℕ). b ∷ xs) e.is; good = e.good; other = e.other }
 
-end_behind : (xs ys : List ℕ) → EndsWell ys → EndsWell (xs ++ ys)
-end_behind [] ys e = e
-end_behind (x ∷ xs) ys e = end_more x (xs ++ ys) (end_behind xs ys e)
+end_after : (xs ys : List ℕ) → EndsWell ys → EndsWell (xs ++ ys)
+end_after [] ys e = e
+end_after (x ∷ xs) ys e = end_more x (xs ++ ys) (end_after xs ys e)
 
 name_end : (n : Name) → is_name n ≡ true → EndsWell n
 unfolding is_name
 name_end [] e = absurd cc
-name_end (b ∷ []) e = let p = and_parts (is_name_byte b) (not (b == 92)) e in record { front = []; last = b; is = refl; good = p.0; other = not-true (b == 92) p.1 }
+name_end (b ∷ []) e = let p = and_parts (is_name_byte b) (not (b == 92)) e in record { prefix = []; last = b; is = refl; good = p.0; other = not-true (b == 92) p.1 }
 name_end (b ∷ c ∷ bs) e = let p = and_parts (is_name_byte b) (is_name (c ∷ bs)) e in end_more b (c ∷ bs) (name_end (c ∷ bs) p.1)
 
 line_end : (w : Name) (ws : List Name) → All IsName (w ∷ ws) → EndsWell (line_of w ws)
 line_end w [] all = subst EndsWell (sym (append-nil w)) (name_end w (All-head IsName w [] all).spelled)
-line_end w (v ∷ ws) all = end_behind w (words_text (v ∷ ws)) (end_more 32 (line_of v ws) (line_end v ws (All-tail IsName w (v ∷ ws) all)))
+line_end w (v ∷ ws) all = end_after w (words_text (v ∷ ws)) (end_more 32 (line_of v ws) (line_end v ws (All-tail IsName w (v ∷ ws) all)))
 
 -- a byte that names can't contain is in no name
 other_byte : (byte b : ℕ) → is_name_byte byte ≡ false → is_name_byte b ≡ true → (b == byte) ≡ false
@@ -76,22 +76,22 @@ line_free byte w ws never blank all = free_both byte w (words_text ws) (name_fre
 
 -- ---- logical lines
 
-before_free : (front text : List ℕ) → is_free 35 text ≡ true → before_from front text ≡ front ++ text
+before_free : (prefix text : List ℕ) → is_free 35 text ≡ true → before_from prefix text ≡ prefix ++ text
 unfolding before_from is_free
-before_free front [] free = sym (append-nil front)
-before_free front (b ∷ bs) free =
+before_free prefix [] free = sym (append-nil prefix)
+before_free prefix (b ∷ bs) free =
     let other : (b == 35) ≡ false = false_from_ne_true (b == 35) (λ e. let f : false ≡ true = sym (cond-true (b == 35) _ _ e) ∙ free in cc) in
     cond-false (b == 35) _ _ other
-    ∙ before_free (front ++ b ∷ []) bs (sym (cond-false (b == 35) _ _ other) ∙ free)
-    ∙ append_assoc front (b ∷ []) bs
+    ∙ before_free (prefix ++ b ∷ []) bs (sym (cond-false (b == 35) _ _ other) ∙ free)
+    ∙ append_assoc prefix (b ∷ []) bs
 
 no_last : (c : ℕ) (text : List ℕ) (e : EndsWell text) → (e.last == c) ≡ false → without_last c text ≡ None
-no_last c text e other = ap (without_last c) e.is ∙ without_last-push c e.front e.last ∙ cond-false (e.last == c) _ _ other
+no_last c text e other = ap (without_last c) e.is ∙ without_last-push c e.prefix e.last ∙ cond-false (e.last == c) _ _ other
 
 trimmed_end : (text : List ℕ) → EndsWell text → trimmed text ≡ text
 trimmed_end text e =
     ap trimmed e.is
-    ∙ trimmed-other e.front e.last (or_from (e.last == 32) (e.last == 9) (other_byte 32 e.last refl e.good) (other_byte 9 e.last refl e.good))
+    ∙ trimmed-other e.prefix e.last (or_from (e.last == 32) (e.last == 9) (other_byte 32 e.last refl e.good) (other_byte 9 e.last refl e.good))
     ∙ sym e.is
 
 content_same : (w : Name) (ws : List Name) → All IsName (w ∷ ws) → content_of (record { text = line_of w ws; ended = true }) ≡ line_of w ws
@@ -111,20 +111,20 @@ logical_line n w ws rest all =
     let content = content_same w ws all in
     let none : without_last 92 (content_of l) ≡ None = ap (without_last 92) content ∙ no_last 92 (line_of w ws) e e.other in
     ap (logical_from n (begun_at n)) (line_back (line_of w ws) rest (line_free 10 w ws refl refl all))
-    ∙ ap (λ (r : Option (List ℕ)). line_then r (ended_by (begun_at n) l ∷ logical_of (n + 1) rest) (λ front. logical_from (n + 1) (going_on (begun_at n) l front) (lines_of rest))) none
+    ∙ ap (λ (r : Option (List ℕ)). line_then r (ended_by (begun_at n) l ∷ logical_of (n + 1) rest) (λ prefix. logical_from (n + 1) (going_on (begun_at n) l prefix) (lines_of rest))) none
     ∙ ap (λ (text : List ℕ). let j : Logical = record { first = n; size = 0 + length (line_of w ws); text = text } in j ∷ logical_of (n + 1) rest) content
 
 -- ---- words
 
-word_on : (front w rest : List ℕ) → is_free 32 w ≡ true → is_free 9 w ≡ true → words_from front (w ++ rest) ≡ words_from (front ++ w) rest
+word_on : (prefix w rest : List ℕ) → is_free 32 w ≡ true → is_free 9 w ≡ true → words_from prefix (w ++ rest) ≡ words_from (prefix ++ w) rest
 unfolding words_from is_free
-word_on front [] rest no_blank no_tab = ap (λ (xs : List ℕ). words_from xs rest) (sym (append-nil front))
-word_on front (b ∷ w) rest no_blank no_tab =
+word_on prefix [] rest no_blank no_tab = ap (λ (xs : List ℕ). words_from xs rest) (sym (append-nil prefix))
+word_on prefix (b ∷ w) rest no_blank no_tab =
     let blank : (b == 32) ≡ false = false_from_ne_true (b == 32) (λ e. let f : false ≡ true = sym (cond-true (b == 32) _ _ e) ∙ no_blank in cc) in
     let tab : (b == 9) ≡ false = false_from_ne_true (b == 9) (λ e. let f : false ≡ true = sym (cond-true (b == 9) _ _ e) ∙ no_tab in cc) in
     cond-false (is_blank b) _ _ (or_from (b == 32) (b == 9) blank tab)
-    ∙ word_on (front ++ b ∷ []) w rest (sym (cond-false (b == 32) _ _ blank) ∙ no_blank) (sym (cond-false (b == 9) _ _ tab) ∙ no_tab)
-    ∙ ap (λ (xs : List ℕ). words_from xs rest) (append_assoc front (b ∷ []) w)
+    ∙ word_on (prefix ++ b ∷ []) w rest (sym (cond-false (b == 32) _ _ blank) ∙ no_blank) (sym (cond-false (b == 9) _ _ tab) ∙ no_tab)
+    ∙ ap (λ (xs : List ℕ). words_from xs rest) (append_assoc prefix (b ∷ []) w)
 
 name_on : (w : Name) (rest : List ℕ) → is_name w ≡ true → words_from [] (w ++ rest) ≡ words_from w rest
 name_on w rest e = word_on [] w rest (name_free 32 w refl e) (name_free 9 w refl e)
@@ -173,7 +173,8 @@ line_size w ws all =
     omega (arith, short, rest, length-append w (words_text ws))
 
 -- one step of the parser, on a written line
-pub step_line : (s : Said) (n : ℕ) (w : Name) (ws : List Name) → All IsName (w ∷ ws) → length ws ≤ 1000 → step s (record { first = n; size = 0 + length (line_of w ws); text = line_of w ws }) ≡ stated n s (w ∷ ws)
+pub step_line : (s : Said) (n : ℕ) (w : Name) (ws : List Name) → All IsName (w ∷ ws) → length ws ≤ 1000 →
+    step s (record { first = n; size = 0 + length (line_of w ws); text = line_of w ws }) ≡ stated n s (w ∷ ws)
 unfolding step
 step_line s n w ws all few =
     let short : nat_lt 1048576 (0 + length (line_of w ws)) ≡ false = le-ltb 1048576 (0 + length (line_of w ws)) (let size = line_size w ws all in omega (arith, size, few)) in

@@ -20,64 +20,72 @@ use Rattle.blif_laws.proofs.GateTables.{AreNamesBelow, IsGateTable, gate_is, IsO
 
 -- ---- gates
 
--- gates, of which the first is the node `place`, and their names
-pub record AreToBeWritten (name : ℕ → Name) (place : ℕ) (gs : List Gate) (ns : List Name) : Type 0 where
-  pub below : AreNamesBelow name place
-  pub gates : (i : ℕ) (g : Gate) → slice_get gs i ≡ Some g → IsGateAt (place + i) g
-  pub named : (i : ℕ) (n : Name) → slice_get ns i ≡ Some n → name (place + i) ≡ n
+-- gates, of which the first is the node `node`, and their names
+pub record AreToBeWritten (name : ℕ → Name) (node : ℕ) (gs : List Gate) (ns : List Name) : Type 0 where
+  pub below : AreNamesBelow name node
+  pub gates : (i : ℕ) (g : Gate) → slice_get gs i ≡ Some g → IsGateAt (node + i) g
+  pub named : (i : ℕ) (n : Name) → slice_get ns i ≡ Some n → name (node + i) ≡ n
   pub names : (n : Name) → has ns n ≡ true → IsName n
 
-next_written : (name : ℕ → Name) (place : ℕ) (g : Gate) (gs : List Gate) (n : Name) (ns : List Name) → AreToBeWritten name place (g ∷ gs) (n ∷ ns) → AreToBeWritten name (place + 1) gs ns
-next_written name place g gs n ns are =
-    let here : name place ≡ n = subst (λ (p : ℕ). name p ≡ n) (add-zero place) (are.named 0 n refl) in
-    let later : (i : ℕ) → place + suc i ≡ place + 1 + i = λ i. omega arith in
+next_written : (name : ℕ → Name) (node : ℕ) (g : Gate) (gs : List Gate) (n : Name) (ns : List Name) → AreToBeWritten name node (g ∷ gs) (n ∷ ns) → AreToBeWritten name (node + 1) gs ns
+next_written name node g gs n ns are =
+    let here : name node ≡ n = subst (λ (p : ℕ). name p ≡ n) (add-zero node) (are.named 0 n refl) in
+    let later : (i : ℕ) → node + suc i ≡ node + 1 + i = λ i. omega arith in
     record {
-      below = λ p low high. ⊎_elim (λ same. subst IsName (sym (ap name same ∙ here)) (are.names n (has_first n ns))) (λ other. are.below p low (omega (arith, high, other))) (cases_eq p place);
+      below = λ p low high. ⊎_elim (λ same. subst IsName (sym (ap name same ∙ here)) (are.names n (has_first n ns))) (λ other. are.below p low (omega (arith, high, other))) (cases_eq p node);
       gates = λ i h at. subst (λ (p : ℕ). IsGateAt p h) (later i) (are.gates (suc i) h at);
       named = λ i m at. subst (λ (p : ℕ). name p ≡ m) (later i) (are.named (suc i) m at);
       names = λ m there. are.names m (has_later n ns m there);
     }
 
-first_gate : (name : ℕ → Name) (place : ℕ) (g : Gate) (gs : List Gate) (n : Name) (ns : List Name) → AreToBeWritten name place (g ∷ gs) (n ∷ ns) → IsGateTable name place n g (gate_table name n g)
-first_gate name place g gs n ns are =
-    gate_is name place n g are.below (are.names n (has_first n ns)) (subst (λ (p : ℕ). IsGateAt p g) (add-zero place) (are.gates 0 g refl))
+first_gate : (name : ℕ → Name) (node : ℕ) (g : Gate) (gs : List Gate) (n : Name) (ns : List Name) → AreToBeWritten name node (g ∷ gs) (n ∷ ns) → IsGateTable name node n g (gate_table name n g)
+first_gate name node g gs n ns are =
+    gate_is name node n g are.below (are.names n (has_first n ns)) (subst (λ (p : ℕ). IsGateAt p g) (add-zero node) (are.gates 0 g refl))
 
-pub gates_outputs : (name : ℕ → Name) (place : ℕ) (gs : List Gate) (ns : List Name) → AreToBeWritten name place gs ns → length ns ≡ length gs → map table_output (gate_tables name gs ns) ≡ ns
+pub gates_outputs : (name : ℕ → Name) (node : ℕ) (gs : List Gate) (ns : List Name) → AreToBeWritten name node gs ns → length ns ≡ length gs → map table_output (gate_tables name gs ns) ≡ ns
 unfolding gate_tables
-gates_outputs name place [] [] are same = refl
-gates_outputs name place [] (n ∷ ns) are same = absurd (omega (arith, same))
-gates_outputs name place (g ∷ gs) [] are same = absurd (omega (arith, same))
-gates_outputs name place (g ∷ gs) (n ∷ ns) are same =
-    ap (λ (m : Name). m ∷ map table_output (gate_tables name gs ns)) (first_gate name place g gs n ns are).drives
-    ∙ ap (λ (ms : List Name). n ∷ ms) (gates_outputs name (place + 1) gs ns (next_written name place g gs n ns are) (omega (arith, same)))
+gates_outputs name node [] [] are same = refl
+gates_outputs name node [] (n ∷ ns) are same = absurd (omega (arith, same))
+gates_outputs name node (g ∷ gs) [] are same = absurd (omega (arith, same))
+gates_outputs name node (g ∷ gs) (n ∷ ns) are same =
+    ap (λ (m : Name). m ∷ map table_output (gate_tables name gs ns)) (first_gate name node g gs n ns are).drives
+    ∙ ap (λ (ms : List Name). n ∷ ms) (gates_outputs name (node + 1) gs ns (next_written name node g gs n ns are) (omega (arith, same)))
 
-pub gates_spelled : (name : ℕ → Name) (place : ℕ) (gs : List Gate) (ns : List Name) → AreToBeWritten name place gs ns → All IsSpelledTable (gate_tables name gs ns)
+pub gates_spelled : (name : ℕ → Name) (node : ℕ) (gs : List Gate) (ns : List Name) → AreToBeWritten name node gs ns → All IsSpelledTable (gate_tables name gs ns)
 unfolding gate_tables
-gates_spelled name place [] ns are = All-nil IsSpelledTable
-gates_spelled name place (g ∷ gs) [] are = All-nil IsSpelledTable
-gates_spelled name place (g ∷ gs) (n ∷ ns) are =
-    All-cons IsSpelledTable (gate_table name n g) (gate_tables name gs ns) (first_gate name place g gs n ns are).table (gates_spelled name (place + 1) gs ns (next_written name place g gs n ns are))
+gates_spelled name node [] ns are = All-nil IsSpelledTable
+gates_spelled name node (g ∷ gs) [] are = All-nil IsSpelledTable
+gates_spelled name node (g ∷ gs) (n ∷ ns) are =
+    All-cons IsSpelledTable (gate_table name n g) (gate_tables name gs ns) (first_gate name node g gs n ns are).table (gates_spelled name (node + 1) gs ns (next_written name node g gs n ns are))
 
-pub gates_cost : (name : ℕ → Name) (place : ℕ) (gs : List Gate) (ns : List Name) → AreToBeWritten name place gs ns → sum_by table_cost (gate_tables name gs ns) ≤ length gs
+pub gates_cost : (name : ℕ → Name) (node : ℕ) (gs : List Gate) (ns : List Name) → AreToBeWritten name node gs ns → sum_by table_cost (gate_tables name gs ns) ≤ length gs
 unfolding gate_tables
-gates_cost name place [] ns are = omega arith
-gates_cost name place (g ∷ gs) [] are = omega arith
-gates_cost name place (g ∷ gs) (n ∷ ns) are =
-    omega (arith, sum_by-cons table_cost (gate_table name n g) (gate_tables name gs ns), (first_gate name place g gs n ns are).cost, gates_cost name (place + 1) gs ns (next_written name place g gs n ns are))
+gates_cost name node [] ns are = omega arith
+gates_cost name node (g ∷ gs) [] are = omega arith
+gates_cost name node (g ∷ gs) (n ∷ ns) are =
+    omega (
+      arith,
+      sum_by-cons table_cost (gate_table name n g) (gate_tables name gs ns),
+      (first_gate name node g gs n ns are).cost,
+      gates_cost name (node + 1) gs ns (next_written name node g gs n ns are),
+    )
 
-pub gates_layered : (name : ℕ → Name) (before : List Name) (place : ℕ) (gs : List Gate) (ns : List Name) → AreToBeWritten name place gs ns → ((p : ℕ) → 1 ≤ p → p < place → has before (name p) ≡ true) → ((n : Name) → has ns n ≡ true → has before n ≡ false) → are_distinct ns ≡ true → AreLayered before (gate_tables name gs ns)
+pub gates_layered : (name : ℕ → Name) (before : List Name) (node : ℕ) (gs : List Gate) (ns : List Name) →
+    AreToBeWritten name node gs ns → ((p : ℕ) → 1 ≤ p → p < node → has before (name p) ≡ true) →
+    ((n : Name) → has ns n ≡ true → has before n ≡ false) → are_distinct ns ≡ true →
+    AreLayered before (gate_tables name gs ns)
 unfolding gate_tables
-gates_layered name before place [] ns are known apart distinct = tt
-gates_layered name before place (g ∷ gs) [] are known apart distinct = tt
-gates_layered name before place (g ∷ gs) (n ∷ ns) are known apart distinct =
-    let table = first_gate name place g gs n ns are in
+gates_layered name before node [] ns are known apart distinct = tt
+gates_layered name before node (g ∷ gs) [] are known apart distinct = tt
+gates_layered name before node (g ∷ gs) (n ∷ ns) are known apart distinct =
+    let table = first_gate name node g gs n ns are in
     let parts = distinct_cons n ns distinct in
-    let here : name place ≡ n = subst (λ (p : ℕ). name p ≡ n) (add-zero place) (are.named 0 n refl) in
-    let rest : AreLayered (before ++ n ∷ []) (gate_tables name gs ns) = gates_layered name (before ++ n ∷ []) (place + 1) gs ns (next_written name place g gs n ns are)
+    let here : name node ≡ n = subst (λ (p : ℕ). name p ≡ n) (add-zero node) (are.named 0 n refl) in
+    let rest : AreLayered (before ++ n ∷ []) (gate_tables name gs ns) = gates_layered name (before ++ n ∷ []) (node + 1) gs ns (next_written name node g gs n ns are)
     (λ p low high. ⊎_elim
     (λ same. has_right before (n ∷ []) (name p) (subst (λ (m : Name). has (n ∷ []) m ≡ true) (sym (ap name same ∙ here)) (has_first n [])))
     (λ other. has_left before (n ∷ []) (name p) (known p low (omega (arith, high, other))))
-    (cases_eq p place))
+    (cases_eq p node))
     (λ m there. false_from_ne_true (has (before ++ n ∷ []) m) (λ had. ⊎_elim
     (λ old. both_ways (has before m) (apart m (has_later n ns m there)) old)
     (λ new. ⊎_elim (λ same. both_ways (has ns n) parts.0 (subst (λ (x : Name). has ns x ≡ true) same there)) (λ none. has_none m none) (has_cases n [] m new))
@@ -90,21 +98,23 @@ gates_layered name before place (g ∷ gs) (n ∷ ns) are known apart distinct =
       subst (λ (m : Name). AreLayered (before ++ m ∷ []) (gate_tables name gs ns)) (sym table.drives) rest,
     )
 
-pub gates_hold : (name : ℕ → Name) (place : ℕ) (gs : List Gate) (ns : List Name) (v : Name → Bool) (i : ℕ) (g : Gate) (n : Name) → AreToBeWritten name place gs ns → All (HoldsIn v) (gate_tables name gs ns) → slice_get gs i ≡ Some g → slice_get ns i ≡ Some n → v n ≡ gate_value (λ p. v (name p)) g
+pub gates_hold : (name : ℕ → Name) (node : ℕ) (gs : List Gate) (ns : List Name) (v : Name →
+    Bool) (i : ℕ) (g : Gate) (n : Name) → AreToBeWritten name node gs ns → All (HoldsIn v) (gate_tables name gs ns) →
+    slice_get gs i ≡ Some g → slice_get ns i ≡ Some n → v n ≡ gate_value (λ p. v (name p)) g
 unfolding gate_tables
-gates_hold name place [] ns v i g n are hold at_g at_n = absurd cc
-gates_hold name place (h ∷ gs) [] v i g n are hold at_g at_n = absurd cc
-gates_hold name place (h ∷ gs) (m ∷ ns) v zero g n are hold at_g at_n =
+gates_hold name node [] ns v i g n are hold at_g at_n = absurd cc
+gates_hold name node (h ∷ gs) [] v i g n are hold at_g at_n = absurd cc
+gates_hold name node (h ∷ gs) (m ∷ ns) v zero g n are hold at_g at_n =
     let same_g : h ≡ g = cc in
     let same_n : m ≡ n = cc in
-    let table = first_gate name place h gs m ns are in
+    let table = first_gate name node h gs m ns are in
     ap v (sym same_n)
     ∙ ap v (sym table.drives)
     ∙ All-head (HoldsIn v) (gate_table name m h) (gate_tables name gs ns) hold
     ∙ table.value v
     ∙ ap (gate_value (λ p. v (name p))) same_g
-gates_hold name place (h ∷ gs) (m ∷ ns) v (suc i) g n are hold at_g at_n =
-    gates_hold name (place + 1) gs ns v i g n (next_written name place h gs m ns are) (All-tail (HoldsIn v) (gate_table name m h) (gate_tables name gs ns) hold) at_g at_n
+gates_hold name node (h ∷ gs) (m ∷ ns) v (suc i) g n are hold at_g at_n =
+    gates_hold name (node + 1) gs ns v i g n (next_written name node h gs m ns are) (All-tail (HoldsIn v) (gate_table name m h) (gate_tables name gs ns) hold) at_g at_n
 
 -- ---- constants
 
@@ -153,7 +163,9 @@ constants_spelled false false first second one two = All-nil IsSpelledTable
 constants_spelled false true first second one two = All-cons IsSpelledTable (constant_table true first) [] (constant_is true first one) (All-nil IsSpelledTable)
 constants_spelled true false first second one two = All-cons IsSpelledTable (constant_table false first) [] (constant_is false first one) (All-nil IsSpelledTable)
 constants_spelled true true first second one two =
-    All-cons IsSpelledTable (constant_table false first) (constant_table true second ∷ []) (constant_is false first one) (All-cons IsSpelledTable (constant_table true second) [] (constant_is true second two) (All-nil IsSpelledTable))
+    All-cons IsSpelledTable (constant_table false first) (constant_table true second ∷ [])
+    (constant_is false first one) (All-cons IsSpelledTable (constant_table true second) []
+    (constant_is true second two) (All-nil IsSpelledTable))
 
 one_cost : (bit : Bool) (n : Name) → sum_by table_cost (constant_table bit n ∷ []) ≡ 0
 one_cost bit n = omega (arith, sum_by-cons table_cost (constant_table bit n) [], constant_cost bit n)
@@ -187,30 +199,34 @@ one_driven true true first second e = has_later first (second ∷ []) second (ha
 -- ---- outputs
 
 -- outputs and their sinks, with the names of nodes
-pub record AreOutputs (name : ℕ → Name) (place : ℕ) (outs : List Name) (sinks : List Sig) : Type 0 where
+pub record AreOutputs (name : ℕ → Name) (node : ℕ) (outs : List Name) (sinks : List Sig) : Type 0 where
   pub names : (n : Name) → has outs n ≡ true → IsName n
-  pub below : (i : ℕ) (s : Sig) → slice_get sinks i ≡ Some s → IsSigBelow place s
-  pub places : AreNamesBelow name place
+  pub below : (i : ℕ) (s : Sig) → slice_get sinks i ≡ Some s → IsSigBelow node s
+  pub nodes : AreNamesBelow name node
 
-next_outputs : (name : ℕ → Name) (place : ℕ) (o : Name) (os : List Name) (s : Sig) (ss : List Sig) → AreOutputs name place (o ∷ os) (s ∷ ss) → AreOutputs name place os ss
-next_outputs name place o os s ss are = record { names = λ n there. are.names n (has_later o os n there); below = λ i x at. are.below (suc i) x at; places = are.places }
+next_outputs : (name : ℕ → Name) (node : ℕ) (o : Name) (os : List Name) (s : Sig) (ss : List Sig) → AreOutputs name node (o ∷ os) (s ∷ ss) → AreOutputs name node os ss
+next_outputs name node o os s ss are = record { names = λ n there. are.names n (has_later o os n there); below = λ i x at. are.below (suc i) x at; nodes = are.nodes }
 
-first_output : (name : ℕ → Name) (place : ℕ) (o : Name) (os : List Name) (s : Sig) (ss : List Sig) → AreOutputs name place (o ∷ os) (s ∷ ss) → IsOutputTable name place o s (output_table name o s)
-first_output name place o os s ss are = output_is name place o s are.places (are.names o (has_first o os)) (are.below 0 s refl)
+first_output : (name : ℕ → Name) (node : ℕ) (o : Name) (os : List Name) (s : Sig) (ss : List Sig) → AreOutputs name node (o ∷ os) (s ∷ ss) → IsOutputTable name node o s (output_table name o s)
+first_output name node o os s ss are = output_is name node o s are.nodes (are.names o (has_first o os)) (are.below 0 s refl)
 
 abbrev more_outputs : (ℕ → Name) → List Name → Name → List Name → Sig → List Sig → List Table
 more_outputs name written o os s ss = output_table name o s ∷ output_tables name (written ++ o ∷ []) os ss
 
-pub outputs_layered : (name : ℕ → Name) (place : ℕ) (written before : List Name) (outs : List Name) (sinks : List Sig) → AreOutputs name place outs sinks → ((n : Name) → has outs n ≡ true → has before n ≡ true → has written n ≡ true) → ((p : ℕ) → 1 ≤ p → p < place → has before (name p) ≡ true) → AreLayered before (output_tables name written outs sinks)
+pub outputs_layered : (name : ℕ → Name) (node : ℕ) (written before : List Name) (outs : List Name) (sinks : List Sig) →
+    AreOutputs name node outs sinks → ((n : Name) → has outs n ≡ true → has before n ≡ true → has written n ≡ true) →
+    ((p : ℕ) → 1 ≤ p → p < node → has before (name p) ≡ true) →
+    AreLayered before (output_tables name written outs sinks)
 unfolding output_tables
-outputs_layered name place written before [] sinks are known reach = tt
-outputs_layered name place written before (o ∷ os) [] are known reach = tt
-outputs_layered name place written before (o ∷ os) (s ∷ ss) are known reach =
-    let table = first_output name place o os s ss are in
+outputs_layered name node written before [] sinks are known reach = tt
+outputs_layered name node written before (o ∷ os) [] are known reach = tt
+outputs_layered name node written before (o ∷ os) (s ∷ ss) are known reach =
+    let table = first_output name node o os s ss are in
     cond_both (has written o) (output_tables name written os ss) (more_outputs name written o os s ss) (AreLayered before)
-    (λ there. outputs_layered name place written before os ss (next_outputs name place o os s ss are) (λ n out old. known n (has_later o os n out) old) reach)
+    (λ there. outputs_layered name node written before os ss (next_outputs name node o os s ss are) (λ n out old. known n (has_later o os n out) old) reach)
     (λ new.
-    let rest : AreLayered (before ++ o ∷ []) (output_tables name (written ++ o ∷ []) os ss) = outputs_layered name place (written ++ o ∷ []) (before ++ o ∷ []) os ss (next_outputs name place o os s ss are)
+    let rest : AreLayered (before ++ o ∷ []) (output_tables name (written ++ o ∷ []) os ss) =
+    outputs_layered name node (written ++ o ∷ []) (before ++ o ∷ []) os ss (next_outputs name node o os s ss are)
     (λ n out old. ⊎_elim
     (λ was. has_left written (o ∷ []) n (known n (has_later o os n out) was))
     (λ is. has_right written (o ∷ []) n is)
@@ -223,65 +239,82 @@ outputs_layered name place written before (o ∷ os) (s ∷ ss) are known reach 
       subst (λ (m : Name). AreLayered (before ++ m ∷ []) (output_tables name (written ++ o ∷ []) os ss)) (sym table.drives) rest,
     ))
 
-pub outputs_spelled : (name : ℕ → Name) (place : ℕ) (written outs : List Name) (sinks : List Sig) → AreOutputs name place outs sinks → All IsSpelledTable (output_tables name written outs sinks)
+pub outputs_spelled : (name : ℕ → Name) (node : ℕ) (written outs : List Name) (sinks : List Sig) → AreOutputs name node outs sinks → All IsSpelledTable (output_tables name written outs sinks)
 unfolding output_tables
-outputs_spelled name place written [] sinks are = All-nil IsSpelledTable
-outputs_spelled name place written (o ∷ os) [] are = All-nil IsSpelledTable
-outputs_spelled name place written (o ∷ os) (s ∷ ss) are =
+outputs_spelled name node written [] sinks are = All-nil IsSpelledTable
+outputs_spelled name node written (o ∷ os) [] are = All-nil IsSpelledTable
+outputs_spelled name node written (o ∷ os) (s ∷ ss) are =
     cond_both (has written o) (output_tables name written os ss) (more_outputs name written o os s ss) (All IsSpelledTable)
-    (λ there. outputs_spelled name place written os ss (next_outputs name place o os s ss are))
-    (λ new. All-cons IsSpelledTable (output_table name o s) (output_tables name (written ++ o ∷ []) os ss) (first_output name place o os s ss are).table (outputs_spelled name place (written ++ o ∷ []) os ss (next_outputs name place o os s ss are)))
+    (λ there. outputs_spelled name node written os ss (next_outputs name node o os s ss are))
+    (λ new. All-cons IsSpelledTable (output_table name o s) (output_tables name (written ++ o ∷ []) os ss)
+    (first_output name node o os s ss are).table (outputs_spelled name node (written ++
+    o ∷ []) os ss (next_outputs name node o os s ss are)))
 
-pub outputs_cost : (name : ℕ → Name) (place : ℕ) (written outs : List Name) (sinks : List Sig) → AreOutputs name place outs sinks → sum_by table_cost (output_tables name written outs sinks) ≡ 0
+pub outputs_cost : (name : ℕ → Name) (node : ℕ) (written outs : List Name) (sinks : List Sig) → AreOutputs name node outs sinks → sum_by table_cost (output_tables name written outs sinks) ≡ 0
 unfolding output_tables
-outputs_cost name place written [] sinks are = refl
-outputs_cost name place written (o ∷ os) [] are = refl
-outputs_cost name place written (o ∷ os) (s ∷ ss) are =
+outputs_cost name node written [] sinks are = refl
+outputs_cost name node written (o ∷ os) [] are = refl
+outputs_cost name node written (o ∷ os) (s ∷ ss) are =
     cond_both (has written o) (output_tables name written os ss) (more_outputs name written o os s ss) (λ (ts : List Table). sum_by table_cost ts ≡ 0)
-    (λ there. outputs_cost name place written os ss (next_outputs name place o os s ss are))
-    (λ new. omega (arith, sum_by-cons table_cost (output_table name o s) (output_tables name (written ++ o ∷ []) os ss), (first_output name place o os s ss are).cost, outputs_cost name place (written ++ o ∷ []) os ss (next_outputs name place o os s ss are)))
+    (λ there. outputs_cost name node written os ss (next_outputs name node o os s ss are))
+    (λ new. omega (
+      arith,
+      sum_by-cons table_cost (output_table name o s) (output_tables name (written ++
+          o ∷ []) os ss),
+      (first_output name node o os s ss are).cost,
+      outputs_cost name node (written ++
+          o ∷ []) os ss (next_outputs name node o os s ss are),
+    ))
 
 -- each table drives an output that wasn't written before
-pub outputs_new : (name : ℕ → Name) (place : ℕ) (written outs : List Name) (sinks : List Sig) (n : Name) → AreOutputs name place outs sinks → has (map table_output (output_tables name written outs sinks)) n ≡ true → (has outs n ≡ true) × (has written n ≡ false)
+pub outputs_new : (name : ℕ → Name) (node : ℕ) (written outs : List Name) (sinks : List Sig) (n : Name) →
+    AreOutputs name node outs sinks → has (map table_output (output_tables name written outs sinks)) n ≡ true →
+    (has outs n ≡ true) × (has written n ≡ false)
 unfolding output_tables
-outputs_new name place written [] sinks n are e = absurd (has_none n e)
-outputs_new name place written (o ∷ os) [] n are e = absurd (has_none n e)
-outputs_new name place written (o ∷ os) (s ∷ ss) n are e =
-    cond_both (has written o) (output_tables name written os ss) (more_outputs name written o os s ss) (λ (ts : List Table). has (map table_output ts) n ≡ true → (has (o ∷ os) n ≡ true) × (has written n ≡ false))
-    (λ there f. let r = outputs_new name place written os ss n (next_outputs name place o os s ss are) f in (has_later o os n r.0, r.1))
+outputs_new name node written [] sinks n are e = absurd (has_none n e)
+outputs_new name node written (o ∷ os) [] n are e = absurd (has_none n e)
+outputs_new name node written (o ∷ os) (s ∷ ss) n are e =
+    cond_both (has written o) (output_tables name written os ss) (more_outputs name written o os s ss)
+    (λ (ts : List Table). has (map table_output ts) n ≡ true → (has (o ∷ os) n ≡ true) × (has written n ≡ false))
+    (λ there f. let r = outputs_new name node written os ss n (next_outputs name node o os s ss are) f in (has_later o os n r.0, r.1))
     (λ new f. ⊎_elim
     (λ here.
-    let same : n ≡ o = here ∙ (first_output name place o os s ss are).drives in
+    let same : n ≡ o = here ∙ (first_output name node o os s ss are).drives in
     (subst (λ (m : Name). has (o ∷ os) m ≡ true) (sym same) (has_first o os), subst (λ (m : Name). has written m ≡ false) (sym same) new))
     (λ later.
-    let r = outputs_new name place (written ++ o ∷ []) os ss n (next_outputs name place o os s ss are) later in
+    let r = outputs_new name node (written ++ o ∷ []) os ss n (next_outputs name node o os s ss are) later in
     (has_later o os n r.0, false_from_ne_true (has written n) (λ old. both_ways (has (written ++ o ∷ []) n) r.1 (has_left written (o ∷ []) n old))))
     (has_cases (output_table name o s).output (map table_output (output_tables name (written ++ o ∷ []) os ss)) n f))
     e
 
 -- each output was written before, or one of the tables drives it
-pub outputs_driven : (name : ℕ → Name) (place : ℕ) (written outs : List Name) (sinks : List Sig) (n : Name) → AreOutputs name place outs sinks → length outs ≤ length sinks → has outs n ≡ true → (has written n ≡ true) ⊎ (has (map table_output (output_tables name written outs sinks)) n ≡ true)
+pub outputs_driven : (name : ℕ → Name) (node : ℕ) (written outs : List Name) (sinks : List Sig) (n : Name) →
+    AreOutputs name node outs sinks → length outs ≤ length sinks → has outs n ≡ true → (has written n ≡ true) ⊎
+    (has (map table_output (output_tables name written outs sinks)) n ≡ true)
 unfolding output_tables
-outputs_driven name place written [] sinks n are few e = absurd (has_none n e)
-outputs_driven name place written (o ∷ os) [] n are few e = absurd (omega (arith, few))
-outputs_driven name place written (o ∷ os) (s ∷ ss) n are few e =
-    let table = first_output name place o os s ss are in
+outputs_driven name node written [] sinks n are few e = absurd (has_none n e)
+outputs_driven name node written (o ∷ os) [] n are few e = absurd (omega (arith, few))
+outputs_driven name node written (o ∷ os) (s ∷ ss) n are few e =
+    let table = first_output name node o os s ss are in
     cond_both (has written o) (output_tables name written os ss) (more_outputs name written o os s ss) (λ (ts : List Table). (has written n ≡ true) ⊎ (has (map table_output ts) n ≡ true))
     (λ there. ⊎_elim
     (λ here. inl (subst (λ (m : Name). has written m ≡ true) (sym here) there))
-    (λ later. outputs_driven name place written os ss n (next_outputs name place o os s ss are) (omega (arith, few)) later)
+    (λ later. outputs_driven name node written os ss n (next_outputs name node o os s ss are) (omega (arith, few)) later)
     (has_cases o os n e))
     (λ new.
-    let outs_first : has (map table_output (more_outputs name written o os s ss)) o ≡ true = subst (λ (m : Name). has (map table_output (more_outputs name written o os s ss)) m ≡ true) table.drives (has_first (output_table name o s).output (map table_output (output_tables name (written ++ o ∷ []) os ss))) in
+    let outs_first : has (map table_output (more_outputs name written o os s ss)) o ≡ true =
+    subst (λ (m : Name). has (map table_output (more_outputs name written o os s ss)) m ≡ true) table.drives
+    (has_first (output_table name o s).output (map table_output (output_tables name (written ++ o ∷ []) os ss))) in
     ⊎_elim
     (λ here. inr (subst (λ (m : Name). has (map table_output (more_outputs name written o os s ss)) m ≡ true) (sym here) outs_first))
     (λ later. ⊎_elim
     (λ there. ⊎_elim
     (λ old. inl old)
-    (λ is. inr (⊎_elim (λ same. subst (λ (m : Name). has (map table_output (more_outputs name written o os s ss)) m ≡ true) (sym same) outs_first) (λ none. absurd (has_none n none)) (has_cases o [] n is)))
+    (λ is. inr (⊎_elim (λ same. subst (λ (m : Name). has (map table_output (more_outputs name written o os s ss)) m ≡
+    true) (sym same) outs_first) (λ none. absurd (has_none n none)) (has_cases o [] n is)))
     (has_either written (o ∷ []) n there))
     (λ driven. inr (has_later (output_table name o s).output (map table_output (output_tables name (written ++ o ∷ []) os ss)) n driven))
-    (outputs_driven name place (written ++ o ∷ []) os ss n (next_outputs name place o os s ss are) (omega (arith, few)) later))
+    (outputs_driven name node (written ++ o ∷ []) os ss n (next_outputs name node o os s ss are) (omega (arith, few)) later))
     (has_cases o os n e))
 
 -- outputs with the same name have the same sink
@@ -292,34 +325,36 @@ HaveOneSink outs sinks = (i j : ℕ) (o : Name) (s t : Sig) → slice_get outs i
 abbrev pub named_value : (ℕ → Name) → (Name → Bool) → Sig → Bool
 named_value name v s = sig_value (λ p. v (name p)) s
 
-first_holds : (name : ℕ → Name) (place : ℕ) (o : Name) (os : List Name) (s : Sig) (ss : List Sig) (v : Name → Bool) → AreOutputs name place (o ∷ os) (s ∷ ss) → HoldsIn v (output_table name o s) → v o ≡ named_value name v s
-first_holds name place o os s ss v are hold =
-    let table = first_output name place o os s ss are in
+first_holds : (name : ℕ → Name) (node : ℕ) (o : Name) (os : List Name) (s : Sig) (ss : List Sig) (v : Name → Bool) →
+    AreOutputs name node (o ∷ os) (s ∷ ss) → HoldsIn v (output_table name o s) → v o ≡ named_value name v s
+first_holds name node o os s ss v are hold =
+    let table = first_output name node o os s ss are in
     ap v (sym table.drives) ∙ hold ∙ table.value v
 
 -- Each output has its sink's value, if the outputs that were written before do.
-pub outputs_hold : (name : ℕ → Name) (place : ℕ) (written outs : List Name) (sinks : List Sig) (v : Name → Bool) → AreOutputs name place outs sinks → All (HoldsIn v) (output_tables name written outs sinks) → HaveOneSink outs sinks →
+pub outputs_hold : (name : ℕ → Name) (node : ℕ) (written outs : List Name) (sinks : List Sig) (v : Name → Bool) →
+    AreOutputs name node outs sinks → All (HoldsIn v) (output_tables name written outs sinks) → HaveOneSink outs sinks →
     ((i : ℕ) (o : Name) (s : Sig) → slice_get outs i ≡ Some o → slice_get sinks i ≡ Some s → has written o ≡ true → v o ≡ named_value name v s) →
     (i : ℕ) (o : Name) (s : Sig) → slice_get outs i ≡ Some o → slice_get sinks i ≡ Some s → v o ≡ named_value name v s
 unfolding output_tables
-outputs_hold name place written [] sinks v are hold same old i o s at_o at_s = absurd cc
-outputs_hold name place written (x ∷ os) [] v are hold same old i o s at_o at_s = absurd cc
-outputs_hold name place written (x ∷ os) (y ∷ ss) v are hold same old zero o s at_o at_s =
+outputs_hold name node written [] sinks v are hold same old i o s at_o at_s = absurd cc
+outputs_hold name node written (x ∷ os) [] v are hold same old i o s at_o at_s = absurd cc
+outputs_hold name node written (x ∷ os) (y ∷ ss) v are hold same old zero o s at_o at_s =
     let here : x ≡ o = cc in
     let sink : y ≡ s = cc in
     cond_both (has written x) (output_tables name written os ss) (more_outputs name written x os y ss) (λ (ts : List Table). All (HoldsIn v) ts → v o ≡ named_value name v s)
     (λ there h. old 0 o s at_o at_s (subst (λ (n : Name). has written n ≡ true) here there))
-    (λ new h. ap v (sym here) ∙ first_holds name place x os y ss v are (All-head (HoldsIn v) (output_table name x y) (output_tables name (written ++ x ∷ []) os ss) h) ∙ ap (named_value name v) sink)
+    (λ new h. ap v (sym here) ∙ first_holds name node x os y ss v are (All-head (HoldsIn v) (output_table name x y) (output_tables name (written ++ x ∷ []) os ss) h) ∙ ap (named_value name v) sink)
     hold
-outputs_hold name place written (x ∷ os) (y ∷ ss) v are hold same old (suc i) o s at_o at_s =
+outputs_hold name node written (x ∷ os) (y ∷ ss) v are hold same old (suc i) o s at_o at_s =
     cond_both (has written x) (output_tables name written os ss) (more_outputs name written x os y ss) (λ (ts : List Table). All (HoldsIn v) ts → v o ≡ named_value name v s)
-    (λ there h. outputs_hold name place written os ss v (next_outputs name place x os y ss are) h
+    (λ there h. outputs_hold name node written os ss v (next_outputs name node x os y ss are) h
     (λ k j n a b at_k at_j sink_k sink_j. same (suc k) (suc j) n a b at_k at_j sink_k sink_j)
     (λ k n a at_k sink_k was. old (suc k) n a at_k sink_k was)
     i o s at_o at_s)
     (λ new h.
-    let head = first_holds name place x os y ss v are (All-head (HoldsIn v) (output_table name x y) (output_tables name (written ++ x ∷ []) os ss) h) in
-    outputs_hold name place (written ++ x ∷ []) os ss v (next_outputs name place x os y ss are) (All-tail (HoldsIn v) (output_table name x y) (output_tables name (written ++ x ∷ []) os ss) h)
+    let head = first_holds name node x os y ss v are (All-head (HoldsIn v) (output_table name x y) (output_tables name (written ++ x ∷ []) os ss) h) in
+    outputs_hold name node (written ++ x ∷ []) os ss v (next_outputs name node x os y ss are) (All-tail (HoldsIn v) (output_table name x y) (output_tables name (written ++ x ∷ []) os ss) h)
     (λ k j n a b at_k at_j sink_k sink_j. same (suc k) (suc j) n a b at_k at_j sink_k sink_j)
     (λ k n a at_k sink_k was. ⊎_elim
     (λ long. old (suc k) n a at_k sink_k long)
@@ -357,7 +392,9 @@ lines_at name (x ∷ ls) (s ∷ ss) zero l e =
       line_same a b f = cc
 lines_at name (x ∷ ls) (s ∷ ss) (suc i) l e = let r = lines_at name ls ss i l e in record { latch = r.latch; sink = r.sink; at = r.at; input = r.input }
 
-pub lines_values : (name : Sig → Name) (ls : List Latch) (ss : List Sig) (v : Name → Bool) (f : Sig → Bool) → length ls ≡ length ss → ((i : ℕ) (s : Sig) → slice_get ss i ≡ Some s → v (name s) ≡ f s) → map v (map latch_input (latch_lines name ls ss)) ≡ map f ss
+pub lines_values : (name : Sig → Name) (ls : List Latch) (ss : List Sig) (v : Name → Bool) (f : Sig → Bool) →
+    length ls ≡ length ss → ((i : ℕ) (s : Sig) → slice_get ss i ≡ Some s → v (name s) ≡ f s) →
+    map v (map latch_input (latch_lines name ls ss)) ≡ map f ss
 unfolding latch_lines
 lines_values name [] [] v f same each = refl
 lines_values name [] (s ∷ ss) v f same each = absurd (omega (arith, same))
@@ -367,7 +404,9 @@ lines_values name (l ∷ ls) (s ∷ ss) v f same each =
     ∙ ap (λ bs. f s ∷ bs) (lines_values name ls ss v f (omega (arith, same)) (λ i x at. each (suc i) x at))
 
 -- the values of the outputs, and of the other sinks
-pub sinks_split : (outs : List Name) (sinks : List Sig) (v : Name → Bool) (f : Sig → Bool) → length outs ≤ length sinks → ((i : ℕ) (o : Name) (s : Sig) → slice_get outs i ≡ Some o → slice_get sinks i ≡ Some s → v o ≡ f s) → map v outs ++ map f (drop (length outs) sinks) ≡ map f sinks
+pub sinks_split : (outs : List Name) (sinks : List Sig) (v : Name → Bool) (f : Sig → Bool) →
+    length outs ≤ length sinks → ((i : ℕ) (o : Name) (s : Sig) → slice_get outs i ≡ Some o →
+    slice_get sinks i ≡ Some s → v o ≡ f s) → map v outs ++ map f (drop (length outs) sinks) ≡ map f sinks
 sinks_split [] sinks v f low each = refl
 sinks_split (o ∷ os) [] v f low each = absurd (omega (arith, low))
 sinks_split (o ∷ os) (s ∷ ss) v f low each =

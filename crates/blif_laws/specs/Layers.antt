@@ -7,10 +7,12 @@ use Rattle.std.proofs.lemmas.Bool.{both_ways, cond-true, cond-false, false_from_
 use Rattle.std.proofs.lemmas.List.Elements.{All-nil, All-cons, All-head, All-tail}
 use Rattle.net_theory.specs.Cover.{cover_value}
 use Rattle.net_theory.specs.Document.{Name, has, are_distinct, is_same, Table, Document, table_output, table_inputs, source_names, driven_names}
-use Rattle.net_theory.specs.NameLaws.{has_none, has_first, has_cases, has_left, has_right, has_either, has_map_at, has_all, all_has, same_name, same_itself, cons_distinct, distinct_apart, append_distinct}
+use Rattle.net_theory.specs.NameLaws.{has_none, has_first, has_cases, has_left, has_right, has_either, has_map_at}
+use Rattle.net_theory.specs.NameLaws.{has_all, all_has, same_name, same_itself, cons_distinct, distinct_apart}
+use Rattle.net_theory.specs.NameLaws.{append_distinct}
 use Rattle.net_theory.specs.NetLaws.{map_same}
 use Rattle.net_theory.specs.Behaviour.{HoldsIn, HasOneMap}
-use Rattle.net_theory.specs.Dependence.{Reads, DependsOn, at_once, by_way_of, IsAcyclic}
+use Rattle.net_theory.specs.Dependence.{ReadsTable, DependsOn, at_once, by_way_of, IsAcyclic}
 
 -- the table reads only names of `before` and drives a new name
 pub record IsLayer (before : List Name) (t : Table) : Type 0 where
@@ -38,7 +40,9 @@ no_name n = refl
 pub distinct_push : (before : List Name) (n : Name) → are_distinct before ≡ true → has before n ≡ false → are_distinct (before ++ n ∷ []) ≡ true
 distinct_push before n d apart =
     append_distinct before (n ∷ []) d (cons_distinct n [] (no_name n) no_names)
-    (λ m h. false_from_ne_true (has (n ∷ []) m) (λ there. ⊎_elim (λ same. both_ways (has before n) apart (subst (λ (x : Name). has before x ≡ true) same h)) (λ none. has_none m none) (has_cases n [] m there)))
+    (λ m h. false_from_ne_true (has (n ∷ []) m) (λ there.
+    ⊎_elim (λ same. both_ways (has before n) apart (subst (λ (x : Name). has before x ≡ true) same h)) (λ none.
+    has_none m none) (has_cases n [] m there)))
 
 pub layered_distinct : (before : List Name) (ts : List Table) → are_distinct before ≡ true → AreLayered before ts → are_distinct (before ++ map table_output ts) ≡ true
 layered_distinct before [] d a = subst (λ (ns : List Name). are_distinct ns ≡ true) (sym (append-nil before)) d
@@ -57,7 +61,9 @@ layered_inputs before (t ∷ ts) n a e =
 
 -- ---- no table depends on itself
 
-reads_earlier : (before : List Name) (ts : List Table) (i j : ℕ) (t u : Table) → are_distinct (before ++ map table_output ts) ≡ true → AreLayered before ts → slice_get ts i ≡ Some t → slice_get ts j ≡ Some u → has t.inputs u.output ≡ true → j < i
+reads_earlier : (before : List Name) (ts : List Table) (i j : ℕ) (t u : Table) →
+    are_distinct (before ++ map table_output ts) ≡ true → AreLayered before ts → slice_get ts i ≡ Some t →
+    slice_get ts j ≡ Some u → has t.inputs u.output ≡ true → j < i
 reads_earlier before [] i j t u d a at_i at_j read = absurd cc
 reads_earlier before (x ∷ xs) zero j t u d a at_i at_j read =
     let same : x ≡ t = cc in
@@ -65,10 +71,11 @@ reads_earlier before (x ∷ xs) zero j t u d a at_i at_j read =
     absurd (both_ways (has (map table_output (x ∷ xs)) u.output) (distinct_apart before (map table_output (x ∷ xs)) u.output d had) (has_map_at table_output (x ∷ xs) j u at_j))
 reads_earlier before (x ∷ xs) (suc i) zero t u d a at_i at_j read = omega arith
 reads_earlier before (x ∷ xs) (suc i) (suc j) t u d a at_i at_j read =
-    let rest = reads_earlier (before ++ x.output ∷ []) xs i j t u (subst (λ (ns : List Name). are_distinct ns ≡ true) (sym (append_assoc before (x.output ∷ []) (map table_output xs))) d) a.1 at_i at_j read in
+    let rest = reads_earlier (before ++ x.output ∷ []) xs i j t u (subst (λ (ns : List Name). are_distinct ns ≡ true)
+    (sym (append_assoc before (x.output ∷ []) (map table_output xs))) d) a.1 at_i at_j read in
     omega (arith, rest)
 
-depends_earlier : (d : Document) → ((i j : ℕ) → Reads d i j → j < i) → (i j : ℕ) → DependsOn d i j → j < i
+depends_earlier : (d : Document) → ((i j : ℕ) → ReadsTable d i j → j < i) → (i j : ℕ) → DependsOn d i j → j < i
 depends_earlier d earlier _ _ (at_once i j r) = earlier i j r
 depends_earlier d earlier _ _ (by_way_of i j k r more) =
     let first = earlier i j r in
@@ -77,7 +84,8 @@ depends_earlier d earlier _ _ (by_way_of i j k r more) =
 
 pub layered_acyclic : (d : Document) → are_distinct (source_names d) ≡ true → AreLayered (source_names d) d.tables → IsAcyclic d
 layered_acyclic d distinct a i depends =
-    let low = depends_earlier d (λ x y r. reads_earlier (source_names d) d.tables x y r.reader r.driver (layered_distinct (source_names d) d.tables distinct a) a r.is_reader r.is_driver r.read) i i depends in
+    let low = depends_earlier d (λ x y r. reads_earlier (source_names d) d.tables x y r.reader r.driver
+    (layered_distinct (source_names d) d.tables distinct a) a r.is_reader r.is_driver r.read) i i depends in
     omega (arith, low)
 
 -- ---- there is exactly one valuation
@@ -113,7 +121,9 @@ values_hold before (t ∷ ts) v a =
     ∙ ap (cover_value t.cover) (map_same v (values_by w ts) t.inputs (λ n read. sym (values_keep before (t ∷ ts) v n a (a.0.inputs n read)))))
     (values_hold (before ++ t.output ∷ []) ts w a.1)
 
-one_map : (before : List Name) (ts : List Table) (v w : Name → Bool) → AreLayered before ts → All (HoldsIn v) ts → All (HoldsIn w) ts → ((n : Name) → has before n ≡ true → v n ≡ w n) → (n : Name) → has (before ++ map table_output ts) n ≡ true → v n ≡ w n
+one_map : (before : List Name) (ts : List Table) (v w : Name → Bool) → AreLayered before ts → All (HoldsIn v) ts →
+    All (HoldsIn w) ts → ((n : Name) → has before n ≡ true → v n ≡ w n) → (n : Name) →
+    has (before ++ map table_output ts) n ≡ true → v n ≡ w n
 one_map before [] v w a hv hw same n had = same n (subst (λ (ns : List Name). has ns n ≡ true) (append-nil before) had)
 one_map before (t ∷ ts) v w a hv hw same n had =
     let head : v t.output ≡ w t.output =

@@ -38,7 +38,7 @@ letter_spelled l k from to low =
     decimal_by_steps
     (λ n ds. is_name (l ∷ ds) ≡ true)
     (λ n digit. name_push (l ∷ []) (48 + n) (one_name l from to) (digit_good n digit) (digit_other n digit))
-    (λ n ds high front. let d : n % 10 < 10 = omega arith in name_push (l ∷ ds) (48 + n % 10) front (digit_good (n % 10) d) (digit_other (n % 10) d))
+    (λ n ds high prefix. let d : n % 10 < 10 = omega arith in name_push (l ∷ ds) (48 + n % 10) prefix (digit_good (n % 10) d) (digit_other (n % 10) d))
     k
     low
 

@@ -10,7 +10,7 @@ pub record IsSpelledTable (t : Table) : Type 0 where
   pub cubes : t.cover.parity ≡ false
 
 -- names, latches and tables are within their limits, and tables are given by cubes
-pub record IsSpelled (d : Document) : Type 0 where
+pub record IsBlifSpelling (d : Document) : Type 0 where
   pub model : IsName d.model
   pub inputs : All IsName d.inputs
   pub outputs : All IsName d.outputs

@@ -6,26 +6,26 @@
 
 ghost use Rattle.net_theory.specs.Document.{Document};
 ghost use Rattle.net_theory.specs.Circuit.{Circuit, IsProper};
-ghost use Rattle.net_core.specs.Names.{HasRoom};
-ghost use Rattle.net_document.specs.Listed.{AreFree};
+ghost use Rattle.net_core.specs.Names.{HasRoomForNames};
+ghost use Rattle.net_document.specs.Listed.{AreControlsFree};
 ghost use Rattle.net_document.specs.Format.{IsReadBack, IsTextOf, IsFormat};
 ghost use Rattle.blif_core.specs.Spelling.{spelled, circuit_text};
-ghost use Rattle.blif_core.specs.Blif.{blif_format, CanWrite};
-ghost use Rattle.blif_laws.specs.Spelled.{IsSpelled};
+ghost use Rattle.blif_core.specs.Blif.{blif_format, CanWriteBlif};
+ghost use Rattle.blif_laws.specs.Spelled.{IsBlifSpelling};
 
 /// A document whose names, latches and tables are within their limits, with all tables given by cubes, is read
 /// back from its text if no table drives a control.
 pub fn documents_are_read_back()
-    ensures { (d : Document) → IsSpelled d → AreFree d → IsReadBack blif_format (spelled d) d }
+    ensures { (d : Document) → IsBlifSpelling d → AreControlsFree d → IsReadBack blif_format (spelled d) d }
 {}
 
 /// The text of a proper circuit lists a well-formed document that is equivalent to the circuit and costs at most
 /// as many gates as the circuit has.
 pub fn circuits_are_read_back()
-    ensures { (c : Circuit) → IsProper c → HasRoom c → IsTextOf blif_format (circuit_text c) c }
+    ensures { (c : Circuit) → IsProper c → HasRoomForNames c → IsTextOf blif_format (circuit_text c) c }
 {}
 
 /// BLIF is a format: texts are parsed within the limits, and the text of a proper circuit is read back.
 pub fn blif_is_a_format()
-    ensures { IsFormat blif_format CanWrite }
+    ensures { IsFormat blif_format CanWriteBlif }
 {}

@@ -1,5 +1,5 @@
 pub use Rattle.text_core.specs.Lines
-pub use Rattle.text_core.specs.Cuts
+pub use Rattle.text_core.specs.Splits
 pub use Rattle.net_theory.specs.Document
 pub use Rattle.net_theory.specs.Cover
 pub use Rattle.net_document.specs.Listed

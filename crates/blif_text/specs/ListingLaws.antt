@@ -18,18 +18,18 @@ use Rattle.net_theory.specs.NetOf.{source_count}
 use Rattle.net_theory.specs.Naming.{control_of, second_of}
 use Rattle.net_core.specs.declared.error.NetError.{NetError}
 use Rattle.net_core.specs.declared.error.NetError.TheVariants.{NotSupported}
-use Rattle.net_document.specs.Listed.{Listed, IsListed, AreFree, times}
+use Rattle.net_document.specs.Listed.{Listed, IsWellListed, AreControlsFree, times}
 use Rattle.net_document.specs.TimesLaws.{times-append}
 use Rattle.blif_text.specs.Logical.{logical_of}
 use Rattle.blif_text.specs.Statements.{Control, Said, nothing, said_of, listed_by, listed_of, control_fault, unless}
 use Rattle.blif_text.specs.Reading.{◌>>=◌}
 use Rattle.blif_text.specs.SizeLaws.{said_size, text_short}
 use Rattle.blif_text.specs.SaidLaws.{IsCubeTable, control_name, table_size, nothing_said, tables_none}
-use Rattle.blif_text.specs.StepLaws.{IsWhole, steps_fine}
+use Rattle.blif_text.specs.StepLaws.{IsComplete, steps_fine}
 
 -- ---- the parser state as a listed document
 
-list_said : (s : Said) (size : ℕ) → IsWhole s size → IsListed (listed_by s)
+list_said : (s : Said) (size : ℕ) → IsComplete s size → IsWellListed (listed_by s)
 list_said s size is = record {
   model = is.said.model;
   inputs = is.said.inputs;
@@ -98,10 +98,13 @@ tables_small [] all = omega arith
 tables_small (t ∷ ts) all =
     omega (arith, sum_by-cons table_cost t ts, sum_by-cons table_size t ts, table_small t (All-head IsCubeTable t ts all), tables_small ts (All-tail IsCubeTable t ts all))
 
-size_said : (s : Said) (size : ℕ) → IsWhole s size → 2 * source_count (listed_by s).document + cost (listed_by s).document ≤ size
+size_said : (s : Said) (size : ℕ) → IsComplete s size → 2 * source_count (listed_by s).document + cost (listed_by s).document ≤ size
 unfolding cost
 size_said s size is =
-    let sources : length (s.inputs ++ map latch_output (map latch_of s.latches)) ≡ length s.inputs + length s.latches = length-append s.inputs (map latch_output (map latch_of s.latches)) ∙ ap (λ k. length s.inputs + k) (length-map (map latch_of s.latches) latch_output ∙ length-map s.latches latch_of) in
+    let sources : length (s.inputs ++ map latch_output (map latch_of s.latches)) ≡ length s.inputs + length s.latches =
+    length-append s.inputs (map latch_output (map latch_of s.latches))
+    ∙ ap (λ k. length s.inputs + k) (length-map (map latch_of s.latches) latch_output
+    ∙ length-map s.latches latch_of) in
     omega (arith, is.said.small, ap (λ (ts : List Table). sum_by table_size ts) (tables_none s is.whole), tables_small s.tables is.said.tables, sources)
 
 -- ---- its controls
@@ -132,25 +135,27 @@ latches_free ns (l ∷ ls) h =
     let f = latch_free ns l.latch.control (filter_map control_of (map latch_of ls)) h in
     All-cons (λ (x : LatchLine). IsFreeOf ns x.latch.control) l ls f.0 (latches_free ns ls f.1)
 
-free_said : (s : Said) (size : ℕ) → IsWhole s size → control_fault (map table_output s.tables) s.controls ≡ None → AreFree (listed_by s).document
-free_said s size is e = latches_free (map table_output s.tables) s.latches (subst (λ (ms : List Name). AreNone (map table_output s.tables) ms) is.said.controls (faults_none (map table_output s.tables) s.controls e))
+free_said : (s : Said) (size : ℕ) → IsComplete s size → control_fault (map table_output s.tables) s.controls ≡ None → AreControlsFree (listed_by s).document
+free_said s size is e = latches_free (map table_output s.tables) s.latches
+    (subst (λ (ms : List Name). AreNone (map table_output s.tables) ms) is.said.controls
+    (faults_none (map table_output s.tables) s.controls e))
 
 -- ---- texts
 
 abbrev Whole : ℕ → Result Said NetError → Type 0
-Whole size r = IfOk r (λ s. IsWhole s size)
+Whole size r = IfOk r (λ s. IsComplete s size)
 
 said_fine : (bytes : List ℕ) → Whole (0 + said_size (logical_of 1 bytes)) (said_of bytes)
 unfolding said_of
 said_fine bytes = steps_fine nothing (logical_of 1 bytes) 0 nothing_said
 
-pub said_whole : (bytes : List ℕ) (s : Said) → said_of bytes ≡ Ok s → IsWhole s (0 + said_size (logical_of 1 bytes))
+pub said_whole : (bytes : List ℕ) (s : Said) → said_of bytes ≡ Ok s → IsComplete s (0 + said_size (logical_of 1 bytes))
 said_whole bytes s e = subst (Whole (0 + said_size (logical_of 1 bytes))) e (said_fine bytes)
 
-pub text_listed : (bytes : List ℕ) (s : Said) → said_of bytes ≡ Ok s → IsListed (listed_by s)
+pub text_listed : (bytes : List ℕ) (s : Said) → said_of bytes ≡ Ok s → IsWellListed (listed_by s)
 text_listed bytes s e = list_said s _ (said_whole bytes s e)
 
-pub text_free : (bytes : List ℕ) (s : Said) → said_of bytes ≡ Ok s → control_fault (map table_output s.tables) s.controls ≡ None → AreFree (listed_by s).document
+pub text_free : (bytes : List ℕ) (s : Said) → said_of bytes ≡ Ok s → control_fault (map table_output s.tables) s.controls ≡ None → AreControlsFree (listed_by s).document
 text_free bytes s e none = free_said s _ (said_whole bytes s e) none
 
 pub text_small : (bytes : List ℕ) (s : Said) → said_of bytes ≡ Ok s → 2 * source_count (listed_by s).document + cost (listed_by s).document ≤ length bytes
@@ -161,7 +166,7 @@ unfolding table_size
 tables_count [] = omega arith
 tables_count (t ∷ ts) = omega (arith, sum_by-cons table_size t ts, tables_count ts)
 
-few_said : (s : Said) (size : ℕ) → IsWhole s size → length s.tables ≤ size
+few_said : (s : Said) (size : ℕ) → IsComplete s size → length s.tables ≤ size
 few_said s size is = omega (arith, is.said.small, ap (λ (ts : List Table). sum_by table_size ts) (tables_none s is.whole), tables_count s.tables)
 
 pub text_few : (bytes : List ℕ) (s : Said) → said_of bytes ≡ Ok s → length (listed_by s).document.tables ≤ length bytes
@@ -183,7 +188,8 @@ unless_ok : (f : Option NetError) (k l : Listed) → unless f k ≡ Ok l → k �
 unless_ok None k l e = cc
 unless_ok (Some f) k l e = absurd cc
 
-said_by_parts : (bytes : List ℕ) (l : Listed) (r : Result Said NetError) → said_of bytes ≡ r → (r >>= λ s. unless (control_fault (map table_output s.tables) s.controls) (listed_by s)) ≡ Ok l → IsSaidBy bytes l
+said_by_parts : (bytes : List ℕ) (l : Listed) (r : Result Said NetError) → said_of bytes ≡ r →
+    (r >>= λ s. unless (control_fault (map table_output s.tables) s.controls) (listed_by s)) ≡ Ok l → IsSaidBy bytes l
 said_by_parts bytes l (Ok s) e f = record { state = s; said = e; same = unless_ok (control_fault (map table_output s.tables) s.controls) (listed_by s) l f }
 said_by_parts bytes l (Err x) e f = absurd cc
 
@@ -192,5 +198,5 @@ unfolding listed_of
 listed_said bytes l e = said_by_parts bytes l (said_of bytes) refl e
 
 -- the listed names, latches and tables are within their limits
-pub texts_list : (bytes : List ℕ) (l : Listed) → listed_of bytes ≡ Ok l → IsListed l
-texts_list bytes l e = let s = listed_said bytes l e in subst IsListed s.same (text_listed bytes s.state s.said)
+pub texts_list : (bytes : List ℕ) (l : Listed) → listed_of bytes ≡ Ok l → IsWellListed l
+texts_list bytes l e = let s = listed_said bytes l e in subst IsWellListed s.same (text_listed bytes s.state s.said)

@@ -16,19 +16,21 @@ begun_at number = record { first = number; size = 0; text = [] }
 
 -- In a continued line a blank replaces the `\`.
 abbrev pub going_on : Logical → Line → List ℕ → Logical
-going_on j l front = record { first = j.first; size = j.size + length l.text; text = j.text ++ (front ++ 32 ∷ []) }
+going_on j l prefix = record { first = j.first; size = j.size + length l.text; text = j.text ++ (prefix ++ 32 ∷ []) }
 
 abbrev pub ended_by : Logical → Line → Logical
 ended_by j l = record { first = j.first; size = j.size + length l.text; text = j.text ++ content_of l }
 
 abbrev pub line_then : Option (List ℕ) → List Logical → (List ℕ → List Logical) → List Logical
 line_then None ended further = ended
-line_then (Some front) ended further = further front
+line_then (Some prefix) ended further = further prefix
 
 -- the logical lines of `j`, the lines joined so far, and of further lines, whose first one has the number `number`
 unfoldable pub logical_from : ℕ → Logical → List Line → List Logical
 logical_from number j [] = if number == j.first then [] else j ∷ []
-logical_from number j (l ∷ ls) = line_then (without_last 92 (content_of l)) (ended_by j l ∷ logical_from (number + 1) (begun_at (number + 1)) ls) (λ front. logical_from (number + 1) (going_on j l front) ls)
+logical_from number j (l ∷ ls) = line_then (without_last 92 (content_of l))
+    (ended_by j l ∷ logical_from (number + 1) (begun_at (number + 1)) ls) (λ prefix.
+    logical_from (number + 1) (going_on j l prefix) ls)
 
 -- the logical lines of a text whose first line has the number `number`
 -- Example: `.inputs a \`, ` b # two`, `.end` are `.inputs a   b` with the number 1 and `.end` with

@@ -115,9 +115,24 @@ closed_said s size is =
 
 -- the state of a prefix is within the size of a longer text
 pub said_more : (s : Said) (size more : ℕ) → size ≤ more → IsSaid s size → IsSaid s more
-said_more s size more h is = record { model = is.model; inputs = is.inputs; outputs = is.outputs; clocks = is.clocks; latches = is.latches; tables = is.tables; current = is.current; driven = is.driven; used = is.used; controls = is.controls; small = omega (arith, is.small, h); named = omega (arith, is.named, h) }
+said_more s size more h is = record {
+  model = is.model;
+  inputs = is.inputs;
+  outputs = is.outputs;
+  clocks = is.clocks;
+  latches = is.latches;
+  tables = is.tables;
+  current = is.current;
+  driven = is.driven;
+  used = is.used;
+  controls =
+      is.controls;
+  small = omega (arith, is.small, h);
+  named = omega (arith, is.named, h);
+}
 
-pub with_inputs_said : (s : Said) (size more : ℕ) (ws : List Name) → IsSaid s size → All IsName ws → size + 2 * length ws ≤ more → IsSaid (record s { inputs = s.inputs ++ ws; driven = s.driven ++ ws }) more
+pub with_inputs_said : (s : Said) (size more : ℕ) (ws : List Name) → IsSaid s size → All IsName ws →
+    size + 2 * length ws ≤ more → IsSaid (record s { inputs = s.inputs ++ ws; driven = s.driven ++ ws }) more
 with_inputs_said s size more ws is names h = record {
   model = is.model;
   inputs = All-append IsName s.inputs ws is.inputs names;
@@ -134,16 +149,74 @@ with_inputs_said s size more ws is names h = record {
 }
 
 pub with_outputs_said : (s : Said) (size more : ℕ) (ws : List Name) → IsSaid s size → All IsName ws → size + length ws ≤ more → IsSaid (record s { outputs = s.outputs ++ ws }) more
-with_outputs_said s size more ws is names h = record { model = is.model; inputs = is.inputs; outputs = All-append IsName s.outputs ws is.outputs names; clocks = is.clocks; latches = is.latches; tables = is.tables; current = is.current; driven = is.driven; used = is.used; controls = is.controls; small = omega (arith, is.small, h); named = omega (arith, is.named, h, length-append s.outputs ws) }
+with_outputs_said s size more ws is names h = record {
+  model = is.model;
+  inputs = is.inputs;
+  outputs = All-append IsName s.outputs ws is.outputs names;
+  clocks = is.clocks;
+  latches = is.latches;
+  tables =
+      is.tables;
+  current = is.current;
+  driven = is.driven;
+  used = is.used;
+  controls = is.controls;
+  small =
+      omega (arith, is.small, h);
+  named = omega (arith, is.named, h, length-append s.outputs ws);
+}
 
 pub with_clocks_said : (s : Said) (size more : ℕ) (ws : List Name) → IsSaid s size → All IsName ws → size + length ws ≤ more → IsSaid (record s { clocks = s.clocks ++ ws }) more
-with_clocks_said s size more ws is names h = record { model = is.model; inputs = is.inputs; outputs = is.outputs; clocks = All-append IsName s.clocks ws is.clocks names; latches = is.latches; tables = is.tables; current = is.current; driven = is.driven; used = is.used; controls = is.controls; small = omega (arith, is.small, h); named = omega (arith, is.named, h, length-append s.clocks ws) }
+with_clocks_said s size more ws is names h = record {
+  model = is.model;
+  inputs = is.inputs;
+  outputs = is.outputs;
+  clocks = All-append IsName s.clocks ws is.clocks names;
+  latches = is.latches;
+  tables = is.tables;
+  current =
+      is.current;
+  driven = is.driven;
+  used = is.used;
+  controls = is.controls;
+  small = omega (arith, is.small, h);
+  named =
+      omega (arith, is.named, h, length-append s.clocks ws);
+}
 
 pub with_model_said : (s : Said) (size : ℕ) (w : Name) → IsSaid s size → IsName w → IsSaid (record s { model = w; has_model = true }) size
-with_model_said s size w is name = record { model = name; inputs = is.inputs; outputs = is.outputs; clocks = is.clocks; latches = is.latches; tables = is.tables; current = is.current; driven = is.driven; used = is.used; controls = is.controls; small = is.small; named = is.named }
+with_model_said s size w is name = record {
+  model = name;
+  inputs = is.inputs;
+  outputs = is.outputs;
+  clocks = is.clocks;
+  latches = is.latches;
+  tables = is.tables;
+  current = is.current;
+  driven = is.driven;
+  used = is.used;
+  controls =
+      is.controls;
+  small = is.small;
+  named = is.named;
+}
 
 pub with_flags_said : (s : Said) (size : ℕ) (has ended : Bool) → IsSaid s size → IsSaid (record s { has_model = has; is_ended = ended }) size
-with_flags_said s size has ended is = record { model = is.model; inputs = is.inputs; outputs = is.outputs; clocks = is.clocks; latches = is.latches; tables = is.tables; current = is.current; driven = is.driven; used = is.used; controls = is.controls; small = is.small; named = is.named }
+with_flags_said s size has ended is = record {
+  model = is.model;
+  inputs = is.inputs;
+  outputs = is.outputs;
+  clocks = is.clocks;
+  latches = is.latches;
+  tables = is.tables;
+  current = is.current;
+  driven = is.driven;
+  used =
+      is.used;
+  controls = is.controls;
+  small = is.small;
+  named = is.named;
+}
 
 outputs_push : (n : Name) (ts : List Table) (t : Table) → times n (map table_output (ts ++ t ∷ [])) ≡ times n (map table_output ts) + times n (t.output ∷ [])
 outputs_push n ts t = ap (times n) (map-append table_output ts (t ∷ [])) ∙ times-append n (map table_output ts) (t.output ∷ [])
@@ -180,7 +253,9 @@ with_table_said s size more t is none table one h =
       named = omega (arith, is.named, h);
     }
 
-pub with_row_said : (s : Said) (size more : ℕ) (t u : Table) → IsSaid s size → s.current ≡ Some t → IsCubeTable u → u.inputs ≡ t.inputs → u.output ≡ t.output → size ≤ more → size + table_size u ≤ more + table_size t → IsSaid (record s { current = Some u }) more
+pub with_row_said : (s : Said) (size more : ℕ) (t u : Table) → IsSaid s size → s.current ≡ Some t → IsCubeTable u →
+    u.inputs ≡ t.inputs → u.output ≡ t.output → size ≤ more → size + table_size u ≤ more + table_size t →
+    IsSaid (record s { current = Some u }) more
 with_row_said s size more t u is some table inputs output low h =
     let old : tables_of s ≡ s.tables ++ t ∷ [] = tables_some s t some in
     record {
@@ -191,8 +266,22 @@ with_row_said s size more t u is some table inputs output low h =
       latches = is.latches;
       tables = is.tables;
       current = All-cons IsCubeTable u [] table (All-nil IsCubeTable);
-      driven = λ n. omega (arith, is.driven n, outputs_push n s.tables t, outputs_push n s.tables u, ap (λ (ts : List Table). times n (map table_output ts)) old, ap (λ (o : Name). times n (o ∷ [])) output);
-      used = λ n. omega (arith, is.used n, inputs_push n s.tables t, inputs_push n s.tables u, ap (λ (ts : List Table). times n (flat_map table_inputs ts)) old, ap (λ (is : List Name). times n is) inputs);
+      driven = λ n. omega (
+        arith,
+        is.driven n,
+        outputs_push n s.tables t,
+        outputs_push n s.tables u,
+        ap (λ (ts : List Table). times n (map table_output ts)) old,
+        ap (λ (o : Name). times n (o ∷ [])) output,
+      );
+      used = λ n. omega (
+        arith,
+        is.used n,
+        inputs_push n s.tables t,
+        inputs_push n s.tables u,
+        ap (λ (ts : List Table). times n (flat_map table_inputs ts)) old,
+        ap (λ (is : List Name). times n is) inputs,
+      );
       controls = is.controls;
       small = omega (arith, is.small, h, sizes_push s.tables t, sizes_push s.tables u, ap (λ (ts : List Table). sum_by table_size ts) old);
       named = omega (arith, is.named, low);
@@ -214,10 +303,16 @@ with_latch_said s size more line l is latch h =
       tables = is.tables;
       current = is.current;
       driven = λ n.
-          let outs : times n (map latch_output (map latch_of (s.latches ++ l ∷ []))) ≡ times n (map latch_output (map latch_of s.latches)) + times n (l.latch.output ∷ []) = ap (λ (ls : List Latch). times n (map latch_output ls)) latches ∙ ap (times n) (map-append latch_output (map latch_of s.latches) (l.latch ∷ [])) ∙ times-append n (map latch_output (map latch_of s.latches)) (l.latch.output ∷ []) in
+          let outs : times n (map latch_output (map latch_of (s.latches ++ l ∷ []))) ≡
+          times n (map latch_output (map latch_of s.latches)) + times n (l.latch.output ∷ []) =
+          ap (λ (ls : List Latch). times n (map latch_output ls)) latches
+          ∙ ap (times n) (map-append latch_output (map latch_of s.latches) (l.latch ∷ []))
+          ∙ times-append n (map latch_output (map latch_of s.latches)) (l.latch.output ∷ []) in
           omega (arith, is.driven n, times-append n s.driven (l.latch.output ∷ []), outs);
       used = λ n.
-          let ins : times n (map latch_input (s.latches ++ l ∷ [])) ≡ times n (map latch_input s.latches) + times n (l.input ∷ []) = ap (times n) (map-append latch_input s.latches (l ∷ [])) ∙ times-append n (map latch_input s.latches) (l.input ∷ []) in
+          let ins : times n (map latch_input (s.latches ++ l ∷ [])) ≡ times n (map latch_input s.latches) + times n
+          (l.input ∷ []) = ap (times n) (map-append latch_input s.latches (l ∷ []))
+          ∙ times-append n (map latch_input s.latches) (l.input ∷ []) in
           omega (arith, is.used n, times-append n s.used (l.input ∷ []), ins);
       controls =
           map-append control_name s.controls (control_at line l.latch.control)

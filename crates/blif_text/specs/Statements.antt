@@ -7,8 +7,8 @@ use Rattle.net_theory.specs.Document.{Name, is_name, is_same, has, Table, LatchL
 use Rattle.net_core.specs.declared.error.NetError.{NetError}
 use Rattle.net_core.specs.declared.error.NetError.TheVariants.{Syntax, NotSupported, TooWide, LineTooLong, NameTooLong}
 use Rattle.net_document.specs.Listed.{Listed}
-use Rattle.blif_text.specs.declared.keywords.Keyword.{Keyword}
-use Rattle.blif_text.specs.declared.keywords.Keyword.TheVariants.{Model, Inputs, Outputs, Clock, Names, Latch, End, Unknown}
+use Rattle.blif_text.specs.declared.keywords.BlifKeyword.{BlifKeyword}
+use Rattle.blif_text.specs.declared.keywords.BlifKeyword.TheVariants.{Model, Inputs, Outputs, Clock, Names, Latch, End, Unknown}
 use Rattle.net_document.specs.Contents.{is_nothing}
 use Rattle.net_document.specs.Limits.{is_long_line}
 use Rattle.blif_text.specs.Logical.{Logical, logical_of}
@@ -40,7 +40,21 @@ pub record Said : Type 0 where
 
 -- The state before the first line. The model's default name is `top`.
 abbrev pub nothing : Said
-nothing = record { model = codes "top"; inputs = []; outputs = []; clocks = []; latches = []; tables = []; current = None; driven = []; used = []; controls = []; has_model = false; is_begun = false; is_ended = false }
+nothing = record {
+  model = codes "top";
+  inputs = [];
+  outputs = [];
+  clocks = [];
+  latches = [];
+  tables = [];
+  current = None;
+  driven = [];
+  used = [];
+  controls = [];
+  has_model = false;
+  is_begun = false;
+  is_ended = false;
+}
 
 -- completes the current table, since a statement begins
 abbrev pub closed : Said → Said
@@ -48,8 +62,12 @@ closed s = record s { tables = s.tables ++ option_to_list s.current; current = N
 
 -- ---- statements
 
-unfoldable pub keyword_of : List ℕ → Keyword
-keyword_of word = if is_same word (codes ".model") then Model else (if is_same word (codes ".inputs") then Inputs else (if is_same word (codes ".outputs") then Outputs else (if is_same word (codes ".clock") then Clock else (if is_same word (codes ".names") then Names else (if is_same word (codes ".latch") then Latch else (if is_same word (codes ".end") then End else Unknown))))))
+unfoldable pub keyword_of : List ℕ → BlifKeyword
+keyword_of word = if is_same word (codes ".model") then Model else (if is_same word
+    (codes ".inputs") then Inputs else (if is_same word (codes ".outputs") then Outputs else (if is_same word
+    (codes ".clock") then Clock else (if is_same word
+    (codes ".names") then Names else (if is_same word
+    (codes ".latch") then Latch else (if is_same word (codes ".end") then End else Unknown))))))
 
 abbrev pub begins_dot : List ℕ → Bool
 begins_dot [] = false
@@ -65,9 +83,9 @@ with_model line s (w ∷ []) = if is_name w then Ok (record s { model = w; has_m
 with_model line s (w ∷ v ∷ ws) = Err (Syntax line)
 
 -- the words before the last one; `w` is the first word
-unfoldable pub front_of : List ℕ → List (List ℕ) → List (List ℕ)
-front_of w [] = []
-front_of w (v ∷ ws) = w ∷ front_of v ws
+unfoldable pub prefix_of : List ℕ → List (List ℕ) → List (List ℕ)
+prefix_of w [] = []
+prefix_of w (v ∷ ws) = w ∷ prefix_of v ws
 
 unfoldable pub last_of : List ℕ → List (List ℕ) → List ℕ
 last_of w [] = w
@@ -79,7 +97,7 @@ empty_table inputs output = record { inputs = inputs; output = output; cover = r
 -- `.names INPUTS OUTPUT`
 unfoldable pub table_of : ℕ → List (List ℕ) → Result Table NetError
 table_of line [] = Err (Syntax line)
-table_of line (w ∷ ws) = if nat_lt 256 (length ws) then Err (TooWide line) else (if are_names (w ∷ ws) then Ok (empty_table (front_of w ws) (last_of w ws)) else Err (Syntax line))
+table_of line (w ∷ ws) = if nat_lt 256 (length ws) then Err (TooWide line) else (if are_names (w ∷ ws) then Ok (empty_table (prefix_of w ws) (last_of w ws)) else Err (Syntax line))
 
 -- adds the names that a table drives and reads
 abbrev pub with_table_names : Said → Table → Said
@@ -122,7 +140,7 @@ abbrev pub with_end : ℕ → Said → List (List ℕ) → Result Said NetError
 with_end line s ws = if is_nothing ws then Ok (record s { is_ended = true }) else Err (Syntax line)
 
 -- a line that begins with a dot; `first` tells whether it is the first statement
-unfoldable pub directed : ℕ → Said → Bool → List ℕ → List (List ℕ) → Keyword → Result Said NetError
+unfoldable pub directed : ℕ → Said → Bool → List ℕ → List (List ℕ) → BlifKeyword → Result Said NetError
 directed line s first word ws Model = if s.has_model then Err (NotSupported line word) else (if first then with_model line s ws else Err (Syntax line))
 directed line s first word ws Inputs = with_inputs line s ws
 directed line s first word ws Outputs = with_outputs line s ws
@@ -138,12 +156,12 @@ covered line s None words = Err (Syntax line)
 covered line s (Some t) words = row_of line t words >>= λ u. Ok (record s { current = Some u })
 
 -- nothing may follow `.end`; a second model is reported as unsupported
-abbrev pub behind_end : ℕ → Said → List ℕ → Result Said NetError
-behind_end line s word = if is_same word (codes ".model") && s.has_model then Err (NotSupported line word) else Err (Syntax line)
+abbrev pub after_end : ℕ → Said → List ℕ → Result Said NetError
+after_end line s word = if is_same word (codes ".model") && s.has_model then Err (NotSupported line word) else Err (Syntax line)
 
 abbrev pub stated : ℕ → Said → List (List ℕ) → Result Said NetError
 stated line s [] = Ok s
-stated line s (w ∷ ws) = if s.is_ended then behind_end line s w else (if begins_dot w then directed line (closed s) (not s.is_begun) w ws (keyword_of w) else covered line s s.current (w ∷ ws))
+stated line s (w ∷ ws) = if s.is_ended then after_end line s w else (if begins_dot w then directed line (closed s) (not s.is_begun) w ws (keyword_of w) else covered line s s.current (w ∷ ws))
 
 -- a logical line
 unfoldable pub step : Said → Logical → Result Said NetError

@@ -13,16 +13,20 @@ use Rattle.net_theory.specs.Document.{Name, IsName, is_name, is_same, Table, Lat
 use Rattle.net_theory.specs.WellFormed.{IsTable, IsLatchLine, IsControl, IsInit}
 use Rattle.net_core.specs.declared.error.NetError.{NetError}
 use Rattle.net_core.specs.declared.error.NetError.TheVariants.{Syntax, TooWide, MixedCover, TooManyRows, NotSupported, LineTooLong, NameTooLong}
-use Rattle.blif_text.specs.declared.keywords.Keyword.{Keyword}
-use Rattle.blif_text.specs.declared.keywords.Keyword.TheVariants.{Model, Inputs, Outputs, Clock, Names, Latch as LatchWord, End, Unknown}
+use Rattle.blif_text.specs.declared.keywords.BlifKeyword.{BlifKeyword}
+use Rattle.blif_text.specs.declared.keywords.BlifKeyword.TheVariants.{Model, Inputs, Outputs, Clock, Names, Latch as LatchWord, End, Unknown}
 use Rattle.blif_text.specs.Logical.{Logical}
 use Rattle.blif_text.specs.Words.{words_of, has_long}
 use Rattle.net_document.specs.Contents.{is_nothing}
-use Rattle.blif_text.specs.Rows.{Row, bit_in, row_with, row_in, agrees, with_row, row_of}
-use Rattle.blif_text.specs.Latches.{Tail, trigger_in, init_in, tail_with, with_control, tail_by, tail_by_both, tail_in, latch_with, latch_of}
-use Rattle.blif_text.specs.Statements.{Said, closed, are_names, with_model, front_of, last_of, empty_table, table_of, with_table, with_latch, directed, covered, behind_end, begins_dot, keyword_of, stated, step, steps}
+use Rattle.blif_text.specs.Rows.{CoverRow, bit_in, row_with, row_in, agrees, with_row, row_of}
+use Rattle.blif_text.specs.Latches.{LatchTail, trigger_in, init_in, tail_with, with_control, tail_by, tail_by_both, tail_in, latch_with, latch_of}
+use Rattle.blif_text.specs.Statements.{Said, closed, are_names, with_model, prefix_of, last_of, empty_table, table_of}
+use Rattle.blif_text.specs.Statements.{with_table, with_latch, directed, covered, after_end, begins_dot, keyword_of}
+use Rattle.blif_text.specs.Statements.{stated, step, steps}
 use Rattle.blif_text.specs.SizeLaws.{words_size, words_size-cons, words_fit, said_size, said_size-cons}
-use Rattle.blif_text.specs.SaidLaws.{IsCubeTable, IsSaid, AreShort, short_cons, short_words, bind_fine, table_size, closed_said, said_more, with_inputs_said, with_outputs_said, with_clocks_said, with_model_said, with_flags_said, with_table_said, with_row_said, with_latch_said}
+use Rattle.blif_text.specs.SaidLaws.{IsCubeTable, IsSaid, AreShort, short_cons, short_words, bind_fine, table_size}
+use Rattle.blif_text.specs.SaidLaws.{closed_said, said_more, with_inputs_said, with_outputs_said, with_clocks_said}
+use Rattle.blif_text.specs.SaidLaws.{with_model_said, with_flags_said, with_table_said, with_row_said, with_latch_said}
 
 -- ---- names
 
@@ -51,15 +55,15 @@ names_long (w ∷ ws) all = omega (arith, words_size-cons w ws, name_long w (All
 
 -- ---- tables
 
-front_names : (w : Name) (ws : List Name) → All IsName (w ∷ ws) → All IsName (front_of w ws)
-unfolding front_of
-front_names w [] all = All-nil IsName
-front_names w (v ∷ ws) all = All-cons IsName w (front_of v ws) (All-head IsName w (v ∷ ws) all) (front_names v ws (All-tail IsName w (v ∷ ws) all))
+prefix_names : (w : Name) (ws : List Name) → All IsName (w ∷ ws) → All IsName (prefix_of w ws)
+unfolding prefix_of
+prefix_names w [] all = All-nil IsName
+prefix_names w (v ∷ ws) all = All-cons IsName w (prefix_of v ws) (All-head IsName w (v ∷ ws) all) (prefix_names v ws (All-tail IsName w (v ∷ ws) all))
 
-front_count : (w : Name) (ws : List Name) → length (front_of w ws) ≡ length ws
-unfolding front_of
-front_count w [] = refl
-front_count w (v ∷ ws) = ap suc (front_count v ws)
+prefix_count : (w : Name) (ws : List Name) → length (prefix_of w ws) ≡ length ws
+unfolding prefix_of
+prefix_count w [] = refl
+prefix_count w (v ∷ ws) = ap suc (prefix_count v ws)
 
 last_name : (w : Name) (ws : List Name) → All IsName (w ∷ ws) → IsName (last_of w ws)
 unfolding last_of
@@ -86,41 +90,45 @@ table_fine : (line : ℕ) (ws : List (List ℕ)) → AreShort ws → IfOk (table
 unfolding table_of
 table_fine line [] short = tt
 table_fine line (w ∷ ws) short =
-    cond_both (nat_lt 256 (length ws)) (Err (TooWide line)) (if are_names (w ∷ ws) then Ok (empty_table (front_of w ws) (last_of w ws)) else Err (Syntax line)) (λ (r : Result Table NetError). IfOk r IsNew)
+    cond_both (nat_lt 256 (length ws)) (Err (TooWide line))
+    (if are_names (w ∷ ws) then Ok (empty_table (prefix_of w ws) (last_of w ws)) else Err (Syntax line))
+    (λ (r : Result Table NetError). IfOk r IsNew)
     (λ wide. tt)
-    (λ narrow. cond_both (are_names (w ∷ ws)) (Ok (empty_table (front_of w ws) (last_of w ws))) (Err (Syntax line)) (λ (r : Result Table NetError). IfOk r IsNew)
+    (λ narrow. cond_both (are_names (w ∷ ws)) (Ok (empty_table (prefix_of w ws) (last_of w ws))) (Err (Syntax line)) (λ (r : Result Table NetError). IfOk r IsNew)
     (λ names.
     let all = names_all (w ∷ ws) names short in
     let few : length ws ≤ 256 = ltb-false 256 (length ws) narrow in
-    empty_new (front_of w ws) (last_of w ws) (front_names w ws all) (last_name w ws all) (omega (arith, few, front_count w ws)))
+    empty_new (prefix_of w ws) (last_of w ws) (prefix_names w ws all) (last_name w ws all) (omega (arith, few, prefix_count w ws)))
     (λ none. tt))
 
 -- ---- cover lines
 
-abbrev FitsRow : ℕ → List (List ℕ) → Row → Type 0
+abbrev FitsRow : ℕ → List (List ℕ) → CoverRow → Type 0
 FitsRow width words row = (is_cube width row.cube ≡ true) × (length row.cube + 1 ≤ words_size words)
 
-with_fits : (width : ℕ) (words : List (List ℕ)) (cube : List ℕ) (bit : Option Bool) (row : Row) → is_cube width cube ≡ true → length cube + 1 ≤ words_size words → row_with cube bit ≡ Some row → FitsRow width words row
+with_fits : (width : ℕ) (words : List (List ℕ)) (cube : List ℕ) (bit : Option Bool) (row : CoverRow) →
+    is_cube width cube ≡ true → length cube + 1 ≤ words_size words → row_with cube bit ≡ Some row →
+    FitsRow width words row
 with_fits width words cube None row is size e = absurd cc
 with_fits width words cube (Some on) row is size e =
-    let same : cube ≡ row.cube = ap (λ (r : Option Row). cube_in r) e in
+    let same : cube ≡ row.cube = ap (λ (r : Option CoverRow). cube_in r) e in
     (subst (λ (xs : List ℕ). is_cube width xs ≡ true) same is, subst (λ (xs : List ℕ). length xs + 1 ≤ words_size words) same size) where
-      cube_in : Option Row → List ℕ
+      cube_in : Option CoverRow → List ℕ
       cube_in None = []
       cube_in (Some r) = r.cube
 
-row_fits : (width : ℕ) (words : List (List ℕ)) (row : Row) → row_in width words ≡ Some row → FitsRow width words row
+row_fits : (width : ℕ) (words : List (List ℕ)) (row : CoverRow) → row_in width words ≡ Some row → FitsRow width words row
 unfolding row_in
 row_fits width [] row e = absurd cc
 row_fits width (v ∷ []) row e =
-    cond_both (width == 0) (row_with [] (bit_in v)) None (λ (r : Option Row). r ≡ Some row → FitsRow width (v ∷ []) row)
+    cond_both (width == 0) (row_with [] (bit_in v)) None (λ (r : Option CoverRow). r ≡ Some row → FitsRow width (v ∷ []) row)
     (λ zero f. with_fits width (v ∷ []) [] (bit_in v) row (no_inputs (eqb-true width 0 zero)) (omega (arith, words_size-cons v [])) f)
     (λ other f. absurd cc)
     e where
       no_inputs : width ≡ 0 → is_cube width [] ≡ true
       no_inputs none = subst (λ (n : ℕ). is_cube n [] ≡ true) (sym none) refl
 row_fits width (c ∷ v ∷ []) row e =
-    cond_both (is_cube width c) (row_with c (bit_in v)) None (λ (r : Option Row). r ≡ Some row → FitsRow width (c ∷ v ∷ []) row)
+    cond_both (is_cube width c) (row_with c (bit_in v)) None (λ (r : Option CoverRow). r ≡ Some row → FitsRow width (c ∷ v ∷ []) row)
     (λ is f. with_fits width (c ∷ v ∷ []) c (bit_in v) row is (omega (arith, words_size-cons c (v ∷ []))) f)
     (λ other f. absurd cc)
     e
@@ -133,10 +141,10 @@ pub record IsMore (t : Table) (words : List (List ℕ)) (u : Table) : Type 0 whe
   pub output : u.output ≡ t.output
   pub size : table_size u + 1 ≤ table_size t + words_size words
 
-abbrev rowed : Table → Row → Table
+abbrev rowed : Table → CoverRow → Table
 rowed t row = record { inputs = t.inputs; output = t.output; cover = record { width = t.cover.width; cubes = t.cover.cubes ++ row.cube ∷ []; on = row.on; parity = false } }
 
-rowed_more : (t : Table) (words : List (List ℕ)) (row : Row) → IsCubeTable t → FitsRow t.cover.width words row → nat_le 4096 (length t.cover.cubes) ≡ false → IsMore t words (rowed t row)
+rowed_more : (t : Table) (words : List (List ℕ)) (row : CoverRow) → IsCubeTable t → FitsRow t.cover.width words row → nat_le 4096 (length t.cover.cubes) ≡ false → IsMore t words (rowed t row)
 unfolding table_size
 rowed_more t words row is fits room =
     let few : length t.cover.cubes < 4096 = leb-false 4096 (length t.cover.cubes) room in
@@ -157,10 +165,13 @@ rowed_more t words row is fits room =
       size = omega (arith, fits.1, count_by-le-length (λ (b : ℕ). b == 48 || b == 49) row.cube, sum_by-append literal_count t.cover.cubes (row.cube ∷ []), sum_by-cons literal_count row.cube []);
     }
 
-with_row_fine : (line : ℕ) (t : Table) (words : List (List ℕ)) (r : Option Row) → IsCubeTable t → ((row : Row) → r ≡ Some row → FitsRow t.cover.width words row) → IfOk (with_row line t r) (IsMore t words)
+with_row_fine : (line : ℕ) (t : Table) (words : List (List ℕ)) (r : Option CoverRow) → IsCubeTable t →
+    ((row : CoverRow) → r ≡ Some row → FitsRow t.cover.width words row) → IfOk (with_row line t r) (IsMore t words)
 with_row_fine line t words None is fits = tt
 with_row_fine line t words (Some row) is fits =
-    cond_both (nat_le 4096 (length t.cover.cubes)) (Err (TooManyRows line)) (if is_nothing t.cover.cubes || agrees row.on t.cover.on then Ok (rowed t row) else Err (MixedCover line)) (λ (r : Result Table NetError). IfOk r (IsMore t words))
+    cond_both (nat_le 4096 (length t.cover.cubes)) (Err (TooManyRows line)) (if is_nothing t.cover.cubes ||
+    agrees row.on t.cover.on then Ok (rowed t row) else Err (MixedCover line)) (λ (r : Result Table NetError).
+    IfOk r (IsMore t words))
     (λ full. tt)
     (λ room. cond_both (is_nothing t.cover.cubes || agrees row.on t.cover.on) (Ok (rowed t row)) (Err (MixedCover line)) (λ (r : Result Table NetError). IfOk r (IsMore t words))
     (λ one. rowed_more t words row is (fits row refl) room)
@@ -172,7 +183,7 @@ row_fine line t words is = with_row_fine line t words (row_in t.cover.width word
 
 -- ---- latches
 
-abbrev IsTail : Tail → Type 0
+abbrev IsTail : LatchTail → Type 0
 IsTail tail = IsControl tail.control × IsInit tail.init
 
 digit_low : (b : ℕ) → (nat_le 48 b && nat_le b 51) ≡ true → b - 48 ≤ 3
@@ -199,45 +210,57 @@ control_fits (Some t) name c short e =
       name_in None = []
       name_in (Some x) = x.1
 
-with_tail : (control : Option (Trigger × Name)) (init : Option ℕ) → IsControl control → ((i : ℕ) → init ≡ Some i → i ≤ 3) → (tail : Tail) → tail_with control init ≡ Some tail → IsTail tail
+with_tail : (control : Option (Trigger × Name)) (init : Option ℕ) → IsControl control → ((i : ℕ) → init ≡ Some i → i ≤ 3) → (tail : LatchTail) → tail_with control init ≡ Some tail → IsTail tail
 with_tail control None c i tail e = absurd cc
-with_tail control (Some init) c i tail e = subst (λ (r : Option Tail). tails r) e (c, i init refl) where
-  tails : Option Tail → Type 0
+with_tail control (Some init) c i tail e = subst (λ (r : Option LatchTail). tails r) e (c, i init refl) where
+  tails : Option LatchTail → Type 0
   tails None = Unit {0}
   tails (Some t) = IsTail t
 
-by_tail : (control : Option (Trigger × Name)) → ((c : Trigger × Name) → control ≡ Some c → IsName c.1) → (tail : Tail) → tail_by control ≡ Some tail → IsTail tail
+by_tail : (control : Option (Trigger × Name)) → ((c : Trigger × Name) → control ≡ Some c → IsName c.1) → (tail : LatchTail) → tail_by control ≡ Some tail → IsTail tail
 by_tail None c tail e = absurd cc
-by_tail (Some control) c tail e = subst (λ (r : Option Tail). tails r) e (c control refl, tt) where
-  tails : Option Tail → Type 0
+by_tail (Some control) c tail e = subst (λ (r : Option LatchTail). tails r) e (c control refl, tt) where
+  tails : Option LatchTail → Type 0
   tails None = Unit {0}
   tails (Some t) = IsTail t
 
-both_tail : (control : Option (Trigger × Name)) (init : Option ℕ) → ((c : Trigger × Name) → control ≡ Some c → IsName c.1) → ((i : ℕ) → init ≡ Some i → i ≤ 3) → (tail : Tail) → tail_by_both control init ≡ Some tail → IsTail tail
+both_tail : (control : Option (Trigger × Name)) (init : Option ℕ) →
+    ((c : Trigger × Name) → control ≡ Some c → IsName c.1) → ((i : ℕ) → init ≡ Some i → i ≤ 3) → (tail : LatchTail) →
+    tail_by_both control init ≡ Some tail → IsTail tail
 both_tail None init c i tail e = absurd cc
 both_tail (Some control) init c i tail e = with_tail (Some control) init (c control refl) i tail e
 
-nothing_tail : (tail : Tail) → Some (record { control = None; init = None }) ≡ Some tail → IsTail tail
-nothing_tail tail e = subst (λ (r : Option Tail). tails r) e (tt, tt) where
-  tails : Option Tail → Type 0
+nothing_tail : (tail : LatchTail) → Some (record { control = None; init = None }) ≡ Some tail → IsTail tail
+nothing_tail tail e = subst (λ (r : Option LatchTail). tails r) e (tt, tt) where
+  tails : Option LatchTail → Type 0
   tails None = Unit {0}
   tails (Some t) = IsTail t
 
-tail_fits : (ws : List (List ℕ)) (tail : Tail) → AreShort ws → tail_in ws ≡ Some tail → IsTail tail
+tail_fits : (ws : List (List ℕ)) (tail : LatchTail) → AreShort ws → tail_in ws ≡ Some tail → IsTail tail
 unfolding tail_in
 tail_fits [] tail short e = nothing_tail tail e
 tail_fits (i ∷ []) tail short e = with_tail None (init_in i) tt (λ init f. init_fits i init f) tail e
 tail_fits (t ∷ c ∷ []) tail short e = by_tail (with_control (trigger_in t) c) (λ x f. control_fits (trigger_in t) c x (short_cons c [] (short_cons t (c ∷ []) short).1).0 f) tail e
-tail_fits (t ∷ c ∷ i ∷ []) tail short e = both_tail (with_control (trigger_in t) c) (init_in i) (λ x f. control_fits (trigger_in t) c x (short_cons c (i ∷ []) (short_cons t (c ∷ i ∷ []) short).1).0 f) (λ init f. init_fits i init f) tail e
+tail_fits (t ∷ c ∷ i ∷ []) tail short e = both_tail (with_control (trigger_in t) c) (init_in i)
+    (λ x f. control_fits (trigger_in t) c x (short_cons c (i ∷ []) (short_cons t (c ∷ i ∷ []) short).1).0 f) (λ init f.
+    init_fits i init f) tail e
 tail_fits (t ∷ c ∷ i ∷ w ∷ ws) tail short e = absurd cc
 
 abbrev FitsLatch : List (List ℕ) → LatchLine → Type 0
 FitsLatch words l = IsLatchLine l × (4 ≤ words_size words)
 
-latch_with_fine : (line : ℕ) (i o : Name) (ws : List (List ℕ)) (r : Option Tail) → AreShort (i ∷ o ∷ ws) → ((tail : Tail) → r ≡ Some tail → IsTail tail) → IfOk (latch_with line i o r) (FitsLatch (i ∷ o ∷ ws))
+latch_with_fine : (line : ℕ) (i o : Name) (ws : List (List ℕ)) (r : Option LatchTail) → AreShort (i ∷ o ∷ ws) →
+    ((tail : LatchTail) → r ≡ Some tail → IsTail tail) → IfOk (latch_with line i o r) (FitsLatch (i ∷ o ∷ ws))
 latch_with_fine line i o ws None short fits = tt
 latch_with_fine line i o ws (Some tail) short fits =
-    cond_both (is_name i && is_name o) (Ok (record { input = i; latch = record { output = o; control = tail.control; init = tail.init } })) (Err (Syntax line)) (λ (r : Result LatchLine NetError). IfOk r (FitsLatch (i ∷ o ∷ ws)))
+    cond_both (is_name i && is_name o) (Ok (record {
+      input = i;
+      latch = record {
+        output = o;
+        control = tail.control;
+        init = tail.init;
+      };
+    })) (Err (Syntax line)) (λ (r : Result LatchLine NetError). IfOk r (FitsLatch (i ∷ o ∷ ws)))
     (λ are.
     let c = short_cons i (o ∷ ws) short in
     let d = short_cons o ws c.1 in
@@ -272,7 +295,9 @@ model_fine line s (w ∷ []) size is short =
     (λ other. tt)
 model_fine line s (w ∷ v ∷ ws) size is short = tt
 
-directed_fine : (line : ℕ) (s : Said) (first : Bool) (word : List ℕ) (ws : List (List ℕ)) (k : Keyword) (size more : ℕ) → IsSaid s size → s.current ≡ None → AreShort ws → size + words_size ws + 1 ≤ more → Fine more (directed line s first word ws k)
+directed_fine : (line : ℕ) (s : Said) (first : Bool) (word : List ℕ) (ws : List (List ℕ)) (k : BlifKeyword)
+    (size more : ℕ) → IsSaid s size → s.current ≡ None → AreShort ws → size + words_size ws + 1 ≤ more →
+    Fine more (directed line s first word ws k)
 unfolding directed
 directed_fine line s first word ws Model size more is none short h =
     cond_both s.has_model (Err (NotSupported line word)) (if first then with_model line s ws else Err (Syntax line)) (Fine more)
@@ -304,7 +329,8 @@ directed_fine line s first word ws End size more is none short h =
     (λ e. tt)
 directed_fine line s first word ws Unknown size more is none short h = tt
 
-covered_fine : (line : ℕ) (s : Said) (c : Option Table) (words : List (List ℕ)) (size more : ℕ) → s.current ≡ c → IsSaid s size → size ≤ more → size + words_size words ≤ more + 1 → Fine more (covered line s c words)
+covered_fine : (line : ℕ) (s : Said) (c : Option Table) (words : List (List ℕ)) (size more : ℕ) → s.current ≡ c →
+    IsSaid s size → size ≤ more → size + words_size words ≤ more + 1 → Fine more (covered line s c words)
 covered_fine line s None words size more e is low h = tt
 covered_fine line s (Some t) words size more e is low h =
     let table : IsCubeTable t = All-head IsCubeTable t [] (subst (λ (c : Option Table). All IsCubeTable (option_to_list c)) e is.current) in
@@ -315,16 +341,17 @@ dot_long : (w : List ℕ) → begins_dot w ≡ true → 1 ≤ length w
 dot_long [] e = absurd cc
 dot_long (b ∷ bs) e = omega arith
 
-behind_fine : (line : ℕ) (s : Said) (w : List ℕ) (size : ℕ) → Fine size (behind_end line s w)
-behind_fine line s w size = cond_both (is_same w (codes ".model") && s.has_model) (Err (NotSupported line w)) (Err (Syntax line)) (Fine size) (λ e. tt) (λ e. tt)
+after_fine : (line : ℕ) (s : Said) (w : List ℕ) (size : ℕ) → Fine size (after_end line s w)
+after_fine line s w size = cond_both (is_same w (codes ".model") && s.has_model) (Err (NotSupported line w)) (Err (Syntax line)) (Fine size) (λ e. tt) (λ e. tt)
 
 stated_fine : (line : ℕ) (s : Said) (ws : List (List ℕ)) (size more : ℕ) → IsSaid s size → AreShort ws → size ≤ more → size + words_size ws ≤ more + 1 → Fine more (stated line s ws)
 stated_fine line s [] size more is short low h = said_more s size more low is
 stated_fine line s (w ∷ ws) size more is short low h =
-    cond_both s.is_ended (behind_end line s w) (if begins_dot w then directed line (closed s) (not s.is_begun) w ws (keyword_of w) else covered line s s.current (w ∷ ws)) (Fine more)
-    (λ ended. behind_fine line s w more)
+    cond_both s.is_ended (after_end line s w) (if begins_dot w then directed line (closed s) (not s.is_begun) w ws (keyword_of w) else covered line s s.current (w ∷ ws)) (Fine more)
+    (λ ended. after_fine line s w more)
     (λ going. cond_both (begins_dot w) (directed line (closed s) (not s.is_begun) w ws (keyword_of w)) (covered line s s.current (w ∷ ws)) (Fine more)
-    (λ dot. directed_fine line (closed s) (not s.is_begun) w ws (keyword_of w) size more (closed_said s size is) refl (short_cons w ws short).1 (omega (arith, h, words_size-cons w ws, dot_long w dot)))
+    (λ dot. directed_fine line (closed s) (not s.is_begun) w ws (keyword_of w) size more (closed_said s size is) refl
+    (short_cons w ws short).1 (omega (arith, h, words_size-cons w ws, dot_long w dot)))
     (λ row. covered_fine line s s.current (w ∷ ws) size more refl is low h))
 
 step_fine : (s : Said) (l : Logical) (size : ℕ) → IsSaid s size → Fine (size + length l.text) (step s l)
@@ -337,13 +364,15 @@ step_fine s l size is =
     (λ f. stated_fine l.first s (words_of l.text) size (size + length l.text) is (short_words (words_of l.text) f) (omega arith) (omega (arith, words_fit l.text))))
 
 -- the state is valid, and the current table is complete
-pub record IsWhole (s : Said) (size : ℕ) : Type 0 where
+pub record IsComplete (s : Said) (size : ℕ) : Type 0 where
   pub said : IsSaid s size
   pub whole : s.current ≡ None
 
-pub steps_fine : (s : Said) (ls : List Logical) (size : ℕ) → IsSaid s size → IfOk (steps s ls) (λ t. IsWhole t (size + said_size ls))
+pub steps_fine : (s : Said) (ls : List Logical) (size : ℕ) → IsSaid s size → IfOk (steps s ls) (λ t. IsComplete t (size + said_size ls))
 unfolding steps
 steps_fine s [] size is = record { said = said_more (closed s) size (size + 0) (omega arith) (closed_said s size is); whole = refl }
 steps_fine s (l ∷ ls) size is =
-    bind_fine (step s l) (λ t. steps t ls) (λ t. IsSaid t (size + length l.text)) (λ t. IsWhole t (size + said_size (l ∷ ls))) (step_fine s l size is)
-    (λ t fine. let total : size + length l.text + said_size ls ≡ size + said_size (l ∷ ls) = omega (arith, said_size-cons l ls) in subst (λ (k : ℕ). IfOk (steps t ls) (λ u. IsWhole u k)) total (steps_fine t ls (size + length l.text) fine))
+    bind_fine (step s l) (λ t. steps t ls) (λ t. IsSaid t (size + length l.text)) (λ t. IsComplete t (size + said_size (l ∷ ls))) (step_fine s l size is)
+    (λ t fine. let total : size + length l.text + said_size ls ≡ size + said_size (l ∷ ls) =
+    omega (arith, said_size-cons l ls) in subst (λ (k : ℕ). IfOk (steps t ls) (λ u. IsComplete u k)) total
+    (steps_fine t ls (size + length l.text) fine))

@@ -8,10 +8,10 @@ abbrev pub word_then : List ℕ → List (List ℕ) → List (List ℕ)
 word_then [] ws = ws
 word_then (b ∷ bs) ws = (b ∷ bs) ∷ ws
 
--- the words of `front` ++ `text`; `front` has no blank
+-- the words of `prefix` ++ `text`; `prefix` has no blank
 unfoldable pub words_from : List ℕ → List ℕ → List (List ℕ)
-words_from front [] = word_then front []
-words_from front (b ∷ bs) = if is_blank b then word_then front (words_from [] bs) else words_from (front ++ b ∷ []) bs
+words_from prefix [] = word_then prefix []
+words_from prefix (b ∷ bs) = if is_blank b then word_then prefix (words_from [] bs) else words_from (prefix ++ b ∷ []) bs
 
 -- the words of a text: the non-empty runs between blanks
 abbrev pub words_of : List ℕ → List (List ℕ)

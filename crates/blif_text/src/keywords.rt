@@ -7,7 +7,7 @@ use crate::words::is_word;
 
 /// The keyword of a BLIF statement, its first word.
 #[derive(Clone, Copy)]
-pub enum Keyword {
+pub enum BlifKeyword {
     /// `.model`
     Model,
     /// `.inputs`
@@ -28,24 +28,24 @@ pub enum Keyword {
 
 /// The keyword of a word that begins with a dot.
 #[tactic(auto, unfolding(crate::specs::Statements::keyword_of))]
-pub fn keyword_of(word: &[u8]) -> Keyword
+pub fn keyword_of(word: &[u8]) -> BlifKeyword
     ensures { result ≡ keyword_of_word word.now }
 {
     if is_word(word, b".model") {
-        Keyword::Model
+        BlifKeyword::Model
     } else if is_word(word, b".inputs") {
-        Keyword::Inputs
+        BlifKeyword::Inputs
     } else if is_word(word, b".outputs") {
-        Keyword::Outputs
+        BlifKeyword::Outputs
     } else if is_word(word, b".clock") {
-        Keyword::Clock
+        BlifKeyword::Clock
     } else if is_word(word, b".names") {
-        Keyword::Names
+        BlifKeyword::Names
     } else if is_word(word, b".latch") {
-        Keyword::Latch
+        BlifKeyword::Latch
     } else if is_word(word, b".end") {
-        Keyword::End
+        BlifKeyword::End
     } else {
-        Keyword::Unknown
+        BlifKeyword::Unknown
     }
 }

@@ -16,7 +16,7 @@ mod statements;
 mod walking;
 mod words;
 
-pub use keywords::Keyword;
+pub use keywords::BlifKeyword;
 pub use logical::{LogicalLine, next_logical};
 pub use net_document::{Listed, NetError};
 pub use reading::{Control, CoverTable, Reading};

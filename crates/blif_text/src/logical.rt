@@ -49,7 +49,7 @@ pub fn next_logical(
         size += line.len();
         left = rest;
         let said = content_of(line, ended);
-        let Some(front) = without_last(b'\\', said) else {
+        let Some(prefix) = without_last(b'\\', said) else {
             text.extend_from_slice(said)?;
             let logical = LogicalLine {
                 first: number,
@@ -58,7 +58,7 @@ pub fn next_logical(
             };
             return Ok(Some((logical, next, left)));
         };
-        text.extend_from_slice(front)?;
+        text.extend_from_slice(prefix)?;
         text.push(b' ')?;
     }
     if next == number {

@@ -8,12 +8,12 @@ ghost use Rattle.blif_text.specs.Statements as say;
 ghost use Rattle.blif_text.specs.Statements.{with_model, with_inputs, with_outputs, with_clocks};
 ghost use Rattle.blif_text.specs.Statements.{with_table_line, with_latch_line, with_end};
 ghost use Rattle.blif_text.specs.Statements.{with_table_names, with_latch_names};
-ghost use Rattle.blif_text.specs.Statements.{table_of as table_of_words, front_of, last_of, control_at};
-ghost use Rattle.blif_text.specs.Statements.{directed, covered, behind_end as behind_end_of};
+ghost use Rattle.blif_text.specs.Statements.{table_of as table_of_words, prefix_of, last_of, control_at};
+ghost use Rattle.blif_text.specs.Statements.{directed, covered, after_end as after_end_of};
 ghost use Rattle.blif_text.specs.Statements.{begins_dot as begins_dot_of, stated, step};
-ghost use Rattle.blif_text.specs.declared.keywords.Keyword.TheVariants.{Model};
+ghost use Rattle.blif_text.specs.declared.keywords.BlifKeyword.TheVariants.{Model};
 
-use crate::keywords::{Keyword, keyword_of};
+use crate::keywords::{BlifKeyword, keyword_of};
 use crate::latches::latch_of;
 use crate::logical::LogicalLine;
 use crate::reading::{Control, CoverTable, Reading};
@@ -98,13 +98,13 @@ fn take_clocks(line: u32, reading: &mut Reading, text: &[u8]) -> Result<(), NetE
 }
 
 /// All words but the last one, and the last one; `first` is the first word, and `text` has the others.
-#[tactic(auto, unfolding(crate::specs::Statements::front_of, crate::specs::Statements::last_of))]
+#[tactic(auto, unfolding(crate::specs::Statements::prefix_of, crate::specs::Statements::last_of))]
 fn split_last_word(
     alloc: Global,
     first: &[u8],
     text: &[u8],
 ) -> Result<(Vec<Name>, Name), AllocError>
-    ensures front { IfOk result (λ x. x.0.items ≡ front_of first.now (words_of text.now)) }
+    ensures prefix { IfOk result (λ x. x.0.items ≡ prefix_of first.now (words_of text.now)) }
     ensures last { IfOk result (λ x. x.1 ≡ last_of first.now (words_of text.now)) }
     ensures count { IfOk result (λ x. length x.0.items ≡ length (words_of text.now)) }
 {
@@ -223,17 +223,18 @@ fn direct(
     word: &[u8],
     text: &[u8],
 ) -> Result<(), NetError>
-    ensures { Gives (λ _. reading.new) result (directed line reading.old is_first word.now (words_of text.now) (say.keyword_of word.now)) }
+    ensures { Gives (λ _. reading.new) result (directed line reading.old is_first word.now (words_of text.now)
+        (say.keyword_of word.now)) }
 {
     match keyword_of(word) {
-        Keyword::Model => take_model(alloc, line, reading, is_first, word, text),
-        Keyword::Inputs => take_inputs(line, reading, text),
-        Keyword::Outputs => take_outputs(line, reading, text),
-        Keyword::Clock => take_clocks(line, reading, text),
-        Keyword::Names => take_table(alloc, line, reading, text),
-        Keyword::Latch => take_latch(alloc, line, reading, text),
-        Keyword::End => take_end(line, reading, text),
-        Keyword::Unknown => Err(NetError::NotSupported(line, Name::of(alloc, word)?)),
+        BlifKeyword::Model => take_model(alloc, line, reading, is_first, word, text),
+        BlifKeyword::Inputs => take_inputs(line, reading, text),
+        BlifKeyword::Outputs => take_outputs(line, reading, text),
+        BlifKeyword::Clock => take_clocks(line, reading, text),
+        BlifKeyword::Names => take_table(alloc, line, reading, text),
+        BlifKeyword::Latch => take_latch(alloc, line, reading, text),
+        BlifKeyword::End => take_end(line, reading, text),
+        BlifKeyword::Unknown => Err(NetError::NotSupported(line, Name::of(alloc, word)?)),
     }
 }
 
@@ -258,8 +259,8 @@ fn begins_dot(word: &[u8]) -> bool
 }
 
 /// The error of a line after `.end`.
-fn behind_end(alloc: Global, line: u32, reading: &Reading, word: &[u8]) -> Result<(), NetError>
-    ensures { Gives (λ _. reading.now) result (behind_end_of line reading.now word.now) }
+fn after_end(alloc: Global, line: u32, reading: &Reading, word: &[u8]) -> Result<(), NetError>
+    ensures { Gives (λ _. reading.now) result (after_end_of line reading.now word.now) }
 {
     if is_word(word, b".model") && reading.has_model {
         return Err(NetError::NotSupported(line, Name::of(alloc, word)?));
@@ -275,7 +276,7 @@ fn state(alloc: Global, line: u32, reading: &mut Reading, text: &[u8]) -> Result
         return Ok(());
     };
     if reading.is_ended {
-        return behind_end(alloc, line, reading, word);
+        return after_end(alloc, line, reading, word);
     }
     if !begins_dot(word) {
         return cover(alloc, line, reading, text);

@@ -4,12 +4,13 @@ ghost use Rattle.std.specs.Prelude.{◌≡◌, ◌+◌, ◌*◌, ◌≤◌, ◌<
 ghost use Rattle.net_theory.specs.Document.{table_output};
 ghost use Rattle.net_theory.specs.Naming.{each_once};
 ghost use Rattle.blif_text.specs.Reading.{Gives};
-ghost use Rattle.net_document.specs.Refusals.{Tells};
-ghost use Rattle.net_document.specs.Listed.{IsListed, AreFree};
+ghost use Rattle.net_document.specs.Refusals.{IsReportOf};
+ghost use Rattle.net_document.specs.Listed.{IsWellListed, AreControlsFree};
 ghost use Rattle.net_theory.specs.Cost.{cost};
 ghost use Rattle.net_theory.specs.NetOf.{source_count};
 ghost use Rattle.blif_text.specs.Logical.{logical_of};
-ghost use Rattle.blif_text.specs.Statements.{steps, said_of, control_fault as control_fault_of, listed_by as listed_by_said, listed_of};
+ghost use Rattle.blif_text.specs.Statements.{steps, said_of, control_fault as control_fault_of};
+ghost use Rattle.blif_text.specs.Statements.{listed_by as listed_by_said, listed_of};
 
 use crate::logical::next_logical;
 use crate::reading::{Control, Reading};
@@ -63,7 +64,7 @@ fn add_driven(driven: &mut IndexSet<Name>, tables: &[Table]) -> Result<(), Alloc
 #[tactic(auto, unfolding(crate::specs::Statements::control_fault, net_theory::specs::Document::has))]
 fn refuse_driven(driven: &IndexSet<Name>, controls: &[Control]) -> Result<(), NetError>
     ensures good { IfOk result (λ _. control_fault_of driven.now.keys controls.now ≡ None) }
-    ensures refused { IfErr result (λ e. Tells e (control_fault_of driven.now.keys controls.now)) }
+    ensures refused { IfErr result (λ e. IsReportOf e (control_fault_of driven.now.keys controls.now)) }
 {
     let mut left = controls;
     while let Some((control, rest)) = left.split_first() {
@@ -78,8 +79,10 @@ fn refuse_driven(driven: &IndexSet<Name>, controls: &[Control]) -> Result<(), Ne
 /// Refuses the first control that a table drives.
 #[tactic(auto, using(crate::proofs::Controls::controls))]
 fn check_controls(alloc: Global, reading: &Reading) -> Result<(), NetError>
-    ensures good { IfOk result (λ _. control_fault_of (map table_output reading.now.tables) reading.now.controls ≡ None) }
-    ensures refused { IfErr result (λ e. Tells e (control_fault_of (map table_output reading.now.tables) reading.now.controls)) }
+    ensures good { IfOk result (λ _. control_fault_of (map table_output reading.now.tables) reading.now.controls ≡
+        None) }
+    ensures refused { IfErr result (λ e. IsReportOf e
+        (control_fault_of (map table_output reading.now.tables) reading.now.controls)) }
 {
     let mut driven = IndexSet::new(alloc);
     add_driven(&mut driven, &reading.tables)?;
@@ -127,8 +130,8 @@ fn listed_by(reading: Reading) -> Listed
 pub fn read_listed(alloc: Global, bytes: &[u8]) -> Result<Listed, NetError>
     requires { length bytes.now < 2 ^ 31 }
     ensures exact { Gives (λ l. l) result (listed_of bytes.now) }
-    ensures listed { IfOk result IsListed }
-    ensures free { IfOk result (λ l. AreFree l.document) }
+    ensures listed { IfOk result IsWellListed }
+    ensures free { IfOk result (λ l. AreControlsFree l.document) }
     ensures few { IfOk result (λ l. length l.document.tables ≤ length bytes.now) }
     ensures small { IfOk result (λ l. 2 * source_count l.document + cost l.document ≤ length bytes.now) }
 {

@@ -10,7 +10,7 @@ use net_document::{Name, is_blank, is_long_word, is_name};
 use std::alloc::AllocError;
 
 /// The first word of a text and the rest after it; None if the text has no word.
-#[tactic(auto, using(text_core::specs::Cuts::cuts), unfolding(crate::specs::Words::words_from))]
+#[tactic(auto, using(text_core::specs::Splits::splits), unfolding(crate::specs::Words::words_from))]
 pub fn next_word(text: &[u8]) -> Option<(&[u8], &[u8])>
     ensures words { words_of text.now ≡ words_in result }
     ensures shorter { IfSome result (λ x. length x.1.now < length text.now) }

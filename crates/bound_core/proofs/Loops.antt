@@ -8,7 +8,7 @@ use Rattle.chain_theory.specs.Levels as levels
 use Rattle.tt_core.specs.RowLaws.{row_below}
 use Rattle.tt_core.specs.Words.{Words, specification}
 use Rattle.tt_core.specs.Live.{is_live}
-use Rattle.bound_core.specs.Counts.{some_below, count_below, uses, live_uses, is_in_use, differ, live_like, is_new}
+use Rattle.bound_core.specs.Counts.{some_below, count_below, uses, live_uses, is_in_use, differ, live_compatible, is_new}
 use Rattle.bound_core.specs.CountLaws.{passes_some}
 
 -- no number below 0 passes
@@ -58,15 +58,17 @@ pub ruleset shifting = (common_steps, power_small, power_low)
 
 -- ---- what is found
 
-pub in_use_at : (w : Words) (before output : ℕ) → uses (specification w) (output + 1) (before + 1) ≡ true → is_live (specification w) (output + 1) ≡ true → output < length w.on → true ≡ is_in_use (specification w) before
+pub in_use_at : (w : Words) (before output : ℕ) → uses (specification w) (output + 1) (before + 1) ≡ true →
+    is_live (specification w) (output + 1) ≡ true → output < length w.on → true ≡ is_in_use (specification w) before
 unfolding is_in_use live_uses
 in_use_at w before output used live low =
     let both : live_uses (specification w) (before + 1) output ≡ true = rw (used, live) refl in
     sym (passes_some (live_uses (specification w) (before + 1)) (length w.on) output low both)
 
-pub new_fails : (w : Words) (before earlier : ℕ) → differ (specification w) (earlier + 1) (before + 1) ≡ false → is_live (specification w) (earlier + 1) ≡ true → earlier < before → false ≡ is_new (specification w) before
-unfolding is_new live_like
+pub new_fails : (w : Words) (before earlier : ℕ) → differ (specification w) (earlier + 1) (before + 1) ≡ false →
+    is_live (specification w) (earlier + 1) ≡ true → earlier < before → false ≡ is_new (specification w) before
+unfolding is_new live_compatible
 new_fails w before earlier same live low =
-    let both : live_like (specification w) (before + 1) earlier ≡ true = rw (same, live) refl in
-    let some : some_below (live_like (specification w) (before + 1)) before ≡ true = passes_some (live_like (specification w) (before + 1)) before earlier low both in
+    let both : live_compatible (specification w) (before + 1) earlier ≡ true = rw (same, live) refl in
+    let some : some_below (live_compatible (specification w) (before + 1)) before ≡ true = passes_some (live_compatible (specification w) (before + 1)) before earlier low both in
     rw some refl

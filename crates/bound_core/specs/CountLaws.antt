@@ -1,6 +1,8 @@
 -- What the counts mean: the inputs that are counted are used, and the outputs that are counted
 -- differ; so no chain of fewer steps agrees.
-use Rattle.std.proofs.Common.{◌≡◌, ◌≢◌, ◌⊎◌, ℕ, zero, suc, ◌+◌, ◌-◌, ◌*◌, ◌<◌, ◌≤◌, ◌^◌, ◌==◌, Bool, true, false, ◌&&◌, ◌||◌, not, List, [], ◌∷◌, length, Contains, All, refl, sym, ap, ◌∙◌, subst, arith, inl, inr}
+use Rattle.std.proofs.Common.{◌≡◌, ◌≢◌, ◌⊎◌, ℕ, zero, suc, ◌+◌, ◌-◌, ◌*◌, ◌<◌, ◌≤◌, ◌^◌, ◌==◌, Bool, true, false, ◌&&◌}
+use Rattle.std.proofs.Common.{◌||◌, not, List, [], ◌∷◌, length, Contains, All, refl, sym, ap, ◌∙◌, subst, arith, inl}
+use Rattle.std.proofs.Common.{inr}
 use Rattle.std.specs.Prelude.{if◌then◌else◌, AllPairs, slice_index_or, bit_or, max}
 use Rattle.std.specs.Int.{bit_at}
 use Rattle.std.proofs.lemmas.Grind.{common_steps}
@@ -18,8 +20,8 @@ use Rattle.chain_theory.specs.Agreement.{HasChain}
 use Rattle.chain_theory.specs.declared.data.Cell.{Cell}
 use Rattle.chain_theory.specs.declared.data.Cell.TheVariants.{Zero, One, Free}
 use Rattle.tt_core.specs.Live.{is_live}
-use Rattle.bound_core.specs.Used.{are_opposite, IsUsed, AreUsed, Differ, AreLiveApart}
-use Rattle.bound_core.specs.Counts.{some_below, count_below, turns_on, uses, uses_next, live_next, live_uses, is_in_use, parts_on, differ, live_like, is_new, single, fewest}
+use Rattle.bound_core.specs.Support.{are_opposite, IsInSupport, AreInSupports, OutputsDiffer, AreLiveApart}
+use Rattle.bound_core.specs.Counts.{some_below, count_below, is_sensitive_on, uses, uses_next, live_next, live_uses, is_in_use, differ_on, differ, live_compatible, is_new, single, fewest}
 use Rattle.bound_core.specs.Needed.{inputs_few}
 use Rattle.bound_core.specs.Different.{outputs_few}
 
@@ -157,10 +159,10 @@ raised_low n j t some low inside none = rw (raised_or t (n - j) none) (or_lt n t
 -- ---- inputs in use
 
 -- where the test `uses` passes, the output uses the input
-pub uses_is : (s : Specification) (h j : ℕ) → 1 ≤ j → j ≤ s.inputs → uses s h j ≡ true → IsUsed s j h
-unfolding uses turns_on
+pub uses_is : (s : Specification) (h j : ℕ) → 1 ≤ j → j ≤ s.inputs → uses s h j ≡ true → IsInSupport s j h
+unfolding uses is_sensitive_on
 uses_is s h j some low e =
-    let found = some_passes (turns_on s h j) (2 ^ s.inputs) e in
+    let found = some_passes (is_sensitive_on s h j) (2 ^ s.inputs) e in
     let parts = and_parts (are_opposite (s.cell h found.0) (s.cell h (found.0 + 2 ^ (s.inputs - j)))) (not (input s.inputs found.0 j)) found.2 in
     let none : input s.inputs found.0 j ≡ false = not_true (input s.inputs found.0 j) parts.1 in
     record {
@@ -172,7 +174,7 @@ uses_is s h j some low e =
     }
 
 -- one output, and the inputs that it uses
-pub used_one : (s : Specification) (h : ℕ) → 1 ≤ h → h ≤ s.outputs → AreUsed s (those (uses_next s h) s.inputs) (h ∷ [])
+pub used_one : (s : Specification) (h : ℕ) → 1 ≤ h → h ≤ s.outputs → AreInSupports s (those (uses_next s h) s.inputs) (h ∷ [])
 unfolding uses_next
 used_one s h some low = record {
   numbers = λ g c. only g c.0 c.1 c.2;
@@ -188,7 +190,7 @@ used_one s h some low = record {
     next j from e = let same : j - 1 + 1 ≡ j = omega arith in ap (uses s h) (sym same) ∙ e
 
 -- all live outputs, and the inputs that they use
-pub used_all : (s : Specification) → AreUsed s (those (is_in_use s) s.inputs) (those (live_next s) s.outputs)
+pub used_all : (s : Specification) → AreInSupports s (those (is_in_use s) s.inputs) (those (live_next s) s.outputs)
 unfolding is_in_use live_uses live_next
 used_all s = record {
   numbers = λ g c. let found = those_have (live_next s) s.outputs g c in (found.0, found.1);
@@ -196,7 +198,7 @@ used_all s = record {
   used = λ j c. by j c;
 }
   where
-    by : (j : ℕ) → Contains (those (is_in_use s) s.inputs) j → (h : ℕ) × Contains (those (live_next s) s.outputs) h × IsUsed s j h
+    by : (j : ℕ) → Contains (those (is_in_use s) s.inputs) j → (h : ℕ) × Contains (those (live_next s) s.outputs) h × IsInSupport s j h
     by j c =
         let found = those_have (is_in_use s) s.inputs j c in
         let same : j - 1 + 1 ≡ j = omega (arith, found.0) in
@@ -206,33 +208,33 @@ used_all s = record {
 
 -- ---- outputs that differ
 
-pub differ_is : (s : Specification) (g h : ℕ) → differ s g h ≡ true → Differ s g h
-unfolding differ parts_on
-differ_is s g h e = let found = some_passes (parts_on s g h) (2 ^ s.inputs) e in record { row = found.0; inside = found.1; asked = found.2 }
+pub differ_is : (s : Specification) (g h : ℕ) → differ s g h ≡ true → OutputsDiffer s g h
+unfolding differ differ_on
+differ_is s g h e = let found = some_passes (differ_on s g h) (2 ^ s.inputs) e in record { row = found.0; inside = found.1; asked = found.2 }
 
-pub opposite_turned : (a b : Cell) → are_opposite a b ≡ true → are_opposite b a ≡ true
-opposite_turned Zero Zero e = e
-opposite_turned Zero One e = refl
-opposite_turned Zero Free e = absurd cc
-opposite_turned One Zero e = refl
-opposite_turned One One e = e
-opposite_turned One Free e = absurd cc
-opposite_turned Free b e = absurd cc
+pub opposite_swapped : (a b : Cell) → are_opposite a b ≡ true → are_opposite b a ≡ true
+opposite_swapped Zero Zero e = e
+opposite_swapped Zero One e = refl
+opposite_swapped Zero Free e = absurd cc
+opposite_swapped One Zero e = refl
+opposite_swapped One One e = e
+opposite_swapped One Free e = absurd cc
+opposite_swapped Free b e = absurd cc
 
-differ_turned : (s : Specification) (g h : ℕ) → Differ s g h → Differ s h g
-differ_turned s g h d = record { row = d.row; inside = d.inside; asked = opposite_turned (s.cell g d.row) (s.cell h d.row) d.asked }
+differ_swapped : (s : Specification) (g h : ℕ) → OutputsDiffer s g h → OutputsDiffer s h g
+differ_swapped s g h d = record { row = d.row; inside = d.inside; asked = opposite_swapped (s.cell g d.row) (s.cell h d.row) d.asked }
 
 -- a new output differs from a live one before it
-new_differs : (s : Specification) (i k : ℕ) → k < i → is_new s i ≡ true → is_new s k ≡ true → Differ s (i + 1) (k + 1)
-unfolding is_new live_like
+new_differs : (s : Specification) (i k : ℕ) → k < i → is_new s i ≡ true → is_new s k ≡ true → OutputsDiffer s (i + 1) (k + 1)
+unfolding is_new live_compatible
 new_differs s i k less new live =
-    let mine = and_parts (not (some_below (live_like s (i + 1)) i)) (is_live s (i + 1)) new in
-    let its = and_parts (not (some_below (live_like s (k + 1)) k)) (is_live s (k + 1)) live in
-    differ_turned s (k + 1) (i + 1) (differ_is s (k + 1) (i + 1) (elim (cases_Bool (differ s (k + 1) (i + 1))) [
+    let mine = and_parts (not (some_below (live_compatible s (i + 1)) i)) (is_live s (i + 1)) new in
+    let its = and_parts (not (some_below (live_compatible s (k + 1)) k)) (is_live s (k + 1)) live in
+    differ_swapped s (k + 1) (i + 1) (differ_is s (k + 1) (i + 1) (elim (cases_Bool (differ s (k + 1) (i + 1))) [
       | inl apart ↦ apart
       | inr like ↦
-          let both : live_like s (i + 1) k ≡ true = rw (like, its.1) refl in
-          absurd (true_false (sym (passes_some (live_like s (i + 1)) i k less both) ∙ not_true (some_below (live_like s (i + 1)) i) mine.0))
+          let both : live_compatible s (i + 1) k ≡ true = rw (like, its.1) refl in
+          absurd (true_false (sym (passes_some (live_compatible s (i + 1)) i k less both) ∙ not_true (some_below (live_compatible s (i + 1)) i) mine.0))
     ]))
 
 pub apart_new : (s : Specification) → AreLiveApart s (those (is_new s) s.outputs)
@@ -240,20 +242,20 @@ unfolding is_new
 apart_new s = record {
   numbers = λ g c. let found = those_have (is_new s) s.outputs g c in (found.0, found.1);
   live = λ g c. is g c;
-  apart = those_pairs (Differ s) (is_new s) s.outputs (λ h g from less to new other. pair h g from less new other);
+  apart = those_pairs (OutputsDiffer s) (is_new s) s.outputs (λ h g from less to new other. pair h g from less new other);
 }
   where
     is : (g : ℕ) → Contains (those (is_new s) s.outputs) g → is_live s g ≡ true
     is g c =
         let found = those_have (is_new s) s.outputs g c in
         let same : g - 1 + 1 ≡ g = omega (arith, found.0) in
-        ap (is_live s) (sym same) ∙ (and_parts (not (some_below (live_like s (g - 1 + 1)) (g - 1))) (is_live s (g - 1 + 1)) found.2).1
+        ap (is_live s) (sym same) ∙ (and_parts (not (some_below (live_compatible s (g - 1 + 1)) (g - 1))) (is_live s (g - 1 + 1)) found.2).1
 
-    pair : (h g : ℕ) → 1 ≤ g → g < h → is_new s (h - 1) ≡ true → is_new s (g - 1) ≡ true → Differ s h g
+    pair : (h g : ℕ) → 1 ≤ g → g < h → is_new s (h - 1) ≡ true → is_new s (g - 1) ≡ true → OutputsDiffer s h g
     pair h g from less new other =
         let same_h : h - 1 + 1 ≡ h = omega arith in
         let same_g : g - 1 + 1 ≡ g = omega arith in
-        subst (λ (x : ℕ). Differ s x g) same_h (subst (λ (x : ℕ). Differ s (h - 1 + 1) x) same_g (new_differs s (h - 1) (g - 1) (omega arith) new other))
+        subst (λ (x : ℕ). OutputsDiffer s x g) same_h (subst (λ (x : ℕ). OutputsDiffer s (h - 1 + 1) x) same_g (new_differs s (h - 1) (g - 1) (omega arith) new other))
 
 -- ---- the bound
 
@@ -265,7 +267,12 @@ greatest_least f (suc k) d each = omega (arith, each k (omega arith), greatest_l
 
 single_few : (s : Specification) (basis : Basis) (r : ℕ) → HasChain s basis r → (i : ℕ) → i < s.outputs → single s i ≤ r
 unfolding single
-single_few s basis r chain i low = omega (arith, inputs_few s basis r (those (uses_next s (i + 1)) s.inputs) ((i + 1) ∷ []) (used_one s (i + 1) (omega arith) (omega arith)) chain, those_count (uses_next s (i + 1)) s.inputs)
+single_few s basis r chain i low = omega (
+  arith,
+  inputs_few s basis r (those (uses_next s (i + 1)) s.inputs)
+      ((i + 1) ∷ []) (used_one s (i + 1) (omega arith) (omega arith)) chain,
+  those_count (uses_next s (i + 1)) s.inputs,
+)
 
 -- A chain that agrees has at least as many steps as the bound.
 pub fewest_few : (s : Specification) (basis : Basis) (r : ℕ) → HasChain s basis r → fewest s ≤ r

@@ -4,7 +4,7 @@ use Rattle.std.specs.Prelude.{ℕ, zero, suc, ◌+◌, ◌-◌, ◌^◌, Bool, f
 use Rattle.chain_theory.specs.Specification.{Specification, input}
 use Rattle.chain_theory.specs.Levels.{greatest}
 use Rattle.tt_core.specs.Live.{is_live}
-use Rattle.bound_core.specs.Used.{are_opposite}
+use Rattle.bound_core.specs.Support.{are_opposite}
 
 -- whether one of the numbers below k passes
 unfoldable pub some_below : (ℕ → Bool) → ℕ → Bool
@@ -19,13 +19,13 @@ count_below test (suc k) = count_below test k + (if test k then 1 else 0)
 -- Output h is sensitive to input j on row t: the row gives input j the bit 0, and output h has the
 -- cells 0 and 1, in either order, on this row and on the row with input j flipped.
 -- Example: of three inputs, row 1 (001) and row 5 (101) are such a pair of rows for x1.
-unfoldable pub turns_on : Specification → ℕ → ℕ → ℕ → Bool
-turns_on s h j t = are_opposite (s.cell h t) (s.cell h (t + 2 ^ (s.inputs - j))) && not (input s.inputs t j)
+unfoldable pub is_sensitive_on : Specification → ℕ → ℕ → ℕ → Bool
+is_sensitive_on s h j t = are_opposite (s.cell h t) (s.cell h (t + 2 ^ (s.inputs - j))) && not (input s.inputs t j)
 
 -- output h uses input j: it is in the support of the output
 -- Example: 0011 uses x1 and not x2.
 unfoldable pub uses : Specification → ℕ → ℕ → Bool
-uses s h j = some_below (turns_on s h j) (2 ^ s.inputs)
+uses s h j = some_below (is_sensitive_on s h j) (2 ^ s.inputs)
 
 -- input i + 1 is used by output h
 unfoldable pub uses_next : Specification → ℕ → ℕ → Bool
@@ -48,20 +48,20 @@ unfoldable pub is_in_use : Specification → ℕ → Bool
 is_in_use s i = some_below (live_uses s (i + 1)) s.outputs
 
 -- outputs g and h have the cells 0 and 1 on row t, in either order
-unfoldable pub parts_on : Specification → ℕ → ℕ → ℕ → Bool
-parts_on s g h t = are_opposite (s.cell g t) (s.cell h t)
+unfoldable pub differ_on : Specification → ℕ → ℕ → ℕ → Bool
+differ_on s g h t = are_opposite (s.cell g t) (s.cell h t)
 
 -- outputs g and h differ
 unfoldable pub differ : Specification → ℕ → ℕ → Bool
-differ s g h = some_below (parts_on s g h) (2 ^ s.inputs)
+differ s g h = some_below (differ_on s g h) (2 ^ s.inputs)
 
 -- output i + 1 is live and doesn't differ from output h
-unfoldable pub live_like : Specification → ℕ → ℕ → Bool
-live_like s h i = not (differ s (i + 1) h) && is_live s (i + 1)
+unfoldable pub live_compatible : Specification → ℕ → ℕ → Bool
+live_compatible s h i = not (differ s (i + 1) h) && is_live s (i + 1)
 
 -- output i + 1 is live, and differs from each live output before it
 unfoldable pub is_new : Specification → ℕ → Bool
-is_new s i = not (some_below (live_like s (i + 1)) i) && is_live s (i + 1)
+is_new s i = not (some_below (live_compatible s (i + 1)) i) && is_live s (i + 1)
 
 -- the support size of output i + 1, less 1
 unfoldable pub single : Specification → ℕ → ℕ

@@ -16,7 +16,7 @@ use Rattle.chain_theory.specs.declared.data.Out.TheVariants as kinds
 use Rattle.tt_core.specs.Live.{trivial_value, fits, trivial_of, is_none, is_live, IsTrivial}
 use Rattle.tt_core.specs.Laws.{meets_fits}
 use Rattle.tt_core.specs.FirstFitLaws.{none_fits}
-use Rattle.bound_core.specs.Used.{Differ, AreLiveApart}
+use Rattle.bound_core.specs.Support.{OutputsDiffer, AreLiveApart}
 use Rattle.bound_core.specs.Places.{has, has_first, has_later, no_longer}
 use Rattle.bound_core.specs.Needed.{opposite_met, out_names}
 
@@ -57,7 +57,9 @@ live_misses s h out live trivial met =
     absurd cc
 
 -- the out of a live output is a step's place
-live_place : (s : Specification) (c : Chain) (h : ℕ) (out : Out) (last : ℕ) → c.n ≡ s.inputs → is_live s h ≡ true → NamesPlace last out → ((t : ℕ) → t < 2 ^ s.inputs → is_met (s.cell h t) (out_value c t out) ≡ true) → (c.n < place_of out) × (place_of out ≤ last) × (out ≡ kinds.Place (place_of out))
+live_place : (s : Specification) (c : Chain) (h : ℕ) (out : Out) (last : ℕ) → c.n ≡ s.inputs → is_live s h ≡ true →
+    NamesPlace last out → ((t : ℕ) → t < 2 ^ s.inputs → is_met (s.cell h t) (out_value c t out) ≡ true) →
+    (c.n < place_of out) × (place_of out ≤ last) × (out ≡ kinds.Place (place_of out))
 unfolding place_of
 live_place s c h kinds.Zero last same live names met = absurd (live_misses s h kinds.Zero live tt met)
 live_place s c h kinds.One last same live names met = absurd (live_misses s h kinds.One live tt met)
@@ -67,10 +69,15 @@ live_place s c h (kinds.Place p) last same live names met = elim (cases_lt c.n p
 ]
 
 -- outputs that differ have different places
-places_apart : (s : Specification) (c : Chain) (g h : ℕ) (a b : Out) → Differ s g h → ((t : ℕ) → t < 2 ^ s.inputs → is_met (s.cell g t) (out_value c t a) ≡ true) → ((t : ℕ) → t < 2 ^ s.inputs → is_met (s.cell h t) (out_value c t b) ≡ true) → a ≡ kinds.Place (place_of a) → b ≡ kinds.Place (place_of b) → place_of a ≡ place_of b → ⊥
+places_apart : (s : Specification) (c : Chain) (g h : ℕ) (a b : Out) → OutputsDiffer s g h →
+    ((t : ℕ) → t < 2 ^ s.inputs → is_met (s.cell g t) (out_value c t a) ≡ true) →
+    ((t : ℕ) → t < 2 ^ s.inputs → is_met (s.cell h t) (out_value c t b) ≡ true) → a ≡ kinds.Place (place_of a) →
+    b ≡ kinds.Place (place_of b) → place_of a ≡ place_of b → ⊥
 places_apart s c g h a b differ met_g met_h is_a is_b e =
     let same : a ≡ b = is_a ∙ ap (λ (p : ℕ). kinds.Place p) e ∙ sym is_b in
-    opposite_met (s.cell g differ.row) (s.cell h differ.row) (out_value c differ.row a) (out_value c differ.row b) differ.asked (met_g differ.row differ.inside) (met_h differ.row differ.inside) (ap (out_value c differ.row) same)
+    opposite_met (s.cell g differ.row) (s.cell h differ.row) (out_value c differ.row a)
+    (out_value c differ.row b) differ.asked (met_g differ.row differ.inside) (met_h differ.row differ.inside)
+    (ap (out_value c differ.row) same)
 
 -- the out of output h
 abbrev out_of : Chain → ℕ → Out
@@ -86,7 +93,9 @@ outputs_few s basis r outputs live chain =
     met : (h : ℕ) → Contains outputs h → (t : ℕ) → t < 2 ^ s.inputs → is_met (s.cell h t) (out_value chain.chain t (out_of chain.chain h)) ≡ true
     met h is t low = let within = live.numbers h is in chain.agrees.cells h t within.0 within.1 low
 
-    sits : (h : ℕ) → Contains outputs h → (chain.chain.n < place_of (out_of chain.chain h)) × (place_of (out_of chain.chain h) ≤ chain.chain.n + r) × (out_of chain.chain h ≡ kinds.Place (place_of (out_of chain.chain h)))
+    sits : (h : ℕ) → Contains outputs h → (chain.chain.n < place_of (out_of chain.chain h)) ×
+        (place_of (out_of chain.chain h) ≤ chain.chain.n + r) ×
+        (out_of chain.chain h ≡ kinds.Place (place_of (out_of chain.chain h)))
     sits h is = live_place s chain.chain h (out_of chain.chain h) (chain.chain.n + r) chain.agrees.inputs (live.live h is) (out_names s basis r chain h (live.numbers h is)) (met h is)
 
     pairs : AllPairs (λ (g h : ℕ). place_of (out_of chain.chain g) ≡ place_of (out_of chain.chain h) → ⊥) outputs

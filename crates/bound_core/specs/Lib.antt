@@ -1,4 +1,4 @@
-pub mod Used
+pub mod Support
 pub mod Counts
 pub mod Places
 pub mod Needed

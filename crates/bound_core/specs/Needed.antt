@@ -17,7 +17,7 @@ use Rattle.chain_theory.specs.declared.data.Out.{Out}
 use Rattle.chain_theory.specs.declared.data.Out.TheVariants as kinds
 use Rattle.std.proofs.lemmas.List.{get_or_default}
 use Rattle.std.proofs.lemmas.List.Elements.{Contains-append_right}
-use Rattle.bound_core.specs.Used.{are_opposite, IsUsed, AreUsed}
+use Rattle.bound_core.specs.Support.{are_opposite, IsInSupport, AreInSupports}
 use Rattle.bound_core.specs.Places.{has, without, has_cases, has_first, has_later, has_none, without_less, without_keeps, without_from, no_longer}
 
 true_false : true ≡ false → ⊥
@@ -44,7 +44,9 @@ step_there (s ∷ steps) (suc i) low = step_there steps i (omega arith)
 abbrev exchanged : ℕ → Step → List ℕ → List ℕ
 exchanged place s places = s.j ∷ s.k ∷ without place places
 
-exchanged_low : (n i place : ℕ) (s : Step) (places : List ℕ) → place ≡ n + 1 + i → IsStepAt place s → ((p : ℕ) → has p places ≡ true → (1 ≤ p) × (p ≤ n + suc i)) → (p : ℕ) → has p (exchanged place s places) ≡ true → (1 ≤ p) × (p ≤ n + i)
+exchanged_low : (n i place : ℕ) (s : Step) (places : List ℕ) → place ≡ n + 1 + i → IsStepAt place s →
+    ((p : ℕ) → has p places ≡ true → (1 ≤ p) × (p ≤ n + suc i)) → (p : ℕ) → has p (exchanged place s places) ≡ true →
+    (1 ≤ p) × (p ≤ n + i)
 exchanged_low n i place s places e is low p h = elim (has_cases p s.j (s.k ∷ without place places) h) [
   | inl first ↦ (omega (arith, first, is.j_from), omega (arith, first, e, is.j_below))
   | inr later ↦ elim (has_cases p s.k (without place places) later) [
@@ -56,7 +58,8 @@ exchanged_low n i place s places e is low p h = elim (has_cases p s.j (s.k ∷ w
   ]
 ]
 
-exchanged_same : (c : Chain) (i place : ℕ) (s : Step) (places : List ℕ) (t u : ℕ) → place ≡ c.n + 1 + i → IsChain c → slice_get c.steps i ≡ Some s → AreSame c (exchanged place s places) t u → AreSame c places t u
+exchanged_same : (c : Chain) (i place : ℕ) (s : Step) (places : List ℕ) (t u : ℕ) → place ≡ c.n + 1 + i → IsChain c →
+    slice_get c.steps i ≡ Some s → AreSame c (exchanged place s places) t u → AreSame c places t u
 exchanged_same c i place s places t u e is at same p h = elim (cases_Bool (has p (without place places))) [
   | inl other ↦ same p (has_later p s.j (s.k ∷ without place places) (has_later p s.k (without place places) other))
   | inr gone ↦ own (place_of gone)
@@ -138,7 +141,9 @@ unfolding out_places
 places_few outs [] = omega arith
 places_few outs (h ∷ hs) = omega (arith, with_few (out_of outs h) (out_places outs hs), places_few outs hs)
 
-with_low : (last : ℕ) (out : Out) (places : List ℕ) → NamesPlace last out → ((p : ℕ) → has p places ≡ true → (1 ≤ p) × (p ≤ last)) → (p : ℕ) → has p (with_place out places) ≡ true → (1 ≤ p) × (p ≤ last)
+with_low : (last : ℕ) (out : Out) (places : List ℕ) → NamesPlace last out →
+    ((p : ℕ) → has p places ≡ true → (1 ≤ p) × (p ≤ last)) → (p : ℕ) → has p (with_place out places) ≡ true → (1 ≤ p) ×
+    (p ≤ last)
 unfolding with_place
 with_low last kinds.Zero places names low p h = low p h
 with_low last kinds.One places names low p h = low p h
@@ -150,7 +155,8 @@ with_low last (kinds.Place q) places names low p h = elim (has_cases p q places 
 places_low : (last : ℕ) (outs : List Out) (hs : List ℕ) → ((h : ℕ) → Contains hs h → NamesPlace last (out_of outs h)) → (p : ℕ) → has p (out_places outs hs) ≡ true → (1 ≤ p) × (p ≤ last)
 unfolding out_places
 places_low last outs [] names = λ p h. absurd (has_none p h)
-places_low last outs (g ∷ hs) names = with_low last (out_of outs g) (out_places outs hs) (names g (0, omega arith, refl)) (places_low last outs hs (λ h c. names h (Contains-append_right (g ∷ []) hs h c)))
+places_low last outs (g ∷ hs) names = with_low last (out_of outs g) (out_places outs hs)
+    (names g (0, omega arith, refl)) (places_low last outs hs (λ h c. names h (Contains-append_right (g ∷ []) hs h c)))
 
 -- an out has equal values on two rows on which its place has
 with_first : (c : Chain) (out : Out) (places : List ℕ) (t u : ℕ) → AreSame c (with_place out places) t u → out_value c t out ≡ out_value c u out
@@ -165,7 +171,9 @@ with_rest c kinds.Zero places t u same = same
 with_rest c kinds.One places t u same = same
 with_rest c (kinds.Place q) places t u same = λ p h. same p (has_later p q places h)
 
-outs_same : (c : Chain) (outs : List Out) (hs : List ℕ) (t u : ℕ) → AreSame c (out_places outs hs) t u → (k : ℕ) → k < length hs → out_value c t (out_of outs (slice_index_or hs k 0)) ≡ out_value c u (out_of outs (slice_index_or hs k 0))
+outs_same : (c : Chain) (outs : List Out) (hs : List ℕ) (t u : ℕ) → AreSame c (out_places outs hs) t u → (k : ℕ) →
+    k < length hs → out_value c t (out_of outs (slice_index_or hs k 0)) ≡
+    out_value c u (out_of outs (slice_index_or hs k 0))
 unfolding out_places
 outs_same c outs [] t u same k low = absurd (omega arith)
 outs_same c outs (h ∷ hs) t u same zero low = with_first c (out_of outs h) (out_places outs hs) t u same
@@ -192,10 +200,16 @@ out_names s basis r has h within =
     subst (λ (k : ℕ). NamesPlace (has.chain.n + k) (out_of has.chain.outs h)) has.size (has.is_chain.outs (h - 1) kinds.Zero inside)
 
 -- Each input that is used is one of those on which the outs depend.
-is_needed : (s : Specification) (basis : Basis) (r : ℕ) (chain : HasChain s basis r) (outputs : List ℕ) (rest : Rests chain.chain (out_places chain.chain.outs outputs) r) (j h : ℕ) → (1 ≤ h) × (h ≤ s.outputs) → Contains outputs h → IsUsed s j h → has j rest.base ≡ true
+is_needed : (s : Specification) (basis : Basis) (r : ℕ) (chain : HasChain s basis r) (outputs : List ℕ)
+    (rest : Rests chain.chain (out_places chain.chain.outs outputs) r) (j h : ℕ) → (1 ≤ h) × (h ≤ s.outputs) →
+    Contains outputs h → IsInSupport s j h → has j rest.base ≡ true
 is_needed s basis r chain outputs rest j h within c used = elim (cases_Bool (has j rest.base)) [
   | inl needed ↦ needed
-  | inr free ↦ absurd (opposite_met (s.cell h used.row) (s.cell h used.other) (out_value chain.chain used.row (out_of chain.chain.outs h)) (out_value chain.chain used.other (out_of chain.chain.outs h)) used.asked (chain.agrees.cells h used.row within.0 within.1 used.inside.0) (chain.agrees.cells h used.other within.0 within.1 used.inside.1) (same_out free))
+  | inr free ↦ absurd (opposite_met (s.cell h used.row) (s.cell h used.other)
+      (out_value chain.chain used.row (out_of chain.chain.outs h))
+      (out_value chain.chain used.other (out_of chain.chain.outs h)) used.asked
+      (chain.agrees.cells h used.row within.0 within.1 used.inside.0)
+      (chain.agrees.cells h used.other within.0 within.1 used.inside.1) (same_out free))
 ]
   where
     same_base : has j rest.base ≡ false → AreSame chain.chain rest.base used.row used.other
@@ -206,11 +220,14 @@ is_needed s basis r chain outputs rest j h within c used = elim (cases_Bool (has
 
     same_out : has j rest.base ≡ false → out_value chain.chain used.row (out_of chain.chain.outs h) ≡ out_value chain.chain used.other (out_of chain.chain.outs h)
     same_out free =
-        subst (λ (g : ℕ). out_value chain.chain used.row (out_of chain.chain.outs g) ≡ out_value chain.chain used.other (out_of chain.chain.outs g)) (get_or_default outputs c.0 0 h c.1 ∙ c.2) (outs_same chain.chain chain.chain.outs outputs used.row used.other (rest.follow used.row used.other (same_base free)) c.0 c.1)
+        subst (λ (g : ℕ). out_value chain.chain used.row (out_of chain.chain.outs g) ≡
+        out_value chain.chain used.other (out_of chain.chain.outs g)) (get_or_default outputs c.0 0 h c.1
+        ∙ c.2) (outs_same chain.chain chain.chain.outs outputs used.row used.other
+        (rest.follow used.row used.other (same_base free)) c.0 c.1)
 
 -- A list of outputs uses at most as many inputs as there are outputs in the list and steps in the chain
 -- together.
-pub inputs_few : (s : Specification) (basis : Basis) (r : ℕ) (inputs outputs : List ℕ) → AreUsed s inputs outputs → HasChain s basis r → length inputs ≤ length outputs + r
+pub inputs_few : (s : Specification) (basis : Basis) (r : ℕ) (inputs outputs : List ℕ) → AreInSupports s inputs outputs → HasChain s basis r → length inputs ≤ length outputs + r
 inputs_few s basis r inputs outputs used chain =
     let c : Chain = chain.chain in
     let names = λ (h : ℕ) (is : Contains outputs h). out_names s basis r chain h (used.numbers h is) in

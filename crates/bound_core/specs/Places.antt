@@ -110,5 +110,8 @@ first_apart f h hs apart g c e = apart 0 (suc c.0) g (omega arith) (omega (arith
 pub no_longer : (f : ℕ → ℕ) (hs room : List ℕ) → AllPairs (λ (g k : ℕ). f g ≡ f k → ⊥) hs → ((h : ℕ) → Contains hs h → has (f h) room ≡ true) → length hs ≤ length room
 no_longer f [] room apart inside = omega arith
 no_longer f (h ∷ hs) room apart inside =
-    let rest = no_longer f hs (without (f h) room) (λ i j d less within. apart (suc i) (suc j) d (omega arith) (omega arith)) (λ g c. without_keeps (f h) (f g) room (λ e. first_apart f h hs apart g c (sym e)) (inside g (Contains-append_right (h ∷ []) hs g c))) in
+    let rest = no_longer f hs (without (f h) room) (λ i j d less within.
+    apart (suc i) (suc j) d (omega arith) (omega arith))
+    (λ g c. without_keeps (f h) (f g) room (λ e. first_apart f h hs apart g c (sym e))
+    (inside g (Contains-append_right (h ∷ []) hs g c))) in
     omega (arith, rest, without_less (f h) room (inside h (0, omega arith, refl)))

@@ -8,9 +8,9 @@ use Rattle.chain_theory.specs.Operator.{digit}
 use Rattle.chain_theory.specs.Specification.{Specification, input}
 use Rattle.chain_theory.specs.declared.data.Cell.{Cell}
 use Rattle.chain_theory.specs.declared.data.Cell.TheVariants.{Zero, One, Free}
-use Rattle.bound_core.specs.Used.{are_opposite, IsUsed, Differ}
-use Rattle.bound_core.specs.Counts.{turns_on, uses, parts_on, differ}
-use Rattle.bound_core.specs.CountLaws.{passes_some, raised_or, raised_other, raised_low, opposite_turned}
+use Rattle.bound_core.specs.Support.{are_opposite, IsInSupport, OutputsDiffer}
+use Rattle.bound_core.specs.Counts.{is_sensitive_on, uses, differ_on, differ}
+use Rattle.bound_core.specs.CountLaws.{passes_some, raised_or, raised_other, raised_low, opposite_swapped}
 
 -- the digit that is set
 raised_own : (t k : ℕ) → digit t k ≡ false → digit (t + 2 ^ k) k ≡ true
@@ -57,20 +57,22 @@ raised_is n j t u some low low_t low_u none one alone = same_row n (t + 2 ^ (n -
       | inr other ↦ raised_other t (n - j) (n - i) none (λ (e : n - i ≡ n - j). other (omega arith)) ∙ alone i from to other
     ]
 
-turns_at : (s : Specification) (h j t u : ℕ) → t < 2 ^ s.inputs → input s.inputs t j ≡ false → t + 2 ^ (s.inputs - j) ≡ u → are_opposite (s.cell h t) (s.cell h u) ≡ true → uses s h j ≡ true
-unfolding uses turns_on
-turns_at s h j t u low none raised asked =
-    let here : turns_on s h j t ≡ true = rw (raised, asked, none) refl in
-    passes_some (turns_on s h j) (2 ^ s.inputs) t low here
+is_sensitive_at : (s : Specification) (h j t u : ℕ) → t < 2 ^ s.inputs → input s.inputs t j ≡ false → t + 2 ^ (s.inputs - j) ≡ u → are_opposite (s.cell h t) (s.cell h u) ≡ true → uses s h j ≡ true
+unfolding uses is_sensitive_on
+is_sensitive_at s h j t u low none raised asked =
+    let here : is_sensitive_on s h j t ≡ true = rw (raised, asked, none) refl in
+    passes_some (is_sensitive_on s h j) (2 ^ s.inputs) t low here
 
-pub is_uses : (s : Specification) (h j : ℕ) → 1 ≤ j → j ≤ s.inputs → IsUsed s j h → uses s h j ≡ true
+pub is_uses : (s : Specification) (h j : ℕ) → 1 ≤ j → j ≤ s.inputs → IsInSupport s j h → uses s h j ≡ true
 is_uses s h j some low used = elim (cases_Bool (input s.inputs used.row j)) [
   | inl one ↦ elim (cases_Bool (input s.inputs used.other j)) [
     | inl both ↦ absurd (never (one ∙ sym both))
-    | inr none ↦ turns_at s h j used.other used.row used.inside.1 none (raised_is s.inputs j used.other used.row some low used.inside.1 used.inside.0 none one (λ i from to apart. sym (used.alone i from to apart))) (opposite_turned (s.cell h used.row) (s.cell h used.other) used.asked)
+    | inr none ↦ is_sensitive_at s h j used.other used.row used.inside.1 none
+        (raised_is s.inputs j used.other used.row some low used.inside.1 used.inside.0 none one (λ i from to apart.
+        sym (used.alone i from to apart))) (opposite_swapped (s.cell h used.row) (s.cell h used.other) used.asked)
   ]
   | inr none ↦ elim (cases_Bool (input s.inputs used.other j)) [
-    | inl one ↦ turns_at s h j used.row used.other used.inside.0 none (raised_is s.inputs j used.row used.other some low used.inside.0 used.inside.1 none one used.alone) used.asked
+    | inl one ↦ is_sensitive_at s h j used.row used.other used.inside.0 none (raised_is s.inputs j used.row used.other some low used.inside.0 used.inside.1 none one used.alone) used.asked
     | inr neither ↦ absurd (never (none ∙ sym neither))
   ]
 ]
@@ -86,6 +88,6 @@ is_uses s h j some low used = elim (cases_Bool (input s.inputs used.row j)) [
         let one_row : used.row ≡ used.other = same_row s.inputs used.row used.other used.inside.0 used.inside.1 (same e) in
         opposite_same (s.cell h used.row) (ap (λ (u : ℕ). are_opposite (s.cell h used.row) (s.cell h u)) one_row ∙ used.asked)
 
-pub is_differ : (s : Specification) (g h : ℕ) → Differ s g h → differ s g h ≡ true
-unfolding differ parts_on
-is_differ s g h d = passes_some (parts_on s g h) (2 ^ s.inputs) d.row d.inside d.asked
+pub is_differ : (s : Specification) (g h : ℕ) → OutputsDiffer s g h → differ s g h ≡ true
+unfolding differ differ_on
+is_differ s g h d = passes_some (differ_on s g h) (2 ^ s.inputs) d.row d.inside d.asked

@@ -15,7 +15,7 @@ use Rattle.tt_core.specs.Words.{Words, IsSpec, specification, cell_of}
 use Rattle.tt_core.specs.RowLaws.{row_below}
 use Rattle.tt_core.specs.Live.{trivial_value, fits_rows, fits, trivial_of, is_live, is_none, IsTrivial}
 use Rattle.tt_core.specs.FirstFitLaws.{none_fits, none_where_none_fits}
-use Rattle.bound_core.specs.Counts.{some_below, parts_on, differ}
+use Rattle.bound_core.specs.Counts.{some_below, differ_on, differ}
 use Rattle.bound_core.specs.CountLaws.{some_passes, passes_some, true_false}
 use Rattle.bound_core.specs.WordLaws.{opposite_bits, not_zero, is_zero}
 
@@ -46,14 +46,20 @@ parted_digit : (care care' on on' t : ℕ) → digit (parted care care' on on') 
 unfolding parted
 parted_digit care care' on on' t = rw (digit_and (bit_and care care') (bit_xor on on') t, digit_and care care' t, digit_xor on on' t) refl
 
-pub differ_by_words : (w : Words) (g h : ℕ) → IsSpec w → not (bit_and (bit_and (slice_index w.care (g - 1)) (slice_index w.care (h - 1))) (bit_xor (slice_index w.on (g - 1)) (slice_index w.on (h - 1))) == 0) ≡ differ (specification w) g h
-unfolding differ parts_on parted
+pub differ_by_words : (w : Words) (g h : ℕ) → IsSpec w →
+    not (bit_and (bit_and (slice_index w.care (g - 1)) (slice_index w.care (h - 1)))
+    (bit_xor (slice_index w.on (g - 1)) (slice_index w.on (h - 1))) == 0) ≡ differ (specification w) g h
+unfolding differ differ_on parted
 differ_by_words w g h spec =
     let one : ℕ = slice_index w.care (g - 1) in
     let other : ℕ = slice_index w.care (h - 1) in
-    by_digits (parted one other (slice_index w.on (g - 1)) (slice_index w.on (h - 1))) (2 ^ w.n) (parts_on (specification w) g h)
-    (λ t low. parted_digit one other (slice_index w.on (g - 1)) (slice_index w.on (h - 1)) t ∙ opposite_bits (digit one t) (digit other t) (digit (slice_index w.on (g - 1)) t) (digit (slice_index w.on (h - 1)) t))
-    (λ t past. parted_digit one other (slice_index w.on (g - 1)) (slice_index w.on (h - 1)) t ∙ past_row (digit one t) (digit other t) (differ_bits (digit (slice_index w.on (g - 1)) t) (digit (slice_index w.on (h - 1)) t)) (spec.rows (g - 1) t past))
+    by_digits (parted one other (slice_index w.on (g - 1)) (slice_index w.on (h - 1))) (2 ^ w.n) (differ_on (specification w) g h)
+    (λ t low. parted_digit one other (slice_index w.on (g - 1)) (slice_index w.on (h - 1)) t
+    ∙ opposite_bits (digit one t) (digit other t) (digit (slice_index w.on (g - 1)) t)
+    (digit (slice_index w.on (h - 1)) t))
+    (λ t past. parted_digit one other (slice_index w.on (g - 1)) (slice_index w.on (h - 1)) t
+    ∙ past_row (digit one t) (digit other t) (differ_bits (digit (slice_index w.on (g - 1)) t)
+    (digit (slice_index w.on (h - 1)) t)) (spec.rows (g - 1) t past))
   where
     past_row : (a b c : Bool) → a ≡ false → ((a && b) && c) ≡ false
     past_row true b c e = absurd (true_false e)
@@ -92,7 +98,9 @@ not_not : (b : Bool) → b ≡ not (not b)
 not_not true = refl
 not_not false = refl
 
-pub fits_by_word : (w : Words) (h word : ℕ) (out : Out) → IsSpec w → ((t : ℕ) → t < 2 ^ w.n → digit word t ≡ trivial_value w.n t out) → (bit_and (bit_xor word (slice_index w.on (h - 1))) (slice_index w.care (h - 1)) == 0) ≡ fits (specification w) h out
+pub fits_by_word : (w : Words) (h word : ℕ) (out : Out) → IsSpec w →
+    ((t : ℕ) → t < 2 ^ w.n → digit word t ≡ trivial_value w.n t out) →
+    (bit_and (bit_xor word (slice_index w.on (h - 1))) (slice_index w.care (h - 1)) == 0) ≡ fits (specification w) h out
 unfolding is_missed
 fits_by_word w h word out spec values =
     let on : ℕ = slice_index w.on (h - 1) in

@@ -14,8 +14,8 @@ use Rattle.op_basis.specs.WordOperator.{differ, input_word}
 use Rattle.op_basis.specs.WordOperatorLaws.{digit_and, digit_xor}
 use Rattle.tt_core.specs.Words.{Words, IsSpec, specification}
 use Rattle.tt_core.specs.RowLaws.{row_below}
-use Rattle.bound_core.specs.Used.{are_opposite}
-use Rattle.bound_core.specs.Counts.{some_below, turns_on, uses}
+use Rattle.bound_core.specs.Support.{are_opposite}
+use Rattle.bound_core.specs.Counts.{some_below, is_sensitive_on, uses}
 use Rattle.bound_core.specs.CountLaws.{some_passes, passes_some, and_parts, true_false, no_digit}
 
 -- ---- digits of words
@@ -69,10 +69,12 @@ low_is (suc (suc (suc (suc (suc (suc k)))))) low = absurd (omega arith)
 -- ---- rows on which the value changes with the input
 
 -- the rows t whose digit of weight 2 ^ k is 0, where rows t and t + 2 ^ k are specified and have different values
-abbrev pub turning_rows : ℕ → ℕ → ℕ → ℕ
-turning_rows on care k = bit_and (bit_and (bit_and care (care / 2 ^ 2 ^ k)) (bit_xor on (on / 2 ^ 2 ^ k))) (low_rows k)
+abbrev pub sensitive_rows : ℕ → ℕ → ℕ → ℕ
+sensitive_rows on care k = bit_and (bit_and (bit_and care (care / 2 ^ 2 ^ k)) (bit_xor on (on / 2 ^ 2 ^ k))) (low_rows k)
 
-pub opposite_bits : (care care' on on' : Bool) → ((care && care') && differ on on') ≡ are_opposite (if care then (if on then One else Zero) else Free) (if care' then (if on' then One else Zero) else Free)
+pub opposite_bits : (care care' on on' : Bool) →
+    ((care && care') && differ on on') ≡ are_opposite (if care then (if on then One else Zero) else Free)
+    (if care' then (if on' then One else Zero) else Free)
 opposite_bits false care' on on' = refl
 opposite_bits true false true on' = refl
 opposite_bits true false false on' = refl
@@ -81,24 +83,33 @@ opposite_bits true true true false = refl
 opposite_bits true true false true = refl
 opposite_bits true true false false = refl
 
-turning_digit : (on care k t : ℕ) → digit (turning_rows on care k) t ≡ (((digit care t && digit care (t + 2 ^ k)) && differ (digit on t) (digit on (t + 2 ^ k))) && digit (low_rows k) t)
-turning_digit on care k t =
-    rw (digit_and (bit_and (bit_and care (care / 2 ^ 2 ^ k)) (bit_xor on (on / 2 ^ 2 ^ k))) (low_rows k) t, digit_and (bit_and care (care / 2 ^ 2 ^ k)) (bit_xor on (on / 2 ^ 2 ^ k)) t, digit_and care (care / 2 ^ 2 ^ k) t, digit_xor on (on / 2 ^ 2 ^ k) t, digit_shifted care (2 ^ k) t, digit_shifted on (2 ^ k) t) refl
+sensitive_digit : (on care k t : ℕ) → digit (sensitive_rows on care k) t ≡ (((digit care t && digit care (t + 2 ^ k)) && differ (digit on t) (digit on (t + 2 ^ k))) && digit (low_rows k) t)
+sensitive_digit on care k t =
+    rw (
+      digit_and (bit_and (bit_and care (care / 2 ^ 2 ^ k)) (bit_xor on (on / 2 ^ 2 ^ k))) (low_rows k) t,
+      digit_and (bit_and care (care / 2 ^ 2 ^ k)) (bit_xor on (on / 2 ^ 2 ^ k)) t,
+      digit_and care (care / 2 ^ 2 ^ k) t,
+      digit_xor on (on / 2 ^ 2 ^ k) t,
+      digit_shifted care (2 ^ k) t,
+      digit_shifted on (2 ^ k) t,
+    ) refl
 
 -- a row's digit says whether the output's value changes with the input there
-turning_at : (w : Words) (h j t : ℕ) → w.n ≤ 6 → 1 ≤ j → j ≤ w.n → t < 2 ^ w.n → digit (turning_rows (slice_index w.on (h - 1)) (slice_index w.care (h - 1)) (w.n - j)) t ≡ turns_on (specification w) h j t
-unfolding turns_on
-turning_at w h j t few some low inside =
+sensitive_at : (w : Words) (h j t : ℕ) → w.n ≤ 6 → 1 ≤ j → j ≤ w.n → t < 2 ^ w.n →
+    digit (sensitive_rows (slice_index w.on (h - 1)) (slice_index w.care (h - 1)) (w.n - j)) t ≡
+    is_sensitive_on (specification w) h j t
+unfolding is_sensitive_on
+sensitive_at w h j t few some low inside =
     let k : ℕ = w.n - j in
     let on : ℕ = slice_index w.on (h - 1) in
     let care : ℕ = slice_index w.care (h - 1) in
     let rows = row_below w.n few in
     let mask : digit (low_rows k) t ≡ not (digit t k) = low_at (low_rows k) k 64 t (low_is k (omega arith)) (omega arith) in
-    turning_digit on care k t ∙ ap₂ (λ (a b : Bool). a && b) (opposite_bits (digit care t) (digit care (t + 2 ^ k)) (digit on t) (digit on (t + 2 ^ k))) mask
+    sensitive_digit on care k t ∙ ap₂ (λ (a b : Bool). a && b) (opposite_bits (digit care t) (digit care (t + 2 ^ k)) (digit on t) (digit on (t + 2 ^ k))) mask
 
 -- rows that aren't specified have no digit
-turning_past : (on care k t : ℕ) → digit care t ≡ false → digit (turning_rows on care k) t ≡ false
-turning_past on care k t e = turning_digit on care k t ∙ rw e refl
+sensitive_past : (on care k t : ℕ) → digit care t ≡ false → digit (sensitive_rows on care k) t ≡ false
+sensitive_past on care k t e = sensitive_digit on care k t ∙ rw e refl
 
 pub not_zero : (word t : ℕ) → digit word t ≡ true → not (word == 0) ≡ true
 not_zero zero t e = absurd (true_false (sym e ∙ ap (λ (x : ℕ). x == 1) (bit_at-zero t)))
@@ -110,20 +121,22 @@ is_zero word none =
     ap (λ (x : ℕ). not (x == 0)) all
 
 -- The word has a row exactly where the output uses the input.
-pub uses_by_words : (w : Words) (h j word : ℕ) → IsSpec w → 1 ≤ j → j ≤ w.n → word ≡ turning_rows (slice_index w.on (h - 1)) (slice_index w.care (h - 1)) (w.n - j) → not (word == 0) ≡ uses (specification w) h j
+pub uses_by_words : (w : Words) (h j word : ℕ) → IsSpec w → 1 ≤ j → j ≤ w.n →
+    word ≡ sensitive_rows (slice_index w.on (h - 1)) (slice_index w.care (h - 1)) (w.n - j) →
+    not (word == 0) ≡ uses (specification w) h j
 unfolding uses
-uses_by_words w h j word spec some low is = elim (cases_Bool (some_below (turns_on (specification w) h j) (2 ^ w.n))) [
+uses_by_words w h j word spec some low is = elim (cases_Bool (some_below (is_sensitive_on (specification w) h j) (2 ^ w.n))) [
   | inl used ↦
-      let found = some_passes (turns_on (specification w) h j) (2 ^ w.n) used in
-      not_zero word found.0 (ap (λ (x : ℕ). digit x found.0) is ∙ turning_at w h j found.0 spec.inputs some low found.1 ∙ found.2) ∙ sym used
+      let found = some_passes (is_sensitive_on (specification w) h j) (2 ^ w.n) used in
+      not_zero word found.0 (ap (λ (x : ℕ). digit x found.0) is ∙ sensitive_at w h j found.0 spec.inputs some low found.1 ∙ found.2) ∙ sym used
   | inr unused ↦ is_zero word (none unused) ∙ sym unused
 ]
   where
-    none : some_below (turns_on (specification w) h j) (2 ^ w.n) ≡ false → (t : ℕ) → digit word t ≡ false
+    none : some_below (is_sensitive_on (specification w) h j) (2 ^ w.n) ≡ false → (t : ℕ) → digit word t ≡ false
     none unused t = elim (cases_lt t (2 ^ w.n)) [
-      | inl inside ↦ elim (cases_Bool (turns_on (specification w) h j t)) [
-        | inl turns ↦ absurd (true_false (sym (passes_some (turns_on (specification w) h j) (2 ^ w.n) t inside turns) ∙ unused))
-        | inr stays ↦ ap (λ (x : ℕ). digit x t) is ∙ turning_at w h j t spec.inputs some low inside ∙ stays
+      | inl inside ↦ elim (cases_Bool (is_sensitive_on (specification w) h j t)) [
+        | inl turns ↦ absurd (true_false (sym (passes_some (is_sensitive_on (specification w) h j) (2 ^ w.n) t inside turns) ∙ unused))
+        | inr stays ↦ ap (λ (x : ℕ). digit x t) is ∙ sensitive_at w h j t spec.inputs some low inside ∙ stays
       ]
-      | inr past ↦ ap (λ (x : ℕ). digit x t) is ∙ turning_past (slice_index w.on (h - 1)) (slice_index w.care (h - 1)) (w.n - j) t (spec.rows (h - 1) t past)
+      | inr past ↦ ap (λ (x : ℕ). digit x t) is ∙ sensitive_past (slice_index w.on (h - 1)) (slice_index w.care (h - 1)) (w.n - j) t (spec.rows (h - 1) t past)
     ]

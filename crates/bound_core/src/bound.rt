@@ -68,7 +68,7 @@ fn inputs_in_use(spec: &Spec) -> u32
 }
 
 /// Whether output `before` + 1 is live and differs from each live output before it.
-#[tactic(auto, using(crate::proofs::Loops::passing), unfolding(crate::specs::Counts::is_new, crate::specs::Counts::live_like))]
+#[tactic(auto, using(crate::proofs::Loops::passing), unfolding(crate::specs::Counts::is_new, crate::specs::Counts::live_compatible))]
 fn is_new(spec: &Spec, before: u32) -> bool
     requires output { before < length spec.now.on }
     requires room { before + 1 < 4294967296 }

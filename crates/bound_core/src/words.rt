@@ -7,7 +7,7 @@ ghost use Rattle.chain_theory.specs.declared.data.Out.{Out};
 ghost use Rattle.tt_core.specs.Live.{is_live as is_live_of, trivial_value, fits};
 ghost use Rattle.tt_core.specs.Words.{specification};
 ghost use Rattle.bound_core.specs.Counts.{uses as uses_of, differ as differ_of};
-ghost use Rattle.bound_core.specs.WordLaws.{low_rows as low_rows_of, turning_rows as turning_rows_of};
+ghost use Rattle.bound_core.specs.WordLaws.{low_rows as low_rows_of, sensitive_rows as sensitive_rows_of};
 
 use op_basis::{input_word, spread};
 use tt_core::Spec;
@@ -23,9 +23,9 @@ fn low_rows(k: u32) -> u64
 /// The rows on which the output is sensitive to an input: rows t whose digit of weight 2^k is 0, where
 /// rows t and t + 2^k are both specified and have different values.
 #[tactic(auto, using(crate::proofs::Loops::shifting))]
-fn turning_rows(on: u64, care: u64, k: u32) -> u64
+fn sensitive_rows(on: u64, care: u64, k: u32) -> u64
     requires { k < 6 }
-    ensures { result ≡ turning_rows_of on care k }
+    ensures { result ≡ sensitive_rows_of on care k }
 {
     let step = 1u32 << k;
     care & (care >> step) & (on ^ (on >> step)) & low_rows(k)
@@ -40,7 +40,7 @@ pub fn uses(spec: &Spec, h: u32, j: u32) -> bool
 {
     let k = spec.n() - j;
     let output = (h - 1) as usize;
-    turning_rows(spec.on()[output], spec.care()[output], k) != 0
+    sensitive_rows(spec.on()[output], spec.care()[output], k) != 0
 }
 
 /// Whether outputs `g` and `h`, numbered from 1, differ: both are specified on some row, with different values.
@@ -59,7 +59,8 @@ pub(crate) fn differ(spec: &Spec, g: u32, h: u32) -> bool
 /// Whether a word has all specified values of output `h`, numbered from 1.
 fn has_values(spec: &Spec, h: u32, word: u64) -> bool
     requires { (1 ≤ h) × (h ≤ length spec.now.on) }
-    ensures { (out : Out) → ((t : ℕ) → t < 2 ^ spec.now.n → digit word t ≡ trivial_value spec.now.n t out) → result ≡ fits (specification spec.now) h out }
+    ensures { (out : Out) → ((t : ℕ) → t < 2 ^ spec.now.n → digit word t ≡ trivial_value spec.now.n t out) →
+        result ≡ fits (specification spec.now) h out }
 {
     // for the prover: brings in the invariant of the specification
     let _inputs = spec.n();

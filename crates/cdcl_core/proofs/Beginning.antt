@@ -2,7 +2,7 @@
 use Rattle.std.proofs.Common.{◌≡◌, ℕ, ◌<◌, ℤ, List, [], length, Option, Some, ap, ◌∙◌, arith}
 use Rattle.std.proofs.lemmas.List.{length-map}
 use Rattle.sat_theory.specs.Formula.{Formula}
-use Rattle.cdcl_theory.specs.Trails.{Trailed, IsTrail, IsLayered}
+use Rattle.cdcl_theory.specs.Trails.{TrailState, IsTrail, IsLayered}
 use Rattle.clause_db.specs.Sorted.{sorted}
 use Rattle.clause_db.specs.Stored.{none_stored, all_added}
 use Rattle.clause_db.specs.StoredLaws.{all_added-clauses}
@@ -12,7 +12,7 @@ pub count_begun : (f : Formula) → length (all_added (none_stored f.vars) f.cla
 count_begun f = ap length (all_added-clauses (none_stored f.vars) f.clauses) ∙ length-map f.clauses (λ (c : List ℤ). Some (sorted c))
 
 -- no level on an empty trail
-pub layered_begun : (live : ℕ → Option (List ℤ)) (t : Trailed) (starts : List ℕ) → IsTrail t → t.lits ≡ [] → starts ≡ [] → IsLayered live t starts
+pub layered_begun : (live : ℕ → Option (List ℤ)) (t : TrailState) (starts : List ℕ) → IsTrail t → t.lits ≡ [] → starts ≡ [] → IsLayered live t starts
 layered_begun live t starts trail empty none = rw none (record {
   whole = trail;
   inside = λ k d (low : k < 0). absurd (omega (arith, low));

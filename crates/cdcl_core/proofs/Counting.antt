@@ -5,11 +5,11 @@ use Rattle.std.proofs.lemmas.List.{length-map, get_or-map}
 use Rattle.sat_theory.specs.Formula.{variable, opposite}
 use Rattle.sat_theory.specs.Pigeonholes.{different_below}
 use Rattle.cdcl_theory.specs.CodeLaws.{same_variable, opposite-opposite}
-use Rattle.cdcl_theory.specs.Trails.{Trailed, fell, IsTrail}
-use Rattle.cdcl_theory.specs.TrailLaws.{place_at, true_not_fallen}
+use Rattle.cdcl_theory.specs.Trails.{TrailState, falsified_at, IsTrail}
+use Rattle.cdcl_theory.specs.TrailLaws.{place_at, true_not_falsified}
 
 -- The literals of a trail are of different variables, so there are few.
-pub trail_short : (t : Trailed) → IsTrail t → length t.lits ≤ t.vars + 1
+pub trail_short : (t : TrailState) → IsTrail t → length t.lits ≤ t.vars + 1
 trail_short t trail =
     let e : length (map variable t.lits) ≡ length t.lits = length-map t.lits variable in
     let bound : length (map variable t.lits) ≤ t.vars + 1 = different_below (t.vars + 1) (map variable t.lits) below differ in
@@ -25,12 +25,12 @@ trail_short t trail =
     apart i j order within same =
         let a : ℤ = slice_index_or t.lits i (pos 0) in
         let b : ℤ = slice_index_or t.lits j (pos 0) in
-        let at_a : fell t (opposite a) ≡ i + 1 = place_at t.lits (fell t) i (pos 0) a trail.places (omega arith) refl in
-        let at_b : fell t (opposite b) ≡ j + 1 = place_at t.lits (fell t) j (pos 0) b trail.places within refl in
-        let up_b : fell t b ≡ 0 = true_not_fallen t.lits (fell t) j (pos 0) b trail.places within refl in
+        let at_a : falsified_at t (opposite a) ≡ i + 1 = place_at t.lits (falsified_at t) i (pos 0) a trail.positions (omega arith) refl in
+        let at_b : falsified_at t (opposite b) ≡ j + 1 = place_at t.lits (falsified_at t) j (pos 0) b trail.positions within refl in
+        let up_b : falsified_at t b ≡ 0 = true_not_falsified t.lits (falsified_at t) j (pos 0) b trail.positions within refl in
         ⊎_elim
-        (λ (e : a ≡ b). (let h : fell t (opposite a) ≡ fell t (opposite b) = ap (λ (x : ℤ). fell t (opposite x)) e in omega arith))
-        (λ (e : a ≡ opposite b). (let h : fell t (opposite a) ≡ fell t b = ap (λ (x : ℤ). fell t (opposite x)) e ∙ ap (fell t) (opposite-opposite b) in omega arith))
+        (λ (e : a ≡ b). (let h : falsified_at t (opposite a) ≡ falsified_at t (opposite b) = ap (λ (x : ℤ). falsified_at t (opposite x)) e in omega arith))
+        (λ (e : a ≡ opposite b). (let h : falsified_at t (opposite a) ≡ falsified_at t b = ap (λ (x : ℤ). falsified_at t (opposite x)) e ∙ ap (falsified_at t) (opposite-opposite b) in omega arith))
         (same_variable a b same)
 
     differ : AllPairs (λ a b. a ≢ b) (map variable t.lits)

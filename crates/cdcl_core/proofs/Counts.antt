@@ -1,5 +1,6 @@
 -- How many of some ids pass a test, when the test or the ids change.
-use Rattle.std.proofs.Common.{◌≡◌, ℕ, zero, suc, ◌+◌, ◌-◌, ◌<◌, ◌≤◌, ◌==◌, ◌⊎◌, Bool, true, false, List, [], ◌∷◌, ◌++◌, length, slice_index_or, Contains, All, count_by, cond, sym, ◌∙◌, arith, refl, inl, inr}
+use Rattle.std.proofs.Common.{◌≡◌, ℕ, zero, suc, ◌+◌, ◌-◌, ◌<◌, ◌≤◌, ◌==◌, ◌⊎◌, Bool, true, false, List, [], ◌∷◌, ◌++◌}
+use Rattle.std.proofs.Common.{length, slice_index_or, Contains, All, count_by, cond, sym, ◌∙◌, arith, refl, inl, inr}
 use Rattle.std.proofs.Math.Logic.{⊎_elim}
 use Rattle.std.proofs.lemmas.Bool.{cases_Bool, cases_eq, ne_eqb, eq-eqb}
 use Rattle.std.proofs.lemmas.List.Elements.{All-head, All-tail}
@@ -61,7 +62,8 @@ from_tail a x xs are = λ k d low.
     omega (arith, at, here)
 
 -- one of them no longer passes
-pub count_dropped : (p q : ℕ → Bool) (a x : ℕ) (xs : List ℕ) → AreFrom a xs → a ≤ x → x < a + length xs → p x ≡ true → q x ≡ false → ((y : ℕ) → (y ≡ x → ⊥) → q y ≡ p y) → count_by q xs + 1 ≡ count_by p xs
+pub count_dropped : (p q : ℕ → Bool) (a x : ℕ) (xs : List ℕ) → AreFrom a xs → a ≤ x → x < a + length xs → p x ≡ true →
+    q x ≡ false → ((y : ℕ) → (y ≡ x → ⊥) → q y ≡ p y) → count_by q xs + 1 ≡ count_by p xs
 count_dropped p q a x [] are low high was is others = absurd (let none : length {A = ℕ} [] ≡ 0 = refl in omega arith)
 count_dropped p q a x (y ∷ ys) are low high was is others =
     let head : y ≡ a = from_head a y ys are in
@@ -75,7 +77,9 @@ count_dropped p q a x (y ∷ ys) are low high was is others =
     let is_y : q y ≡ false = rw e is in
     let one : cond {A = ℕ} (p y) 1 0 ≡ 1 = rw was_y refl in
     let none : cond {A = ℕ} (q y) 1 0 ≡ 0 = rw is_y refl in
-    let same : count_by q ys ≡ count_by p ys = count_same p q ys (λ k d inside. others (slice_index_or ys k d) (λ h. (let at : slice_index_or ys k d ≡ suc a + k = tail k d inside in omega (arith, at, h, e, head)))) in
+    let same : count_by q ys ≡ count_by p ys = count_same p q ys (λ k d inside.
+    others (slice_index_or ys k d) (λ h. (let at : slice_index_or ys k d ≡ suc a + k = tail k d inside in
+    omega (arith, at, h, e, head)))) in
     omega arith)
     (λ (apart : y ≡ x → ⊥).
     let both : q y ≡ p y = others y apart in
@@ -106,7 +110,9 @@ count_but p a r (y ∷ ys) are =
     ⊎_elim
     (λ (e : y ≡ r).
     let one : cond {A = ℕ} (p y) 1 0 ≤ 1 = at_most_one (p y) in
-    let same : count_by (but p r) ys ≡ count_by p ys = count_same p (but p r) ys (λ k d inside. but_other p r (slice_index_or ys k d) (λ h. (let at : slice_index_or ys k d ≡ suc a + k = tail k d inside in omega (arith, at, h, e, head)))) in
+    let same : count_by (but p r) ys ≡ count_by p ys =
+    count_same p (but p r) ys (λ k d inside. but_other p r (slice_index_or ys k d)
+    (λ h. (let at : slice_index_or ys k d ≡ suc a + k = tail k d inside in omega (arith, at, h, e, head)))) in
     omega arith)
     (λ (apart : y ≡ r → ⊥).
     let both : but p r y ≡ p y = but_other p r y apart in

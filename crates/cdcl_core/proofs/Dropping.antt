@@ -6,7 +6,9 @@ use Rattle.std.proofs.lemmas.List.{length-take-le, get_or-take}
 use Rattle.cdcl_core.specs.Levels.{IsDropped}
 
 -- the first `keep` starts stay; the last of them, if any, is below `back`
-pub dropped_from : (back keep end : ℕ) (old new : List ℕ) → new ≡ take keep old → keep < length old → ((d : ℕ) → slice_index_or old keep d ≡ end) → back ≤ end → AllPairs (λ a b. a < b) old → (0 < keep → (d : ℕ) → slice_index_or old (keep - 1) d < back) → IsDropped back old new end
+pub dropped_from : (back keep end : ℕ) (old new : List ℕ) → new ≡ take keep old → keep < length old →
+    ((d : ℕ) → slice_index_or old keep d ≡ end) → back ≤ end → AllPairs (λ a b. a < b) old →
+    (0 < keep → (d : ℕ) → slice_index_or old (keep - 1) d < back) → IsDropped back old new end
 dropped_from back keep end old new is inside at high rising low = rw is (record {
   fewer = rw long inside;
   front = λ p d less. get_or-take keep old p d (here p less);

@@ -3,27 +3,31 @@ use Rattle.std.proofs.Common.{◌≡◌, ℕ, zero, suc, ◌<◌, ◌≤◌, ℤ
 use Rattle.std.proofs.Math.Logic.{⊎_elim}
 use Rattle.std.proofs.lemmas.List.Elements.{All-contains}
 use Rattle.sat_theory.specs.Formula.{variable, Formula}
-use Rattle.cdcl_theory.specs.FallingLaws.{implies_kept}
-use Rattle.cdcl_theory.specs.Trails.{Trailed, fell, reason_of, IsTrail, HasReason, IsBack, IsLayered}
+use Rattle.cdcl_theory.specs.PropagationLaws.{implies_kept}
+use Rattle.cdcl_theory.specs.Trails.{TrailState, falsified_at, reason_of, IsTrail, HasReason, IsBacktracked, IsLayered}
 use Rattle.clause_db.specs.Stored.{Stored}
 use Rattle.cdcl_core.specs.declared.search.Search.{Search}
 use Rattle.cdcl_core.specs.declared.restarts.Restarts.{Restarts}
 use Rattle.cdcl_core.specs.Levels.{IsFirstStart}
-use Rattle.cdcl_core.specs.Guarding.{IsGuarded}
-use Rattle.cdcl_core.specs.Searching.{IsSearching, IsVisited, IsLogged, HasJumped, HasRestarted}
+use Rattle.cdcl_core.specs.WatchInvariant.{KeepsWatchInvariant}
+use Rattle.cdcl_core.specs.Searching.{IsSearching, HasWatchInvariant, IsLogged, HasBackjumped, HasRestarted}
 use Rattle.cdcl_core.proofs.Guards.{guarded_back}
 use Rattle.cdcl_core.proofs.Logging.{covered_same}
 
 -- no level begins before the first one
-first_least : (live : ℕ → Option (List ℤ)) (t : Trailed) (starts : List ℕ) (first p : ℕ) → IsLayered live t starts → IsFirstStart starts first → Contains starts p → first ≤ p
+first_least : (live : ℕ → Option (List ℤ)) (t : TrailState) (starts : List ℕ) (first p : ℕ) → IsLayered live t starts → IsFirstStart starts first → Contains starts p → first ≤ p
 first_least live t starts first p layered begins (zero, inside, at) = omega (arith, begins.begins p, at)
-first_least live t starts first p layered begins (suc k, inside, at) = (let less : slice_index_or starts 0 p < slice_index_or starts (suc k) p = layered.rising 0 (suc k) p (omega arith) inside in omega (arith, less, begins.begins p, at))
+first_least live t starts first p layered begins (suc k, inside, at) =
+    (let less : slice_index_or starts 0 p < slice_index_or starts (suc k) p =
+    layered.rising 0 (suc k) p (omega arith) inside in omega (arith, less, begins.begins p, at))
 
-pub first_inside : (live : ℕ → Option (List ℤ)) (t : Trailed) (starts : List ℕ) (first : ℕ) → IsLayered live t starts → IsFirstStart starts first → first < length t.lits
+pub first_inside : (live : ℕ → Option (List ℤ)) (t : TrailState) (starts : List ℕ) (first : ℕ) → IsLayered live t starts → IsFirstStart starts first → first < length t.lits
 first_inside live t starts first layered begins = (let low : slice_index_or starts 0 0 < length t.lits = layered.inside 0 0 begins.some in omega (arith, low, begins.begins 0))
 
 -- All literals of level 0 have reasons.
-pub layered_bottom : (live : ℕ → Option (List ℤ)) (t back : Trailed) (starts none : List ℕ) (first : ℕ) → IsLayered live t starts → IsFirstStart starts first → none ≡ [] → IsTrail back → IsBack first t back → IsLayered live back none
+pub layered_bottom : (live : ℕ → Option (List ℤ)) (t back : TrailState) (starts none : List ℕ) (first : ℕ) →
+    IsLayered live t starts → IsFirstStart starts first → none ≡ [] → IsTrail back → IsBacktracked first t back →
+    IsLayered live back none
 layered_bottom live t back starts none first layered begins is trail is_back = rw is (record {
   whole = trail;
   inside = λ k d (low : k < 0). absurd (omega (arith, low));
@@ -37,9 +41,10 @@ layered_bottom live t back starts none first layered begins is trail is_back = r
     still p low reason = record {
       implied = λ d.
           let same_lit : slice_index_or back.lits p d ≡ slice_index_or t.lits p d = is_back.lits p d low in
-          let same_reason : reason_of back (slice_index_or t.lits p d) ≡ reason_of t (slice_index_or t.lits p d) = ap (λ (rs : List ℕ). slice_index_or rs (variable (slice_index_or t.lits p d)) 0) is_back.reasons in
+          let same_reason : reason_of back (slice_index_or t.lits p d) ≡ reason_of t (slice_index_or t.lits p d) =
+          ap (λ (rs : List ℕ). slice_index_or rs (variable (slice_index_or t.lits p d)) 0) is_back.reasons in
           rw (same_lit, same_reason)
-          (implies_kept live first p (fell t) (fell back) (slice_index_or t.lits p d) (reason_of t (slice_index_or t.lits p d)) is_back.same (omega (arith, low)) (reason.implied d));
+          (implies_kept live first p (falsified_at t) (falsified_at back) (slice_index_or t.lits p d) (reason_of t (slice_index_or t.lits p d)) is_back.same (omega (arith, low)) (reason.implied d));
     }
 
     reason_of_low : (p : ℕ) → p < first → HasReason live back p
@@ -50,10 +55,14 @@ layered_bottom live t back starts none first layered begins is trail is_back = r
         (layered.reasons p (let within : first < length t.lits = first_inside live t starts first layered begins in omega (arith, low, within)))
 
 -- The watch invariant holds there.
-pub guarded_bottom : (s : Stored) (t back : Trailed) (starts none : List ℕ) (head first : ℕ) → IsFirstStart starts first → All (λ x. x ≤ head) starts → none ≡ [] → IsBack first t back → IsGuarded s (fell t) starts head → IsGuarded s (fell back) none first
+pub guarded_bottom : (s : Stored) (t back : TrailState) (starts none : List ℕ) (head first : ℕ) →
+    IsFirstStart starts first → All (λ x. x ≤ head) starts → none ≡ [] → IsBacktracked first t back →
+    KeepsWatchInvariant s (falsified_at t) starts head → KeepsWatchInvariant s (falsified_at back) none first
 guarded_bottom s t back starts none head first begins begun is is_back guarded =
     let there : Contains starts first = (0, begins.some, begins.begins first) in
-    rw is (guarded_back s t back starts [] head first (All-contains (λ x. x ≤ head) starts first begun there) there (λ k d (low : k < 0). absurd (omega (arith, low))) (λ k d (low : k < 0). absurd (omega (arith, low))) is_back guarded)
+    rw is (guarded_back s t back starts [] head first (All-contains (λ x. x ≤ head) starts first begun there) there
+    (λ k d (low : k < 0). absurd (omega (arith, low))) (λ k d (low : k < 0). absurd (omega (arith, low))) is_back
+    guarded)
 
 -- The counters are irrelevant.
 pub searching_counted : (s : Search) (r : Restarts) → IsSearching s → IsSearching (record s { restarts = r })
@@ -62,10 +71,10 @@ searching_counted s r searching = record {
   vars = searching.vars;
   layered = searching.layered;
   ready = searching.ready;
-  choosing = searching.choosing;
+  deciding = searching.deciding;
 }
 
-pub visited_counted : (s : Search) (r : Restarts) → IsVisited s → IsVisited (record s { restarts = r })
+pub visited_counted : (s : Search) (r : Restarts) → HasWatchInvariant s → HasWatchInvariant (record s { restarts = r })
 visited_counted s r visited = record {
   guarded = visited.guarded;
   low = visited.low;
@@ -82,14 +91,14 @@ logged_restarted f b c logged restarted = record {
 }
 
 -- A backjump followed by a restart is a backjump.
-pub jumped_restarted : (a b c : Search) → HasJumped a b → HasRestarted b c → HasJumped a c
-jumped_restarted a b c jumped restarted =
+pub backjumped_restarted : (a b c : Search) → HasBackjumped a b → HasRestarted b c → HasBackjumped a c
+backjumped_restarted a b c backjumped restarted =
     let clauses : length c.clauses.clauses ≡ length b.clauses.clauses = ap (λ (x : Stored). length x.clauses) restarted.clauses in
     record {
-      vars = restarted.vars ∙ jumped.vars;
-      given = restarted.given ∙ jumped.given;
-      least = restarted.least ∙ jumped.least;
-      shorter = restarted.shorter ∙ jumped.shorter;
-      clauses = clauses ∙ jumped.clauses;
-      starts = (let h : length b.starts.items < length a.starts.items = jumped.starts in let g : length c.starts.items ≤ length b.starts.items = restarted.starts in omega (arith, h, g));
+      vars = restarted.vars ∙ backjumped.vars;
+      given = restarted.given ∙ backjumped.given;
+      least = restarted.least ∙ backjumped.least;
+      shorter = restarted.shorter ∙ backjumped.shorter;
+      clauses = clauses ∙ backjumped.clauses;
+      starts = (let h : length b.starts.items < length a.starts.items = backjumped.starts in let g : length c.starts.items ≤ length b.starts.items = restarted.starts in omega (arith, h, g));
     }

@@ -4,7 +4,7 @@ use Rattle.sat_theory.specs.Formula.{Formula}
 use Rattle.clause_db.specs.Stored.{Stored}
 use Rattle.cdcl_core.specs.declared.search.Search.{Search}
 use Rattle.cdcl_core.specs.declared.scope.Scope.{Scope}
-use Rattle.cdcl_core.specs.Searching.{IsSearching, IsVisited, IsLogged, HasRestarted, HasSettled}
+use Rattle.cdcl_core.specs.Searching.{IsSearching, HasWatchInvariant, IsLogged, HasRestarted, HasResolvedConflicts}
 use Rattle.cdcl_core.specs.Solving.{IsUnderWay}
 use Rattle.cdcl_core.proofs.Logging.{covered_same}
 
@@ -14,10 +14,10 @@ searching_scoped s x searching = record {
   vars = searching.vars;
   layered = searching.layered;
   ready = searching.ready;
-  choosing = searching.choosing;
+  deciding = searching.deciding;
 }
 
-pub visited_scoped : (s : Search) (x : Option Scope) → IsVisited s → IsVisited (record s { scope = x })
+pub visited_scoped : (s : Search) (x : Option Scope) → HasWatchInvariant s → HasWatchInvariant (record s { scope = x })
 visited_scoped s x visited = record {
   guarded = visited.guarded;
   low = visited.low;
@@ -45,7 +45,7 @@ logged_scoped f s x logged = record {
 }
 
 -- A search that backtracked to level 0 keeps it,
-pub under_way_restarted : (a b : Search) → IsUnderWay a → IsSearching b → IsVisited b → HasRestarted a b → IsUnderWay b
+pub under_way_restarted : (a b : Search) → IsUnderWay a → IsSearching b → HasWatchInvariant b → HasRestarted a b → IsUnderWay b
 under_way_restarted a b way searching visited restarted =
     let clauses : length b.clauses.clauses ≡ length a.clauses.clauses = ap (λ (x : Stored). length x.clauses) restarted.clauses in
     let starts : length b.starts.items ≤ length a.starts.items = restarted.starts in
@@ -58,7 +58,7 @@ under_way_restarted a b way searching visited restarted =
     }
 
 -- and so does one that resolved its conflicts.
-pub under_way_settled : (a b : Search) → IsUnderWay a → IsSearching b → IsVisited b → HasSettled a b → IsUnderWay b
+pub under_way_settled : (a b : Search) → IsUnderWay a → IsSearching b → HasWatchInvariant b → HasResolvedConflicts a b → IsUnderWay b
 under_way_settled a b way searching visited settled = record {
   searching = searching;
   visited = visited;

@@ -2,11 +2,11 @@
 use Rattle.std.proofs.Common.{◌≡◌, ℕ, ◌+◌, ◌<◌, ◌∙◌, ℤ, List, [], length, Some, subst, sym, ap, arith, refl}
 use Rattle.sat_theory.specs.Formula.{Formula}
 use Rattle.sat_theory.specs.Line.{Line}
-use Rattle.sat_theory.specs.Log.{IsThinned}
+use Rattle.sat_theory.specs.Log.{DeletesQuarter}
 use Rattle.clause_db.specs.Stored.{Stored, live_in}
 use Rattle.cdcl_core.specs.declared.search.Search.{Search}
-use Rattle.cdcl_core.specs.Searching.{IsSearching, IsVisited, IsLog, AreNew, AreCovered, IsAccounted, IsLogged}
-use Rattle.cdcl_core.specs.Forgetting.{with_gone, IsPending, IsThick, HasForgotten}
+use Rattle.cdcl_core.specs.Searching.{IsSearching, HasWatchInvariant, IsLog, AreNew, AreCovered, IsAccounted, IsLogged}
+use Rattle.cdcl_core.specs.Reduction.{with_deletion, IsPending, ExceedsFinalBound, HasReduced}
 use Rattle.cdcl_core.proofs.Logging.{covered_same}
 use Rattle.cdcl_core.proofs.Gone.{new_gone, log_thinned, log_all_gone}
 
@@ -15,17 +15,23 @@ pub pending_none : (f : Formula) (s : Search) (ids : List ℕ) → ids ≡ [] �
 pending_none f s ids none accounted = rw none (record { log = accounted.log; given = accounted.given })
 
 -- With the line the log is that of the clauses.
-pub accounted_written : (f : Formula) (s t : Search) (ids : List ℕ) → IsPending f s ids → t.lines ≡ with_gone s.lines (length s.clauses.clauses) ids → t ≡ record s { lines = t.lines } → IsAccounted f t
+pub accounted_written : (f : Formula) (s t : Search) (ids : List ℕ) → IsPending f s ids →
+    t.lines ≡ with_deletion s.lines (length s.clauses.clauses) ids → t ≡ record s { lines = t.lines } → IsAccounted f t
 accounted_written f s t ids pending lines same =
     let clauses : t.clauses ≡ s.clauses = ap (λ (x : Search). x.clauses) same in
     let deleted : t.deleted ≡ s.deleted = ap (λ (x : Search). x.deleted) same in
     let least : t.least ≡ s.least = ap (λ (x : Search). x.least) same in
     record {
-      log = subst (λ (x : Stored). IsLog f x t.lines t.deleted t.least) (sym clauses) (subst (λ (n : ℕ). IsLog f s.clauses t.lines n t.least) (sym deleted) (subst (λ (n : ℕ). IsLog f s.clauses t.lines s.deleted n) (sym least) (subst (λ (ls : List Line). IsLog f s.clauses ls s.deleted s.least) (sym lines) pending.log)));
+      log = subst (λ (x : Stored). IsLog f x t.lines t.deleted t.least) (sym clauses)
+          (subst (λ (n : ℕ). IsLog f s.clauses t.lines n t.least) (sym deleted)
+          (subst (λ (n : ℕ). IsLog f s.clauses t.lines s.deleted n) (sym least)
+          (subst (λ (ls : List Line). IsLog f s.clauses ls s.deleted s.least) (sym lines) pending.log)));
       given = ap (λ (x : Search). x.given) same ∙ pending.given;
     }
 
-pub logged_written : (f : Formula) (a s t : Search) (ids : List ℕ) → IsLogged f a → AreCovered f s → s.lines ≡ a.lines → IsPending f s ids → t.lines ≡ with_gone s.lines (length s.clauses.clauses) ids → t ≡ record s { lines = t.lines } → IsLogged f t
+pub logged_written : (f : Formula) (a s t : Search) (ids : List ℕ) → IsLogged f a → AreCovered f s →
+    s.lines ≡ a.lines → IsPending f s ids → t.lines ≡ with_deletion s.lines (length s.clauses.clauses) ids →
+    t ≡ record s { lines = t.lines } → IsLogged f t
 logged_written f a s t ids logged covered before pending lines same =
     let accounted : IsAccounted f t = accounted_written f s t ids pending lines same in
     let old : AreNew f s.lines = subst (λ (ls : List Line). AreNew f ls) (sym before) logged.new in
@@ -37,44 +43,76 @@ logged_written f a s t ids logged covered before pending lines same =
     }
 
 pub searching_written : (s t : Search) → IsSearching s → t ≡ record s { lines = t.lines } → IsSearching t
-searching_written s t searching same = subst (λ (x : Search). IsSearching x) (sym same) (record { stored = searching.stored; vars = searching.vars; layered = searching.layered; ready = searching.ready; choosing = searching.choosing })
+searching_written s t searching same = subst (λ (x : Search). IsSearching x) (sym same)
+    (record {
+      stored = searching.stored;
+      vars = searching.vars;
+      layered = searching.layered;
+      ready = searching.ready;
+      deciding = searching.deciding;
+    })
 
-pub visited_written : (s t : Search) → IsVisited s → t ≡ record s { lines = t.lines } → IsVisited t
-visited_written s t visited same = subst (λ (x : Search). IsVisited x) (sym same) (record { guarded = visited.guarded; low = visited.low; begun = visited.begun })
+pub visited_written : (s t : Search) → HasWatchInvariant s → t ≡ record s { lines = t.lines } → HasWatchInvariant t
+visited_written s t visited same = subst (λ (x : Search). HasWatchInvariant x) (sym same) (record { guarded = visited.guarded; low = visited.low; begun = visited.begun })
 
-pub forgotten_written : (a s t : Search) → HasForgotten a s → t ≡ record s { lines = t.lines } → HasForgotten a t
-forgotten_written a s t forgotten same = subst (λ (x : Search). HasForgotten a x) (sym same) (record { trail = forgotten.trail; starts = forgotten.starts; head = forgotten.head; given = forgotten.given; least = forgotten.least; shorter = forgotten.shorter; clauses = forgotten.clauses; fewer = forgotten.fewer })
+pub reduced_written : (a s t : Search) → HasReduced a s → t ≡ record s { lines = t.lines } → HasReduced a t
+reduced_written a s t reduced same = subst (λ (x : Search). HasReduced a x) (sym same) (record {
+  trail = reduced.trail;
+  starts = reduced.starts;
+  head = reduced.head;
+  given = reduced.given;
+  least = reduced.least;
+  shorter =
+      reduced.shorter;
+  clauses = reduced.clauses;
+  fewer = reduced.fewer;
+})
 
 -- the scores recorded before clauses are deleted
-pub forgotten_noted : (a b c : Search) → b ≡ record a { merits = b.merits } → HasForgotten b c → HasForgotten a c
-forgotten_noted a b c same forgotten = record {
-  trail = forgotten.trail ∙ ap (λ (s : Search). s.trail) same;
-  starts = forgotten.starts ∙ ap (λ (s : Search). s.starts) same;
-  head = forgotten.head ∙ ap (λ (s : Search). s.head) same;
-  given = forgotten.given ∙ ap (λ (s : Search). s.given) same;
-  least = forgotten.least ∙ ap (λ (s : Search). s.least) same;
-  shorter = forgotten.shorter ∙ ap (λ (s : Search). s.shorter) same;
-  clauses = forgotten.clauses ∙ ap (λ (s : Search). length s.clauses.clauses) same;
-  fewer = λ id clause is. subst (λ (x : Stored). live_in x id ≡ Some clause) (ap (λ (s : Search). s.clauses) same) (forgotten.fewer id clause is);
+pub reduced_noted : (a b c : Search) → b ≡ record a { clause_scores = b.clause_scores } → HasReduced b c → HasReduced a c
+reduced_noted a b c same reduced = record {
+  trail = reduced.trail ∙ ap (λ (s : Search). s.trail) same;
+  starts = reduced.starts ∙ ap (λ (s : Search). s.starts) same;
+  head = reduced.head ∙ ap (λ (s : Search). s.head) same;
+  given = reduced.given ∙ ap (λ (s : Search). s.given) same;
+  least = reduced.least ∙ ap (λ (s : Search). s.least) same;
+  shorter = reduced.shorter ∙ ap (λ (s : Search). s.shorter) same;
+  clauses = reduced.clauses ∙ ap (λ (s : Search). length s.clauses.clauses) same;
+  fewer = λ id clause is. subst (λ (x : Stored). live_in x id ≡ Some clause) (ap (λ (s : Search). s.clauses) same) (reduced.fewer id clause is);
 }
 
-pub searching_after : (a b : Search) → b ≡ record a { merits = b.merits } → IsSearching a → IsSearching b
-searching_after a b same searching = subst (λ (x : Search). IsSearching x) (sym same) (record { stored = searching.stored; vars = searching.vars; layered = searching.layered; ready = searching.ready; choosing = searching.choosing })
+pub searching_after : (a b : Search) → b ≡ record a { clause_scores = b.clause_scores } → IsSearching a → IsSearching b
+searching_after a b same searching = subst (λ (x : Search). IsSearching x) (sym same)
+    (record {
+      stored = searching.stored;
+      vars = searching.vars;
+      layered = searching.layered;
+      ready = searching.ready;
+      deciding = searching.deciding;
+    })
 
-pub visited_after : (a b : Search) → b ≡ record a { merits = b.merits } → IsVisited a → IsVisited b
-visited_after a b same visited = subst (λ (x : Search). IsVisited x) (sym same) (record { guarded = visited.guarded; low = visited.low; begun = visited.begun })
+pub visited_after : (a b : Search) → b ≡ record a { clause_scores = b.clause_scores } → HasWatchInvariant a → HasWatchInvariant b
+visited_after a b same visited = subst (λ (x : Search). HasWatchInvariant x) (sym same) (record { guarded = visited.guarded; low = visited.low; begun = visited.begun })
 
-pub logged_after : (f : Formula) (a b : Search) → b ≡ record a { merits = b.merits } → IsLogged f a → IsLogged f b
-logged_after f a b same logged = subst (λ (x : Search). IsLogged f x) (sym same) (record { log = logged.log; new = logged.new; given = logged.given; covered = covered_same f a (record a { merits = b.merits }) logged.covered refl refl refl })
+pub logged_after : (f : Formula) (a b : Search) → b ≡ record a { clause_scores = b.clause_scores } → IsLogged f a → IsLogged f b
+logged_after f a b same logged = subst (λ (x : Search). IsLogged f x) (sym same) (record {
+  log = logged.log;
+  new = logged.new;
+  given = logged.given;
+  covered =
+      covered_same f a (record a { clause_scores = b.clause_scores }) logged.covered refl refl refl;
+})
 
 -- A log with few enough live additions is thinned.
-pub thinned_written : (f : Formula) (s t : Search) → (IsThick s → ⊥) → t ≡ record s { lines = t.lines } → IsAccounted f t → IsThinned f t.lines
-thinned_written f s t thin same accounted =
-    let still : IsThick t → ⊥ = subst (λ (x : Search). IsThick x → ⊥) (sym same) thin in
+pub thinned_written : (f : Formula) (s t : Search) → (ExceedsFinalBound s → ⊥) → t ≡ record s { lines = t.lines } → IsAccounted f t → DeletesQuarter f t.lines
+thinned_written f s t meet_final_bound same accounted =
+    let still : ExceedsFinalBound t → ⊥ = subst (λ (x : Search). ExceedsFinalBound x → ⊥) (sym same) meet_final_bound in
     log_thinned f t.clauses t.lines t.deleted t.least accounted.log (λ less. still (omega (arith, less, accounted.given)))
 
 -- If all additions are deleted, few enough are live.
-pub thin_at_end : (f : Formula) (s : Search) (ids : List ℕ) → IsPending f s ids → ((id : ℕ) (clause : List ℤ) → s.given < id → live_in s.clauses id ≡ Some clause → ⊥) → IsThick s → ⊥
+pub thin_at_end : (f : Formula) (s : Search) (ids : List ℕ) → IsPending f s ids → ((id : ℕ) (clause : List ℤ) → s.given < id → live_in s.clauses id ≡ Some clause → ⊥) → ExceedsFinalBound s → ⊥
 thin_at_end f s ids pending none thick =
-    let all : length s.clauses.clauses ≡ length f.clauses + s.deleted = log_all_gone f s.clauses (with_gone s.lines (length s.clauses.clauses) ids) s.deleted s.least pending.log (λ id clause low live. none id clause (omega (arith, low, pending.given)) live) in
+    let all : length s.clauses.clauses ≡ length f.clauses + s.deleted =
+    log_all_gone f s.clauses (with_deletion s.lines (length s.clauses.clauses) ids) s.deleted s.least pending.log
+    (λ id clause low live. none id clause (omega (arith, low, pending.given)) live) in
     omega (arith, all, thick, pending.given)

@@ -1,11 +1,11 @@
-pub mod Verdicts
+pub mod ClauseStatuses
 pub mod Levels
-pub mod Choosing
+pub mod Deciding
 pub mod Luby
 pub mod Searching
-pub mod Endings
-pub mod Guarding
+pub mod SearchEnds
+pub mod WatchInvariant
 pub mod Visiting
-pub mod Forgetting
+pub mod Reduction
 pub mod Solving
 pub mod Strengthening

@@ -3,15 +3,15 @@ use Rattle.std.specs.Prelude.{◌≡◌, ◌⊎◌, ℕ, ◌+◌, ◌*◌, ◌<�
 use Rattle.sat_theory.specs.Formula.{Formula}
 use Rattle.sat_theory.specs.Line as theory
 use Rattle.sat_theory.specs.State.{State, by_id, start}
-use Rattle.sat_theory.specs.Log.{after, EachLine, IsStep, IsFresh, added_ids, additions, live_additions, SparesFormula}
+use Rattle.sat_theory.specs.Log.{after, EachLine, IsStep, AddsUnsubsumed, added_ids, additions, live_additions, SparesFormula}
 use Rattle.sat_theory.specs.FewAdditions.{AddsSome}
-use Rattle.cdcl_theory.specs.Trails.{IsLayered, fell}
+use Rattle.cdcl_theory.specs.Trails.{IsLayered, falsified_at}
 use Rattle.clause_db.specs.Sorted.{sorted}
 use Rattle.clause_db.specs.Stored.{Stored, live_in, IsStored}
 use Rattle.conflict_core.specs.Learning.{IsReady}
 use Rattle.cdcl_core.specs.declared.search.Search.{Search}
-use Rattle.cdcl_core.specs.Choosing.{IsChoosing}
-use Rattle.cdcl_core.specs.Guarding.{IsGuarded}
+use Rattle.cdcl_core.specs.Deciding.{IsDecisionHeap}
+use Rattle.cdcl_core.specs.WatchInvariant.{KeepsWatchInvariant}
 use Rattle.cdcl_core.specs.Visiting.{IsRest}
 
 -- the parts of the search agree with one another
@@ -20,7 +20,7 @@ pub record IsSearching (s : Search) : Type 0 where
   pub vars : s.clauses.vars ≡ s.trail.vars
   pub layered : IsLayered (live_in s.clauses) s.trail s.starts.items
   pub ready : IsReady s.trail.vars s.analysis
-  pub choosing : IsChoosing s.trail s.choice
+  pub deciding : IsDecisionHeap s.trail s.decision_heap
 
 -- The entry is a clause, and contracts of the clause database see it as `shown`: its literals in the order of
 -- their codes.
@@ -54,7 +54,7 @@ pub record IsLog (f : Formula) (clauses : Stored) (lines : List theory.Line) (de
 
 -- each addition is a clause with a literal that no live clause subsumes
 pub record AreNew (f : Formula) (lines : List theory.Line) : Type 0 where
-  pub fresh : EachLine IsFresh (start f) lines
+  pub fresh : EachLine AddsUnsubsumed (start f) lines
   pub some : All AddsSome lines
 
 -- The clause with this id is irredundant, and so never deleted by a reduction: it is one of the formula, or
@@ -87,8 +87,8 @@ pub record IsLogged (f : Formula) (s : Search) : Type 0 where
   pub covered : AreCovered f s
 
 -- The watch invariant holds for the trail literals before `head`.
-pub record IsVisited (s : Search) : Type 0 where
-  pub guarded : IsGuarded s.clauses (fell s.trail) s.starts.items s.head
+pub record HasWatchInvariant (s : Search) : Type 0 where
+  pub guarded : KeepsWatchInvariant s.clauses (falsified_at s.trail) s.starts.items s.head
   pub low : s.head ≤ length s.trail.lits
   pub begun : All (λ x. x ≤ s.head) s.starts.items
 
@@ -114,7 +114,7 @@ pub record HasPropagated (old new : Search) : Type 0 where
   pub starts : new.starts ≡ old.starts
 
 -- One clause was learnt, and at least one level was dropped.
-pub record HasJumped (old new : Search) : Type 0 where
+pub record HasBackjumped (old new : Search) : Type 0 where
   pub vars : new.trail.vars ≡ old.trail.vars
   pub given : new.given ≡ old.given
   pub least : new.least ≡ old.least
@@ -134,7 +134,7 @@ pub record HasRestarted (old new : Search) : Type 0 where
   pub starts : length new.starts.items ≤ length old.starts.items
 
 -- For each learnt clause at least one level was dropped; if none was learnt the trail is no shorter.
-pub record HasSettled (old new : Search) : Type 0 where
+pub record HasResolvedConflicts (old new : Search) : Type 0 where
   pub vars : new.trail.vars ≡ old.trail.vars
   pub given : new.given ≡ old.given
   pub least : new.least ≡ old.least

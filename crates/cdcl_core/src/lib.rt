@@ -18,47 +18,47 @@
 //!
 //! | Here | MiniSat, CaDiCaL |
 //! |---|---|
-//! | `fell(lit)` | 1 + the trail index at which `lit` became false; 0 if it isn't false |
+//! | `falsified_at(lit)` | 1 + the trail index at which `lit` became false; 0 if it isn't false |
 //! | `starts` | `trail_lim`, `control`: where decision levels begin on the trail |
 //! | `head` | `qhead`, `propagated` |
 //! | `given` | the number of original clauses |
-//! | `Choice`: `take_free` | decision heap: `pickBranchLit`, `decide` |
-//! | `signs` | saved phases |
+//! | `DecisionHeap`: `pick_decision` | decision heap: `pickBranchLit`, `decide` |
+//! | `phases` | saved phases |
 //! | `increment`, `bump`, `grow` | `var_inc`, `varBumpActivity`, `varDecayActivity` with rescaling |
-//! | `back_to`, `go_down` | `cancelUntil`, `backtrack`; to level 0 |
+//! | `backtrack`, `backtrack_to_root` | `cancelUntil`, `backtrack`; to level 0 |
 //! | `begin`, `push_units` | assignment of the unit clauses at level 0 |
-//! | `visit`, `first_standing`, `besides` | inner loop of `propagate`, replacement watch, other watch |
+//! | `visit`, `find_replacement`, `other_watch` | inner loop of `propagate`, replacement watch, other watch |
 //! | `blocker` | blocking literal |
-//! | `jump` | `analyze`, backjump, assignment of the asserting literal |
-//! | `settle` | propagate, and learn until there is no conflict |
-//! | `probe` | solve under assumptions with a conflict limit |
+//! | `learn_and_backjump` | `analyze`, backjump, assignment of the asserting literal |
+//! | `resolve_conflicts` | propagate, and learn until there is no conflict |
+//! | `solve_assuming` | solve under assumptions with a conflict limit |
 //! | `Scope` | its decision variables: the cone of the assumptions |
 //! | `Resolution`, `touched`, `resolve_to_uip` | `analyze`, the literals marked `seen`, up to the first UIP |
 //! | `Redundancy`, `resolve_away` | `litRedundant`, minimisation |
 //! | `minimise_with_binaries` | minimisation by binary clauses (Glucose) |
-//! | `Merits`: `activity`, `levels`, `shape` | clause activity, LBD (glue), signature |
-//! | `tidy`, `forget_idle`, `forget` | `reduceDB`, deletion of learnt clauses |
-//! | `is_overfull`, `shed` | more additions live than the log's end may have; deletion down to that |
-//! | `review`, `containing` | eager subsumption of recent learnt clauses |
+//! | `ClauseScores`: `activity`, `levels`, `signature` | clause activity, LBD (glue), signature |
+//! | `reduce_and_bound`, `reduce_db`, `delete_learnt` | `reduceDB`, deletion of learnt clauses |
+//! | `exceeds_bound`, `delete_to_bound` | more additions live than the log's end may have; deletion down to that |
+//! | `subsume_recent`, `subsumed_by_last` | eager subsumption of recent learnt clauses |
 //! | `strengthen`, `shorter` | subsumption and strengthening (self-subsuming resolution), once |
 //! | `is_irredundant` | irredundant: an original clause, or one that replaces an original |
-//! | `set_aside` | deletion of a subsumed original clause |
-//! | `rewind` | unassign everything, level 0 too |
+//! | `remove_subsumed` | deletion of a subsumed original clause |
+//! | `unassign_all` | unassign everything, level 0 too |
 //! | log, line, hint | LRAT proof, step, antecedent id |
-//! | `IsKept` | at least half of the additions are live at the end |
-//! | `IsThinned`, `thin` | at most about three quarters are; the deletions at the end for that |
-//! | `Ending`: `Valued`, `Refuted`, `Spent` | SAT, UNSAT, limit reached |
-//! | `IsGuarded`, `IsVisited` | watch invariant; it up to `head` |
+//! | `KeepsHalf` | at least half of the additions are live at the end |
+//! | `DeletesQuarter`, `meet_final_bound` | at most about three quarters are; the deletions at the end for that |
+//! | `SearchEnd`: `Satisfied`, `Refuted`, `BudgetReached` | SAT, UNSAT, limit reached |
+//! | `KeepsWatchInvariant`, `HasWatchInvariant` | watch invariant; it up to `head` |
 //! | `IsSettled` | a clause is neither unit nor falsified |
 #![tactic(auto)]
 
 mod answering;
-mod choosing;
-mod forgetting;
+mod assuming;
+mod clause_scores;
+mod deciding;
 mod judgement;
 mod levels;
-mod merits;
-mod probing;
+mod reduction;
 mod restarts;
 mod scope;
 mod search;

@@ -33,7 +33,8 @@ impl Restarts {
         ensures goes_on { IsFalse result → self.new ≡ record self.old { left = self.old.left - 1 } }
         ensures due { IsTrue result → self.old.left ≤ 1 }
         ensures next { IsTrue result → self.new.run ≡ self.old.run % RUNS + 1 }
-        ensures ends { IsTrue result → (length : ℕ) × IsLuby self.new.run length × (self.new.left ≡ SHORTEST_RUN * length) }
+        ensures ends { IsTrue result → (length : ℕ) × IsLuby self.new.run length ×
+            (self.new.left ≡ SHORTEST_RUN * length) }
     {
         if self.left > 1 {
             self.left -= 1;

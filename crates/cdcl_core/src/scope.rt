@@ -34,7 +34,7 @@ pub(crate) struct Scope {
     /// by variable, the number of the last call that had it as a decision variable; 0: none
     pub(crate) opened: Vec<u32>,
     /// the number of the current call
-    pub(crate) probe: u32,
+    pub(crate) call: u32,
     /// the trail index up to which the fanins of decision variables were added
     pub(crate) scanned: usize,
     /// the number of literals of level 0 when the current call began
@@ -56,7 +56,7 @@ impl Scope {
         Ok(Scope {
             heap: VarHeap::new(alloc, vars)?,
             opened: vec![in alloc; 0u32; vars as usize + 1]?,
-            probe: 0,
+            call: 0,
             scanned: 0,
             fixed: 0,
             left: Vec::new(alloc),
@@ -76,13 +76,18 @@ impl Scope {
     }
 
     /// Begins a call, with the variables of its assumptions as decision variables.
-    fn begin(&mut self, trail: &Trail, targets: &[Lit], cones: &Cones) -> Result<(), AllocError> {
+    fn begin(
+        &mut self,
+        trail: &Trail,
+        assumptions: &[Lit],
+        cones: &Cones,
+    ) -> Result<(), AllocError> {
         self.clear();
-        self.probe = self.probe.wrapping_add(1);
+        self.call = self.call.wrapping_add(1);
         self.scanned = trail.len();
         self.fixed = trail.len();
-        for target in targets {
-            self.begin_at(trail, target.variable(), cones)?;
+        for assumption in assumptions {
+            self.begin_at(trail, assumption.variable(), cones)?;
         }
         Ok(())
     }
@@ -141,14 +146,14 @@ impl Scope {
     /// time.
     fn mark(&mut self, variable: u32, cones: &Cones) -> bool {
         let before = entry(&self.opened, variable);
-        if variable == 0 || variable as usize >= self.opened.len() || before == self.probe {
+        if variable == 0 || variable as usize >= self.opened.len() || before == self.call {
             return false;
         }
         if before == 0 {
             let rank = entry(cones.rank, variable);
             self.heap.bump(variable, u64::from(rank));
         }
-        self.opened[variable as usize] = self.probe;
+        self.opened[variable as usize] = self.call;
         true
     }
 
@@ -165,7 +170,7 @@ impl Scope {
         self.seen = self.seen.saturating_add(fresh as u64);
         for index in self.scanned..trail.len() {
             let variable = trail.at(index).variable();
-            if entry(&self.opened, variable) != self.probe {
+            if entry(&self.opened, variable) != self.call {
                 continue;
             }
             self.open(trail, entry(cones.first, variable), cones)?;
@@ -177,7 +182,7 @@ impl Scope {
 
     /// Takes out a decision variable without a value, of greatest rank, and returns its literal with the
     /// saved phase.
-    fn take_free(&mut self, trail: &Trail, signs: &[bool]) -> Option<Lit>
+    fn pick_decision(&mut self, trail: &Trail, phases: &[bool]) -> Option<Lit>
         ensures over { IfSome result (IsOver trail.now.vars) }
         ensures free { IfSome result (IsFree trail.now) }
     {
@@ -186,7 +191,7 @@ impl Scope {
             if variable > trail.vars() {
                 continue;
             }
-            let lit = Lit::of(variable, sign(signs, variable));
+            let lit = Lit::of(variable, phase(phases, variable));
             if trail.is_free(lit) {
                 return Some(lit);
             }
@@ -200,7 +205,7 @@ impl Scope {
         self.scanned = self.scanned.min(from);
         for index in from..trail.len() {
             let variable = trail.at(index).variable();
-            if entry(&self.opened, variable) == self.probe {
+            if entry(&self.opened, variable) == self.call {
                 self.hold(variable);
             }
         }
@@ -216,8 +221,8 @@ fn entry(row: &[u32], variable: u32) -> u32 {
 }
 
 /// The saved phase of a variable; true beyond the end of the table.
-fn sign(signs: &[bool], variable: u32) -> bool {
-    match signs.get(variable as usize) {
+fn phase(phases: &[bool], variable: u32) -> bool {
+    match phases.get(variable as usize) {
         Some(positive) => *positive,
         None => true,
     }
@@ -229,37 +234,37 @@ fn position_of(trail: &Trail, variable: u32) -> u32 {
     if variable == 0 || variable > trail.vars() {
         return 0;
     }
-    let positive = trail.fell(Lit::of(variable, true));
-    positive.max(trail.fell(Lit::of(variable, false)))
+    let positive = trail.falsified_at(Lit::of(variable, true));
+    positive.max(trail.falsified_at(Lit::of(variable, false)))
 }
 
 /// Begins a call, with the variables of its assumptions as decision variables.
-pub(crate) fn open_targets(
+pub(crate) fn open_assumptions(
     scope: &mut Option<Scope>,
     alloc: Global,
     trail: &Trail,
-    targets: &[Lit],
+    assumptions: &[Lit],
     cones: &Cones,
 ) -> Result<(), AllocError> {
     if scope.is_none() {
         *scope = Some(Scope::new(alloc, trail.vars())?);
     }
     match scope {
-        Some(scope) => scope.begin(trail, targets, cones),
+        Some(scope) => scope.begin(trail, assumptions, cones),
         None => Ok(()),
     }
 }
 
 /// Sets the work limit of the call, if one is running, for a limit of conflicts; `hints` is the number of
 /// hints so far.
-pub(crate) fn allow_work(scope: &mut Option<Scope>, hints: u64, limit: u32) {
+pub(crate) fn limit_work(scope: &mut Option<Scope>, hints: u64, limit: u32) {
     if let Some(scope) = scope {
         scope.allow(hints, limit);
     }
 }
 
 /// Whether the work limit of the call is reached, if one is running, given the number of hints so far.
-pub(crate) fn has_worked(scope: &Option<Scope>, hints: u64) -> bool {
+pub(crate) fn is_over_work(scope: &Option<Scope>, hints: u64) -> bool {
     match scope {
         Some(scope) => scope.is_spent(hints),
         None => false,
@@ -267,45 +272,45 @@ pub(crate) fn has_worked(scope: &Option<Scope>, hints: u64) -> bool {
 }
 
 /// The first assumption without a value.
-fn free_target(trail: &Trail, targets: &[Lit]) -> Option<Lit>
-    requires within { IsWithin trail.now.vars targets.now }
+fn free_assumption(trail: &Trail, assumptions: &[Lit]) -> Option<Lit>
+    requires within { IsWithin trail.now.vars assumptions.now }
     ensures over { IfSome result (IsOver trail.now.vars) }
     ensures free { IfSome result (IsFree trail.now) }
 {
-    for target in targets {
+    for assumption in assumptions {
         // for the prover: no variable is 0
-        let _variable = target.variable();
-        if trail.is_free(*target) {
-            return Some(*target);
+        let _variable = assumption.variable();
+        if trail.is_free(*assumption) {
+            return Some(*assumption);
         }
     }
     None
 }
 
 /// The next decision under assumptions: an assumption, or a decision variable; None if all have values.
-pub(crate) fn next_open(
+pub(crate) fn next_assuming(
     scope: &mut Option<Scope>,
     trail: &Trail,
-    signs: &[bool],
-    targets: &[Lit],
+    phases: &[bool],
+    assumptions: &[Lit],
     cones: &Cones,
 ) -> Result<Option<Lit>, AllocError>
-    requires within { IsWithin trail.now.vars targets.now }
+    requires within { IsWithin trail.now.vars assumptions.now }
     ensures over { IfOk result (λ next. IfSome next (IsOver trail.now.vars)) }
     ensures free { IfOk result (λ next. IfSome next (IsFree trail.now)) }
 {
-    if let Some(target) = free_target(trail, targets) {
-        return Ok(Some(target));
+    if let Some(assumption) = free_assumption(trail, assumptions) {
+        return Ok(Some(assumption));
     }
     let Some(scope) = scope else {
         return Ok(None);
     };
     scope.scan(trail, cones)?;
-    Ok(scope.take_free(trail, signs))
+    Ok(scope.pick_decision(trail, phases))
 }
 
 /// Puts decision variables back into the heap before backtracking, if a call is running.
-pub(crate) fn release_open(scope: &mut Option<Scope>, trail: &Trail, from: usize) {
+pub(crate) fn release_decisions(scope: &mut Option<Scope>, trail: &Trail, from: usize) {
     if let Some(scope) = scope {
         scope.release(trail, from);
     }

@@ -1,18 +1,18 @@
 //! The search (CDCL): it propagates, learns a clause from each conflict and backjumps to where that is unit,
 //! and makes a decision where there is no conflict, until all variables have values, the empty clause
-//! follows, or the budget is reached. Its invariant is `IsSearching`, that of the watches `IsVisited`.
+//! follows, or the budget is reached. Its invariant is `IsSearching`, that of the watches `HasWatchInvariant`.
 ghost use Rattle.std.specs.Prelude.{◌≡◌, ◌+◌, ◌<◌, ◌≤◌, ◌↔◌, [], length, IsTrue, IfOk, OnOk, IfSome, IfNone};
 ghost use Rattle.sat_theory.specs.Formula.{Formula};
-ghost use Rattle.cdcl_theory.specs.Falling.{AllSettled, IsFalsified};
-ghost use Rattle.cdcl_theory.specs.Trails.{fell as fell_of};
+ghost use Rattle.cdcl_theory.specs.Propagation.{AllSettled, IsFalsified};
+ghost use Rattle.cdcl_theory.specs.Trails.{falsified_at as falsified_in};
 ghost use Rattle.clause_db.specs.Stored.{live_in, IsStored};
 ghost use Rattle.cdcl_core.specs.Levels.{IsFirstStart, IsLastStart};
 
-use crate::choosing::Choice;
+use crate::clause_scores::ClauseScores;
+use crate::deciding::DecisionHeap;
 use crate::levels::drop_levels;
-use crate::merits::Merits;
 use crate::restarts::Restarts;
-use crate::scope::{Scope, release_open};
+use crate::scope::{Scope, release_decisions};
 use crate::units::push_units;
 use crate::visiting::propagate_watched;
 use clause_db::ClauseDb;
@@ -45,9 +45,9 @@ pub(crate) struct Search {
     pub(crate) given: u32,
     /// the number of trail literals that are propagated
     pub(crate) head: usize,
-    pub(crate) choice: Choice,
+    pub(crate) decision_heap: DecisionHeap,
     pub(crate) restarts: Restarts,
-    pub(crate) merits: Merits,
+    pub(crate) clause_scores: ClauseScores,
     /// the additions that replace longer clauses of the formula
     pub(crate) shorter: Shorter,
     /// the number of deleted additions
@@ -67,19 +67,20 @@ pub(crate) struct Shorter {
 }
 
 /// The end of a search.
-pub(crate) enum Ending {
+pub(crate) enum SearchEnd {
     /// All variables have values, and no clause is falsified.
-    Valued,
+    Satisfied,
     /// The log ends with the empty clause.
     Refuted,
     /// The budget is reached, and a decision is due.
-    Spent,
+    BudgetReached,
 }
 
 impl Search {
-    ghost use Rattle.cdcl_core.specs.Searching.{IsSearching, IsVisited, IsLogged, HasBegun, HasPropagated, HasJumped, HasRestarted, HasSettled, HasDecided, HasRun};
-    ghost use Rattle.cdcl_core.specs.Endings.{Ends, HasRefuted};
-    ghost use Rattle.cdcl_core.specs.Forgetting.{IsBounded};
+    ghost use Rattle.cdcl_core.specs.Searching.{IsSearching, HasWatchInvariant, IsLogged, HasBegun, HasPropagated};
+    ghost use Rattle.cdcl_core.specs.Searching.{HasBackjumped, HasRestarted, HasResolvedConflicts, HasDecided, HasRun};
+    ghost use Rattle.cdcl_core.specs.SearchEnds.{Ends, HasRefuted};
+    ghost use Rattle.cdcl_core.specs.Reduction.{IsBounded};
 
     /// A search over a formula, before its first step. A log that leaves the formula undecided has at least
     /// `least` additions.
@@ -95,9 +96,9 @@ impl Search {
         let vars = cnf.vars();
         let given = cnf.clauses().len() as u32;
         // The largest tables come last, so that little has to be freed where memory runs out.
-        let merits = Merits::new(alloc, given, vars)?;
+        let clause_scores = ClauseScores::new(alloc, given, vars)?;
         let trail = Trail::new(alloc, vars)?;
-        let choice = Choice::new(alloc, vars)?;
+        let decision_heap = DecisionHeap::new(alloc, vars)?;
         let analysis = Analysis::new(alloc, vars)?;
         let clauses = ClauseDb::new(alloc, cnf)?;
         Ok(Search {
@@ -108,9 +109,9 @@ impl Search {
             lines: Log::new(alloc),
             given,
             head: 0,
-            choice,
+            decision_heap,
             restarts: Restarts::new(),
-            merits,
+            clause_scores,
             shorter: Shorter { low: 0, high: 0 },
             deleted: 0,
             least,
@@ -127,8 +128,9 @@ impl Search {
         requires head { self.old.head ≡ 0 }
         ensures searching { IfOk result (λ _. IsSearching self.new) }
         ensures begun { IfOk result (λ _. HasBegun self.old self.new) }
-        ensures visited { IfOk result (λ found. IfNone found (IsVisited self.new)) }
-        ensures conflict { IfOk result (λ found. IfSome found (IsFalsified (live_in self.new.clauses) (fell_of self.new.trail))) }
+        ensures visited { IfOk result (λ found. IfNone found (HasWatchInvariant self.new)) }
+        ensures conflict { IfOk result (λ found.
+            IfSome found (IsFalsified (live_in self.new.clauses) (falsified_in self.new.trail))) }
     {
         push_units(&mut self.trail, &self.clauses)
     }
@@ -136,12 +138,13 @@ impl Search {
     /// Unit propagation by watched literals. Returns the id of a falsified clause, if any.
     fn propagate(&mut self) -> Result<Option<u32>, AllocError>
         requires searching { IsSearching self.old }
-        requires visited { IsVisited self.old }
+        requires visited { HasWatchInvariant self.old }
         ensures searching { IfOk result (λ _. IsSearching self.new) }
-        ensures visited { IfOk result (λ _. IsVisited self.new) }
+        ensures visited { IfOk result (λ _. HasWatchInvariant self.new) }
         ensures propagated { IfOk result (λ _. HasPropagated self.old self.new) }
         ensures all { IfOk result (λ found. IfNone found (self.new.head ≡ length self.new.trail.lits)) }
-        ensures conflict { IfOk result (λ found. IfSome found (IsFalsified (live_in self.new.clauses) (fell_of self.new.trail))) }
+        ensures conflict { IfOk result (λ found.
+            IfSome found (IsFalsified (live_in self.new.clauses) (falsified_in self.new.trail))) }
     {
         match propagate_watched(&mut self.trail, &mut self.clauses, self.head)? {
             Some(conflict) => Ok(Some(conflict)),
@@ -154,30 +157,30 @@ impl Search {
 
     /// Learns a clause from a conflict in the last level, which begins at trail index `start`, backjumps to
     /// where the clause is unit, and assigns its literal.
-    fn jump(&mut self, conflict: u32, start: usize) -> Result<(), AllocError>
+    fn learn_and_backjump(&mut self, conflict: u32, start: usize) -> Result<(), AllocError>
         requires searching { IsSearching self.old }
         requires level { IsLastStart self.old.starts.items start }
         requires few { length self.old.clauses.clauses < 4000000000 }
-        requires conflict { IsFalsified (live_in self.old.clauses) (fell_of self.old.trail) conflict }
-        requires visited { IsVisited self.old }
+        requires conflict { IsFalsified (live_in self.old.clauses) (falsified_in self.old.trail) conflict }
+        requires visited { HasWatchInvariant self.old }
         ensures searching { OnOk result (IsSearching self.new) }
-        ensures visited { OnOk result (IsVisited self.new) }
+        ensures visited { OnOk result (HasWatchInvariant self.new) }
         ensures logged { (f : Formula) → IsLogged f self.old → OnOk result (IsLogged f self.new) }
-        ensures jumped { OnOk result (HasJumped self.old self.new) }
+        ensures backjumped { OnOk result (HasBackjumped self.old self.new) }
     {
         let alloc = *self.starts.allocator();
         let learnt = self
             .analysis
             .learn(alloc, &self.trail, &self.clauses, conflict, start)?;
-        self.merits.count_parts(&learnt.hints);
-        self.choice.bump(self.analysis.touched());
-        self.choice
+        self.clause_scores.bump_antecedents(&learnt.hints);
+        self.decision_heap.bump(self.analysis.touched());
+        self.decision_heap
             .bump_reasons(&self.trail, &self.clauses, &learnt.lits[1..]);
-        self.choice.grow();
+        self.decision_heap.grow();
         let id = self.clauses.add(&learnt.lits)?;
         let end = drop_levels(&mut self.starts, learnt.back as usize);
-        release_open(&mut self.scope, &self.trail, end);
-        self.choice.back_to(&mut self.trail, end);
+        release_decisions(&mut self.scope, &self.trail, end);
+        self.decision_heap.backtrack(&mut self.trail, end);
         let lit = learnt.lits[0];
         self.lines.add(id, &learnt.lits, &learnt.hints)?;
         self.trail.push(lit, id)?;
@@ -186,17 +189,17 @@ impl Search {
     }
 
     /// Backtracks to level 0; the first level begins at trail index `first`.
-    pub(crate) fn go_down(&mut self, first: usize)
+    pub(crate) fn backtrack_to_root(&mut self, first: usize)
         requires searching { IsSearching self.old }
-        requires visited { IsVisited self.old }
+        requires visited { HasWatchInvariant self.old }
         requires level { IsFirstStart self.old.starts.items first }
         ensures searching { IsSearching self.new }
-        ensures visited { IsVisited self.new }
+        ensures visited { HasWatchInvariant self.new }
         ensures bottom { self.new.starts.items ≡ [] }
         ensures restarted { HasRestarted self.old self.new }
     {
-        release_open(&mut self.scope, &self.trail, first);
-        self.choice.back_to(&mut self.trail, first);
+        release_decisions(&mut self.scope, &self.trail, first);
+        self.decision_heap.backtrack(&mut self.trail, first);
         self.starts.clear();
         self.head = first;
     }
@@ -204,9 +207,9 @@ impl Search {
     /// Counts a conflict, and restarts if a run of conflicts ends with it.
     fn restart(&mut self)
         requires searching { IsSearching self.old }
-        requires visited { IsVisited self.old }
+        requires visited { HasWatchInvariant self.old }
         ensures searching { IsSearching self.new }
-        ensures visited { IsVisited self.new }
+        ensures visited { HasWatchInvariant self.new }
         ensures restarted { HasRestarted self.old self.new }
     {
         if !self.restarts.count() {
@@ -216,22 +219,24 @@ impl Search {
             return;
         };
         let first = *first;
-        self.go_down(first);
+        self.backtrack_to_root(first);
     }
 
     /// Propagates, and learns from each conflict, until there is none, or one at level 0, whose id it
     /// returns.
-    pub(crate) fn settle(&mut self) -> Result<Option<u32>, AllocError>
+    pub(crate) fn resolve_conflicts(&mut self) -> Result<Option<u32>, AllocError>
         requires searching { IsSearching self.old }
-        requires visited { IsVisited self.old }
+        requires visited { HasWatchInvariant self.old }
         requires few { length self.old.clauses.clauses + length self.old.starts.items < 4000000000 }
         ensures searching { IfOk result (λ _. IsSearching self.new) }
         ensures logged { (f : Formula) → IsLogged f self.old → IfOk result (λ _. IsLogged f self.new) }
-        ensures settled { IfOk result (λ _. HasSettled self.old self.new) }
-        ensures visited { IfOk result (λ _. IsVisited self.new) }
+        ensures settled { IfOk result (λ _. HasResolvedConflicts self.old self.new) }
+        ensures visited { IfOk result (λ _. HasWatchInvariant self.new) }
         ensures all { IfOk result (λ found. IfNone found (self.new.head ≡ length self.new.trail.lits)) }
-        ensures none { IfOk result (λ found. IfNone found (AllSettled (live_in self.new.clauses) (fell_of self.new.trail))) }
-        ensures conflict { IfOk result (λ found. IfSome found (IsFalsified (live_in self.new.clauses) (fell_of self.new.trail))) }
+        ensures none { IfOk result (λ found. IfNone found
+            (AllSettled (live_in self.new.clauses) (falsified_in self.new.trail))) }
+        ensures conflict { IfOk result (λ found.
+            IfSome found (IsFalsified (live_in self.new.clauses) (falsified_in self.new.trail))) }
         ensures last { IfOk result (λ found. IfSome found (λ _. self.new.starts.items ≡ [])) }
     {
         while let Some(conflict) = self.propagate()? {
@@ -239,15 +244,15 @@ impl Search {
                 return Ok(Some(conflict));
             };
             let start = *start;
-            self.jump(conflict, start)?;
-            self.review()?;
+            self.learn_and_backjump(conflict, start)?;
+            self.subsume_recent()?;
             self.restart();
         }
         Ok(None)
     }
 
     /// Whether the log has at least `budget` additions.
-    fn has_spent(&self, budget: u32) -> bool
+    fn has_reached_budget(&self, budget: u32) -> bool
         ensures { IsTrue result ↔ (self.now.given + budget ≤ length self.now.clauses.clauses) }
     {
         u64::from(self.clauses.last()) >= u64::from(self.given) + u64::from(budget)
@@ -255,25 +260,27 @@ impl Search {
 
     /// Makes a decision, which begins a level. If all variables have values the search ends with them, and if
     /// the budget is reached it ends undecided.
-    fn decide(&mut self, budget: u32) -> Result<Option<Ending>, AllocError>
+    fn decide(&mut self, budget: u32) -> Result<Option<SearchEnd>, AllocError>
         requires searching { IsSearching self.old }
-        requires settled { AllSettled (live_in self.old.clauses) (fell_of self.old.trail) }
-        requires visited { IsVisited self.old }
+        requires settled { AllSettled (live_in self.old.clauses) (falsified_in self.old.trail) }
+        requires visited { HasWatchInvariant self.old }
         requires all { self.old.head ≡ length self.old.trail.lits }
         requires least { self.old.least ≤ budget }
         requires bounded { IsBounded self.old }
         ensures searching { IfOk result (λ ending. IfNone ending (IsSearching self.new)) }
-        ensures visited { IfOk result (λ ending. IfNone ending (IsVisited self.new)) }
+        ensures visited { IfOk result (λ ending. IfNone ending (HasWatchInvariant self.new)) }
         ensures decided { IfOk result (λ ending. IfNone ending (HasDecided self.old self.new)) }
-        ensures under { IfOk result (λ ending. IfNone ending (length self.old.clauses.clauses < self.old.given + budget)) }
-        ensures ended { (f : Formula) → IsLogged f self.old → IfOk result (λ ending. IfSome ending (Ends f budget self.new)) }
+        ensures under { IfOk result (λ ending. IfNone ending
+            (length self.old.clauses.clauses < self.old.given + budget)) }
+        ensures ended { (f : Formula) → IsLogged f self.old →
+            IfOk result (λ ending. IfSome ending (Ends f budget self.new)) }
         ensures stored { IfOk result (λ _. IsStored self.new.clauses) }
     {
-        let Some(lit) = self.choice.take_free(&self.trail) else {
-            return Ok(Some(Ending::Valued));
+        let Some(lit) = self.decision_heap.pick_decision(&self.trail) else {
+            return Ok(Some(SearchEnd::Satisfied));
         };
-        if self.has_spent(budget) {
-            return Ok(Some(Ending::Spent));
+        if self.has_reached_budget(budget) {
+            return Ok(Some(SearchEnd::BudgetReached));
         }
         self.starts.push(self.trail.len())?;
         self.trail.push(lit, 0)?;
@@ -285,7 +292,7 @@ impl Search {
         requires searching { IsSearching self.old }
         requires few { length self.old.clauses.clauses < 4000000000 }
         requires bottom { self.old.starts.items ≡ [] }
-        requires conflict { IsFalsified (live_in self.old.clauses) (fell_of self.old.trail) conflict }
+        requires conflict { IsFalsified (live_in self.old.clauses) (falsified_in self.old.trail) conflict }
         ensures refuted { (f : Formula) → IsLogged f self.old → OnOk result (HasRefuted f self.new) }
         ensures trail { self.new.trail ≡ self.old.trail }
         ensures stored { IsStored self.new.clauses }
@@ -309,30 +316,33 @@ impl Search {
 
     /// Decides and learns until the formula is decided, or a decision is due after at least `budget`
     /// additions. It pauses, and returns None, at level 0 once the last id is at least `pause`.
-    fn run(&mut self, budget: u32, pause: u32) -> Result<Option<Ending>, AllocError>
+    fn run(&mut self, budget: u32, pause: u32) -> Result<Option<SearchEnd>, AllocError>
         requires searching { IsSearching self.old }
-        requires visited { IsVisited self.old }
+        requires visited { HasWatchInvariant self.old }
         requires least { self.old.least ≤ budget }
         requires room { self.old.given + budget < 2980000000 }
-        requires short { length self.old.clauses.clauses + length self.old.starts.items ≤ self.old.given + budget + self.old.trail.vars + 1 }
+        requires short { length self.old.clauses.clauses + length self.old.starts.items ≤ self.old.given + budget +
+            self.old.trail.vars + 1 }
         ensures searching { IfOk result (λ ending. IfNone ending (IsSearching self.new)) }
-        ensures visited { IfOk result (λ ending. IfNone ending (IsVisited self.new)) }
+        ensures visited { IfOk result (λ ending. IfNone ending (HasWatchInvariant self.new)) }
         ensures bottom { IfOk result (λ ending. IfNone ending (self.new.starts.items ≡ [])) }
         ensures paused { IfOk result (λ ending. IfNone ending (pause ≤ length self.new.clauses.clauses)) }
         ensures run { IfOk result (λ ending. IfNone ending (HasRun budget self.old self.new)) }
-        ensures logged { (f : Formula) → IsLogged f self.old → IfOk result (λ ending. IfNone ending (IsLogged f self.new)) }
-        ensures ends { (f : Formula) → IsLogged f self.old → IfOk result (λ ending. IfSome ending (Ends f budget self.new)) }
+        ensures logged { (f : Formula) → IsLogged f self.old →
+            IfOk result (λ ending. IfNone ending (IsLogged f self.new)) }
+        ensures ends { (f : Formula) → IsLogged f self.old →
+            IfOk result (λ ending. IfSome ending (Ends f budget self.new)) }
         ensures stored { IfOk result (λ _. IsStored self.new.clauses) }
     {
         loop {
-            if let Some(conflict) = self.settle()? {
+            if let Some(conflict) = self.resolve_conflicts()? {
                 self.refute(conflict)?;
-                return Ok(Some(Ending::Refuted));
+                return Ok(Some(SearchEnd::Refuted));
             }
             if self.is_paused(pause) {
                 return Ok(None);
             }
-            self.tidy()?;
+            self.reduce_and_bound()?;
             if let Some(ending) = self.decide(budget)? {
                 return Ok(Some(ending));
             }
@@ -343,17 +353,17 @@ impl Search {
     /// the budget is small, if calls under assumptions have learnt clauses already, or if the formula is
     /// large.
     fn pause(&self, budget: u32) -> u32 {
-        let is_probed = self.clauses.last() > self.given;
-        if budget <= FIRST_CONFLICTS || is_probed || self.given > MOST_STRENGTHENED {
+        let has_assumed = self.clauses.last() > self.given;
+        if budget <= FIRST_CONFLICTS || has_assumed || self.given > MOST_STRENGTHENED {
             return NEVER;
         }
         self.given.saturating_add(FIRST_CONFLICTS)
     }
 
     /// Decides and learns until the formula is decided, or a decision is due after at least `budget` additions.
-    pub(crate) fn go_on(&mut self, budget: u32) -> Result<Ending, AllocError>
+    pub(crate) fn go_on(&mut self, budget: u32) -> Result<SearchEnd, AllocError>
         requires searching { IsSearching self.old }
-        requires visited { IsVisited self.old }
+        requires visited { HasWatchInvariant self.old }
         requires least { self.old.least ≤ budget }
         requires room { self.old.given + budget < 2970000000 }
         requires short { length self.old.clauses.clauses ≤ self.old.given + budget }
@@ -370,7 +380,7 @@ impl Search {
         if self.shorter.high == 0 {
             if let Some(conflict) = self.strengthen(before + MOST_STRENGTHENED)? {
                 self.refute(conflict)?;
-                return Ok(Ending::Refuted);
+                return Ok(SearchEnd::Refuted);
             }
         }
         let shorter = self.clauses.last() - before;
@@ -378,9 +388,9 @@ impl Search {
     }
 
     /// Goes on without a pause; `shorter` of the additions don't count towards the budget.
-    fn run_on(&mut self, budget: u32, shorter: u32) -> Result<Ending, AllocError>
+    fn run_on(&mut self, budget: u32, shorter: u32) -> Result<SearchEnd, AllocError>
         requires searching { IsSearching self.old }
-        requires visited { IsVisited self.old }
+        requires visited { HasWatchInvariant self.old }
         requires least { self.old.least ≤ budget }
         requires room { self.old.given + budget + shorter < 2980000000 }
         requires short { length self.old.clauses.clauses ≤ self.old.given + budget + shorter + self.old.trail.vars + 1 }

@@ -2,13 +2,13 @@
 use crate::answering::conclude;
 use crate::search::Search;
 use cnf_core::{Cnf, Lit};
-use sat_solve::{Cones, Probed, Solved, Solver};
+use sat_solve::{AssumptionResult, Cones, Solved, Solver};
 use std::alloc::{AllocError, Global};
 use std::marker::Model;
 
 /// Whether the formula is decided already.
 #[derive(Clone, Copy, Drop)]
-pub(crate) enum Stage {
+pub(crate) enum SolverStatus {
     /// The formula has the empty clause.
     Empty,
     /// Not decided yet.
@@ -23,23 +23,23 @@ pub(crate) enum Stage {
 #[derive(Drop)]
 pub struct Cdcl {
     search: Search,
-    stage: Stage,
+    status: SolverStatus,
 }
 
 impl Model for Cdcl {
-    ghost use Rattle.cdcl_core.specs.Solving.{Solving, IsStaged};
+    ghost use Rattle.cdcl_core.specs.Solving.{Solving, FitsStatus};
 
     ghost Value = { Solving };
 
-    ghost view = { λ c. record { search = c.search; stage = c.stage } };
+    ghost view = { λ c. record { search = c.search; status = c.status } };
 
-    ghost invariant = { λ c. IsStaged c.search c.stage };
+    ghost invariant = { λ c. FitsStatus c.search c.status };
 }
 
 impl Solver for Cdcl {
-    ghost use Rattle.cdcl_core.specs.Solving.{IsStagedOf};
+    ghost use Rattle.cdcl_core.specs.Solving.{FitsStatusOf};
 
-    ghost IsSolverOf = { λ f least s. IsStagedOf f least s.search s.stage };
+    ghost IsSolverOf = { λ f least s. FitsStatusOf f least s.search s.status };
 
     ghost vars_of = { λ s. s.search.trail.vars };
 
@@ -48,38 +48,43 @@ impl Solver for Cdcl {
         if cnf.has_empty() {
             return Ok(Cdcl {
                 search,
-                stage: Stage::Empty,
+                status: SolverStatus::Empty,
             });
         }
         if let Some(conflict) = search.begin()? {
             search.refute(conflict)?;
             return Ok(Cdcl {
                 search,
-                stage: Stage::Refuted,
+                status: SolverStatus::Refuted,
             });
         }
         Ok(Cdcl {
             search,
-            stage: Stage::Undecided,
+            status: SolverStatus::Undecided,
         })
     }
 
-    fn probe(&mut self, targets: &[Lit], cones: Cones, limit: u32) -> Result<Probed, AllocError> {
-        match self.stage {
-            Stage::Undecided => {}
-            Stage::Empty => return Ok(Probed::Refuted),
-            Stage::Refuted => return Ok(Probed::Refuted),
-            Stage::Failed => return Err(AllocError),
+    fn solve_assuming(
+        &mut self,
+        assumptions: &[Lit],
+        cones: Cones,
+        limit: u32,
+    ) -> Result<AssumptionResult, AllocError> {
+        match self.status {
+            SolverStatus::Undecided => {}
+            SolverStatus::Empty => return Ok(AssumptionResult::Refuted),
+            SolverStatus::Refuted => return Ok(AssumptionResult::Refuted),
+            SolverStatus::Failed => return Err(AllocError),
         }
-        self.stage = Stage::Failed;
-        match self.search.probe(targets, &cones, limit)? {
+        self.status = SolverStatus::Failed;
+        match self.search.solve_assuming(assumptions, &cones, limit)? {
             None => {
-                self.stage = Stage::Refuted;
-                Ok(Probed::Refuted)
+                self.status = SolverStatus::Refuted;
+                Ok(AssumptionResult::Refuted)
             }
-            Some(probed) => {
-                self.stage = Stage::Undecided;
-                Ok(probed)
+            Some(outcome) => {
+                self.status = SolverStatus::Undecided;
+                Ok(outcome)
             }
         }
     }
@@ -92,11 +97,11 @@ impl Solver for Cdcl {
         if self.search.trail.is_free(lit) {
             return None;
         }
-        Some(self.search.trail.fell(lit) == 0)
+        Some(self.search.trail.falsified_at(lit) == 0)
     }
 
     fn finish(self, alloc: Global, budget: u32) -> Result<Solved, AllocError> {
-        let Cdcl { mut search, stage } = self;
-        conclude(&mut search, stage, alloc, budget)
+        let Cdcl { mut search, status } = self;
+        conclude(&mut search, status, alloc, budget)
     }
 }

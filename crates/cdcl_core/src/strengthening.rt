@@ -11,25 +11,27 @@
 ghost use Rattle.std.specs.Prelude.{◌≡◌, ℕ, ◌+◌, ◌<◌, ◌≤◌, [], length, IsTrue, IfOk, IfSome, IfNone, OnOk};
 ghost use Rattle.sat_theory.specs.Formula.{Formula, IsClause, IsWithin};
 ghost use Rattle.sat_theory.specs.Holding.{among, HintsHold};
-ghost use Rattle.sat_theory.specs.Log.{IsNew};
-ghost use Rattle.cdcl_theory.specs.Falling.{IsFalsified};
-ghost use Rattle.cdcl_theory.specs.Trails.{fell as fell_of};
+ghost use Rattle.sat_theory.specs.Log.{IsUnsubsumed};
+ghost use Rattle.cdcl_theory.specs.Propagation.{IsFalsified};
+ghost use Rattle.cdcl_theory.specs.Trails.{falsified_at as falsified_in};
 ghost use Rattle.clause_db.specs.Stored.{live_in, added};
 ghost use Rattle.subsume_core.specs.Units.{IsUnitsOf};
 
-use crate::scope::release_open;
+use crate::scope::release_decisions;
 use crate::search::{Search, Shorter};
 use clause_db::ClauseDb;
 use cnf_core::Lit;
 use std::alloc::{AllocError, Global};
-use subsume_core::{Finder, Found, Marks, Units, contains_all, holds, is_new, keep_others};
+use subsume_core::{
+    Finder, LitFlags, Simplification, Units, contains_all, holds, is_unsubsumed, keep_others,
+};
 
 /// The data structures for strengthening.
 #[derive(Drop)]
 pub(crate) struct Work {
     pub(crate) finder: Finder,
     pub(crate) units: Units,
-    pub(crate) marks: Marks,
+    pub(crate) marks: LitFlags,
     pub(crate) rest: Vec<Lit>,
     pub(crate) known: Vec<Lit>,
 }
@@ -41,39 +43,40 @@ fn work_on(alloc: Global, clauses: &ClauseDb, given: u32) -> Result<Work, AllocE
     Ok(Work {
         finder: Finder::new(alloc, clauses, given)?,
         units: Units::new(alloc, clauses)?,
-        marks: Marks::new(alloc, clauses.vars())?,
+        marks: LitFlags::new(alloc, clauses.vars())?,
         rest: Vec::new(alloc),
         known: Vec::new(alloc),
     })
 }
 
 impl Search {
-    ghost use Rattle.cdcl_core.specs.Searching.{IsSearching, IsVisited, IsLogged, HasRestarted};
-    ghost use Rattle.cdcl_core.specs.Strengthening.{IsBare, IsAlike, IsStrengthening, HasStrengthened, CanStand, HasSetAside, HasAdded};
+    ghost use Rattle.cdcl_core.specs.Searching.{IsSearching, HasWatchInvariant, IsLogged, HasRestarted};
+    ghost use Rattle.cdcl_core.specs.Strengthening.{IsUnassigned, KeepsLimits, IsStrengthening, HasStrengthened};
+    ghost use Rattle.cdcl_core.specs.Strengthening.{CanReplace, HasRemoved, HasAdded};
 
     /// Unassigns all variables, those of level 0 too.
-    fn rewind(&mut self)
+    fn unassign_all(&mut self)
         requires searching { IsSearching self.old }
         requires bottom { self.old.starts.items ≡ [] }
-        ensures bare { IsBare self.new }
+        ensures unassigned { IsUnassigned self.new }
         ensures restarted { HasRestarted self.old self.new }
     {
-        release_open(&mut self.scope, &self.trail, 0);
-        self.choice.back_to(&mut self.trail, 0);
+        release_decisions(&mut self.scope, &self.trail, 0);
+        self.decision_heap.backtrack(&mut self.trail, 0);
         self.head = 0;
     }
 
     /// Adds an irredundant clause that follows by hints and that no live clause subsumes.
     fn add_shorter(&mut self, lits: &[Lit], hints: &[u32]) -> Result<(), AllocError>
-        requires bare { IsBare self.old }
+        requires unassigned { IsUnassigned self.old }
         requires clause { IsClause lits.now }
         requires within { IsWithin self.old.clauses.vars lits.now }
         requires some { 0 < length lits.now }
         requires hold { HintsHold (live_in self.old.clauses) (among lits.now) hints.now }
-        requires new { IsNew (live_in self.old.clauses) lits.now }
+        requires new { IsUnsubsumed (live_in self.old.clauses) lits.now }
         requires few { length self.old.clauses.clauses < 4000000000 }
         requires high { self.old.shorter.high ≡ length self.old.clauses.clauses }
-        ensures bare { OnOk result (IsBare self.new) }
+        ensures unassigned { OnOk result (IsUnassigned self.new) }
         ensures clauses { OnOk result (self.new.clauses ≡ added self.old.clauses lits.now) }
         ensures added { OnOk result (HasAdded self.old self.new) }
         ensures logged { (f : Formula) → IsLogged f self.old → OnOk result (IsLogged f self.new) }
@@ -84,13 +87,13 @@ impl Search {
             low: self.shorter.low,
             high: id,
         };
-        self.merits.note_shorter()?;
+        self.clause_scores.note_shorter()?;
         Ok(())
     }
 
     /// Whether a clause of the formula may be deleted, since another irredundant clause `by` subsumes it.
-    fn can_stand(&self, by: u32, id: u32) -> bool
-        ensures { IsTrue result → CanStand self.now by id }
+    fn can_replace(&self, by: u32, id: u32) -> bool
+        ensures { IsTrue result → CanReplace self.now by id }
     {
         if by == id || id > self.given || !self.is_irredundant(by) {
             return false;
@@ -102,13 +105,13 @@ impl Search {
     }
 
     /// Deletes a clause of the formula from the search, but not from the log, if the clause `by` subsumes it.
-    fn set_aside(&mut self, id: u32, by: u32)
-        requires bare { IsBare self.old }
-        ensures bare { IsBare self.new }
-        ensures aside { HasSetAside self.old self.new }
+    fn remove_subsumed(&mut self, id: u32, by: u32)
+        requires unassigned { IsUnassigned self.old }
+        ensures unassigned { IsUnassigned self.new }
+        ensures aside { HasRemoved self.old self.new }
         ensures logged { (f : Formula) → IsLogged f self.old → IsLogged f self.new }
     {
-        if !self.can_stand(by, id) {
+        if !self.can_replace(by, id) {
             return;
         }
         self.clauses.delete(id);
@@ -136,7 +139,7 @@ impl Search {
         if work.rest.is_empty() {
             return Ok(());
         }
-        if !is_new(&self.clauses, &work.units, &mut work.marks, &work.rest) {
+        if !is_unsubsumed(&self.clauses, &work.units, &mut work.marks, &work.rest) {
             return Ok(());
         }
         let hints = work.finder.hints();
@@ -146,7 +149,7 @@ impl Search {
         self.add_shorter(&work.rest, hints)?;
         work.units.note(&work.rest);
         work.finder.note(&work.rest, last + 1)?;
-        self.set_aside(id, last + 1);
+        self.remove_subsumed(id, last + 1);
         Ok(())
     }
 
@@ -160,12 +163,12 @@ impl Search {
         ensures logged { (f : Formula) → IsLogged f self.old → OnOk result (IsLogged f self.new) }
     {
         match work.finder.find(&self.clauses, id)? {
-            Found::Nothing => Ok(()),
-            Found::Subsumed(by) => {
-                self.set_aside(id, by);
+            Simplification::Nothing => Ok(()),
+            Simplification::Subsumed(by) => {
+                self.remove_subsumed(id, by);
                 Ok(())
             }
-            Found::Shorter => self.replace(work, id, end),
+            Simplification::Shorter => self.replace(work, id, end),
         }
     }
 
@@ -186,12 +189,12 @@ impl Search {
     }
 
     /// Makes the data structures, and subsumes or strengthens all clauses.
-    fn strengthen_bare(&mut self, end: u32) -> Result<(), AllocError>
-        requires bare { IsBare self.old }
+    fn strengthen_unassigned(&mut self, end: u32) -> Result<(), AllocError>
+        requires unassigned { IsUnassigned self.old }
         requires full { (id : ℕ) → live_in self.old.clauses id ≡ Some [] → ⊥ }
         requires high { self.old.shorter.high ≡ length self.old.clauses.clauses }
         requires end { end ≤ 4000000000 }
-        ensures bare { OnOk result (IsBare self.new) }
+        ensures unassigned { OnOk result (IsUnassigned self.new) }
         ensures strengthened { OnOk result (HasStrengthened end self.old self.new) }
         ensures low { OnOk result (self.new.shorter.low ≡ self.old.shorter.low) }
         ensures logged { (f : Formula) → IsLogged f self.old → OnOk result (IsLogged f self.new) }
@@ -204,11 +207,11 @@ impl Search {
 
     /// Sets where the ids of strengthened clauses begin.
     fn begin_shorter(&mut self)
-        requires bare { IsBare self.old }
+        requires unassigned { IsUnassigned self.old }
         requires first { self.old.shorter.high ≡ 0 }
-        ensures bare { IsBare self.new }
+        ensures unassigned { IsUnassigned self.new }
         ensures clauses { self.new.clauses ≡ self.old.clauses }
-        ensures alike { IsAlike self.old self.new }
+        ensures limits { KeepsLimits self.old self.new }
         ensures low { self.new.shorter.low ≡ length self.new.clauses.clauses }
         ensures high { self.new.shorter.high ≡ length self.new.clauses.clauses }
         ensures logged { (f : Formula) → IsLogged f self.old → IsLogged f self.new }
@@ -224,21 +227,22 @@ impl Search {
     /// clauses at level 0 again. It returns the id of a falsified clause, if there is one.
     pub(crate) fn strengthen(&mut self, end: u32) -> Result<Option<u32>, AllocError>
         requires searching { IsSearching self.old }
-        requires visited { IsVisited self.old }
+        requires visited { HasWatchInvariant self.old }
         requires bottom { self.old.starts.items ≡ [] }
         requires first { self.old.shorter.high ≡ 0 }
         requires end { end ≤ 4000000000 }
         ensures searching { IfOk result (λ _. IsSearching self.new) }
         ensures bottom { IfOk result (λ _. self.new.starts.items ≡ []) }
-        ensures visited { IfOk result (λ found. IfNone found (IsVisited self.new)) }
-        ensures conflict { IfOk result (λ found. IfSome found (IsFalsified (live_in self.new.clauses) (fell_of self.new.trail))) }
+        ensures visited { IfOk result (λ found. IfNone found (HasWatchInvariant self.new)) }
+        ensures conflict { IfOk result (λ found.
+            IfSome found (IsFalsified (live_in self.new.clauses) (falsified_in self.new.trail))) }
         ensures strengthened { IfOk result (λ _. HasStrengthened end self.old self.new) }
         ensures low { IfOk result (λ _. self.new.shorter.low ≡ length self.old.clauses.clauses) }
         ensures logged { (f : Formula) → IsLogged f self.old → IfOk result (λ _. IsLogged f self.new) }
     {
-        self.rewind();
+        self.unassign_all();
         self.begin_shorter();
-        self.strengthen_bare(end)?;
+        self.strengthen_unassigned(end)?;
         self.clauses.compact();
         self.begin()
     }

@@ -1,11 +1,11 @@
 //! The first step of a search: unit clauses aren't watched, so they are assigned once, at level 0.
 ghost use Rattle.std.specs.Prelude.{◌≡◌, [], IfOk, IfSome, IfNone};
-ghost use Rattle.cdcl_theory.specs.Falling.{IsFalsified};
-ghost use Rattle.cdcl_theory.specs.Trails.{IsTrail, IsGrown, fell as fell_of};
+ghost use Rattle.cdcl_theory.specs.Propagation.{IsFalsified};
+ghost use Rattle.cdcl_theory.specs.Trails.{IsTrail, IsGrown, falsified_at as falsified_in};
 ghost use Rattle.clause_db.specs.Stored.{live_in};
-ghost use Rattle.cdcl_core.specs.Guarding.{IsGuarded};
+ghost use Rattle.cdcl_core.specs.WatchInvariant.{KeepsWatchInvariant};
 
-use crate::judgement::{Verdict, judge};
+use crate::judgement::{ClauseStatus, judge};
 use clause_db::ClauseDb;
 use std::alloc::AllocError;
 use trail_core::Trail;
@@ -16,8 +16,9 @@ pub(crate) fn push_units(trail: &mut Trail, clauses: &ClauseDb) -> Result<Option
     requires vars { clauses.now.vars ≡ trail.old.vars }
     ensures whole { IsTrail trail.new }
     ensures grown { IfOk result (λ _. IsGrown (live_in clauses.now) trail.old trail.new) }
-    ensures guarded { IfOk result (λ found. IfNone found (IsGuarded clauses.now (fell_of trail.new) [] 0)) }
-    ensures conflict { IfOk result (λ found. IfSome found (IsFalsified (live_in clauses.now) (fell_of trail.new))) }
+    ensures guarded { IfOk result (λ found. IfNone found
+        (KeepsWatchInvariant clauses.now (falsified_in trail.new) [] 0)) }
+    ensures conflict { IfOk result (λ found. IfSome found (IsFalsified (live_in clauses.now) (falsified_in trail.new))) }
 {
     for index in 0..clauses.last() {
         let id = index + 1;
@@ -25,9 +26,9 @@ pub(crate) fn push_units(trail: &mut Trail, clauses: &ClauseDb) -> Result<Option
             continue;
         }
         match judge(trail, clauses.arranged(id)) {
-            Verdict::Settled => continue,
-            Verdict::Falsified => return Ok(Some(id)),
-            Verdict::Unit(lit) => trail.push(lit, id)?,
+            ClauseStatus::Settled => continue,
+            ClauseStatus::Falsified => return Ok(Some(id)),
+            ClauseStatus::Unit(lit) => trail.push(lit, id)?,
         }
     }
     Ok(None)

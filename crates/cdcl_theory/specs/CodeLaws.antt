@@ -9,7 +9,7 @@ use Rattle.std.proofs.lemmas.Grind.{common_steps}
 use Rattle.sat_theory.specs.Formula.{variable, opposite}
 use Rattle.sat_theory.specs.Holding.{with_literal}
 use Rattle.cnf_core.specs.Codes.{code_of}
-use Rattle.cdcl_theory.specs.Codes.{place_in, with_place, marked_in, without_literal}
+use Rattle.cdcl_theory.specs.Codes.{position_in, with_position, marked_in, without_literal}
 pub use Rattle.cnf_core.specs.CodeLaws.{code_of-same}
 
 -- the entries of the variables 1 to n fit a table of 2 n + 2
@@ -41,7 +41,9 @@ same_variable (negsuc a) (pos (suc b)) e = let h : suc a ≡ suc b = e in let sa
 same_variable (negsuc a) (negsuc b) e = let h : suc a ≡ suc b = e in let same : a ≡ b = omega arith in inl (ap (λ (n : ℕ). negsuc n) same)
 
 pub cases_literal : (l m : ℤ) → (l ≡ m) ⊎ (l ≡ m → ⊥)
-cases_literal l m = ⊎_elim (λ (is : int_eq l m ≡ true). inl ((Decides-int_eq l m).0 is)) (λ (other : int_eq l m ≡ false). inr (λ same. let is : int_eq l m ≡ true = (Decides-int_eq l m).1 same in absurd (cc))) (cases_Bool (int_eq l m))
+cases_literal l m = ⊎_elim (λ (is : int_eq l m ≡ true). inl ((Decides-int_eq l m).0 is))
+    (λ (other : int_eq l m ≡ false). inr (λ same. let is : int_eq l m ≡ true = (Decides-int_eq l m).1 same in
+    absurd (cc))) (cases_Bool (int_eq l m))
 
 pub int_eq-same : (l m : ℤ) → l ≡ m → int_eq l m ≡ true
 int_eq-same l m e = (Decides-int_eq l m).1 e
@@ -50,11 +52,11 @@ pub int_eq-other : (l m : ℤ) → (l ≡ m → ⊥) → int_eq l m ≡ false
 int_eq-other l m apart = grind (arith, Decides-int_eq l m)
 
 -- the position of the literal that was written, and those of the others
-pub with_place-same : (places : ℤ → ℕ) (l m : ℤ) (p : ℕ) → m ≡ l → with_place places l p m ≡ p
-with_place-same places l m p e = rw (int_eq-same m l e) refl
+pub with_position-same : (positions : ℤ → ℕ) (l m : ℤ) (p : ℕ) → m ≡ l → with_position positions l p m ≡ p
+with_position-same positions l m p e = rw (int_eq-same m l e) refl
 
-pub with_place-other : (places : ℤ → ℕ) (l m : ℤ) (p : ℕ) → (m ≡ l → ⊥) → with_place places l p m ≡ places m
-with_place-other places l m p apart = rw (int_eq-other m l apart) refl
+pub with_position-other : (positions : ℤ → ℕ) (l m : ℤ) (p : ℕ) → (m ≡ l → ⊥) → with_position positions l p m ≡ positions m
+with_position-other positions l m p apart = rw (int_eq-other m l apart) refl
 
 -- membership after a literal is added to a set, and after one is removed
 pub with_literal-cases : (set : ℤ → Bool) (l m : ℤ) → with_literal set l m ≡ true → (m ≡ l) ⊎ (set m ≡ true)
@@ -79,8 +81,8 @@ read_same table i j y d same room = grind (arith, common_steps)
 read_other : {X : Type 0} (table : List X) (i j : ℕ) (y d : X) → (j ≡ i → ⊥) → slice_index_or (slice_set table i y) j d ≡ slice_index_or table j d
 read_other table i j y d apart = grind (arith, common_steps)
 
-place_set : (table : List ℕ) (l m : ℤ) (p : ℕ) → code_of l < length table → place_in (slice_set table (code_of l) p) m ≡ with_place (place_in table) l p m
-unfolding place_in
+place_set : (table : List ℕ) (l m : ℤ) (p : ℕ) → code_of l < length table → position_in (slice_set table (code_of l) p) m ≡ with_position (position_in table) l p m
+unfolding position_in
 place_set table l m p room =
     ⊎_elim
     (λ (same : m ≡ l). let e : int_eq m l ≡ true = int_eq-same m l same in rw e (read_same table (code_of l) (code_of m) p 0 (ap code_of same) room))
@@ -88,8 +90,8 @@ place_set table l m p room =
     (cases_literal m l)
 
 -- Writing an entry changes the function at its literal alone.
-pub place_in-set : (table : List ℕ) (l : ℤ) (p : ℕ) → code_of l < length table → place_in (slice_set table (code_of l) p) ≡ with_place (place_in table) l p
-place_in-set table l p room = λ i m. place_set table l m p room i
+pub position_in-set : (table : List ℕ) (l : ℤ) (p : ℕ) → code_of l < length table → position_in (slice_set table (code_of l) p) ≡ with_position (position_in table) l p
+position_in-set table l p room = λ i m. place_set table l m p room i
 
 mark_set : (marks : List Bool) (l m : ℤ) → code_of l < length marks → marked_in (slice_set marks (code_of l) true) m ≡ with_literal (marked_in marks) l m
 unfolding marked_in
@@ -115,9 +117,9 @@ pub marked_in-unset : (marks : List Bool) (l : ℤ) → code_of l < length marks
 marked_in-unset marks l room = λ i m. mark_unset marks l m room i
 
 -- in tables of defaults no literal is false, and none is marked
-pub place_in-none : (n : ℕ) (l : ℤ) → place_in (replicate n 0) l ≡ 0
-unfolding place_in
-place_in-none n l = ⊎_elim (λ (within : code_of l < n). grind (arith, common_steps)) (λ (past : n ≤ code_of l). grind (arith, common_steps)) (cases_lt (code_of l) n)
+pub position_in-none : (n : ℕ) (l : ℤ) → position_in (replicate n 0) l ≡ 0
+unfolding position_in
+position_in-none n l = ⊎_elim (λ (within : code_of l < n). grind (arith, common_steps)) (λ (past : n ≤ code_of l). grind (arith, common_steps)) (cases_lt (code_of l) n)
 
 pub marked_in-none : (n : ℕ) (l : ℤ) → marked_in (replicate n false) l ≡ false
 unfolding marked_in

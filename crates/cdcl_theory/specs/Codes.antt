@@ -4,12 +4,12 @@ use Rattle.std.specs.Ordering.{int_eq}
 pub use Rattle.cnf_core.specs.Codes.{code_of}
 
 -- a table of numbers, as a function
-unfoldable pub place_in : List ℕ → ℤ → ℕ
-place_in table l = slice_index_or table (code_of l) 0
+unfoldable pub position_in : List ℕ → ℤ → ℕ
+position_in table l = slice_index_or table (code_of l) 0
 
 -- the same function except at one literal
-abbrev pub with_place : (ℤ → ℕ) → ℤ → ℕ → ℤ → ℕ
-with_place places l p m = if int_eq m l then p else places m
+abbrev pub with_position : (ℤ → ℕ) → ℤ → ℕ → ℤ → ℕ
+with_position positions l p m = if int_eq m l then p else positions m
 
 -- a table of marks, as a set of literals
 unfoldable pub marked_in : List Bool → ℤ → Bool

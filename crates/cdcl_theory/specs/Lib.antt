@@ -1,7 +1,7 @@
 pub mod Codes
 pub mod CodeLaws
-pub mod Falling
-pub mod FallingLaws
+pub mod Propagation
+pub mod PropagationLaws
 pub mod Trails
 pub mod TrailLaws
 pub mod Resolving

@@ -9,8 +9,8 @@ use Rattle.chain_core.specs.declared.error.ChainError.{ChainError}
 use Rattle.chain_core.specs.Block.{◌>>=◌, steps_from, step_at, outs_from, out_at, body_from}
 use Rattle.chain_core.specs.Reading as reading
 use Rattle.chain_core.specs.BlockLaws.{steps_done}
-use Rattle.cert_theory.specs.declared.data.Heading.{Heading}
-use Rattle.cert_theory.specs.declared.data.BundleError.{BundleError}
+use Rattle.cert_theory.specs.declared.data.Header.{Header}
+use Rattle.cert_theory.specs.declared.data.CertificateError.{CertificateError}
 use Rattle.cert_theory.specs.Judging.{with_block, frame_of}
 use Rattle.cert_theory.specs.Gives.{Fails}
 use Rattle.cert_file.specs.Stages.{outs_then, steps_then}
@@ -27,7 +27,7 @@ unfolding body_from
 body_is f ls = refl
 
 -- the frame of the chain's grammar
-pub frame_is : (h : Heading) (number steps n outputs : ℕ) → n ≡ h.spec.n → outputs ≡ length h.spec.on → frame_of h number steps ≡ record { first_line = number; n = n; outputs = outputs; steps = steps }
+pub frame_is : (h : Header) (number steps n outputs : ℕ) → n ≡ h.spec.n → outputs ≡ length h.spec.on → frame_of h number steps ≡ record { first_line = number; n = n; outputs = outputs; steps = steps }
 frame_is h number steps n outputs inputs_is outputs_is = λ i. record { first_line = number; n = sym inputs_is i; outputs = sym outputs_is i; steps = steps }
 
 -- ---- steps
@@ -36,24 +36,38 @@ step_is : (f : Frame) (steps : List Step) (l : Line) (ls : List Line) → length
 unfolding steps_from
 step_is f steps l ls due = ap (λ (b : Bool). cond b (Ok (steps, l ∷ ls)) (step_at f (length steps) l >>= λ s. steps_from f (steps ++ s ∷ []) ls)) (not_yet (length steps) f.steps due)
 
-pub step_fails : (h : Heading) (f : Frame) (low : Option ℕ) (steps : List Step) (done : ℕ) (l : Line) (ls : List Line) (error : ChainError) (e : BundleError) → done ≡ length steps → length steps < f.steps → reading.Fails error (step_at f done l) → IsRefusal error e → Fails e (with_block h f low (steps_then f (steps_from f steps (l ∷ ls))))
+pub step_fails : (h : Header) (f : Frame) (low : Option ℕ) (steps : List Step) (done : ℕ) (l : Line) (ls : List Line)
+    (error : ChainError) (e : CertificateError) → done ≡ length steps → length steps < f.steps →
+    reading.Fails error (step_at f done l) → IsRefusal error e →
+    Fails e (with_block h f low (steps_then f (steps_from f steps (l ∷ ls))))
 step_fails h f low steps done l ls error e same due fails is =
     block_fails h f low (steps_then f (steps_from f steps (l ∷ ls))) error e
     (fails_on error (step_at f done l) (steps_then f (steps_from f steps (l ∷ ls)))
-    (λ d told. ap (steps_then f) (step_is f steps l ls due ∙ ap (λ (r : Result Step ChainError). r >>= λ s. steps_from f (steps ++ s ∷ []) ls) (ap (λ (n : ℕ). step_at f n l) (sym same) ∙ told))) fails) is
+    (λ d claim. ap (steps_then f) (step_is f steps l ls due
+    ∙ ap (λ (r : Result Step ChainError). r >>= λ s. steps_from f (steps ++ s ∷ []) ls)
+    (ap (λ (n : ℕ). step_at f n l) (sym same) ∙ claim))) fails) is
 
-pub step_reads : (f : Frame) (steps : List Step) (done : ℕ) (l : Line) (ls : List Line) (s : Step) → done ≡ length steps → length steps < f.steps → step_at f done l ≡ Ok s → steps_then f (steps_from f steps (l ∷ ls)) ≡ steps_then f (steps_from f (steps ++ s ∷ []) ls)
+pub step_reads : (f : Frame) (steps : List Step) (done : ℕ) (l : Line) (ls : List Line) (s : Step) →
+    done ≡ length steps → length steps < f.steps → step_at f done l ≡ Ok s →
+    steps_then f (steps_from f steps (l ∷ ls)) ≡ steps_then f (steps_from f (steps ++ s ∷ []) ls)
 step_reads f steps done l ls s same due read =
-    ap (λ (r : Result (List Step × List Line) ChainError). steps_then f r) (step_is f steps l ls due ∙ ap (λ (r : Result Step ChainError). r >>= λ s. steps_from f (steps ++ s ∷ []) ls) (ap (λ (n : ℕ). step_at f n l) (sym same) ∙ read))
+    ap (λ (r : Result (List Step × List Line) ChainError). steps_then f r) (step_is f steps l ls due
+    ∙ ap (λ (r : Result Step ChainError). r >>= λ s. steps_from f (steps ++ s ∷ []) ls)
+    (ap (λ (n : ℕ). step_at f n l) (sym same) ∙ read))
 
-pub step_goes : (h : Heading) (f : Frame) (low : Option ℕ) (steps : List Step) (done : ℕ) (l : Line) (ls : List Line) (s : Step) → done ≡ length steps → length steps < f.steps → step_at f done l ≡ Ok s → with_block h f low (steps_then f (steps_from f steps (l ∷ ls))) ≡ with_block h f low (steps_then f (steps_from f (steps ++ s ∷ []) ls))
+pub step_goes : (h : Header) (f : Frame) (low : Option ℕ) (steps : List Step) (done : ℕ) (l : Line) (ls : List Line)
+    (s : Step) → done ≡ length steps → length steps < f.steps → step_at f done l ≡ Ok s →
+    with_block h f low (steps_then f (steps_from f steps (l ∷ ls))) ≡
+    with_block h f low (steps_then f (steps_from f (steps ++ s ∷ []) ls))
 step_goes h f low steps done l ls s same due read = ap (with_block h f low) (step_reads f steps done l ls s same due read)
 
 -- all steps were read
 pub steps_out : (f : Frame) (steps : List Step) (ls : List Line) → length steps ≡ f.steps → steps_then f (steps_from f steps ls) ≡ outs_then f steps (outs_from f [] ls)
 steps_out f steps ls all = ap (λ (r : Result (List Step × List Line) ChainError). steps_then f r) (steps_done f steps ls all)
 
-pub steps_end : (h : Heading) (f : Frame) (low : Option ℕ) (steps : List Step) (ls : List Line) → length steps ≡ f.steps → with_block h f low (steps_then f (steps_from f steps ls)) ≡ with_block h f low (outs_then f steps (outs_from f [] ls))
+pub steps_end : (h : Header) (f : Frame) (low : Option ℕ) (steps : List Step) (ls : List Line) →
+    length steps ≡ f.steps → with_block h f low (steps_then f (steps_from f steps ls)) ≡
+    with_block h f low (outs_then f steps (outs_from f [] ls))
 steps_end h f low steps ls all = ap (with_block h f low) (steps_out f steps ls all)
 
 -- ---- outs
@@ -62,15 +76,27 @@ out_is : (f : Frame) (os : List Out) (l : Line) (ls : List Line) → length os <
 unfolding outs_from
 out_is f os l ls due = ap (λ (b : Bool). cond b (Ok (os, l ∷ ls)) (out_at f (length os) l >>= λ o. outs_from f (os ++ o ∷ []) ls)) (not_yet (length os) f.outputs due)
 
-pub out_fails : (h : Heading) (f : Frame) (low : Option ℕ) (steps : List Step) (os : List Out) (done : ℕ) (l : Line) (ls : List Line) (error : ChainError) (e : BundleError) → done ≡ length os → length os < f.outputs → reading.Fails error (out_at f done l) → IsRefusal error e → Fails e (with_block h f low (outs_then f steps (outs_from f os (l ∷ ls))))
+pub out_fails : (h : Header) (f : Frame) (low : Option ℕ) (steps : List Step) (os : List Out) (done : ℕ) (l : Line)
+    (ls : List Line) (error : ChainError) (e : CertificateError) → done ≡ length os → length os < f.outputs →
+    reading.Fails error (out_at f done l) → IsRefusal error e →
+    Fails e (with_block h f low (outs_then f steps (outs_from f os (l ∷ ls))))
 out_fails h f low steps os done l ls error e same due fails is =
     block_fails h f low (outs_then f steps (outs_from f os (l ∷ ls))) error e
     (fails_on error (out_at f done l) (outs_then f steps (outs_from f os (l ∷ ls)))
-    (λ d told. ap (outs_then f steps) (out_is f os l ls due ∙ ap (λ (r : Result Out ChainError). r >>= λ o. outs_from f (os ++ o ∷ []) ls) (ap (λ (n : ℕ). out_at f n l) (sym same) ∙ told))) fails) is
+    (λ d claim. ap (outs_then f steps) (out_is f os l ls due
+    ∙ ap (λ (r : Result Out ChainError). r >>= λ o. outs_from f (os ++ o ∷ []) ls)
+    (ap (λ (n : ℕ). out_at f n l) (sym same) ∙ claim))) fails) is
 
-pub out_reads : (f : Frame) (steps : List Step) (os : List Out) (done : ℕ) (l : Line) (ls : List Line) (o : Out) → done ≡ length os → length os < f.outputs → out_at f done l ≡ Ok o → outs_then f steps (outs_from f os (l ∷ ls)) ≡ outs_then f steps (outs_from f (os ++ o ∷ []) ls)
+pub out_reads : (f : Frame) (steps : List Step) (os : List Out) (done : ℕ) (l : Line) (ls : List Line) (o : Out) →
+    done ≡ length os → length os < f.outputs → out_at f done l ≡ Ok o → outs_then f steps (outs_from f os (l ∷ ls)) ≡
+    outs_then f steps (outs_from f (os ++ o ∷ []) ls)
 out_reads f steps os done l ls o same due read =
-    ap (λ (r : Result (List Out × List Line) ChainError). outs_then f steps r) (out_is f os l ls due ∙ ap (λ (r : Result Out ChainError). r >>= λ o. outs_from f (os ++ o ∷ []) ls) (ap (λ (n : ℕ). out_at f n l) (sym same) ∙ read))
+    ap (λ (r : Result (List Out × List Line) ChainError). outs_then f steps r) (out_is f os l ls due
+    ∙ ap (λ (r : Result Out ChainError). r >>= λ o. outs_from f (os ++ o ∷ []) ls)
+    (ap (λ (n : ℕ). out_at f n l) (sym same) ∙ read))
 
-pub out_goes : (h : Heading) (f : Frame) (low : Option ℕ) (steps : List Step) (os : List Out) (done : ℕ) (l : Line) (ls : List Line) (o : Out) → done ≡ length os → length os < f.outputs → out_at f done l ≡ Ok o → with_block h f low (outs_then f steps (outs_from f os (l ∷ ls))) ≡ with_block h f low (outs_then f steps (outs_from f (os ++ o ∷ []) ls))
+pub out_goes : (h : Header) (f : Frame) (low : Option ℕ) (steps : List Step) (os : List Out) (done : ℕ) (l : Line)
+    (ls : List Line) (o : Out) → done ≡ length os → length os < f.outputs → out_at f done l ≡ Ok o →
+    with_block h f low (outs_then f steps (outs_from f os (l ∷ ls))) ≡
+    with_block h f low (outs_then f steps (outs_from f (os ++ o ∷ []) ls))
 out_goes h f low steps os done l ls o same due read = ap (with_block h f low) (out_reads f steps os done l ls o same due read)

@@ -6,5 +6,5 @@ pub mod Blocks
 pub mod Chains
 pub mod Keeping
 pub mod Taking
-pub mod Standing
+pub mod StageAnswers
 pub mod Verdicts

@@ -4,86 +4,114 @@ use Rattle.std.specs.Prelude.{IfOk}
 use Rattle.text_core.specs.Lines.{Line}
 use Rattle.sat_theory.specs.Formula.{Formula}
 use Rattle.sat_theory.specs.Line as theory
-use Rattle.enc_theory.specs.declared.part.Part.{Part}
-use Rattle.enc_theory.specs.declared.part.Part.TheVariants.{Whole, Levels}
-use Rattle.cert_theory.specs.Bundle.{formula_of}
-use Rattle.cert_theory.specs.declared.data.Heading.{Heading}
+use Rattle.enc_theory.specs.declared.subproblem.Subproblem.{Subproblem}
+use Rattle.enc_theory.specs.declared.subproblem.Subproblem.TheVariants.{Whole, Levels}
+use Rattle.cert_theory.specs.Certificate.{formula_of}
+use Rattle.cert_theory.specs.declared.data.Header.{Header}
 use Rattle.cert_theory.specs.declared.data.Ended.{Ended}
 use Rattle.cert_theory.specs.declared.data.Verdict.{Verdict}
-use Rattle.cert_theory.specs.declared.data.BundleError.{BundleError}
-use Rattle.cert_theory.specs.declared.data.BundleError.TheVariants.{Syntax}
-use Rattle.cert_theory.specs.declared.data.PartError.{PartError}
-use Rattle.cert_theory.specs.Gives.{◌>>=◌, Fails, PartFails}
-use Rattle.cert_theory.specs.PartLines.{title_in, ended_in, part_in}
-use Rattle.cert_theory.specs.Judging.{or_syntax, before, Place, Due, Begun, Within, may_follow, Progress, fault_at, at_line, behind_line, sections_of}
-use Rattle.cert_file.specs.Titled.{IsTitled}
+use Rattle.cert_theory.specs.declared.data.CertificateError.{CertificateError}
+use Rattle.cert_theory.specs.declared.data.CertificateError.TheVariants.{Syntax}
+use Rattle.cert_theory.specs.declared.data.SubproblemError.{SubproblemError}
+use Rattle.cert_theory.specs.Gives.{◌>>=◌, Fails, SubproblemFails}
+use Rattle.cert_theory.specs.SubproblemLines.{name_in, ended_in, subproblem_in}
+use Rattle.cert_theory.specs.Judging.{or_syntax, before, SectionState, Due, Begun, Within, may_follow, Progress, fault_at, at_line, after_line, sections_of}
+use Rattle.cert_file.specs.FenceNames.{IsFenceNamed}
 use Rattle.cert_theory.specs.GivesLaws.{fails_bind, located_fails}
 
-abbrev pub progress : ℕ → Option ℕ → Place → Progress
+abbrev pub progress : ℕ → Option ℕ → SectionState → Progress
 progress size low place = record { size = size; low = low; place = place }
 
-abbrev come : Progress → Result Progress BundleError
+abbrev come : Progress → Result Progress CertificateError
 come p = Ok p
 
-abbrev go_on : Heading → ℕ → List Line → Progress → Result Verdict BundleError
+abbrev go_on : Header → ℕ → List Line → Progress → Result Verdict CertificateError
 go_on h number ls next = sections_of h (number + 1) next ls
 
 -- ---- the line that begins a log
 
-pub begun_fails : (h : Heading) (number size : ℕ) (low : Option ℕ) (part : Part) (later : List Part) (l : Line) (ls : List Line) → ended_in l ≡ None → sections_of h number (progress size low (Begun part later)) (l ∷ ls) ≡ Err (Syntax number)
+pub begun_fails : (h : Header) (number size : ℕ) (low : Option ℕ) (subproblem : Subproblem) (later : List Subproblem)
+    (l : Line) (ls : List Line) → ended_in l ≡ None →
+    sections_of h number (progress size low (Begun subproblem later)) (l ∷ ls) ≡ Err (Syntax number)
 unfolding sections_of
-begun_fails h number size low part later l ls none =
-    ap (λ (o : Option Ended). (or_syntax number o >>= λ ended. come (progress size low (Within part later ended []))) >>= go_on h number ls) none
+begun_fails h number size low subproblem later l ls none =
+    ap (λ (o : Option Ended). (or_syntax number o >>= λ ended. come (progress size low (Within subproblem later ended []))) >>= go_on h number ls) none
 
-pub begun_goes : (h : Heading) (number size : ℕ) (low : Option ℕ) (part : Part) (later : List Part) (l : Line) (ls : List Line) (ended : Ended) → ended_in l ≡ Some ended → sections_of h number (progress size low (Begun part later)) (l ∷ ls) ≡ sections_of h (number + 1) (progress size low (Within part later ended [])) ls
+pub begun_goes : (h : Header) (number size : ℕ) (low : Option ℕ) (subproblem : Subproblem) (later : List Subproblem)
+    (l : Line) (ls : List Line) (ended : Ended) → ended_in l ≡ Some ended →
+    sections_of h number (progress size low (Begun subproblem later)) (l ∷ ls) ≡
+    sections_of h (number + 1) (progress size low (Within subproblem later ended [])) ls
 unfolding sections_of
-begun_goes h number size low part later l ls ended e =
-    ap (λ (o : Option Ended). (or_syntax number o >>= λ ended. come (progress size low (Within part later ended []))) >>= go_on h number ls) e
+begun_goes h number size low subproblem later l ls ended e =
+    ap (λ (o : Option Ended). (or_syntax number o >>= λ ended. come (progress size low (Within subproblem later ended []))) >>= go_on h number ls) e
 
 -- ---- the lines of a log
 
-pub part_fails : (h : Heading) (number size : ℕ) (low : Option ℕ) (part : Part) (later : List Part) (ended : Ended) (log : List theory.Line) (l : Line) (ls : List Line) (e : PartError) → PartFails e (part_in (formula_of h size part) h.conflicts ended log l) → Fails (fault_at number e) (sections_of h number (progress size low (Within part later ended log)) (l ∷ ls))
+pub subproblem_fails : (h : Header) (number size : ℕ) (low : Option ℕ) (subproblem : Subproblem)
+    (later : List Subproblem) (ended : Ended) (log : List theory.Line) (l : Line) (ls : List Line)
+    (e : SubproblemError) → SubproblemFails e (subproblem_in (formula_of h size subproblem) h.conflicts ended log l) →
+    Fails (fault_at number e) (sections_of h number (progress size low (Within subproblem later ended log)) (l ∷ ls))
 unfolding sections_of
-part_fails h number size low part later ended log l ls e fails =
-    let read = part_in (formula_of h size part) h.conflicts ended log l in
-    fails_bind (fault_at number e) (at_line number read >>= λ step. come (behind_line size low part later ended log step)) (go_on h number ls)
-    (fails_bind (fault_at number e) (at_line number read) (λ step. come (behind_line size low part later ended log step)) (located_fails number e read fails))
+subproblem_fails h number size low subproblem later ended log l ls e fails =
+    let read = subproblem_in (formula_of h size subproblem) h.conflicts ended log l in
+    fails_bind (fault_at number e) (at_line number read >>= λ step. come (after_line size low subproblem later ended log step)) (go_on h number ls)
+    (fails_bind (fault_at number e) (at_line number read) (λ step. come (after_line size low subproblem later ended log step)) (located_fails number e read fails))
 
-pub part_goes : (h : Heading) (number size : ℕ) (low : Option ℕ) (part : Part) (later : List Part) (ended : Ended) (log : List theory.Line) (l : Line) (ls : List Line) (step : Option theory.Line) → part_in (formula_of h size part) h.conflicts ended log l ≡ Ok step → sections_of h number (progress size low (Within part later ended log)) (l ∷ ls) ≡ sections_of h (number + 1) (behind_line size low part later ended log step) ls
+pub subproblem_goes : (h : Header) (number size : ℕ) (low : Option ℕ) (subproblem : Subproblem)
+    (later : List Subproblem) (ended : Ended) (log : List theory.Line) (l : Line) (ls : List Line)
+    (step : Option theory.Line) → subproblem_in (formula_of h size subproblem) h.conflicts ended log l ≡ Ok step →
+    sections_of h number (progress size low (Within subproblem later ended log)) (l ∷ ls) ≡
+    sections_of h (number + 1) (after_line size low subproblem later ended log step) ls
 unfolding sections_of
-part_goes h number size low part later ended log l ls step e =
-    ap (λ (r : Result (Option theory.Line) PartError). (at_line number r >>= λ step. come (behind_line size low part later ended log step)) >>= go_on h number ls) e
+subproblem_goes h number size low subproblem later ended log l ls step e =
+    ap (λ (r : Result (Option theory.Line) SubproblemError). (at_line number r >>= λ step. come (after_line size low subproblem later ended log step)) >>= go_on h number ls) e
 
 -- ---- names
 
-due_fails : (h : Heading) (number size : ℕ) (low : Option ℕ) (sizes : List ℕ) (later : List Part) (l : Line) (ls : List Line) (e : PartError) → PartFails e (title_in (may_follow l) sizes l) → Fails (fault_at number e) (sections_of h number (progress size low (Due sizes later)) (l ∷ ls))
+due_fails : (h : Header) (number size : ℕ) (low : Option ℕ) (sizes : List ℕ) (later : List Subproblem) (l : Line)
+    (ls : List Line) (e : SubproblemError) → SubproblemFails e (name_in (may_follow l) sizes l) →
+    Fails (fault_at number e) (sections_of h number (progress size low (Due sizes later)) (l ∷ ls))
 unfolding sections_of
 due_fails h number size low sizes later l ls e fails =
-    let read = title_in (may_follow l) sizes l in
-    fails_bind (fault_at number e) (at_line number read >>= λ titled. come (progress size low (Begun (Levels sizes) later))) (go_on h number ls)
-    (fails_bind (fault_at number e) (at_line number read) (λ titled. come (progress size low (Begun (Levels sizes) later))) (located_fails number e read fails))
+    let read = name_in (may_follow l) sizes l in
+    fails_bind (fault_at number e) (at_line number read >>= λ is_named. come (progress size low (Begun (Levels sizes) later))) (go_on h number ls)
+    (fails_bind (fault_at number e) (at_line number read) (λ is_named. come (progress size low (Begun (Levels sizes) later))) (located_fails number e read fails))
 
-due_goes : (h : Heading) (number size : ℕ) (low : Option ℕ) (sizes : List ℕ) (later : List Part) (l : Line) (ls : List Line) → title_in (may_follow l) sizes l ≡ Ok tt → sections_of h number (progress size low (Due sizes later)) (l ∷ ls) ≡ sections_of h (number + 1) (progress size low (Begun (Levels sizes) later)) ls
+due_goes : (h : Header) (number size : ℕ) (low : Option ℕ) (sizes : List ℕ) (later : List Subproblem) (l : Line)
+    (ls : List Line) → name_in (may_follow l) sizes l ≡ Ok tt →
+    sections_of h number (progress size low (Due sizes later)) (l ∷ ls) ≡
+    sections_of h (number + 1) (progress size low (Begun (Levels sizes) later)) ls
 unfolding sections_of
-due_goes h number size low sizes later l ls e = ap (λ (r : Result (Unit {0}) PartError). (at_line number r >>= λ titled. come (progress size low (Begun (Levels sizes) later))) >>= go_on h number ls) e
+due_goes h number size low sizes later l ls e = ap (λ (r : Result (Unit {0}) SubproblemError).
+    (at_line number r >>= λ is_named. come (progress size low (Begun (Levels sizes) later))) >>= go_on h number ls) e
 
 -- a name that is due is at fault
-pub titled_fails : (part : Part) (h : Heading) (number size : ℕ) (low : Option ℕ) (later : List Part) (l : Line) (ls : List Line) (e : PartError) → IsTitled part (may_follow l) l (Err e) → Fails (fault_at number e) (sections_of h number (before size low (part ∷ later)) (l ∷ ls))
+pub named_fails : (subproblem : Subproblem) (h : Header) (number size : ℕ) (low : Option ℕ) (later : List Subproblem)
+    (l : Line) (ls : List Line) (e : SubproblemError) → IsFenceNamed subproblem (may_follow l) l (Err e) →
+    Fails (fault_at number e) (sections_of h number (before size low (subproblem ∷ later)) (l ∷ ls))
 unfolding before
-titled_fails Whole h number size low later l ls e is = absurd cc
-titled_fails (Levels sizes) h number size low later l ls e is = due_fails h number size low sizes later l ls e is
+named_fails Whole h number size low later l ls e is = absurd cc
+named_fails (Levels sizes) h number size low later l ls e is = due_fails h number size low sizes later l ls e is
 
 -- it was read
-pub titled_goes : (part : Part) (h : Heading) (number size : ℕ) (low : Option ℕ) (later : List Part) (l : Line) (ls : List Line) (titled : Bool) → titled ≡ true → IsTitled part (may_follow l) l (Ok titled) → sections_of h number (before size low (part ∷ later)) (l ∷ ls) ≡ sections_of h (number + 1) (progress size low (Begun part later)) ls
+pub named_goes : (subproblem : Subproblem) (h : Header) (number size : ℕ) (low : Option ℕ) (later : List Subproblem)
+    (l : Line) (ls : List Line) (is_named : Bool) → is_named ≡ true →
+    IsFenceNamed subproblem (may_follow l) l (Ok is_named) →
+    sections_of h number (before size low (subproblem ∷ later)) (l ∷ ls) ≡
+    sections_of h (number + 1) (progress size low (Begun subproblem later)) ls
 unfolding before
-titled_goes Whole h number size low later l ls titled e is = absurd cc
-titled_goes (Levels sizes) h number size low later l ls titled e is = due_goes h number size low sizes later l ls is.1
+named_goes Whole h number size low later l ls is_named e is = absurd cc
+named_goes (Levels sizes) h number size low later l ls is_named e is = due_goes h number size low sizes later l ls is.1
 
 -- there is none
-pub untitled_goes : (part : Part) (h : Heading) (number size : ℕ) (low : Option ℕ) (later : List Part) (ls : List Line) (l : Line) (titled : Bool) → titled ≡ false → IsTitled part (may_follow l) l (Ok titled) → sections_of h number (before size low (part ∷ later)) ls ≡ sections_of h number (progress size low (Begun part later)) ls
+pub untitled_goes : (subproblem : Subproblem) (h : Header) (number size : ℕ) (low : Option ℕ) (later : List Subproblem)
+    (ls : List Line) (l : Line) (is_named : Bool) → is_named ≡ false →
+    IsFenceNamed subproblem (may_follow l) l (Ok is_named) →
+    sections_of h number (before size low (subproblem ∷ later)) ls ≡
+    sections_of h number (progress size low (Begun subproblem later)) ls
 unfolding before
-untitled_goes Whole h number size low later ls l titled e is = refl
-untitled_goes (Levels sizes) h number size low later ls l titled e is = let opened = is.0 in absurd cc
+untitled_goes Whole h number size low later ls l is_named e is = refl
+untitled_goes (Levels sizes) h number size low later ls l is_named e is = let opened = is.0 in absurd cc
 
 -- ---- lists
 
@@ -103,6 +131,6 @@ pub same_first : {A : Type 0} (x y : A) (xs ys zs : List A) → zs ≡ x ∷ xs 
 same_first x y xs ys zs one two = cc
 
 -- the formula of a subproblem that equals another one
-pub formula_at : {E : Type 0} (r : Result Formula E) (h : Heading) (size : ℕ) (p q : Part) → p ≡ q → IfOk r (λ cnf. cnf ≡ formula_of h size p) → IfOk r (λ cnf. cnf ≡ formula_of h size q)
+pub formula_at : {E : Type 0} (r : Result Formula E) (h : Header) (size : ℕ) (p q : Subproblem) → p ≡ q → IfOk r (λ cnf. cnf ≡ formula_of h size p) → IfOk r (λ cnf. cnf ≡ formula_of h size q)
 formula_at (Ok f) h size p q same is = is ∙ ap (formula_of h size) same
 formula_at (Err e) h size p q same is = tt

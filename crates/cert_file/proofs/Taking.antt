@@ -12,11 +12,11 @@ use Rattle.chain_core.specs.declared.error.ChainError.{ChainError}
 use Rattle.chain_core.specs.declared.error.ChainError.TheVariants.{BadStep, BadOut}
 use Rattle.chain_core.specs.Block.{steps_from, outs_from}
 use Rattle.chain_core.specs.Steps.{step_of, steps_of}
-use Rattle.cert_theory.specs.declared.data.Heading.{Heading}
-use Rattle.cert_file.specs.declared.told.Told.{Told}
-use Rattle.cert_theory.specs.declared.data.BundleError.TheVariants.{Syntax}
-use Rattle.cert_theory.specs.Judging.{with_block, with_tables, behind_tables, behind_basis, behind_method, behind_conflicts, sections_of, behind_chain, end_of, bundle_of}
-use Rattle.cert_file.specs.Stages.{Answer, IsStage, Stands, told_in, steps_then, outs_then}
+use Rattle.cert_theory.specs.declared.data.Header.{Header}
+use Rattle.cert_file.specs.declared.claim.Claim.{Claim}
+use Rattle.cert_theory.specs.declared.data.CertificateError.TheVariants.{Syntax}
+use Rattle.cert_theory.specs.Judging.{with_block, with_tables, after_tables, after_basis, after_method, after_conflicts, sections_of, after_chain, end_of, certificate_of}
+use Rattle.cert_file.specs.Stages.{Answer, IsStage, AnswersLines, claim_in, steps_then, outs_then}
 use Rattle.cert_file.specs.declared.stage.Stage.{Stage}
 use Rattle.cert_file.specs.declared.stage.Stage.TheVariants.{Start, Inputs, Tables, Methods, Conflicts, Sizes, Between, Due, Begun, Within, Steps, Outs, Found, End, Done}
 
@@ -25,17 +25,20 @@ not_yet m n less = grind (arith, nat_tests)
 
 steps_short : (f : Frame) (steps : List chain.Step) → length steps < f.steps → steps_from f steps [] ≡ Err (BadStep (f.first_line + 1 + length steps))
 unfolding steps_from
-steps_short f steps due = ap (λ (b : Bool). let r : Result (List chain.Step × List Line) ChainError = cond b (Ok (steps, [])) (Err (BadStep (f.first_line + 1 + length steps))) in r) (not_yet (length steps) f.steps due)
+steps_short f steps due = ap (λ (b : Bool). let r : Result (List chain.Step × List Line) ChainError =
+    cond b (Ok (steps, [])) (Err (BadStep (f.first_line + 1 + length steps))) in r) (not_yet (length steps) f.steps due)
 
 outs_short : (f : Frame) (os : List Out) → length os < f.outputs → outs_from f os [] ≡ Err (BadOut (f.first_line + 1 + f.steps + length os))
 unfolding outs_from
-outs_short f os due = ap (λ (b : Bool). let r : Result (List Out × List Line) ChainError = cond b (Ok (os, [])) (Err (BadOut (f.first_line + 1 + f.steps + length os))) in r) (not_yet (length os) f.outputs due)
+outs_short f os due = ap (λ (b : Bool). let r : Result (List Out × List Line) ChainError =
+    cond b (Ok (os, [])) (Err (BadOut (f.first_line + 1 + f.steps + length os))) in
+    r) (not_yet (length os) f.outputs due)
 
-block_short : (h : Heading) (f : Frame) (low : Option ℕ) (number place : ℕ) → number ≡ place → with_block h f low (Err (BadStep place)) ≡ Err (Syntax number)
+block_short : (h : Header) (f : Frame) (low : Option ℕ) (number place : ℕ) → number ≡ place → with_block h f low (Err (BadStep place)) ≡ Err (Syntax number)
 unfolding with_block
 block_short h f low number place same = ap (λ (n : ℕ). let r : Answer = Err (Syntax n) in r) (sym same)
 
-block_short_outs : (h : Heading) (f : Frame) (low : Option ℕ) (number place : ℕ) → number ≡ place → with_block h f low (Err (BadOut place)) ≡ Err (Syntax number)
+block_short_outs : (h : Header) (f : Frame) (low : Option ℕ) (number place : ℕ) → number ≡ place → with_block h f low (Err (BadOut place)) ≡ Err (Syntax number)
 unfolding with_block
 block_short_outs h f low number place same = ap (λ (n : ℕ). let r : Answer = Err (Syntax n) in r) (sym same)
 
@@ -43,19 +46,19 @@ some_rows : (k : ℕ) → (suc k == 0) ≡ false
 some_rows k = grind (arith, nat_tests)
 
 rows_short : (n number : ℕ) (on care : List ℕ) → number ≡ 3 + length on → with_tables (rows_of (record { n = n; on = on; care = care }) []) ≡ Err (Syntax number)
-unfolding with_tables rows_of behind_tables
+unfolding with_tables rows_of after_tables
 rows_short n number [] care same = let three : 3 ≡ number = omega arith in ap (λ (k : ℕ). let r : Answer = Err (Syntax k) in r) three
 rows_short n number (x ∷ on) care same =
     ap (λ (b : Bool). with_tables (cond b (Err NoOutput) (Ok (record { words = record { n = n; on = x ∷ on; care = care }; rest = [] })))) (some_rows (length on))
     ∙ ap (λ (k : ℕ). let r : Answer = Err (Syntax k) in r) (sym same)
 
 -- the result at the end
-abbrev pub closed_at : ℕ → Option Told → Answer
+abbrev pub closed_at : ℕ → Option Claim → Answer
 closed_at number None = Err (Syntax number)
-closed_at number (Some told) = Ok told.verdict
+closed_at number (Some claim) = Ok claim.verdict
 
-pub ended_as : (stage : Stage) (number : ℕ) (answer : Answer) → IsStage stage number → Stands stage number [] answer → answer ≡ closed_at number (told_in stage)
-unfolding bundle_of with_tables behind_basis behind_method behind_conflicts sections_of behind_chain end_of
+pub ended_as : (stage : Stage) (number : ℕ) (answer : Answer) → IsStage stage number → AnswersLines stage number [] answer → answer ≡ closed_at number (claim_in stage)
+unfolding certificate_of with_tables after_basis after_method after_conflicts sections_of after_chain end_of
 ended_as Start number answer is stands = stands ∙ ap (λ (k : ℕ). let r : Answer = Err (Syntax k) in r) (sym is)
 ended_as Inputs number answer is stands = stands ∙ ap (λ (k : ℕ). let r : Answer = Err (Syntax k) in r) (sym is)
 ended_as (Tables n on care) number answer is stands = stands ∙ rows_short n number on.items care.items is.0
@@ -74,5 +77,5 @@ ended_as (Outs h low f steps os) number answer is stands =
     stands ∙ ap (λ (r : Result (List Out × List Line) ChainError). with_block h f low (outs_then f (steps_of steps.items) r)) (outs_short f os.items is.due)
     ∙ block_short_outs h f low number (f.first_line + 1 + f.steps + length os.items) is.number_is
 ended_as (Found h low c) number answer is stands = stands
-ended_as (End told) number answer is stands = stands
-ended_as (Done told) number answer is stands = stands
+ended_as (End claim) number answer is stands = stands
+ended_as (Done claim) number answer is stands = stands

@@ -2,9 +2,9 @@
 use Rattle.std.specs.Prelude.{ℕ, List}
 use Rattle.line_reader.specs.Reader as pieces
 use Rattle.line_reader.specs.Seen as lines
-use Rattle.cert_theory.specs.declared.data.BundleError.{BundleError}
+use Rattle.cert_theory.specs.declared.data.CertificateError.{CertificateError}
 use Rattle.cert_file.specs.Stages.{IsStage}
-use Rattle.cert_file.specs.Standing.{StandsIn, Refuses}
+use Rattle.cert_file.specs.StageAnswers.{AnswersText, Refuses}
 use Rattle.cert_file.specs.declared.stage.Stage.{Stage}
 use Rattle.line_reader.specs.declared.reader.PieceReader.{PieceReader}
 
@@ -13,10 +13,10 @@ abbrev pub Reader : Type 0
 Reader = pieces.Reader Stage
 
 -- a reader of certificates
-abbrev pub BundlePieces : Type 0
-BundlePieces = PieceReader Stage
+abbrev pub CertificatePieces : Type 0
+CertificatePieces = PieceReader Stage
 
-abbrev pub seen : BundlePieces → Reader
+abbrev pub seen : CertificatePieces → Reader
 seen r = lines.seen r
 
 -- a stage keeps no bytes of the lines before
@@ -26,8 +26,8 @@ IsReader r = pieces.IsReader IsStage (λ (s : Stage). 0) r
 -- A reader determines the result of every text that begins with these bytes, and it keeps the header and the
 -- chain.
 abbrev pub StandsFor : Reader → List ℕ → Type 0
-StandsFor r text = pieces.StandsFor StandsIn r text
+StandsFor r text = pieces.StandsFor AnswersText r text
 
 -- every text that begins with these bytes has this fault
-abbrev pub IsRefused : BundleError → List ℕ → Type 0
+abbrev pub IsRefused : CertificateError → List ℕ → Type 0
 IsRefused e text = pieces.IsRefused Refuses e text

@@ -1,28 +1,32 @@
 //! The subproblems of a size and their formulas, by the header's method.
 ghost use Rattle.std.specs.Prelude.{◌≡◌, ◌≤◌, ◌<◌, IfOk, Contains};
-ghost use Rattle.cert_theory.specs.Bundle as bundles;
+ghost use Rattle.cert_theory.specs.Certificate as certificates;
 
-use cert_theory::Heading;
+use cert_theory::Header;
 use cnf_core::Cnf;
 use enc_fence::FenceEnc;
 use enc_frame::Encoding;
 use enc_select::Select;
 use enc_ssv::{Plain, Ssv};
-use enc_theory::Part;
+use enc_theory::Subproblem;
 use settings::Method;
 use std::alloc::{AllocError, Global};
 
 /// The subproblems of a size, in order.
 #[tactic(auto, unfolding(cert_theory::specs::Coding::coding_of))]
-pub(crate) fn parts_of(alloc: Global, heading: &Heading, size: u32) -> Result<Vec<Part>, AllocError>
+pub(crate) fn subproblems_of(
+    alloc: Global,
+    header: &Header,
+    size: u32,
+) -> Result<Vec<Subproblem>, AllocError>
     requires { size ≤ 16 }
-    ensures { IfOk result (λ parts. parts.items ≡ bundles.parts_of heading.now size) }
+    ensures { IfOk result (λ subproblems. subproblems.items ≡ certificates.subproblems_of header.now size) }
 {
-    match heading.method {
-        Method::Plain => Plain.parts(alloc, &heading.spec, size),
-        Method::Ssv => Ssv.parts(alloc, &heading.spec, size),
-        Method::Select => Select.parts(alloc, &heading.spec, size),
-        Method::Fence => FenceEnc.parts(alloc, &heading.spec, size),
+    match header.method {
+        Method::Plain => Plain.subproblems(alloc, &header.spec, size),
+        Method::Ssv => Ssv.subproblems(alloc, &header.spec, size),
+        Method::Select => Select.subproblems(alloc, &header.spec, size),
+        Method::Fence => FenceEnc.subproblems(alloc, &header.spec, size),
     }
 }
 
@@ -30,19 +34,19 @@ pub(crate) fn parts_of(alloc: Global, heading: &Heading, size: u32) -> Result<Ve
 #[tactic(auto, unfolding(cert_theory::specs::Coding::coding_of))]
 pub(crate) fn formula_of(
     alloc: Global,
-    heading: &Heading,
+    header: &Header,
     size: u32,
-    part: &Part,
+    subproblem: &Subproblem,
 ) -> Result<Cnf, AllocError>
     requires size { size ≤ 16 }
-    requires operators { 0 < heading.now.basis }
-    requires part { Contains (bundles.parts_of heading.now size) part.now }
-    ensures { IfOk result (λ cnf. cnf ≡ bundles.formula_of heading.now size part.now) }
+    requires operators { 0 < header.now.basis }
+    requires subproblem { Contains (certificates.subproblems_of header.now size) subproblem.now }
+    ensures { IfOk result (λ cnf. cnf ≡ certificates.formula_of header.now size subproblem.now) }
 {
-    match heading.method {
-        Method::Plain => Plain.formula(alloc, &heading.spec, heading.basis, size, part),
-        Method::Ssv => Ssv.formula(alloc, &heading.spec, heading.basis, size, part),
-        Method::Select => Select.formula(alloc, &heading.spec, heading.basis, size, part),
-        Method::Fence => FenceEnc.formula(alloc, &heading.spec, heading.basis, size, part),
+    match header.method {
+        Method::Plain => Plain.formula(alloc, &header.spec, header.basis, size, subproblem),
+        Method::Ssv => Ssv.formula(alloc, &header.spec, header.basis, size, subproblem),
+        Method::Select => Select.formula(alloc, &header.spec, header.basis, size, subproblem),
+        Method::Fence => FenceEnc.formula(alloc, &header.spec, header.basis, size, subproblem),
     }
 }

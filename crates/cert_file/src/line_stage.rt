@@ -1,17 +1,17 @@
 //! `Stage` as a reader of lines, for `line_reader`.
 ghost use Rattle.std.specs.Prelude.{Err};
 ghost use Rattle.cert_file.specs.Stages.{IsStage};
-ghost use Rattle.cert_file.specs.Standing.{StandsIn, Refuses, Ends};
+ghost use Rattle.cert_file.specs.StageAnswers.{AnswersText, Refuses, Ends};
 ghost use Rattle.cert_file.specs.EndLaws.{ended};
 
-use crate::onward::{take, verdict_of};
 use crate::stage::Stage;
-use cert_theory::{BundleError, Verdict};
+use crate::stepping::{take, verdict_of};
+use cert_theory::{CertificateError, Verdict};
 use line_reader::{LineStage, TextLine};
 use std::alloc::Global;
 
 impl LineStage for Stage {
-    type Fault = BundleError;
+    type Fault = CertificateError;
 
     type End = Verdict;
 
@@ -19,7 +19,7 @@ impl LineStage for Stage {
 
     ghost held = { λ stage. 0 };
 
-    ghost stands = { λ stage number lines all. StandsIn stage number lines all };
+    ghost stands = { λ stage number lines all. AnswersText stage number lines all };
 
     ghost refuses = { λ e all. Refuses e all };
 
@@ -29,16 +29,16 @@ impl LineStage for Stage {
         Stage::Start
     }
 
-    fn take(self, alloc: Global, line: &TextLine) -> Result<Stage, BundleError> {
+    fn take(self, alloc: Global, line: &TextLine) -> Result<Stage, CertificateError> {
         take(alloc, self, line)
     }
 
-    fn end(self, _alloc: Global, number: u32) -> Result<Verdict, BundleError> {
+    fn end(self, _alloc: Global, number: u32) -> Result<Verdict, CertificateError> {
         verdict_of(self, number)
     }
 
-    fn no_memory() -> BundleError {
-        BundleError::Memory
+    fn no_memory() -> CertificateError {
+        CertificateError::Memory
     }
 
     ghost refusal = { λ e text refused. ended text (Err e) refused };

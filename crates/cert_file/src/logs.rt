@@ -3,28 +3,29 @@
 ghost use Rattle.std.specs.Prelude.{◌≡◌, ℕ, ◌+◌, ◌<◌, List, ◌∷◌, Some, IfOk};
 ghost use Rattle.text_core.specs.Lines as lines;
 ghost use Rattle.cert_theory.specs.Judging as judging;
-ghost use Rattle.cert_theory.specs.PartLines as parts;
-ghost use Rattle.cert_theory.specs.Bundle as bundles;
-ghost use Rattle.enc_theory.specs.declared.part.Part.{Part};
-ghost use Rattle.cert_file.specs.Asking.{heading_in};
+ghost use Rattle.cert_theory.specs.SubproblemLines as subproblems;
+ghost use Rattle.cert_theory.specs.Certificate as certificates;
+ghost use Rattle.enc_theory.specs.declared.subproblem.Subproblem.{Subproblem};
+ghost use Rattle.cert_file.specs.HeaderLines.{header_in};
 ghost use Rattle.line_reader.specs.TextLines.{line_of};
-ghost use Rattle.cert_file.specs.Stages.{Answer, Judged, Stands, IsStage, IsRunning, IsPart, later_of, IsBegun, IsLogging};
-ghost use Rattle.cert_file.specs.Telling.{Tells};
+ghost use Rattle.cert_file.specs.Stages.{Answer, Judged, AnswersLines, IsStage, IsRunning, IsSubproblem, later_of};
+ghost use Rattle.cert_file.specs.Stages.{IsBegun, IsLogging};
+ghost use Rattle.cert_file.specs.Claims.{KeepsClaim};
 
+use crate::fence_names::subproblem_in;
 use crate::formulas::formula_of;
 use crate::lines::{TextLine, fault_at, is_line};
-use crate::part::{PartReader, PartStep};
 use crate::sections::due;
 use crate::stage::{Running, Stage};
-use crate::titles::part_in;
-use cert_theory::{BundleError, Ended};
+use crate::subproblem::{SubproblemReader, SubproblemStep};
+use cert_theory::{CertificateError, Ended};
 use cnf_core::Cnf;
 use std::alloc::{AllocError, Global};
 
 /// How a log ends, by its first line.
-#[tactic(auto, unfolding(cert_theory::specs::PartLines::ended_in))]
+#[tactic(auto, unfolding(cert_theory::specs::SubproblemLines::ended_in))]
 pub fn ended_in(line: &TextLine) -> Option<Ended>
-    ensures { result ≡ parts.ended_in (line_of line.now) }
+    ensures { result ≡ subproblems.ended_in (line_of line.now) }
 {
     if is_line(b"refuted", line) {
         return Some(Ended::Refuted);
@@ -38,9 +39,10 @@ pub fn ended_in(line: &TextLine) -> Option<Ended>
 /// The formula of the current subproblem.
 fn formula_in(alloc: Global, running: &Running) -> Result<Cnf, AllocError>
     requires { IsRunning running.now }
-    ensures { (part : Part) → IsPart running.now part → IfOk result (λ cnf. cnf ≡ bundles.formula_of running.now.heading running.now.size part) }
+    ensures { (subproblem : Subproblem) → IsSubproblem running.now subproblem →
+        IfOk result (λ cnf. cnf ≡ certificates.formula_of running.now.header running.now.size subproblem) }
 {
-    formula_of(alloc, &running.heading, running.size, part_in(running))
+    formula_of(alloc, &running.header, running.size, subproblem_in(running))
 }
 
 /// The first line of a log.
@@ -48,18 +50,19 @@ pub(crate) fn at_begun(
     alloc: Global,
     running: Running,
     line: &TextLine,
-) -> Result<Stage, BundleError>
+) -> Result<Stage, CertificateError>
     requires running { IsRunning running }
     ensures keeps { IfOk result (λ s. IsStage s (line.now.number + 1)) }
     ensures answer { (lines ls : List lines.Line) (answer : Answer) → IsBegun running line.now.number lines answer →
         lines ≡ line_of line.now ∷ ls → Judged result (line.now.number + 1) ls answer }
-    ensures tells { (ls all : List lines.Line) → heading_in all ≡ Some running.heading → IfOk result (λ s. Tells s (line.now.number + 1) ls all) }
+    ensures keeps_claim { (ls all : List lines.Line) → header_in all ≡ Some running.header →
+        IfOk result (λ s. KeepsClaim s (line.now.number + 1) ls all) }
 {
     let Some(end) = ended_in(line) else {
-        return Err(BundleError::Syntax(line.number));
+        return Err(CertificateError::Syntax(line.number));
     };
     let cnf = formula_in(alloc, &running)?;
-    let reader = PartReader::new(alloc, cnf, running.heading.conflicts, end)?;
+    let reader = SubproblemReader::new(alloc, cnf, running.header.conflicts, end)?;
     Ok(Stage::Within { running, reader })
 }
 
@@ -74,26 +77,28 @@ pub fn low_with(low: Option<u32>, end: Ended, next: u32) -> Option<u32>
 }
 
 /// The state after the log of a subproblem.
-fn behind(running: Running, end: Ended) -> Stage
+fn following(running: Running, end: Ended) -> Stage
     requires { IsRunning running }
     ensures keeps { (number : ℕ) → IsStage result number }
     ensures stands { (number : ℕ) (ls : List lines.Line) (answer : Answer) →
-        answer ≡ judging.sections_of running.heading number (judging.before running.size (judging.low_with running.low end running.size) (later_of running)) ls →
-        Stands result number ls answer }
-    ensures tells { (number : ℕ) (ls all : List lines.Line) → heading_in all ≡ Some running.heading → Tells result number ls all }
+        answer ≡ judging.sections_of running.header number
+        (judging.before running.size (judging.low_with running.low end running.size) (later_of running)) ls →
+        AnswersLines result number ls answer }
+    ensures keeps_claim { (number : ℕ) (ls all : List lines.Line) → header_in all ≡ Some running.header →
+        KeepsClaim result number ls all }
 {
     let Running {
-        heading,
+        header,
         size,
         low,
-        parts,
+        subproblems,
         at,
     } = running;
     due(Running {
-        heading,
+        header,
         size,
         low: low_with(low, end, size),
-        parts,
+        subproblems,
         at: at + 1,
     })
 }
@@ -102,19 +107,21 @@ fn behind(running: Running, end: Ended) -> Stage
 pub(crate) fn at_within(
     alloc: Global,
     running: Running,
-    reader: PartReader,
+    reader: SubproblemReader,
     line: &TextLine,
-) -> Result<Stage, BundleError>
+) -> Result<Stage, CertificateError>
     requires { IsRunning running }
     ensures keeps { IfOk result (λ s. IsStage s (line.now.number + 1)) }
-    ensures answer { (lines ls : List lines.Line) (answer : Answer) → IsLogging running reader line.now.number lines answer →
+    ensures answer { (lines ls : List lines.Line) (answer : Answer) →
+        IsLogging running reader line.now.number lines answer →
         lines ≡ line_of line.now ∷ ls → Judged result (line.now.number + 1) ls answer }
-    ensures tells { (ls all : List lines.Line) → heading_in all ≡ Some running.heading → IfOk result (λ s. Tells s (line.now.number + 1) ls all) }
+    ensures keeps_claim { (ls all : List lines.Line) → header_in all ≡ Some running.header →
+        IfOk result (λ s. KeepsClaim s (line.now.number + 1) ls all) }
 {
     let end = reader.ended();
     match reader.feed(alloc, line.text, line.ended) {
-        Ok(PartStep::More(reader)) => Ok(Stage::Within { running, reader }),
-        Ok(PartStep::Done) => Ok(behind(running, end)),
+        Ok(SubproblemStep::More(reader)) => Ok(Stage::Within { running, reader }),
+        Ok(SubproblemStep::Done) => Ok(following(running, end)),
         Err(fault) => Err(fault_at(line.number, fault)),
     }
 }

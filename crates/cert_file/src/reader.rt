@@ -3,33 +3,35 @@
 ghost use Rattle.std.specs.Prelude.{◌<◌, List, ℕ, IfOk};
 ghost use Rattle.text_core.specs.Lines.{lines_of};
 ghost use Rattle.cert_theory.specs.Gives.{Gives};
-ghost use Rattle.cert_theory.specs.Bundle.{Bundle};
-ghost use Rattle.cert_theory.specs.Spelling.{IsBundle};
-ghost use Rattle.cert_theory.specs.Judging.{bundle_of};
-ghost use Rattle.cert_file.specs.Telling.{IsTold};
+ghost use Rattle.cert_theory.specs.Certificate.{Certificate};
+ghost use Rattle.cert_theory.specs.Spelling.{IsCertificateText};
+ghost use Rattle.cert_theory.specs.Judging.{certificate_of};
+ghost use Rattle.cert_file.specs.Claims.{IsClaim};
 ghost use Rattle.cert_file.specs.Reader.{seen, IsReader, StandsFor};
 
-use crate::onward::told_of;
+use crate::claim::Claim;
 use crate::stage::Stage;
-use crate::told::Told;
-use cert_theory::BundleError;
+use crate::stepping::claim_of;
+use cert_theory::CertificateError;
 use line_reader::PieceReader;
 
 /// A certificate, as far as it has been read. It keeps its stage, which has at most one checker, and the
-/// unfinished line, but none of the lines before. Its end gives the verdict (`specs/Standing`: `Ends`).
-pub type BundleReader = PieceReader<Stage>;
+/// unfinished line, but none of the lines before. Its end gives the verdict (`specs/StageAnswers`: `Ends`).
+pub type CertificateReader = PieceReader<Stage>;
 
 /// Ends the text. Returns what the text claims if it is a valid certificate, otherwise its first fault.
-pub fn tell(reader: BundleReader) -> Result<Told, BundleError>
+pub fn claim_at_end(reader: CertificateReader) -> Result<Claim, CertificateError>
     requires { IsReader (seen reader) }
     // A fault is given exactly where the definition has one, and it is the first.
-    ensures exact { (text : List ℕ) → StandsFor (seen reader) text → Gives (λ t. t.verdict) result (bundle_of (lines_of text)) }
+    ensures exact { (text : List ℕ) → StandsFor (seen reader) text →
+        Gives (λ t. t.verdict) result (certificate_of (lines_of text)) }
     // The header, the chain and the verdict are the certificate's own.
-    ensures told { (text : List ℕ) (b : Bundle) → StandsFor (seen reader) text → IsBundle text b → IfOk result (λ t. IsTold b t) }
-    ensures operators { IfOk result (λ t. 0 < t.heading.basis) }
+    ensures claim { (text : List ℕ) (b : Certificate) → StandsFor (seen reader) text → IsCertificateText text b →
+        IfOk result (λ t. IsClaim b t) }
+    ensures operators { IfOk result (λ t. 0 < t.header.basis) }
 {
     match reader.closed() {
-        Ok(closed) => told_of(closed.stage, closed.number),
+        Ok(closed) => claim_of(closed.stage, closed.number),
         Err(error) => Err(error),
     }
 }

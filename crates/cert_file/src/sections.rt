@@ -3,31 +3,31 @@ ghost use Rattle.std.specs.Prelude.{◌≡◌, ℕ, ◌+◌, ◌<◌, ◌≤◌,
 ghost use Rattle.text_core.specs.Lines.{Line};
 ghost use Rattle.cert_theory.specs.Gives.{Gives};
 ghost use Rattle.cert_theory.specs.Judging as judging;
-ghost use Rattle.cert_theory.specs.Bundle.{parts_of};
+ghost use Rattle.cert_theory.specs.Certificate.{subproblems_of};
 ghost use Rattle.line_reader.specs.TextLines.{line_of};
-ghost use Rattle.line_reader.specs.Cuts.{IsPlace};
-ghost use Rattle.cert_file.specs.Asking.{heading_in};
-ghost use Rattle.cert_file.specs.Stages.{Answer, Judged, Stands, IsStage, IsKnown};
-ghost use Rattle.cert_file.specs.Telling.{Tells};
+ghost use Rattle.line_reader.specs.Splits.{IsPlace};
+ghost use Rattle.cert_file.specs.HeaderLines.{header_in};
+ghost use Rattle.cert_file.specs.Stages.{Answer, Judged, AnswersLines, IsStage, IsKnown};
+ghost use Rattle.cert_file.specs.Claims.{KeepsClaim};
 
-use crate::ending::at_ending;
-use crate::formulas::parts_of;
-use crate::lines::{TextLine, begins, number_behind};
+use crate::formulas::subproblems_of;
+use crate::lines::{TextLine, begins, number_after};
 use crate::stage::{Running, Stage};
-use cert_theory::{BundleError, Heading};
+use crate::trailer::at_trailer;
+use cert_theory::{CertificateError, Header};
 use std::alloc::Global;
 
 /// The line of a size, which must be the next size.
 #[tactic(auto, unfolding(cert_theory::specs::Judging::size_at))]
-fn size_at(heading: &Heading, size: u32, line: &TextLine) -> Result<(), BundleError>
-    ensures within { OnOk result (size ≤ heading.now.max) }
-    ensures exact { Gives (λ x. x) result (judging.size_at heading.now line.now.number size (line_of line.now)) }
+fn size_at(header: &Header, size: u32, line: &TextLine) -> Result<(), CertificateError>
+    ensures within { OnOk result (size ≤ header.now.max) }
+    ensures exact { Gives (λ x. x) result (judging.size_at header.now line.now.number size (line_of line.now)) }
 {
-    let Some(stated) = number_behind(b"size ", line) else {
-        return Err(BundleError::Syntax(line.number));
+    let Some(stated) = number_after(b"size ", line) else {
+        return Err(CertificateError::Syntax(line.number));
     };
-    if stated != size || stated > heading.max {
-        return Err(BundleError::SizeOutOfOrder(line.number));
+    if stated != size || stated > header.max {
+        return Err(CertificateError::SizeOutOfOrder(line.number));
     }
     Ok(())
 }
@@ -35,25 +35,29 @@ fn size_at(heading: &Heading, size: u32, line: &TextLine) -> Result<(), BundleEr
 /// The stage after the line of a size, or after a log: the next subproblem or, after the last one, the next
 /// size.
 pub(crate) fn due(running: Running) -> Stage
-    requires known { IsKnown running.heading }
-    requires size { running.size ≤ running.heading.max }
-    requires parts { running.parts.items ≡ parts_of running.heading running.size }
-    requires at { running.at ≤ length running.parts.items }
+    requires known { IsKnown running.header }
+    requires size { running.size ≤ running.header.max }
+    requires subproblems { running.subproblems.items ≡ subproblems_of running.header running.size }
+    requires at { running.at ≤ length running.subproblems.items }
     ensures keeps { (number : ℕ) → IsStage result number }
-    ensures stands { (number : ℕ) (ls : List Line) (answer : Answer) → answer ≡ judging.sections_of running.heading number (judging.before running.size running.low (drop running.at running.parts.items)) ls → Stands result number ls answer }
-    ensures tells { (number : ℕ) (ls all : List Line) → heading_in all ≡ Some running.heading → Tells result number ls all }
+    ensures stands { (number : ℕ) (ls : List Line) (answer : Answer) →
+        answer ≡ judging.sections_of running.header number
+        (judging.before running.size running.low (drop running.at running.subproblems.items)) ls →
+        AnswersLines result number ls answer }
+    ensures keeps_claim { (number : ℕ) (ls all : List Line) → header_in all ≡ Some running.header →
+        KeepsClaim result number ls all }
 {
-    if running.at < running.parts.len() {
+    if running.at < running.subproblems.len() {
         return Stage::Due { running };
     }
     let Running {
-        heading,
+        header,
         size,
         low,
         ..
     } = running;
     Stage::Between {
-        heading,
+        header,
         size: size + 1,
         low,
     }
@@ -63,27 +67,33 @@ pub(crate) fn due(running: Running) -> Stage
 #[tactic(auto, unfolding(cert_theory::specs::Judging::sections_of))]
 pub(crate) fn at_between(
     alloc: Global,
-    heading: Heading,
+    header: Header,
     size: u32,
     low: Option<u32>,
     line: &TextLine,
-) -> Result<Stage, BundleError>
-    requires known { IsKnown heading }
+) -> Result<Stage, CertificateError>
+    requires known { IsKnown header }
     requires number { line.now.number < 2 ^ 31 }
     ensures keeps { IfOk result (λ s. IsStage s (line.now.number + 1)) }
-    ensures answer { (ls : List Line) (answer : Answer) → answer ≡ judging.sections_of heading line.now.number (record { size = size; low = low; place = judging.Between }) (line_of line.now ∷ ls) → Judged result (line.now.number + 1) ls answer }
-    ensures tells { (ls all : List Line) → IsPlace line.now.number (line_of line.now ∷ ls) all → heading_in all ≡ Some heading → IfOk result (λ s. Tells s (line.now.number + 1) ls all) }
+    ensures answer { (ls : List Line) (answer : Answer) →
+        answer ≡ judging.sections_of header line.now.number (record {
+          size = size;
+          low = low;
+          place = judging.Between;
+        }) (line_of line.now ∷ ls) → Judged result (line.now.number + 1) ls answer }
+    ensures keeps_claim { (ls all : List Line) → IsPlace line.now.number (line_of line.now ∷ ls) all →
+        header_in all ≡ Some header → IfOk result (λ s. KeepsClaim s (line.now.number + 1) ls all) }
 {
     if !begins(b"size ", line) {
-        return at_ending(alloc, heading, size, low, line);
+        return at_trailer(alloc, header, size, low, line);
     }
-    size_at(&heading, size, line)?;
-    let parts = parts_of(alloc, &heading, size)?;
+    size_at(&header, size, line)?;
+    let subproblems = subproblems_of(alloc, &header, size)?;
     Ok(due(Running {
-        heading,
+        header,
         size,
         low,
-        parts,
+        subproblems,
         at: 0,
     }))
 }

@@ -1,21 +1,21 @@
 //! The state of the checker between two lines: which line is due next, and what is kept of those before. A
 //! stage determines the result of the whole text, given the lines to come (`specs/Stages.antt`).
-use crate::part::PartReader;
-use crate::told::Told;
-use cert_theory::Heading;
+use crate::claim::Claim;
+use crate::subproblem::SubproblemReader;
+use cert_theory::Header;
 use chain_core::{Basis, Chain, Frame, Out, Step};
-use enc_theory::Part;
+use enc_theory::Subproblem;
 use settings::Method;
 use tt_core::Spec;
 
 /// A size whose section is being read, and its current subproblem.
 #[derive(Drop)]
 pub struct Running {
-    pub(crate) heading: Heading,
+    pub(crate) header: Header,
     pub(crate) size: u32,
     /// The first open size so far.
     pub(crate) low: Option<u32>,
-    pub(crate) parts: Vec<Part>,
+    pub(crate) subproblems: Vec<Subproblem>,
     /// The index of the current subproblem.
     pub(crate) at: usize,
 }
@@ -54,7 +54,7 @@ pub enum Stage {
     },
     /// The line of the next size, or the trailer.
     Between {
-        heading: Heading,
+        header: Header,
         size: u32,
         low: Option<u32>,
     },
@@ -69,18 +69,18 @@ pub enum Stage {
     /// A line of this subproblem's log.
     Within {
         running: Running,
-        reader: PartReader,
+        reader: SubproblemReader,
     },
     /// A step of the chain.
     Steps {
-        heading: Heading,
+        header: Header,
         low: Option<u32>,
         frame: Frame,
         steps: Vec<Step>,
     },
     /// An output of the chain.
     Outs {
-        heading: Heading,
+        header: Header,
         low: Option<u32>,
         frame: Frame,
         steps: Vec<Step>,
@@ -88,16 +88,16 @@ pub enum Stage {
     },
     /// The verdict after this chain.
     Found {
-        heading: Heading,
+        header: Header,
         low: Option<u32>,
         chain: Chain,
     },
     /// The line `end`.
     End {
-        told: Told,
+        claim: Claim,
     },
     /// Nothing: the text is complete.
     Done {
-        told: Told,
+        claim: Claim,
     },
 }

@@ -15,49 +15,50 @@ use Rattle.enc_laws.specs.Fence.{fence_is_formula}
 use Rattle.fence_core.specs.Fence.{IsFenceOf, listed_fences}
 use Rattle.fence_core.specs.Listing.{sum-cons, fences_are_listed}
 use Rattle.tt_core.specs.Live.{live_words}
-use Rattle.enc_theory.specs.Parts.{parts_for, fence_in}
+use Rattle.enc_theory.specs.Subproblems.{subproblems_for, fence_in}
 use Rattle.enc_laws.specs.FenceLaws.{is_complete}
 use Rattle.enc_laws.specs.WholeLaws.{the_whole, only_whole}
 use Rattle.std.specs.List.{AllByRecursion}
 use Rattle.std.proofs.lemmas.List.Elements.{All-from_recursion, recursion_from_All}
-use Rattle.enc_theory.specs.declared.part.Part.{Part}
-use Rattle.enc_theory.specs.declared.part.Part.TheVariants.{Whole, Levels}
+use Rattle.enc_theory.specs.declared.subproblem.Subproblem.{Subproblem}
+use Rattle.enc_theory.specs.declared.subproblem.Subproblem.TheVariants.{Whole, Levels}
 use Rattle.cert_theory.specs.Coding.{Coding, plain_coding, ssv_coding, select_coding, fence_coding, coding_of}
 
 -- the numbers of a subproblem's name have at most nine digits
-unfoldable pub HasShortTitle : Part → Type 0
-HasShortTitle Whole = Unit {0}
-HasShortTitle (Levels sizes) = All (λ size. size < 2 ^ 64) sizes
+unfoldable pub HasShortName : Subproblem → Type 0
+HasShortName Whole = Unit {0}
+HasShortName (Levels sizes) = All (λ size. size < 2 ^ 64) sizes
 
 -- The names of a size's subproblems can be read, and their formulas are well-formed; if the size is the
 -- minimum, one of the formulas is satisfiable.
 pub record IsCoding (c : Coding) : Type 0 where
-  pub titles : (w : Words) (r : ℕ) (part : Part) → r ≤ 16 → Contains (c.parts w r) part → HasShortTitle part
-  pub formulas : (w : Words) (basis r : ℕ) (part : Part) → Contains (c.parts w r) part → IsFormula (c.formula w basis r part)
-  pub complete : (w : Words) (basis r : ℕ) → IsMinimum (specification w) (members basis) r → (part : Part) × Contains (c.parts w r) part × IsSatisfiable (c.formula w basis r part)
+  pub fence_names : (w : Words) (r : ℕ) (subproblem : Subproblem) → r ≤ 16 → Contains (c.subproblems w r) subproblem → HasShortName subproblem
+  pub formulas : (w : Words) (basis r : ℕ) (subproblem : Subproblem) → Contains (c.subproblems w r) subproblem → IsFormula (c.formula w basis r subproblem)
+  pub complete : (w : Words) (basis r : ℕ) → IsMinimum (specification w) (members basis) r →
+      (subproblem : Subproblem) × Contains (c.subproblems w r) subproblem × IsSatisfiable (c.formula w basis r subproblem)
 
-whole_title : (part : Part) → Contains (Whole ∷ []) part → HasShortTitle part
-unfolding HasShortTitle
-whole_title part there = subst (λ (p : Part). HasShortTitle p) (sym (only_whole part there)) tt
+whole_name : (subproblem : Subproblem) → Contains (Whole ∷ []) subproblem → HasShortName subproblem
+unfolding HasShortName
+whole_name subproblem there = subst (λ (p : Subproblem). HasShortName p) (sym (only_whole subproblem there)) tt
 
 pub plain_is_coding : IsCoding plain_coding
 plain_is_coding = record {
-  titles = λ w r part few there. whole_title part there;
-  formulas = λ w basis r part there. plain_is_formula w basis r;
+  fence_names = λ w r subproblem few there. whole_name subproblem there;
+  formulas = λ w basis r subproblem there. plain_is_formula w basis r;
   complete = λ w basis r minimum. (Whole, the_whole, plain_complete w basis r minimum.reached);
 }
 
 pub ssv_is_coding : IsCoding ssv_coding
 ssv_is_coding = record {
-  titles = λ w r part few there. whole_title part there;
-  formulas = λ w basis r part there. ssv_is_formula w basis r;
+  fence_names = λ w r subproblem few there. whole_name subproblem there;
+  formulas = λ w basis r subproblem there. ssv_is_formula w basis r;
   complete = λ w basis r minimum. (Whole, the_whole, ssv_complete w basis r minimum);
 }
 
 pub select_is_coding : IsCoding select_coding
 select_is_coding = record {
-  titles = λ w r part few there. whole_title part there;
-  formulas = λ w basis r part there. select_is_formula w basis r;
+  fence_names = λ w r subproblem few there. whole_name subproblem there;
+  formulas = λ w basis r subproblem there. select_is_formula w basis r;
   complete = λ w basis r minimum. (Whole, the_whole, select_complete w basis r minimum);
 }
 
@@ -68,29 +69,31 @@ short_levels (q ∷ qs) r few within =
     let total = sum-cons q qs in
     (omega arith, short_levels qs r few (omega arith))
 
-short_fences : (r m : ℕ) (fences : List (List ℕ)) → r ≤ 16 → AllByRecursion (IsFenceOf r m) fences → (part : Part) (k : ℕ) → k < length fences → slice_index_or (map Levels fences) k part ≡ part → HasShortTitle part
-unfolding HasShortTitle
-short_fences r m [] few all part k low at = absurd (omega arith)
-short_fences r m (f ∷ fences) few all part zero low at =
-    subst (λ (p : Part). HasShortTitle p) at (All-from_recursion (λ size. size < 2 ^ 64) f (short_levels f r few (omega (arith, all.0.whole))))
-short_fences r m (f ∷ fences) few all part (suc k) low at = short_fences r m fences few all.1 part k (omega arith) at
+short_fences : (r m : ℕ) (fences : List (List ℕ)) → r ≤ 16 → AllByRecursion (IsFenceOf r m) fences →
+    (subproblem : Subproblem) (k : ℕ) → k < length fences → slice_index_or (map Levels fences) k subproblem ≡
+    subproblem → HasShortName subproblem
+unfolding HasShortName
+short_fences r m [] few all subproblem k low at = absurd (omega arith)
+short_fences r m (f ∷ fences) few all subproblem zero low at =
+    subst (λ (p : Subproblem). HasShortName p) at (All-from_recursion (λ size. size < 2 ^ 64) f (short_levels f r few (omega (arith, all.0.whole))))
+short_fences r m (f ∷ fences) few all subproblem (suc k) low at = short_fences r m fences few all.1 subproblem k (omega arith) at
 
 same_count : (fences : List (List ℕ)) → length (map Levels fences) ≡ length fences
 same_count [] = refl
 same_count (f ∷ fences) = ap (λ (n : ℕ). suc n) (same_count fences)
 
-fence_title : (w : Words) (r : ℕ) (part : Part) → r ≤ 16 → Contains (parts_for w r) part → HasShortTitle part
-unfolding parts_for
-fence_title w r part few there =
+fence_name : (w : Words) (r : ℕ) (subproblem : Subproblem) → r ≤ 16 → Contains (subproblems_for w r) subproblem → HasShortName subproblem
+unfolding subproblems_for
+fence_name w r subproblem few there =
     let m : ℕ = length (live_words w).on in
     let fences = listed_fences r m in
     let count = same_count fences in
-    short_fences r m fences few (recursion_from_All (IsFenceOf r m) fences (fences_are_listed r m).only) part there.0 (omega (arith, there.1)) there.2
+    short_fences r m fences few (recursion_from_All (IsFenceOf r m) fences (fences_are_listed r m).only) subproblem there.0 (omega (arith, there.1)) there.2
 
 pub fence_is_coding : IsCoding fence_coding
 fence_is_coding = record {
-  titles = λ w r part few there. fence_title w r part few there;
-  formulas = λ w basis r part there. fence_is_formula w basis r (fence_in part);
+  fence_names = λ w r subproblem few there. fence_name w r subproblem few there;
+  formulas = λ w basis r subproblem there. fence_is_formula w basis r (fence_in subproblem);
   complete = λ w basis r minimum. is_complete w basis r minimum;
 }
 

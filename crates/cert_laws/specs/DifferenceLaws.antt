@@ -9,7 +9,7 @@ use Rattle.chain_theory.specs.Chain.{Step, Chain}
 use Rattle.chain_theory.specs.Agreement.{is_met, output_value}
 use Rattle.chain_theory.specs.Difference.{IsComparison}
 use Rattle.chain_theory.specs.DifferenceLaws.{one_comparison}
-use Rattle.chain_core.specs.Outside.{IsJudged, outside_from}
+use Rattle.chain_core.specs.Outside.{IsBasisCheck, outside_from}
 use Rattle.cert_theory.specs.Difference.{missed_row, or_later, missed_output, difference_of}
 
 -- ---- operators outside the basis
@@ -22,23 +22,25 @@ unfolding outside_from
 outside_none basis place [] all = refl
 outside_none basis place (s ∷ ss) all = ap (λ (b : Bool). cond b (outside_from basis (place + 1) ss) (Some place)) all.0 ∙ outside_none basis (place + 1) ss all.1
 
-outside_some : (basis : Basis) (place : ℕ) (front : List Step) (s : Step) (behind : List Step) → AllByRecursion (IsInside basis) front → basis s.op ≡ false → outside_from basis place (front ++ s ∷ behind) ≡ Some (place + length front)
+outside_some : (basis : Basis) (place : ℕ) (prefix : List Step) (s : Step) (following : List Step) →
+    AllByRecursion (IsInside basis) prefix → basis s.op ≡ false → outside_from basis place (prefix ++ s ∷ following) ≡
+    Some (place + length prefix)
 unfolding outside_from
-outside_some basis place [] s behind all out =
+outside_some basis place [] s following all out =
     let same : place ≡ place + 0 = omega arith in
-    ap (λ (b : Bool). cond b (outside_from basis (place + 1) behind) (Some place)) out ∙ ap (λ (p : ℕ). Some p) same
-outside_some basis place (t ∷ front) s behind all out =
-    let same : place + 1 + length front ≡ place + suc (length front) = omega arith in
-    ap (λ (b : Bool). cond b (outside_from basis (place + 1) (front ++ s ∷ behind)) (Some place)) all.0
-    ∙ outside_some basis (place + 1) front s behind all.1 out
+    ap (λ (b : Bool). cond b (outside_from basis (place + 1) following) (Some place)) out ∙ ap (λ (p : ℕ). Some p) same
+outside_some basis place (t ∷ prefix) s following all out =
+    let same : place + 1 + length prefix ≡ place + suc (length prefix) = omega arith in
+    ap (λ (b : Bool). cond b (outside_from basis (place + 1) (prefix ++ s ∷ following)) (Some place)) all.0
+    ∙ outside_some basis (place + 1) prefix s following all.1 out
     ∙ ap (λ (p : ℕ). Some p) same
 
 -- for a chain that is checked, the search gives this result
-pub outside_is : (basis : Basis) (c : Chain) (x : Option ℕ) → IsJudged basis c x → outside_from basis (c.n + 1) c.steps ≡ x
+pub outside_is : (basis : Basis) (c : Chain) (x : Option ℕ) → IsBasisCheck basis c x → outside_from basis (c.n + 1) c.steps ≡ x
 outside_is basis c None over = outside_none basis (c.n + 1) c.steps (recursion_from_All (IsInside basis) c.steps over)
 outside_is basis c (Some place) first =
     ap (outside_from basis (c.n + 1)) first.steps
-    ∙ outside_some basis (c.n + 1) first.front first.step first.behind (recursion_from_All (IsInside basis) first.front first.inside) first.outside
+    ∙ outside_some basis (c.n + 1) first.prefix first.step first.following (recursion_from_All (IsInside basis) first.prefix first.inside) first.outside
     ∙ ap (λ (p : ℕ). Some p) (sym first.place_is)
 
 -- ---- rows that differ
@@ -73,7 +75,9 @@ row_on c s h t rows (Some found) here more = record {
   before = λ u low high. from_here (IsMet c s h) t u here (λ above. more.before u above high) low;
 }
 
-row_by : (c : Chain) (s : Specification) (h t rows : ℕ) (b : Bool) → is_met (s.cell h t) (output_value c h t) ≡ b → IsRow c s h (t + 1) rows (missed_row c s h (t + 1) rows) → IsRow c s h t (suc rows) (cond b (missed_row c s h (t + 1) rows) (Some t))
+row_by : (c : Chain) (s : Specification) (h t rows : ℕ) (b : Bool) → is_met (s.cell h t) (output_value c h t) ≡ b →
+    IsRow c s h (t + 1) rows (missed_row c s h (t + 1) rows) →
+    IsRow c s h t (suc rows) (cond b (missed_row c s h (t + 1) rows) (Some t))
 row_by c s h t rows true is more = row_on c s h t rows (missed_row c s h (t + 1) rows) is more
 row_by c s h t rows false is more = record { from = omega arith; to = omega arith; missed = is; before = λ u low high. absurd (omega arith) }
 
@@ -111,7 +115,9 @@ output_on c s h outputs (Some at) here more = record {
   rows_before = more.rows_before;
 }
 
-output_by : (c : Chain) (s : Specification) (h outputs : ℕ) (x : Option ℕ) (later : Option (ℕ × ℕ)) → IsRow c s h 0 (2 ^ s.inputs) x → IsOutput c s (h + 1) outputs later → IsOutput c s h (suc outputs) (or_later h x later)
+output_by : (c : Chain) (s : Specification) (h outputs : ℕ) (x : Option ℕ) (later : Option (ℕ × ℕ)) →
+    IsRow c s h 0 (2 ^ s.inputs) x → IsOutput c s (h + 1) outputs later →
+    IsOutput c s h (suc outputs) (or_later h x later)
 output_by c s h outputs None later row more = output_on c s h outputs later (λ u low. row u (omega arith) (omega arith)) more
 output_by c s h outputs (Some t) later row more = record {
   from = omega arith;

@@ -9,7 +9,7 @@ use Rattle.sat_theory.specs.Formula.{Formula}
 use Rattle.sat_theory.specs.Line.{Line, Add, Delete}
 use Rattle.sat_theory.specs.Log.{AddsEmpty, HasEmpty}
 use Rattle.lrat_check.specs.Checked.{Checked, is_empty, adds_empty, HasAccepted}
-use Rattle.cert_theory.specs.PartLines.{has_empty}
+use Rattle.cert_theory.specs.SubproblemLines.{has_empty}
 
 pub same_bool : (a b : Bool) → (a ≡ true → b ≡ true) → (b ≡ true → a ≡ true) → a ≡ b
 same_bool true b forth back = sym (forth refl)
@@ -54,7 +54,8 @@ unfolding has_empty
 has_is f log has =
     ⊎_elim
     (λ (there : Contains f.clauses []). or_left (list_any is_empty f.clauses) (list_any adds_empty log) (list_any-from_Any is_empty f.clauses (there.0, [], there.1, there.2, refl)))
-    (λ (added : Any AddsEmpty log). or_right (list_any is_empty f.clauses) (list_any adds_empty log) (list_any-from_Any adds_empty log (any_as AddsEmpty (λ (l : Line). adds_empty l ≡ true) log is_adds added)))
+    (λ (added : Any AddsEmpty log). or_right (list_any is_empty f.clauses) (list_any adds_empty log)
+    (list_any-from_Any adds_empty log (any_as AddsEmpty (λ (l : Line). adds_empty l ≡ true) log is_adds added)))
     has
 
 -- so a checker's flag decides it

@@ -1,5 +1,7 @@
 -- The test for subsumption by live clauses.
-use Rattle.std.proofs.Common.{◌≡◌, ◌↔◌, ◌⊎◌, ℕ, zero, suc, ◌+◌, ◌-◌, ◌<◌, ◌≤◌, ◌&&◌, ℤ, not, ◌==◌, cond, Bool, true, false, List, [], ◌∷◌, All, Contains, Option, Some, None, refl, sym, ap, ◌∙◌, inl, inr, arith}
+use Rattle.std.proofs.Common.{◌≡◌, ◌↔◌, ◌⊎◌, ℕ, zero, suc, ◌+◌, ◌-◌, ◌<◌, ◌≤◌, ◌&&◌, ℤ, not, ◌==◌, cond, Bool, true}
+use Rattle.std.proofs.Common.{false, List, [], ◌∷◌, All, Contains, Option, Some, None, refl, sym, ap, ◌∙◌, inl, inr}
+use Rattle.std.proofs.Common.{arith}
 use Rattle.std.proofs.Math.Logic.{⊎_elim}
 use Rattle.std.proofs.lemmas.Bool.{cases_lt}
 use Rattle.std.proofs.lemmas.Bool.Decides.{nat_tests}
@@ -11,9 +13,9 @@ use Rattle.sat_theory.specs.Formula.{Formula}
 use Rattle.sat_theory.specs.Line.{Line, Add, Delete}
 use Rattle.sat_theory.specs.State.{State, start, next, is_listed}
 use Rattle.sat_theory.specs.Holding.{among}
-use Rattle.sat_theory.specs.Log.{IsStep, EachLine, after, IsNew, IsFresh}
+use Rattle.sat_theory.specs.Log.{IsStep, EachLine, after, IsUnsubsumed, AddsUnsubsumed}
 use Rattle.sat_theory.specs.Soundness.{Contains-from_among, among-from_Contains}
-use Rattle.cert_theory.specs.PartLines.{is_within, is_new_below, is_fresh, state_after}
+use Rattle.cert_theory.specs.SubproblemLines.{is_within, is_unsubsumed_below, is_fresh, state_after}
 use Rattle.cert_laws.specs.EmptyLaws.{same_bool}
 
 -- no live clause has an id above the greatest
@@ -65,15 +67,15 @@ both_true false b e = absurd cc
 
 all_within : (lits clause : List ℤ) → list_all (among lits) clause ≡ true → AllByRecursion (Contains lits) clause
 all_within lits [] e = tt
-all_within lits (l ∷ ls) e = let parts = both_true (among lits l) (list_all (among lits) ls) e in (Contains-from_among lits l parts.0, all_within lits ls parts.1)
+all_within lits (l ∷ ls) e = let halves = both_true (among lits l) (list_all (among lits) ls) e in (Contains-from_among lits l halves.0, all_within lits ls halves.1)
 
 within_all : (lits clause : List ℤ) → AllByRecursion (Contains lits) clause → list_all (among lits) clause ≡ true
 within_all lits [] all = refl
 within_all lits (l ∷ ls) all = rw (among-from_Contains lits l all.0, within_all lits ls all.1) refl
 
 -- no live clause with a smaller id subsumes the literals
-abbrev IsNewBelow : ℕ → (ℕ → Option (List ℤ)) → List ℤ → Type 0
-IsNewBelow n live lits = (id : ℕ) (clause : List ℤ) → id < n → live id ≡ Some clause → All (Contains lits) clause → ⊥
+abbrev IsUnsubsumedBelow : ℕ → (ℕ → Option (List ℤ)) → List ℤ → Type 0
+IsUnsubsumedBelow n live lits = (id : ℕ) (clause : List ℤ) → id < n → live id ≡ Some clause → All (Contains lits) clause → ⊥
 
 not_within : (lits : List ℤ) (o : Option (List ℤ)) (clause : List ℤ) → not (is_within lits o) ≡ true → o ≡ Some clause → All (Contains lits) clause → ⊥
 not_within lits None clause new is all = cc
@@ -88,37 +90,40 @@ within_not lits o false is none = refl
 within_not lits None true is none = absurd cc
 within_not lits (Some c) true is none = absurd (none c refl (All-from_recursion (Contains lits) c (all_within lits c is)))
 
-new_below : (n : ℕ) (live : ℕ → Option (List ℤ)) (lits : List ℤ) → is_new_below n live lits ≡ true → IsNewBelow n live lits
-unfolding is_new_below
+new_below : (n : ℕ) (live : ℕ → Option (List ℤ)) (lits : List ℤ) → is_unsubsumed_below n live lits ≡ true → IsUnsubsumedBelow n live lits
+unfolding is_unsubsumed_below
 new_below zero live lits e = λ id clause low is all. absurd (omega arith)
 new_below (suc n) live lits e =
-    let parts = both_true (not (is_within lits (live n))) (is_new_below n live lits) e in
+    let halves = both_true (not (is_within lits (live n))) (is_unsubsumed_below n live lits) e in
     λ id clause low is all. elim (cases_lt id n) as (λ _. ⊥) [
-      | inl less ↦ new_below n live lits parts.1 id clause less is all
-      | inr past ↦ let same : id ≡ n = omega arith in not_within lits (live n) clause parts.0 (sym (ap live same) ∙ is) all
+      | inl less ↦ new_below n live lits halves.1 id clause less is all
+      | inr past ↦ let same : id ≡ n = omega arith in not_within lits (live n) clause halves.0 (sym (ap live same) ∙ is) all
     ]
 
-below_new : (n : ℕ) (live : ℕ → Option (List ℤ)) (lits : List ℤ) → IsNewBelow n live lits → is_new_below n live lits ≡ true
-unfolding is_new_below
+below_new : (n : ℕ) (live : ℕ → Option (List ℤ)) (lits : List ℤ) → IsUnsubsumedBelow n live lits → is_unsubsumed_below n live lits ≡ true
+unfolding is_unsubsumed_below
 below_new zero live lits each = refl
 below_new (suc n) live lits each =
-    rw (within_not lits (live n) (is_within lits (live n)) refl (λ clause is all. each n clause (omega arith) is all), below_new n live lits (λ id clause low is all. each id clause (omega arith) is all)) refl
+    rw (
+      within_not lits (live n) (is_within lits (live n)) refl (λ clause is all. each n clause (omega arith) is all),
+      below_new n live lits (λ id clause low is all. each id clause (omega arith) is all),
+    ) refl
 
 -- if no id is above the bound, the test decides whether a clause is subsumed
-pub new_from_test : (s : State) (lits : List ℤ) → IsLow s → is_new_below (s.greatest + 1) s.live lits ≡ true → IsNew s.live lits
+pub new_from_test : (s : State) (lits : List ℤ) → IsLow s → is_unsubsumed_below (s.greatest + 1) s.live lits ≡ true → IsUnsubsumed s.live lits
 new_from_test s lits low e = λ id clause is all. let at = low.each id clause is in new_below (s.greatest + 1) s.live lits e id clause (omega (arith, at)) is all
 
-pub test_from_new : (s : State) (lits : List ℤ) → IsNew s.live lits → is_new_below (s.greatest + 1) s.live lits ≡ true
+pub test_from_new : (s : State) (lits : List ℤ) → IsUnsubsumed s.live lits → is_unsubsumed_below (s.greatest + 1) s.live lits ≡ true
 test_from_new s lits new = below_new (s.greatest + 1) s.live lits (λ id clause low is all. new id clause is all)
 
-pub fresh_from_test : (s : State) (line : Line) → IsLow s → is_fresh s line ≡ true → IsFresh s line
+pub fresh_from_test : (s : State) (line : Line) → IsLow s → is_fresh s line ≡ true → AddsUnsubsumed s line
 fresh_from_test s (Add id lits hints) low e = new_from_test s lits low e
 fresh_from_test s (Delete id ids) low e = tt
 
-pub test_from_fresh : (s : State) (line : Line) → IsFresh s line → is_fresh s line ≡ true
+pub test_from_fresh : (s : State) (line : Line) → AddsUnsubsumed s line → is_fresh s line ≡ true
 test_from_fresh s (Add id lits hints) fresh = test_from_new s lits fresh
 test_from_fresh s (Delete id ids) fresh = refl
 
 -- another test that decides it has the same result
-pub test_is : (s : State) (lits : List ℤ) (b : Bool) → IsLow s → (b ≡ true) ↔ IsNew s.live lits → b ≡ is_new_below (s.greatest + 1) s.live lits
-test_is s lits b low told = same_bool b (is_new_below (s.greatest + 1) s.live lits) (λ yes_. test_from_new s lits (told.0 yes_)) (λ yes_. told.1 (new_from_test s lits low yes_))
+pub test_is : (s : State) (lits : List ℤ) (b : Bool) → IsLow s → (b ≡ true) ↔ IsUnsubsumed s.live lits → b ≡ is_unsubsumed_below (s.greatest + 1) s.live lits
+test_is s lits b low reported = same_bool b (is_unsubsumed_below (s.greatest + 1) s.live lits) (λ yes_. test_from_new s lits (reported.0 yes_)) (λ yes_. reported.1 (new_from_test s lits low yes_))

@@ -7,14 +7,14 @@ pub mod LineFaults
 pub mod LineSpellings
 pub mod BlockReads
 pub mod TableSpellings
-pub mod EndingSpellings
+pub mod TrailerSpellings
 pub mod LogSpellings
 pub mod SectionSpellings
-pub mod BundleSpellings
+pub mod CertificateSpellings
 pub mod ClauseStates
 pub mod WholeTexts
 pub mod LinesAgain
 pub mod SectionsAgain
 pub mod SectionLists
-pub mod BundlesAgain
+pub mod CertificatesAgain
 pub mod QuestionLaws

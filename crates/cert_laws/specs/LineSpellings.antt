@@ -30,12 +30,12 @@ use Rattle.settings.specs.declared.methods.Method.{Method}
 use Rattle.settings.specs.declared.methods.Method.TheVariants.{Plain, Ssv, Select, Fence}
 use Rattle.cert_theory.specs.declared.data.Ended.{Ended}
 use Rattle.cert_theory.specs.declared.data.Ended.TheVariants as ends
-use Rattle.cert_theory.specs.declared.data.PartError.TheVariants as part_errors
-use Rattle.cert_theory.specs.declared.data.Heading.{Heading}
+use Rattle.cert_theory.specs.declared.data.SubproblemError.TheVariants as subproblem_errors
+use Rattle.cert_theory.specs.declared.data.Header.{Header}
 use Rattle.settings.specs.Methods.{method_text, method_named}
 use Rattle.settings.specs.Synth.{most_steps, most_conflicts}
 use Rattle.cert_theory.specs.Spelling.{basis_line, method_line, conflicts_line, max_line, size_line, ended_text, log_line}
-use Rattle.cert_theory.specs.PartLines.{is_line, ended_in, or_misspelled, spelled_in}
+use Rattle.cert_theory.specs.SubproblemLines.{is_line, ended_in, or_misspelled, spelled_in}
 use Rattle.cert_theory.specs.Judging.{or_syntax, as_syntax, value_of, spelled, basis_in, method_in, from_one, conflicts_in, max_in, size_at}
 use Rattle.cert_theory.specs.GivesLaws.{bind_ok, test_ok, read_ok}
 
@@ -54,8 +54,8 @@ some_is x y e = cc
 
 pub is_line_spells : (text : List ℕ) (l : Line) → is_line text l ≡ true → l ≡ line text
 is_line_spells text l e =
-    let parts = both_true l.ended (bytes_eq l.text text) e in
-    line_is l text parts.0 ((bytes_eq-Decides l.text text).0 parts.1)
+    let halves = both_true l.ended (bytes_eq l.text text) e in
+    line_is l text halves.0 ((bytes_eq-Decides l.text text).0 halves.1)
 
 pub is_line_back : (text : List ℕ) → is_line text (line text) ≡ true
 is_line_back text = (bytes_eq-Decides text text).1 refl
@@ -73,9 +73,9 @@ value_back word rest = word_back word rest
 -- a number after a word
 pub number_at : (limit : ℕ) (word : List ℕ) (l : Line) (n : ℕ) → limit < 2 ^ 64 → option_and_then (number_up_to limit) (value_of word l) ≡ Some n → (n ≤ limit) × (l ≡ line (word ++ decimal n))
 number_at limit word l n narrow e =
-    option_and_then_some (number_up_to limit) (value_of word l) n e (λ digits behind is.
-    let parts = number_spells limit n digits narrow is in
-    (parts.0, value_spells word l digits behind ∙ ap (λ (ds : List ℕ). line (word ++ ds)) parts.1))
+    option_and_then_some (number_up_to limit) (value_of word l) n e (λ digits following is.
+    let halves = number_spells limit n digits narrow is in
+    (halves.0, value_spells word l digits following ∙ ap (λ (ds : List ℕ). line (word ++ ds)) halves.1))
 
 pub number_at_back : (limit : ℕ) (word : List ℕ) (n : ℕ) → n < 2 ^ 64 → n ≤ limit → option_and_then (number_up_to limit) (value_of word (line (word ++ decimal n))) ≡ Some n
 number_at_back limit word n narrow fits = ap (option_and_then (number_up_to limit)) (value_back word (decimal n)) ∙ number_back limit n narrow fits
@@ -104,11 +104,12 @@ pub basis_spells : (l : Line) (b : ℕ) → basis_in l ≡ Some b → (l ≡ lin
 unfolding basis_in basis_line
 basis_spells l b e =
     option_and_then_some (λ word. spelled word (basis_of word)) (value_of (codes "basis ") l) b e (λ word value is.
-    let parts = spelled_is word (basis_of word) b is in
-    (value_spells (codes "basis ") l word value ∙ ap (λ (w : List ℕ). line (codes "basis " ++ w)) parts.1, basis_some word b parts.0, set_low word b (begins_letter word) refl parts.0))
+    let halves = spelled_is word (basis_of word) b is in
+    (value_spells (codes "basis ") l word value ∙ ap (λ (w : List ℕ). line (codes "basis " ++ w)) halves.1, basis_some word b halves.0, set_low word b (begins_letter word) refl halves.0))
 
 -- a word is compared with one name after the other
-named_or : (word : List ℕ) (m first : Method) (later : Option Method) → (later ≡ Some m → word ≡ method_text m) → cond (bytes_eq word (method_text first)) (Some first) later ≡ Some m → word ≡ method_text m
+named_or : (word : List ℕ) (m first : Method) (later : Option Method) → (later ≡ Some m → word ≡ method_text m) →
+    cond (bytes_eq word (method_text first)) (Some first) later ≡ Some m → word ≡ method_text m
 named_or word m first later next e =
     ⊎_elim
     (λ (yes_ : (bytes_eq word (method_text first) ≡ true) × (Some first ≡ Some m)).
@@ -137,33 +138,35 @@ unfolding conflicts_in conflicts_line
 conflicts_spells l k e =
     option_and_then_some from_one (option_and_then (number_up_to most_conflicts) (value_of (codes "conflicts ") l)) k e (λ n read is.
     let one = from_one_is n k is in
-    let parts = number_at most_conflicts (codes "conflicts ") l k (omega arith) (read ∙ ap (λ (x : ℕ). Some x) one.0) in
-    (parts.1, one.1, parts.0))
+    let halves = number_at most_conflicts (codes "conflicts ") l k (omega arith) (read ∙ ap (λ (x : ℕ). Some x) one.0) in
+    (halves.1, one.1, halves.0))
 
 pub max_spells : (l : Line) (x : ℕ) → max_in l ≡ Some x → (l ≡ line (max_line x)) × (x ≤ most_steps)
 unfolding max_in max_line
-max_spells l x e = let parts = number_at most_steps (codes "max ") l x (omega arith) e in (parts.1, parts.0)
+max_spells l x e = let halves = number_at most_steps (codes "max ") l x (omega arith) e in (halves.1, halves.0)
 
 -- ---- sections
 
-pub size_spells : (h : Heading) (number size : ℕ) (l : Line) → size_at h number size l ≡ Ok tt → (l ≡ line (size_line size)) × (size ≤ h.max)
+pub size_spells : (h : Header) (number size : ℕ) (l : Line) → size_at h number size l ≡ Ok tt → (l ≡ line (size_line size)) × (size ≤ h.max)
 unfolding size_at size_line
 size_spells h number size l e =
     let read = bind_ok (or_syntax number (option_and_then number_in (value_of (codes "size ") l))) _ tt e in
-    let parts = number_at 999999999 (codes "size ") l read.0 (omega arith) (read_ok number (option_and_then number_in (value_of (codes "size ") l)) read.0 read.1) in
+    let halves = number_at 999999999 (codes "size ") l read.0 (omega arith) (read_ok number (option_and_then number_in (value_of (codes "size ") l)) read.0 read.1) in
     let tests = test_ok _ _ _ tt read.2 in
     let each = both_true _ _ tests.0 in
     let same : read.0 ≡ size = eqb-true _ _ each.0 in
-    (parts.1 ∙ ap (λ (n : ℕ). line (codes "size " ++ decimal n)) same, subst (λ (n : ℕ). n ≤ h.max) same (grind (arith, nat_tests)))
+    (halves.1 ∙ ap (λ (n : ℕ). line (codes "size " ++ decimal n)) same, subst (λ (n : ℕ). n ≤ h.max) same (grind (arith, nat_tests)))
 
 pub ended_spells : (l : Line) (ended : Ended) → ended_in l ≡ Some ended → l ≡ line (ended_text ended)
 unfolding ended_in
 ended_spells l ended e =
     ⊎_elim
-    (λ (refuted : (is_line (codes "refuted") l ≡ true) × (Some ends.Refuted ≡ Some ended)). is_line_spells (codes "refuted") l refuted.0 ∙ ap (λ (x : Ended). line (ended_text x)) (some_is ends.Refuted ended refuted.1))
+    (λ (refuted : (is_line (codes "refuted") l ≡ true) × (Some ends.Refuted ≡ Some ended)). is_line_spells
+    (codes "refuted") l refuted.0 ∙ ap (λ (x : Ended). line (ended_text x)) (some_is ends.Refuted ended refuted.1))
     (λ (rest : (is_line (codes "refuted") l ≡ false) × (cond (is_line (codes "open") l) (Some ends.Open) None ≡ Some ended)).
     ⊎_elim
-    (λ (opened : (is_line (codes "open") l ≡ true) × (Some ends.Open ≡ Some ended)). is_line_spells (codes "open") l opened.0 ∙ ap (λ (x : Ended). line (ended_text x)) (some_is ends.Open ended opened.1))
+    (λ (opened : (is_line (codes "open") l ≡ true) × (Some ends.Open ≡ Some ended)). is_line_spells
+    (codes "open") l opened.0 ∙ ap (λ (x : Ended). line (ended_text x)) (some_is ends.Open ended opened.1))
     (λ (neither : (is_line (codes "open") l ≡ false) × (None ≡ Some ended)). absurd (let e = neither.1 in cc))
     (chosen (is_line (codes "open") l) (Some ends.Open) None (Some ended) rest.1))
     (chosen (is_line (codes "refuted") l) (Some ends.Refuted) (cond (is_line (codes "open") l) (Some ends.Open) None) (Some ended) e)
@@ -179,6 +182,6 @@ spelled_ok (Err d) x e = absurd cc
 pub log_spells : (l : Line) (x : theory.Line) → spelled_in l ≡ Ok x → IsLine x × (l ≡ log_line x)
 unfolding spelled_in
 log_spells l x e =
-    let ended = test_ok l.ended (or_misspelled (line_in l.text)) part_errors.Syntax x e in
-    let parts = line_spells l.text x (spelled_ok (line_in l.text) x ended.1) in
-    (parts.0, line_is l (line_body x) ended.0 parts.1)
+    let ended = test_ok l.ended (or_misspelled (line_in l.text)) subproblem_errors.Syntax x e in
+    let halves = line_spells l.text x (spelled_ok (line_in l.text) x ended.1) in
+    (halves.0, line_is l (line_body x) ended.0 halves.1)

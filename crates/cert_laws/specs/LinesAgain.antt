@@ -22,7 +22,7 @@ use Rattle.chain_core.specs.Block.{number_in}
 use Rattle.chain_core.specs.Spelling.{line}
 use Rattle.settings.specs.declared.methods.Method.{Method}
 use Rattle.settings.specs.declared.methods.Method.TheVariants.{Plain, Ssv, Select, Fence}
-use Rattle.cert_theory.specs.declared.data.Heading.{Heading}
+use Rattle.cert_theory.specs.declared.data.Header.{Header}
 use Rattle.cert_theory.specs.declared.data.Ended.{Ended}
 use Rattle.cert_theory.specs.declared.data.Ended.TheVariants as ends
 use Rattle.cert_theory.specs.declared.data.Verdict.{Verdict}
@@ -30,8 +30,8 @@ use Rattle.cert_theory.specs.declared.data.Verdict.TheVariants as verdicts
 use Rattle.settings.specs.Methods.{method_text, method_named}
 use Rattle.settings.specs.Synth.{most_steps, most_conflicts}
 use Rattle.cert_theory.specs.Spelling.{basis_line, method_line, conflicts_line, max_line, size_line, ended_text, log_line, verdict_line}
-use Rattle.cert_theory.specs.PartLines.{is_line, ended_in, or_misspelled, spelled_in}
-use Rattle.cert_theory.specs.Judging.{begins, spelled, basis_in, method_in, from_one, conflicts_in, max_in, size_at, is_same, number_behind, both, bounded_in, found_in, not_found_in}
+use Rattle.cert_theory.specs.SubproblemLines.{is_line, ended_in, or_misspelled, spelled_in}
+use Rattle.cert_theory.specs.Judging.{begins, spelled, basis_in, method_in, from_one, conflicts_in, max_in, size_at, is_same, number_after, both, bounded_in, found_in, not_found_in}
 use Rattle.cert_laws.specs.LineSpellings.{value_back, number_at_back}
 
 eq_same : (n : ℕ) → (n == n) ≡ true
@@ -65,7 +65,7 @@ pub max_again : (x : ℕ) → x ≤ most_steps → max_in (line (max_line x)) �
 unfolding max_in max_line
 max_again x fits = number_at_back most_steps (codes "max ") x (omega arith) fits
 
-pub size_again : (h : Heading) (number size : ℕ) → size ≤ h.max → size ≤ 16 → size_at h number size (line (size_line size)) ≡ Ok tt
+pub size_again : (h : Header) (number size : ℕ) → size ≤ h.max → size ≤ 16 → size_at h number size (line (size_line size)) ≡ Ok tt
 unfolding size_at size_line
 size_again h number size fits few =
     rw (number_at_back 999999999 (codes "size ") size (omega arith) (omega arith)) (rw (eq_same size, le_back size h.max fits) refl)
@@ -97,7 +97,7 @@ log_again x is = ap or_misspelled (line_back x is)
 
 -- ---- verdicts
 
-pub number_again : (word : List ℕ) (n : ℕ) → n < 1000000000 → number_behind word (line (word ++ decimal n)) ≡ Some n
+pub number_again : (word : List ℕ) (n : ℕ) → n < 1000000000 → number_after word (line (word ++ decimal n)) ≡ Some n
 number_again word n short = number_at_back 999999999 word n (omega arith) (omega arith)
 
 pub two_items : (low r : ℕ) → low < 1000000000 → r < 1000000000 → items_of (decimal low ++ 32 ∷ decimal r) ≡ decimal low ∷ decimal r ∷ []

@@ -1,5 +1,7 @@
 -- Lines that are accepted as tables spell them.
-use Rattle.std.proofs.Common.{◌≡◌, ◌⊎◌, ℕ, zero, suc, ◌+◌, ◌^◌, ◌<◌, ◌≤◌, ◌==◌, Bool, true, false, cond, List, [], ◌∷◌, ◌++◌, length, map, drop, Option, Some, None, Result, Ok, Err, refl, sym, ap, ◌∙◌, subst, arith, inl, inr}
+use Rattle.std.proofs.Common.{◌≡◌, ◌⊎◌, ℕ, zero, suc, ◌+◌, ◌^◌, ◌<◌, ◌≤◌, ◌==◌, Bool, true, false, cond, List, [], ◌∷◌}
+use Rattle.std.proofs.Common.{◌++◌, length, map, drop, Option, Some, None, Result, Ok, Err, refl, sym, ap, ◌∙◌, subst}
+use Rattle.std.proofs.Common.{arith, inl, inr}
 use Rattle.std.specs.Prelude.{slice_get, nat_lt}
 use Rattle.std.specs.List.{range_with_len}
 use Rattle.std.proofs.Math.Logic.{⊎_elim}
@@ -11,8 +13,8 @@ use Rattle.std.proofs.lemmas.List.FromFn.{fill_by_all}
 use Rattle.text_core.specs.Lines.{Line}
 use Rattle.text_core.specs.Words.{begins_lower}
 use Rattle.tt_core.specs.Words.{Words, IsSpec, specification, cell_of}
-use Rattle.tt_core.specs.Spelling.{character, header_line, IsTableLine, SpellsTables}
-use Rattle.tt_core.specs.Tables.{Read, row_fault, with_row, end_of, unless_fault, rows_of, behind_inputs, inputs_of, tables_of}
+use Rattle.tt_core.specs.Spelling.{character, inputs_line, IsTableLine, SpellsTables}
+use Rattle.tt_core.specs.Tables.{Read, row_fault, with_row, end_of, unless_fault, rows_of, after_inputs, inputs_of, tables_of}
 use Rattle.tt_core.specs.declared.error.SpecError.{SpecError}
 use Rattle.tt_core.specs.declared.error.SpecError.TheVariants.{TooManyInputs, TooManyOutputs}
 use Rattle.tt_core.specs.KeepLaws.{kept}
@@ -32,10 +34,12 @@ unless_is : (fault : Option SpecError) (next : Result Read SpecError) (r : Read)
 unless_is None next r e = (refl, e)
 unless_is (Some fault) next r e = absurd cc
 
-row_by : (b c : Bool) (fault : Option SpecError) (end next : Result Read SpecError) (r : Read) → cond b end (cond c (Err TooManyOutputs) (unless_fault fault next)) ≡ Ok r → (end ≡ Ok r) ⊎ ((c ≡ false) × (fault ≡ None) × (next ≡ Ok r))
+row_by : (b c : Bool) (fault : Option SpecError) (end next : Result Read SpecError) (r : Read) →
+    cond b end (cond c (Err TooManyOutputs) (unless_fault fault next)) ≡ Ok r → (end ≡ Ok r) ⊎
+    ((c ≡ false) × (fault ≡ None) × (next ≡ Ok r))
 row_by true c fault end next r e = inl e
 row_by false true fault end next r e = absurd cc
-row_by false false fault end next r e = let parts = unless_is fault next r e in inr (refl, parts.0, parts.1)
+row_by false false fault end next r e = let halves = unless_is fault next r e in inr (refl, halves.0, halves.1)
 
 few_rows : (m : ℕ) → m ≤ 8 → (m == 8) ≡ false → m < 8
 few_rows m few not_ = grind (arith, nat_tests)
@@ -61,7 +65,7 @@ low_is n e = grind (arith, nat_tests)
 abbrev too_many : Result Read SpecError
 too_many = Err TooManyInputs
 
-inputs_keep : (o : Option ℕ) (ls : List Line) (r : Read) → behind_inputs o ls ≡ Ok r → IsSpec r.words
+inputs_keep : (o : Option ℕ) (ls : List Line) (r : Read) → after_inputs o ls ≡ Ok r → IsSpec r.words
 inputs_keep None ls r e = absurd cc
 inputs_keep (Some n) ls r e =
     ⊎_elim
@@ -83,7 +87,9 @@ line_some : (l m : Line) → Some l ≡ Some m → l ≡ m
 line_some l m e = cc
 
 -- the tables of the outputs after the first k
-tables_from : (w : Words) (m k : ℕ) (ls rest : List Line) → ((i : ℕ) → i < m → slice_get ls i ≡ Some (table_line w (k + i + 1))) → rest ≡ drop m ls → ls ≡ map (λ i. table_line w (i + 1)) (range_with_len k m) ++ rest
+tables_from : (w : Words) (m k : ℕ) (ls rest : List Line) →
+    ((i : ℕ) → i < m → slice_get ls i ≡ Some (table_line w (k + i + 1))) → rest ≡ drop m ls →
+    ls ≡ map (λ i. table_line w (i + 1)) (range_with_len k m) ++ rest
 tables_from w zero k ls rest each is = sym is
 tables_from w (suc m) k [] rest each is = let first = each 0 (omega arith) in absurd cc
 tables_from w (suc m) k (l ∷ ls) rest each is =
@@ -100,11 +106,11 @@ table_of w ls rest l spells i low =
 
 -- the lines of the tables, and those after them
 pub tables_are : (w : Words) (ls rest : List Line) → SpellsTables (specification w) ls rest → ls ≡ tables_lines w ++ rest
-tables_are w [] rest spells = let header = spells.header in absurd cc
+tables_are w [] rest spells = let inputs_first = spells.inputs_first in absurd cc
 tables_are w (l ∷ ls) rest spells =
-    let first : l ≡ header_line w.n = line_some l (header_line w.n) spells.header in
-    let behind : rest ≡ drop (length w.on) ls = spells.behind ∙ ap (λ (n : ℕ). drop n (l ∷ ls)) (one_more (length w.on)) in
-    let others = tables_from w (length w.on) 0 ls rest (table_of w ls rest l spells) behind in
+    let first : l ≡ inputs_line w.n = line_some l (inputs_line w.n) spells.inputs_first in
+    let following : rest ≡ drop (length w.on) ls = spells.following ∙ ap (λ (n : ℕ). drop n (l ∷ ls)) (one_more (length w.on)) in
+    let others = tables_from w (length w.on) 0 ls rest (table_of w ls rest l spells) following in
     λ i. first i ∷ others i
   where
     one_more : (n : ℕ) → 1 + n ≡ suc n

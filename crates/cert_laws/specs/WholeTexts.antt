@@ -1,9 +1,10 @@
 -- The lines of a certificate are the lines of its text.
-use Rattle.cert_laws.specs.CodingLaws.{HasShortTitle}
-use Rattle.enc_theory.specs.declared.part.Part.{Part}
-use Rattle.enc_theory.specs.declared.part.Part.TheVariants.{Whole, Levels}
+use Rattle.cert_laws.specs.CodingLaws.{HasShortName}
+use Rattle.enc_theory.specs.declared.subproblem.Subproblem.{Subproblem}
+use Rattle.enc_theory.specs.declared.subproblem.Subproblem.TheVariants.{Whole, Levels}
 use Rattle.std.proofs.lemmas.List.Elements.{recursion_from_All}
-use Rattle.std.proofs.Common.{◌≡◌, ℕ, zero, suc, ◌+◌, ◌^◌, ◌<◌, ◌==◌, Bool, true, false, cond, List, [], ◌∷◌, ◌++◌, length, map, Option, Some, None, refl, sym, ap, ◌∙◌, arith, append_assoc, append-nil}
+use Rattle.std.proofs.Common.{◌≡◌, ℕ, zero, suc, ◌+◌, ◌^◌, ◌<◌, ◌==◌, Bool, true, false, cond, List, [], ◌∷◌, ◌++◌}
+use Rattle.std.proofs.Common.{length, map, Option, Some, None, refl, sym, ap, ◌∙◌, arith, append_assoc, append-nil}
 use Rattle.std.specs.Prelude.{codes, decimal}
 use Rattle.std.specs.List.{range_with_len, AllByRecursion, flat_map}
 use Rattle.std.proofs.lemmas.Grind.{common_steps, flat_map-append}
@@ -20,7 +21,7 @@ use Rattle.sat_theory.specs.Log.{IsStep, EachLine}
 use Rattle.lrat_text.specs.Spelling.{line_text}
 use Rattle.lrat_text.specs.WholeLines.{text_back}
 use Rattle.tt_core.specs.Words.{Words, cell_of}
-use Rattle.tt_core.specs.Spelling.{character, header_line}
+use Rattle.tt_core.specs.Spelling.{character, inputs_line}
 use Rattle.op_basis.specs.Basis.{members}
 use Rattle.op_basis.specs.Text.{name_of, list_below, with_word, text_with, basis_text, all_set, u2_set, bench_set, nand_set}
 use Rattle.op_basis.specs.Word.{word_text}
@@ -29,13 +30,15 @@ use Rattle.chain_core.specs.Spelling.{line, chain_lines}
 use Rattle.chain_core.specs.WrittenBlockLaws.{lines_back, block_written}
 use Rattle.settings.specs.declared.methods.Method.{Method}
 use Rattle.settings.specs.declared.methods.Method.TheVariants.{Plain, Ssv, Select, Fence}
-use Rattle.cert_theory.specs.declared.data.Heading.{Heading}
+use Rattle.cert_theory.specs.declared.data.Header.{Header}
 use Rattle.cert_theory.specs.declared.data.Ended.{Ended}
 use Rattle.cert_theory.specs.declared.data.Ended.TheVariants as ends
 use Rattle.cert_theory.specs.declared.data.Verdict.{Verdict}
 use Rattle.cert_theory.specs.declared.data.Verdict.TheVariants as verdicts
 use Rattle.settings.specs.Methods.{method_text}
-use Rattle.cert_theory.specs.Spelling.{text_of, table_text, table_line, tables_lines, basis_line, method_line, conflicts_line, max_line, first_text, heading_lines, size_line, ended_text, done_text, log_line, verdict_line, end_text, title_text, title_lines}
+use Rattle.cert_theory.specs.Spelling.{text_of, table_text, table_line, tables_lines, basis_line, method_line}
+use Rattle.cert_theory.specs.Spelling.{conflicts_line, max_line, first_text, header_lines, size_line, ended_text}
+use Rattle.cert_theory.specs.Spelling.{done_text, log_line, verdict_line, end_text, fence_text, name_lines}
 
 -- lines that are split from their text, whatever follows
 pub record IsWhole (ls : List Line) : Type 0 where
@@ -111,9 +114,11 @@ free_chosen false xs ys one two = two
 free_list : (set k : ℕ) → is_free 10 (list_below set k) ≡ true
 unfolding list_below is_free
 free_list set zero = refl
-free_list set (suc k) = free_chosen (members set k) (with_word (list_below set k) (word_text k)) (list_below set k) (free_with (list_below set k) (word_text k) (free_list set k) (free_operator k)) (free_list set k)
+free_list set (suc k) = free_chosen (members set k) (with_word (list_below set k) (word_text k)) (list_below set k)
+    (free_with (list_below set k) (word_text k) (free_list set k) (free_operator k)) (free_list set k)
 
-free_named : (b : Bool) (name : List ℕ) (o : Option (List ℕ)) (list : List ℕ) → is_free 10 name ≡ true → is_free 10 (text_with o list) ≡ true → is_free 10 (text_with (cond b (Some name) o) list) ≡ true
+free_named : (b : Bool) (name : List ℕ) (o : Option (List ℕ)) (list : List ℕ) → is_free 10 name ≡ true →
+    is_free 10 (text_with o list) ≡ true → is_free 10 (text_with (cond b (Some name) o) list) ≡ true
 free_named true name o list one two = one
 free_named false name o list one two = two
 
@@ -166,10 +171,15 @@ free_first : is_free 10 first_text ≡ true
 unfolding is_free
 free_first = refl
 
-pub whole_heading : (h : Heading) → h.spec.n < 2 ^ 64 → h.conflicts < 2 ^ 64 → h.max < 2 ^ 64 → IsWhole (heading_lines h)
-whole_heading h inputs conflicts max =
-    let four = whole_cons _ _ (whole_line (basis_line h.basis) (free_basis_line h.basis)) (whole_cons _ _ (whole_line (method_line h.method) (free_method_line h.method)) (whole_cons _ _ (whole_line (conflicts_line h.conflicts) (free_conflicts_line h.conflicts conflicts)) (whole_line (max_line h.max) (free_max_line h.max max)))) in
-    let tables = whole_cons (header_line h.spec.n) (map (λ i. table_line h.spec (i + 1)) (range_with_len 0 (length h.spec.on))) (whole_line (codes "inputs " ++ decimal h.spec.n) (free_inputs h.spec.n inputs)) (whole_tables h.spec (range_with_len 0 (length h.spec.on))) in
+pub whole_header : (h : Header) → h.spec.n < 2 ^ 64 → h.conflicts < 2 ^ 64 → h.max < 2 ^ 64 → IsWhole (header_lines h)
+whole_header h inputs conflicts max =
+    let four = whole_cons _ _ (whole_line (basis_line h.basis) (free_basis_line h.basis))
+    (whole_cons _ _ (whole_line (method_line h.method) (free_method_line h.method))
+    (whole_cons _ _ (whole_line (conflicts_line h.conflicts) (free_conflicts_line h.conflicts conflicts))
+    (whole_line (max_line h.max) (free_max_line h.max max)))) in
+    let tables = whole_cons (inputs_line h.spec.n)
+    (map (λ i. table_line h.spec (i + 1)) (range_with_len 0 (length h.spec.on))) (whole_line (codes "inputs " ++
+    decimal h.spec.n) (free_inputs h.spec.n inputs)) (whole_tables h.spec (range_with_len 0 (length h.spec.on))) in
     whole_cons (line first_text) _ (whole_line first_text free_first) (whole_both (tables_lines h.spec) _ tables four)
 
 -- ---- logs, and the trailer
@@ -200,10 +210,12 @@ unfolding is_free
 free_sizes [] low = refl
 free_sizes (q ∷ qs) low = free_both 10 (32 ∷ decimal q) (flat_map (λ size. 32 ∷ decimal size) qs) (free_decimal 10 q (omega arith) low.0) (free_sizes qs low.1)
 
-pub whole_title : (part : Part) → HasShortTitle part → IsWhole (title_lines part)
-unfolding title_lines title_text HasShortTitle is_free
-whole_title Whole short = whole_none
-whole_title (Levels sizes) short = whole_line (codes "fence" ++ flat_map (λ size. 32 ∷ decimal size) sizes) (free_both 10 (codes "fence") (flat_map (λ size. 32 ∷ decimal size) sizes) refl (free_sizes sizes (recursion_from_All (λ size. size < 2 ^ 64) sizes short)))
+pub whole_name : (subproblem : Subproblem) → HasShortName subproblem → IsWhole (name_lines subproblem)
+unfolding name_lines fence_text HasShortName is_free
+whole_name Whole short = whole_none
+whole_name (Levels sizes) short = whole_line (codes "fence" ++ flat_map (λ size. 32 ∷ decimal size) sizes)
+    (free_both 10 (codes "fence") (flat_map (λ size. 32 ∷ decimal size) sizes) refl
+    (free_sizes sizes (recursion_from_All (λ size. size < 2 ^ 64) sizes short)))
 
 pub whole_done : IsWhole (line done_text ∷ [])
 whole_done = whole_line done_text free_done

@@ -2,8 +2,8 @@
 //! which faults a text has; this crate proves what follows, and has no code.
 //!
 //! - Lines are accepted with a verdict exactly where they spell a valid certificate that has it. One direction
-//!   (`specs/BundleSpellings.antt`) follows the checker's definition line by line, the other
-//!   (`specs/BundlesAgain.antt`) follows the spelling.
+//!   (`specs/CertificateSpellings.antt`) follows the checker's definition line by line, the other
+//!   (`specs/CertificatesAgain.antt`) follows the spelling.
 //! - The verdict of a valid certificate is true (`specs/Meanings.antt`): a size whose subproblems are all
 //!   refuted isn't the minimum, by the laws of the method's formulas (`specs/CodingLaws.antt`).
 //! - The text determines the tables and the basis (`specs/QuestionLaws.antt`).

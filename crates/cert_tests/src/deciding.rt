@@ -1,13 +1,13 @@
 //! The cache finds the result of a specification again for one that differs only by an input permutation: the
 //! second question goes to a solver that answers nothing.
 ghost use Rattle.std.specs.Prelude.{◌≡◌, IfSome};
-ghost use Rattle.cert_theory.specs.Bundle.{IsHeading};
+ghost use Rattle.cert_theory.specs.Certificate.{IsHeader};
 
 use cdcl_core::Cdcl;
 use cnf_core::{Cnf, Lit};
-use decide_core::{Decided, Heading, Memory, decide};
+use decide_core::{Decided, Header, SpecCache, decide};
 use op_basis::Basis;
-use sat_solve::{Cones, Probed, Solved, Solver};
+use sat_solve::{AssumptionResult, Cones, Solved, Solver};
 use settings::Method;
 use std::alloc::{AllocError, Global};
 use tt_core::read_tables;
@@ -25,12 +25,12 @@ impl Solver for Silent {
         Err(AllocError)
     }
 
-    fn probe(
+    fn solve_assuming(
         &mut self,
         _targets: &[Lit],
         _cones: Cones,
         _limit: u32,
-    ) -> Result<Probed, AllocError> {
+    ) -> Result<AssumptionResult, AllocError> {
         Err(AllocError)
     }
 
@@ -45,9 +45,9 @@ impl Solver for Silent {
 
 /// The question whether tables, of at most 1,000 bytes, have a chain of at most `max` steps, up to 16, over a
 /// basis.
-fn heading_of(alloc: Global, text: &[u8], basis: Basis, max: u32) -> Option<Heading>
-    ensures heading { IfSome result IsHeading }
-    ensures basis { IfSome result (λ heading. heading.basis ≡ basis) }
+fn header_of(alloc: Global, text: &[u8], basis: Basis, max: u32) -> Option<Header>
+    ensures header { IfSome result IsHeader }
+    ensures basis { IfSome result (λ header. header.basis ≡ basis) }
 {
     if text.len() > 1_000 || basis.get() == 0 || max > 16 {
         return None;
@@ -57,7 +57,7 @@ fn heading_of(alloc: Global, text: &[u8], basis: Basis, max: u32) -> Option<Head
     };
     // for the prover: brings in the type invariant
     let _inputs = tables.spec.n();
-    Some(Heading {
+    Some(Header {
         spec: tables.spec,
         basis,
         method: Method::Ssv,
@@ -76,12 +76,12 @@ enum Answer {
 }
 
 /// The answer to a question, with a cache for its basis.
-fn answer_of<S: Solver>(alloc: Global, memory: &mut Memory, heading: &Heading) -> Answer
-    requires heading { IsHeading heading.now }
-    requires basis { memory.old.basis ≡ heading.now.basis }
+fn answer_of<S: Solver>(alloc: Global, memory: &mut SpecCache, header: &Header) -> Answer
+    requires header { IsHeader header.now }
+    requires basis { memory.old.basis ≡ header.now.basis }
     ensures { memory.new.basis ≡ memory.old.basis }
 {
-    match decide::<S>(alloc, memory, heading) {
+    match decide::<S>(alloc, memory, header) {
         Ok(Decided::Shorter(_)) => Answer::Shorter,
         Ok(Decided::Least) => Answer::Least,
         Ok(Decided::Open(_)) => Answer::Open,
@@ -96,22 +96,22 @@ const ALL: u16 = 65_535;
 /// had one without a solver before.
 fn is_found_again(alloc: Global, first: &[u8], second: &[u8], max: u32, wanted: Answer) -> bool {
     let basis = Basis::new(ALL);
-    let Some(heading) = heading_of(alloc, first, basis, max) else {
+    let Some(header) = header_of(alloc, first, basis, max) else {
         return false;
     };
-    let Some(turned) = heading_of(alloc, second, basis, max) else {
+    let Some(turned) = header_of(alloc, second, basis, max) else {
         return false;
     };
-    let mut memory = Memory::new(alloc, basis);
+    let mut memory = SpecCache::new(alloc, basis);
     let before = answer_of::<Silent>(alloc, &mut memory, &turned);
-    let found = answer_of::<Cdcl>(alloc, &mut memory, &heading);
+    let found = answer_of::<Cdcl>(alloc, &mut memory, &header);
     let again = answer_of::<Silent>(alloc, &mut memory, &turned);
     before == Answer::Nothing && found == wanted && again == wanted
 }
 
 /// Tables, the same tables with their inputs permuted, the greatest number of steps, and the answer. Fewer than
 /// five steps are enumerated without a search.
-const TURNED: &[(&[u8], &[u8], u32, Answer)] = &[
+const PERMUTED: &[(&[u8], &[u8], u32, Answer)] = &[
     // the full adder beside the AND of x1 and x2; beside that of x1 and x3
     (
         b"inputs 3\n01101001\n00010111\n00000011\n",
@@ -129,8 +129,8 @@ const TURNED: &[(&[u8], &[u8], u32, Answer)] = &[
 ];
 
 #[test]
-fn what_was_decided_is_found_in_any_order_of_inputs(rt: HostRuntime) {
-    for &(first, second, max, wanted) in TURNED {
+fn decided_specifications_are_found_in_any_order_of_inputs(rt: HostRuntime) {
+    for &(first, second, max, wanted) in PERMUTED {
         assert!(rt;
             is_found_again(rt.alloc(), first, second, max, wanted),
             "{max}"

@@ -1,6 +1,6 @@
 //! Certificates as texts, judged whole and in pieces: wherever they are cut, the answer is that of the whole.
 use crate::pieces::{MOST_BYTES, comes_in_pieces};
-use cert_file::{BundleError, Stage, Verdict, check_bundle};
+use cert_file::{CertificateError, Stage, Verdict, check_certificate};
 use lrat_check::CheckError;
 use std::alloc::{AllocError, Global};
 
@@ -118,93 +118,98 @@ fn text_of(alloc: Global, lines: &[&[u8]], first: Put, second: Put) -> Result<Ve
 }
 
 /// Certificates, the replacements of two of their lines, and the answer.
-const JUDGED: &[(&[&[u8]], Put, Put, Result<Verdict, BundleError>)] = &[
+const JUDGED: &[(&[&[u8]], Put, Put, Result<Verdict, CertificateError>)] = &[
     // refutations
     (NOT_BY_AND, NOTHING, NOTHING, Ok(Verdict::NoChain(1))),
     (
         NOT_BY_AND,
         (13, b"24 -5 0 1 2 3 4 6 7 20 0\n"),
         NOTHING,
-        Err(BundleError::StepRefused(13, CheckError::NoConflict)),
+        Err(CertificateError::StepRefused(13, CheckError::NoConflict)),
     ),
     (
         NOT_BY_AND,
         (13, b"24 -5 0 1 2 3 4 6 22 20 0\n"),
         NOTHING,
-        Err(BundleError::StepRefused(13, CheckError::NotUnit(22))),
+        Err(CertificateError::StepRefused(13, CheckError::NotUnit(22))),
     ),
     (
         NOT_BY_AND,
         (13, b"24 -5 0 1 2 3 4 6 7 22 20 0\n25 d 16 0\n"),
         NOTHING,
-        Err(BundleError::StepRefused(15, CheckError::UnknownId(16))),
+        Err(CertificateError::StepRefused(15, CheckError::UnknownId(16))),
     ),
     (
         NOT_BY_AND,
         (11, b"size 2\n"),
         NOTHING,
-        Err(BundleError::SizeOutOfOrder(11)),
+        Err(CertificateError::SizeOutOfOrder(11)),
     ),
     (
         NOT_BY_AND,
         (14, b""),
         NOTHING,
-        Err(BundleError::NotRefuted(14)),
+        Err(CertificateError::NotRefuted(14)),
     ),
     (
         NOT_BY_AND,
         (12, b"open\n"),
         (14, b""),
-        Err(BundleError::OpenTooShort(14)),
+        Err(CertificateError::OpenTooShort(14)),
     ),
     (
         NOT_BY_AND,
         (12, b"open\n"),
         NOTHING,
-        Err(BundleError::WrongVerdict(15)),
+        Err(CertificateError::WrongVerdict(15)),
     ),
     (
         NOT_BY_AND,
         (12, b"open\n"),
         (14, b"25 -5 3 0 1 0\n"),
-        Err(BundleError::NotNew(14)),
+        Err(CertificateError::NotNew(14)),
     ),
     (
         NOT_BY_AND,
         (16, b"none 0\n"),
         NOTHING,
-        Err(BundleError::WrongVerdict(16)),
+        Err(CertificateError::WrongVerdict(16)),
     ),
     (
         NOT_BY_AND,
         (16, b""),
         (17, b""),
-        Err(BundleError::Syntax(16)),
+        Err(CertificateError::Syntax(16)),
     ),
     (
         NOT_BY_AND,
         (17, b"end\n\n"),
         NOTHING,
-        Err(BundleError::Syntax(18)),
+        Err(CertificateError::Syntax(18)),
     ),
     (
         NOT_BY_AND,
         (5, b"method fences\n"),
         NOTHING,
-        Err(BundleError::Syntax(5)),
+        Err(CertificateError::Syntax(5)),
     ),
     (
         NOT_BY_AND,
         (2, b"inputs 7\n"),
         NOTHING,
-        Err(BundleError::Syntax(2)),
+        Err(CertificateError::Syntax(2)),
     ),
-    (NOT_BY_AND, (3, b""), NOTHING, Err(BundleError::Syntax(3))),
+    (
+        NOT_BY_AND,
+        (3, b""),
+        NOTHING,
+        Err(CertificateError::Syntax(3)),
+    ),
     (
         NOT_BY_AND,
         (4, b"basis 0110,0001\n"),
         NOTHING,
-        Err(BundleError::Syntax(4)),
+        Err(CertificateError::Syntax(4)),
     ),
     // with `ssv` three symmetry-breaking clauses come after the plain ones, and take the next three ids
     (
@@ -220,7 +225,7 @@ const JUDGED: &[(&[&[u8]], Put, Put, Result<Verdict, BundleError>)] = &[
         NOT_YET,
         (5, b"method ssv\n"),
         (13, b"26 -5 0 1 2 3 4 6 7 22 20 0\n"),
-        Err(BundleError::StepRefused(13, CheckError::IdNotGreater(26))),
+        Err(CertificateError::StepRefused(13, CheckError::IdNotGreater(26))),
     ),
     // chains
     (XOR, NOTHING, NOTHING, Ok(Verdict::Minimum(1))),
@@ -235,107 +240,112 @@ const JUDGED: &[(&[&[u8]], Put, Put, Result<Verdict, BundleError>)] = &[
         XOR,
         (12, b"x3 x1 x2 1001\n"),
         NOTHING,
-        Err(BundleError::ChainDiffers(1, 0)),
+        Err(CertificateError::ChainDiffers(1, 0)),
     ),
     (
         XOR,
         (4, b"basis 0001\n"),
         NOTHING,
-        Err(BundleError::OperatorNotInBasis(3)),
+        Err(CertificateError::OperatorNotInBasis(3)),
     ),
     (
         XOR,
         (14, b"minimum 2\n"),
         NOTHING,
-        Err(BundleError::WrongVerdict(14)),
+        Err(CertificateError::WrongVerdict(14)),
     ),
     (
         XOR,
         (14, b"none 1\n"),
         NOTHING,
-        Err(BundleError::Syntax(14)),
+        Err(CertificateError::Syntax(14)),
     ),
     (
         XOR,
         (11, b"chain 2\n"),
         NOTHING,
-        Err(BundleError::SizeOutOfOrder(11)),
+        Err(CertificateError::SizeOutOfOrder(11)),
     ),
     (
         XOR,
         (11, b"chain 17\n"),
         NOTHING,
-        Err(BundleError::Syntax(11)),
+        Err(CertificateError::Syntax(11)),
     ),
-    (XOR, (15, b""), NOTHING, Err(BundleError::Syntax(15))),
-    (XOR, (15, b"end\n\n"), NOTHING, Err(BundleError::Syntax(16))),
+    (XOR, (15, b""), NOTHING, Err(CertificateError::Syntax(15))),
+    (
+        XOR,
+        (15, b"end\n\n"),
+        NOTHING,
+        Err(CertificateError::Syntax(16)),
+    ),
     // the names of fences are compared
     (NOT_BY_FENCES, NOTHING, NOTHING, Ok(Verdict::NoChain(1))),
     (
         NOT_BY_FENCES,
         (8, b"fence\n"),
         NOTHING,
-        Err(BundleError::Syntax(8)),
+        Err(CertificateError::Syntax(8)),
     ),
     (
         NOT_BY_FENCES,
         (9, b""),
         NOTHING,
-        Err(BundleError::Syntax(9)),
+        Err(CertificateError::Syntax(9)),
     ),
     (
         NOT_BY_FENCES,
         (9, b"size 1\n"),
         NOTHING,
-        Err(BundleError::NotRefuted(9)),
+        Err(CertificateError::NotRefuted(9)),
     ),
     (
         NOT_BY_FENCES,
         (9, b"none 1\n"),
         NOTHING,
-        Err(BundleError::NotRefuted(9)),
+        Err(CertificateError::NotRefuted(9)),
     ),
     (
         NOT_BY_FENCES,
         (9, b"chain 17\n"),
         NOTHING,
-        Err(BundleError::Syntax(9)),
+        Err(CertificateError::Syntax(9)),
     ),
     (
         NOT_BY_FENCES,
         (13, b"fence 0\n"),
         NOTHING,
-        Err(BundleError::NotRefuted(13)),
+        Err(CertificateError::NotRefuted(13)),
     ),
     (
         NOT_BY_FENCES,
         (13, b"fence 01\n"),
         NOTHING,
-        Err(BundleError::Syntax(13)),
+        Err(CertificateError::Syntax(13)),
     ),
     (
         NOT_BY_FENCES,
         (13, b"fence 1 \n"),
         NOTHING,
-        Err(BundleError::Syntax(13)),
+        Err(CertificateError::Syntax(13)),
     ),
     (
         NOT_BY_FENCES,
         (18, b"fence 1\n"),
         NOTHING,
-        Err(BundleError::NotRefuted(18)),
+        Err(CertificateError::NotRefuted(18)),
     ),
     (
         NOT_BY_FENCES,
         (18, b"none 2\n"),
         NOTHING,
-        Err(BundleError::WrongVerdict(18)),
+        Err(CertificateError::WrongVerdict(18)),
     ),
     (
         NOT_BY_FENCES,
         (5, b"method ssv\n"),
         NOTHING,
-        Err(BundleError::Syntax(9)),
+        Err(CertificateError::Syntax(9)),
     ),
 ];
 
@@ -345,12 +355,12 @@ fn is_judged(
     lines: &[&[u8]],
     first: Put,
     second: Put,
-    answer: Result<Verdict, BundleError>,
+    answer: Result<Verdict, CertificateError>,
 ) -> bool {
     match text_of(alloc, lines, first, second) {
         Ok(text) => {
             text.len() <= MOST_BYTES
-                && check_bundle(alloc, &text) == answer
+                && check_certificate(alloc, &text) == answer
                 && comes_in_pieces::<Stage>(alloc, &text, &answer)
         }
         Err(_) => false,

@@ -10,11 +10,11 @@ mod depths;
 #[cfg(test)]
 mod judging;
 #[cfg(test)]
-mod parts;
-#[cfg(test)]
 mod pieces;
 #[cfg(test)]
 mod searching;
+#[cfg(test)]
+mod subproblems;
 #[cfg(test)]
 mod synthesising;
 #[cfg(test)]

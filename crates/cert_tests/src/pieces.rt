@@ -10,11 +10,11 @@ use std::alloc::Global;
 pub(crate) const MOST_BYTES: usize = 10_000;
 
 /// Feeds two pieces.
-fn in_two<S: LineStage>(alloc: Global, front: &[u8], behind: &[u8]) -> Result<S::End, S::Fault>
-    requires { length front.now + length behind.now < 2 ^ 31 }
+fn in_two<S: LineStage>(alloc: Global, prefix: &[u8], following: &[u8]) -> Result<S::End, S::Fault>
+    requires { length prefix.now + length following.now < 2 ^ 31 }
 {
     let reader: PieceReader<S> = PieceReader::new(alloc);
-    reader.feed(front)?.feed(behind)?.finish()
+    reader.feed(prefix)?.feed(following)?.finish()
 }
 
 /// Feeds each byte by itself.
@@ -44,8 +44,8 @@ where
     requires { length text.now ≤ 10000 }
 {
     for at in 0..=text.len() {
-        let (front, behind) = text.split_at(at);
-        if in_two::<S>(alloc, front, behind) != *answer {
+        let (prefix, following) = text.split_at(at);
+        if in_two::<S>(alloc, prefix, following) != *answer {
             return false;
         }
     }

@@ -1,9 +1,9 @@
 //! The search for a chain of the fewest steps.
 use cdcl_core::Cdcl;
-use cert_theory::{Bundle, Verdict};
+use cert_theory::{Certificate, Verdict};
 use op_basis::Basis;
 use settings::Method;
-use size_loop::{Advance, Search, search};
+use size_loop::{Advance, SizeSearch, search};
 use std::alloc::Global;
 use tt_core::read_tables;
 
@@ -20,7 +20,7 @@ fn searched(
     method: Method,
     max: u32,
     budget: u32,
-) -> Option<Bundle> {
+) -> Option<Certificate> {
     if text.len() > 1_000 || basis == 0 || max > 16 || budget == 0 || budget > 10_000_000 {
         return None;
     }
@@ -28,7 +28,7 @@ fn searched(
         return None;
     };
     match search::<Cdcl>(alloc, &tables.spec, Basis::new(basis), method, max, budget) {
-        Ok(bundle) => Some(bundle),
+        Ok(certificate) => Some(certificate),
         Err(_) => None,
     }
 }
@@ -83,7 +83,7 @@ fn ends_in(
     end: (Verdict, usize),
 ) -> bool {
     match searched(alloc, text, basis, method, limits.0, limits.1) {
-        Some(bundle) => bundle.verdict == end.0 && bundle.sections.len() == end.1,
+        Some(certificate) => certificate.verdict == end.0 && certificate.sections.len() == end.1,
         None => false,
     }
 }
@@ -115,7 +115,7 @@ fn has_ended(advance: &Advance) -> bool {
 }
 
 /// Whether the next size is the last, with a chain of one step.
-fn ends(alloc: Global, search: Search) -> bool {
+fn ends(alloc: Global, search: SizeSearch) -> bool {
     match search.advance::<Cdcl>(alloc) {
         Ok(advance) => has_ended(&advance),
         Err(_) => false,
@@ -127,7 +127,7 @@ fn goes_on(alloc: Global) -> bool {
     let Ok(tables) = read_tables(alloc, XOR) else {
         return false;
     };
-    let search = Search::new(tables.spec, Basis::new(ALL), Method::Plain, 16, 100_000);
+    let search = SizeSearch::new(tables.spec, Basis::new(ALL), Method::Plain, 16, 100_000);
     match search.advance::<Cdcl>(alloc) {
         Ok(Advance::Section { rest, section }) => ends(alloc, rest) && section.size == 0,
         _ => false,
@@ -135,6 +135,6 @@ fn goes_on(alloc: Global) -> bool {
 }
 
 #[test]
-fn search_goes_on_a_size_at_a_time(rt: HostRuntime) {
+fn search_advances_size_by_size(rt: HostRuntime) {
     assert!(rt; goes_on(rt.alloc()));
 }

@@ -3,9 +3,9 @@ use cdcl_core::Cdcl;
 use cert_theory::Verdict;
 use op_basis::Basis;
 use settings::Method;
-use size_loop::Search;
+use size_loop::SizeSearch;
 use std::alloc::{AllocError, Global};
-use synth_core::{Piece, SynthSettings, begin, go_on};
+use synth_core::{Piece, SynthSettings, begin, next_piece};
 use tt_core::SpecError;
 
 const ALL: u16 = 65_535;
@@ -16,25 +16,25 @@ const NAND: u16 = 16_384;
 /// What comes after a piece: the continued search, or the verdict.
 #[derive(Drop)]
 enum Next {
-    Size(Search),
+    Size(SizeSearch),
     End(Verdict),
 }
 
 /// A certificate as it was handed out, and its verdict.
 #[derive(Drop)]
-struct Certificate {
+struct Synthesized {
     text: Vec<u8>,
     verdict: Verdict,
 }
 
 /// Appends the piece of the next size, and returns what comes after it.
-fn push_piece(alloc: Global, search: Search, whole: &mut Vec<u8>) -> Result<Next, AllocError> {
-    match go_on::<Cdcl>(alloc, search)? {
+fn push_piece(alloc: Global, search: SizeSearch, whole: &mut Vec<u8>) -> Result<Next, AllocError> {
+    match next_piece::<Cdcl>(alloc, search)? {
         Piece::Section { search, text } => {
             whole.extend_from_slice(&text)?;
             Ok(Next::Size(search))
         }
-        Piece::Ending { text, verdict } => {
+        Piece::Trailer { text, verdict } => {
             whole.extend_from_slice(&text)?;
             Ok(Next::End(verdict))
         }
@@ -42,7 +42,11 @@ fn push_piece(alloc: Global, search: Search, whole: &mut Vec<u8>) -> Result<Next
 }
 
 /// Appends the pieces of all sizes, at most 18.
-fn push_pieces(alloc: Global, search: Search, whole: &mut Vec<u8>) -> Result<Verdict, AllocError> {
+fn push_pieces(
+    alloc: Global,
+    search: SizeSearch,
+    whole: &mut Vec<u8>,
+) -> Result<Verdict, AllocError> {
     let mut search = search;
     for _size in 0..18u32 {
         match push_piece(alloc, search, whole)? {
@@ -61,20 +65,20 @@ fn certified(
     method: Method,
     max: u32,
     conflicts: u32,
-) -> Result<Certificate, SpecError> {
+) -> Result<Synthesized, SpecError> {
     if text.len() > 1_000 || basis == 0 || max > 16 || conflicts == 0 || conflicts > 10_000_000 {
         return Err(SpecError::Memory);
     }
-    let asked = SynthSettings {
+    let settings = SynthSettings {
         basis: Basis::new(basis),
         method,
         max,
         conflicts,
     };
-    let begun = begin(alloc, text, &asked)?;
+    let begun = begin(alloc, text, &settings)?;
     let mut whole = begun.text;
     let verdict = push_pieces(alloc, begun.search, &mut whole)?;
-    Ok(Certificate {
+    Ok(Synthesized {
         text: whole,
         verdict,
     })
@@ -91,7 +95,7 @@ enum Wanted {
 }
 
 /// Whether a certificate is the expected one.
-fn is_wanted(certificate: &Certificate, wanted: Wanted) -> bool {
+fn is_wanted(certificate: &Synthesized, wanted: Wanted) -> bool {
     match wanted {
         Wanted::Ends(end) => certificate.text.ends_with(end),
         Wanted::Whole(whole) => {
@@ -104,7 +108,7 @@ fn is_wanted(certificate: &Certificate, wanted: Wanted) -> bool {
 /// Whether a refusal is the expected one.
 fn is_refusal(error: SpecError, wanted: Wanted) -> bool {
     match wanted {
-        Wanted::Refused(told) => told == error,
+        Wanted::Refused(reported) => reported == error,
         _ => false,
     }
 }

@@ -1,8 +1,8 @@
 //! Certificates as they are written, piece by piece.
-use cert_text::{write_ending, write_heading, write_section};
-use cert_theory::{Ended, PartLog, Section, Verdict};
+use cert_text::{write_header, write_section, write_trailer};
+use cert_theory::{Ended, Section, SubproblemLog, Verdict};
 use cnf_core::Lit;
-use enc_theory::Part;
+use enc_theory::Subproblem;
 use fence_core::Fence;
 use log_core::Log;
 use op_basis::Basis;
@@ -15,19 +15,19 @@ use tt_core::read_tables;
 fn section(alloc: Global) -> Result<Section, AllocError> {
     let mut log = Log::new(alloc);
     log.add(5, &[Lit::of(2, true)], &[1, 2])?;
-    let whole = PartLog {
-        part: Part::Whole,
+    let whole = SubproblemLog {
+        subproblem: Subproblem::Whole,
         ended: Ended::Refuted,
         log: Log::new(alloc),
     };
-    let fence = PartLog {
-        part: Part::Levels(Fence::new(vec![in alloc; 2, 1]?)),
+    let fence = SubproblemLog {
+        subproblem: Subproblem::Levels(Fence::new(vec![in alloc; 2, 1]?)),
         ended: Ended::Open,
         log,
     };
     Ok(Section {
         size: 0,
-        parts: vec![in alloc; whole, fence]?,
+        subproblems: vec![in alloc; whole, fence]?,
     })
 }
 
@@ -42,9 +42,9 @@ fn pieces_are_spelled(rt: HostRuntime) -> Result<(), Fail> {
     };
     let mut text = Vec::new(alloc);
     let all = Basis::new(65_535);
-    assert!(rt; write_heading(&tables.spec, all, Method::Plain, 100_000, 16, &mut text).is_ok());
+    assert!(rt; write_header(&tables.spec, all, Method::Plain, 100_000, 16, &mut text).is_ok());
     assert!(rt; write_section(&section, &mut text).is_ok());
-    assert!(rt; write_ending(&None, Verdict::Bounded { low: 1, r: 2 }, &mut text).is_ok());
+    assert!(rt; write_trailer(&None, Verdict::Bounded { low: 1, r: 2 }, &mut text).is_ok());
     let expected =
         b"chains 1\ninputs 2\n01-0\n1001\nbasis all\nmethod plain\nconflicts 100000\nmax 16\nsize 0\nrefuted\ndone\nfence 2 1\nopen\n5 2 0 1 2 0\ndone\nbounded 1 2\nend\n";
     assert!(rt; text.as_slice() == expected.as_slice());

@@ -8,14 +8,17 @@ use Rattle.sat_theory.specs.Line as theory
 use Rattle.lrat_text.specs.Spelling.{line_text}
 use Rattle.tt_core.specs.Words.{Words, cell_of}
 use Rattle.tt_core.specs.Spelling.{character}
-use Rattle.tt_core.specs.Spelling.{header_line}
+use Rattle.tt_core.specs.Spelling.{inputs_line}
 use Rattle.chain_core.specs.Spelling.{line}
 use Rattle.chain_theory.specs.Chain.{Chain}
-use Rattle.cert_theory.specs.declared.data.Heading.{Heading}
+use Rattle.cert_theory.specs.declared.data.Header.{Header}
 use Rattle.cert_theory.specs.declared.data.Verdict.{Verdict}
-use Rattle.cert_theory.specs.Bundle.{PartLog, Section}
-use Rattle.cert_theory.specs.Spelling.{text_of, table_text, table_line, log_line, part_lines, section_lines, first_text, heading_lines, basis_line, method_line, conflicts_line, max_line, title_lines, ended_text, done_text, size_line, block_lines, verdict_line, end_text, ending_lines, bundle_text}
-use Rattle.cert_text.specs.Texts.{cells_to, tables_to, parts_text, sections_text, spelled, heading_text, whole_text}
+use Rattle.cert_theory.specs.Certificate.{SubproblemLog, Section}
+use Rattle.cert_theory.specs.Spelling.{text_of, table_text, table_line, log_line, subproblem_lines, section_lines}
+use Rattle.cert_theory.specs.Spelling.{first_text, header_lines, basis_line, method_line, conflicts_line, max_line}
+use Rattle.cert_theory.specs.Spelling.{name_lines, ended_text, done_text, size_line, block_lines, verdict_line}
+use Rattle.cert_theory.specs.Spelling.{end_text, trailer_lines, cert_text}
+use Rattle.cert_text.specs.Texts.{cells_to, tables_to, subproblems_text, sections_text, spelled, header_text, whole_text}
 
 pub cells_none : (w : Words) (h : ℕ) → cells_to w h 0 ≡ []
 unfolding cells_to
@@ -44,13 +47,13 @@ log_spelled : (ls : List theory.Line) → text_of (map log_line ls) ≡ flat_map
 log_spelled [] = refl
 log_spelled (l ∷ ls) = ap (λ (xs : List ℕ). line_text l ++ xs) (log_spelled ls)
 
-pub parts_none : parts_text [] ≡ []
-unfolding parts_text
-parts_none = refl
+pub subproblems_none : subproblems_text [] ≡ []
+unfolding subproblems_text
+subproblems_none = refl
 
-pub parts_more : (p : PartLog) (ps : List PartLog) → parts_text (p ∷ ps) ≡ text_of (part_lines p) ++ parts_text ps
-unfolding parts_text
-parts_more p ps = flat_map-append line_bytes (part_lines p) (flat_map part_lines ps)
+pub subproblems_more : (p : SubproblemLog) (ps : List SubproblemLog) → subproblems_text (p ∷ ps) ≡ text_of (subproblem_lines p) ++ subproblems_text ps
+unfolding subproblems_text
+subproblems_more p ps = flat_map-append line_bytes (subproblem_lines p) (flat_map subproblem_lines ps)
 
 pub sections_none : sections_text [] ≡ []
 unfolding sections_text
@@ -69,44 +72,49 @@ text_both ls more = flat_map-append line_bytes ls more
 regroup : (a b t c d e f : List ℕ) → a ++ (b ++ (t ++ (c ++ (d ++ (e ++ (f ++ [])))))) ≡ a ++ b ++ t ++ c ++ d ++ (e ++ f)
 regroup a b t c d e f = simp append_assoc (simp append-nil)
 
-pub heading_spelled : (h : Heading) → heading_text h ≡ text_of (heading_lines h)
-unfolding heading_text spelled tables_to
-heading_spelled h =
+pub header_spelled : (h : Header) → header_text h ≡ text_of (header_lines h)
+unfolding header_text spelled tables_to
+header_spelled h =
     let tables = map (λ i. table_line h.spec (i + 1)) (range_with_len 0 (length h.spec.on)) in
     let others = line (basis_line h.basis) ∷ line (method_line h.method) ∷ line (conflicts_line h.conflicts) ∷ line (max_line h.max) ∷ [] in
     sym
-    (ap (λ (xs : List ℕ). line_bytes (line first_text) ++ (line_bytes (header_line h.spec.n) ++ xs)) (text_both tables others)
-    ∙ regroup (line_bytes (line first_text)) (line_bytes (header_line h.spec.n)) (text_of tables) (line_bytes (line (basis_line h.basis))) (line_bytes (line (method_line h.method))) (line_bytes (line (conflicts_line h.conflicts))) (line_bytes (line (max_line h.max))))
+    (ap (λ (xs : List ℕ). line_bytes (line first_text) ++ (line_bytes (inputs_line h.spec.n) ++ xs)) (text_both tables others)
+    ∙ regroup (line_bytes (line first_text)) (line_bytes (inputs_line h.spec.n)) (text_of tables)
+    (line_bytes (line (basis_line h.basis))) (line_bytes (line (method_line h.method)))
+    (line_bytes (line (conflicts_line h.conflicts))) (line_bytes (line (max_line h.max))))
 
-pub part_parts : (p : PartLog) → text_of (part_lines p) ≡ text_of (title_lines p.part) ++ line_bytes (line (ended_text p.ended)) ++ flat_map line_text p.log ++ line_bytes (line done_text)
-unfolding part_lines
-part_parts p =
-    text_both (title_lines p.part) (line (ended_text p.ended) ∷ (map log_line p.log ++ line done_text ∷ []))
-    ∙ ap (λ (xs : List ℕ). text_of (title_lines p.part) ++ (line_bytes (line (ended_text p.ended)) ++ xs)) (text_both (map log_line p.log) (line done_text ∷ []) ∙ ap (λ (xs : List ℕ). xs ++ text_of (line done_text ∷ [])) (log_spelled p.log))
+pub subproblem_subproblems : (p : SubproblemLog) → text_of (subproblem_lines p) ≡ text_of (name_lines p.subproblem) ++
+    line_bytes (line (ended_text p.ended)) ++ flat_map line_text p.log ++ line_bytes (line done_text)
+unfolding subproblem_lines
+subproblem_subproblems p =
+    text_both (name_lines p.subproblem) (line (ended_text p.ended) ∷ (map log_line p.log ++ line done_text ∷ []))
+    ∙ ap (λ (xs : List ℕ). text_of (name_lines p.subproblem) ++ (line_bytes (line (ended_text p.ended)) ++ xs))
+    (text_both (map log_line p.log) (line done_text ∷ [])
+    ∙ ap (λ (xs : List ℕ). xs ++ text_of (line done_text ∷ [])) (log_spelled p.log))
     ∙ simp append_assoc (simp append-nil)
 
-pub section_parts : (s : Section) → text_of (section_lines s) ≡ line_bytes (line (size_line s.size)) ++ parts_text s.parts
-unfolding section_lines parts_text
-section_parts s = refl
+pub section_subproblems : (s : Section) → text_of (section_lines s) ≡ line_bytes (line (size_line s.size)) ++ subproblems_text s.subproblems
+unfolding section_lines subproblems_text
+section_subproblems s = refl
 
-pub ending_parts : (chain : Option Chain) (v : Verdict) → text_of (ending_lines chain v) ≡ text_of (block_lines chain) ++ line_bytes (line (verdict_line v)) ++ line_bytes (line end_text)
-ending_parts chain v = text_both (block_lines chain) (line (verdict_line v) ∷ line end_text ∷ []) ∙ simp append_assoc (simp append-nil)
+pub trailer_subproblems : (chain : Option Chain) (v : Verdict) → text_of (trailer_lines chain v) ≡ text_of (block_lines chain) ++ line_bytes (line (verdict_line v)) ++ line_bytes (line end_text)
+trailer_subproblems chain v = text_both (block_lines chain) (line (verdict_line v) ∷ line end_text ∷ []) ∙ simp append_assoc (simp append-nil)
 
-pub whole_spelled : (h : Heading) (ss : List Section) (chain : Option Chain) (v : Verdict) → whole_text h ss chain v ≡ bundle_text (record { heading = h; sections = ss; chain = chain; verdict = v })
+pub whole_spelled : (h : Header) (ss : List Section) (chain : Option Chain) (v : Verdict) → whole_text h ss chain v ≡ cert_text (record { header = h; sections = ss; chain = chain; verdict = v })
 unfolding whole_text sections_text
 whole_spelled h ss chain v =
-    rw (heading_spelled h)
+    rw (header_spelled h)
     (sym
-    (text_both (heading_lines h) (flat_map section_lines ss ++ ending_lines chain v)
-    ∙ ap (λ (xs : List ℕ). text_of (heading_lines h) ++ xs) (text_both (flat_map section_lines ss) (ending_lines chain v))))
+    (text_both (header_lines h) (flat_map section_lines ss ++ trailer_lines chain v)
+    ∙ ap (λ (xs : List ℕ). text_of (header_lines h) ++ xs) (text_both (flat_map section_lines ss) (trailer_lines chain v))))
 
-pub ruleset headings = (common_steps, heading_spelled)
+pub ruleset headers = (common_steps, header_spelled)
 
-pub ruleset part_pieces = (common_steps, part_parts)
+pub ruleset subproblem_pieces = (common_steps, subproblem_subproblems)
 
-pub ruleset section_pieces = (common_steps, section_parts)
+pub ruleset section_pieces = (common_steps, section_subproblems)
 
-pub ruleset ending_pieces = (common_steps, ending_parts)
+pub ruleset trailer_pieces = (common_steps, trailer_subproblems)
 
 pub ruleset whole = (common_steps, whole_spelled)
 
@@ -114,6 +122,6 @@ pub ruleset cells = (common_steps, cells_none, cells_more)
 
 pub ruleset tables = (common_steps, tables_none, tables_more, cells_all)
 
-pub ruleset parts = (common_steps, parts_none, parts_more, text_both)
+pub ruleset subproblems = (common_steps, subproblems_none, subproblems_more, text_both)
 
 pub ruleset sections = (common_steps, sections_none, sections_more, text_both)

@@ -4,11 +4,11 @@ ghost use Rattle.std.specs.List.{flat_map};
 ghost use Rattle.text_core.specs.Lines.{line_bytes};
 ghost use Rattle.chain_core.specs.Spelling.{line};
 ghost use Rattle.cert_theory.specs.Spelling as spelling;
-ghost use Rattle.cert_text.specs.Texts.{parts_text};
+ghost use Rattle.cert_text.specs.Texts.{subproblems_text};
 
 use crate::tables::push_numbered;
-use cert_theory::{Ended, PartLog, Section, title_of};
-use enc_theory::Part;
+use cert_theory::{Ended, Section, SubproblemLog, fence_name};
+use enc_theory::Subproblem;
 use log_core::write_log;
 use std::alloc::AllocError;
 
@@ -16,15 +16,15 @@ use std::alloc::AllocError;
 const SHORT: usize = 1000;
 
 /// Appends the name of a subproblem: the sizes of a fence's levels, and nothing for a whole size.
-#[tactic(auto, unfolding(cert_theory::specs::Spelling::title_lines))]
-fn push_title(text: &mut Vec<u8>, part: &Part) -> Result<(), AllocError>
-    ensures { OnOk result (text.new.items ≡ text.old.items ++ spelling.text_of (spelling.title_lines part.now)) }
+#[tactic(auto, unfolding(cert_theory::specs::Spelling::name_lines))]
+fn push_name(text: &mut Vec<u8>, subproblem: &Subproblem) -> Result<(), AllocError>
+    ensures { OnOk result (text.new.items ≡ text.old.items ++ spelling.text_of (spelling.name_lines subproblem.now)) }
 {
-    let Part::Levels(fence) = part else {
+    let Subproblem::Levels(fence) = subproblem else {
         return Ok(());
     };
-    let title = title_of(*text.allocator(), fence.levels())?;
-    text.extend_from_slice(&title)?;
+    let name = fence_name(*text.allocator(), fence.levels())?;
+    text.extend_from_slice(&name)?;
     text.extend_from_slice(b"\n")
 }
 
@@ -39,37 +39,39 @@ fn push_ended(text: &mut Vec<u8>, ended: Ended) -> Result<(), AllocError>
 }
 
 /// Appends the lines of a subproblem.
-#[tactic(auto, using(crate::proofs::Written::part_pieces))]
-fn push_part(text: &mut Vec<u8>, part: &PartLog) -> Result<(), AllocError>
-    ensures { OnOk result (text.new.items ≡ text.old.items ++ spelling.text_of (spelling.part_lines part.now)) }
+#[tactic(auto, using(crate::proofs::Written::subproblem_pieces))]
+fn push_subproblem(text: &mut Vec<u8>, subproblem: &SubproblemLog) -> Result<(), AllocError>
+    ensures { OnOk result (text.new.items ≡ text.old.items ++
+        spelling.text_of (spelling.subproblem_lines subproblem.now)) }
 {
-    push_title(text, &part.part)?;
-    push_ended(text, part.ended)?;
-    write_log(&part.log, text)?;
+    push_name(text, &subproblem.subproblem)?;
+    push_ended(text, subproblem.ended)?;
+    write_log(&subproblem.log, text)?;
     text.extend_from_slice(b"done\n")
 }
 
 /// Appends the lines of subproblems.
-#[tactic(auto, using(crate::proofs::Written::parts))]
-fn push_parts(text: &mut Vec<u8>, parts: &[PartLog]) -> Result<(), AllocError>
-    ensures { OnOk result (text.new.items ≡ text.old.items ++ parts_text parts.now) }
+#[tactic(auto, using(crate::proofs::Written::subproblems))]
+fn push_subproblems(text: &mut Vec<u8>, subproblems: &[SubproblemLog]) -> Result<(), AllocError>
+    ensures { OnOk result (text.new.items ≡ text.old.items ++ subproblems_text subproblems.now) }
 {
-    let mut left = parts;
-    while let Some((part, rest)) = left.split_first() {
-        push_part(text, part)?;
+    let mut left = subproblems;
+    while let Some((subproblem, rest)) = left.split_first() {
+        push_subproblem(text, subproblem)?;
         left = rest;
     }
     Ok(())
 }
 
 /// Appends the lines of subproblems, as in a section. On an error `out` is unchanged.
-#[tactic(auto, unfolding(crate::specs::Texts::parts_text))]
-pub fn write_parts(parts: &[PartLog], out: &mut Vec<u8>) -> Result<(), AllocError>
-    ensures ok { OnOk result (out.new.items ≡ out.old.items ++ spelling.text_of (flat_map spelling.part_lines parts.now)) }
+#[tactic(auto, unfolding(crate::specs::Texts::subproblems_text))]
+pub fn write_subproblems(subproblems: &[SubproblemLog], out: &mut Vec<u8>) -> Result<(), AllocError>
+    ensures ok { OnOk result (out.new.items ≡ out.old.items ++
+        spelling.text_of (flat_map spelling.subproblem_lines subproblems.now)) }
     ensures err { OnErr result (out.new.items ≡ out.old.items) }
 {
     let mut text = Vec::new(*out.allocator());
-    push_parts(&mut text, parts)?;
+    push_subproblems(&mut text, subproblems)?;
     out.extend_from_slice(&text)
 }
 
@@ -79,7 +81,7 @@ pub fn push_section(text: &mut Vec<u8>, section: &Section) -> Result<(), AllocEr
     ensures { OnOk result (text.new.items ≡ text.old.items ++ spelling.text_of (spelling.section_lines section.now)) }
 {
     push_numbered(text, b"size ", section.size)?;
-    push_parts(text, &section.parts)
+    push_subproblems(text, &section.subproblems)
 }
 
 /// Appends the lines of a section. On an error `out` is unchanged.

@@ -1,13 +1,13 @@
 //! Whole certificates.
 ghost use Rattle.std.specs.Prelude.{◌≡◌, ◌<◌, ◌++◌, OnOk, OnErr};
-ghost use Rattle.cert_theory.specs.Bundle.{IsValid, HasOutput};
+ghost use Rattle.cert_theory.specs.Certificate.{IsValid, HasOutput};
 ghost use Rattle.cert_theory.specs.Spelling as spelling;
 ghost use Rattle.cert_text.specs.Texts.{sections_text, whole_text};
 
-use crate::ending::push_ending;
-use crate::heading::push_heading;
+use crate::header::push_header;
 use crate::section::push_section;
-use cert_theory::{Bundle, Heading, Section, Verdict};
+use crate::trailer::push_trailer;
+use cert_theory::{Certificate, Header, Section, Verdict};
 use chain_core::Chain;
 use std::alloc::AllocError;
 
@@ -26,43 +26,43 @@ fn push_sections(text: &mut Vec<u8>, sections: &[Section]) -> Result<(), AllocEr
 
 /// Appends the lines of a certificate.
 #[tactic(auto, unfolding(crate::specs::Texts::whole_text))]
-fn push_bundle(
+fn push_certificate(
     text: &mut Vec<u8>,
-    heading: &Heading,
+    header: &Header,
     sections: &[Section],
     chain: &Option<Chain>,
     verdict: Verdict,
 ) -> Result<(), AllocError>
-    requires { 0 < heading.now.basis }
-    ensures { OnOk result (text.new.items ≡ text.old.items ++ whole_text heading.now sections.now chain.now verdict) }
+    requires { 0 < header.now.basis }
+    ensures { OnOk result (text.new.items ≡ text.old.items ++ whole_text header.now sections.now chain.now verdict) }
 {
-    push_heading(
+    push_header(
         text,
-        &heading.spec,
-        heading.basis,
-        heading.method,
-        heading.conflicts,
-        heading.max,
+        &header.spec,
+        header.basis,
+        header.method,
+        header.conflicts,
+        header.max,
     )?;
     push_sections(text, sections)?;
-    push_ending(text, chain, verdict)
+    push_trailer(text, chain, verdict)
 }
 
 /// Appends the spelling of a valid certificate with an output. On an error `out` is unchanged.
 #[tactic(auto, using(crate::proofs::Written::whole))]
-pub fn write_bundle(bundle: &Bundle, out: &mut Vec<u8>) -> Result<(), AllocError>
-    requires valid { IsValid bundle.now }
-    requires output { HasOutput bundle.now }
-    ensures ok { OnOk result (out.new.items ≡ out.old.items ++ spelling.bundle_text bundle.now) }
+pub fn write_certificate(certificate: &Certificate, out: &mut Vec<u8>) -> Result<(), AllocError>
+    requires valid { IsValid certificate.now }
+    requires output { HasOutput certificate.now }
+    ensures ok { OnOk result (out.new.items ≡ out.old.items ++ spelling.cert_text certificate.now) }
     ensures err { OnErr result (out.new.items ≡ out.old.items) }
 {
     let mut text = Vec::new(*out.allocator());
-    push_bundle(
+    push_certificate(
         &mut text,
-        &bundle.heading,
-        &bundle.sections,
-        &bundle.chain,
-        bundle.verdict,
+        &certificate.header,
+        &certificate.sections,
+        &certificate.chain,
+        certificate.verdict,
     )?;
     out.extend_from_slice(&text)
 }

@@ -6,37 +6,37 @@ use Rattle.enc_theory.specs.Plain.{plain_formula}
 use Rattle.enc_theory.specs.Ssv.{ssv_formula}
 use Rattle.enc_theory.specs.Select.{select_formula}
 use Rattle.enc_theory.specs.Fence.{fence_formula}
-use Rattle.enc_theory.specs.Parts.{parts_for, fence_in}
-use Rattle.enc_theory.specs.declared.part.Part.{Part}
-use Rattle.enc_theory.specs.declared.part.Part.TheVariants.{Whole}
+use Rattle.enc_theory.specs.Subproblems.{subproblems_for, fence_in}
+use Rattle.enc_theory.specs.declared.subproblem.Subproblem.{Subproblem}
+use Rattle.enc_theory.specs.declared.subproblem.Subproblem.TheVariants.{Whole}
 use Rattle.settings.specs.declared.methods.Method.{Method}
 use Rattle.settings.specs.declared.methods.Method.TheVariants.{Plain, Ssv, Select, Fence}
 
 -- The subproblems in which the size `r` is searched, in order, and the formula of a subproblem: for tables, the
 -- set of operators `basis`, and `r` steps.
 pub record Coding : Type 0 where
-  pub parts : Words → ℕ → List Part
-  pub formula : Words → ℕ → ℕ → Part → Formula
+  pub subproblems : Words → ℕ → List Subproblem
+  pub formula : Words → ℕ → ℕ → Subproblem → Formula
 
 abbrev pub plain_coding : Coding
-plain_coding = record { parts = λ w r. Whole ∷ []; formula = λ w basis r part. plain_formula w basis r }
+plain_coding = record { subproblems = λ w r. Whole ∷ []; formula = λ w basis r subproblem. plain_formula w basis r }
 
 abbrev pub ssv_coding : Coding
-ssv_coding = record { parts = λ w r. Whole ∷ []; formula = λ w basis r part. ssv_formula w basis r }
+ssv_coding = record { subproblems = λ w r. Whole ∷ []; formula = λ w basis r subproblem. ssv_formula w basis r }
 
 abbrev pub select_coding : Coding
-select_coding = record { parts = λ w r. Whole ∷ []; formula = λ w basis r part. select_formula w basis r }
+select_coding = record { subproblems = λ w r. Whole ∷ []; formula = λ w basis r subproblem. select_formula w basis r }
 
 -- one subproblem for each listed fence
 abbrev pub fence_coding : Coding
-fence_coding = record { parts = λ w r. parts_for w r; formula = λ w basis r part. fence_formula w basis r (fence_in part) }
+fence_coding = record { subproblems = λ w r. subproblems_for w r; formula = λ w basis r subproblem. fence_formula w basis r (fence_in subproblem) }
 
 -- only the fence method names its subproblems
-abbrev pub is_titled : Method → Bool
-is_titled Plain = false
-is_titled Ssv = false
-is_titled Select = false
-is_titled Fence = true
+abbrev pub has_fence_names : Method → Bool
+has_fence_names Plain = false
+has_fence_names Ssv = false
+has_fence_names Select = false
+has_fence_names Fence = true
 
 -- the encoding of a method
 unfoldable pub coding_of : Method → Coding

@@ -1,27 +1,27 @@
 -- Laws about sequencing.
 use Rattle.std.proofs.Common.{◌≡◌, Result, Ok, Err, Bool, true, false, cond, ℕ, Option, Some, None, refl, ap, ◌∙◌}
-use Rattle.cert_theory.specs.declared.data.BundleError.{BundleError}
-use Rattle.cert_theory.specs.declared.data.BundleError.TheVariants.{Syntax, SizeOutOfOrder, StepRefused, NotRefuted, ChainDiffers, OperatorNotInBasis, OpenTooShort, NotNew, WrongVerdict, Memory}
-use Rattle.cert_theory.specs.Gives.{◌>>=◌, Fails, PartFails, with_fault}
-use Rattle.cert_theory.specs.declared.data.PartError.{PartError}
-use Rattle.cert_theory.specs.declared.data.PartError.TheVariants as part_errors
+use Rattle.cert_theory.specs.declared.data.CertificateError.{CertificateError}
+use Rattle.cert_theory.specs.declared.data.CertificateError.TheVariants.{Syntax, SizeOutOfOrder, StepRefused, NotRefuted, ChainDiffers, OperatorNotInBasis, OpenTooShort, NotNew, WrongVerdict, Memory}
+use Rattle.cert_theory.specs.Gives.{◌>>=◌, Fails, SubproblemFails, with_fault}
+use Rattle.cert_theory.specs.declared.data.SubproblemError.{SubproblemError}
+use Rattle.cert_theory.specs.declared.data.SubproblemError.TheVariants as subproblem_errors
 use Rattle.cert_theory.specs.Judging.{or_syntax, fault_at, at_line}
 
 -- where the first fails, both fail
-pub fails_bind : {A B : Type 0} (e : BundleError) (read : Result A BundleError) (next : A → Result B BundleError) → Fails e read → Fails e (read >>= next)
-fails_bind {A = A} (Syntax line) read next is = ap (λ (r : Result A BundleError). r >>= next) is
-fails_bind {A = A} (SizeOutOfOrder line) read next is = ap (λ (r : Result A BundleError). r >>= next) is
-fails_bind {A = A} (StepRefused line fault) read next is = ap (λ (r : Result A BundleError). r >>= next) is
-fails_bind {A = A} (NotRefuted line) read next is = ap (λ (r : Result A BundleError). r >>= next) is
-fails_bind {A = A} (ChainDiffers output row) read next is = ap (λ (r : Result A BundleError). r >>= next) is
-fails_bind {A = A} (OperatorNotInBasis place) read next is = ap (λ (r : Result A BundleError). r >>= next) is
-fails_bind {A = A} (OpenTooShort line) read next is = ap (λ (r : Result A BundleError). r >>= next) is
-fails_bind {A = A} (NotNew line) read next is = ap (λ (r : Result A BundleError). r >>= next) is
-fails_bind {A = A} (WrongVerdict line) read next is = ap (λ (r : Result A BundleError). r >>= next) is
+pub fails_bind : {A B : Type 0} (e : CertificateError) (read : Result A CertificateError) (next : A → Result B CertificateError) → Fails e read → Fails e (read >>= next)
+fails_bind {A = A} (Syntax line) read next is = ap (λ (r : Result A CertificateError). r >>= next) is
+fails_bind {A = A} (SizeOutOfOrder line) read next is = ap (λ (r : Result A CertificateError). r >>= next) is
+fails_bind {A = A} (StepRefused line fault) read next is = ap (λ (r : Result A CertificateError). r >>= next) is
+fails_bind {A = A} (NotRefuted line) read next is = ap (λ (r : Result A CertificateError). r >>= next) is
+fails_bind {A = A} (ChainDiffers output row) read next is = ap (λ (r : Result A CertificateError). r >>= next) is
+fails_bind {A = A} (OperatorNotInBasis place) read next is = ap (λ (r : Result A CertificateError). r >>= next) is
+fails_bind {A = A} (OpenTooShort line) read next is = ap (λ (r : Result A CertificateError). r >>= next) is
+fails_bind {A = A} (NotNew line) read next is = ap (λ (r : Result A CertificateError). r >>= next) is
+fails_bind {A = A} (WrongVerdict line) read next is = ap (λ (r : Result A CertificateError). r >>= next) is
 fails_bind Memory read next is = tt
 
 -- a failure of a result is one of an equal result
-pub fails_is : {A : Type 0} (e : BundleError) (read answer : Result A BundleError) → answer ≡ read → Fails e read → Fails e answer
+pub fails_is : {A : Type 0} (e : CertificateError) (read answer : Result A CertificateError) → answer ≡ read → Fails e read → Fails e answer
 fails_is (Syntax line) read answer same is = same ∙ is
 fails_is (SizeOutOfOrder line) read answer same is = same ∙ is
 fails_is (StepRefused line fault) read answer same is = same ∙ is
@@ -48,34 +48,34 @@ read_ok number (Some y) x e = cc
 
 -- ---- one subproblem
 
-pub part_fails_bind : {A B : Type 0} (e : PartError) (read : Result A PartError) (next : A → Result B PartError) → PartFails e read → PartFails e (read >>= next)
-part_fails_bind {A = A} part_errors.Syntax read next is = ap (λ (r : Result A PartError). r >>= next) is
-part_fails_bind {A = A} (part_errors.StepRefused fault) read next is = ap (λ (r : Result A PartError). r >>= next) is
-part_fails_bind {A = A} part_errors.NotNew read next is = ap (λ (r : Result A PartError). r >>= next) is
-part_fails_bind {A = A} part_errors.NotRefuted read next is = ap (λ (r : Result A PartError). r >>= next) is
-part_fails_bind {A = A} part_errors.TooShort read next is = ap (λ (r : Result A PartError). r >>= next) is
-part_fails_bind {A = A} part_errors.EmptyStands read next is = ap (λ (r : Result A PartError). r >>= next) is
-part_fails_bind part_errors.Memory read next is = tt
+pub subproblem_fails_bind : {A B : Type 0} (e : SubproblemError) (read : Result A SubproblemError) (next : A → Result B SubproblemError) → SubproblemFails e read → SubproblemFails e (read >>= next)
+subproblem_fails_bind {A = A} subproblem_errors.Syntax read next is = ap (λ (r : Result A SubproblemError). r >>= next) is
+subproblem_fails_bind {A = A} (subproblem_errors.StepRefused fault) read next is = ap (λ (r : Result A SubproblemError). r >>= next) is
+subproblem_fails_bind {A = A} subproblem_errors.NotNew read next is = ap (λ (r : Result A SubproblemError). r >>= next) is
+subproblem_fails_bind {A = A} subproblem_errors.NotRefuted read next is = ap (λ (r : Result A SubproblemError). r >>= next) is
+subproblem_fails_bind {A = A} subproblem_errors.TooShort read next is = ap (λ (r : Result A SubproblemError). r >>= next) is
+subproblem_fails_bind {A = A} subproblem_errors.EmptyClauseDerived read next is = ap (λ (r : Result A SubproblemError). r >>= next) is
+subproblem_fails_bind subproblem_errors.Memory read next is = tt
 
-pub part_fails_is : {A : Type 0} (e : PartError) (read answer : Result A PartError) → answer ≡ read → PartFails e read → PartFails e answer
-part_fails_is part_errors.Syntax read answer same is = same ∙ is
-part_fails_is (part_errors.StepRefused fault) read answer same is = same ∙ is
-part_fails_is part_errors.NotNew read answer same is = same ∙ is
-part_fails_is part_errors.NotRefuted read answer same is = same ∙ is
-part_fails_is part_errors.TooShort read answer same is = same ∙ is
-part_fails_is part_errors.EmptyStands read answer same is = same ∙ is
-part_fails_is part_errors.Memory read answer same is = tt
+pub subproblem_fails_is : {A : Type 0} (e : SubproblemError) (read answer : Result A SubproblemError) → answer ≡ read → SubproblemFails e read → SubproblemFails e answer
+subproblem_fails_is subproblem_errors.Syntax read answer same is = same ∙ is
+subproblem_fails_is (subproblem_errors.StepRefused fault) read answer same is = same ∙ is
+subproblem_fails_is subproblem_errors.NotNew read answer same is = same ∙ is
+subproblem_fails_is subproblem_errors.NotRefuted read answer same is = same ∙ is
+subproblem_fails_is subproblem_errors.TooShort read answer same is = same ∙ is
+subproblem_fails_is subproblem_errors.EmptyClauseDerived read answer same is = same ∙ is
+subproblem_fails_is subproblem_errors.Memory read answer same is = tt
 
 -- a fault of a subproblem is a fault of its certificate at that line
-pub located_fails : {A : Type 0} (number : ℕ) (e : PartError) (read : Result A PartError) → PartFails e read → Fails (fault_at number e) (at_line number read)
-located_fails number part_errors.Syntax read is = ap (at_line number) is
-located_fails number (part_errors.StepRefused fault) read is = ap (at_line number) is
-located_fails number part_errors.NotNew read is = ap (at_line number) is
-located_fails number part_errors.NotRefuted read is = ap (at_line number) is
-located_fails number part_errors.TooShort read is = ap (at_line number) is
-located_fails number part_errors.EmptyStands read is = ap (at_line number) is
-located_fails number part_errors.Memory read is = tt
+pub located_fails : {A : Type 0} (number : ℕ) (e : SubproblemError) (read : Result A SubproblemError) → SubproblemFails e read → Fails (fault_at number e) (at_line number read)
+located_fails number subproblem_errors.Syntax read is = ap (at_line number) is
+located_fails number (subproblem_errors.StepRefused fault) read is = ap (at_line number) is
+located_fails number subproblem_errors.NotNew read is = ap (at_line number) is
+located_fails number subproblem_errors.NotRefuted read is = ap (at_line number) is
+located_fails number subproblem_errors.TooShort read is = ap (at_line number) is
+located_fails number subproblem_errors.EmptyClauseDerived read is = ap (at_line number) is
+located_fails number subproblem_errors.Memory read is = tt
 
-pub located_ok : {A E : Type 0} (fault : PartError → E) (read : Result A PartError) (x : A) → with_fault fault read ≡ Ok x → read ≡ Ok x
+pub located_ok : {A E : Type 0} (fault : SubproblemError → E) (read : Result A SubproblemError) (x : A) → with_fault fault read ≡ Ok x → read ≡ Ok x
 located_ok fault (Ok y) x e = cc
 located_ok fault (Err d) x e = absurd cc

@@ -11,7 +11,7 @@ pub record HasQuestion (bytes : List ℕ) (w : Words) (basis : ℕ) : Type 0 whe
   pub spec : IsSpec w
   pub basis_from : 0 < basis
   pub basis_below : basis < 65536
-  pub behind : List Line
-  pub first : lines_of bytes ≡ line first_text ∷ behind
+  pub following : List Line
+  pub first : lines_of bytes ≡ line first_text ∷ following
   pub rest : List Line
-  pub tables : SpellsTables (specification w) behind (line (basis_line basis) ∷ rest)
+  pub tables : SpellsTables (specification w) following (line (basis_line basis) ∷ rest)

@@ -1,10 +1,10 @@
 -- Sections of consecutive sizes.
 use Rattle.std.proofs.Common.{◌≡◌, ℕ, suc, ◌+◌, List, [], ◌∷◌, ◌++◌, length, subst, arith}
-use Rattle.cert_theory.specs.declared.data.Heading.{Heading}
-use Rattle.cert_theory.specs.Bundle.{Section, IsSection, AreSections}
+use Rattle.cert_theory.specs.declared.data.Header.{Header}
+use Rattle.cert_theory.specs.Certificate.{Section, IsSection, AreSections}
 
 -- appending a section of the next size
-pub AreSections-push : (h : Heading) (size : ℕ) (ss : List Section) (s : Section) → AreSections h size ss → IsSection h (size + length ss) s → AreSections h size (ss ++ s ∷ [])
+pub AreSections-push : (h : Header) (size : ℕ) (ss : List Section) (s : Section) → AreSections h size ss → IsSection h (size + length ss) s → AreSections h size (ss ++ s ∷ [])
 unfolding AreSections
 AreSections-push h size [] s each last = (let e : size + 0 ≡ size = omega arith in subst (λ (k : ℕ). IsSection h k s) e last, tt)
 AreSections-push h size (x ∷ xs) s each last =
@@ -12,7 +12,7 @@ AreSections-push h size (x ∷ xs) s each last =
     (each.0, AreSections-push h (size + 1) xs s each.1 (subst (λ (k : ℕ). IsSection h k s) e last))
 
 -- a prefix of the sections
-pub AreSections-front : (h : Heading) (size : ℕ) (ss more : List Section) → AreSections h size (ss ++ more) → AreSections h size ss
+pub AreSections-prefix : (h : Header) (size : ℕ) (ss more : List Section) → AreSections h size (ss ++ more) → AreSections h size ss
 unfolding AreSections
-AreSections-front h size [] more each = tt
-AreSections-front h size (x ∷ xs) more each = (each.0, AreSections-front h (size + 1) xs more each.1)
+AreSections-prefix h size [] more each = tt
+AreSections-prefix h size (x ∷ xs) more each = (each.0, AreSections-prefix h (size + 1) xs more each.1)

@@ -22,19 +22,19 @@ use Rattle.text_core.specs.Lines.{Line, line_bytes}
 use Rattle.sat_theory.specs.Line as theory
 use Rattle.lrat_text.specs.Spelling.{line_body}
 use Rattle.tt_core.specs.Words.{Words, cell_of}
-use Rattle.tt_core.specs.Spelling.{character, header_line}
+use Rattle.tt_core.specs.Spelling.{character, inputs_line}
 use Rattle.op_basis.specs.Text.{basis_text}
 use Rattle.chain_core.specs.Spelling.{line, chain_lines}
-use Rattle.enc_theory.specs.declared.part.Part.{Part}
-use Rattle.enc_theory.specs.declared.part.Part.TheVariants.{Whole, Levels}
+use Rattle.enc_theory.specs.declared.subproblem.Subproblem.{Subproblem}
+use Rattle.enc_theory.specs.declared.subproblem.Subproblem.TheVariants.{Whole, Levels}
 use Rattle.settings.specs.declared.methods.Method.{Method}
 use Rattle.settings.specs.Methods.{method_text}
-use Rattle.cert_theory.specs.declared.data.Heading.{Heading}
+use Rattle.cert_theory.specs.declared.data.Header.{Header}
 use Rattle.cert_theory.specs.declared.data.Ended.{Ended}
 use Rattle.cert_theory.specs.declared.data.Ended.TheVariants as ends
 use Rattle.cert_theory.specs.declared.data.Verdict.{Verdict}
 use Rattle.cert_theory.specs.declared.data.Verdict.TheVariants as verdicts
-use Rattle.cert_theory.specs.Bundle.{PartLog, Section, Bundle, IsValid, HasOutput}
+use Rattle.cert_theory.specs.Certificate.{SubproblemLog, Section, Certificate, IsValid, HasOutput}
 
 -- ---- the header
 
@@ -47,7 +47,7 @@ table_line w h = line (table_text w h)
 
 -- the number of inputs, and the tables
 abbrev pub tables_lines : Words → List Line
-tables_lines w = header_line w.n ∷ map (λ i. table_line w (i + 1)) (range_with_len 0 (length w.on))
+tables_lines w = inputs_line w.n ∷ map (λ i. table_line w (i + 1)) (range_with_len 0 (length w.on))
 
 unfoldable pub basis_line : ℕ → List ℕ
 basis_line basis = codes "basis " ++ basis_text basis
@@ -64,8 +64,8 @@ max_line max = codes "max " ++ decimal max
 abbrev pub first_text : List ℕ
 first_text = codes "chains 1"
 
-abbrev pub heading_lines : Heading → List Line
-heading_lines h = line first_text ∷ (tables_lines h.spec ++ line (basis_line h.basis) ∷ line (method_line h.method) ∷ line (conflicts_line h.conflicts) ∷ line (max_line h.max) ∷ [])
+abbrev pub header_lines : Header → List Line
+header_lines h = line first_text ∷ (tables_lines h.spec ++ line (basis_line h.basis) ∷ line (method_line h.method) ∷ line (conflicts_line h.conflicts) ∷ line (max_line h.max) ∷ [])
 
 -- ---- sections
 
@@ -73,12 +73,12 @@ unfoldable pub size_line : ℕ → List ℕ
 size_line size = codes "size " ++ decimal size
 
 -- a fence is named by the sizes of its levels; the whole size has no name
-unfoldable pub title_text : List ℕ → List ℕ
-title_text sizes = codes "fence" ++ flat_map (λ size. 32 ∷ decimal size) sizes
+unfoldable pub fence_text : List ℕ → List ℕ
+fence_text sizes = codes "fence" ++ flat_map (λ size. 32 ∷ decimal size) sizes
 
-unfoldable pub title_lines : Part → List Line
-title_lines Whole = []
-title_lines (Levels sizes) = line (title_text sizes) ∷ []
+unfoldable pub name_lines : Subproblem → List Line
+name_lines Whole = []
+name_lines (Levels sizes) = line (fence_text sizes) ∷ []
 
 abbrev pub ended_text : Ended → List ℕ
 ended_text ends.Refuted = codes "refuted"
@@ -90,11 +90,11 @@ done_text = codes "done"
 abbrev pub log_line : theory.Line → Line
 log_line l = line (line_body l)
 
-unfoldable pub part_lines : PartLog → List Line
-part_lines p = title_lines p.part ++ (line (ended_text p.ended) ∷ (map log_line p.log ++ line done_text ∷ []))
+unfoldable pub subproblem_lines : SubproblemLog → List Line
+subproblem_lines p = name_lines p.subproblem ++ (line (ended_text p.ended) ∷ (map log_line p.log ++ line done_text ∷ []))
 
 unfoldable pub section_lines : Section → List Line
-section_lines s = line (size_line s.size) ∷ flat_map part_lines s.parts
+section_lines s = line (size_line s.size) ∷ flat_map subproblem_lines s.subproblems
 
 -- ---- the trailer
 
@@ -111,29 +111,29 @@ verdict_line (verdicts.Open low) = codes "open " ++ decimal low
 abbrev pub end_text : List ℕ
 end_text = codes "end"
 
-abbrev pub ending_lines : Option Chain → Verdict → List Line
-ending_lines chain verdict = block_lines chain ++ line (verdict_line verdict) ∷ line end_text ∷ []
+abbrev pub trailer_lines : Option Chain → Verdict → List Line
+trailer_lines chain verdict = block_lines chain ++ line (verdict_line verdict) ∷ line end_text ∷ []
 
 -- ---- the whole
 
-abbrev pub bundle_lines : Bundle → List Line
-bundle_lines b = heading_lines b.heading ++ (flat_map section_lines b.sections ++ ending_lines b.chain b.verdict)
+abbrev pub certificate_lines : Certificate → List Line
+certificate_lines b = header_lines b.header ++ (flat_map section_lines b.sections ++ trailer_lines b.chain b.verdict)
 
 -- the text of some lines
 abbrev pub text_of : List Line → List ℕ
 text_of lines = flat_map line_bytes lines
 
-abbrev pub bundle_text : Bundle → List ℕ
-bundle_text b = text_of (bundle_lines b)
+abbrev pub cert_text : Certificate → List ℕ
+cert_text b = text_of (certificate_lines b)
 
 -- Bytes are the text of a valid certificate.
-pub record IsBundle (bytes : List ℕ) (b : Bundle) : Type 0 where
+pub record IsCertificateText (bytes : List ℕ) (b : Certificate) : Type 0 where
   pub valid : IsValid b
   pub output : HasOutput b
-  pub text : bytes ≡ bundle_text b
+  pub text : bytes ≡ cert_text b
 
 -- Bytes are the text of a valid certificate with this verdict.
 pub record HasVerdict (bytes : List ℕ) (v : Verdict) : Type 0 where
-  pub bundle : Bundle
-  pub is_bundle : IsBundle bytes bundle
-  pub verdict : bundle.verdict ≡ v
+  pub certificate : Certificate
+  pub is_certificate : IsCertificateText bytes certificate
+  pub verdict : certificate.verdict ≡ v

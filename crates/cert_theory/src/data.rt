@@ -8,7 +8,7 @@ use tt_core::Spec;
 
 /// What is searched for: the question of a certificate.
 #[derive(Drop)]
-pub struct Heading {
+pub struct Header {
     /// The tables that a chain has to implement.
     pub spec: Spec,
     /// The operators that a chain may have.
@@ -47,7 +47,7 @@ pub enum Verdict {
 /// too early, the number is that of the missing line. The first fault is reported, and of one line's faults
 /// `Syntax` comes first.
 #[derive(Clone, Copy, PartialEq, Eq)]
-pub enum BundleError {
+pub enum CertificateError {
     /// The line isn't allowed here, has no LF, or is missing.
     Syntax(u32),
     /// A `size` line isn't the next size or is above the greatest; or the number of steps of the chain isn't
@@ -75,7 +75,7 @@ pub enum BundleError {
 /// Why lines aren't the log of a subproblem, wherever it is in a text. Of one line's faults `Syntax` comes
 /// first.
 #[derive(Clone, Copy, PartialEq, Eq)]
-pub enum PartError {
+pub enum SubproblemError {
     /// The line isn't allowed here, or has no LF.
     Syntax,
     /// A line of the log doesn't hold, with its first fault; never `CheckError::Memory`.
@@ -88,51 +88,51 @@ pub enum PartError {
     /// A log that leaves its subproblem open has fewer additions than the limit.
     TooShort,
     /// An open log contains the empty clause.
-    EmptyStands,
+    EmptyClauseDerived,
     /// Memory ran out.
     Memory,
 }
 
-impl From<AllocError> for BundleError {
+impl From<AllocError> for CertificateError {
     ghost use Rattle.std.specs.Prelude.{◌≡◌};
-    ghost use Rattle.cert_theory.specs.declared.data.BundleError.TheVariants.{Memory};
+    ghost use Rattle.cert_theory.specs.declared.data.CertificateError.TheVariants.{Memory};
 
     ghost from_gives = { λ _ e. e ≡ Memory };
 
-    fn from(_error: AllocError) -> BundleError {
-        BundleError::Memory
+    fn from(_error: AllocError) -> CertificateError {
+        CertificateError::Memory
     }
 }
 
-impl<T: Drop> From<AllocFailed<T>> for BundleError {
+impl<T: Drop> From<AllocFailed<T>> for CertificateError {
     ghost use Rattle.std.specs.Prelude.{◌≡◌};
-    ghost use Rattle.cert_theory.specs.declared.data.BundleError.TheVariants.{Memory};
+    ghost use Rattle.cert_theory.specs.declared.data.CertificateError.TheVariants.{Memory};
 
     ghost from_gives = { λ _ e. e ≡ Memory };
 
-    fn from(_error: AllocFailed<T>) -> BundleError {
-        BundleError::Memory
+    fn from(_error: AllocFailed<T>) -> CertificateError {
+        CertificateError::Memory
     }
 }
 
-impl From<AllocError> for PartError {
+impl From<AllocError> for SubproblemError {
     ghost use Rattle.std.specs.Prelude.{◌≡◌};
-    ghost use Rattle.cert_theory.specs.declared.data.PartError.TheVariants.{Memory};
+    ghost use Rattle.cert_theory.specs.declared.data.SubproblemError.TheVariants.{Memory};
 
     ghost from_gives = { λ _ e. e ≡ Memory };
 
-    fn from(_error: AllocError) -> PartError {
-        PartError::Memory
+    fn from(_error: AllocError) -> SubproblemError {
+        SubproblemError::Memory
     }
 }
 
-impl<T: Drop> From<AllocFailed<T>> for PartError {
+impl<T: Drop> From<AllocFailed<T>> for SubproblemError {
     ghost use Rattle.std.specs.Prelude.{◌≡◌};
-    ghost use Rattle.cert_theory.specs.declared.data.PartError.TheVariants.{Memory};
+    ghost use Rattle.cert_theory.specs.declared.data.SubproblemError.TheVariants.{Memory};
 
     ghost from_gives = { λ _ e. e ≡ Memory };
 
-    fn from(_error: AllocFailed<T>) -> PartError {
-        PartError::Memory
+    fn from(_error: AllocFailed<T>) -> SubproblemError {
+        SubproblemError::Memory
     }
 }

@@ -7,29 +7,29 @@
 //! open. A trailer follows: the chain, if one was found, and the verdict.
 //!
 //! - `specs/Coding.antt`: the formulas that a method gives a size.
-//! - `specs/Bundle.antt`: a certificate as a value, and when it is valid.
+//! - `specs/Certificate.antt`: a certificate as a value, and when it is valid.
 //! - `specs/Spelling.antt`: how it is written.
-//! - `specs/PartLines.antt`: the lines of one subproblem, and their first fault.
+//! - `specs/SubproblemLines.antt`: the lines of one subproblem, and their first fault.
 //! - `specs/Judging.antt`: the lines of a certificate, and the first fault where they aren't a valid one.
 //! - `specs/Meaning.antt`: what each verdict says about chains.
 //!
-//! `Bundle` is a certificate as data: made by the loop over sizes and written by `cert_text`. Contracts see
-//! it as the value of `specs/Bundle.antt`.
+//! `Certificate` is a certificate as data: made by the loop over sizes and written by `cert_text`. Contracts see
+//! it as the value of `specs/Certificate.antt`.
 //!
 //! The theorems, in `cert_laws`: lines are accepted with a verdict exactly where they spell a valid certificate
 //! that has it, and the verdict of a valid certificate is true.
 #![tactic(auto)]
 
-mod bundle;
+mod certificate;
 mod data;
+mod fence_names;
 pub mod laws;
-mod part_log;
 mod section;
-mod titles;
+mod subproblem_log;
 mod verdicts;
 
-pub use bundle::Bundle;
-pub use data::{BundleError, Ended, Heading, PartError, Verdict};
-pub use part_log::PartLog;
+pub use certificate::Certificate;
+pub use data::{CertificateError, Ended, Header, SubproblemError, Verdict};
+pub use fence_names::fence_name;
 pub use section::Section;
-pub use titles::title_of;
+pub use subproblem_log::SubproblemLog;

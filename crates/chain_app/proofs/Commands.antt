@@ -20,4 +20,4 @@ is_task (Synth settings) = synth_is_task settings
 is_task (LeastDepth settings) = least_depth_is_task settings
 is_task (Improve format settings) = improve_is_task format settings
 is_task (Equiv budget) = equiv_is_task budget
-is_task (Gen blocks deed) = gen_is_task blocks deed
+is_task (Gen blocks action) = gen_is_task blocks action

@@ -83,11 +83,13 @@ kept r e ends = record {
   least_depth = least_depth_promised r (λ asked asks. keeps r e (LeastDepth asked) ends asks);
   improve = improve_promised r (λ format asked asks. keeps r e (Improve format asked) ends asks);
   equiv = equiv_promised r (λ budget asks. keeps r e (Equiv budget) ends asks);
-  gen = gen_promised r (λ blocks deed asks. keeps r e (Gen blocks deed) ends asks) (λ blocks deed asks. ran r e (Gen blocks deed) ends asks);
+  gen = gen_promised r (λ blocks action asks. keeps r e (Gen blocks action) ends asks) (λ blocks action asks. ran r e (Gen blocks action) ends asks);
 }
 
 -- If no call failed at all, an input without a fault gets the status of an answer.
-pub owed : (r : Run) (command : Command) (input : List ℕ) → KeepsPromises r → AsksFor r.words command → HasInput (task_of command).reads r.source.bytes input → IsAnswerable (task_of command) input → AllSteady r → IsAnswerStatus r.status
-owed r command input promises asks has can steady =
+pub must_answer : (r : Run) (command : Command) (input : List ℕ) → KeepsPromises r → AsksFor r.words command →
+    HasInput (task_of command).reads r.source.bytes input → IsAnswerable (task_of command) input → AllSteady r →
+    IsAnswerStatus r.status
+must_answer r command input promises asks has can steady =
     let got = (promises.every.keeps command asks).complete input has can steady in
     subst IsAnswerStatus (sym got.stands.status_is) ((is_task command).replies got.answer)

@@ -4,7 +4,7 @@ use Rattle.command_line.specs.declared.command.Command.{Command}
 use Rattle.command_line.specs.CommandLine.{AsksFor}
 use Rattle.frame_core.specs.declared.status.Status.TheVariants.{Usage}
 use Rattle.frame_core.specs.Outside.{Writes}
-use Rattle.frame_core.specs.Told.{error_line, usage}
+use Rattle.frame_core.specs.Reported.{error_line, usage}
 use Rattle.frame_core.specs.Run.{Outcome, Run, IsRun}
 use Rattle.chain_app.specs.Tasks.{task_of}
 

@@ -19,4 +19,4 @@ task_of (Synth settings) = synth_task settings
 task_of (LeastDepth settings) = least_depth_task settings
 task_of (Improve format settings) = improve_task format settings
 task_of (Equiv budget) = equiv_task budget
-task_of (Gen blocks deed) = gen_task blocks deed
+task_of (Gen blocks action) = gen_task blocks action

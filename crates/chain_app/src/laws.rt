@@ -3,26 +3,27 @@ ghost use Rattle.std.specs.Prelude.{◌≡◌, ℕ, List};
 ghost use Rattle.settings.specs.declared.improve.ImproveSettings.{ImproveSettings};
 ghost use Rattle.settings.specs.declared.synth.SynthSettings.{SynthSettings};
 ghost use Rattle.command_line.specs.declared.command.Command.{Command};
-ghost use Rattle.command_line.specs.declared.command.Command.TheVariants.{Agree, Recheck, RecheckDepth, Synth, LeastDepth, Improve, Equiv, Gen};
-ghost use Rattle.command_line.specs.declared.command.Deed.{Deed};
+ghost use Rattle.command_line.specs.declared.command.Command.TheVariants.{Agree, Recheck, RecheckDepth, Synth};
+ghost use Rattle.command_line.specs.declared.command.Command.TheVariants.{LeastDepth, Improve, Equiv, Gen};
+ghost use Rattle.command_line.specs.declared.command.GenAction.{GenAction};
 ghost use Rattle.command_line.specs.CommandLine.{AsksFor};
 ghost use Rattle.frame_core.specs.declared.status.Status.TheVariants.{Done};
 ghost use Rattle.frame_core.specs.Run.{Run, HasInput};
 ghost use Rattle.frame_core.specs.Promise.{AllSteady};
 ghost use Rattle.frame_core.specs.Task.{IsAnswerable, IsAnswerStatus, IsTask};
-ghost use Rattle.cmd_lines.specs.Owing.{AsksWell, Owes};
-ghost use Rattle.cmd_agree.specs.Owed.{HasQuestion, IsAgreeStatus};
-ghost use Rattle.cmd_recheck.specs.Owed.{IsValid, IsValidDepth};
-ghost use Rattle.cmd_synth.specs.Owed.{HasTables, IsSynthStatus};
+ghost use Rattle.cmd_lines.specs.Answering.{AsksWell, MustAnswer};
+ghost use Rattle.cmd_agree.specs.Obligations.{HasQuestion, IsAgreeStatus};
+ghost use Rattle.cmd_recheck.specs.Obligations.{IsValid, IsValidDepth};
+ghost use Rattle.cmd_synth.specs.Obligations.{HasTables, IsSynthStatus};
 ghost use Rattle.cmd_improve.specs.ImproveReport.{FormatAsked};
-ghost use Rattle.cmd_improve.specs.Owed.{IsImprovable};
-ghost use Rattle.cmd_equiv.specs.Owed.{CanBeCompared};
+ghost use Rattle.cmd_improve.specs.Obligations.{IsImprovable};
+ghost use Rattle.cmd_equiv.specs.Obligations.{CanBeCompared};
 ghost use Rattle.chain_app.specs.KeepsPromises.{KeepsPromises};
 ghost use Rattle.chain_app.specs.Tasks.{task_of};
 
 /// The task of every command is well formed: an input has answers or at most one refusal, never both, and
 /// neither if it is too long.
-pub fn commands_are_tasks()
+pub fn tasks_are_well_formed()
     ensures { (command : Command) → IsTask (task_of command) }
 {}
 
@@ -30,20 +31,21 @@ pub fn commands_are_tasks()
 /// its promises has the status of an answer, not of an error, for each input that has an answer: `agree` for
 /// tables and a chain, `recheck` for a valid certificate of either kind, `synth` for tables, `improve` for a
 /// netlist, `equiv` for two netlists with the same interface, and `gen` always.
-pub fn answers_are_owed()
-    ensures agree { (r : Run) → KeepsPromises r → Owes (AsksWell Agree HasQuestion) IsAgreeStatus r }
-    ensures recheck { (r : Run) → KeepsPromises r → Owes (AsksWell Recheck IsValid) (λ s. s ≡ Done) r }
-    ensures recheck_depth { (r : Run) → KeepsPromises r → Owes (AsksWell RecheckDepth IsValidDepth) (λ s. s ≡ Done) r }
+pub fn inputs_get_answers()
+    ensures agree { (r : Run) → KeepsPromises r → MustAnswer (AsksWell Agree HasQuestion) IsAgreeStatus r }
+    ensures recheck { (r : Run) → KeepsPromises r → MustAnswer (AsksWell Recheck IsValid) (λ s. s ≡ Done) r }
+    ensures recheck_depth { (r : Run) → KeepsPromises r →
+        MustAnswer (AsksWell RecheckDepth IsValidDepth) (λ s. s ≡ Done) r }
     ensures synth { (r : Run) (asked : SynthSettings) → KeepsPromises r →
-        Owes (AsksWell (Synth asked) HasTables) IsSynthStatus r }
+        MustAnswer (AsksWell (Synth asked) HasTables) IsSynthStatus r }
     ensures least_depth { (r : Run) (asked : SynthSettings) → KeepsPromises r →
-        Owes (AsksWell (LeastDepth asked) HasTables) IsSynthStatus r }
+        MustAnswer (AsksWell (LeastDepth asked) HasTables) IsSynthStatus r }
     ensures improve { (r : Run) (format : FormatAsked) (asked : ImproveSettings) → KeepsPromises r →
-        Owes (AsksWell (Improve format asked) (IsImprovable format)) (λ s. s ≡ Done) r }
+        MustAnswer (AsksWell (Improve format asked) (IsImprovable format)) (λ s. s ≡ Done) r }
     ensures equiv { (r : Run) (budget : ℕ) → KeepsPromises r →
-        Owes (AsksWell (Equiv budget) CanBeCompared) IsAnswerStatus r }
-    ensures generated { (r : Run) (blocks : ℕ) (deed : Deed) → KeepsPromises r →
-        Owes (λ x. AsksFor x.words (Gen blocks deed)) (λ s. s ≡ Done) r }
+        MustAnswer (AsksWell (Equiv budget) CanBeCompared) IsAnswerStatus r }
+    ensures generated { (r : Run) (blocks : ℕ) (action : GenAction) → KeepsPromises r →
+        MustAnswer (λ x. AsksFor x.words (Gen blocks action)) (λ s. s ≡ Done) r }
     // The same for every command and every input without a fault.
     ensures each { (r : Run) (command : Command) (input : List ℕ) → KeepsPromises r →
         AsksFor r.words command →

@@ -13,7 +13,7 @@ use cmd_improve::Improve;
 use cmd_recheck::{Levels, Recheck, Steps};
 use cmd_synth::{LeastDepth, Synth};
 use command_line::{Command, read_words};
-use frame_core::{AtOnce, ErrorLine, Status, perform, perform_stream, tell_error};
+use frame_core::{AtOnce, ErrorLine, Status, perform, perform_stream, report_error};
 use port_io::{Sink, Source};
 use std::alloc::Global;
 use std::marker::PhantomData;
@@ -56,10 +56,10 @@ fn obey<S: Source, O: Sink, N: Sink>(
             let job = AtOnce(Equiv { budget, solver });
             perform(alloc, &job, source, out, note)
         }
-        Command::Gen { blocks, deed } => {
+        Command::Gen { blocks, action } => {
             let job = AtOnce(Gen {
                 blocks,
-                deed,
+                action,
                 solver,
             });
             perform(alloc, &job, source, out, note)
@@ -84,7 +84,7 @@ pub fn run<S: Source, O: Sink, N: Sink>(
         result) }
 {
     let Ok(command) = read_words(words) else {
-        tell_error(note, &ErrorLine::plain(b"Usage"));
+        report_error(note, &ErrorLine::plain(b"Usage"));
         return Status::Usage;
     };
     obey(alloc, command, source, out, note)

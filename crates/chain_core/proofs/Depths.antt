@@ -5,7 +5,7 @@ use Rattle.std.proofs.lemmas.Grind.{common_steps}
 use Rattle.std.proofs.lemmas.List.FromFn.{map-range_with_len_more}
 use Rattle.chain_theory.specs.Chain.{Chain}
 use Rattle.chain_theory.specs.Levels.{level, greatest, depth}
-use Rattle.chain_core.specs.Heights.{levels_of}
+use Rattle.chain_core.specs.SliceLevels.{levels_of}
 
 unfoldable pub greatest_of : List ℕ → ℕ
 greatest_of [] = 0

@@ -39,12 +39,17 @@ same_values n (s ∷ ss) f g are same =
     record { each = λ p from to. rest.each p from (omega arith) }
 
 -- one step of a run over a list
-pub values_after-set : (values : List Bool) (last : ℕ) (s : Step) (ss : List Step) (bit : Bool) → last + 1 < length values → bit ≡ step_value (bits values) s → values_after (bits (set values (last + 1) bit)) (last + 1 + 1) ss ≡ values_after (bits values) (last + 1) (s ∷ ss)
+pub values_after-set : (values : List Bool) (last : ℕ) (s : Step) (ss : List Step) (bit : Bool) →
+    last + 1 < length values → bit ≡ step_value (bits values) s →
+    values_after (bits (set values (last + 1) bit)) (last + 1 + 1) ss ≡ values_after (bits values) (last + 1) (s ∷ ss)
 unfolding values_after
 values_after-set values last s ss bit inside e = rw (bits-set values (last + 1) bit inside, e) refl
 
 -- the list has the value of each place after the inputs' bits and the steps' values were written
-pub value_is : (values inputs : List Bool) (n t : ℕ) (steps : List Step) (place : ℕ) → bits values ≡ values_after (bits inputs) (n + 1) steps → ((p : ℕ) → 1 ≤ p → p ≤ n → bits inputs p ≡ input n t p) → AreSteps n steps → 1 ≤ place → place ≤ n + length steps → slice_index_or values place false ≡ values_on n t steps place
+pub value_is : (values inputs : List Bool) (n t : ℕ) (steps : List Step) (place : ℕ) →
+    bits values ≡ values_after (bits inputs) (n + 1) steps → ((p : ℕ) → 1 ≤ p → p ≤ n → bits inputs p ≡ input n t p) →
+    AreSteps n steps → 1 ≤ place → place ≤ n + length steps →
+    slice_index_or values place false ≡ values_on n t steps place
 unfolding bits
 value_is values inputs n t steps place ran put are from to =
     let here : bits values place ≡ values_after (bits inputs) (n + 1) steps place = ap (λ (f : ℕ → Bool). f place) ran in

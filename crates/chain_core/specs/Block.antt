@@ -63,7 +63,9 @@ step_in other = None
 -- The line has to begin with the step's own place, and the operands have to be lower places, from 1.
 abbrev pub judged_step : ℕ → ℕ → Option (ℕ × Step) → Result Step ChainError
 judged_step place number None = Err (BadStep number)
-judged_step place number (Some x) = if x.0 == place && nat_lt 0 x.1.j && nat_lt 0 x.1.k then (if nat_lt x.1.j place && nat_lt x.1.k place then Ok x.1 else Err (ForwardPlace number)) else Err (BadStep number)
+judged_step place number (Some x) = if x.0 == place && nat_lt 0 x.1.j &&
+    nat_lt 0 x.1.k then (if nat_lt x.1.j place &&
+    nat_lt x.1.k place then Ok x.1 else Err (ForwardPlace number)) else Err (BadStep number)
 
 -- the result for the line of the step after `done` other steps
 unfoldable pub step_at : Frame → ℕ → Line → Result Step ChainError

@@ -6,7 +6,7 @@ pub use Rattle.op_basis.specs.Basis
 pub mod Bits
 pub mod Block
 pub mod BlockLaws
-pub mod Heights
+pub mod SliceLevels
 pub mod Outside
 pub mod OutsideLaws
 pub mod Reading

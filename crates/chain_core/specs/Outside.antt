@@ -7,18 +7,18 @@ use Rattle.chain_theory.specs.Agreement.{IsOver}
 -- The step at the place has an operator outside the basis, and no step before it has one.
 -- Example: over the basis of XOR alone the first such step of the full adder is x5, an AND.
 pub record IsFirstOutside (basis : Basis) (c : Chain) (place : ℕ) : Type 0 where
-  pub front : List Step
+  pub prefix : List Step
   pub step : Step
-  pub behind : List Step
-  pub steps : c.steps ≡ front ++ step ∷ behind
-  pub place_is : place ≡ c.n + 1 + length front
-  pub inside : All (λ (s : Step). basis s.op ≡ true) front
+  pub following : List Step
+  pub steps : c.steps ≡ prefix ++ step ∷ following
+  pub place_is : place ≡ c.n + 1 + length prefix
+  pub inside : All (λ (s : Step). basis s.op ≡ true) prefix
   pub outside : basis step.op ≡ false
 
 -- None: the chain is over the basis; Some: the place of the first step outside it
-abbrev pub IsJudged : Basis → Chain → Option ℕ → Type 0
-IsJudged basis c None = IsOver basis c
-IsJudged basis c (Some place) = IsFirstOutside basis c place
+abbrev pub IsBasisCheck : Basis → Chain → Option ℕ → Type 0
+IsBasisCheck basis c None = IsOver basis c
+IsBasisCheck basis c (Some place) = IsFirstOutside basis c place
 
 -- the first place outside the basis, among steps of which the first is at the given place
 unfoldable pub outside_from : Basis → ℕ → List Step → Option ℕ

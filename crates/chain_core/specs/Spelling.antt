@@ -52,7 +52,7 @@ chain_text c = flat_map line_bytes (chain_lines c)
 
 -- The bytes spell a chain of n inputs, m outputs and at most 16 steps: they are exactly its block
 -- followed by the lines after it.
-pub record Spells (n m : ℕ) (bytes : List ℕ) (x : Read) : Type 0 where
+pub record SpellsChain (n m : ℕ) (bytes : List ℕ) (x : Read) : Type 0 where
   pub chain : IsChain x.chain
   pub inputs : x.chain.n ≡ n
   pub outputs : length x.chain.outs ≡ m

@@ -33,20 +33,20 @@ each_of_more n s ss at are (suc i) t is =
     subst (λ (place : ℕ). IsStepAt place t) e (are.each i t is)
 
 -- a step before others
-pub more_in_front : (n : ℕ) (s : chain.Step) (ss : List chain.Step) → IsStepAt (n + 1) s → AreSteps (n + 1) ss → AreSteps n (s ∷ ss)
-more_in_front n s ss at are = record { each = each_of_more n s ss at are }
+pub more_in_prefix : (n : ℕ) (s : chain.Step) (ss : List chain.Step) → IsStepAt (n + 1) s → AreSteps (n + 1) ss → AreSteps n (s ∷ ss)
+more_in_prefix n s ss at are = record { each = each_of_more n s ss at are }
 
 -- a step after others
-pub more_behind : (n : ℕ) (ss : List chain.Step) (s : chain.Step) → AreSteps n ss → IsStepAt (n + 1 + length ss) s → AreSteps n (ss ++ s ∷ [])
-more_behind n [] s are at =
+pub more_after : (n : ℕ) (ss : List chain.Step) (s : chain.Step) → AreSteps n ss → IsStepAt (n + 1 + length ss) s → AreSteps n (ss ++ s ∷ [])
+more_after n [] s are at =
     let e : n + 1 + 0 ≡ n + 1 = omega arith in
-    more_in_front n s [] (subst (λ (place : ℕ). IsStepAt place s) e at) (no_steps (n + 1))
-more_behind n (r ∷ ss) s are at =
+    more_in_prefix n s [] (subst (λ (place : ℕ). IsStepAt place s) e at) (no_steps (n + 1))
+more_after n (r ∷ ss) s are at =
     let e : n + 1 + suc (length ss) ≡ n + 1 + 1 + length ss = omega arith in
-    more_in_front n r (ss ++ s ∷ []) (first_step n r ss are) (more_behind (n + 1) ss s (other_steps n r ss are) (subst (λ (place : ℕ). IsStepAt place s) e at))
+    more_in_prefix n r (ss ++ s ∷ []) (first_step n r ss are) (more_after (n + 1) ss s (other_steps n r ss are) (subst (λ (place : ℕ). IsStepAt place s) e at))
 
 -- the same for steps as the program holds them
 pub steps_push : (n : ℕ) (xs more : List Step) (x : Step) → more ≡ xs ++ x ∷ [] → AreSteps n (steps_of xs) → IsStepAt (n + 1 + length xs) (step_of x) → AreSteps n (steps_of more)
 steps_push n xs more x e are at =
     let mapped : steps_of more ≡ steps_of xs ++ step_of x ∷ [] = ap steps_of e ∙ map-append step_of xs (x ∷ []) in
-    rw mapped (more_behind n (steps_of xs) (step_of x) are (rw length-map at))
+    rw mapped (more_after n (steps_of xs) (step_of x) are (rw length-map at))

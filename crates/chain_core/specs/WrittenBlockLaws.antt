@@ -13,7 +13,7 @@ use Rattle.chain_core.specs.declared.frame.Frame.{Frame}
 use Rattle.chain_core.specs.Steps.{IsSmallChain}
 use Rattle.chain_core.specs.Block.{number_in, counted, count_at, steps_from, outs_from, Read, body_from, chain_of}
 use Rattle.chain_core.specs.declared.error.ChainError.TheVariants.{BadCount}
-use Rattle.chain_core.specs.Spelling.{line, count_text, step_lines, out_line, chain_lines, chain_text, Spells}
+use Rattle.chain_core.specs.Spelling.{line, count_text, step_lines, out_line, chain_lines, chain_text, SpellsChain}
 use Rattle.chain_core.specs.StepLaws.{first_step, other_steps}
 use Rattle.chain_core.specs.WrittenLineLaws.{free_step, free_out, count_back, count_spells, free_count}
 use Rattle.chain_core.specs.WrittenListLaws.{ok_is, test_ok, bind_ok, line_is, steps_back, steps_spell, outs_back, outs_spell}
@@ -45,7 +45,9 @@ abbrev frame : ℕ → Chain → Frame
 frame first c = record { first_line = first; n = c.n; outputs = length c.outs; steps = length c.steps }
 
 -- all lines but the first are read
-body_back : (first : ℕ) (c : Chain) (rest : List Line) → IsSmallChain c → body_from (frame first c) ((step_lines (c.n + 1) c.steps ++ map out_line c.outs) ++ rest) ≡ Ok (record { chain = c; rest = rest })
+body_back : (first : ℕ) (c : Chain) (rest : List Line) → IsSmallChain c →
+    body_from (frame first c) ((step_lines (c.n + 1) c.steps ++ map out_line c.outs) ++ rest) ≡
+    Ok (record { chain = c; rest = rest })
 unfolding body_from
 body_back first c rest small =
     let f = frame first c in
@@ -79,13 +81,13 @@ body_spells f l ls x first few e =
     let read : Read = record { chain = record { n = f.n; steps = a.steps; outs = b.outs }; rest = os.0.1 } in
     let same : x ≡ read = sym (ok_is _ x os.2) ∙ (λ i. record { chain = record { n = f.n; steps = a.all i; outs = b.all i }; rest = os.0.1 }) in
     let count : f.steps ≡ length a.steps = omega (arith, a.count) in
-    let behind : ls ≡ (step_lines (f.n + 1) a.steps ++ map out_line b.outs) ++ os.0.1 = rw append_assoc (a.lines ∙ ap (λ (rest : List Line). step_lines (f.n + 1) a.steps ++ rest) b.lines) in
+    let following : ls ≡ (step_lines (f.n + 1) a.steps ++ map out_line b.outs) ++ os.0.1 = rw append_assoc (a.lines ∙ ap (λ (rest : List Line). step_lines (f.n + 1) a.steps ++ rest) b.lines) in
     let here : ReadLines f.n f.outputs (l ∷ ls) read = record {
       chain = record { steps = a.are; outs = All-from_recursion _ b.outs (subst (λ (r : ℕ). AllByRecursion (NamesPlace (f.n + r)) b.outs) count b.named) };
       inputs = refl;
       outputs = omega (arith, b.count);
       steps = omega (arith, count);
-      lines = λ i. (first ∙ ap (λ (r : ℕ). line (count_text r)) count) i ∷ behind i;
+      lines = λ i. (first ∙ ap (λ (r : ℕ). line (count_text r)) count) i ∷ following i;
     } in
     subst (λ (y : Read). ReadLines f.n f.outputs (l ∷ ls) y) (sym same) here
 
@@ -109,10 +111,10 @@ pub record IsWritten (l : Line) : Type 0 where
 pub lines_back : (ls : List Line) (rest : List ℕ) → AllByRecursion IsWritten ls → lines_of (flat_map line_bytes ls ++ rest) ≡ ls ++ lines_of rest
 lines_back [] rest written = refl
 lines_back (l ∷ ls) rest written =
-    let behind = flat_map line_bytes ls ++ rest in
-    let bytes : flat_map line_bytes (l ∷ ls) ++ rest ≡ l.text ++ 10 ∷ behind = rw written.0.ended (simp append_assoc) in
+    let following = flat_map line_bytes ls ++ rest in
+    let bytes : flat_map line_bytes (l ∷ ls) ++ rest ≡ l.text ++ 10 ∷ following = rw written.0.ended (simp append_assoc) in
     let whole : line l.text ≡ l = sym (line_is l l.text written.0.ended refl) in
-    ap lines_of bytes ∙ line_back l.text behind written.0.free ∙ (λ i. whole i ∷ lines_back ls rest written.1 i)
+    ap lines_of bytes ∙ line_back l.text following written.0.free ∙ (λ i. whole i ∷ lines_back ls rest written.1 i)
 
 -- written lines followed by written lines
 pub both_written : (ls more : List Line) → AllByRecursion IsWritten ls → AllByRecursion IsWritten more → AllByRecursion IsWritten (ls ++ more)
@@ -144,7 +146,7 @@ pub block_back : (first : ℕ) (c : Chain) (rest : List ℕ) → IsSmallChain c 
 block_back first c rest small = ap (λ (ls : List Line). chain_of first c.n (length c.outs) ls) (lines_back (chain_lines c) rest (block_written c small)) ∙ lines_read first c (lines_of rest) small
 
 -- A block that is read is the spelling of its chain, byte for byte.
-pub block_spells : (first n m : ℕ) (bytes : List ℕ) (x : Read) → chain_of first n m (lines_of bytes) ≡ Ok x → Spells n m bytes x
+pub block_spells : (first n m : ℕ) (bytes : List ℕ) (x : Read) → chain_of first n m (lines_of bytes) ≡ Ok x → SpellsChain n m bytes x
 block_spells first n m bytes x e =
     let read = lines_spelled first n m (lines_of bytes) x e in
     record {

@@ -29,9 +29,9 @@ place_back p fits = rw (word_back (codes "x") (decimal p)) (number_back 99999999
 pub place_spells : (item : List ℕ) (p : ℕ) → place_in item ≡ Some p → (p < 1000000000) × (item ≡ place_text p)
 unfolding place_in
 place_spells item p e =
-    option_and_then_some number_in (after (codes "x") item) p e (λ digits behind is.
+    option_and_then_some number_in (after (codes "x") item) p e (λ digits following is.
     let parts = number_spells 999999999 p digits (omega arith) is in
-    (omega (arith, parts.0), word_spells (codes "x") item digits behind ∙ ap (λ (ds : List ℕ). codes "x" ++ ds) parts.1))
+    (omega (arith, parts.0), word_spells (codes "x") item digits following ∙ ap (λ (ds : List ℕ). codes "x" ++ ds) parts.1))
 
 -- the letter before a place isn't below the digits
 free_x : (byte : ℕ) → byte < 48 → is_free byte (codes "x") ≡ true
@@ -72,14 +72,15 @@ four_items a b c d fa fb fc fd =
 -- no LF is in two parts with a blank between them
 free_line : (item rest : List ℕ) → is_free 10 item ≡ true → is_free 10 rest ≡ true → is_free 10 (item ++ 32 ∷ rest) ≡ true
 unfolding is_free
-free_line item rest front behind = free_both 10 item (32 ∷ rest) front behind
+free_line item rest prefix following = free_both 10 item (32 ∷ rest) prefix following
 
 -- no LF is in four items with a blank between each two
 four_free : (a b c d : List ℕ) → is_free 10 a ≡ true → is_free 10 b ≡ true → is_free 10 c ≡ true → is_free 10 d ≡ true → is_free 10 (join_with_byte 32 (a ∷ b ∷ c ∷ d ∷ [])) ≡ true
 four_free a b c d fa fb fc fd = free_line a (b ++ 32 ∷ (c ++ 32 ∷ d)) fa (free_line b (c ++ 32 ∷ d) fb (free_line c d fc fd))
 
 -- four items that are read one by one are read as a step's
-step_in_four : (i j k o : List ℕ) (place : ℕ) (s : Step) → place_in i ≡ Some place → place_in j ≡ Some s.j → place_in k ≡ Some s.k → operator_in o ≡ Some s.op → step_in (i ∷ j ∷ k ∷ o ∷ []) ≡ Some (place, s)
+step_in_four : (i j k o : List ℕ) (place : ℕ) (s : Step) → place_in i ≡ Some place → place_in j ≡ Some s.j →
+    place_in k ≡ Some s.k → operator_in o ≡ Some s.op → step_in (i ∷ j ∷ k ∷ o ∷ []) ≡ Some (place, s)
 unfolding step_in
 step_in_four i j k o place s ei ej ek eo = rw (ei, ej, ek, eo) refl
 
@@ -90,7 +91,10 @@ step_back place s fits at =
     let j : s.j < 1000000000 = omega (arith, at.j_below) in
     let k : s.k < 1000000000 = omega (arith, at.k_below) in
     let low : 32 < 48 = omega arith in
-    ap step_in (four_items (place_text place) (place_text s.j) (place_text s.k) (word_text s.op) (free_place 32 place low fits) (free_place 32 s.j low j) (free_place 32 s.k low k) (free_operator 32 s.op low)) ∙ step_in_four (place_text place) (place_text s.j) (place_text s.k) (word_text s.op) place s (place_back place fits) (place_back s.j j) (place_back s.k k) (operator_back s.op at.op_below)
+    ap step_in (four_items (place_text place) (place_text s.j) (place_text s.k) (word_text s.op)
+    (free_place 32 place low fits) (free_place 32 s.j low j) (free_place 32 s.k low k) (free_operator 32 s.op low))
+    ∙ step_in_four (place_text place) (place_text s.j) (place_text s.k) (word_text s.op) place s
+    (place_back place fits) (place_back s.j j) (place_back s.k k) (operator_back s.op at.op_below)
 
 -- no LF is in a step
 pub free_step : (place : ℕ) (s : Step) → place < 1000000000 → IsStepAt place s → is_free 10 (step_text place s) ≡ true
@@ -180,7 +184,9 @@ place_named None o e = absurd cc
 place_named (Some p) o e = (p, refl, some_is _ _ e)
 
 -- the same, by the two tests for constants
-named_by : (zero one : Bool) (item : List ℕ) (o : Out) → is_byte 48 item ≡ zero → is_byte 49 item ≡ one → (if zero then Some outs.Zero else (if one then Some outs.One else option_map (λ p. outs.Place p) (place_in item))) ≡ Some o → item ≡ named_text o
+named_by : (zero one : Bool) (item : List ℕ) (o : Out) → is_byte 48 item ≡ zero → is_byte 49 item ≡ one →
+    (if zero then Some outs.Zero else (if one then Some outs.One else option_map (λ p. outs.Place p) (place_in item)))
+    ≡ Some o → item ≡ named_text o
 named_by true one item o is_zero is_one e = let same : outs.Zero ≡ o = some_is _ _ e in subst (λ (x : Out). item ≡ named_text x) same (is_byte_spells 48 item is_zero)
 named_by false true item o is_zero is_one e = let same : outs.One ≡ o = some_is _ _ e in subst (λ (x : Out). item ≡ named_text x) same (is_byte_spells 49 item is_one)
 named_by false false item o is_zero is_one e =
@@ -196,8 +202,8 @@ named_spells item o e = named_by (is_byte 48 item) (is_byte 49 item) item o refl
 pub out_spells : (text : List ℕ) (o : Out) → out_in text ≡ Some o → text ≡ out_text o
 unfolding out_in out_text
 out_spells text o e =
-    option_and_then_some named_in (after (codes "out ") text) o e (λ item behind is.
-    word_spells (codes "out ") text item behind ∙ ap (λ (rest : List ℕ). codes "out " ++ rest) (named_spells item o is))
+    option_and_then_some named_in (after (codes "out ") text) o e (λ item following is.
+    word_spells (codes "out ") text item following ∙ ap (λ (rest : List ℕ). codes "out " ++ rest) (named_spells item o is))
 
 -- no LF is in the name of an out
 free_named : (o : Out) (last : ℕ) → last < 1000000000 → NamesPlace last o → is_free 10 (named_text o) ≡ true
@@ -227,8 +233,8 @@ count_back r few = rw (word_back (codes "chain ") (decimal r)) (number_back 9999
 pub count_spells : (text : List ℕ) (r : ℕ) → option_and_then number_in (after (codes "chain ") text) ≡ Some r → text ≡ count_text r
 unfolding count_text
 count_spells text r e =
-    option_and_then_some number_in (after (codes "chain ") text) r e (λ digits behind is.
-    word_spells (codes "chain ") text digits behind ∙ ap (λ (rest : List ℕ). codes "chain " ++ rest) (number_spells 999999999 r digits (omega arith) is).1)
+    option_and_then_some number_in (after (codes "chain ") text) r e (λ digits following is.
+    word_spells (codes "chain ") text digits following ∙ ap (λ (rest : List ℕ). codes "chain " ++ rest) (number_spells 999999999 r digits (omega arith) is).1)
 
 -- no LF is in the word before a number of steps
 free_chain_word : is_free 10 (codes "chain ") ≡ true

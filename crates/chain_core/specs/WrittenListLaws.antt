@@ -1,5 +1,7 @@
 -- Lists of lines: each spelling is read, and lines that are read are a spelling.
-use Rattle.std.proofs.Common.{◌≡◌, ℕ, ◌+◌, ◌≤◌, ◌<◌, Bool, true, false, List, [], ◌∷◌, ◌++◌, length, map, Option, Some, None, Result, Ok, Err, refl, sym, ap, ◌∙◌, arith, subst, append_assoc, length-append, ◌⊎◌, inl, inr}
+use Rattle.std.proofs.Common.{◌≡◌, ℕ, ◌+◌, ◌≤◌, ◌<◌, Bool, true, false, List, [], ◌∷◌, ◌++◌, length, map, Option, Some}
+use Rattle.std.proofs.Common.{None, Result, Ok, Err, refl, sym, ap, ◌∙◌, arith, subst, append_assoc, length-append, ◌⊎◌}
+use Rattle.std.proofs.Common.{inl, inr}
 use Rattle.std.specs.Prelude.{◌&&◌, ◌==◌, nat_lt, nat_le, if◌then◌else◌}
 use Rattle.std.specs.List.{AllByRecursion}
 use Rattle.std.proofs.lemmas.Grind.{common_steps}
@@ -14,7 +16,7 @@ use Rattle.chain_core.specs.Block.{◌>>=◌, step_in, judged_step, step_at, ste
 use Rattle.chain_core.specs.declared.error.ChainError.{ChainError}
 use Rattle.chain_core.specs.declared.error.ChainError.TheVariants.{BadStep, ForwardPlace, BadOut}
 use Rattle.chain_core.specs.Spelling.{line, step_text, step_lines, out_text, out_line}
-use Rattle.chain_core.specs.StepLaws.{first_step, other_steps, no_steps, more_in_front}
+use Rattle.chain_core.specs.StepLaws.{first_step, other_steps, no_steps, more_in_prefix}
 use Rattle.chain_core.specs.BlockLaws.{steps_done, outs_done}
 use Rattle.chain_core.specs.WrittenLineLaws.{both_true, step_back, step_spells, out_back, out_spells}
 
@@ -104,7 +106,9 @@ step_at_spells f old l s e =
 -- ---- all steps
 
 -- the lines of steps are read
-pub steps_back : (f : Frame) (n : ℕ) (old ss : List Step) (rest : List Line) → n ≡ f.n + length old → AreSteps n ss → length old + length ss ≡ f.steps → f.n + 1 + f.steps < 1000000000 → steps_from f old (step_lines (n + 1) ss ++ rest) ≡ Ok (old ++ ss, rest)
+pub steps_back : (f : Frame) (n : ℕ) (old ss : List Step) (rest : List Line) → n ≡ f.n + length old → AreSteps n ss →
+    length old + length ss ≡ f.steps → f.n + 1 + f.steps < 1000000000 →
+    steps_from f old (step_lines (n + 1) ss ++ rest) ≡ Ok (old ++ ss, rest)
 unfolding step_lines steps_from
 steps_back f n old [] rest place are count fits = steps_done f old rest (omega arith) ∙ ap (λ (ss : List Step). read_as ss rest) (grind (arith, common_steps))
 steps_back f n old (s ∷ ss) rest place are count fits =
@@ -135,11 +139,13 @@ no_more_steps f n old ls y enough e =
     }
 
 -- one more step is read, and then the others
-one_more_step : (f : Frame) (n : ℕ) (old : List Step) (s : Step) (l : Line) (ls : List Line) (y : List Step × List Line) → IsStepAt (n + 1) s → l ≡ line (step_text (n + 1) s) → ReadSteps f (n + 1) (old ++ s ∷ []) ls y → ReadSteps f n old (l ∷ ls) y
+one_more_step : (f : Frame) (n : ℕ) (old : List Step) (s : Step) (l : Line) (ls : List Line) (y : List Step ×
+    List Line) → IsStepAt (n + 1) s → l ≡ line (step_text (n + 1) s) → ReadSteps f (n + 1) (old ++ s ∷ []) ls y →
+    ReadSteps f n old (l ∷ ls) y
 unfolding step_lines
 one_more_step f n old s l ls y at written more = record {
   steps = s ∷ more.steps;
-  are = more_in_front n s more.steps at more.are;
+  are = more_in_prefix n s more.steps at more.are;
   all = more.all ∙ append_assoc old (s ∷ []) more.steps;
   count = let sum = rw length-append at more.count in omega (arith, sum);
   lines = λ i. written i ∷ more.lines i;
@@ -197,7 +203,9 @@ out_at_spells f old l o e =
     (line_is l (out_text o) ended.0 (out_spells l.text o judged.0), judged.1)
 
 -- the lines of outs are read
-pub outs_back : (f : Frame) (old os : List Out) (rest : List Line) → AllByRecursion (NamesPlace (f.n + f.steps)) os → length old + length os ≡ f.outputs → f.n + f.steps < 1000000000 → outs_from f old (map out_line os ++ rest) ≡ Ok (old ++ os, rest)
+pub outs_back : (f : Frame) (old os : List Out) (rest : List Line) → AllByRecursion (NamesPlace (f.n + f.steps)) os →
+    length old + length os ≡ f.outputs → f.n + f.steps < 1000000000 → outs_from f old (map out_line os ++ rest) ≡
+    Ok (old ++ os, rest)
 unfolding outs_from
 outs_back f old [] rest named count fits = outs_done f old rest (omega arith) ∙ ap (λ (os : List Out). read_as os rest) (grind (arith, common_steps))
 outs_back f old (o ∷ os) rest named count fits =
@@ -225,7 +233,8 @@ no_more_outs f old ls y enough e =
     }
 
 -- one more out is read, and then the others
-one_more_out : (f : Frame) (old : List Out) (o : Out) (l : Line) (ls : List Line) (y : List Out × List Line) → NamesPlace (f.n + f.steps) o → l ≡ out_line o → ReadOuts f (old ++ o ∷ []) ls y → ReadOuts f old (l ∷ ls) y
+one_more_out : (f : Frame) (old : List Out) (o : Out) (l : Line) (ls : List Line) (y : List Out × List Line) →
+    NamesPlace (f.n + f.steps) o → l ≡ out_line o → ReadOuts f (old ++ o ∷ []) ls y → ReadOuts f old (l ∷ ls) y
 one_more_out f old o l ls y named written more = record {
   outs = o ∷ more.outs;
   named = (named, more.named);

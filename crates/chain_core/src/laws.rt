@@ -5,7 +5,7 @@ ghost use Rattle.text_core.specs.Lines.{lines_of};
 ghost use Rattle.chain_theory.specs.Chain.{Chain};
 ghost use Rattle.chain_core.specs.Steps.{IsSmallChain};
 ghost use Rattle.chain_core.specs.Block.{Read, chain_of};
-ghost use Rattle.chain_core.specs.Spelling.{chain_text, Spells};
+ghost use Rattle.chain_core.specs.Spelling.{chain_text, SpellsChain};
 
 /// A chain block is read exactly where it is the spelling of a chain, byte for byte. The chain that
 /// is read is the one that was spelled, whatever text follows.
@@ -16,5 +16,5 @@ pub fn laws_of_blocks()
         ≡ Ok (record { chain = c; rest = lines_of rest }) }
     ensures only { (first n m : ℕ) (bytes : List ℕ) (x : Read) →
         chain_of first n m (lines_of bytes) ≡ Ok x →
-        Spells n m bytes x }
+        SpellsChain n m bytes x }
 {}

@@ -3,7 +3,7 @@
 ghost use Rattle.std.specs.Prelude.{◌≡◌, ◌+◌, ◌^◌, ◌<◌, length};
 ghost use Rattle.op_basis.specs.Basis.{members};
 ghost use Rattle.chain_core.specs.Steps.{steps_of};
-ghost use Rattle.chain_core.specs.Outside.{IsJudged, outside_from};
+ghost use Rattle.chain_core.specs.Outside.{IsBasisCheck, outside_from};
 
 use crate::chain::Chain;
 use crate::step::Step;
@@ -30,7 +30,7 @@ fn outside_from(first: u32, steps: &[Step], basis: Basis) -> Option<u32>
 /// The first place whose operator isn't in a basis; None where the chain is over the basis.
 #[tactic(auto, using(crate::specs::OutsideLaws::judging))]
 pub fn first_outside(chain: &Chain, basis: Basis) -> Option<u32>
-    ensures { IsJudged (members basis) chain.now result }
+    ensures { IsBasisCheck (members basis) chain.now result }
 {
     outside_from(chain.n() + 1, chain.steps(), basis)
 }

@@ -23,7 +23,8 @@ use text_core::next_line;
 #[tactic(auto, using(crate::specs::BlockLaws::more_steps))]
 pub fn add_step(steps: &mut Vec<Step>, step: Step) -> Result<(), AllocError>
     ensures added { OnOk result (steps.new.items ≡ steps.old.items ++ step ∷ []) }
-    ensures steps { (n : ℕ) → AreSteps n (steps_of steps.old.items) → IsStepAt (n + 1 + length steps.old.items) (step_of step) →
+    ensures steps { (n : ℕ) → AreSteps n (steps_of steps.old.items) →
+        IsStepAt (n + 1 + length steps.old.items) (step_of step) →
         OnOk result (AreSteps n (steps_of steps.new.items)) }
     ensures unchanged { OnErr result (steps.new.items ≡ steps.old.items) }
 {
@@ -41,7 +42,8 @@ fn steps_from<'a>(
     requires first_line { frame.now.first_line < 2 ^ 31 }
     requires few { frame.now.steps ≤ 16 }
     requires small { frame.now.n ≤ 6 }
-    ensures exact { Gives (λ x. (steps_of x.0.items, lines_of x.1.now)) result (steps_from frame.now [] (lines_of bytes.now)) }
+    ensures exact { Gives (λ x. (steps_of x.0.items, lines_of x.1.now)) result
+        (steps_from frame.now [] (lines_of bytes.now)) }
     ensures steps { IfOk result (λ x. AreSteps frame.now.n (steps_of x.0.items)) }
     ensures count { IfOk result (λ x. length x.0.items ≡ frame.now.steps) }
     ensures rest { IfOk result (λ x. IsRest bytes.now x.1.now) }
@@ -99,7 +101,8 @@ fn body_from<'a>(
     requires few { frame.now.steps ≤ 16 }
     requires small { frame.now.n ≤ 6 }
     requires outputs { frame.now.outputs ≤ 8 }
-    ensures exact { Gives (λ x. record { chain = x.0; rest = lines_of x.1.now }) result (body_from frame.now (lines_of bytes.now)) }
+    ensures exact { Gives (λ x. record { chain = x.0; rest = lines_of x.1.now }) result
+        (body_from frame.now (lines_of bytes.now)) }
     ensures rest { IfOk result (λ x. IsRest bytes.now x.1.now) }
     ensures chain { IfOk result (λ x. IsSmallChain x.0) }
     ensures n { IfOk result (λ x. x.0.n ≡ frame.now.n) }

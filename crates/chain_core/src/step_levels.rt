@@ -3,7 +3,7 @@ ghost use Rattle.std.specs.Prelude.{◌≡◌, ℕ, ◌+◌, ◌<◌, ◌≤◌,
 ghost use Rattle.chain_theory.specs.Chain.{AreSteps};
 ghost use Rattle.chain_theory.specs.Levels.{levels_after, depth};
 ghost use Rattle.chain_core.specs.Steps.{steps_of};
-ghost use Rattle.chain_core.specs.Heights.{heights, levels_of};
+ghost use Rattle.chain_core.specs.SliceLevels.{slice_levels, levels_of};
 
 use crate::chain::Chain;
 use crate::step::Step;
@@ -14,8 +14,8 @@ use std::alloc::{AllocError, Global};
 fn levels_into(levels: &mut [u32], n: u32, steps: &[Step])
     requires steps { AreSteps n (steps_of steps.now) }
     requires room { (n + length steps.now < length levels.old) × (length levels.old ≤ 23) }
-    requires low { (p : ℕ) → heights levels.old p ≤ n }
-    ensures { heights levels.new ≡ levels_after (heights levels.old) (n + 1) (steps_of steps.now) }
+    requires low { (p : ℕ) → slice_levels levels.old p ≤ n }
+    ensures { slice_levels levels.new ≡ levels_after (slice_levels levels.old) (n + 1) (steps_of steps.now) }
 {
     let mut last = n as usize;
     let mut left = steps;
@@ -30,7 +30,7 @@ fn levels_into(levels: &mut [u32], n: u32, steps: &[Step])
 
 /// The level of each step, in the order of their places: one more than the larger level of its
 /// operands, where inputs have the level 0. An error means that memory ran out.
-#[tactic(auto, unfolding(crate::specs::Heights::levels_of))]
+#[tactic(auto, unfolding(crate::specs::SliceLevels::levels_of))]
 pub fn levels(alloc: Global, chain: &Chain) -> Result<Vec<u32>, AllocError>
     ensures { IfOk result (λ levels. levels.items ≡ levels_of chain.now) }
 {

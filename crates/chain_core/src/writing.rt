@@ -25,7 +25,8 @@ fn push_place(text: &mut Vec<u8>, place: u32) -> Result<(), AllocError>
 /// Appends the line of the step at a place.
 #[tactic(auto, unfolding(crate::specs::Spelling::step_text))]
 fn push_step(text: &mut Vec<u8>, place: u32, step: Step) -> Result<(), AllocError>
-    ensures { OnOk result (text.new.items ≡ text.old.items ++ line_bytes (spelling.line (spelling.step_text place (step_of step)))) }
+    ensures { OnOk result (text.new.items ≡ text.old.items ++
+        line_bytes (spelling.line (spelling.step_text place (step_of step)))) }
 {
     push_place(text, place)?;
     text.extend_from_slice(b" ")?;
@@ -41,7 +42,8 @@ fn push_step(text: &mut Vec<u8>, place: u32, step: Step) -> Result<(), AllocErro
 #[tactic(auto, unfolding(crate::specs::Spelling::step_lines))]
 fn push_steps(text: &mut Vec<u8>, first: u32, steps: &[Step]) -> Result<(), AllocError>
     requires { first + length steps.now < 2 ^ 32 }
-    ensures { OnOk result (text.new.items ≡ text.old.items ++ flat_map line_bytes (spelling.step_lines first (steps_of steps.now))) }
+    ensures { OnOk result (text.new.items ≡ text.old.items ++
+        flat_map line_bytes (spelling.step_lines first (steps_of steps.now))) }
 {
     let mut place = first;
     let mut left = steps;

@@ -64,15 +64,18 @@ pub step_bit : (n r : ℕ) (step : ℕ → Step) → AreBelow n r step → (t i 
 step_bit n r step below t i low = step_is n t (rebuilt step r) (are_steps n r step below) i (step i) (rebuilt_get step r i low)
 
 -- Bits that agree with the inputs, and follow each step, are the values.
-pub bits_are : (n r : ℕ) (step : ℕ → Step) → AreBelow n r step → (t : ℕ) (bits : ℕ → Bool) → ((p : ℕ) → 1 ≤ p → p ≤ n → bits p ≡ input n t p) → ((i : ℕ) → i < r → bits (n + 1 + i) ≡ step_value bits (step i)) → (p : ℕ) → 1 ≤ p → p < n + 1 + r → bits_of n r step t p ≡ bits p
+pub bits_are : (n r : ℕ) (step : ℕ → Step) → AreBelow n r step → (t : ℕ) (bits : ℕ → Bool) →
+    ((p : ℕ) → 1 ≤ p → p ≤ n → bits p ≡ input n t p) →
+    ((i : ℕ) → i < r → bits (n + 1 + i) ≡ step_value bits (step i)) → (p : ℕ) → 1 ≤ p → p < n + 1 + r →
+    bits_of n r step t p ≡ bits p
 bits_are n r step below t bits inputs follow p from low =
     values_are n t bits (rebuilt step r) (are_steps n r step below) inputs
     (λ i a at. let here = rebuilt_at step r i a at in follow i here.0 ∙ ap (step_value bits) (sym here.1))
     p from (omega (arith, rebuilt_length step r))
 
 -- A prefix of the steps has the same values at its places.
-pub front_bits : (n r : ℕ) (step : ℕ → Step) → AreBelow n r step → (k : ℕ) → k ≤ r → (t p : ℕ) → 1 ≤ p → p < n + 1 + k → bits_of n k step t p ≡ bits_of n r step t p
-front_bits n r step below k less t p from low =
+pub prefix_bits : (n r : ℕ) (step : ℕ → Step) → AreBelow n r step → (k : ℕ) → k ≤ r → (t p : ℕ) → 1 ≤ p → p < n + 1 + k → bits_of n k step t p ≡ bits_of n r step t p
+prefix_bits n r step below k less t p from low =
     bits_are n k step (λ i inside. below i (omega arith)) t (bits_of n r step t)
     (λ q q_from q_low. input_bit n r step t q q_low)
     (λ i inside. step_bit n r step below t i (omega arith))
@@ -95,7 +98,13 @@ out_named last h m outs count from low all = All-get_or (NamesPlace last) outs (
 
 -- ---- from chains and back
 
-fits_parts : (s : Specification) (basis : Basis) (r d : ℕ) (steps : List Step) (outs : List Out) → AreSteps s.inputs steps → length steps ≡ r → All (λ (a : Step). basis a.op ≡ true) steps → ((p : ℕ) → 1 ≤ p → p ≤ s.inputs + length steps → level_in s.inputs steps p ≤ d) → All (NamesPlace (s.inputs + r)) outs → length outs ≡ s.outputs → ((h t : ℕ) → 1 ≤ h → h ≤ s.outputs → t < 2 ^ s.inputs → is_met (s.cell h t) (out_bit (values_on s.inputs t steps) (slice_index_or outs (h - 1) Zero)) ≡ true) → Fits s basis r d (record { step = step_at steps; outs = outs })
+fits_parts : (s : Specification) (basis : Basis) (r d : ℕ) (steps : List Step) (outs : List Out) →
+    AreSteps s.inputs steps → length steps ≡ r → All (λ (a : Step). basis a.op ≡ true) steps →
+    ((p : ℕ) → 1 ≤ p → p ≤ s.inputs + length steps → level_in s.inputs steps p ≤ d) →
+    All (NamesPlace (s.inputs + r)) outs → length outs ≡ s.outputs →
+    ((h t : ℕ) → 1 ≤ h → h ≤ s.outputs → t < 2 ^ s.inputs →
+    is_met (s.cell h t) (out_bit (values_on s.inputs t steps) (slice_index_or outs (h - 1) Zero)) ≡ true) →
+    Fits s basis r d (record { step = step_at steps; outs = outs })
 fits_parts s basis r d steps outs are size over levels named count cells =
     let below : AreBelow s.inputs r (step_at steps) = λ i low. are.each i (step_at steps i) (step_at_get steps i (omega arith)) in
     record {
@@ -117,7 +126,8 @@ fits_parts s basis r d steps outs are size over levels named count cells =
           ∙ cells h t from low row;
     }
 
-pub fits_from : (s : Specification) (basis : Basis) (r d : ℕ) (c : Chain) → IsChain c → length c.steps ≡ r → IsOver basis c → Agrees c s → HasLevels d c → Fits s basis r d (record { step = step_at c.steps; outs = c.outs })
+pub fits_from : (s : Specification) (basis : Basis) (r d : ℕ) (c : Chain) → IsChain c → length c.steps ≡ r →
+    IsOver basis c → Agrees c s → HasLevels d c → Fits s basis r d (record { step = step_at c.steps; outs = c.outs })
 fits_from s basis r d c is size over agrees levels =
     let same : c.n ≡ s.inputs = agrees.inputs in
     fits_parts s basis r d c.steps c.outs

@@ -6,16 +6,18 @@ use Rattle.chain_theory.specs.Specification.{Specification, input}
 use Rattle.chain_theory.specs.Chain.{Step, IsStepAt}
 use Rattle.tt_core.specs.Symmetry.{renamed}
 use Rattle.chain_laws.specs.Keys.{larger, smaller, ComesBefore}
-use Rattle.chain_laws.specs.Reduced.{Reads}
+use Rattle.chain_laws.specs.NormalForm.{Reads}
 use Rattle.chain_laws.specs.Bodies.{Body, Fits, AreBelow}
 use Rattle.chain_laws.specs.Moved.{moved, moved_body, IsMove, moved_fits}
 use Rattle.chain_laws.specs.Renamed.{renamed_cases, renamed_first, renamed_second, renamed_other, renamed_back, renamed_within, renamed_from, renamed_low, moved_same, moved_below}
 use Rattle.chain_laws.specs.Ranks.{key, rank, rank_less}
-use Rattle.chain_laws.specs.Decided.{IsLower}
+use Rattle.chain_laws.specs.Decidable.{IsLower}
 
 -- ---- neighbours
 
-exchange_below : (n r : ℕ) (step : ℕ → Step) → AreBelow n r step → (i : ℕ) → i + 1 < r → (Reads (step (i + 1)) (n + 1 + i) → ⊥) → AreBelow n r (λ k. moved (renamed (n + 1 + i) (n + 1 + (i + 1))) (step (renamed i (i + 1) k)))
+exchange_below : (n r : ℕ) (step : ℕ → Step) → AreBelow n r step → (i : ℕ) → i + 1 < r →
+    (Reads (step (i + 1)) (n + 1 + i) → ⊥) → AreBelow n r (λ k. moved (renamed (n + 1 + i) (n + 1 + (i + 1)))
+    (step (renamed i (i + 1) k)))
 exchange_below n r step below i low unread k k_low =
     let p : ℕ = n + 1 + i in
     let q : ℕ = n + 1 + (i + 1) in
@@ -45,7 +47,9 @@ exchange_below n r step below i low unread k k_low =
           (cases_lt k i)))
     ]
 
-exchange_moves : (s : Specification) (basis : Basis) (r d : ℕ) (b : Body) → Fits s basis r d b → (i : ℕ) → i + 1 < r → (Reads (b.step (i + 1)) (s.inputs + 1 + i) → ⊥) → IsMove s r b.step (renamed (s.inputs + 1 + i) (s.inputs + 1 + (i + 1))) (renamed i (i + 1)) (λ t. t)
+exchange_moves : (s : Specification) (basis : Basis) (r d : ℕ) (b : Body) → Fits s basis r d b → (i : ℕ) → i + 1 < r →
+    (Reads (b.step (i + 1)) (s.inputs + 1 + i) → ⊥) →
+    IsMove s r b.step (renamed (s.inputs + 1 + i) (s.inputs + 1 + (i + 1))) (renamed i (i + 1)) (λ t. t)
 exchange_moves s basis r d b fits i low unread =
     let n : ℕ = s.inputs in
     let p : ℕ = n + 1 + i in
@@ -70,7 +74,9 @@ exchange_moves s basis r d b fits i low unread =
 
 -- If a step's pair comes before that of the preceding step, neither step reads the other, and they can
 -- be exchanged; the keys decrease.
-pub exchanged_lower : (s : Specification) (basis : Basis) (r d : ℕ) (b : Body) → Fits s basis r d b → (i : ℕ) → i + 1 < r → ComesBefore (b.step (i + 1)) (b.step i) → IsLower (Fits s basis r d) (λ x. rank (s.inputs + r + 1) r x.step) b
+pub exchanged_lower : (s : Specification) (basis : Basis) (r d : ℕ) (b : Body) → Fits s basis r d b → (i : ℕ) →
+    i + 1 < r → ComesBefore (b.step (i + 1)) (b.step i) →
+    IsLower (Fits s basis r d) (λ x. rank (s.inputs + r + 1) r x.step) b
 exchanged_lower s basis r d b fits i low before =
     let n : ℕ = s.inputs in
     let p : ℕ = n + 1 + i in
@@ -80,12 +86,16 @@ exchanged_lower s basis r d b fits i low before =
     let here : IsStepAt p (b.step i) = fits.below i (omega arith) in
     let next : IsStepAt q (b.step (i + 1)) = fits.below (i + 1) low in
     let unread : Reads (b.step (i + 1)) p → ⊥ = λ reads.
-    let at_most : larger (b.step (i + 1)) ≤ larger (b.step i) = ⊎_elim (λ (lt : larger (b.step (i + 1)) < larger (b.step i)). omega arith) (λ (same : (larger (b.step (i + 1)) ≡ larger (b.step i)) × (smaller (b.step (i + 1)) < smaller (b.step i))). omega (arith, same.0)) before in
+    let at_most : larger (b.step (i + 1)) ≤ larger (b.step i) =
+    ⊎_elim (λ (lt : larger (b.step (i + 1)) < larger (b.step i)). omega arith)
+    (λ (same : (larger (b.step (i + 1)) ≡ larger (b.step i)) ×
+    (smaller (b.step (i + 1)) < smaller (b.step i))). omega (arith, same.0)) before in
     let old : larger (b.step i) < p = omega (arith, here.j_below, here.k_below) in
     ⊎_elim (λ (e : (b.step (i + 1)).j ≡ p). omega arith) (λ (e : (b.step (i + 1)).k ≡ p). omega arith) reads in
     let new : Fits s basis r d (moved_body f order b) = moved_fits s basis r d b fits f order (λ t. t) (exchange_moves s basis r d b fits i low unread) in
     let stays : (a : Step) (place : ℕ) → IsStepAt place a → place ≤ p → moved f a ≡ a = λ a place is le.
-    moved_same f a (renamed_other p q a.j (λ e. omega (arith, is.j_below)) (λ e. omega (arith, is.j_below))) (renamed_other p q a.k (λ e. omega (arith, is.k_below)) (λ e. omega (arith, is.k_below))) in
+    moved_same f a (renamed_other p q a.j (λ e. omega (arith, is.j_below)) (λ e. omega (arith, is.j_below)))
+    (renamed_other p q a.k (λ e. omega (arith, is.k_below)) (λ e. omega (arith, is.k_below))) in
     let next_low : (x : ℕ) → Reads (b.step (i + 1)) x → x < q → f x ≡ x = λ x reads x_low. renamed_other p q x (λ e. unread (subst (Reads (b.step (i + 1))) e reads)) (λ e. omega arith) in
     record {
       at = moved_body f order b;

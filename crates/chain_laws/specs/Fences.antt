@@ -12,17 +12,17 @@ use Rattle.chain_theory.specs.Specification.{Specification}
 use Rattle.chain_theory.specs.Agreement.{HasChain}
 use Rattle.chain_theory.specs.Chain.{Step, Chain, IsStepAt, IsChain}
 use Rattle.op_basis.specs.Closed.{number}
-use Rattle.fence_core.specs.Fence.{IsFence, IsListed}
+use Rattle.fence_core.specs.Fence.{IsFence, IsListedFence}
 use Rattle.chain_laws.specs.Follow.{step_at, step_at_get, place_cases}
 use Rattle.chain_laws.specs.Keys.{larger}
 use Rattle.chain_theory.specs.Levels.{level, HasLevels}
 use Rattle.chain_theory.specs.LevelLaws.{input_level, level_step}
 use Rattle.chain_theory.specs.Levels.{HasChainOfLevels}
-use Rattle.chain_laws.specs.Reduced.{HasReducedChain}
+use Rattle.chain_laws.specs.NormalForm.{HasNormalFormChain}
 use Rattle.chain_laws.specs.Least.{least}
 use Rattle.chain_laws.specs.LevelOrder.{KeysRise, levels_rise, level_of_larger}
-use Rattle.chain_laws.specs.Tallies.{tally, tally_apart, tally_both, tally_none, tally_all, tally_some, front_passes, front_fails, IsFront, number_true, number_false}
-use Rattle.chain_laws.specs.Users.{width, AreUsed, level_counts}
+use Rattle.chain_laws.specs.Tallies.{tally, tally_apart, tally_both, tally_none, tally_all, tally_some, prefix_passes, prefix_fails, IsDownwardClosed, number_true, number_false}
+use Rattle.chain_laws.specs.Users.{width, AreOutsOrRead, level_counts}
 
 -- ---- definitions
 
@@ -34,7 +34,7 @@ level_by [] i = 0
 level_by (q ∷ qs) i = if ltb i q then 1 else 1 + level_by qs (i - q)
 
 -- The chain has the fence: its steps are ordered by level, with the fence's number of steps on each.
-pub record StandsIn (c : Chain) (fence : List ℕ) : Type 0 where
+pub record IsInFence (c : Chain) (fence : List ℕ) : Type 0 where
   pub whole : sum fence ≡ length c.steps
   pub filled : IsFence fence
   pub levels : (i : ℕ) → i < length c.steps → level c (c.n + 1 + i) ≡ level_by fence i
@@ -120,7 +120,7 @@ counts_sum f r a (suc k) =
     let whole : sum (counts f r a (suc k)) ≡ at f r (a + 1) + sum (counts f r (a + 1) k) = sum_by-cons (λ (q : ℕ). q) (at f r (a + 1)) (counts f r (a + 1) k) in
     omega (arith, whole, rest, e, over_next f r a)
 
-counts_listed : (f : ℕ → ℕ) (r top m : ℕ) → Climbs f r top → ((l : ℕ) → at f r l ≤ over f r l + m) → (a k : ℕ) → a + k ≡ top → IsListed m (counts f r a k)
+counts_listed : (f : ℕ → ℕ) (r top m : ℕ) → Climbs f r top → ((l : ℕ) → at f r l ≤ over f r l + m) → (a k : ℕ) → a + k ≡ top → IsListedFence m (counts f r a k)
 counts_listed f r top m is few a zero e = tt
 counts_listed f r top m is few a (suc k) e =
     let next : a + 1 + k ≡ top = omega arith in
@@ -135,16 +135,16 @@ counts_filled f r top is = λ k d low.
     let there = is.full (1 + k) (omega arith) (omega arith) in
     subst (λ (q : ℕ). 1 ≤ q) (sym here) (tally_some (λ i. f i == 1 + k) r there.0 there.1 (eq-eqb (f there.0) (1 + k) there.2))
 
-upto_front : (f : ℕ → ℕ) (r top l : ℕ) → Climbs f r top → IsFront (λ i. leb (f i) l) r
-upto_front f r top l is i k le low passes = le-leb (f i) l (omega (arith, is.rise i k le low, leb-true (f k) l passes))
+upto_prefix : (f : ℕ → ℕ) (r top l : ℕ) → Climbs f r top → IsDownwardClosed (λ i. leb (f i) l) r
+upto_prefix f r top l is i k le low passes = le-leb (f i) l (omega (arith, is.rise i k le low, leb-true (f k) l passes))
 
 upto_passes : (f : ℕ → ℕ) (r top l i : ℕ) → Climbs f r top → i < r → f i ≤ l → i < upto f r l
 unfolding upto
-upto_passes f r top l i is low le = front_passes (λ k. leb (f k) l) r i (upto_front f r top l is) low (le-leb (f i) l le)
+upto_passes f r top l i is low le = prefix_passes (λ k. leb (f k) l) r i (upto_prefix f r top l is) low (le-leb (f i) l le)
 
 upto_fails : (f : ℕ → ℕ) (r top l i : ℕ) → Climbs f r top → i < r → l < f i → upto f r l ≤ i
 unfolding upto
-upto_fails f r top l i is low more = front_fails (λ k. leb (f k) l) r i (upto_front f r top l is) low (lt-leb (f i) l more)
+upto_fails f r top l i is low more = prefix_fails (λ k. leb (f k) l) r i (upto_prefix f r top l is) low (lt-leb (f i) l more)
 
 counts_levels : (f : ℕ → ℕ) (r top : ℕ) → Climbs f r top → (a k : ℕ) → a + k ≡ top → (i : ℕ) → i < r → a < f i → level_by (counts f r a k) (i - upto f r a) + a ≡ f i
 unfolding level_by
@@ -206,19 +206,19 @@ fence_is : (c : Chain) → fence_of c ≡ counts (λ i. level c (c.n + 1 + i)) (
 unfolding fence_of at
 fence_is c = refl
 
-count_at : (c : Chain) → IsChain c → AreUsed c → (l : ℕ) → at (λ i. level c (c.n + 1 + i)) (length c.steps) l ≤ over (λ i. level c (c.n + 1 + i)) (length c.steps) l + length c.outs
+count_at : (c : Chain) → IsChain c → AreOutsOrRead c → (l : ℕ) → at (λ i. level c (c.n + 1 + i)) (length c.steps) l ≤ over (λ i. level c (c.n + 1 + i)) (length c.steps) l + length c.outs
 unfolding at over
 count_at c is used l = level_counts c is used l
 
 -- A chain whose keys don't decrease has its fence;
-pub stands_in_fence : (c : Chain) → IsChain c → KeysRise c → StandsIn c (fence_of c)
-stands_in_fence c is keys =
+pub is_in_fence : (c : Chain) → IsChain c → KeysRise c → IsInFence c (fence_of c)
+is_in_fence c is keys =
     let f : ℕ → ℕ = λ i. level c (c.n + 1 + i) in
     let r : ℕ = length c.steps in
     let top : ℕ = level c (c.n + r) in
     let up : Climbs f r top = climbs c is keys in
     let none : over f r (0 + top) ≡ 0 = ap (over f r) (let e : 0 + top ≡ top = omega arith in e) ∙ over_top f r top up in
-    subst (StandsIn c) (sym (fence_is c)) (record {
+    subst (IsInFence c) (sym (fence_is c)) (record {
       whole = omega (arith, counts_sum f r 0 top, none, over_bottom f r top up);
       filled = counts_filled f r top up;
       levels = λ i low.
@@ -228,12 +228,12 @@ stands_in_fence c is keys =
     })
 
 -- the fence is listed, where each step is an out or is read;
-pub fence_is_listed : (c : Chain) → IsChain c → KeysRise c → AreUsed c → IsListed (length c.outs) (fence_of c)
+pub fence_is_listed : (c : Chain) → IsChain c → KeysRise c → AreOutsOrRead c → IsListedFence (length c.outs) (fence_of c)
 fence_is_listed c is keys used =
     let f : ℕ → ℕ = λ i. level c (c.n + 1 + i) in
     let r : ℕ = length c.steps in
     let top : ℕ = level c (c.n + r) in
-    subst (IsListed (length c.outs)) (sym (fence_is c)) (counts_listed f r top (length c.outs) (climbs c is keys) (count_at c is used) 0 top (omega arith))
+    subst (IsListedFence (length c.outs)) (sym (fence_is c)) (counts_listed f r top (length c.outs) (climbs c is keys) (count_at c is used) 0 top (omega arith))
 
 -- and it has no more levels than the chain.
 pub fence_is_low : (c : Chain) → IsChain c → (d : ℕ) → HasLevels d c → length (fence_of c) ≤ d
@@ -248,22 +248,22 @@ fence_is_low c is d levels =
 
 -- a chain in normal form of r steps and at most d levels, with a listed fence of at most d levels
 pub record HasFencedChain (s : Specification) (basis : Basis) (r d : ℕ) : Type 0 where
-  pub reduced : HasReducedChain s basis r d
+  pub normal_form : HasNormalFormChain s basis r d
   pub fence : List ℕ
-  pub stands : StandsIn reduced.has.chain fence
-  pub listed : IsListed s.outputs fence
+  pub stands : IsInFence normal_form.has.chain fence
+  pub listed : IsListedFence s.outputs fence
   pub low : length fence ≤ d
 
 -- If a chain of r steps and at most d levels agrees, and none of fewer steps does, a chain in normal
 -- form with a listed fence of at most d levels agrees.
 pub least_in_fence : (s : Specification) (basis : Basis) (r d : ℕ) → HasChainOfLevels s basis r d → ((q : ℕ) → q < r → HasChain s basis q → ⊥) → HasFencedChain s basis r d
 least_in_fence s basis r d has none_fewer =
-    let is : HasReducedChain s basis r d = least s basis r d has none_fewer in
+    let is : HasNormalFormChain s basis r d = least s basis r d has none_fewer in
     let c : Chain = is.has.chain in
     record {
-      reduced = is;
+      normal_form = is;
       fence = fence_of c;
-      stands = stands_in_fence c is.has.is_chain is.reduced.in_order;
-      listed = subst (λ (m : ℕ). IsListed m (fence_of c)) is.has.agrees.outputs (fence_is_listed c is.has.is_chain is.reduced.in_order is.reduced.used);
+      stands = is_in_fence c is.has.is_chain is.normal_form.in_order;
+      listed = subst (λ (m : ℕ). IsListedFence m (fence_of c)) is.has.agrees.outputs (fence_is_listed c is.has.is_chain is.normal_form.in_order is.normal_form.used);
       low = fence_is_low c is.has.is_chain d is.has.levels;
     }

@@ -67,7 +67,10 @@ later_follow f has place s ss follows = record {
 }
 
 -- A function that agrees with the run on the lower places, and follows each step, is the run.
-pub determined : {V : Type 0} (f : (ℕ → V) → Step → V) → IsLocal f → (given has : ℕ → V) (place : ℕ) (steps : List Step) → AreStepsAt place steps → FollowsAt f has place steps → ((p : ℕ) → 1 ≤ p → p < place → given p ≡ has p) → (p : ℕ) → 1 ≤ p → p < place + length steps → run f given place steps p ≡ has p
+pub determined : {V : Type 0} (f : (ℕ → V) → Step → V) → IsLocal f →
+    (given has : ℕ → V) (place : ℕ) (steps : List Step) → AreStepsAt place steps → FollowsAt f has place steps →
+    ((p : ℕ) → 1 ≤ p → p < place → given p ≡ has p) → (p : ℕ) → 1 ≤ p → p < place + length steps →
+    run f given place steps p ≡ has p
 unfolding run
 determined f local given has place [] are follows same p from low = same p from (omega arith)
 determined f local given has place (s ∷ ss) are follows same p from low =
@@ -127,7 +130,10 @@ pub step_is : (n t : ℕ) (steps : List Step) → AreSteps n steps → (i : ℕ)
 step_is n t steps are i s at = rw (values_run (input n t) (n + 1) steps) ((run_follows step_value value_is_local (input n t) (n + 1) steps (steps_at n steps are)).each i s at)
 
 -- Bits that agree with the inputs on row t, and follow each step, are the values on row t.
-pub values_are : (n t : ℕ) (bits : ℕ → Bool) (steps : List Step) → AreSteps n steps → ((p : ℕ) → 1 ≤ p → p ≤ n → bits p ≡ input n t p) → ((i : ℕ) (s : Step) → slice_get steps i ≡ Some s → bits (n + 1 + i) ≡ step_value bits s) → (p : ℕ) → 1 ≤ p → p < n + 1 + length steps → values_on n t steps p ≡ bits p
+pub values_are : (n t : ℕ) (bits : ℕ → Bool) (steps : List Step) → AreSteps n steps →
+    ((p : ℕ) → 1 ≤ p → p ≤ n → bits p ≡ input n t p) →
+    ((i : ℕ) (s : Step) → slice_get steps i ≡ Some s → bits (n + 1 + i) ≡ step_value bits s) → (p : ℕ) → 1 ≤ p →
+    p < n + 1 + length steps → values_on n t steps p ≡ bits p
 values_are n t bits steps are inputs follow p from low =
     ap (λ (v : ℕ → Bool). v p) (values_run (input n t) (n + 1) steps)
     ∙ determined step_value value_is_local (input n t) bits (n + 1) steps (steps_at n steps are) (record { each = follow }) (λ q q_from q_low. sym (inputs q q_from (omega arith))) p from low
@@ -211,7 +217,8 @@ push_are_steps n steps u are here = record {
 }
 
 -- lower places keep their values
-pub push_values : (n t : ℕ) (steps : List Step) (u : Step) → AreSteps n steps → IsStepAt (n + 1 + length steps) u → (p : ℕ) → 1 ≤ p → p < n + 1 + length steps → values_on n t steps p ≡ values_on n t (steps ++ u ∷ []) p
+pub push_values : (n t : ℕ) (steps : List Step) (u : Step) → AreSteps n steps → IsStepAt (n + 1 + length steps) u →
+    (p : ℕ) → 1 ≤ p → p < n + 1 + length steps → values_on n t steps p ≡ values_on n t (steps ++ u ∷ []) p
 push_values n t steps u are here =
     values_are n t (values_on n t (steps ++ u ∷ [])) steps are
     (λ p from low. input_value n t p (steps ++ u ∷ []) (omega arith))

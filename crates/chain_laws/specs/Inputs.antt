@@ -8,12 +8,12 @@ use Rattle.chain_theory.specs.Chain.{Step}
 use Rattle.tt_core.specs.Symmetry.{renamed, exchanged, IsSymmetric}
 use Rattle.tt_core.specs.Laws.{exchanged_input, exchanged_low}
 use Rattle.chain_laws.specs.Keys.{larger, smaller, ComesBefore}
-use Rattle.chain_laws.specs.Reduced.{Reads, ReadsWithout}
+use Rattle.chain_laws.specs.NormalForm.{Reads, ReadsWithout}
 use Rattle.chain_laws.specs.Bodies.{Body, Fits}
 use Rattle.chain_laws.specs.Moved.{moved, moved_body, IsMove, moved_fits}
 use Rattle.chain_laws.specs.Renamed.{renamed_cases, renamed_first, renamed_second, renamed_other, renamed_back, renamed_from, renamed_low, moved_below}
 use Rattle.chain_laws.specs.Ranks.{key, rank, rank_less}
-use Rattle.chain_laws.specs.Decided.{IsLower, decided_or}
+use Rattle.chain_laws.specs.Decidable.{IsLower, decided_or}
 
 -- ---- pairs with one of two names
 
@@ -27,8 +27,8 @@ pair_lower p q x less no_p no_q = elim (cases_lt x q) [
   | inr above ↦ inr (omega (arith, no_q), grind (arith, nat_tests))
 ]
 
-pair_turned : (j k l m : ℕ) → ComesBefore (pair j k) (pair l m) → ComesBefore (pair k j) (pair m l)
-pair_turned j k l m before = elim before [
+pair_operands_exchanged : (j k l m : ℕ) → ComesBefore (pair j k) (pair l m) → ComesBefore (pair k j) (pair m l)
+pair_operands_exchanged j k l m before = elim before [
   | inl lower ↦ inl (omega arith)
   | inr same ↦ inr (omega (arith, same.0), grind (arith, nat_tests, same.1))
 ]
@@ -53,14 +53,14 @@ falls p q a less reads =
       ]
       | inr (inr j_other) ↦ elim (renamed_cases p q a.k) [
         | inl k_p ↦ absurd (reads.1 (inr k_p.0))
-        | inr (inl k_q) ↦ before_same (f a.j) (f a.k) a.j p a.j a.k a.j q j_other.2 k_q.1 refl k_q.0 (pair_turned p a.j q a.j (pair_lower p q a.j less j_other.0 j_other.1))
+        | inr (inl k_q) ↦ before_same (f a.j) (f a.k) a.j p a.j a.k a.j q j_other.2 k_q.1 refl k_q.0 (pair_operands_exchanged p a.j q a.j (pair_lower p q a.j less j_other.0 j_other.1))
         | inr (inr k_other) ↦ absurd (⊎_elim (λ (e : a.j ≡ q). j_other.1 e) (λ (e : a.k ≡ q). k_other.1 e) reads.0)
       ]
     ]
 
-key_turned : (base j k : ℕ) → key base (pair j k) ≡ key base (pair k j)
+key_operands_exchanged : (base j k : ℕ) → key base (pair j k) ≡ key base (pair k j)
 unfolding key
-key_turned base j k =
+key_operands_exchanged base j k =
     let top : larger (pair j k) ≡ larger (pair k j) = omega arith in
     let rest : smaller (pair j k) ≡ smaller (pair k j) = grind (arith, nat_tests) in
     ap (λ (x : ℕ). x * base + smaller (pair j k)) top ∙ ap (λ (x : ℕ). larger (pair k j) * base + x) rest
@@ -73,7 +73,7 @@ key_by : (base : ℕ) (a b : Step) → a.j ≡ b.j → a.k ≡ b.k → key base 
 key_by base a b ej ek = key_pair base a ∙ ap (λ (x : ℕ). key base (pair x a.k)) ej ∙ ap (λ (x : ℕ). key base (pair b.j x)) ek ∙ sym (key_pair base b)
 
 key_crossed : (base : ℕ) (a b : Step) → a.j ≡ b.k → a.k ≡ b.j → key base a ≡ key base b
-key_crossed base a b ej ek = key_by base a (pair b.k b.j) ej ek ∙ key_turned base b.k b.j ∙ sym (key_pair base b)
+key_crossed base a b ej ek = key_by base a (pair b.k b.j) ej ek ∙ key_operands_exchanged base b.k b.j ∙ sym (key_pair base b)
 
 -- a step that reads both or neither keeps its key
 stays : (base p q : ℕ) (a : Step) → p < q → (Reads a p → Reads a q) → (Reads a q → Reads a p) → key base (moved (renamed p q) a) ≡ key base a
@@ -95,7 +95,8 @@ stays base p q a less up down =
 
 -- ---- chains
 
-inputs_move : (s : Specification) (basis : Basis) (r d : ℕ) (b : Body) → Fits s basis r d b → (p q : ℕ) → 1 ≤ p → p < q → q ≤ s.inputs → IsSymmetric s p q → IsMove s r b.step (renamed p q) (λ k. k) (exchanged s.inputs p q)
+inputs_move : (s : Specification) (basis : Basis) (r d : ℕ) (b : Body) → Fits s basis r d b → (p q : ℕ) → 1 ≤ p →
+    p < q → q ≤ s.inputs → IsSymmetric s p q → IsMove s r b.step (renamed p q) (λ k. k) (exchanged s.inputs p q)
 inputs_move s basis r d b fits p q from less low symmetric =
     let n : ℕ = s.inputs in
     let f : ℕ → ℕ = renamed p q in
@@ -115,12 +116,17 @@ inputs_move s basis r d b fits p q from less low symmetric =
 
 -- If the first step that reads q without p comes before every step that reads p without q, the two
 -- inputs can be exchanged; the keys decrease.
-pub inputs_lower : (s : Specification) (basis : Basis) (r d : ℕ) (b : Body) → Fits s basis r d b → (p q : ℕ) → 1 ≤ p → p < q → q ≤ s.inputs → IsSymmetric s p q → (i : ℕ) → i < r → ReadsWithout (b.step i) q p → ((k : ℕ) → k < i → ReadsWithout (b.step k) q p → ⊥) → ((k : ℕ) → k < i → ReadsWithout (b.step k) p q → ⊥) → IsLower (Fits s basis r d) (λ x. rank (s.inputs + r + 1) r x.step) b
+pub inputs_lower : (s : Specification) (basis : Basis) (r d : ℕ) (b : Body) → Fits s basis r d b → (p q : ℕ) → 1 ≤ p →
+    p < q → q ≤ s.inputs → IsSymmetric s p q → (i : ℕ) → i < r → ReadsWithout (b.step i) q p →
+    ((k : ℕ) → k < i → ReadsWithout (b.step k) q p → ⊥) → ((k : ℕ) → k < i → ReadsWithout (b.step k) p q → ⊥) →
+    IsLower (Fits s basis r d) (λ x. rank (s.inputs + r + 1) r x.step) b
 inputs_lower s basis r d b fits p q from less low symmetric i inside reads no_q no_p =
     let n : ℕ = s.inputs in
     let f : ℕ → ℕ = renamed p q in
     let new : Fits s basis r d (moved_body f (λ k. k) b) = moved_fits s basis r d b fits f (λ k. k) (exchanged n p q) (inputs_move s basis r d b fits p q from less low symmetric) in
-    let both : (a : Step) (x y : ℕ) → (ReadsWithout a x y → ⊥) → Reads a x → Reads a y = λ a x y none reads_x. ⊎_elim (λ (there : Reads a y). there) (λ (no : Reads a y → ⊥). absurd (none (reads_x, no))) (decided_or (a.j ≡ y) (a.k ≡ y) (cases_eq a.j y) (cases_eq a.k y)) in
+    let both : (a : Step) (x y : ℕ) → (ReadsWithout a x y → ⊥) → Reads a x → Reads a y =
+    λ a x y none reads_x. ⊎_elim (λ (there : Reads a y). there) (λ (no : Reads a y → ⊥). absurd (none (reads_x, no)))
+    (decided_or (a.j ≡ y) (a.k ≡ y) (cases_eq a.j y) (cases_eq a.k y)) in
     record {
       at = moved_body f (λ k. k) b;
       kept = new;

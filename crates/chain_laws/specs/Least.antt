@@ -15,12 +15,12 @@ use Rattle.chain_laws.specs.Keys.{ComesBefore}
 use Rattle.chain_theory.specs.Levels.{HasLevels, level}
 use Rattle.chain_laws.specs.Levels.{level_at_most}
 use Rattle.chain_theory.specs.Levels.{HasChainOfLevels}
-use Rattle.chain_laws.specs.Reduced.{HasReducedChain, IsReduced, IsOut, IsRead, IsNegation, Reads, ReadsWithout, AppliesAgain, IsCopy, IsConstant, CopiesBoth, NegatesBoth}
+use Rattle.chain_laws.specs.NormalForm.{HasNormalFormChain, IsNormalForm, IsOut, IsRead, IsNegation, Reads, ReadsWithout, IsReapplication, IsCopy, IsConstant, CopiesBoth, NegatesBoth}
 use Rattle.chain_laws.specs.Bodies.{Body, Fits, chain_of, bits_of, fits_from, is_chain, is_over, agrees, has_levels}
-use Rattle.chain_laws.specs.Decided.{IsDecided, decided_and, decided_not, decided_lt, decided_true}
+use Rattle.chain_laws.specs.Decidable.{IsDecidable, decided_and, decided_not, decided_lt, decided_true}
 use Rattle.chain_laws.specs.Shorter.{HasFewer}
-use Rattle.chain_laws.specs.Trivial.{IsNamed, decided_named, named_contains, IsUsed, unused_goes, copy_goes, constant_goes, equal_copy_goes, equal_goes}
-use Rattle.chain_laws.specs.Settled.{IsSettled}
+use Rattle.chain_laws.specs.Trivial.{IsSomeOut, decided_named, named_contains, IsOutOrRead, unused_goes, copy_goes, constant_goes, equal_copy_goes, equal_goes}
+use Rattle.chain_laws.specs.Settled.{IsKeyMinimal}
 use Rattle.chain_laws.specs.Oriented.{oriented_rises, oriented_body, oriented_fits, oriented_settled}
 use Rattle.chain_laws.specs.Complemented.{flip, complemented_body, complemented_bits, complemented_fits, complemented_settled}
 use Rattle.chain_laws.specs.Settling.{settled}
@@ -34,10 +34,10 @@ Rise basis r step = swap_closed basis ≡ true → (k : ℕ) → k < r → (step
 record IsRisen (s : Specification) (basis : Basis) (r d : ℕ) : Type 0 where
   body : Body
   fits : Fits s basis r d body
-  settled : IsSettled s basis r body.step
+  settled : IsKeyMinimal s basis r body.step
   rise : Rise basis r body.step
 
-risen : (s : Specification) (basis : Basis) (r d : ℕ) (b : Body) → Fits s basis r d b → IsSettled s basis r b.step → IsRisen s basis r d
+risen : (s : Specification) (basis : Basis) (r d : ℕ) (b : Body) → Fits s basis r d b → IsKeyMinimal s basis r b.step → IsRisen s basis r d
 risen s basis r d b fits is = ⊎_elim
     (λ (closed : swap_closed basis ≡ true). record {
       body = oriented_body b;
@@ -51,27 +51,27 @@ risen s basis r d b fits is = ⊎_elim
 -- ---- row 0
 
 -- a decision as a bit
-unfoldable flag : {P : Type 0} → IsDecided P → Bool
+unfoldable flag : {P : Type 0} → IsDecidable P → Bool
 flag (inl holds) = true
 flag (inr fails) = false
 
-flag_true : {P : Type 0} (d : IsDecided P) → P → flag d ≡ true
+flag_true : {P : Type 0} (d : IsDecidable P) → P → flag d ≡ true
 unfolding flag
 flag_true (inl holds) p = refl
 flag_true (inr fails) p = absurd (fails p)
 
-flag_false : {P : Type 0} (d : IsDecided P) → (P → ⊥) → flag d ≡ false
+flag_false : {P : Type 0} (d : IsDecidable P) → (P → ⊥) → flag d ≡ false
 unfolding flag
 flag_false (inl holds) never = absurd (never holds)
 flag_false (inr fails) never = refl
 
 -- a step that isn't an out and is 1 on row 0
 abbrev IsOne : ℕ → ℕ → Body → ℕ → Type 0
-IsOne n r b p = (n < p) × ((bits_of n r b.step 0 p ≡ true) × (IsNamed b.outs p → ⊥))
+IsOne n r b p = (n < p) × ((bits_of n r b.step 0 p ≡ true) × (IsSomeOut b.outs p → ⊥))
 
-decided_one : (n r : ℕ) (b : Body) (p : ℕ) → IsDecided (IsOne n r b p)
-decided_one n r b p = decided_and (n < p) ((bits_of n r b.step 0 p ≡ true) × (IsNamed b.outs p → ⊥)) (decided_lt n p)
-    (decided_and (bits_of n r b.step 0 p ≡ true) (IsNamed b.outs p → ⊥) (decided_true (bits_of n r b.step 0 p)) (decided_not (IsNamed b.outs p) (decided_named b.outs p)))
+decided_one : (n r : ℕ) (b : Body) (p : ℕ) → IsDecidable (IsOne n r b p)
+decided_one n r b p = decided_and (n < p) ((bits_of n r b.step 0 p ≡ true) × (IsSomeOut b.outs p → ⊥)) (decided_lt n p)
+    (decided_and (bits_of n r b.step 0 p ≡ true) (IsSomeOut b.outs p → ⊥) (decided_true (bits_of n r b.step 0 p)) (decided_not (IsSomeOut b.outs p) (decided_named b.outs p)))
 
 -- steps are outs or 0 on row 0
 abbrev AreZero : Specification → Basis → ℕ → Body → Type 0
@@ -80,7 +80,7 @@ AreZero s basis r b = polarity_closed basis ≡ true → (i : ℕ) → i < r →
 record IsFinal (s : Specification) (basis : Basis) (r d : ℕ) : Type 0 where
   body : Body
   fits : Fits s basis r d body
-  settled : IsSettled s basis r body.step
+  settled : IsKeyMinimal s basis r body.step
   rise : Rise basis r body.step
   zero : AreZero s basis r body
 
@@ -101,8 +101,8 @@ zeroed s basis r d none closed is =
           let old : Bool = bits_of n r b.step 0 p in
           let new = complemented_bits s basis r d b is.fits closed on inputs 0 p (omega arith) (omega arith) in
           ⊎_elim
-          (λ (named : IsNamed b.outs p). inr (named_contains b.outs p named))
-          (λ (no_out : IsNamed b.outs p → ⊥). inl (new ∙ ⊎_elim
+          (λ (named : IsSomeOut b.outs p). inr (named_contains b.outs p named))
+          (λ (no_out : IsSomeOut b.outs p → ⊥). inl (new ∙ ⊎_elim
           (λ (one : old ≡ true). ap (λ (x : Bool). flip x old) (flag_true (decided_one n r b p) (omega arith, (one, no_out))) ∙ ap not one)
           (λ (nought : old ≡ false). ap (λ (x : Bool). flip x old) (flag_false (decided_one n r b p) (λ one. both_ways old nought one.1.0)) ∙ nought)
           (cases_Bool old)))
@@ -112,7 +112,13 @@ zeroed s basis r d none closed is =
 final : (s : Specification) (basis : Basis) (r d : ℕ) → (HasFewer s basis r → ⊥) → IsRisen s basis r d → IsFinal s basis r d
 final s basis r d none is = ⊎_elim
     (λ (closed : polarity_closed basis ≡ true). zeroed s basis r d none closed is)
-    (λ (open_ : polarity_closed basis ≡ false). record { body = is.body; fits = is.fits; settled = is.settled; rise = is.rise; zero = λ closed i low. absurd (both_ways (polarity_closed basis) open_ closed) })
+    (λ (open_ : polarity_closed basis ≡ false). record {
+      body = is.body;
+      fits = is.fits;
+      settled = is.settled;
+      rise = is.rise;
+      zero = λ closed i low. absurd (both_ways (polarity_closed basis) open_ closed);
+    })
     (cases_Bool (polarity_closed basis))
 
 -- ---- the law
@@ -121,8 +127,8 @@ final s basis r d none is = ⊎_elim
 each_step : (r : ℕ) (step : ℕ → Step) (P : ℕ → Step → Type 0) → ((i : ℕ) → i < r → P i (step i)) → (i : ℕ) (a : Step) → slice_get (rebuilt step r) i ≡ Some a → P i a
 each_step r step P each i a at = let here = rebuilt_at step r i a at in subst (P i) (sym here.1) (each i here.0)
 
-reduced : (s : Specification) (basis : Basis) (r d : ℕ) → (HasFewer s basis r → ⊥) → (f : IsFinal s basis r d) → IsReduced basis s (chain_of s.inputs r f.body)
-reduced s basis r d none f =
+normal_form : (s : Specification) (basis : Basis) (r d : ℕ) → (HasFewer s basis r → ⊥) → (f : IsFinal s basis r d) → IsNormalForm basis s (chain_of s.inputs r f.body)
+normal_form s basis r d none f =
     let n : ℕ = s.inputs in
     let b : Body = f.body in
     let c : Chain = chain_of n r b in
@@ -131,7 +137,7 @@ reduced s basis r d none f =
       operands_rise = λ closed. each_step r b.step (λ i a. a.j ≤ a.k) (f.rise closed);
       used = each_step r b.step (λ i a. IsOut c (n + 1 + i) ⊎ IsRead c (n + 1 + i)) (λ i low. ⊎_elim
           (λ (fewer : HasFewer s basis r). absurd (none fewer))
-          (λ (used : IsUsed n r b i). ⊎_elim
+          (λ (used : IsOutOrRead n r b i). ⊎_elim
           (λ (is_out : Contains b.outs (Place (n + 1 + i))). inl is_out)
           (λ (read : (k : ℕ) × (k < r) × Reads (b.step k) (n + 1 + i)). inr (read.0, b.step read.0, rebuilt_get b.step r read.0 read.1, read.2))
           used)
@@ -151,7 +157,7 @@ reduced s basis r d none f =
       not_again = λ closed i k a e less at_i at_k again.
           let first = rebuilt_at b.step r i a at_i in
           let second = rebuilt_at b.step r k e at_k in
-          f.settled.paired.not_again closed i k less second.0 (subst (λ (x : Step). AppliesAgain (n + 1 + i) x (b.step k)) first.1 (subst (AppliesAgain (n + 1 + i) a) second.1 again));
+          f.settled.paired.not_again closed i k less second.0 (subst (λ (x : Step). IsReapplication (n + 1 + i) x (b.step k)) first.1 (subst (IsReapplication (n + 1 + i) a) second.1 again));
       earlier_first = λ p q from less low symmetric k e at_k reads.
           let here = rebuilt_at b.step r k e at_k in
           let found = f.settled.paired.earlier_first p q from less low symmetric k here.0 (subst (λ (x : Step). ReadsWithout x q p) here.1 reads) in
@@ -161,7 +167,7 @@ reduced s basis r d none f =
 
 -- If a chain of r steps and at most d levels agrees, and no chain of fewer steps and any number of
 -- levels does, then a chain in normal form of r steps and at most d levels agrees.
-pub least : (s : Specification) (basis : Basis) (r d : ℕ) → HasChainOfLevels s basis r d → ((q : ℕ) → q < r → HasChain s basis q → ⊥) → HasReducedChain s basis r d
+pub least : (s : Specification) (basis : Basis) (r d : ℕ) → HasChainOfLevels s basis r d → ((q : ℕ) → q < r → HasChain s basis q → ⊥) → HasNormalFormChain s basis r d
 least s basis r d has none_fewer =
     let none : HasFewer s basis r → ⊥ = λ fewer. none_fewer fewer.count fewer.fewer fewer.chain in
     let first = fits_from s basis r d has.chain has.is_chain has.size has.is_over has.agrees has.levels in
@@ -176,7 +182,7 @@ least s basis r d has none_fewer =
         agrees = agrees s basis r d f.body f.fits;
         levels = has_levels s basis r d f.body f.fits;
       };
-      reduced = reduced s basis r d none f;
+      normal_form = normal_form s basis r d none f;
     }
 
 -- a chain has at most as many levels as steps
@@ -188,8 +194,8 @@ levels_at_most_steps c is = λ p from low.
     omega arith
 
 -- A chain in normal form reaches the minimum.
-pub minimum_is_reduced : (s : Specification) (basis : Basis) (r : ℕ) → IsMinimum s basis r → HasReducedChain s basis r r
-minimum_is_reduced s basis r minimum =
+pub minimum_is_in_normal_form : (s : Specification) (basis : Basis) (r : ℕ) → IsMinimum s basis r → HasNormalFormChain s basis r r
+minimum_is_in_normal_form s basis r minimum =
     let has = minimum.reached in
     least s basis r r (record {
       chain = has.chain;

@@ -8,7 +8,7 @@ use Rattle.chain_laws.specs.Follow.{step_at, step_at_get}
 use Rattle.chain_theory.specs.Levels.{level}
 use Rattle.chain_theory.specs.LevelLaws.{input_level, level_step}
 use Rattle.chain_laws.specs.Keys.{larger, ComesBefore}
-use Rattle.chain_laws.specs.Reduced.{IsStep}
+use Rattle.chain_laws.specs.NormalForm.{IsStep}
 
 -- no step's pair of operands comes before that of the preceding step
 abbrev pub KeysRise : Chain → Type 0

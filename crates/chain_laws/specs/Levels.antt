@@ -7,7 +7,10 @@ use Rattle.chain_theory.specs.LevelLaws.{input_level, level_step}
 use Rattle.chain_laws.specs.Follow.{step_at, step_at_get, place_cases}
 
 -- If each step's number is above those of its operands, no level is above the place's number.
-pub level_at_most : (n : ℕ) (steps : List Step) → AreSteps n steps → (height : ℕ → ℕ) → ((i : ℕ) (s : Step) → slice_get steps i ≡ Some s → (height s.j < height (n + 1 + i)) × (height s.k < height (n + 1 + i))) → (bound p : ℕ) → p < bound → 1 ≤ p → p < n + 1 + length steps → level_in n steps p ≤ height p
+pub level_at_most : (n : ℕ) (steps : List Step) → AreSteps n steps → (height : ℕ → ℕ) →
+    ((i : ℕ) (s : Step) → slice_get steps i ≡ Some s → (height s.j < height (n + 1 + i)) ×
+    (height s.k < height (n + 1 + i))) → (bound p : ℕ) → p < bound → 1 ≤ p → p < n + 1 + length steps →
+    level_in n steps p ≤ height p
 level_at_most n steps are height rises zero p below from low = absurd (omega arith)
 level_at_most n steps are height rises (suc bound) p below from low = ⊎_elim
     (λ (is_input : p ≤ n). omega (arith, input_level n p steps is_input))

@@ -1,12 +1,12 @@
 pub mod Follow
 pub mod Levels
 pub mod Keys
-pub mod Reduced
+pub mod NormalForm
 pub mod Bodies
 pub mod Operators
 pub mod Signals
 pub mod Shorter
-pub mod Decided
+pub mod Decidable
 pub mod Ranks
 pub mod Replaced
 pub mod Moved

@@ -47,7 +47,9 @@ moved_out last f bits old same One names = refl
 moved_out last f bits old same (Place p) names = same p names.0 names.1
 
 -- values are renamed along with the places
-pub moved_bits : (s : Specification) (basis : Basis) (r d : ℕ) (b : Body) → Fits s basis r d b → (f order row : ℕ → ℕ) → IsMove s r b.step f order row → (t p : ℕ) → 1 ≤ p → p < s.inputs + 1 + r → bits_of s.inputs r (λ k. moved f (b.step (order k))) t p ≡ bits_of s.inputs r b.step (row t) (f p)
+pub moved_bits : (s : Specification) (basis : Basis) (r d : ℕ) (b : Body) → Fits s basis r d b →
+    (f order row : ℕ → ℕ) → IsMove s r b.step f order row → (t p : ℕ) → 1 ≤ p → p < s.inputs + 1 + r →
+    bits_of s.inputs r (λ k. moved f (b.step (order k))) t p ≡ bits_of s.inputs r b.step (row t) (f p)
 moved_bits s basis r d b fits f order row is t =
     let n : ℕ = s.inputs in
     let old : ℕ → Bool = bits_of n r b.step (row t) in

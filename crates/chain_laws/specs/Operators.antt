@@ -4,7 +4,7 @@ use Rattle.std.proofs.lemmas.Bool.{and_parts, and_cases, or_cases, not-true, not
 use Rattle.chain_theory.specs.Operator.{apply, Basis}
 use Rattle.op_basis.specs.Closed.{operator_of, swapped, every_below, every, implies, has_negation, has_no_negation_at, negates_both, negates_one, keeps_constants, const_closed}
 use Rattle.op_basis.specs.Laws.{operator_values, operator_low, every_each}
-use Rattle.chain_laws.specs.Reduced.{NegatesBoth}
+use Rattle.chain_laws.specs.NormalForm.{NegatesBoth}
 
 -- functions of a bit with the same two values are the same
 pub two_values : (f g : Bool → Bool) → f false ≡ g false → f true ≡ g true → (b : Bool) → f b ≡ g b
@@ -68,5 +68,7 @@ pub negation_given : (basis : Basis) → const_closed basis ≡ true → (op : �
 unfolding keeps_constants
 negation_given basis closed op low member negates = ⊎_elim
     (λ (has : has_negation basis ≡ true). negation_from basis has)
-    (λ (keeps : every (keeps_constants basis) ≡ true). absurd (both_ways (negates_one op) (not-true (negates_one op) (implied (basis op) (not (negates_one op)) (every_each (keeps_constants basis) keeps op low) member)) negates))
+    (λ (keeps : every (keeps_constants basis) ≡ true).
+    absurd (both_ways (negates_one op) (not-true (negates_one op)
+    (implied (basis op) (not (negates_one op)) (every_each (keeps_constants basis) keeps op low) member)) negates))
     (or_cases (has_negation basis) (every (keeps_constants basis)) closed)

@@ -5,7 +5,7 @@ use Rattle.std.proofs.lemmas.Bool.Decides.{nat_tests}
 use Rattle.std.proofs.Math.Nat.{mul-le-mul_right}
 use Rattle.chain_theory.specs.Chain.{Step}
 use Rattle.chain_laws.specs.Keys.{larger, smaller, ComesBefore}
-use Rattle.chain_laws.specs.Decided.{IsDecided, decided_or, decided_and, decided_lt}
+use Rattle.chain_laws.specs.Decidable.{IsDecidable, decided_or, decided_and, decided_lt}
 
 -- ---- numbers of two digits
 
@@ -35,7 +35,7 @@ key_less base a b j_low k_low before = ⊎_elim
     (λ (same : (larger a ≡ larger b) × (smaller a < smaller b)). let e : larger a * base ≡ larger b * base = ap (λ (x : ℕ). x * base) same.0 in omega (arith, e, same.1))
     before
 
-pub decided_before : (a b : Step) → IsDecided (ComesBefore a b)
+pub decided_before : (a b : Step) → IsDecidable (ComesBefore a b)
 decided_before a b = decided_or (larger a < larger b) ((larger a ≡ larger b) × (smaller a < smaller b)) (decided_lt (larger a) (larger b))
     (decided_and (larger a ≡ larger b) (smaller a < smaller b) (cases_eq (larger a) (larger b)) (decided_lt (smaller a) (smaller b)))
 
@@ -71,7 +71,9 @@ spelled_less base f g i (suc r) low small same less = ⊎_elim
 abbrev pub rank : ℕ → ℕ → (ℕ → Step) → ℕ
 rank base r step = spelled (base * base) (λ k. key base (step k)) r
 
-pub rank_less : (base r : ℕ) (f g : ℕ → Step) (i : ℕ) → i < r → ((k : ℕ) → k < r → ((f k).j < base) × ((f k).k < base)) → ((k : ℕ) → k < i → key base (f k) ≡ key base (g k)) → ComesBefore (f i) (g i) → rank base r f < rank base r g
+pub rank_less : (base r : ℕ) (f g : ℕ → Step) (i : ℕ) → i < r →
+    ((k : ℕ) → k < r → ((f k).j < base) × ((f k).k < base)) → ((k : ℕ) → k < i → key base (f k) ≡ key base (g k)) →
+    ComesBefore (f i) (g i) → rank base r f < rank base r g
 rank_less base r f g i low small same before =
     spelled_less (base * base) (λ k. key base (f k)) (λ k. key base (g k)) i r low
     (λ k k_low. key_low base (f k) (small k k_low).0 (small k k_low).1)

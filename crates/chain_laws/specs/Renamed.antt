@@ -4,7 +4,7 @@ use Rattle.std.proofs.lemmas.Bool.{cases_eq}
 use Rattle.std.proofs.lemmas.Bool.Decides.{nat_tests}
 use Rattle.chain_theory.specs.Chain.{Step, IsStepAt}
 use Rattle.tt_core.specs.Symmetry.{renamed}
-use Rattle.chain_laws.specs.Reduced.{Reads}
+use Rattle.chain_laws.specs.NormalForm.{Reads}
 use Rattle.chain_laws.specs.Moved.{moved}
 
 pub renamed_first : (p q x : ℕ) → x ≡ p → renamed p q x ≡ q

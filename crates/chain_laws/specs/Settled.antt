@@ -7,16 +7,16 @@ use Rattle.chain_theory.specs.Chain.{Step}
 use Rattle.op_basis.specs.Closed.{reapply_closed}
 use Rattle.tt_core.specs.Symmetry.{IsSymmetric}
 use Rattle.chain_laws.specs.Keys.{larger, smaller, ComesBefore}
-use Rattle.chain_laws.specs.Reduced.{IsNegation, Reads, ReadsWithout, AppliesAgain}
+use Rattle.chain_laws.specs.NormalForm.{IsNegation, Reads, ReadsWithout, IsReapplication}
 
 -- The rules of the normal form that hold once the keys can't decrease, for the steps of index 0 to
 -- r - 1: first the three rules on pairs alone, and then also the rule on negations.
 pub record IsPaired (s : Specification) (basis : Basis) (r : ℕ) (step : ℕ → Step) : Type 0 where
   pub in_order : (i : ℕ) → i + 1 < r → ComesBefore (step (i + 1)) (step i) → ⊥
-  pub not_again : reapply_closed basis ≡ true → (i k : ℕ) → i < k → k < r → AppliesAgain (s.inputs + 1 + i) (step i) (step k) → ⊥
+  pub not_again : reapply_closed basis ≡ true → (i k : ℕ) → i < k → k < r → IsReapplication (s.inputs + 1 + i) (step i) (step k) → ⊥
   pub earlier_first : (p q : ℕ) → 1 ≤ p → p < q → q ≤ s.inputs → IsSymmetric s p q → (k : ℕ) → k < r → ReadsWithout (step k) q p → (i : ℕ) × (i < k) × ReadsWithout (step i) p q
 
-pub record IsSettled (s : Specification) (basis : Basis) (r : ℕ) (step : ℕ → Step) : Type 0 where
+pub record IsKeyMinimal (s : Specification) (basis : Basis) (r : ℕ) (step : ℕ → Step) : Type 0 where
   pub paired : IsPaired s basis r step
   pub negation_of_equal : (i : ℕ) → i < r → IsNegation (step i).op → (step i).j ≡ (step i).k
 
@@ -56,7 +56,7 @@ pair_before a b c d ac bd before = elim before [
   | inr same ↦ inr (omega (arith, same.0, pair_larger a c ac, pair_larger b d bd), omega (arith, same.1, pair_smaller a c ac, pair_smaller b d bd))
 ]
 
-pair_again : (place : ℕ) (a b c d : Step) → SamePair a c → SamePair b d → AppliesAgain place a b → AppliesAgain place c d
+pair_again : (place : ℕ) (a b c d : Step) → SamePair a c → SamePair b d → IsReapplication place a b → IsReapplication place c d
 pair_again place a b c d ac bd again = elim again [
   | inl of_j ↦ let reads : Reads c b.k = pair_reads a c ac b.k of_j.1 in elim bd [
     | inl e ↦ inl (sym e.0 ∙ of_j.0, subst (Reads c) e.1 reads)

@@ -14,9 +14,9 @@ use Rattle.chain_theory.specs.Agreement.{is_met, HasChain}
 use Rattle.chain_theory.specs.declared.data.Out.{Out}
 use Rattle.chain_theory.specs.declared.data.Out.TheVariants.{Zero, One, Place}
 use Rattle.chain_laws.specs.Follow.{with_own, own_has, other_has, step_is, push_are_steps, push_values, push_cases, push_last, rebuilt, rebuilt_length, rebuilt_at}
-use Rattle.chain_laws.specs.Bodies.{Body, Fits, AreBelow, bits_of, out_bit, are_steps, step_bit, front_bits, out_value_is, out_named}
+use Rattle.chain_laws.specs.Bodies.{Body, Fits, AreBelow, bits_of, out_bit, are_steps, step_bit, prefix_bits, out_value_is, out_named}
 use Rattle.chain_laws.specs.Signals.{IsSignal, IsThere, IsOneStep, joined}
-use Rattle.chain_laws.specs.Reduced.{Reads}
+use Rattle.chain_laws.specs.NormalForm.{Reads}
 
 -- ---- signals where steps are added
 
@@ -51,7 +51,9 @@ pub record Mirrors (n : ℕ) (basis : Basis) (has : ℕ → ℕ → Bool) (k : �
   pub signals : (p : ℕ) → 1 ≤ p → p < n + 1 + k → IsSignal basis (n + length new) (signal p)
   pub same : (t p : ℕ) → 1 ≤ p → p < n + 1 + k → out_bit (values_on n t new) (signal p) ≡ has t p
 
-mirror_place : (n : ℕ) (basis : Basis) (has : ℕ → ℕ → Bool) (k : ℕ) (m : Mirrors n basis has k) → (o : Out) → IsSignal basis (n + length m.new) o → ((t : ℕ) → out_bit (values_on n t m.new) o ≡ has t (n + 1 + k)) → Mirrors n basis has (k + 1)
+mirror_place : (n : ℕ) (basis : Basis) (has : ℕ → ℕ → Bool) (k : ℕ) (m : Mirrors n basis has k) → (o : Out) →
+    IsSignal basis (n + length m.new) o → ((t : ℕ) → out_bit (values_on n t m.new) o ≡ has t (n + 1 + k)) →
+    Mirrors n basis has (k + 1)
 mirror_place n basis has k m o is same =
     let place : ℕ = n + 1 + k in
     record {
@@ -70,7 +72,9 @@ mirror_place n basis has k m o is same =
           (cases_eq p place);
     }
 
-mirror_step : (n : ℕ) (basis : Basis) (has : ℕ → ℕ → Bool) (k : ℕ) (m : Mirrors n basis has k) (u : Step) → IsStepAt (n + length m.new + 1) u → basis u.op ≡ true → ((t : ℕ) → step_value (values_on n t m.new) u ≡ has t (n + 1 + k)) → Mirrors n basis has (k + 1)
+mirror_step : (n : ℕ) (basis : Basis) (has : ℕ → ℕ → Bool) (k : ℕ) (m : Mirrors n basis has k) (u : Step) →
+    IsStepAt (n + length m.new + 1) u → basis u.op ≡ true →
+    ((t : ℕ) → step_value (values_on n t m.new) u ≡ has t (n + 1 + k)) → Mirrors n basis has (k + 1)
 mirror_step n basis has k m u below over same =
     let place : ℕ = n + 1 + k in
     let count : ℕ = length m.new in
@@ -96,7 +100,10 @@ mirror_step n basis has k m u below over same =
       fewer = omega (arith, m.fewer);
       signals = λ p from low. ⊎_elim
           (λ (here : p ≡ place). subst (IsSignal basis (n + length longer)) (sym (own_has m.signal place p (Place (n + 1 + count)) here)) (omega arith, omega arith))
-          (λ (other : p ≡ place → ⊥). subst (IsSignal basis (n + length longer)) (sym (other_has m.signal place p (Place (n + 1 + count)) other)) (signal_more basis (n + count) (n + length longer) (omega arith) (m.signal p) (m.signals p from (omega arith))))
+          (λ (other : p ≡ place → ⊥). subst (IsSignal basis (n + length longer))
+          (sym (other_has m.signal place p (Place (n + 1 + count)) other))
+          (signal_more basis (n + count) (n + length longer) (omega arith) (m.signal p)
+          (m.signals p from (omega arith))))
           (cases_eq p place);
       same = λ t p from low. ⊎_elim
           (λ (here : p ≡ place). own_out m.signal (values_on n t longer) place p (Place (n + 1 + count)) here ∙ own t ∙ ap (has t) (sym here))
@@ -109,7 +116,9 @@ mirror_step n basis has k m u below over same =
     }
 
 -- One more step of the chain is rebuilt.
-mirror_next : (n : ℕ) (basis : Basis) (has : ℕ → ℕ → Bool) (k : ℕ) → Mirrors n basis has k → (a : Step) → IsStepAt (n + 1 + k) a → basis a.op ≡ true → ((t : ℕ) → has t (n + 1 + k) ≡ step_value (has t) a) → Mirrors n basis has (k + 1)
+mirror_next : (n : ℕ) (basis : Basis) (has : ℕ → ℕ → Bool) (k : ℕ) → Mirrors n basis has k → (a : Step) →
+    IsStepAt (n + 1 + k) a → basis a.op ≡ true → ((t : ℕ) → has t (n + 1 + k) ≡ step_value (has t) a) →
+    Mirrors n basis has (k + 1)
 mirror_next n basis has k m a below over follows =
     let value : (ℕ → Bool) → Bool = λ bits. apply a.op (out_bit bits (m.signal a.j)) (out_bit bits (m.signal a.k)) in
     let same : (t : ℕ) → value (values_on n t m.new) ≡ has t (n + 1 + k) = λ t.
@@ -124,7 +133,10 @@ mirror_next n basis has k m a below over follows =
 -- ---- a step left out
 
 -- the rest of the chain is rebuilt, from index k to r
-mirror_rest : (n r : ℕ) (basis : Basis) (step : ℕ → Step) (has : ℕ → ℕ → Bool) → AreBelow n r step → ((i : ℕ) → i < r → basis (step i).op ≡ true) → (k more : ℕ) → k + more ≤ r → ((t i : ℕ) → k ≤ i → i < r → has t (n + 1 + i) ≡ step_value (has t) (step i)) → Mirrors n basis has k → Mirrors n basis has (k + more)
+mirror_rest : (n r : ℕ) (basis : Basis) (step : ℕ → Step) (has : ℕ → ℕ → Bool) → AreBelow n r step →
+    ((i : ℕ) → i < r → basis (step i).op ≡ true) → (k more : ℕ) → k + more ≤ r →
+    ((t i : ℕ) → k ≤ i → i < r → has t (n + 1 + i) ≡ step_value (has t) (step i)) → Mirrors n basis has k →
+    Mirrors n basis has (k + more)
 mirror_rest n r basis step has below over k zero low follows m = subst (Mirrors n basis has) (let e : k ≡ k + 0 = omega arith in e) m
 mirror_rest n r basis step has below over k (suc more) low follows m =
     let before : Mirrors n basis has (k + more) = mirror_rest n r basis step has below over k more (omega arith) follows m in
@@ -132,12 +144,15 @@ mirror_rest n r basis step has below over k (suc more) low follows m =
     subst (Mirrors n basis has) (let e : (k + more) + 1 ≡ k + suc more = omega arith in e)
     (mirror_next n basis has (k + more) before (step (k + more)) (below (k + more) inside) (over (k + more) inside) (λ t. follows t (k + more) (omega arith) inside))
 
-mirror_first : (n r : ℕ) (basis : Basis) (step : ℕ → Step) (has : ℕ → ℕ → Bool) → AreBelow n r step → ((i : ℕ) → i < r → basis (step i).op ≡ true) → (i : ℕ) → i < r → (o : Out) → IsSignal basis (n + i) o → ((t p : ℕ) → 1 ≤ p → p < n + 1 + i → has t p ≡ bits_of n r step t p) → ((t : ℕ) → has t (n + 1 + i) ≡ out_bit (bits_of n r step t) o) → Mirrors n basis has (i + 1)
-mirror_first n r basis step has below over i low o is front own =
+mirror_first : (n r : ℕ) (basis : Basis) (step : ℕ → Step) (has : ℕ → ℕ → Bool) → AreBelow n r step →
+    ((i : ℕ) → i < r → basis (step i).op ≡ true) → (i : ℕ) → i < r → (o : Out) → IsSignal basis (n + i) o →
+    ((t p : ℕ) → 1 ≤ p → p < n + 1 + i → has t p ≡ bits_of n r step t p) →
+    ((t : ℕ) → has t (n + 1 + i) ≡ out_bit (bits_of n r step t) o) → Mirrors n basis has (i + 1)
+mirror_first n r basis step has below over i low o is prefix own =
     let place : ℕ = n + 1 + i in
     let new : List Step = rebuilt step i in
     let count : length new ≡ i = rebuilt_length step i in
-    let same : (t p : ℕ) → 1 ≤ p → p < n + 1 + i → values_on n t new p ≡ bits_of n r step t p = front_bits n r step below i (omega arith) in
+    let same : (t p : ℕ) → 1 ≤ p → p < n + 1 + i → values_on n t new p ≡ bits_of n r step t p = prefix_bits n r step below i (omega arith) in
     record {
       new = new;
       signal = with_own Place place o;
@@ -155,7 +170,7 @@ mirror_first n r basis step has below over i low o is front own =
           ∙ sym (own t) ∙ ap (has t) (sym here))
           (λ (other : p ≡ place → ⊥).
           let before : p < n + 1 + i = omega arith in
-          ap (out_bit (values_on n t new)) (other_has Place place p o other) ∙ same t p from before ∙ sym (front t p from before))
+          ap (out_bit (values_on n t new)) (other_has Place place p o other) ∙ same t p from before ∙ sym (prefix t p from before))
           (cases_eq p place);
     }
 
@@ -181,7 +196,10 @@ pub record HasFewer (s : Specification) (basis : Basis) (r : ℕ) : Type 0 where
   pub fewer : count < r
   pub chain : HasChain s basis count
 
-mirror_chain : (s : Specification) (basis : Basis) (r d : ℕ) (b : Body) → Fits s basis r d b → (has : ℕ → ℕ → Bool) → ((h t : ℕ) → 1 ≤ h → h ≤ s.outputs → out_bit (has t) (slice_index_or b.outs (h - 1) Zero) ≡ out_bit (bits_of s.inputs r b.step t) (slice_index_or b.outs (h - 1) Zero)) → Mirrors s.inputs basis has r → HasFewer s basis r
+mirror_chain : (s : Specification) (basis : Basis) (r d : ℕ) (b : Body) → Fits s basis r d b → (has : ℕ → ℕ → Bool) →
+    ((h t : ℕ) → 1 ≤ h → h ≤ s.outputs → out_bit (has t) (slice_index_or b.outs (h - 1) Zero) ≡
+    out_bit (bits_of s.inputs r b.step t) (slice_index_or b.outs (h - 1) Zero)) → Mirrors s.inputs basis has r →
+    HasFewer s basis r
 mirror_chain s basis r d b fits has outs m =
     let c : Chain = record { n = s.inputs; steps = m.new; outs = map (sent m.signal) b.outs } in
     record {
@@ -192,7 +210,8 @@ mirror_chain s basis r d b fits has outs m =
         is_chain = record {
           steps = m.steps;
           outs = All-map (NamesPlace (s.inputs + length m.new)) (sent m.signal) b.outs
-              (All-weaker (NamesPlace (s.inputs + r)) (λ o. NamesPlace (s.inputs + length m.new) (sent m.signal o)) (sent_named basis s.inputs r (s.inputs + length m.new) m.signal m.signals) b.outs fits.outs);
+              (All-weaker (NamesPlace (s.inputs + r)) (λ o. NamesPlace (s.inputs + length m.new) (sent m.signal o))
+              (sent_named basis s.inputs r (s.inputs + length m.new) m.signal m.signals) b.outs fits.outs);
         };
         size = refl;
         is_over = λ i x low. m.over i (slice_index_or m.new i x) (slice_get-get_or m.new i x low);
@@ -214,16 +233,25 @@ mirror_chain s basis r d b fits has outs m =
 
 -- If the step of index i has the value of a lower signal, and the later steps and the outs compute the
 -- same from the given bits of the places, then a chain of fewer steps agrees.
-pub left_out : (s : Specification) (basis : Basis) (r d : ℕ) (b : Body) → Fits s basis r d b → (i : ℕ) → i < r → (o : Out) → IsSignal basis (s.inputs + i) o → (has : ℕ → ℕ → Bool) → ((t p : ℕ) → 1 ≤ p → p < s.inputs + 1 + i → has t p ≡ bits_of s.inputs r b.step t p) → ((t : ℕ) → has t (s.inputs + 1 + i) ≡ out_bit (bits_of s.inputs r b.step t) o) → ((t k : ℕ) → i < k → k < r → has t (s.inputs + 1 + k) ≡ step_value (has t) (b.step k)) → ((h t : ℕ) → 1 ≤ h → h ≤ s.outputs → out_bit (has t) (slice_index_or b.outs (h - 1) Zero) ≡ out_bit (bits_of s.inputs r b.step t) (slice_index_or b.outs (h - 1) Zero)) → HasFewer s basis r
-left_out s basis r d b fits i low o is has front own later outs =
+pub left_out : (s : Specification) (basis : Basis) (r d : ℕ) (b : Body) → Fits s basis r d b → (i : ℕ) → i < r →
+    (o : Out) → IsSignal basis (s.inputs + i) o → (has : ℕ → ℕ → Bool) →
+    ((t p : ℕ) → 1 ≤ p → p < s.inputs + 1 + i → has t p ≡ bits_of s.inputs r b.step t p) →
+    ((t : ℕ) → has t (s.inputs + 1 + i) ≡ out_bit (bits_of s.inputs r b.step t) o) →
+    ((t k : ℕ) → i < k → k < r → has t (s.inputs + 1 + k) ≡ step_value (has t) (b.step k)) →
+    ((h t : ℕ) → 1 ≤ h → h ≤ s.outputs → out_bit (has t) (slice_index_or b.outs (h - 1) Zero) ≡
+    out_bit (bits_of s.inputs r b.step t) (slice_index_or b.outs (h - 1) Zero)) → HasFewer s basis r
+left_out s basis r d b fits i low o is has prefix own later outs =
     let whole : (i + 1) + (r - (i + 1)) ≡ r = omega arith in
     mirror_chain s basis r d b fits has outs
     (subst (Mirrors s.inputs basis has) whole
     (mirror_rest s.inputs r basis b.step has fits.below fits.over (i + 1) (r - (i + 1)) (omega arith) (λ t k above inside. later t k (omega arith) inside)
-    (mirror_first s.inputs r basis b.step has fits.below fits.over i low o is front own)))
+    (mirror_first s.inputs r basis b.step has fits.below fits.over i low o is prefix own)))
 
 -- A step with the value of a lower signal can be left out.
-pub redirected : (s : Specification) (basis : Basis) (r d : ℕ) (b : Body) → Fits s basis r d b → (i : ℕ) → i < r → (o : Out) → IsSignal basis (s.inputs + i) o → ((t : ℕ) → step_value (bits_of s.inputs r b.step t) (b.step i) ≡ out_bit (bits_of s.inputs r b.step t) o) → HasFewer s basis r
+pub redirected : (s : Specification) (basis : Basis) (r d : ℕ) (b : Body) → Fits s basis r d b → (i : ℕ) → i < r →
+    (o : Out) → IsSignal basis (s.inputs + i) o →
+    ((t : ℕ) → step_value (bits_of s.inputs r b.step t) (b.step i) ≡ out_bit (bits_of s.inputs r b.step t) o) →
+    HasFewer s basis r
 redirected s basis r d b fits i low o is same =
     left_out s basis r d b fits i low o is (bits_of s.inputs r b.step) (λ t p from p_low. refl)
     (λ t. step_bit s.inputs r b.step fits.below t i low ∙ same t)
@@ -236,7 +264,10 @@ unread_bit bits place own One other = refl
 unread_bit bits place own (Place p) other = other_has bits place p own (λ (e : p ≡ place). other (ap Place e))
 
 -- A step that isn't an out and that no step reads can be left out.
-pub unused : (s : Specification) (basis : Basis) (r d : ℕ) (b : Body) → Fits s basis r d b → (i : ℕ) → i < r → ((k : ℕ) → k < r → Reads (b.step k) (s.inputs + 1 + i) → ⊥) → ((h : ℕ) → 1 ≤ h → h ≤ s.outputs → slice_index_or b.outs (h - 1) Zero ≡ Place (s.inputs + 1 + i) → ⊥) → HasFewer s basis r
+pub unused : (s : Specification) (basis : Basis) (r d : ℕ) (b : Body) → Fits s basis r d b → (i : ℕ) → i < r →
+    ((k : ℕ) → k < r → Reads (b.step k) (s.inputs + 1 + i) → ⊥) →
+    ((h : ℕ) → 1 ≤ h → h ≤ s.outputs → slice_index_or b.outs (h - 1) Zero ≡ Place (s.inputs + 1 + i) → ⊥) →
+    HasFewer s basis r
 unused s basis r d b fits i low unread no_out =
     let n : ℕ = s.inputs in
     let place : ℕ = n + 1 + i in

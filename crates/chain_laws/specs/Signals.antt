@@ -31,12 +31,14 @@ pub record IsOneStep (basis : Basis) (last : ℕ) (value : (ℕ → Bool) → Bo
   pub over : basis step.op ≡ true
   pub same : (bits : ℕ → Bool) → step_value bits step ≡ value bits
 
-abbrev pub IsJoined : Basis → ℕ → ((ℕ → Bool) → Bool) → Type 0
-IsJoined basis last value = IsThere basis last value ⊎ IsOneStep basis last value
+abbrev pub IsSignalOrStep : Basis → ℕ → ((ℕ → Bool) → Bool) → Type 0
+IsSignalOrStep basis last value = IsThere basis last value ⊎ IsOneStep basis last value
 
 -- ---- one operand is a constant
 
-of_one_by : (basis : Basis) (last q : ℕ) → const_closed basis ≡ true → 1 ≤ q → q ≤ last → (f : Bool → Bool) (at_0 at_1 : Bool) → f false ≡ at_0 → f true ≡ at_1 → (at_0 ≡ true → at_1 ≡ false → HasNegation basis) → IsJoined basis last (λ bits. f (bits q))
+of_one_by : (basis : Basis) (last q : ℕ) → const_closed basis ≡ true → 1 ≤ q → q ≤ last →
+    (f : Bool → Bool) (at_0 at_1 : Bool) → f false ≡ at_0 → f true ≡ at_1 →
+    (at_0 ≡ true → at_1 ≡ false → HasNegation basis) → IsSignalOrStep basis last (λ bits. f (bits q))
 of_one_by basis last q closed from low f false false e0 e1 negation = inl (record { out = Zero; signal = closed; same = λ bits. two_values (λ b. false) f (sym e0) (sym e1) (bits q) })
 of_one_by basis last q closed from low f true true e0 e1 negation = inl (record { out = One; signal = closed; same = λ bits. two_values (λ b. true) f (sym e0) (sym e1) (bits q) })
 of_one_by basis last q closed from low f false true e0 e1 negation = inl (record { out = Place q; signal = (from, low); same = λ bits. two_values (λ b. b) f (sym e0) (sym e1) (bits q) })
@@ -49,7 +51,8 @@ of_one_by basis last q closed from low f true false e0 e1 negation =
       same = λ bits. two_values (λ b. apply m.0 b b) f (m.3.0 ∙ sym e0) (m.3.1 ∙ sym e1) (bits q);
     })
 
-of_one : (basis : Basis) (last q : ℕ) → const_closed basis ≡ true → 1 ≤ q → q ≤ last → (f : Bool → Bool) → (f false ≡ true → f true ≡ false → HasNegation basis) → IsJoined basis last (λ bits. f (bits q))
+of_one : (basis : Basis) (last q : ℕ) → const_closed basis ≡ true → 1 ≤ q → q ≤ last → (f : Bool → Bool) →
+    (f false ≡ true → f true ≡ false → HasNegation basis) → IsSignalOrStep basis last (λ bits. f (bits q))
 of_one basis last q closed from low f negation = of_one_by basis last q closed from low f (f false) (f true) refl refl negation
 
 negates_second : (op : ℕ) (x : Bool) → apply op x false ≡ true → apply op x true ≡ false → negates_one op ≡ true
@@ -66,14 +69,21 @@ constant : (basis : Basis) (last : ℕ) → const_closed basis ≡ true → (b :
 constant basis last closed false = record { out = Zero; signal = closed; same = λ bits. refl }
 constant basis last closed true = record { out = One; signal = closed; same = λ bits. refl }
 
-second_constant : (basis : Basis) (last : ℕ) → const_closed basis ≡ true → (op : ℕ) → op < 16 → basis op ≡ true → (p : ℕ) → 1 ≤ p → p ≤ last → (y : Bool) → IsJoined basis last (λ bits. apply op (bits p) y)
-second_constant basis last closed op low member p from below y = of_one basis last p closed from below (λ x. apply op x y) (λ e0 e1. negation_given basis closed op low member (negates_first op y e0 e1))
+second_constant : (basis : Basis) (last : ℕ) → const_closed basis ≡ true → (op : ℕ) → op < 16 → basis op ≡ true →
+    (p : ℕ) → 1 ≤ p → p ≤ last → (y : Bool) → IsSignalOrStep basis last (λ bits. apply op (bits p) y)
+second_constant basis last closed op low member p from below y =
+    of_one basis last p closed from below (λ x. apply op x y) (λ e0 e1.
+    negation_given basis closed op low member (negates_first op y e0 e1))
 
-first_constant : (basis : Basis) (last : ℕ) → const_closed basis ≡ true → (op : ℕ) → op < 16 → basis op ≡ true → (p : ℕ) → 1 ≤ p → p ≤ last → (x : Bool) → IsJoined basis last (λ bits. apply op x (bits p))
-first_constant basis last closed op low member p from below x = of_one basis last p closed from below (λ y. apply op x y) (λ e0 e1. negation_given basis closed op low member (negates_second op x e0 e1))
+first_constant : (basis : Basis) (last : ℕ) → const_closed basis ≡ true → (op : ℕ) → op < 16 → basis op ≡ true →
+    (p : ℕ) → 1 ≤ p → p ≤ last → (x : Bool) → IsSignalOrStep basis last (λ bits. apply op x (bits p))
+first_constant basis last closed op low member p from below x =
+    of_one basis last p closed from below (λ y. apply op x y) (λ e0 e1.
+    negation_given basis closed op low member (negates_second op x e0 e1))
 
 -- A member applied to two signals is a signal or one step.
-pub joined : (basis : Basis) (last op : ℕ) → op < 16 → basis op ≡ true → (a b : Out) → IsSignal basis last a → IsSignal basis last b → IsJoined basis last (λ bits. apply op (out_bit bits a) (out_bit bits b))
+pub joined : (basis : Basis) (last op : ℕ) → op < 16 → basis op ≡ true → (a b : Out) → IsSignal basis last a →
+    IsSignal basis last b → IsSignalOrStep basis last (λ bits. apply op (out_bit bits a) (out_bit bits b))
 joined basis last op low member Zero Zero a_is b_is = inl (constant basis last a_is (apply op false false))
 joined basis last op low member Zero One a_is b_is = inl (constant basis last a_is (apply op false true))
 joined basis last op low member One Zero a_is b_is = inl (constant basis last a_is (apply op true false))

@@ -75,12 +75,12 @@ tally_some f (suc n) i low passes = ⊎_elim
     (cases_lt i n)
 
 -- a downward closed test: below n, where it passes for a number, it passes for all smaller ones
-abbrev pub IsFront : (ℕ → Bool) → ℕ → Type 0
-IsFront f n = (i k : ℕ) → i ≤ k → k < n → f k ≡ true → f i ≡ true
+abbrev pub IsDownwardClosed : (ℕ → Bool) → ℕ → Type 0
+IsDownwardClosed f n = (i k : ℕ) → i ≤ k → k < n → f k ≡ true → f i ≡ true
 
-pub front_passes : (f : ℕ → Bool) (n i : ℕ) → IsFront f n → i < n → f i ≡ true → i < tally f n
-front_passes f n i front low passes =
-    let all : tally f (i + 1) ≡ i + 1 = tally_all f (i + 1) (λ k k_low. front k i (omega arith) low passes) in
+pub prefix_passes : (f : ℕ → Bool) (n i : ℕ) → IsDownwardClosed f n → i < n → f i ≡ true → i < tally f n
+prefix_passes f n i prefix low passes =
+    let all : tally f (i + 1) ≡ i + 1 = tally_all f (i + 1) (λ k k_low. prefix k i (omega arith) low passes) in
     let e : (i + 1) + (n - (i + 1)) ≡ n = omega arith in
     omega (arith, all, tally_more f (i + 1) (n - (i + 1)), ap (tally f) e)
 
@@ -91,11 +91,11 @@ fails_from f i (suc more) fails =
     let e : tally f (i + suc more) ≡ tally f (suc (i + more)) = ap (tally f) (let k : i + suc more ≡ suc (i + more) = omega arith in k) in
     omega (arith, e, fails_from f i more (λ k from low. fails k from (omega arith)), number_false (f (i + more)) (fails (i + more) (omega arith) (omega arith)))
 
-pub front_fails : (f : ℕ → Bool) (n i : ℕ) → IsFront f n → i < n → f i ≡ false → tally f n ≤ i
-front_fails f n i front low fails =
+pub prefix_fails : (f : ℕ → Bool) (n i : ℕ) → IsDownwardClosed f n → i < n → f i ≡ false → tally f n ≤ i
+prefix_fails f n i prefix low fails =
     let e : i + (n - i) ≡ n = omega arith in
     let same : tally f (i + (n - i)) ≡ tally f i = fails_from f i (n - i) (λ k from k_low. ⊎_elim
-    (λ (passes : f k ≡ true). absurd (both_ways (f i) fails (front i k from (omega arith) passes)))
+    (λ (passes : f k ≡ true). absurd (both_ways (f i) fails (prefix i k from (omega arith) passes)))
     (λ (no_pass : f k ≡ false). no_pass)
     (cases_Bool (f k))) in
     omega (arith, same, ap (tally f) e, tally_at_most f i)

@@ -10,7 +10,7 @@ use Rattle.op_basis.specs.Closed.{number}
 use Rattle.chain_laws.specs.Follow.{step_at, step_at_get, step_at_is}
 use Rattle.chain_theory.specs.Levels.{level}
 use Rattle.chain_theory.specs.LevelLaws.{level_rises}
-use Rattle.chain_laws.specs.Reduced.{IsStep, IsOut, IsRead, Reads}
+use Rattle.chain_laws.specs.NormalForm.{IsStep, IsOut, IsRead, Reads}
 use Rattle.chain_laws.specs.Tallies.{tally, number_or, tally_both, tally_none, tally_one, tally_apart, number_low, number_true, number_false}
 
 -- how many steps have the level l
@@ -22,8 +22,8 @@ abbrev pub above : Chain → ℕ → ℕ
 above c l = tally (λ i. ltb l (level c (c.n + 1 + i))) (length c.steps)
 
 -- each step is an out or is read
-abbrev pub AreUsed : Chain → Type 0
-AreUsed c = (i : ℕ) (a : Step) → IsStep c i a → IsOut c (c.n + 1 + i) ⊎ IsRead c (c.n + 1 + i)
+abbrev pub AreOutsOrRead : Chain → Type 0
+AreOutsOrRead c = (i : ℕ) (a : Step) → IsStep c i a → IsOut c (c.n + 1 + i) ⊎ IsRead c (c.n + 1 + i)
 
 -- ---- places that steps read
 
@@ -58,7 +58,8 @@ hits_few counts step n bound (suc k) = omega (
   arith,
   hits_few counts step n bound k,
   reads_few (counts k) (step k) n bound,
-  tally_both (hit counts step n k) (λ i. reads_bit (counts k) (step k) (n + 1 + i)) (hit counts step n (suc k)) bound (λ i low. number_or (hit counts step n k i) (reads_bit (counts k) (step k) (n + 1 + i))),
+  tally_both (hit counts step n k) (λ i. reads_bit (counts k) (step k) (n + 1 + i)) (hit counts step n (suc k)) bound
+      (λ i low. number_or (hit counts step n k i) (reads_bit (counts k) (step k) (n + 1 + i))),
 )
 
 reads_true : (counts : Bool) (a : Step) (p : ℕ) → counts ≡ true → Reads a p → reads_bit counts a p ≡ true
@@ -72,7 +73,9 @@ hit_true counts step n i k (suc bound) low on reads = ⊎_elim
     (λ (below : k < bound). or_left (hit counts step n bound i) (reads_bit (counts bound) (step bound) (n + 1 + i)) (hit_true counts step n i k bound below on reads))
     (λ (past : bound ≤ k).
     let same : k ≡ bound = omega arith in
-    or_right (hit counts step n bound i) (reads_bit (counts bound) (step bound) (n + 1 + i)) (reads_true (counts bound) (step bound) (n + 1 + i) (ap counts (sym same) ∙ on) (subst (λ (x : ℕ). Reads (step x) (n + 1 + i)) same reads)))
+    or_right (hit counts step n bound i) (reads_bit (counts bound) (step bound) (n + 1 + i))
+    (reads_true (counts bound) (step bound) (n + 1 + i) (ap counts (sym same)
+    ∙ on) (subst (λ (x : ℕ). Reads (step x) (n + 1 + i)) same reads)))
     (cases_lt k bound)
 
 -- ---- places that are outs
@@ -115,11 +118,18 @@ tally_split : (f : ℕ → ℕ) (l r : ℕ) → tally (λ i. f i == l) r + tally
 tally_split f l r = tally_apart (λ i. f i == l) (λ i. ltb l (f i)) (λ i. leb l (f i)) r
     (λ i low. elim (cases_order l (f i)) [
       | inl same ↦ omega (arith, number_true (leb l (f i)) (le-leb l (f i) (omega (arith, same))), number_false (ltb l (f i)) (le-ltb l (f i) (omega (arith, same))), number_low (f i == l))
-      | inr (inl less) ↦ omega (arith, number_true (leb l (f i)) (le-leb l (f i) (omega (arith, less))), number_false (f i == l) (ne_eqb (f i) l (λ e. omega (arith, less, e))), number_low (ltb l (f i)))
+      | inr (inl less) ↦ omega (
+        arith,
+        number_true (leb l (f i)) (le-leb l (f i) (omega (arith, less))),
+        number_false (f i == l) (ne_eqb (f i) l (λ e. omega (arith, less, e))),
+        number_low (ltb l (f i)),
+      )
       | inr (inr more) ↦ omega (arith, number_false (ltb l (f i)) (le-ltb l (f i) (omega (arith, more))), number_false (f i == l) (ne_eqb (f i) l (λ e. omega (arith, more, e))))
     ])
 
-covered : (c : Chain) → IsChain c → AreUsed c → (l i : ℕ) → i < length c.steps → number (leb l (level c (c.n + 1 + i))) ≤ number (hit (λ k. ltb l (level c (c.n + 1 + k))) (step_at c.steps) c.n (length c.steps) i) + number (is_some_out c.outs c.n i)
+covered : (c : Chain) → IsChain c → AreOutsOrRead c → (l i : ℕ) → i < length c.steps →
+    number (leb l (level c (c.n + 1 + i))) ≤ number (hit (λ k. ltb l (level c (c.n + 1 + k))) (step_at c.steps) c.n
+    (length c.steps) i) + number (is_some_out c.outs c.n i)
 covered c is used l i low =
     let n : ℕ = c.n in
     let high : ℕ → Bool = λ k. ltb l (level c (n + 1 + k)) in
@@ -148,7 +158,7 @@ covered c is used l i low =
 
 -- A level has at most as many steps as all levels above it together have, plus the number of outs: each
 -- step from this level on is an out or is read by a step above the level, and a step reads two places.
-pub level_counts : (c : Chain) → IsChain c → AreUsed c → (l : ℕ) → width c l ≤ above c l + length c.outs
+pub level_counts : (c : Chain) → IsChain c → AreOutsOrRead c → (l : ℕ) → width c l ≤ above c l + length c.outs
 level_counts c is used l =
     let high : ℕ → Bool = λ k. ltb l (level c (c.n + 1 + k)) in
     let r : ℕ = length c.steps in

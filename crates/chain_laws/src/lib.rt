@@ -7,7 +7,7 @@
 //! (least chains by search over chains in normal form), and volume 4B, section 7.2.2.2 (the same by
 //! satisfiability).
 //!
-//! `Reduced` defines the normal form, `Keys` the order of pairs of operands, and `Levels` a bound on
+//! `NormalForm` defines the normal form, `Keys` the order of pairs of operands, and `Levels` a bound on
 //! levels. `Least` has the law: if a chain of r steps and at most d levels over a basis implements a
 //! specification, and no chain of fewer steps does, then a chain in normal form of r steps and at most
 //! d levels does. `Fences` adds that its steps are ordered by level, and that its fence is listed.

@@ -33,7 +33,7 @@ fn are_all(bytes: &[u8], length: usize) -> bool {
 fn came_to(read: &Result<Vec<u8>, ReadError>, length: usize, error: Option<ReadError>) -> bool {
     match read {
         Ok(bytes) => error.is_none() && are_all(bytes, length),
-        Err(told) => error == Some(*told),
+        Err(reported) => error == Some(*reported),
     }
 }
 
@@ -87,14 +87,14 @@ const READ: &[(usize, u64, usize, Option<ReadError>, u64)] = &[
 #[test]
 fn reads_memory(rt: HostRuntime) {
     for &(length, failing, limit, error, faults) in READ {
-        let told = is_read(rt.alloc(), length, failing, limit, error, faults);
+        let reported = is_read(rt.alloc(), length, failing, limit, error, faults);
         let steady = is_read_steadily(rt.alloc(), length, limit);
-        assert!(rt; told && steady, "{length} {failing} {limit}");
+        assert!(rt; reported && steady, "{length} {failing} {limit}");
     }
 }
 
 /// Whether the first or the second write fails, exactly as `failing` says.
-fn is_told(sink: &mut MemorySink, failing: u64) -> bool {
+fn is_reported(sink: &mut MemorySink, failing: u64) -> bool {
     let first = write_all(sink, b"abc").is_err();
     let second = write_all(sink, b"def").is_err();
     first == (failing == 1) && second == (failing == 2)
@@ -107,8 +107,8 @@ fn is_written(alloc: Global, failing: u64, text: &[u8], faults: u64) -> bool {
         return false;
     };
     let mut sink = MemorySink::new(alloc, calls);
-    let told = is_told(&mut sink, failing);
-    told && sink.written() == text && sink.faults() == faults
+    let reported = is_reported(&mut sink, failing);
+    reported && sink.written() == text && sink.faults() == faults
 }
 
 /// The number of the call that fails, the text after two calls, and the number of failed calls.
@@ -145,8 +145,8 @@ impl<'a> Read for Dripping<'a> {
         }
         let count = buf.len().min(self.rest.len()).min(2);
         let (piece, rest) = self.rest.split_at(count);
-        let (front, _) = buf.split_at_mut(count);
-        front.copy_from_slice(piece);
+        let (prefix, _) = buf.split_at_mut(count);
+        prefix.copy_from_slice(piece);
         self.rest = rest;
         Ok(count)
     }
@@ -215,8 +215,8 @@ fn is_taken(alloc: Global, most: usize, failing: u8, text: &[u8], faults: u64) -
     };
     let mut port = OutputPort::new(&mut writer);
     let failed = write_all(&mut port, b"abcde").is_err() == (faults > 0);
-    let told = port.faults() == faults;
-    failed && told && writer.bytes.as_slice() == text
+    let reported = port.faults() == faults;
+    failed && reported && writer.bytes.as_slice() == text
 }
 
 /// How many bytes a port takes a call, the number of the call that fails, the text in the end, and

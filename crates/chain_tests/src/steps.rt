@@ -2,13 +2,13 @@
 use chain_core::{Chain, first_difference, write_chain};
 use op_basis::read_basis;
 use std::alloc::Global;
-use step_core::{few_steps, nth_chain};
+use step_core::{least_chain, nth_chain};
 use tt_core::read_tables;
 
 /// Whether a chain is written as `text`.
 fn is_written(alloc: Global, chain: &Chain, text: &[u8]) -> bool {
-    let mut told = Vec::new(alloc);
-    write_chain(chain, &mut told).is_ok() && told.as_slice() == text
+    let mut reported = Vec::new(alloc);
+    write_chain(chain, &mut reported).is_ok() && reported.as_slice() == text
 }
 
 /// Whether the least chain for tables over a basis, of at most one step, is `wanted`. An empty text: there is
@@ -23,7 +23,7 @@ fn has(alloc: Global, basis: &[u8], tables: &[u8], wanted: &[u8]) -> bool {
     let Ok(tables) = read_tables(alloc, tables) else {
         return false;
     };
-    match few_steps(alloc, &tables.spec, basis, 1) {
+    match least_chain(alloc, &tables.spec, basis, 1) {
         Ok(Some(chain)) => is_written(alloc, &chain, wanted),
         Ok(None) => wanted.is_empty(),
         Err(_) => false,
@@ -99,7 +99,7 @@ fn needs(alloc: Global, basis: &[u8], tables: &[u8], most: u32, wanted: Option<u
     let Ok(tables) = read_tables(alloc, tables) else {
         return false;
     };
-    match (few_steps(alloc, &tables.spec, basis, most), wanted) {
+    match (least_chain(alloc, &tables.spec, basis, most), wanted) {
         (Ok(Some(chain)), Some(count)) => chain.steps().len() as u32 == count,
         (Ok(None), None) => true,
         _ => false,

@@ -1,7 +1,7 @@
 //! Truth tables that are read or refused, their symmetric inputs, and their live (nontrivial) outputs.
 use std::alloc::Global;
 use tt_core::{
-    Cell, Out, Spec, SpecError, Tables, are_cells, inputs, live_part, push_row, read_tables, row,
+    Cell, Out, Spec, SpecError, Tables, are_cells, inputs, live_spec, push_row, read_tables, row,
     symmetric, trivial,
 };
 
@@ -148,7 +148,7 @@ fn are_kept(alloc: Global) -> bool {
 }
 
 /// Whether header lines and table lines are distinguished from other lines.
-fn are_told() -> bool {
+fn are_reported() -> bool {
     inputs(b"inputs 2", true) == Some(2)
         && inputs(b"inputs 2", false).is_none()
         && are_cells(b"01-1")
@@ -166,7 +166,7 @@ fn is_row(alloc: Global, text: &[u8; 4], on: u64, care: u64) -> bool {
 
 #[test]
 fn lines_are_read_by_themselves(rt: HostRuntime) {
-    assert!(rt; are_told() && are_kept(rt.alloc()) && is_row(rt.alloc(), b"01-1", 10, 11));
+    assert!(rt; are_reported() && are_kept(rt.alloc()) && is_row(rt.alloc(), b"01-1", 10, 11));
 }
 
 /// Whether the tables of `text` are reported as symmetric in the inputs p and q exactly where
@@ -207,7 +207,7 @@ fn inputs_are_exchanged(rt: HostRuntime) {
 
 /// Whether the specification of the live outputs has the same inputs and the words `on` and `care`.
 fn is_part(alloc: Global, spec: &Spec, on: &[u64], care: &[u64]) -> bool {
-    match live_part(alloc, spec) {
+    match live_spec(alloc, spec) {
         Ok(live) => live.on() == on && live.care() == care && live.n() == spec.n(),
         Err(_) => false,
     }

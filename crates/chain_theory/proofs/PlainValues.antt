@@ -15,7 +15,9 @@ values_on-none n t place [] e = refl
 values_on-none n t place (s ∷ ss) e = absurd (omega arith)
 
 -- The last step sets the bit of its own place.
-pub values_on-push : (n t place : ℕ) (steps before : List PlainStep) (last : PlainStep) → steps ≡ before ++ last ∷ [] → values_on n t (steps_of steps) place ≡ extended (values_on n t (steps_of before)) (n + 1 + length before) (step_value (values_on n t (steps_of before)) (step_of last)) place
+pub values_on-push : (n t place : ℕ) (steps before : List PlainStep) (last : PlainStep) → steps ≡ before ++ last ∷ [] →
+    values_on n t (steps_of steps) place ≡ extended (values_on n t (steps_of before)) (n + 1 + length before)
+    (step_value (values_on n t (steps_of before)) (step_of last)) place
 values_on-push n t place steps before last e =
     ap (λ (xs : List PlainStep). values_on n t (steps_of xs) place) e
     ∙ ap (λ (xs : List Step). values_on n t xs place) (map-append step_of before (last ∷ []))
@@ -23,11 +25,15 @@ values_on-push n t place steps before last e =
     ∙ ap (λ m. extended (values_on n t (steps_of before)) (n + 1 + m) (step_value (values_on n t (steps_of before)) (step_of last)) place) (length-map before step_of)
 
 -- The place of the last step has that step's value.
-pub values_on-last : (n t place : ℕ) (steps before : List PlainStep) (last : PlainStep) → steps ≡ before ++ last ∷ [] → place ≡ n + 1 + length before → values_on n t (steps_of steps) place ≡ step_value (values_on n t (steps_of before)) (step_of last)
+pub values_on-last : (n t place : ℕ) (steps before : List PlainStep) (last : PlainStep) → steps ≡ before ++ last ∷ [] →
+    place ≡ n + 1 + length before → values_on n t (steps_of steps) place ≡ step_value (values_on n t (steps_of before))
+    (step_of last)
 values_on-last n t place steps before last e own =
     values_on-push n t place steps before last e ∙ extended-same (values_on n t (steps_of before)) (n + 1 + length before) place (step_value (values_on n t (steps_of before)) (step_of last)) own
 
 -- Any other place has the value that the earlier steps leave.
-pub values_on-before : (n t place : ℕ) (steps before : List PlainStep) (last : PlainStep) → steps ≡ before ++ last ∷ [] → place ≢ n + 1 + length before → values_on n t (steps_of steps) place ≡ values_on n t (steps_of before) place
+pub values_on-before : (n t place : ℕ) (steps before : List PlainStep) (last : PlainStep) → steps ≡ before ++
+    last ∷ [] → place ≢ n + 1 + length before → values_on n t (steps_of steps) place ≡
+    values_on n t (steps_of before) place
 values_on-before n t place steps before last e other =
     values_on-push n t place steps before last e ∙ extended-other (values_on n t (steps_of before)) (n + 1 + length before) place (step_value (values_on n t (steps_of before)) (step_of last)) other

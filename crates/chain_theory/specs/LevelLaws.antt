@@ -14,7 +14,9 @@ pub placed-other : (levels : ℕ → ℕ) (place p level : ℕ) → p ≢ place 
 placed-other levels place p level other = grind (arith, nat_tests)
 
 -- A step that is added at the end sets the level of its own place, from the levels after the others.
-pub levels_after-push : (levels : ℕ → ℕ) (place : ℕ) (ss : List Step) (s : Step) → levels_after levels place (ss ++ s ∷ []) ≡ placed (levels_after levels place ss) (place + length ss) (step_level (levels_after levels place ss) s)
+pub levels_after-push : (levels : ℕ → ℕ) (place : ℕ) (ss : List Step) (s : Step) →
+    levels_after levels place (ss ++ s ∷ []) ≡ placed (levels_after levels place ss) (place + length ss)
+    (step_level (levels_after levels place ss) s)
 unfolding levels_after
 levels_after-push levels place [] s = rw add-zero refl
 levels_after-push levels place (r ∷ ss) s =
@@ -35,7 +37,9 @@ step_level-same : (f g : ℕ → ℕ) (s : Step) → f s.j ≡ g s.j → f s.k �
 step_level-same f g s ej ek = rw (ej, ek) refl
 
 -- The level at a step's place is one more than the larger level of its operands.
-pub levels_after-step : (levels : ℕ → ℕ) (place i : ℕ) (ss : List Step) (s : Step) → slice_get ss i ≡ Some s → s.j < place + i → s.k < place + i → levels_after levels place ss (place + i) ≡ step_level (levels_after levels place ss) s
+pub levels_after-step : (levels : ℕ → ℕ) (place i : ℕ) (ss : List Step) (s : Step) → slice_get ss i ≡ Some s →
+    s.j < place + i → s.k < place + i → levels_after levels place ss (place + i) ≡
+    step_level (levels_after levels place ss) s
 unfolding levels_after
 levels_after-step levels place i [] s at j_low k_low = cc
 levels_after-step levels place zero (r ∷ ss) s at j_low k_low =
@@ -75,7 +79,8 @@ level_step n steps are i s at =
     levels_after-step (λ (q : ℕ). 0) (n + 1) i steps s at here.j_below here.k_below
 
 -- a step's level is above those of its operands
-pub level_rises : (n : ℕ) (steps : List Step) → AreSteps n steps → (i : ℕ) (s : Step) → slice_get steps i ≡ Some s → (level_in n steps s.j < level_in n steps (n + 1 + i)) × (level_in n steps s.k < level_in n steps (n + 1 + i))
+pub level_rises : (n : ℕ) (steps : List Step) → AreSteps n steps → (i : ℕ) (s : Step) → slice_get steps i ≡ Some s →
+    (level_in n steps s.j < level_in n steps (n + 1 + i)) × (level_in n steps s.k < level_in n steps (n + 1 + i))
 level_rises n steps are i s at = let own = level_step n steps are i s at in (omega arith, omega arith)
 
 -- ---- the greatest level

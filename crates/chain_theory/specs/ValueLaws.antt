@@ -15,7 +15,9 @@ pub extended-other : (bits : ℕ → Bool) (place p : ℕ) (bit : Bool) → p �
 extended-other bits place p bit other = grind (arith, nat_tests)
 
 -- A step that is added at the end sets the bit of its own place, from the bits after the others.
-pub values_after-push : (bits : ℕ → Bool) (place : ℕ) (ss : List Step) (s : Step) → values_after bits place (ss ++ s ∷ []) ≡ extended (values_after bits place ss) (place + length ss) (step_value (values_after bits place ss) s)
+pub values_after-push : (bits : ℕ → Bool) (place : ℕ) (ss : List Step) (s : Step) →
+    values_after bits place (ss ++ s ∷ []) ≡ extended (values_after bits place ss) (place + length ss)
+    (step_value (values_after bits place ss) s)
 unfolding values_after
 values_after-push bits place [] s = rw add-zero refl
 values_after-push bits place (r ∷ ss) s =
@@ -36,7 +38,9 @@ step_value-same : (f g : ℕ → Bool) (s : Step) → f s.j ≡ g s.j → f s.k 
 step_value-same f g s ej ek = rw (ej, ek) refl
 
 -- The value at a step's place is its operator on the values of its operands.
-pub values_after-step : (bits : ℕ → Bool) (place i : ℕ) (ss : List Step) (s : Step) → slice_get ss i ≡ Some s → s.j < place + i → s.k < place + i → values_after bits place ss (place + i) ≡ step_value (values_after bits place ss) s
+pub values_after-step : (bits : ℕ → Bool) (place i : ℕ) (ss : List Step) (s : Step) → slice_get ss i ≡ Some s →
+    s.j < place + i → s.k < place + i → values_after bits place ss (place + i) ≡
+    step_value (values_after bits place ss) s
 unfolding values_after
 values_after-step bits place i [] s at j_low k_low = cc
 values_after-step bits place zero (r ∷ ss) s at j_low k_low =

@@ -126,15 +126,17 @@ pub fn agrees(n: u32, steps: &[PlainStep], outs: &[Out], cells: &[Cell]) -> bool
     requires inputs { n < 32 }
     requires steps { length steps.now < 2 ^ 31 }
     requires rows { length cells.now ≡ length outs.now * 2 ^ n }
-    ensures agrees { result ≡ true → Agrees (chain_of n steps.now outs.now) (flat_specification n (length outs.now) cells.now) }
-    ensures differs { result ≡ false → Agrees (chain_of n steps.now outs.now) (flat_specification n (length outs.now) cells.now) → ⊥ }
+    ensures agrees { result ≡ true → Agrees (chain_of n steps.now outs.now)
+        (flat_specification n (length outs.now) cells.now) }
+    ensures differs { result ≡ false → Agrees (chain_of n steps.now outs.now)
+        (flat_specification n (length outs.now) cells.now) → ⊥ }
 {
     let Some((out, others)) = outs.split_first() else {
         return true;
     };
-    let (own, behind) = cells.split_at(1 << n);
+    let (own, following) = cells.split_at(1 << n);
     if !meets_rows(n, steps, *out, own) {
         return false;
     }
-    agrees(n, steps, others, behind)
+    agrees(n, steps, others, following)
 }

@@ -1,5 +1,7 @@
 -- The table of signs during the simplification of a clause.
-use Rattle.std.proofs.Common.{◌≡◌, ◌≢◌, ℕ, zero, suc, ◌+◌, ◌≤◌, ◌<◌, ℤ, pos, negsuc, neg_ℤ, Bool, true, false, not, ◌||◌, List, [], ◌∷◌, ◌++◌, Option, Some, None, get_or, set, take, All, length, refl, ap, ap₂, sym, ◌∙◌, subst, arith, inl, inr, ◌⊎◌}
+use Rattle.std.proofs.Common.{◌≡◌, ◌≢◌, ℕ, zero, suc, ◌+◌, ◌≤◌, ◌<◌, ℤ, pos, negsuc, neg_ℤ, Bool, true, false, not}
+use Rattle.std.proofs.Common.{◌||◌, List, [], ◌∷◌, ◌++◌, Option, Some, None, get_or, set, take, All, length, refl, ap}
+use Rattle.std.proofs.Common.{ap₂, sym, ◌∙◌, subst, arith, inl, inr, ◌⊎◌}
 use mathlib.Core.Bool.{beq}
 use Rattle.std.proofs.Math.Logic.{⊎_elim}
 use Rattle.std.proofs.Math.Seq.{take-append_seam}
@@ -12,8 +14,8 @@ use Rattle.std.proofs.lemmas.List.Folds.{list_any-append, Any-from_list_any}
 use Rattle.std.specs.Ordering.{int_eq}
 use Rattle.std.specs.List.{list_any}
 use Rattle.sat_theory.specs.Formula.{signed, variable, IsClause, IsWithin, IsFormula}
-use Rattle.clause_core.specs.declared.raw.Raw.{Raw}
-use Rattle.clause_core.specs.declared.raw.Raw.TheVariants.{Var}
+use Rattle.clause_core.specs.declared.raw.RawLit.{RawLit}
+use Rattle.clause_core.specs.declared.raw.RawLit.TheVariants.{Var}
 use Rattle.clause_core.specs.Clauses.{has, simplified}
 use Rattle.clause_core.specs.Seen.{going, same_bit, is_known, IsSeen, IsBlank, HoldsList}
 use Rattle.clause_core.proofs.Simplified.{simplified-opposite, simplified-again, simplified-new, variable-signed, clause_push}
@@ -56,21 +58,27 @@ blank_seen seen blank = record {
 }
 
 -- a variable that occurred: its literal is there, or the clause is true
-pub seen_again : (seen : List (Option Bool)) (lits : List ℤ) (v : ℕ) (known bit : Bool) (raws : List Raw) → IsSeen seen lits → 1 ≤ v → v < length seen → get_or seen v None ≡ Some known → simplified lits (Var v bit ∷ raws) ≡ going (same_bit known bit) lits raws
+pub seen_again : (seen : List (Option Bool)) (lits : List ℤ) (v : ℕ) (known bit : Bool) (raws : List RawLit) →
+    IsSeen seen lits → 1 ≤ v → v < length seen → get_or seen v None ≡ Some known →
+    simplified lits (Var v bit ∷ raws) ≡ going (same_bit known bit) lits raws
 seen_again seen lits v true true raws is some low at = simplified-again lits v true raws (is.known v false some low ∙ rw at refl) (is.known v true some low ∙ rw at refl)
 seen_again seen lits v false false raws is some low at = simplified-again lits v false raws (is.known v true some low ∙ rw at refl) (is.known v false some low ∙ rw at refl)
 seen_again seen lits v true false raws is some low at = simplified-opposite lits v false raws (is.known v true some low ∙ rw at refl)
 seen_again seen lits v false true raws is some low at = simplified-opposite lits v true raws (is.known v false some low ∙ rw at refl)
 
 -- one that didn't occur: its literal is added
-pub seen_new : (seen : List (Option Bool)) (lits : List ℤ) (v : ℕ) (bit : Bool) (raws : List Raw) → IsSeen seen lits → 1 ≤ v → v < length seen → get_or seen v None ≡ None → simplified lits (Var v bit ∷ raws) ≡ simplified (lits ++ signed v bit ∷ []) raws
+pub seen_new : (seen : List (Option Bool)) (lits : List ℤ) (v : ℕ) (bit : Bool) (raws : List RawLit) →
+    IsSeen seen lits → 1 ≤ v → v < length seen → get_or seen v None ≡ None →
+    simplified lits (Var v bit ∷ raws) ≡ simplified (lits ++ signed v bit ∷ []) raws
 seen_new seen lits v bit raws is some low at = simplified-new lits v bit raws (is.known v (not bit) some low ∙ rw at refl) (is.known v bit some low ∙ rw at refl)
 
-pub seen_clause : (seen : List (Option Bool)) (lits : List ℤ) (v : ℕ) (bit : Bool) → IsSeen seen lits → 1 ≤ v → v < length seen → get_or seen v None ≡ None → IsClause lits → IsClause (lits ++ signed v bit ∷ [])
+pub seen_clause : (seen : List (Option Bool)) (lits : List ℤ) (v : ℕ) (bit : Bool) → IsSeen seen lits → 1 ≤ v →
+    v < length seen → get_or seen v None ≡ None → IsClause lits → IsClause (lits ++ signed v bit ∷ [])
 seen_clause seen lits v bit is some low at clause = clause_push lits v bit clause some (is.known v (not bit) some low ∙ rw at refl) (is.known v bit some low ∙ rw at refl)
 
 -- then the table has its sign
-pub seen_push : (seen : List (Option Bool)) (lits : List ℤ) (v : ℕ) (bit : Bool) → IsSeen seen lits → 1 ≤ v → v < length seen → get_or seen v None ≡ None → IsSeen (set seen v (Some bit)) (lits ++ signed v bit ∷ [])
+pub seen_push : (seen : List (Option Bool)) (lits : List ℤ) (v : ℕ) (bit : Bool) → IsSeen seen lits → 1 ≤ v →
+    v < length seen → get_or seen v None ≡ None → IsSeen (set seen v (Some bit)) (lits ++ signed v bit ∷ [])
 seen_push seen lits v bit is some low at = record {
   known = λ w c from to.
       let to_old : w < length seen = rw (← length-set seen v (Some bit)) to in
@@ -96,15 +104,15 @@ same_is true = refl
 same_is false = refl
 
 -- an entry is cleared, or it is unchanged and none of the literals has its variable
-pub record Forgotten (lits : List ℤ) (at : ℕ) (first now : List (Option Bool)) : Type 0 where
+pub record Cleared (lits : List ℤ) (at : ℕ) (first now : List (Option Bool)) : Type 0 where
   pub each : (v : ℕ) → (get_or now v None ≡ None) ⊎ ((get_or now v None ≡ get_or first v None) × ((k : ℕ) (d : ℤ) → k < at → variable (get_or lits k d) ≢ v))
   pub size : length now ≡ length first
 
 -- after the end of a list an entry is the default
-behind : {X : Type 0} (xs : List X) (k : ℕ) (d : X) → length xs ≤ k → get_or xs k d ≡ d
-behind {X} [] k d low = refl
-behind {X} (x ∷ xs) zero d low = absurd (omega arith)
-behind {X} (x ∷ xs) (suc k) d low = behind xs k d (omega arith)
+after : {X : Type 0} (xs : List X) (k : ℕ) (d : X) → length xs ≤ k → get_or xs k d ≡ d
+after {X} [] k d low = refl
+after {X} (x ∷ xs) zero d low = absurd (omega arith)
+after {X} (x ∷ xs) (suc k) d low = after xs k d (omega arith)
 
 -- a literal that lits has is at some index, with its variable
 there : {A : Type 0} (lits : List ℤ) (l : ℤ) → has lits l ≡ true → ((k : ℕ) (d : ℤ) → k < length lits → variable (get_or lits k d) ≢ variable l) → A
@@ -123,13 +131,14 @@ unknown lits at seen is (suc v) none all =
     (λ (low : suc v < length seen).
     elim (get_or seen (suc v) None) as (λ (o : Option Bool). get_or seen (suc v) None ≡ o → get_or seen (suc v) None ≡ None) [
       | None ↦ λ e. e
-      | Some b ↦ λ e. there lits (signed (suc v) b) (is.known (suc v) b (omega arith) low ∙ ap (λ o. is_known o b) e ∙ same_is b) (λ k d inside. λ same. none k d (omega (arith, inside, all)) (same ∙ variable-signed (suc v) b))
+      | Some b ↦ λ e. there lits (signed (suc v) b) (is.known (suc v) b (omega arith) low ∙ ap (λ o. is_known o b) e
+          ∙ same_is b) (λ k d inside. λ same. none k d (omega (arith, inside, all)) (same ∙ variable-signed (suc v) b))
     ] refl)
-    (λ (high : length seen ≤ suc v). behind seen (suc v) None high)
+    (λ (high : length seen ≤ suc v). after seen (suc v) None high)
     (cases_lt (suc v) (length seen))
 
-pub forgotten_all : (lits : List ℤ) (at : ℕ) (first now : List (Option Bool)) → IsSeen first lits → Forgotten lits at first now → length lits ≤ at → IsBlank now
-forgotten_all lits at first now seen is all = record {
+pub cleared_all : (lits : List ℤ) (at : ℕ) (first now : List (Option Bool)) → IsSeen first lits → Cleared lits at first now → length lits ≤ at → IsBlank now
+cleared_all lits at first now seen is all = record {
   none = λ v. ⊎_elim
       (λ (gone : get_or now v None ≡ None). gone)
       (λ (stays : (get_or now v None ≡ get_or first v None) × ((k : ℕ) (d : ℤ) → k < at → variable (get_or lits k d) ≢ v)). stays.0 ∙ unknown lits at first seen v stays.1 all)
@@ -139,7 +148,10 @@ forgotten_all lits at first now seen is all = record {
 -- ---- the list
 
 -- A clause over a formula's variables can be added to it.
-pub list_pushed : (vars : ℕ) (old new : List (List ℤ)) (seen : List (Option Bool)) (clause : List ℤ) → new ≡ old ++ clause ∷ [] → IsFormula (record { vars = vars; clauses = old }) → vars < 1000000000 → length seen ≡ vars + 1 → IsBlank seen → IsClause clause → All (λ l. variable l < length seen) clause → HoldsList (record { vars = vars; clauses = new }) seen
+pub list_pushed : (vars : ℕ) (old new : List (List ℤ)) (seen : List (Option Bool)) (clause : List ℤ) → new ≡ old ++
+    clause ∷ [] → IsFormula (record { vars = vars; clauses = old }) → vars < 1000000000 → length seen ≡ vars + 1 →
+    IsBlank seen → IsClause clause → All (λ l. variable l < length seen) clause →
+    HoldsList (record { vars = vars; clauses = new }) seen
 list_pushed vars old new seen clause is before few room blank is_clause within = rw is (record {
   formula = record {
     clauses = All-push IsClause old clause before.clauses is_clause;

@@ -1,5 +1,6 @@
 -- The cases of the simplification of a raw clause.
-use Rattle.std.proofs.Common.{◌≡◌, ◌≢◌, ℕ, zero, suc, ◌≤◌, ◌<◌, ℤ, pos, negsuc, neg_ℤ, Bool, true, false, not, List, [], ◌∷◌, ◌++◌, Some, None, get_or, length, refl, ap, ◌∙◌, subst, arith, inl, inr, ◌⊎◌}
+use Rattle.std.proofs.Common.{◌≡◌, ◌≢◌, ℕ, zero, suc, ◌≤◌, ◌<◌, ℤ, pos, negsuc, neg_ℤ, Bool, true, false, not, List, []}
+use Rattle.std.proofs.Common.{◌∷◌, ◌++◌, Some, None, get_or, length, refl, ap, ◌∙◌, subst, arith, inl, inr, ◌⊎◌}
 use Rattle.std.proofs.Math.Logic.{⊎_elim}
 use Rattle.std.proofs.lemmas.Cmp.{int_eq_equiv}
 use Rattle.std.proofs.lemmas.List.Elements.{All-push}
@@ -8,31 +9,35 @@ use Rattle.std.proofs.lemmas.List.Quantifiers.{all_pairs_push}
 use Rattle.std.proofs.lemmas.Grind.{common_steps}
 use Rattle.std.specs.Ordering.{int_eq}
 use Rattle.sat_theory.specs.Formula.{signed, variable, IsClause}
-use Rattle.clause_core.specs.declared.raw.Raw.{Raw}
-use Rattle.clause_core.specs.declared.raw.Raw.TheVariants.{Fixed, Var}
+use Rattle.clause_core.specs.declared.raw.RawLit.{RawLit}
+use Rattle.clause_core.specs.declared.raw.RawLit.TheVariants.{Fixed, Var}
 use Rattle.clause_core.specs.Clauses.{has, simplified}
 
 pub simplified-none : (lits : List ℤ) → simplified lits [] ≡ Some lits
 unfolding simplified
 simplified-none lits = refl
 
-pub simplified-true : (lits : List ℤ) (raws : List Raw) → simplified lits (Fixed true ∷ raws) ≡ None
+pub simplified-true : (lits : List ℤ) (raws : List RawLit) → simplified lits (Fixed true ∷ raws) ≡ None
 unfolding simplified
 simplified-true lits raws = refl
 
-pub simplified-false : (lits : List ℤ) (raws : List Raw) → simplified lits (Fixed false ∷ raws) ≡ simplified lits raws
+pub simplified-false : (lits : List ℤ) (raws : List RawLit) → simplified lits (Fixed false ∷ raws) ≡ simplified lits raws
 unfolding simplified
 simplified-false lits raws = refl
 
-pub simplified-opposite : (lits : List ℤ) (v : ℕ) (bit : Bool) (raws : List Raw) → has lits (signed v (not bit)) ≡ true → simplified lits (Var v bit ∷ raws) ≡ None
+pub simplified-opposite : (lits : List ℤ) (v : ℕ) (bit : Bool) (raws : List RawLit) → has lits (signed v (not bit)) ≡ true → simplified lits (Var v bit ∷ raws) ≡ None
 unfolding simplified
 simplified-opposite lits v bit raws there = rw there refl
 
-pub simplified-again : (lits : List ℤ) (v : ℕ) (bit : Bool) (raws : List Raw) → has lits (signed v (not bit)) ≡ false → has lits (signed v bit) ≡ true → simplified lits (Var v bit ∷ raws) ≡ simplified lits raws
+pub simplified-again : (lits : List ℤ) (v : ℕ) (bit : Bool) (raws : List RawLit) →
+    has lits (signed v (not bit)) ≡ false → has lits (signed v bit) ≡ true →
+    simplified lits (Var v bit ∷ raws) ≡ simplified lits raws
 unfolding simplified
 simplified-again lits v bit raws other there = rw (other, there) refl
 
-pub simplified-new : (lits : List ℤ) (v : ℕ) (bit : Bool) (raws : List Raw) → has lits (signed v (not bit)) ≡ false → has lits (signed v bit) ≡ false → simplified lits (Var v bit ∷ raws) ≡ simplified (lits ++ signed v bit ∷ []) raws
+pub simplified-new : (lits : List ℤ) (v : ℕ) (bit : Bool) (raws : List RawLit) →
+    has lits (signed v (not bit)) ≡ false → has lits (signed v bit) ≡ false →
+    simplified lits (Var v bit ∷ raws) ≡ simplified (lits ++ signed v bit ∷ []) raws
 unfolding simplified
 simplified-new lits v bit raws other new = rw (other, new) refl
 

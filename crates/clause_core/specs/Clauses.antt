@@ -3,8 +3,8 @@ use Rattle.std.specs.Prelude.{ℕ, ◌≤◌, ℤ, Bool, true, false, not, List,
 use Rattle.std.specs.List.{list_any}
 use Rattle.std.specs.Ordering.{int_eq}
 use Rattle.sat_theory.specs.Formula.{Formula, Assignment, Satisfies, signed}
-use Rattle.clause_core.specs.declared.raw.Raw.{Raw}
-use Rattle.clause_core.specs.declared.raw.Raw.TheVariants.{Fixed, Var}
+use Rattle.clause_core.specs.declared.raw.RawLit.{RawLit}
+use Rattle.clause_core.specs.declared.raw.RawLit.TheVariants.{Fixed, Var}
 
 -- the literal is among lits
 unfoldable pub has : List ℤ → ℤ → Bool
@@ -13,7 +13,7 @@ has lits lit = list_any (int_eq lit) lits
 -- Adds the raw literals to lits, or returns None for a tautology, a clause that is true under every
 -- assignment. False constants and repeated literals are left out; a true constant, or a literal whose
 -- opposite is in lits, makes the clause a tautology.
-unfoldable pub simplified : List ℤ → List Raw → Option (List ℤ)
+unfoldable pub simplified : List ℤ → List RawLit → Option (List ℤ)
 simplified lits [] = Some lits
 simplified lits (Fixed true ∷ raws) = None
 simplified lits (Fixed false ∷ raws) = simplified lits raws
@@ -28,11 +28,11 @@ listed (Some lits) = lits ∷ []
 -- The clauses that a raw clause adds to the formula: one, or none for a tautology.
 -- Example: "variable 4 is 1, or false, or variable 2 is 0, or variable 4 is 1" gives the one clause 4, -2;
 -- "variable 4 is 1, or variable 4 is 0" gives none.
-unfoldable pub written : List Raw → List (List ℤ)
+unfoldable pub written : List RawLit → List (List ℤ)
 written raws = listed (simplified [] raws)
 
 -- the variable of a raw literal is one of 1 to vars
-unfoldable pub IsWithin : ℕ → Raw → Type 0
+unfoldable pub IsWithin : ℕ → RawLit → Type 0
 IsWithin vars (Fixed bit) = Unit {0}
 IsWithin vars (Var v bit) = (1 ≤ v) × (v ≤ vars)
 

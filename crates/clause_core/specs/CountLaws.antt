@@ -4,7 +4,7 @@ use Rattle.std.specs.List.{range_with_len, flat_map}
 use Rattle.std.proofs.Common.{arith, length-append}
 use Rattle.std.proofs.Math.Nat.{mul-le-mul_left, mul-le-mul_right}
 use Rattle.std.proofs.lemmas.List.Elements.{All-nil, All-append}
-use Rattle.clause_core.specs.declared.raw.Raw.{Raw}
+use Rattle.clause_core.specs.declared.raw.RawLit.{RawLit}
 use Rattle.clause_core.specs.Clauses.{simplified, listed, written}
 
 -- ---- lists made of pieces over a range
@@ -12,7 +12,9 @@ use Rattle.clause_core.specs.Clauses.{simplified, listed, written}
 -- what holds of the elements of each piece holds of all
 pub flat_map-each : {X : Type 0} (P : X → Type 0) (f : ℕ → List X) (a n : ℕ) → ((x : ℕ) → a ≤ x → x < a + n → All P (f x)) → All P (flat_map f (range_with_len a n))
 flat_map-each {X} P f a zero each = All-nil P
-flat_map-each {X} P f a (suc n) each = All-append P (f a) (flat_map f (range_with_len (a + 1) n)) (each a (omega arith) (omega arith)) (flat_map-each P f (a + 1) n (λ x low high. each x (omega arith) (omega arith)))
+flat_map-each {X} P f a (suc n) each = All-append P (f a) (flat_map f (range_with_len (a + 1) n))
+    (each a (omega arith) (omega arith)) (flat_map-each P f (a + 1) n (λ x low high.
+    each x (omega arith) (omega arith)))
 
 -- pieces of at most k elements, n of them, have at most n * k elements
 pub flat_map-few : {X : Type 0} (f : ℕ → List X) (k a n : ℕ) → ((x : ℕ) → a ≤ x → x < a + n → length (f x) ≤ k) → length (flat_map f (range_with_len a n)) ≤ n * k
@@ -35,7 +37,7 @@ listed-few : (o : Option (List ℤ)) → length (listed o) ≤ 1
 listed-few None = omega arith
 listed-few (Some lits) = omega arith
 
-pub written-few : (raws : List Raw) → length (written raws) ≤ 1
+pub written-few : (raws : List RawLit) → length (written raws) ≤ 1
 unfolding written
 written-few raws = listed-few (simplified [] raws)
 

@@ -1,6 +1,8 @@
 -- Truth of clauses as a bit; a simplified clause has the truth value of its raw clause, and a list
 -- comprehension of clauses is true where all its members are.
-use Rattle.std.proofs.Common.{◌≡◌, ◌⊎◌, ℕ, zero, suc, ◌+◌, ◌-◌, ◌<◌, ◌≤◌, Bool, true, false, not, ◌&&◌, ◌||◌, List, [], ◌∷◌, ◌++◌, map, get_or, Option, Some, None, Contains, refl, sym, ap, ◌∙◌, subst, arith, inl, inr, ⊎_elim}
+use Rattle.std.proofs.Common.{◌≡◌, ◌⊎◌, ℕ, zero, suc, ◌+◌, ◌-◌, ◌<◌, ◌≤◌, Bool, true, false, not, ◌&&◌, ◌||◌, List, []}
+use Rattle.std.proofs.Common.{◌∷◌, ◌++◌, map, get_or, Option, Some, None, Contains, refl, sym, ap, ◌∙◌, subst, arith}
+use Rattle.std.proofs.Common.{inl, inr, ⊎_elim}
 use Rattle.std.specs.Prelude.{ℤ, if◌then◌else◌}
 use Rattle.std.specs.List.{list_any, list_all, flat_map, filter, range_with_len}
 use Rattle.std.specs.Ordering.{int_eq}
@@ -11,8 +13,8 @@ use Rattle.std.proofs.lemmas.List.Folds.{list_all-append, list_any-append, Any-f
 use Rattle.std.proofs.lemmas.List.Elements.{Contains-get_or, All-contains, Contains-append_left, Contains-append_right, Contains-append_cases}
 use Rattle.std.proofs.lemmas.List.FromFn.{length-range_with_len, get_or-range_with_len}
 use Rattle.sat_theory.specs.Formula.{signed, Formula, Assignment, literal_value, IsTrueClause, Satisfies}
-use Rattle.clause_core.specs.declared.raw.Raw.{Raw}
-use Rattle.clause_core.specs.declared.raw.Raw.TheVariants.{Fixed, Var}
+use Rattle.clause_core.specs.declared.raw.RawLit.{RawLit}
+use Rattle.clause_core.specs.declared.raw.RawLit.TheVariants.{Fixed, Var}
 use Rattle.clause_core.specs.Clauses.{has, simplified, listed, written}
 
 -- ---- lists
@@ -155,20 +157,20 @@ unfoldable pub same : Bool → Bool → Bool
 same bit true = bit
 same bit false = not bit
 
-unfoldable pub raw_value : Assignment → Raw → Bool
+unfoldable pub raw_value : Assignment → RawLit → Bool
 raw_value v (Fixed bit) = bit
 raw_value v (Var x bit) = same (v x) bit
 
 -- one of the raw literals is true
-unfoldable pub raws_bit : Assignment → List Raw → Bool
+unfoldable pub raws_bit : Assignment → List RawLit → Bool
 raws_bit v raws = list_any (raw_value v) raws
 
 -- variables are numbered from 1
-abbrev pub IsPositive : Raw → Type 0
+abbrev pub IsPositive : RawLit → Type 0
 IsPositive (Fixed bit) = Unit {0}
 IsPositive (Var x bit) = 1 ≤ x
 
-abbrev pub ArePositive : List Raw → Type 0
+abbrev pub ArePositive : List RawLit → Type 0
 ArePositive [] = Unit {0}
 ArePositive (raw ∷ raws) = IsPositive raw × ArePositive raws
 
@@ -207,28 +209,32 @@ there_already true x rest e = refl
 there_already false true rest e = absurd (let bad = e refl in cc)
 there_already false false rest e = refl
 
-put_behind : (c x rest : Bool) → ((c || (x || false)) || rest) ≡ (c || (x || rest))
-put_behind true x rest = refl
-put_behind false true rest = refl
-put_behind false false rest = refl
+put_after : (c x rest : Bool) → ((c || (x || false)) || rest) ≡ (c || (x || rest))
+put_after true x rest = refl
+put_after false true rest = refl
+put_after false false rest = refl
 
 true_there : (c rest : Bool) → true ≡ (c || (true || rest))
 true_there true rest = refl
 true_there false rest = refl
 
 -- A simplified clause is true exactly where the raw clause is; a tautology counts as true.
-simplified_bit : (v : Assignment) (raws : List Raw) (lits : List ℤ) → ArePositive raws → option_bit v (simplified lits raws) ≡ (clause_bit v lits || raws_bit v raws)
+simplified_bit : (v : Assignment) (raws : List RawLit) (lits : List ℤ) → ArePositive raws → option_bit v (simplified lits raws) ≡ (clause_bit v lits || raws_bit v raws)
 unfolding simplified raws_bit raw_value
 simplified_bit v [] lits positive = grind (arith, common_steps)
 simplified_bit v (Fixed true ∷ raws) lits positive = true_there (clause_bit v lits) (raws_bit v raws)
 simplified_bit v (Fixed false ∷ raws) lits positive = simplified_bit v raws lits positive.1
 simplified_bit v (Var x bit ∷ raws) lits positive =
-    ⊎_elim (λ (e : has lits (signed x (not bit)) ≡ true). rw e (opposite_there (clause_bit v lits) (v x) bit (raws_bit v raws) (λ t. has_bit v lits (signed x (not bit)) e (signed_value v x (not bit) positive.0 ∙ t))))
+    ⊎_elim (λ (e : has lits (signed x (not bit)) ≡ true).
+    rw e (opposite_there (clause_bit v lits) (v x) bit (raws_bit v raws)
+    (λ t. has_bit v lits (signed x (not bit)) e (signed_value v x (not bit) positive.0 ∙ t))))
     (λ (e : has lits (signed x (not bit)) ≡ false). rw e (⊎_elim
-    (λ (e : has lits (signed x bit) ≡ true). rw e (simplified_bit v raws lits positive.1 ∙ there_already (clause_bit v lits) (same (v x) bit) (raws_bit v raws) (λ t. has_bit v lits (signed x bit) e (signed_value v x bit positive.0 ∙ t))))
+    (λ (e : has lits (signed x bit) ≡ true). rw e (simplified_bit v raws lits positive.1
+    ∙ there_already (clause_bit v lits) (same (v x) bit) (raws_bit v raws)
+    (λ t. has_bit v lits (signed x bit) e (signed_value v x bit positive.0 ∙ t))))
     (λ (e : has lits (signed x bit) ≡ false). rw e (simplified_bit v raws (lits ++ signed x bit ∷ []) positive.1
     ∙ ap (λ (c : Bool). c || raws_bit v raws) (pushed_bit v lits (signed x bit) ∙ ap (λ (c : Bool). clause_bit v lits || (c || false)) (signed_value v x bit positive.0))
-    ∙ put_behind (clause_bit v lits) (same (v x) bit) (raws_bit v raws)))
+    ∙ put_after (clause_bit v lits) (same (v x) bit) (raws_bit v raws)))
     (cases_Bool (has lits (signed x bit)))))
     (cases_Bool (has lits (signed x (not bit))))
 
@@ -242,32 +248,32 @@ unfolding clause_bit
 nothing_more v rest = refl
 
 -- The clauses that a raw clause adds are true exactly where it is.
-pub holds-written : (v : Assignment) (raws : List Raw) → ArePositive raws → holds v (written raws) ≡ raws_bit v raws
+pub holds-written : (v : Assignment) (raws : List RawLit) → ArePositive raws → holds v (written raws) ≡ raws_bit v raws
 unfolding written
 holds-written v raws positive = listed_bit v (simplified [] raws) ∙ simplified_bit v raws [] positive ∙ nothing_more v (raws_bit v raws)
 
 -- a clause of two parts
-pub raws_bit-append : (v : Assignment) (xs ys : List Raw) → raws_bit v (xs ++ ys) ≡ (raws_bit v xs || raws_bit v ys)
+pub raws_bit-append : (v : Assignment) (xs ys : List RawLit) → raws_bit v (xs ++ ys) ≡ (raws_bit v xs || raws_bit v ys)
 unfolding raws_bit
 raws_bit-append v xs ys = list_any-append (raw_value v) xs ys
 
-pub raws_make : (v : Assignment) (raws : List Raw) (raw : Raw) → Contains raws raw → raw_value v raw ≡ true → raws_bit v raws ≡ true
+pub raws_make : (v : Assignment) (raws : List RawLit) (raw : RawLit) → Contains raws raw → raw_value v raw ≡ true → raws_bit v raws ≡ true
 unfolding raws_bit
 raws_make v raws raw c true_ = any_make (raw_value v) raws raw c true_
 
-pub positive-append : (xs ys : List Raw) → ArePositive xs → ArePositive ys → ArePositive (xs ++ ys)
+pub positive-append : (xs ys : List RawLit) → ArePositive xs → ArePositive ys → ArePositive (xs ++ ys)
 positive-append [] ys one two = two
 positive-append (x ∷ xs) ys one two = (one.0, positive-append xs ys one.1 two)
 
-pub positive-flat_map : {X : Type 0} (f : X → List Raw) (xs : List X) → ((x : X) → Contains xs x → ArePositive (f x)) → ArePositive (flat_map f xs)
+pub positive-flat_map : {X : Type 0} (f : X → List RawLit) (xs : List X) → ((x : X) → Contains xs x → ArePositive (f x)) → ArePositive (flat_map f xs)
 positive-flat_map f [] each = tt
 positive-flat_map f (x ∷ xs) each = positive-append (f x) (flat_map f xs) (each x (contains_head x xs)) (positive-flat_map f xs (λ y c. each y (contains_tail x y xs c)))
 
 -- a clause over a list
-pub raws_bit-map : {X : Type 0} (v : Assignment) (f : X → Raw) (xs : List X) → raws_bit v (map f xs) ≡ list_any (λ x. raw_value v (f x)) xs
+pub raws_bit-map : {X : Type 0} (v : Assignment) (f : X → RawLit) (xs : List X) → raws_bit v (map f xs) ≡ list_any (λ x. raw_value v (f x)) xs
 unfolding raws_bit
 raws_bit-map v f xs = list_any-map (raw_value v) f xs
 
-pub positive-map : {X : Type 0} (f : X → Raw) (xs : List X) → ((x : X) → Contains xs x → IsPositive (f x)) → ArePositive (map f xs)
+pub positive-map : {X : Type 0} (f : X → RawLit) (xs : List X) → ((x : X) → Contains xs x → IsPositive (f x)) → ArePositive (map f xs)
 positive-map f [] each = tt
 positive-map f (x ∷ xs) each = (each x (contains_head x xs), positive-map f xs (λ y c. each y (contains_tail x y xs c)))

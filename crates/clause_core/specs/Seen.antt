@@ -1,12 +1,12 @@
 -- A clause during simplification: its literals so far, and the signs of their variables.
 use Rattle.std.specs.Prelude.{◌≡◌, ℕ, ◌+◌, ◌≤◌, ◌<◌, ℤ, Bool, true, false, not, List, Option, Some, None, All, length, slice_index_or, if◌then◌else◌}
 use Rattle.sat_theory.specs.Formula.{signed, variable, Formula, IsFormula}
-use Rattle.clause_core.specs.declared.raw.Raw.{Raw}
+use Rattle.clause_core.specs.declared.raw.RawLit.{RawLit}
 use Rattle.clause_core.specs.Clauses.{has, simplified}
 
 -- the result for the literals so far and the raw ones still to come, or None if the clause was found to be a
 -- tautology
-abbrev pub going : Bool → List ℤ → List Raw → Option (List ℤ)
+abbrev pub going : Bool → List ℤ → List RawLit → Option (List ℤ)
 going true lits raws = simplified lits raws
 going false lits raws = None
 

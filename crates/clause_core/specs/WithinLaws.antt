@@ -1,7 +1,7 @@
 -- Raw literals whose variables are within the formula's.
 use Rattle.std.proofs.Common.{◌≡◌, ℕ, ◌≤◌, Bool, List, [], ◌∷◌, ◌++◌, All}
 use Rattle.std.proofs.lemmas.List.Elements.{All-nil, All-cons, All-push}
-use Rattle.clause_core.specs.declared.raw.Raw.TheVariants.{Var}
+use Rattle.clause_core.specs.declared.raw.RawLit.TheVariants.{Var}
 use Rattle.clause_core.specs.Clauses.{IsWithin}
 
 pub within_var : (vars v : ℕ) (bit : Bool) → 1 ≤ v → v ≤ vars → IsWithin vars (Var v bit)

@@ -1,6 +1,7 @@
 -- A simplified clause is a clause of the formula: its variables are different and within the number of
 -- variables.
-use Rattle.std.proofs.Common.{◌≡◌, ◌≢◌, ◌⊎◌, ℕ, zero, suc, ◌<◌, ◌≤◌, Bool, true, false, not, List, [], ◌∷◌, ◌++◌, map, get_or, Option, Some, None, Contains, refl, sym, ap, ◌∙◌, subst, arith, inl, inr, ⊎_elim}
+use Rattle.std.proofs.Common.{◌≡◌, ◌≢◌, ◌⊎◌, ℕ, zero, suc, ◌<◌, ◌≤◌, Bool, true, false, not, List, [], ◌∷◌, ◌++◌, map}
+use Rattle.std.proofs.Common.{get_or, Option, Some, None, Contains, refl, sym, ap, ◌∙◌, subst, arith, inl, inr, ⊎_elim}
 use Rattle.std.specs.Prelude.{ℤ, pos, negsuc}
 use Rattle.std.specs.List.{flat_map}
 use Rattle.std.specs.Ordering.{int_eq}
@@ -9,21 +10,21 @@ use Rattle.std.proofs.lemmas.Bool.Decides.{Decides-int_eq}
 use Rattle.std.proofs.lemmas.List.Elements.{All-nil, All-push, Contains-get_or, Contains-append_cases}
 use Rattle.std.proofs.lemmas.List.Quantifiers.{all_pairs_push}
 use Rattle.sat_theory.specs.Formula.{signed, variable, IsClause, IsWithin, Formula, IsFormula}
-use Rattle.clause_core.specs.declared.raw.Raw.{Raw}
-use Rattle.clause_core.specs.declared.raw.Raw.TheVariants.{Fixed, Var}
+use Rattle.clause_core.specs.declared.raw.RawLit.{RawLit}
+use Rattle.clause_core.specs.declared.raw.RawLit.TheVariants.{Fixed, Var}
 use Rattle.clause_core.specs.Clauses.{has, simplified, listed, written}
 use Rattle.clause_core.specs.Holds.{any_make, contains_head, contains_tail, contains_cases, flat_map_get}
 
 -- the variable of a raw literal is one of 1 to vars
-abbrev pub IsOf : ℕ → Raw → Type 0
+abbrev pub IsOf : ℕ → RawLit → Type 0
 IsOf vars (Fixed bit) = Unit {0}
 IsOf vars (Var x bit) = (1 ≤ x) × (x ≤ vars)
 
-abbrev pub AreOf : ℕ → List Raw → Type 0
+abbrev pub AreOf : ℕ → List RawLit → Type 0
 AreOf vars [] = Unit {0}
 AreOf vars (raw ∷ raws) = IsOf vars raw × AreOf vars raws
 
-pub are_of-map : {X : Type 0} (vars : ℕ) (f : X → Raw) (xs : List X) → ((x : X) → Contains xs x → IsOf vars (f x)) → AreOf vars (map f xs)
+pub are_of-map : {X : Type 0} (vars : ℕ) (f : X → RawLit) (xs : List X) → ((x : X) → Contains xs x → IsOf vars (f x)) → AreOf vars (map f xs)
 are_of-map vars f [] each = tt
 are_of-map vars f (x ∷ xs) each = (each x (contains_head x xs), are_of-map vars f xs (λ y c. each y (contains_tail x y xs c)))
 
@@ -52,7 +53,8 @@ sign_absent lits x true e e' = (e, e')
 sign_absent lits x false e e' = (e', e)
 
 -- a variable neither literal of which is among lits differs from those of lits
-new_variable : (lits : List ℤ) (x : ℕ) (bit : Bool) (other : ℤ) → has lits (signed x bit) ≡ false → has lits (signed x (not bit)) ≡ false → Contains lits other → variable other ≢ variable (signed x bit)
+new_variable : (lits : List ℤ) (x : ℕ) (bit : Bool) (other : ℤ) → has lits (signed x bit) ≡ false →
+    has lits (signed x (not bit)) ≡ false → Contains lits other → variable other ≢ variable (signed x bit)
 new_variable lits x bit other e e' c = λ same.
     let is : variable other ≡ x = same ∙ signed_variable x bit in
     let (none_true, none_false) = sign_absent lits x bit e e' in
@@ -61,7 +63,8 @@ new_variable lits x bit other e e' c = λ same.
     (λ (s : other ≡ signed (variable other) false). absent lits (signed x false) other c none_false (sym (s ∙ ap (λ (y : ℕ). signed y false) is)))
     (which_sign other)
 
-pushed_clause : (vars : ℕ) (lits : List ℤ) (x : ℕ) (bit : Bool) → 1 ≤ x → x ≤ vars → has lits (signed x bit) ≡ false → has lits (signed x (not bit)) ≡ false → IsClauseOf vars lits → IsClauseOf vars (lits ++ signed x bit ∷ [])
+pushed_clause : (vars : ℕ) (lits : List ℤ) (x : ℕ) (bit : Bool) → 1 ≤ x → x ≤ vars → has lits (signed x bit) ≡ false →
+    has lits (signed x (not bit)) ≡ false → IsClauseOf vars lits → IsClauseOf vars (lits ++ signed x bit ∷ [])
 pushed_clause vars lits x bit some low e e' is = record {
   clause = record {
     literals = All-push (λ l. 0 < variable l) lits (signed x bit) is.clause.literals (rw (signed_variable x bit) (omega arith));
@@ -74,7 +77,7 @@ abbrev IsClauseIf : ℕ → Option (List ℤ) → Type 0
 IsClauseIf vars None = Unit {0}
 IsClauseIf vars (Some lits) = IsClauseOf vars lits
 
-simplified_clause : (vars : ℕ) (raws : List Raw) (lits : List ℤ) → AreOf vars raws → IsClauseOf vars lits → IsClauseIf vars (simplified lits raws)
+simplified_clause : (vars : ℕ) (raws : List RawLit) (lits : List ℤ) → AreOf vars raws → IsClauseOf vars lits → IsClauseIf vars (simplified lits raws)
 unfolding simplified
 simplified_clause vars [] lits are is = is
 simplified_clause vars (Fixed true ∷ raws) lits are is = tt
@@ -100,7 +103,7 @@ listed_clauses vars (Some lits) is = record {
   each = λ other c. ⊎_elim (λ (e : lits ≡ other). subst (IsClauseOf vars) e is) (λ (none : Contains [] other). absurd (omega (arith, none.1))) (contains_cases lits other [] c);
 }
 
-pub written_clauses : (vars : ℕ) (raws : List Raw) → AreOf vars raws → AreClauses vars (written raws)
+pub written_clauses : (vars : ℕ) (raws : List RawLit) → AreOf vars raws → AreClauses vars (written raws)
 unfolding written
 written_clauses vars raws are = listed_clauses vars (simplified [] raws) (simplified_clause vars raws [] are record {
   clause = record { literals = All-nil (λ l. 0 < variable l); differ = λ i j d low high. absurd (omega arith) };

@@ -23,4 +23,4 @@ mod list;
 mod raw;
 
 pub use list::ClauseList;
-pub use raw::Raw;
+pub use raw::RawLit;

@@ -4,12 +4,12 @@
 //! linear in the number of its raw literals.
 ghost use Rattle.std.specs.Prelude.{◌≡◌, ◌<◌, ◌≤◌, ◌-◌, ◌^◌, List, [], ◌∷◌, ◌++◌, length, All, IfOk, OnOk, OnErr};
 ghost use Rattle.sat_theory.specs.Formula.{IsClause};
-ghost use Rattle.clause_core.specs.declared.raw.Raw.{Raw};
-ghost use Rattle.clause_core.specs.declared.raw.Raw.TheVariants.{Var};
+ghost use Rattle.clause_core.specs.declared.raw.RawLit.{RawLit};
+ghost use Rattle.clause_core.specs.declared.raw.RawLit.TheVariants.{Var};
 ghost use Rattle.clause_core.specs.Clauses.{simplified, written, IsWithin};
 ghost use Rattle.clause_core.specs.Seen.{IsSeen, IsBlank, going, found};
 
-use crate::Raw;
+use crate::RawLit;
 use cnf_core::{Clause, Cnf, Lit};
 use std::alloc::{AllocError, Global};
 use std::marker::Model;
@@ -25,7 +25,8 @@ fn add_literal(
     requires clause { IsClause lits.old.items }
     requires seen { IsSeen seen.old lits.old.items }
     requires variable { (1 ≤ variable) × (variable < length seen.old) × (length seen.old < 2 ^ 31) }
-    ensures same { IfOk result (λ more. (raws : List Raw) → simplified lits.old.items (Var variable bit ∷ raws) ≡ going more lits.new.items raws) }
+    ensures same { IfOk result (λ more. (raws : List RawLit) → simplified lits.old.items (Var variable bit ∷ raws) ≡
+        going more lits.new.items raws) }
     ensures clause { IsClause lits.new.items }
     ensures seen { IsSeen seen.new lits.new.items }
 {
@@ -41,25 +42,30 @@ fn add_literal(
 
 /// Adds a raw literal to a clause. Returns false if the clause is a tautology.
 #[tactic(auto, using(crate::proofs::Simplified::constants), unfolding(crate::specs::Clauses::IsWithin))]
-fn add(lits: &mut Vec<Lit>, seen: &mut [Option<bool>], raw: Raw) -> Result<bool, AllocError>
+fn add(lits: &mut Vec<Lit>, seen: &mut [Option<bool>], raw: RawLit) -> Result<bool, AllocError>
     requires clause { IsClause lits.old.items }
     requires seen { IsSeen seen.old lits.old.items }
     requires room { (1 ≤ length seen.old) × (length seen.old < 2 ^ 31) }
     requires variable { IsWithin (length seen.old - 1) raw }
-    ensures same { IfOk result (λ more. (raws : List Raw) → simplified lits.old.items (raw ∷ raws) ≡ going more lits.new.items raws) }
+    ensures same { IfOk result (λ more. (raws : List RawLit) →
+        simplified lits.old.items (raw ∷ raws) ≡ going more lits.new.items raws) }
     ensures clause { IsClause lits.new.items }
     ensures seen { IsSeen seen.new lits.new.items }
 {
     match raw {
-        Raw::Fixed(bit) => Ok(!bit),
-        Raw::Var(variable, bit) => add_literal(lits, seen, variable, bit),
+        RawLit::Fixed(bit) => Ok(!bit),
+        RawLit::Var(variable, bit) => add_literal(lits, seen, variable, bit),
     }
 }
 
 /// Simplifies a raw clause into an empty list of literals. Returns false if it is a tautology; the list is of
 /// no use then.
 #[tactic(auto, using(crate::proofs::Simplified::constants))]
-fn gather(lits: &mut Vec<Lit>, seen: &mut [Option<bool>], raws: &[Raw]) -> Result<bool, AllocError>
+fn gather(
+    lits: &mut Vec<Lit>,
+    seen: &mut [Option<bool>],
+    raws: &[RawLit],
+) -> Result<bool, AllocError>
     requires none { lits.old.items ≡ [] }
     requires blank { IsBlank seen.old }
     requires room { (1 ≤ length seen.old) × (length seen.old < 2 ^ 31) }
@@ -79,7 +85,7 @@ fn gather(lits: &mut Vec<Lit>, seen: &mut [Option<bool>], raws: &[Raw]) -> Resul
 }
 
 /// Clears the entries of the literals' variables in `seen`.
-fn forget(seen: &mut [Option<bool>], lits: &[Lit])
+fn clear_seen(seen: &mut [Option<bool>], lits: &[Lit])
     requires { IsSeen seen.old lits.now }
     ensures { IsBlank seen.new }
 {
@@ -126,14 +132,14 @@ impl ClauseList {
     /// Simplifies a raw clause and adds it: false constants and repeated literals are left out. If it is a
     /// tautology, with a true constant or a literal and its opposite, nothing is added.
     #[tactic(auto, unfolding(crate::specs::Clauses::written))]
-    pub fn push(&mut self, alloc: Global, raws: &[Raw]) -> Result<(), AllocError>
+    pub fn push(&mut self, alloc: Global, raws: &[RawLit]) -> Result<(), AllocError>
         requires { All (IsWithin self.old.vars) raws.now }
         ensures written { OnOk result (self.new ≡ record self.old { clauses = self.old.clauses ++ written raws.now }) }
         ensures unchanged { OnErr result (self.new ≡ self.old) }
     {
         let mut lits = Vec::with_capacity(alloc, raws.len())?;
         let whole = gather(&mut lits, &mut self.seen, raws);
-        forget(&mut self.seen, &lits);
+        clear_seen(&mut self.seen, &lits);
         if whole? {
             self.clauses.push(Clause::new(lits))?;
         }

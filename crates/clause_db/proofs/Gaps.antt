@@ -6,21 +6,21 @@ use Rattle.std.proofs.Math.Logic.{⊎_elim}
 use Rattle.std.proofs.lemmas.Bool.{cases_eq, cases_lt, ne_eqb}
 use Rattle.std.proofs.lemmas.List.{length-map, length-set, length-take-le, get_or-take, get_or-map, get_or-set_same, get_or-set_other, get_or_default, same_lists}
 use Rattle.sat_theory.specs.Formula.{variable}
-use Rattle.clause_db.specs.BlockRanges.{Blocked, Range, count_at, number_at, range_at, ranges_of, list_in, lists_in, end_before, AreIds, AreRanges, AreLaid}
+use Rattle.clause_db.specs.ArenaRanges.{ArenaState, Range, count_at, number_at, range_at, ranges_of, list_in, lists_in, end_before, AreIds, AreRanges, AreLaid}
 use Rattle.clause_db.proofs.Ranges.{range_long, range_read, range_same}
-use Rattle.clause_db.proofs.Starts.{shown, start_at, range_of, room_of, headed_at, inside_at, behind_at, lists_room, id_at_start, read_count}
+use Rattle.clause_db.proofs.Starts.{shown, start_at, range_of, room_of, headed_at, inside_at, after_at, lists_room, id_at_start, read_count}
 
 -- The invariant, by the starts.
 record AreApart (row : List ℤ) (starts : List ℕ) : Type 0 where
   headed : (k : ℕ) → k < length starts → 1 < start_at starts k
   inside : (k : ℕ) → k < length starts → start_at starts k + count_at row (start_at starts k) ≤ length row
-  behind : (i k : ℕ) → i < k → k < length starts → start_at starts i + count_at row (start_at starts i) + 1 < start_at starts k
+  following : (i k : ℕ) → i < k → k < length starts → start_at starts i + count_at row (start_at starts i) + 1 < start_at starts k
 
 apart_ranges : (row : List ℤ) (starts : List ℕ) → AreApart row starts → AreRanges row (ranges_of row starts)
 apart_ranges row starts are = record {
   headed = λ k d low. subst (λ (r : Range). 1 < r.start) (sym (range_of row starts k d (at k low))) (are.headed k (at k low));
   inside = λ k d low. subst (λ (r : Range). (r.start ≤ r.end) × (r.end ≤ length row)) (sym (range_of row starts k d (at k low))) (omega arith, are.inside k (at k low));
-  behind = λ i k d order low. rw (range_of row starts i d (omega (arith, order, at k low)), range_of row starts k d (at k low)) (are.behind i k order (at k low));
+  following = λ i k d order low. rw (range_of row starts i d (omega (arith, order, at k low)), range_of row starts k d (at k low)) (are.following i k order (at k low));
 }
   where
     at : (k : ℕ) → k < length (ranges_of row starts) → k < length starts
@@ -39,28 +39,33 @@ pub record AreMoved (row new : List ℤ) (starts news : List ℕ) : Type 0 where
   pub headed : (k : ℕ) → k < length starts → 1 < start_at news k
   pub same : (k j : ℕ) (d : ℤ) → k < length starts → j < count_at row (start_at starts k) + 2 → slice_index_or new (start_at news k - 2 + j) d ≡ slice_index_or row (start_at starts k - 2 + j) d
   pub inside : (k : ℕ) → k < length starts → start_at news k + count_at row (start_at starts k) ≤ length new
-  pub behind : (i k : ℕ) → i < k → k < length starts → start_at news i + count_at row (start_at starts i) + 1 < start_at news k
+  pub following : (i k : ℕ) → i < k → k < length starts → start_at news i + count_at row (start_at starts i) + 1 < start_at news k
 
-moved_count : (row new : List ℤ) (starts news : List ℕ) (k : ℕ) → AreRanges row (ranges_of row starts) → AreMoved row new starts news → k < length starts → count_at new (start_at news k) ≡ count_at row (start_at starts k)
+moved_count : (row new : List ℤ) (starts news : List ℕ) (k : ℕ) → AreRanges row (ranges_of row starts) →
+    AreMoved row new starts news → k < length starts → count_at new (start_at news k) ≡ count_at row (start_at starts k)
 moved_count row new starts news k are moved low =
     let new_head : 1 < start_at news k = moved.headed k low in
     let head : 1 < start_at starts k = headed_at row starts k are low in
     let there : start_at news k - 1 ≡ start_at news k - 2 + 1 = omega (arith, new_head) in
     let here : start_at starts k - 2 + 1 ≡ start_at starts k - 1 = omega (arith, head) in
-    ap (λ (n : ℕ). variable (slice_index_or new n (pos 1)) - 1) there ∙ ap (λ (l : ℤ). variable l - 1) (moved.same k 1 (pos 1) low (omega arith)) ∙ ap (λ (n : ℕ). variable (slice_index_or row n (pos 1)) - 1) here
+    ap (λ (n : ℕ). variable (slice_index_or new n (pos 1)) - 1) there
+    ∙ ap (λ (l : ℤ). variable l - 1) (moved.same k 1 (pos 1) low (omega arith))
+    ∙ ap (λ (n : ℕ). variable (slice_index_or row n (pos 1)) - 1) here
 
 moved_number : (row new : List ℤ) (starts news : List ℕ) (k : ℕ) → AreMoved row new starts news → k < length starts → number_at new (start_at news k) ≡ number_at row (start_at starts k)
 moved_number row new starts news k moved low =
     let there : start_at news k - 2 ≡ start_at news k - 2 + 0 = omega arith in
     let here : start_at starts k - 2 + 0 ≡ start_at starts k - 2 = omega arith in
-    ap (λ (n : ℕ). variable (slice_index_or new n (pos 1)) - 1) there ∙ ap (λ (l : ℤ). variable l - 1) (moved.same k 0 (pos 1) low (omega arith)) ∙ ap (λ (n : ℕ). variable (slice_index_or row n (pos 1)) - 1) here
+    ap (λ (n : ℕ). variable (slice_index_or new n (pos 1)) - 1) there
+    ∙ ap (λ (l : ℤ). variable l - 1) (moved.same k 0 (pos 1) low (omega arith))
+    ∙ ap (λ (n : ℕ). variable (slice_index_or row n (pos 1)) - 1) here
 
 moved_laid : (row new : List ℤ) (starts news : List ℕ) → AreLaid row starts → AreMoved row new starts news → AreLaid new news
 moved_laid row new starts news laid moved = (
   apart_ranges new news (record {
     headed = λ k low. moved.headed k (at k low);
     inside = λ k low. rw (moved_count row new starts news k laid.0 moved (at k low)) (moved.inside k (at k low));
-    behind = λ i k order low. rw (moved_count row new starts news i laid.0 moved (omega (arith, order, at k low))) (moved.behind i k order (at k low));
+    following = λ i k order low. rw (moved_count row new starts news i laid.0 moved (omega (arith, order, at k low))) (moved.following i k order (at k low));
   }),
   λ k low. moved_number row new starts news k moved (at k low) ∙ laid.1 k (at k low),
 )
@@ -68,9 +73,13 @@ moved_laid row new starts news laid moved = (
     at : (k : ℕ) → k < length news → k < length starts
     at k low = omega (arith, low, moved.long)
 
-moved_list : (row new : List ℤ) (starts news : List ℕ) (k : ℕ) → AreRanges row (ranges_of row starts) → AreMoved row new starts news → k < length starts → list_in new (range_at new (start_at news k)) ≡ list_in row (range_at row (start_at starts k))
+moved_list : (row new : List ℤ) (starts news : List ℕ) (k : ℕ) → AreRanges row (ranges_of row starts) →
+    AreMoved row new starts news → k < length starts → list_in new (range_at new (start_at news k)) ≡
+    list_in row (range_at row (start_at starts k))
 moved_list row new starts news k are moved low =
-    ap (λ (n : ℕ). slice_range new t (t + n)) (moved_count row new starts news k are moved low) ∙ same_lists (slice_range new t (t + c)) (slice_range row s (s + c)) (long_new ∙ sym long_old) (λ j d at. one j d (omega (arith, at, long_new)))
+    ap (λ (n : ℕ). slice_range new t (t + n)) (moved_count row new starts news k are moved low)
+    ∙ same_lists (slice_range new t (t + c)) (slice_range row s (s + c)) (long_new
+    ∙ sym long_old) (λ j d at. one j d (omega (arith, at, long_new)))
   where
     s : ℕ
     s = start_at starts k
@@ -93,28 +102,37 @@ moved_list row new starts news k are moved low =
         let head : 1 < s = headed_at row starts k are low in
         let there : t + j ≡ t - 2 + (j + 2) = omega (arith, new_head) in
         let here : s - 2 + (j + 2) ≡ s + j = omega (arith, head) in
-        range_read new t (t + c) j d (omega (arith, within)) ∙ ap (λ (n : ℕ). slice_index_or new n d) there ∙ moved.same k (j + 2) d low (omega (arith, within)) ∙ ap (λ (n : ℕ). slice_index_or row n d) here ∙ sym (range_read row s (s + c) j d (omega (arith, within)))
+        range_read new t (t + c) j d (omega (arith, within)) ∙ ap (λ (n : ℕ). slice_index_or new n d) there
+        ∙ moved.same k (j + 2) d low (omega (arith, within)) ∙ ap (λ (n : ℕ). slice_index_or row n d) here
+        ∙ sym (range_read row s (s + c) j d (omega (arith, within)))
 
 moved_lists : (row new : List ℤ) (starts news : List ℕ) → AreRanges row (ranges_of row starts) → AreMoved row new starts news → lists_in new (ranges_of new news) ≡ lists_in row (ranges_of row starts)
-moved_lists row new starts news are moved = same_lists (lists_in new (ranges_of new news)) (lists_in row (ranges_of row starts)) (lists_long new news ∙ moved.long ∙ sym (lists_long row starts)) (λ k d at. one k d (omega (arith, at, lists_long new news, moved.long)))
+moved_lists row new starts news are moved = same_lists (lists_in new (ranges_of new news))
+    (lists_in row (ranges_of row starts)) (lists_long new news ∙ moved.long
+    ∙ sym (lists_long row starts)) (λ k d at. one k d (omega (arith, at, lists_long new news, moved.long)))
   where
     one : (k : ℕ) (d : List ℤ) → k < length starts → slice_index_or (lists_in new (ranges_of new news)) k d ≡ slice_index_or (lists_in row (ranges_of row starts)) k d
     one k d low = list_at new news k d (omega (arith, low, moved.long)) ∙ moved_list row new starts news k are moved low ∙ sym (list_at row starts k d low)
 
 -- The length of a list, and where it ends.
-shown_count : (b : Blocked) (row : List ℤ) (starts : List ℕ) (k : ℕ) → shown row starts ≡ b → AreRanges row (ranges_of row starts) → k < length starts → length (slice_index_or b.lists k []) ≡ count_at row (start_at starts k)
+shown_count : (b : ArenaState) (row : List ℤ) (starts : List ℕ) (k : ℕ) → shown row starts ≡ b →
+    AreRanges row (ranges_of row starts) → k < length starts →
+    length (slice_index_or b.lists k []) ≡ count_at row (start_at starts k)
 shown_count b row starts k view are low =
     let s : ℕ = start_at starts k in
-    ap (λ (x : Blocked). length (slice_index_or x.lists k [])) (sym view) ∙ ap length (list_at row starts k [] low) ∙ range_long row s (s + count_at row s) (omega arith) (inside_at row starts k are low) ∙ omega arith
+    ap (λ (x : ArenaState). length (slice_index_or x.lists k [])) (sym view) ∙ ap length (list_at row starts k [] low)
+    ∙ range_long row s (s + count_at row s) (omega arith) (inside_at row starts k are low) ∙ omega arith
 
-pub end_none : (b : Blocked) → end_before b 0 ≡ 0
+pub end_none : (b : ArenaState) → end_before b 0 ≡ 0
 end_none b = refl
 
-end_next : (b : Blocked) (row : List ℤ) (starts : List ℕ) (k : ℕ) → shown row starts ≡ b → AreRanges row (ranges_of row starts) → k < length starts → end_before b (k + 1) ≡ start_at starts k + count_at row (start_at starts k)
+end_next : (b : ArenaState) (row : List ℤ) (starts : List ℕ) (k : ℕ) → shown row starts ≡ b →
+    AreRanges row (ranges_of row starts) → k < length starts →
+    end_before b (k + 1) ≡ start_at starts k + count_at row (start_at starts k)
 end_next b row starts k view are low =
     let some : (k + 1 == 0) ≡ false = ne_eqb (k + 1) 0 (λ e. omega (arith, e)) in
     let index : k + 1 - 1 ≡ k = omega arith in
-    let start : start_at b.starts k ≡ start_at starts k = ap (λ (x : Blocked). start_at x.starts k) (sym view) in
+    let start : start_at b.starts k ≡ start_at starts k = ap (λ (x : ArenaState). start_at x.starts k) (sym view) in
     rw (some, index, start, shown_count b row starts k view are low) refl
 
 -- The lists before an index end at a position or before it, two entries before the list at the index.
@@ -123,7 +141,8 @@ pub record IsEnd (row : List ℤ) (starts : List ℕ) (index end : ℕ) : Type 0
   pub room : index < length starts → end + 2 ≤ start_at starts index
   pub inside : end ≤ length row
 
-is_end : (b : Blocked) (row : List ℤ) (starts : List ℕ) (index end : ℕ) → shown row starts ≡ b → AreRanges row (ranges_of row starts) → index ≤ length starts → end ≡ end_before b index → IsEnd row starts index end
+is_end : (b : ArenaState) (row : List ℤ) (starts : List ℕ) (index end : ℕ) → shown row starts ≡ b →
+    AreRanges row (ranges_of row starts) → index ≤ length starts → end ≡ end_before b index → IsEnd row starts index end
 is_end b row starts zero end view are low is = (let none : end ≡ 0 = is ∙ end_none b in record {
   before = λ k early. absurd (omega (arith, early));
   room = λ some. (let head : 1 < start_at starts 0 = headed_at row starts 0 are some in omega (arith, head, none));
@@ -137,10 +156,11 @@ is_end b row starts (suc n) end view are low is =
       before = λ k early. ⊎_elim
           (λ (e : k ≡ n). rw e (omega (arith, end_is)))
           (λ (apart : k ≡ n → ⊥).
-          let behind : start_at starts k + count_at row (start_at starts k) + 1 < start_at starts n = behind_at row starts k n are (omega (arith, early, apart)) within in
-          omega (arith, behind, end_is))
+          let following : start_at starts k + count_at row (start_at starts k) + 1 < start_at starts n = after_at row starts k n are (omega (arith, early, apart)) within in
+          omega (arith, following, end_is))
           (cases_eq k n);
-      room = λ some. (let behind : start_at starts n + count_at row (start_at starts n) + 1 < start_at starts (suc n) = behind_at row starts n (suc n) are (omega arith) some in omega (arith, behind, end_is));
+      room = λ some. (let following : start_at starts n + count_at row (start_at starts n) + 1 < start_at starts
+          (suc n) = after_at row starts n (suc n) are (omega arith) some in omega (arith, following, end_is));
       inside = (let fine : start_at starts n + count_at row (start_at starts n) ≤ length row = inside_at row starts n are within in omega (arith, fine, end_is));
     }
 
@@ -153,13 +173,18 @@ cut_moved row starts end are last = record {
       let head : 1 < start_at starts k = headed_at row starts k are low in
       let before : start_at starts k + count_at row (start_at starts k) ≤ end = last.before k low in
       get_or-take end row (start_at starts k - 2 + j) d (omega (arith, head, before, within));
-  inside = λ k low. (let before : start_at starts k + count_at row (start_at starts k) ≤ end = last.before k low in let long : length (take end row) ≡ end = length-take-le end row last.inside in omega (arith, before, long));
-  behind = λ i k order low. behind_at row starts i k are order low;
+  inside = λ k low. (let before : start_at starts k + count_at row (start_at starts k) ≤ end = last.before k low in
+      let long : length (take end row) ≡ end = length-take-le end row last.inside in omega (arith, before, long));
+  following = λ i k order low. after_at row starts i k are order low;
 }
 
 -- A list moves down to where the one before it ends.
-down_moved : (row new : List ℤ) (starts news : List ℕ) (index end t : ℕ) → AreRanges row (ranges_of row starts) → index < length starts → IsEnd row starts index end → t ≡ end + 2 → news ≡ slice_set starts index t → length new ≡ length row
-    → CopiedTo row new (start_at starts index - 2) end (count_at row (start_at starts index) + 2) → SameBelow row new end → SameFrom row new (end + (count_at row (start_at starts index) + 2)) → AreMoved row new starts news
+down_moved : (row new : List ℤ) (starts news : List ℕ) (index end t : ℕ) → AreRanges row (ranges_of row starts) →
+    index < length starts → IsEnd row starts index end → t ≡ end + 2 → news ≡ slice_set starts index t →
+    length new ≡ length row
+    → CopiedTo row new (start_at starts index - 2) end (count_at row (start_at starts index) + 2) →
+    SameBelow row new end → SameFrom row new (end + (count_at row (start_at starts index) + 2)) →
+    AreMoved row new starts news
 down_moved row new starts news index end t are inside last to news_is long copied below from = record {
   long = ap length news_is ∙ length-set starts index t;
   headed = λ k low. ⊎_elim
@@ -171,10 +196,13 @@ down_moved row new starts news index end t are inside last to news_is long copie
       (λ (apart : k ≡ index → ⊥). other k j d low apart within)
       (cases_eq k index);
   inside = λ k low. ⊎_elim
-      (λ (e : k ≡ index). (let is : start_at news k ≡ t = at_index k e in let n : count_at row (start_at starts k) ≡ c = ap (λ (i : ℕ). count_at row (start_at starts i)) e in omega (arith, is, n, to, room, fits, long)))
-      (λ (apart : k ≡ index → ⊥). (let is : start_at news k ≡ start_at starts k = elsewhere k apart in let fine : start_at starts k + count_at row (start_at starts k) ≤ length row = inside_at row starts k are low in omega (arith, is, fine, long)))
+      (λ (e : k ≡ index). (let is : start_at news k ≡ t = at_index k e in let n : count_at row (start_at starts k) ≡
+      c = ap (λ (i : ℕ). count_at row (start_at starts i)) e in omega (arith, is, n, to, room, fits, long)))
+      (λ (apart : k ≡ index → ⊥). (let is : start_at news k ≡ start_at starts k = elsewhere k apart in
+      let fine : start_at starts k + count_at row (start_at starts k) ≤ length row =
+      inside_at row starts k are low in omega (arith, is, fine, long)))
       (cases_eq k index);
-  behind = λ i k order low. behind i k order low;
+  following = λ i k order low. following i k order low;
 }
   where
     s : ℕ
@@ -204,18 +232,22 @@ down_moved row new starts news index end t are inside last to news_is long copie
         let here : s - 2 + (end + j - end) ≡ start_at starts k - 2 + j = omega (arith, m) in
         ap (λ (i : ℕ). slice_index_or new i d) there ∙ copied (end + j) d (omega arith) (omega (arith, within, n)) ∙ ap (λ (i : ℕ). slice_index_or row i d) here
 
-    other : (k j : ℕ) (d : ℤ) → k < length starts → (k ≡ index → ⊥) → j < count_at row (start_at starts k) + 2 → slice_index_or new (start_at news k - 2 + j) d ≡ slice_index_or row (start_at starts k - 2 + j) d
+    other : (k j : ℕ) (d : ℤ) → k < length starts → (k ≡ index → ⊥) → j < count_at row (start_at starts k) + 2 →
+        slice_index_or new (start_at news k - 2 + j) d ≡ slice_index_or row (start_at starts k - 2 + j) d
     other k j d low apart within =
         let is : start_at news k ≡ start_at starts k = elsewhere k apart in
         let head : 1 < start_at starts k = headed_at row starts k are low in
         ap (λ (i : ℕ). slice_index_or new (i - 2 + j) d) is ∙ ⊎_elim
-        (λ (early : k < index). (let before : start_at starts k + count_at row (start_at starts k) ≤ end = last.before k early in below (start_at starts k - 2 + j) d (omega (arith, head, before, within))))
-        (λ (late : index ≤ k). (let behind : s + c + 1 < start_at starts k = behind_at row starts index k are (omega (arith, late, apart)) low in from (start_at starts k - 2 + j) d (omega (arith, behind, room))))
+        (λ (early : k < index). (let before : start_at starts k + count_at row (start_at starts k) ≤ end =
+        last.before k early in below (start_at starts k - 2 + j) d (omega (arith, head, before, within))))
+        (λ (late : index ≤ k). (let following : s + c + 1 < start_at starts k =
+        after_at row starts index k are (omega (arith, late, apart)) low in
+        from (start_at starts k - 2 + j) d (omega (arith, following, room))))
         (cases_lt k index)
 
-    behind : (i k : ℕ) → i < k → k < length starts → start_at news i + count_at row (start_at starts i) + 1 < start_at news k
-    behind i k order low =
-        let was : start_at starts i + count_at row (start_at starts i) + 1 < start_at starts k = behind_at row starts i k are order low in
+    following : (i k : ℕ) → i < k → k < length starts → start_at news i + count_at row (start_at starts i) + 1 < start_at news k
+    following i k order low =
+        let was : start_at starts i + count_at row (start_at starts i) + 1 < start_at starts k = after_at row starts i k are order low in
         ⊎_elim
         (λ (e : i ≡ index).
         let is_i : start_at news i ≡ t = at_index i e in
@@ -243,7 +275,9 @@ pub record IsRead (row : List ℤ) (starts : List ℕ) (index end s count : ℕ)
   pub room : end + 2 ≤ s
   pub last : IsEnd row starts index end
 
-pub start_here : (b : Blocked) (row : List ℤ) (starts : List ℕ) (index s : ℕ) → shown row starts ≡ b → AreLaid row starts → index < length b.lists → s ≡ slice_index_or starts index s → (1 < s) × (s + count_at row s ≤ length row) × (start_at starts index ≡ s) × (index < length starts)
+pub start_here : (b : ArenaState) (row : List ℤ) (starts : List ℕ) (index s : ℕ) → shown row starts ≡ b →
+    AreLaid row starts → index < length b.lists → s ≡ slice_index_or starts index s → (1 < s) ×
+    (s + count_at row s ≤ length row) × (start_at starts index ≡ s) × (index < length starts)
 start_here b row starts index s view laid low here =
     let within : index < length starts = omega (arith, low, lists_room b row starts view) in
     let at : start_at starts index ≡ s = sym (here ∙ get_or_default starts index s 0 within) in (
@@ -253,7 +287,10 @@ start_here b row starts index s view laid low here =
       within,
     )
 
-pub is_read : (b : Blocked) (row : List ℤ) (starts : List ℕ) (index end s : ℕ) (head : ℤ) (count : ℕ) → shown row starts ≡ b → AreLaid row starts → index < length b.lists → end ≡ end_before b index → s ≡ slice_index_or starts index s → head ≡ slice_index_or row (s - 1) head → count ≡ variable head → 0 < count → IsRead row starts index end s count
+pub is_read : (b : ArenaState) (row : List ℤ) (starts : List ℕ) (index end s : ℕ) (head : ℤ) (count : ℕ) →
+    shown row starts ≡ b → AreLaid row starts → index < length b.lists → end ≡ end_before b index →
+    s ≡ slice_index_or starts index s → head ≡ slice_index_or row (s - 1) head → count ≡ variable head → 0 < count →
+    IsRead row starts index end s count
 is_read b row starts index end s head count view laid low is here there count_is some =
     let first = start_here b row starts index s view laid low here in
     let read : count - 1 ≡ count_at row s = read_count row s head count (first.0, first.1) there count_is in
@@ -269,47 +306,62 @@ is_read b row starts index end s head count view laid low is here there count_is
     }
 
 -- It stays where it is.
-pub stays : (b : Blocked) (row : List ℤ) (starts : List ℕ) (index end s count : ℕ) → shown row starts ≡ b → AreLaid row starts → IsRead row starts index end s count → s + count - 1 ≡ end_before b (index + 1)
+pub stays : (b : ArenaState) (row : List ℤ) (starts : List ℕ) (index end s count : ℕ) → shown row starts ≡ b →
+    AreLaid row starts → IsRead row starts index end s count → s + count - 1 ≡ end_before b (index + 1)
 stays b row starts index end s count view laid read =
     let n : s + count - 1 ≡ s + count_at row s = omega (arith, read.counted) in
     n ∙ ap (λ (m : ℕ). m + count_at row m) (sym read.at) ∙ sym (end_next b row starts index view laid.0 read.within)
 
 -- It moves down.
-pub goes_down : (row new : List ℤ) (starts news : List ℕ) (index end s count : ℕ) → AreLaid row starts → IsRead row starts index end s count → news ≡ slice_set starts index (end + 2) → length new ≡ length row
+pub goes_down : (row new : List ℤ) (starts news : List ℕ) (index end s count : ℕ) → AreLaid row starts →
+    IsRead row starts index end s count → news ≡ slice_set starts index (end + 2) → length new ≡ length row
     → CopiedTo row new (s - 2) end (s + count - 1 - (s - 2)) × SameBelow row new end × SameFrom row new (end + (s + count - 1 - (s - 2))) → AreMoved row new starts news
 goes_down row new starts news index end s count laid read news_is long copied =
     let headed : 1 < s = read.headed in
     let n : s + count - 1 - (s - 2) ≡ count_at row s + 2 = omega (arith, read.counted, headed) in
     let of_s : CopiedTo row new (s - 2) end (count_at row s + 2) = subst (λ (m : ℕ). CopiedTo row new (s - 2) end m) n copied.0 in
     let from_s : SameFrom row new (end + (count_at row s + 2)) = subst (λ (m : ℕ). SameFrom row new (end + m)) n copied.2 in
-    down_moved row new starts news index end (end + 2) laid.0 read.within read.last refl news_is long (subst (λ (m : ℕ). CopiedTo row new (m - 2) end (count_at row m + 2)) (sym read.at) of_s) copied.1 (subst (λ (m : ℕ). SameFrom row new (end + (count_at row m + 2))) (sym read.at) from_s)
+    down_moved row new starts news index end (end + 2) laid.0 read.within read.last refl news_is long
+    (subst (λ (m : ℕ). CopiedTo row new (m - 2) end (count_at row m + 2)) (sym read.at) of_s) copied.1
+    (subst (λ (m : ℕ). SameFrom row new (end + (count_at row m + 2))) (sym read.at) from_s)
 
-pub down_laid : (row new : List ℤ) (starts news : List ℕ) (index end s count : ℕ) → AreLaid row starts → IsRead row starts index end s count → news ≡ slice_set starts index (end + 2) → length new ≡ length row
+pub down_laid : (row new : List ℤ) (starts news : List ℕ) (index end s count : ℕ) → AreLaid row starts →
+    IsRead row starts index end s count → news ≡ slice_set starts index (end + 2) → length new ≡ length row
     → CopiedTo row new (s - 2) end (s + count - 1 - (s - 2)) × SameBelow row new end × SameFrom row new (end + (s + count - 1 - (s - 2))) → AreLaid new news
 down_laid row new starts news index end s count laid read news_is long copied = moved_laid row new starts news laid (goes_down row new starts news index end s count laid read news_is long copied)
 
-pub down_lists : (b : Blocked) (row new : List ℤ) (starts news : List ℕ) (index end s count : ℕ) → shown row starts ≡ b → AreLaid row starts → IsRead row starts index end s count → news ≡ slice_set starts index (end + 2) → length new ≡ length row
+pub down_lists : (b : ArenaState) (row new : List ℤ) (starts news : List ℕ) (index end s count : ℕ) →
+    shown row starts ≡ b → AreLaid row starts → IsRead row starts index end s count →
+    news ≡ slice_set starts index (end + 2) → length new ≡ length row
     → CopiedTo row new (s - 2) end (s + count - 1 - (s - 2)) × SameBelow row new end × SameFrom row new (end + (s + count - 1 - (s - 2))) → lists_in new (ranges_of new news) ≡ b.lists
-down_lists b row new starts news index end s count view laid read news_is long copied = moved_lists row new starts news laid.0 (goes_down row new starts news index end s count laid read news_is long copied) ∙ ap (λ (x : Blocked). x.lists) view
+down_lists b row new starts news index end s count view laid read news_is long copied =
+    moved_lists row new starts news laid.0 (goes_down row new starts news index end s count laid read news_is long
+    copied) ∙ ap (λ (x : ArenaState). x.lists) view
 
-pub down_end : (row new : List ℤ) (starts news : List ℕ) (index end s count : ℕ) → AreLaid row starts → IsRead row starts index end s count → news ≡ slice_set starts index (end + 2) → length new ≡ length row
-    → CopiedTo row new (s - 2) end (s + count - 1 - (s - 2)) × SameBelow row new end × SameFrom row new (end + (s + count - 1 - (s - 2))) → end + 2 + (s + count - 1 - s) ≡ end_before (shown new news) (index + 1)
+pub down_end : (row new : List ℤ) (starts news : List ℕ) (index end s count : ℕ) → AreLaid row starts →
+    IsRead row starts index end s count → news ≡ slice_set starts index (end + 2) → length new ≡ length row
+    → CopiedTo row new (s - 2) end (s + count - 1 - (s - 2)) × SameBelow row new end ×
+    SameFrom row new (end + (s + count - 1 - (s - 2))) →
+    end + 2 + (s + count - 1 - s) ≡ end_before (shown new news) (index + 1)
 down_end row new starts news index end s count laid read news_is long copied =
     let moved : AreMoved row new starts news = goes_down row new starts news index end s count laid read news_is long copied in
     let now : AreLaid new news = moved_laid row new starts news laid moved in
     let within : index < length starts = read.within in
     let at : start_at news index ≡ end + 2 = ap (λ (xs : List ℕ). start_at xs index) news_is ∙ get_or-set_same starts index (end + 2) 0 within in
     let kept : count_at new (start_at news index) ≡ count_at row s = moved_count row new starts news index laid.0 moved within ∙ ap (count_at row) read.at in
-    let next : end_before (shown new news) (index + 1) ≡ start_at news index + count_at new (start_at news index) = end_next (shown new news) new news index refl now.0 (omega (arith, within, moved.long)) in
+    let next : end_before (shown new news) (index + 1) ≡ start_at news index + count_at new (start_at news index) =
+    end_next (shown new news) new news index refl now.0 (omega (arith, within, moved.long)) in
     omega (arith, at, kept, next, read.counted)
 
 -- The row is cut after the last list.
-pub cut_laid : (b : Blocked) (row new : List ℤ) (starts : List ℕ) (end : ℕ) → shown row starts ≡ b → AreLaid row starts → end ≡ end_before b (length b.lists) → new ≡ take end row → AreLaid new starts × (lists_in new (ranges_of new starts) ≡ b.lists)
+pub cut_laid : (b : ArenaState) (row new : List ℤ) (starts : List ℕ) (end : ℕ) → shown row starts ≡ b →
+    AreLaid row starts → end ≡ end_before b (length b.lists) → new ≡ take end row → AreLaid new starts ×
+    (lists_in new (ranges_of new starts) ≡ b.lists)
 cut_laid b row new starts end view laid is new_is =
     let all : length b.lists ≡ length starts = lists_room b row starts view in
     let last : IsEnd row starts (length starts) end = is_end b row starts (length starts) end view laid.0 (omega arith) (is ∙ ap (end_before b) all) in
     let moved : AreMoved row (take end row) starts starts = cut_moved row starts end laid.0 last in
-    rw new_is (moved_laid row (take end row) starts starts laid moved, moved_lists row (take end row) starts starts laid.0 moved ∙ ap (λ (x : Blocked). x.lists) view)
+    rw new_is (moved_laid row (take end row) starts starts laid moved, moved_lists row (take end row) starts starts laid.0 moved ∙ ap (λ (x : ArenaState). x.lists) view)
 
 -- Each start has the id of its index.
 pub ids_laid : (row : List ℤ) (starts : List ℕ) → AreLaid row starts → AreIds (shown row starts)
@@ -323,37 +375,55 @@ record IsEmptied (row new : List ℤ) (starts : List ℕ) (index : ℕ) : Type 0
   none : count_at new (start_at starts index) ≡ 0
   others : (p : ℕ) (d : ℤ) → (p ≡ start_at starts index - 1 → ⊥) → slice_index_or new p d ≡ slice_index_or row p d
 
-emptied : (row : List ℤ) (starts : List ℕ) (index : ℕ) (h : ℤ) → AreRanges row (ranges_of row starts) → index < length starts → variable h ≡ 0 + 1 → IsEmptied row (slice_set row (start_at starts index - 1) h) starts index
+emptied : (row : List ℤ) (starts : List ℕ) (index : ℕ) (h : ℤ) → AreRanges row (ranges_of row starts) →
+    index < length starts → variable h ≡ 0 + 1 →
+    IsEmptied row (slice_set row (start_at starts index - 1) h) starts index
 emptied row starts index h are low is = record {
   long = length-set row (start_at starts index - 1) h;
-  none = (let head : 1 < start_at starts index = headed_at row starts index are low in let end : start_at starts index + count_at row (start_at starts index) ≤ length row = inside_at row starts index are low in
+  none = (let head : 1 < start_at starts index = headed_at row starts index are low in
+      let end : start_at starts index + count_at row (start_at starts index) ≤ length row =
+      inside_at row starts index are low in
       ap (λ (l : ℤ). variable l - 1) (get_or-set_same row (start_at starts index - 1) h (pos 1) (omega (arith, head, end))) ∙ rw is refl);
   others = λ p d apart. get_or-set_other row (start_at starts index - 1) p h d apart;
 }
 
 -- The other lists, and all ids, may have moved.
-emptied_count : (row new : List ℤ) (starts : List ℕ) (index k : ℕ) → AreRanges row (ranges_of row starts) → IsEmptied row new starts index → index < length starts → k < length starts → (k ≡ index → ⊥) → count_at new (start_at starts k) ≡ count_at row (start_at starts k)
+emptied_count : (row new : List ℤ) (starts : List ℕ) (index k : ℕ) → AreRanges row (ranges_of row starts) →
+    IsEmptied row new starts index → index < length starts → k < length starts → (k ≡ index → ⊥) →
+    count_at new (start_at starts k) ≡ count_at row (start_at starts k)
 emptied_count row new starts index k are is within low apart = ap (λ (l : ℤ). variable l - 1) (is.others (start_at starts k - 1) (pos 1) (λ e.
     let head_k : 1 < start_at starts k = headed_at row starts k are low in
     let head : 1 < start_at starts index = headed_at row starts index are within in
     ⊎_elim
-    (λ (early : k < index). (let behind : start_at starts k + count_at row (start_at starts k) + 1 < start_at starts index = behind_at row starts k index are early within in omega (arith, behind, e, head, head_k)))
-    (λ (late : index ≤ k). (let behind : start_at starts index + count_at row (start_at starts index) + 1 < start_at starts k = behind_at row starts index k are (omega (arith, late, apart)) low in omega (arith, behind, e, head, head_k)))
+    (λ (early : k < index). (let following : start_at starts k + count_at row
+    (start_at starts k) + 1 < start_at starts index = after_at row starts k index are early within in
+    omega (arith, following, e, head, head_k)))
+    (λ (late : index ≤ k). (let following : start_at starts index + count_at row
+    (start_at starts index) + 1 < start_at starts k =
+    after_at row starts index k are (omega (arith, late, apart)) low in omega (arith, following, e, head, head_k)))
     (cases_lt k index)))
 
-emptied_number : (row new : List ℤ) (starts : List ℕ) (index k : ℕ) → AreRanges row (ranges_of row starts) → IsEmptied row new starts index → index < length starts → k < length starts → number_at new (start_at starts k) ≡ number_at row (start_at starts k)
+emptied_number : (row new : List ℤ) (starts : List ℕ) (index k : ℕ) → AreRanges row (ranges_of row starts) →
+    IsEmptied row new starts index → index < length starts → k < length starts →
+    number_at new (start_at starts k) ≡ number_at row (start_at starts k)
 emptied_number row new starts index k are is within low = ap (λ (l : ℤ). variable l - 1) (is.others (start_at starts k - 2) (pos 1) (λ e.
     let head_k : 1 < start_at starts k = headed_at row starts k are low in
     let head : 1 < start_at starts index = headed_at row starts index are within in
     ⊎_elim
-    (λ (early : k < index). (let behind : start_at starts k + count_at row (start_at starts k) + 1 < start_at starts index = behind_at row starts k index are early within in omega (arith, behind, e, head, head_k)))
+    (λ (early : k < index). (let following : start_at starts k + count_at row
+    (start_at starts k) + 1 < start_at starts index = after_at row starts k index are early within in
+    omega (arith, following, e, head, head_k)))
     (λ (late : index ≤ k). ⊎_elim
     (λ (same : k ≡ index). (let here : start_at starts k ≡ start_at starts index = ap (start_at starts) same in omega (arith, here, e, head, head_k)))
-    (λ (apart : k ≡ index → ⊥). (let behind : start_at starts index + count_at row (start_at starts index) + 1 < start_at starts k = behind_at row starts index k are (omega (arith, late, apart)) low in omega (arith, behind, e, head, head_k)))
+    (λ (apart : k ≡ index → ⊥). (let following : start_at starts index + count_at row
+    (start_at starts index) + 1 < start_at starts k =
+    after_at row starts index k are (omega (arith, late, apart)) low in omega (arith, following, e, head, head_k)))
     (cases_eq k index))
     (cases_lt k index)))
 
-emptied_list : (row new : List ℤ) (starts : List ℕ) (index k : ℕ) → AreRanges row (ranges_of row starts) → IsEmptied row new starts index → index < length starts → k < length starts → (k ≡ index → ⊥) → list_in new (range_at new (start_at starts k)) ≡ list_in row (range_at row (start_at starts k))
+emptied_list : (row new : List ℤ) (starts : List ℕ) (index k : ℕ) → AreRanges row (ranges_of row starts) →
+    IsEmptied row new starts index → index < length starts → k < length starts → (k ≡ index → ⊥) →
+    list_in new (range_at new (start_at starts k)) ≡ list_in row (range_at row (start_at starts k))
 emptied_list row new starts index k are is within low apart =
     let s : ℕ = start_at starts k in
     let end : s + count_at row s ≤ length row = inside_at row starts k are low in
@@ -361,11 +431,14 @@ emptied_list row new starts index k are is within low apart =
     ∙ range_same row new s (s + count_at row s) (omega arith) end (omega (arith, end, is.long)) (λ p d from to. is.others p d (λ e.
     let head : 1 < start_at starts index = headed_at row starts index are within in
     ⊎_elim
-    (λ (early : k < index). (let behind : s + count_at row s + 1 < start_at starts index = behind_at row starts k index are early within in omega (arith, behind, e, to)))
-    (λ (late : index ≤ k). (let behind : start_at starts index + count_at row (start_at starts index) + 1 < s = behind_at row starts index k are (omega (arith, late, apart)) low in omega (arith, behind, e, from)))
+    (λ (early : k < index). (let following : s + count_at row s + 1 < start_at starts index = after_at row starts k index are early within in omega (arith, following, e, to)))
+    (λ (late : index ≤ k). (let following : start_at starts index + count_at row (start_at starts index) + 1 < s =
+    after_at row starts index k are (omega (arith, late, apart)) low in omega (arith, following, e, from)))
     (cases_lt k index)))
 
-emptied_fewer : (row new : List ℤ) (starts : List ℕ) (index k : ℕ) → AreRanges row (ranges_of row starts) → IsEmptied row new starts index → index < length starts → k < length starts → count_at new (start_at starts k) ≤ count_at row (start_at starts k)
+emptied_fewer : (row new : List ℤ) (starts : List ℕ) (index k : ℕ) → AreRanges row (ranges_of row starts) →
+    IsEmptied row new starts index → index < length starts → k < length starts →
+    count_at new (start_at starts k) ≤ count_at row (start_at starts k)
 emptied_fewer row new starts index k are is within low = ⊎_elim
     (λ (e : k ≡ index). (let none : count_at new (start_at starts k) ≡ 0 = ap (λ (i : ℕ). count_at new (start_at starts i)) e ∙ is.none in omega (arith, none)))
     (λ (apart : k ≡ index → ⊥). (let same : count_at new (start_at starts k) ≡ count_at row (start_at starts k) = emptied_count row new starts index k are is within low apart in omega (arith, same)))
@@ -375,17 +448,25 @@ emptied_laid : (row new : List ℤ) (starts : List ℕ) (index : ℕ) → AreLai
 emptied_laid row new starts index laid is within = (
   apart_ranges new starts (record {
     headed = λ k low. headed_at row starts k laid.0 low;
-    inside = λ k low. (let end : start_at starts k + count_at row (start_at starts k) ≤ length row = inside_at row starts k laid.0 low in let fewer : count_at new (start_at starts k) ≤ count_at row (start_at starts k) = emptied_fewer row new starts index k laid.0 is within low in omega (arith, end, fewer, is.long));
-    behind = λ i k order low.
-        let was : start_at starts i + count_at row (start_at starts i) + 1 < start_at starts k = behind_at row starts i k laid.0 order low in
+    inside = λ k low. (let end : start_at starts k + count_at row (start_at starts k) ≤ length row =
+        inside_at row starts k laid.0 low in let fewer : count_at new (start_at starts k) ≤ count_at row
+        (start_at starts k) = emptied_fewer row new starts index k laid.0 is within low in
+        omega (arith, end, fewer, is.long));
+    following = λ i k order low.
+        let was : start_at starts i + count_at row (start_at starts i) + 1 < start_at starts k = after_at row starts i k laid.0 order low in
         let fewer : count_at new (start_at starts i) ≤ count_at row (start_at starts i) = emptied_fewer row new starts index i laid.0 is within (omega (arith, order, low)) in
         omega (arith, was, fewer);
   }),
   λ k low. emptied_number row new starts index k laid.0 is within low ∙ laid.1 k low,
 )
 
-emptied_lists : (row new : List ℤ) (starts : List ℕ) (index : ℕ) → AreRanges row (ranges_of row starts) → IsEmptied row new starts index → index < length starts → lists_in new (ranges_of new starts) ≡ slice_set (lists_in row (ranges_of row starts)) index []
-emptied_lists row new starts index are is within = same_lists (lists_in new (ranges_of new starts)) (slice_set (lists_in row (ranges_of row starts)) index []) (lists_long new starts ∙ sym (length-set (lists_in row (ranges_of row starts)) index [] ∙ lists_long row starts)) (λ k d at. one k d (omega (arith, at, lists_long new starts)))
+emptied_lists : (row new : List ℤ) (starts : List ℕ) (index : ℕ) → AreRanges row (ranges_of row starts) →
+    IsEmptied row new starts index → index < length starts →
+    lists_in new (ranges_of new starts) ≡ slice_set (lists_in row (ranges_of row starts)) index []
+emptied_lists row new starts index are is within =
+    same_lists (lists_in new (ranges_of new starts)) (slice_set (lists_in row (ranges_of row starts)) index [])
+    (lists_long new starts ∙ sym (length-set (lists_in row (ranges_of row starts)) index [] ∙ lists_long row starts))
+    (λ k d at. one k d (omega (arith, at, lists_long new starts)))
   where
     none_taken : (xs : List ℤ) (n : ℕ) → n ≡ 0 → take n xs ≡ []
     none_taken xs n e = rw e refl
@@ -394,14 +475,19 @@ emptied_lists row new starts index are is within = same_lists (lists_in new (ran
     one k d low = list_at new starts k d low ∙ ⊎_elim
         (λ (e : k ≡ index).
         ap (λ (i : ℕ). list_in new (range_at new (start_at starts i))) e ∙ none_taken _ _ (let none : count_at new (start_at starts index) ≡ 0 = is.none in omega (arith, none))
-        ∙ sym (ap (λ (i : ℕ). slice_index_or (slice_set (lists_in row (ranges_of row starts)) index []) i d) e ∙ get_or-set_same (lists_in row (ranges_of row starts)) index [] d (rw (lists_long row starts) within)))
-        (λ (apart : k ≡ index → ⊥). emptied_list row new starts index k are is within low apart ∙ sym (get_or-set_other (lists_in row (ranges_of row starts)) index k [] d apart ∙ list_at row starts k d low))
+        ∙ sym (ap (λ (i : ℕ). slice_index_or (slice_set (lists_in row (ranges_of row starts)) index []) i d) e
+        ∙ get_or-set_same (lists_in row (ranges_of row starts)) index [] d (rw (lists_long row starts) within)))
+        (λ (apart : k ≡ index → ⊥). emptied_list row new starts index k are is within low apart
+        ∙ sym (get_or-set_other (lists_in row (ranges_of row starts)) index k [] d apart
+        ∙ list_at row starts k d low))
         (cases_eq k index)
 
-pub empty_laid : (b : Blocked) (row new : List ℤ) (starts : List ℕ) (index s : ℕ) (h : ℤ) → shown row starts ≡ b → AreLaid row starts → index < length b.lists → s ≡ slice_index_or starts index s → variable h ≡ 0 + 1 → new ≡ slice_set row (s - 1) h
+pub empty_laid : (b : ArenaState) (row new : List ℤ) (starts : List ℕ) (index s : ℕ) (h : ℤ) → shown row starts ≡ b →
+    AreLaid row starts → index < length b.lists → s ≡ slice_index_or starts index s → variable h ≡ 0 + 1 →
+    new ≡ slice_set row (s - 1) h
     → AreLaid new starts × (lists_in new (ranges_of new starts) ≡ slice_set b.lists index [])
 empty_laid b row new starts index s h view laid low here is new_is =
     let first = start_here b row starts index s view laid low here in
     let given : new ≡ slice_set row (start_at starts index - 1) h = new_is ∙ ap (λ (n : ℕ). slice_set row (n - 1) h) (sym first.2) in
     let what : IsEmptied row new starts index = subst (λ (xs : List ℤ). IsEmptied row xs starts index) (sym given) (emptied row starts index h laid.0 first.3 is) in
-    (emptied_laid row new starts index laid what first.3, emptied_lists row new starts index laid.0 what first.3 ∙ ap (λ (x : Blocked). slice_set x.lists index []) view)
+    (emptied_laid row new starts index laid what first.3, emptied_lists row new starts index laid.0 what first.3 ∙ ap (λ (x : ArenaState). slice_set x.lists index []) view)

@@ -2,8 +2,8 @@
 use Rattle.std.specs.Prelude.{◌≡◌, ℕ, ◌-◌, ◌<◌, ℤ, pos, List, [], length, slice_index_or, slice_set, None}
 use Rattle.std.specs.List.{swap_remove}
 use Rattle.cdcl_theory.specs.Codes.{code_of}
-use Rattle.clause_db.specs.Watching.{listed_in, list_of, no_pair}
-use Rattle.clause_db.specs.Blocking.{row_of, with_row}
+use Rattle.clause_db.specs.Watching.{watch_list_in, list_of, no_pair}
+use Rattle.clause_db.specs.Blockers.{row_of, with_row}
 use Rattle.clause_db.specs.Arranging.{Arranged}
 use Rattle.clause_db.specs.Stored.{Stored, Watches}
 
@@ -29,14 +29,14 @@ pub record IsDeleted (id : ℕ) (old new : Stored) : Type 0 where
 -- the watch lists without the entry at an index of a literal's list, and the rows without its blocking
 -- literal
 abbrev pub lists_left : List (List ℕ) → ℤ → ℕ → List (List ℕ)
-lists_left lists l index = slice_set lists (code_of l) (swap_remove (listed_in lists l) index 0)
+lists_left lists l index = slice_set lists (code_of l) (swap_remove (watch_list_in lists l) index 0)
 
 abbrev pub rows_left : List (List ℤ) → ℤ → ℕ → List (List ℤ)
 rows_left rows l index = with_row rows l (swap_remove (row_of rows l) index (pos 1))
 
 abbrev pub arranged_left : Arranged → ℤ → ℕ → Arranged
-arranged_left a l index = record { blocks = a.blocks; lists = lists_left a.lists l index; rows = rows_left a.rows l index }
+arranged_left a l index = record { arena = a.arena; lists = lists_left a.lists l index; rows = rows_left a.rows l index }
 
 -- the literals of an id were emptied
 abbrev pub arranged_without : Arranged → ℕ → Arranged
-arranged_without a id = record { blocks = slice_set a.blocks (id - 1) []; lists = a.lists; rows = a.rows }
+arranged_without a id = record { arena = slice_set a.arena (id - 1) []; lists = a.lists; rows = a.rows }

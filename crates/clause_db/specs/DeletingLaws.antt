@@ -1,5 +1,7 @@
 -- Deleting a clause keeps the invariant.
-use Rattle.std.specs.Prelude.{◌≡◌, ◌≢◌, ℕ, zero, suc, ◌+◌, ◌-◌, ◌*◌, ◌<◌, ◌≤◌, ◌⊎◌, ◌==◌, Bool, true, false, if◌then◌else◌, ℤ, List, [], ◌∷◌, length, slice_get, slice_index_or, slice_set, Contains, AllPairs, Option, Some, None, IsSome, refl}
+use Rattle.std.specs.Prelude.{◌≡◌, ◌≢◌, ℕ, zero, suc, ◌+◌, ◌-◌, ◌*◌, ◌<◌, ◌≤◌, ◌⊎◌, ◌==◌, Bool, true, false}
+use Rattle.std.specs.Prelude.{if◌then◌else◌, ℤ, List, [], ◌∷◌, length, slice_get, slice_index_or, slice_set, Contains}
+use Rattle.std.specs.Prelude.{AllPairs, Option, Some, None, IsSome, refl}
 use Rattle.std.specs.Option.{option_flatten}
 use Rattle.std.proofs.Common.{sym, ap, ◌∙◌, subst, arith, inl, inr}
 use Rattle.std.proofs.Math.Logic.{⊎_elim}
@@ -8,7 +10,7 @@ use Rattle.std.proofs.lemmas.List.{length-set, get_or-set_other}
 use Rattle.sat_theory.specs.Formula.{IsWithin}
 use Rattle.sat_theory.specs.State.{without, is_listed}
 use Rattle.cdcl_theory.specs.CodeLaws.{cases_literal}
-use Rattle.clause_db.specs.declared.watches.Pair.{Pair}
+use Rattle.clause_db.specs.declared.watches.WatchedPair.{WatchedPair}
 use Rattle.clause_db.specs.Watching.{list_of, pair_at, no_pair}
 use Rattle.clause_db.specs.WatchingLaws.{swap_keeps, swap_only, swap_once}
 use Rattle.clause_db.specs.Stored.{Stored, live_at, live_in, Watches, IsPair, IsStored}
@@ -50,7 +52,9 @@ deleted_at clauses id (suc k) some = ⊎_elim
     let at : id - 1 ≡ k = omega arith in
     live_suc (slice_set clauses (id - 1) None) k ∙ ap (λ (n : ℕ). option_flatten (slice_get (slice_set clauses n None) k)) at ∙ set_same clauses k ∙ sym (without_it (live_at clauses) id (suc k) e))
     (λ (apart : suc k ≡ id → ⊥).
-    live_suc (slice_set clauses (id - 1) None) k ∙ ap option_flatten (set_other clauses (id - 1) k (λ h. apart (omega (arith, h, some)))) ∙ sym (live_suc clauses k) ∙ sym (without_other (live_at clauses) id (suc k) apart))
+    live_suc (slice_set clauses (id - 1) None) k
+    ∙ ap option_flatten (set_other clauses (id - 1) k (λ h. apart (omega (arith, h, some))))
+    ∙ sym (live_suc clauses k) ∙ sym (without_other (live_at clauses) id (suc k) apart))
     (cases_eq (suc k) id)
 
 -- No clause has the id of a deleted clause, and nothing else changes.
@@ -80,7 +84,7 @@ some_live None some = absurd (cc)
 -- The pairs of other ids are unchanged.
 pub pair_left : (id : ℕ) (old new : Stored) (k : ℕ) → IsDeleted id old new → 0 < id → 0 < k → (k ≡ id → ⊥) → pair_at new.watches k ≡ pair_at old.watches k
 pair_left id old new k deleted some some_k apart =
-    ap (λ (ps : List Pair). slice_index_or ps (k - 1) no_pair) deleted.pairs ∙ get_or-set_other old.watches.pairs (id - 1) (k - 1) no_pair no_pair (λ e. apart (omega (arith, e, some, some_k)))
+    ap (λ (ps : List WatchedPair). slice_index_or ps (k - 1) no_pair) deleted.pairs ∙ get_or-set_other old.watches.pairs (id - 1) (k - 1) no_pair no_pair (λ e. apart (omega (arith, e, some, some_k)))
 
 -- Other clauses watch the same literals as before.
 pub still_watches : (id : ℕ) (old new : Stored) (k : ℕ) (l : ℤ) → IsDeleted id old new → 0 < id → Watches new k l → Watches old k l × (k ≡ id → ⊥)
@@ -90,7 +94,7 @@ still_watches id old new k l deleted some watches =
         clause = watches.clause;
         is_live = before.0;
         long = watches.long;
-        watched = subst (λ (p : Pair). (l ≡ p.first) ⊎ (l ≡ p.second)) (pair_left id old new k deleted some (live_inside new k watches.clause watches.is_live).0 before.1) watches.watched;
+        watched = subst (λ (p : WatchedPair). (l ≡ p.first) ⊎ (l ≡ p.second)) (pair_left id old new k deleted some (live_inside new k watches.clause watches.is_live).0 before.1) watches.watched;
       },
       before.1,
     )
@@ -100,7 +104,7 @@ kept_watches id old new k l deleted some apart watches = record {
   clause = watches.clause;
   is_live = kept_live id old new k watches.clause deleted some apart watches.is_live;
   long = watches.long;
-  watched = subst (λ (p : Pair). (l ≡ p.first) ⊎ (l ≡ p.second)) (sym (pair_left id old new k deleted some (live_inside old k watches.clause watches.is_live).0 apart)) watches.watched;
+  watched = subst (λ (p : WatchedPair). (l ≡ p.first) ⊎ (l ≡ p.second)) (sym (pair_left id old new k deleted some (live_inside old k watches.clause watches.is_live).0 apart)) watches.watched;
 }
 
 -- a live clause watches a literal or doesn't watch it
@@ -128,7 +132,9 @@ pub stored_deleted : (id : ℕ) (old new : Stored) (clause : List ℤ) → IsSto
 stored_deleted id old new clause stored is deleted = record {
   clauses = λ k c live. stored.clauses k c (still_live id old new k c deleted some live).0;
   variables = λ k c live. subst (λ (n : ℕ). IsWithin n c) (sym deleted.vars) (stored.variables k c (still_live id old new k c deleted some live).0);
-  few = (let long : length new.clauses ≡ length old.clauses = ap length deleted.clauses ∙ length-set old.clauses (id - 1) None in let few : length old.clauses ≤ 4000000000 = stored.few in omega (arith, long, few));
+  few = (let long : length new.clauses ≡ length old.clauses = ap length deleted.clauses
+      ∙ length-set old.clauses (id - 1) None in let few : length old.clauses ≤ 4000000000 =
+      stored.few in omega (arith, long, few));
   pairs_room = ap length deleted.pairs ∙ length-set old.watches.pairs (id - 1) no_pair ∙ stored.pairs_room ∙ sym (ap length deleted.clauses ∙ length-set old.clauses (id - 1) None);
   room = deleted.room ∙ stored.room ∙ ap (λ (n : ℕ). 2 * n + 2) (sym deleted.vars);
   pairs = λ k c live long.
@@ -156,7 +162,9 @@ stored_deleted id old new clause stored is deleted = record {
     only l k there = ⊎_elim
         (λ (yes_ : Watches old id l).
         let left : HasLeft id (list_of old.watches l) (list_of new.watches l) = deleted.left l yes_ in
-        let both : Contains (list_of old.watches l) k × (k ≡ slice_index_or (list_of old.watches l) left.index 0 → ⊥) = swap_only (list_of old.watches l) left.index 0 k left.inside (stored.once l) (subst (λ (xs : List ℕ). Contains xs k) left.is there) in
+        let both : Contains (list_of old.watches l) k × (k ≡ slice_index_or (list_of old.watches l) left.index 0 → ⊥) =
+        swap_only (list_of old.watches l) left.index 0 k left.inside (stored.once l)
+        (subst (λ (xs : List ℕ). Contains xs k) left.is there) in
         kept_watches id old new k l deleted some (λ e. both.1 (e ∙ sym left.at_index)) (stored.only l k both.0))
         (λ (none : Watches old id l → ⊥).
         let before : Watches old k l = stored.only l k (subst (λ (xs : List ℕ). Contains xs k) (deleted.others l none) there) in

@@ -6,8 +6,8 @@ pub mod Watching
 pub mod WatchingLaws
 pub mod Moving
 pub mod Lists
-pub mod Blocking
-pub mod BlockRanges
+pub mod Blockers
+pub mod ArenaRanges
 pub mod Arranging
 pub mod Deleting
 pub mod DeletingLaws

@@ -10,7 +10,9 @@ pub record AreMembersOf (live : ℕ → Option (List ℤ)) (id : ℕ) (lits : Li
   pub is_live : live id ≡ Some clause
   pub same : (l : ℤ) → Contains lits l ↔ Contains clause l
 
-pub members_read : (live : ℕ → Option (List ℤ)) (id : ℕ) (lits : List ℤ) → IsSome (live id) → ((clause : List ℤ) → live id ≡ Some clause → (l : ℤ) → Contains lits l ↔ Contains clause l) → AreMembersOf live id lits
+pub members_read : (live : ℕ → Option (List ℤ)) (id : ℕ) (lits : List ℤ) → IsSome (live id) →
+    ((clause : List ℤ) → live id ≡ Some clause → (l : ℤ) → Contains lits l ↔ Contains clause l) →
+    AreMembersOf live id lits
 members_read live id lits some same =
     let found : (clause : List ℤ) × (live id ≡ Some clause) = some_live (live id) some in
     record { clause = found.0; is_live = found.1; same = same found.0 found.1 }

@@ -61,9 +61,9 @@ inserted_rises l [] rises = subst (IsNonDecreasingBy code_of) (sym (inserted_alo
 inserted_rises l (m ∷ ms) rises = ⊎_elim
     (λ (less : code_of m < code_of l).
     let tail : IsNonDecreasingBy code_of ms = λ i j d order high. rises (suc i) (suc j) d (omega (arith, order)) (omega (arith, high)) in
-    let behind : All (λ x. code_of m ≤ code_of x) ms = λ j d high. rises 0 (suc j) d (omega arith) (omega (arith, high)) in
+    let following : All (λ x. code_of m ≤ code_of x) ms = λ j d high. rises 0 (suc j) d (omega arith) (omega (arith, high)) in
     let least : All (λ x. code_of m ≤ code_of x) (inserted l ms) =
-    All-permutation (λ x. code_of m ≤ code_of x) (l ∷ ms) (inserted l ms) (inserted_permutes l ms) (least_cons m l ms (omega (arith, less)) behind) in
+    All-permutation (λ x. code_of m ≤ code_of x) (l ∷ ms) (inserted l ms) (inserted_permutes l ms) (least_cons m l ms (omega (arith, less)) following) in
     subst (IsNonDecreasingBy code_of) (sym (inserted_after l m ms less)) (rises_cons m (inserted l ms) least (inserted_rises l ms tail)))
     (λ (most : code_of l ≤ code_of m).
     subst (IsNonDecreasingBy code_of) (sym (inserted_before l m ms most)) (rises_cons l (m ∷ ms) (least_first l m ms most rises) rises))
@@ -81,17 +81,23 @@ sorted_rises (x ∷ xs) = inserted_rises x (sorted xs) (sorted_rises xs)
 -- two literals in either order
 inserted_both : (a b : ℤ) (xs : List ℤ) → code_of a < code_of b → inserted a (inserted b xs) ≡ inserted b (inserted a xs)
 inserted_both a b [] less =
-    ap (inserted a) (inserted_alone b) ∙ inserted_before a b [] (omega (arith, less)) ∙ ap (λ (ys : List ℤ). a ∷ ys) (sym (inserted_alone b)) ∙ sym (inserted_after b a [] less) ∙ ap (inserted b) (sym (inserted_alone a))
+    ap (inserted a) (inserted_alone b) ∙ inserted_before a b [] (omega (arith, less))
+    ∙ ap (λ (ys : List ℤ). a ∷ ys) (sym (inserted_alone b)) ∙ sym (inserted_after b a [] less)
+    ∙ ap (inserted b) (sym (inserted_alone a))
 inserted_both a b (m ∷ ms) less = ⊎_elim
     (λ (first : code_of m < code_of a).
     ap (inserted a) (inserted_after b m ms (omega (arith, first, less))) ∙ inserted_after a m (inserted b ms) first ∙ ap (λ (ys : List ℤ). m ∷ ys) (inserted_both a b ms less)
     ∙ sym (inserted_after b m (inserted a ms) (omega (arith, first, less))) ∙ ap (inserted b) (sym (inserted_after a m ms first)))
-    (λ (behind : code_of a ≤ code_of m). (
+    (λ (following : code_of a ≤ code_of m). (
     ⊎_elim
-    (λ (second : code_of m < code_of b). ap (inserted a) (inserted_after b m ms second) ∙ inserted_before a m (inserted b ms) behind ∙ ap (λ (ys : List ℤ). a ∷ ys) (sym (inserted_after b m ms second)))
-    (λ (last : code_of b ≤ code_of m). ap (inserted a) (inserted_before b m ms last) ∙ inserted_before a b (m ∷ ms) (omega (arith, less)) ∙ ap (λ (ys : List ℤ). a ∷ ys) (sym (inserted_before b m ms last)))
+    (λ (second : code_of m < code_of b). ap (inserted a) (inserted_after b m ms second)
+    ∙ inserted_before a m (inserted b ms) following
+    ∙ ap (λ (ys : List ℤ). a ∷ ys) (sym (inserted_after b m ms second)))
+    (λ (last : code_of b ≤ code_of m). ap (inserted a) (inserted_before b m ms last)
+    ∙ inserted_before a b (m ∷ ms) (omega (arith, less))
+    ∙ ap (λ (ys : List ℤ). a ∷ ys) (sym (inserted_before b m ms last)))
     (cases_lt (code_of m) (code_of b))
-    ) ∙ sym (inserted_after b a (m ∷ ms) less) ∙ ap (inserted b) (sym (inserted_before a m ms behind)))
+    ) ∙ sym (inserted_after b a (m ∷ ms) less) ∙ ap (inserted b) (sym (inserted_before a m ms following)))
     (cases_lt (code_of m) (code_of a))
 
 inserted_commutes : (a b : ℤ) (xs : List ℤ) → inserted a (inserted b xs) ≡ inserted b (inserted a xs)
@@ -168,7 +174,9 @@ sorted_swap xs i j low high = ap sorted (sym (swap_is xs i j (pos 1) low high)) 
     once = slice_set xs i second
 
     there : slice_index_or once j (pos 1) ≡ second
-    there = ⊎_elim (λ (e : j ≡ i). ap (λ (n : ℕ). slice_index_or once n (pos 1)) e ∙ get_or-set_same xs i second (pos 1) low) (λ (apart : j ≡ i → ⊥). get_or-set_other xs i j second (pos 1) apart) (cases_eq j i)
+    there = ⊎_elim (λ (e : j ≡ i). ap (λ (n : ℕ). slice_index_or once n (pos 1)) e
+        ∙ get_or-set_same xs i second (pos 1) low) (λ (apart : j ≡ i → ⊥). get_or-set_other xs i j second (pos 1) apart)
+        (cases_eq j i)
 
     inside : j < length once
     inside = rw length-set high
@@ -243,7 +251,9 @@ by_id-sorted clauses (suc k) clause is =
     let some : (suc k == 0) ≡ false = ne_eqb (suc k) 0 (λ e. omega arith) in
     rw some (get_sorted clauses (suc k - 1) clause (rw some at is))
 
-pub by_id-from_sorted : (clauses : List (List ℤ)) (id : ℕ) (clause : List ℤ) → by_id (map sorted clauses) id ≡ Some clause → (given : List ℤ) × (by_id clauses id ≡ Some given) × (clause ≡ sorted given)
+pub by_id-from_sorted : (clauses : List (List ℤ)) (id : ℕ) (clause : List ℤ) →
+    by_id (map sorted clauses) id ≡ Some clause → (given : List ℤ) × (by_id clauses id ≡ Some given) ×
+    (clause ≡ sorted given)
 by_id-from_sorted clauses zero clause is = absurd (cc)
 by_id-from_sorted clauses (suc k) clause is =
     let some : (suc k == 0) ≡ false = ne_eqb (suc k) 0 (λ e. omega arith) in

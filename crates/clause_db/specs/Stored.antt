@@ -3,7 +3,7 @@
 use Rattle.std.specs.Prelude.{◌≡◌, ◌≢◌, ℕ, ◌+◌, ◌-◌, ◌*◌, ◌≤◌, ◌==◌, ◌⊎◌, if◌then◌else◌, ℤ, List, [], ◌∷◌, ◌++◌, length, slice_get, replicate, Contains, AllPairs, Option, Some, None}
 use Rattle.std.specs.Option.{option_flatten}
 use Rattle.sat_theory.specs.Formula.{IsClause, IsWithin}
-use Rattle.clause_db.specs.declared.watches.Pair.{Pair}
+use Rattle.clause_db.specs.declared.watches.WatchedPair.{WatchedPair}
 use Rattle.clause_db.specs.Watching.{Watching, list_of, pair_at, watching_more, watching_moved, HasRoom}
 use Rattle.clause_db.specs.Sorted.{sorted}
 
@@ -36,7 +36,7 @@ pub record Watches (s : Stored) (id : ℕ) (l : ℤ) : Type 0 where
   pub watched : (l ≡ (pair_at s.watches id).first) ⊎ (l ≡ (pair_at s.watches id).second)
 
 -- two different literals of a clause
-pub record IsPair (clause : List ℤ) (p : Pair) : Type 0 where
+pub record IsPair (clause : List ℤ) (p : WatchedPair) : Type 0 where
   pub first : Contains clause p.first
   pub second : Contains clause p.second
   pub differ : p.first ≢ p.second

@@ -111,5 +111,6 @@ pub added_new : (live : ℕ → Option (List ℤ)) (id : ℕ) (lits : List ℤ) 
 added_new live id lits = rw (eq-eqb id id refl) refl
 
 -- a live clause where one clause was added, by cases
-pub live_added : (s : Stored) (lits : List ℤ) (id : ℕ) (clause : List ℤ) → live_in (added s lits) id ≡ Some clause → ((id ≡ length s.clauses + 1) × (sorted lits ≡ clause)) ⊎ (live_in s id ≡ Some clause)
+pub live_added : (s : Stored) (lits : List ℤ) (id : ℕ) (clause : List ℤ) → live_in (added s lits) id ≡ Some clause →
+    ((id ≡ length s.clauses + 1) × (sorted lits ≡ clause)) ⊎ (live_in s id ≡ Some clause)
 live_added s lits id clause is = added_cases (live_in s) (length s.clauses + 1) (sorted lits) id clause (sym (added_at s.clauses (sorted lits) id) ∙ is)

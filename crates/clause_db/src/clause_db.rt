@@ -10,10 +10,11 @@ ghost use Rattle.std.specs.Prelude.{List, [], ◌∷◌, map, length, slice_inde
 ghost use Rattle.sat_theory.specs.Formula.{variable as variable_of, IsClause, IsWithin};
 ghost use Rattle.sat_theory.specs.State.{by_id, without};
 ghost use Rattle.clause_db.specs.Watching.{list_of, pair_at, pair_of};
-ghost use Rattle.clause_db.specs.Stored.{live_in, Watches as WatchesOf, IsLong, IsStored, none_stored, added, all_added, rewatched};
+ghost use Rattle.clause_db.specs.Stored.{live_in, Watches as WatchesOf, IsLong, IsStored, none_stored, added};
+ghost use Rattle.clause_db.specs.Stored.{all_added, rewatched};
 ghost use Rattle.clause_db.specs.Sorted.{sorted};
 ghost use Rattle.clause_db.specs.Moving.{IsMovable};
-ghost use Rattle.clause_db.specs.Blocking.{IsOf, AreBeside};
+ghost use Rattle.clause_db.specs.Blockers.{IsLiteralOf, AreBeside};
 ghost use Rattle.clause_db.specs.Deleting.{IsDeleted};
 
 use crate::lists::Watch;
@@ -37,7 +38,7 @@ pub struct ClauseDb {
 impl Model for ClauseDb {
     ghost use Rattle.std.specs.Prelude.{length, ◌≡◌};
     ghost use Rattle.clause_db.specs.Stored.{Stored, IsStored};
-    ghost use Rattle.clause_db.specs.Blocking.{AreBlockers};
+    ghost use Rattle.clause_db.specs.Blockers.{AreBlockers};
     ghost use Rattle.clause_db.specs.Arranging.{shown};
 
     ghost Value = { Stored };
@@ -46,7 +47,7 @@ impl Model for ClauseDb {
 
     ghost invariant = { λ c. IsStored (shown c.vars c.live.items c.watches)
         × AreBlockers (shown c.vars c.live.items c.watches) c.watches.rows
-        × (length c.live.items ≡ length c.watches.blocks) };
+        × (length c.live.items ≡ length c.watches.arena) };
 }
 
 #[tactic(auto, using(crate::proofs::Databases::databases))]
@@ -109,8 +110,10 @@ impl ClauseDb {
         requires live { IsSome (live_in self.now id) }
         ensures value { live_in self.now id ≡ Some (sorted result.now) }
         ensures long { (clause : List ℤ) → live_in self.now id ≡ Some clause → length result.now ≡ length clause }
-        ensures same { (clause : List ℤ) → live_in self.now id ≡ Some clause → (l : ℤ) → Contains result.now l ↔ Contains clause l }
-        ensures front { IsLong self.now id → (2 ≤ length result.now) × (pair_of result.now ≡ pair_at self.now.watches id) }
+        ensures same { (clause : List ℤ) → live_in self.now id ≡ Some clause → (l : ℤ) →
+            Contains result.now l ↔ Contains clause l }
+        ensures front { IsLong self.now id → (2 ≤ length result.now) ×
+            (pair_of result.now ≡ pair_at self.now.watches id) }
         ensures clause { IsClause result.now }
         ensures over { IsWithin self.now.vars result.now }
         ensures whole { IsStored self.now }
@@ -123,8 +126,10 @@ impl ClauseDb {
     pub fn arranged_at(&self, lit: Lit, index: usize) -> &[Lit]
         requires over { variable_of lit ≤ self.now.vars }
         requires inside { index < length (list_of self.now.watches lit) }
-        ensures same { (clause : List ℤ) → live_in self.now (slice_index_or (list_of self.now.watches lit) index 0) ≡ Some clause → (l : ℤ) → Contains result.now l ↔ Contains clause l }
-        ensures front { (2 ≤ length result.now) × (pair_of result.now ≡ pair_at self.now.watches (slice_index_or (list_of self.now.watches lit) index 0)) }
+        ensures same { (clause : List ℤ) → live_in self.now (slice_index_or (list_of self.now.watches lit) index 0) ≡
+            Some clause → (l : ℤ) → Contains result.now l ↔ Contains clause l }
+        ensures front { (2 ≤ length result.now) ×
+            (pair_of result.now ≡ pair_at self.now.watches (slice_index_or (list_of self.now.watches lit) index 0)) }
         ensures clause { IsClause result.now }
         ensures over { IsWithin self.now.vars result.now }
         ensures whole { IsStored self.now }
@@ -168,7 +173,8 @@ impl ClauseDb {
         ensures second { WatchesOf self.now id result.1 }
         ensures differ { result.0 ≢ result.1 }
         ensures only { (l : ℤ) → WatchesOf self.now id l → (l ≡ result.0) ⊎ (l ≡ result.1) }
-        ensures of_clause { (clause : List ℤ) → live_in self.now id ≡ Some clause → Contains clause result.0 × Contains clause result.1 }
+        ensures of_clause { (clause : List ℤ) → live_in self.now id ≡ Some clause → Contains clause result.0 ×
+            Contains clause result.1 }
         ensures whole { IsStored self.now }
     {
         let pair = self.watches.pair(id);
@@ -201,10 +207,10 @@ impl ClauseDb {
 
     /// Makes `by`, a literal of the clause at an index in the watch list of `lit`, the blocking literal of
     /// that entry. Contracts see no change.
-    pub fn block(&mut self, lit: Lit, index: usize, by: Lit)
+    pub fn set_blocker(&mut self, lit: Lit, index: usize, by: Lit)
         requires over { variable_of lit ≤ self.old.vars }
         requires inside { index < length (list_of self.old.watches lit) }
-        requires there { IsOf self.old (slice_index_or (list_of self.old.watches lit) index 0) by }
+        requires there { IsLiteralOf self.old (slice_index_or (list_of self.old.watches lit) index 0) by }
         ensures same { self.new ≡ self.old }
         ensures whole { IsStored self.new }
     {
@@ -223,7 +229,8 @@ impl ClauseDb {
         place: usize,
     ) -> Result<(), AllocError>
         requires movable { IsMovable self.old (slice_index_or (list_of self.old.watches from) index 0) from to index }
-        ensures ok { OnOk result (self.new ≡ rewatched self.old (slice_index_or (list_of self.old.watches from) index 0) from to index) }
+        ensures ok { OnOk result (self.new ≡ rewatched self.old
+            (slice_index_or (list_of self.old.watches from) index 0) from to index) }
         ensures err { OnErr result (self.new ≡ self.old) }
         ensures whole { IsStored self.new }
     {
@@ -265,7 +272,8 @@ impl ClauseDb {
         requires from { WatchesOf self.old id from }
         requires there { (clause : List ℤ) → live_in self.old id ≡ Some clause → Contains clause to }
         requires other { WatchesOf self.old id to → ⊥ }
-        ensures ok { OnOk result ((index : ℕ) × IsMovable self.old id from to index × (self.new ≡ rewatched self.old id from to index)) }
+        ensures ok { OnOk result ((index : ℕ) × IsMovable self.old id from to index ×
+            (self.new ≡ rewatched self.old id from to index)) }
         ensures err { OnErr result (self.new ≡ self.old) }
         ensures whole { IsStored self.new }
     {

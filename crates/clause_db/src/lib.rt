@@ -21,7 +21,7 @@
 //! ```
 #![tactic(auto)]
 
-mod blocks;
+mod arena;
 mod clause_db;
 mod lists;
 mod room;

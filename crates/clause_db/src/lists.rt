@@ -1,11 +1,12 @@
 //! The watch list of a literal: for each clause that watches it a blocking literal, and the arena position
 //! where its literals begin. Both are in one struct, so lists can't differ in length, and a visit needs no
 //! table of starts. While clauses are moved, entries have ids instead of starts.
-ghost use Rattle.std.specs.Prelude.{◌≡◌, ◌-◌, ◌<◌, ◌∷◌, [], ◌++◌, length, take, map, slice_index_or, slice_set, All, IfOk, OnOk, OnErr};
+ghost use Rattle.std.specs.Prelude.{◌≡◌, ◌-◌, ◌<◌, ◌∷◌, [], ◌++◌, length, take, map, slice_index_or, slice_set, All};
+ghost use Rattle.std.specs.Prelude.{IfOk, OnOk, OnErr};
 ghost use Rattle.std.specs.List.{swap_remove};
 ghost use Rattle.clause_db.specs.Lists.{no_watch, blocked_by, named, placed, IsDirect, IsNamed};
 
-use crate::blocks::Blocks;
+use crate::arena::Arena;
 use cnf_core::Lit;
 use std::alloc::{AllocError, Global};
 use std::marker::Model;
@@ -26,14 +27,14 @@ pub(crate) struct WatchList {
 }
 
 impl Model for WatchList {
-    ghost use Rattle.clause_db.specs.Lists.{Listed};
+    ghost use Rattle.clause_db.specs.Lists.{WatchEntries};
 
-    ghost Value = { Listed };
+    ghost Value = { WatchEntries };
 
     ghost view = { λ l. l.entries.items };
 }
 
-#[tactic(auto, using(crate::proofs::Listed::entries))]
+#[tactic(auto, using(crate::proofs::WatchEntries::entries))]
 impl WatchList {
     /// The empty list, with capacity for `room` entries.
     pub(crate) fn none(alloc: Global, room: usize) -> Result<WatchList, AllocError>
@@ -89,38 +90,38 @@ impl WatchList {
     }
 
     /// Replaces the start of each clause by its id.
-    pub(crate) fn put_ids(&mut self, blocks: &Blocks)
-        requires { All (IsDirect blocks.now) self.old }
-        ensures { self.new ≡ map (named blocks.now.starts) self.old }
+    pub(crate) fn put_ids(&mut self, arena: &Arena)
+        requires { All (IsDirect arena.now) self.old }
+        ensures { self.new ≡ map (named arena.now.starts) self.old }
     {
-        ids_for_starts(&mut self.entries, blocks);
+        ids_for_starts(&mut self.entries, arena);
     }
 
     /// Replaces the id of each clause by its start.
-    pub(crate) fn put_starts(&mut self, blocks: &Blocks)
-        requires { All (IsNamed blocks.now) self.old }
-        ensures { self.new ≡ map (placed blocks.now.starts) self.old }
+    pub(crate) fn put_starts(&mut self, arena: &Arena)
+        requires { All (IsNamed arena.now) self.old }
+        ensures { self.new ≡ map (placed arena.now.starts) self.old }
     {
-        starts_for_ids(&mut self.entries, blocks);
+        starts_for_ids(&mut self.entries, arena);
     }
 }
 
-fn ids_for_starts(entries: &mut [Watch], blocks: &Blocks)
-    requires { All (IsDirect blocks.now) entries.old }
-    ensures { entries.new ≡ map (named blocks.now.starts) entries.old }
+fn ids_for_starts(entries: &mut [Watch], arena: &Arena)
+    requires { All (IsDirect arena.now) entries.old }
+    ensures { entries.new ≡ map (named arena.now.starts) entries.old }
 {
     for index in 0..entries.len() {
-        let id = blocks.id(entries[index].start);
+        let id = arena.id(entries[index].start);
         entries[index].start = id;
     }
 }
 
-fn starts_for_ids(entries: &mut [Watch], blocks: &Blocks)
-    requires { All (IsNamed blocks.now) entries.old }
-    ensures { entries.new ≡ map (placed blocks.now.starts) entries.old }
+fn starts_for_ids(entries: &mut [Watch], arena: &Arena)
+    requires { All (IsNamed arena.now) entries.old }
+    ensures { entries.new ≡ map (placed arena.now.starts) entries.old }
 {
     for index in 0..entries.len() {
-        let start = blocks.start(entries[index].start as usize - 1);
+        let start = arena.start(entries[index].start as usize - 1);
         entries[index].start = start;
     }
 }

@@ -3,16 +3,17 @@
 //! starts. Moving a watch reads its entry once: a push to one list, a swap of two literals, and a removal
 //! from another list. The push comes first, since it alone can run out of memory. While literals move in the
 //! arena, entries have ids instead of starts.
-ghost use Rattle.std.specs.Prelude.{◌≡◌, ◌≢◌, ◌⊎◌, ◌↔◌, ℤ, IsTrue, ◌+◌, ◌-◌, ◌*◌, ◌<◌, ◌≤◌, [], length, take, map, All, Contains, pos, slice_index_or, slice_set, replicate, IfOk, OnOk, OnErr};
+ghost use Rattle.std.specs.Prelude.{◌≡◌, ◌≢◌, ◌⊎◌, ◌↔◌, ℤ, IsTrue, ◌+◌, ◌-◌, ◌*◌, ◌<◌, ◌≤◌, [], length, take, map, All};
+ghost use Rattle.std.specs.Prelude.{Contains, pos, slice_index_or, slice_set, replicate, IfOk, OnOk, OnErr};
 ghost use Rattle.std.specs.List.{swap_remove};
 ghost use Rattle.cdcl_theory.specs.Codes.{code_of};
-ghost use Rattle.clause_db.specs.Watching.{listed_in, pair_of, with_id, with_ids, watching_moved};
-ghost use Rattle.clause_db.specs.Blocking.{row_of, with_row, with_blocker, with_blockers, rows_moved, besides};
+ghost use Rattle.clause_db.specs.Watching.{watch_list_in, pair_of, with_id, with_ids, watching_moved};
+ghost use Rattle.clause_db.specs.Blockers.{row_of, with_row, with_blocker, with_blockers, rows_moved, other_watch};
 ghost use Rattle.clause_db.specs.Arranging.{block_at, watching_of, arranged_more, ArePermuted, IsNoneOf};
 ghost use Rattle.clause_db.specs.Deleting.{arranged_left, arranged_without};
 ghost use Rattle.clause_db.specs.Lists.{blockers_of, named, placed, AreDirect, AreNamed};
 
-use crate::blocks::Blocks;
+use crate::arena::Arena;
 use crate::lists::{Watch, WatchList};
 use crate::room::Room;
 use cnf_core::Lit;
@@ -21,7 +22,7 @@ use std::marker::Model;
 
 /// The two watched literals of a clause; if it has fewer, the literal 1 replaces a missing one.
 #[derive(Clone, Copy)]
-pub(crate) struct Pair {
+pub(crate) struct WatchedPair {
     pub(crate) first: Lit,
     pub(crate) second: Lit,
 }
@@ -30,7 +31,7 @@ pub(crate) struct Pair {
 /// its code.
 #[derive(Drop)]
 pub(crate) struct Watches {
-    blocks: Blocks,
+    arena: Arena,
     lists: Vec<WatchList>,
 }
 
@@ -41,24 +42,32 @@ impl Model for Watches {
 
     ghost use Rattle.clause_db.specs.Lists.{lists_of, rows_of, AreDirect};
 
-    ghost view = { λ w. record { blocks = w.blocks.lists; lists = lists_of w.blocks.starts w.lists.items; rows = rows_of w.lists.items } };
+    ghost view = { λ w. record {
+      arena = w.arena.lists;
+      lists = lists_of w.arena.starts w.lists.items;
+      rows = rows_of w.lists.items;
+    } };
 
-    ghost invariant = { λ w. AreDirect w.blocks w.lists.items };
+    ghost invariant = { λ w. AreDirect w.arena w.lists.items };
 }
 
-#[tactic(auto, using(crate::proofs::Listed::listing))]
+#[tactic(auto, using(crate::proofs::WatchEntries::listing))]
 impl Watches {
     /// No clauses, and an empty list for each literal of the variables 1 to `vars`.
     pub(crate) fn none(alloc: Global, vars: u32, room: &Room) -> Result<Watches, AllocError>
         requires { vars < 1000000000 }
-        ensures { IfOk result (λ w. w ≡ record { blocks = []; lists = replicate (2 * vars + 2) []; rows = replicate (2 * vars + 2) [] }) }
+        ensures { IfOk result (λ w. w ≡ record {
+          arena = [];
+          lists = replicate (2 * vars + 2) [];
+          rows = replicate (2 * vars + 2) [];
+        }) }
     {
         let mut lists = Vec::with_capacity(alloc, 2 * vars as usize + 2)?;
         for code in 0..2 * vars as usize + 2 {
             lists.push(WatchList::none(alloc, room.watching(code))?)?;
         }
         Ok(Watches {
-            blocks: Blocks::none(alloc, room)?,
+            arena: Arena::none(alloc, room)?,
             lists,
         })
     }
@@ -66,17 +75,17 @@ impl Watches {
     /// The literals of the clause with this id, the watched ones first.
     pub(crate) fn block(&self, id: u32) -> &[Lit]
         requires some { 0 < id }
-        requires given { id ≤ length self.now.blocks }
-        ensures { result.now ≡ block_at self.now.blocks id }
+        requires given { id ≤ length self.now.arena }
+        ensures { result.now ≡ block_at self.now.arena id }
     {
-        self.blocks.get(id as usize - 1)
+        self.arena.get(id as usize - 1)
     }
 
     /// The watched literals of the clause with this id.
-    pub(crate) fn pair(&self, id: u32) -> Pair
+    pub(crate) fn pair(&self, id: u32) -> WatchedPair
         requires some { 0 < id }
-        requires given { id ≤ length self.now.blocks }
-        ensures { result ≡ pair_of (block_at self.now.blocks id) }
+        requires given { id ≤ length self.now.arena }
+        ensures { result ≡ pair_of (block_at self.now.arena id) }
     {
         first_two(self.block(id))
     }
@@ -84,7 +93,7 @@ impl Watches {
     /// The watch list of a literal. Contracts see its length and the blocking literals.
     pub(crate) fn list(&self, lit: Lit) -> &[Watch]
         requires { code_of lit < length self.now.lists }
-        ensures long { length result.now ≡ length (listed_in self.now.lists lit) }
+        ensures long { length result.now ≡ length (watch_list_in self.now.lists lit) }
         ensures blockers { blockers_of result.now ≡ row_of self.now.rows lit }
     {
         self.lists[lit.code()].entries()
@@ -93,44 +102,47 @@ impl Watches {
     /// The id at an index in a watch list.
     pub(crate) fn id_at(&self, lit: Lit, index: usize) -> u32
         requires room { code_of lit < length self.now.lists }
-        requires inside { index < length (listed_in self.now.lists lit) }
-        ensures { slice_index_or (listed_in self.now.lists lit) index 0 ≡ result }
+        requires inside { index < length (watch_list_in self.now.lists lit) }
+        ensures { slice_index_or (watch_list_in self.now.lists lit) index 0 ≡ result }
     {
         let watch = self.lists[lit.code()].at(index);
-        self.blocks.id(watch.start)
+        self.arena.id(watch.start)
     }
 
     /// Whether an id is at an index in a watch list. It compares the starts, so no clause is read.
     pub(crate) fn stands_at(&self, lit: Lit, index: usize, id: u32) -> bool
         requires room { code_of lit < length self.now.lists }
-        requires inside { index < length (listed_in self.now.lists lit) }
+        requires inside { index < length (watch_list_in self.now.lists lit) }
         requires some { 0 < id }
-        requires given { id ≤ length self.now.blocks }
-        ensures { IsTrue result ↔ (slice_index_or (listed_in self.now.lists lit) index 0 ≡ id) }
+        requires given { id ≤ length self.now.arena }
+        ensures { IsTrue result ↔ (slice_index_or (watch_list_in self.now.lists lit) index 0 ≡ id) }
     {
         let watch = self.lists[lit.code()].at(index);
-        watch.start == self.blocks.start(id as usize - 1)
+        watch.start == self.arena.start(id as usize - 1)
     }
 
     /// The literals of the clause at an index in a watch list.
     pub(crate) fn entry_block(&self, lit: Lit, index: usize) -> &[Lit]
         requires room { code_of lit < length self.now.lists }
-        requires inside { index < length (listed_in self.now.lists lit) }
-        ensures { result.now ≡ block_at self.now.blocks (slice_index_or (listed_in self.now.lists lit) index 0) }
+        requires inside { index < length (watch_list_in self.now.lists lit) }
+        ensures { result.now ≡ block_at self.now.arena (slice_index_or (watch_list_in self.now.lists lit) index 0) }
     {
         let watch = self.lists[lit.code()].at(index);
-        self.blocks.read(watch.start)
+        self.arena.read(watch.start)
     }
 
     /// Appends an id to a watch list, with a blocking literal.
     fn push(&mut self, lit: Lit, id: u32, blocker: Lit) -> Result<(), AllocError>
         requires room { code_of lit < length self.old.lists }
         requires some { 0 < id }
-        requires given { id ≤ length self.old.blocks }
-        ensures ok { OnOk result (self.new ≡ record self.old { lists = with_id self.old.lists lit id; rows = with_blocker self.old.rows lit blocker }) }
+        requires given { id ≤ length self.old.arena }
+        ensures ok { OnOk result (self.new ≡ record self.old {
+          lists = with_id self.old.lists lit id;
+          rows = with_blocker self.old.rows lit blocker;
+        }) }
         ensures err { OnErr result (self.new ≡ self.old) }
     {
-        let start = self.blocks.start(id as usize - 1);
+        let start = self.arena.start(id as usize - 1);
         self.lists[lit.code()].push(Watch { blocker, start })?;
         Ok(())
     }
@@ -138,7 +150,12 @@ impl Watches {
     /// Removes the last entry of a watch list.
     fn take_last(&mut self, lit: Lit)
         requires { code_of lit < length self.old.lists }
-        ensures { self.new ≡ record self.old { lists = slice_set self.old.lists (code_of lit) (take (length (listed_in self.old.lists lit) - 1) (listed_in self.old.lists lit)); rows = with_row self.old.rows lit (take (length (row_of self.old.rows lit) - 1) (row_of self.old.rows lit)) } }
+        ensures { self.new ≡ record self.old {
+          lists =
+              slice_set self.old.lists (code_of lit) (take (length (watch_list_in self.old.lists lit) - 1)
+              (watch_list_in self.old.lists lit));
+          rows = with_row self.old.rows lit (take (length (row_of self.old.rows lit) - 1) (row_of self.old.rows lit));
+        } }
     {
         self.lists[lit.code()].take_last();
     }
@@ -148,8 +165,11 @@ impl Watches {
     fn push_both(&mut self, lits: &[Lit], id: u32) -> Result<(), AllocError>
         requires rooms { All (λ l. code_of l < length self.old.lists) lits.now }
         requires some { 0 < id }
-        requires given { id ≤ length self.old.blocks }
-        ensures ok { OnOk result (self.new ≡ record self.old { lists = with_ids self.old.lists lits.now id; rows = with_blockers self.old.rows lits.now }) }
+        requires given { id ≤ length self.old.arena }
+        ensures ok { OnOk result (self.new ≡ record self.old {
+          lists = with_ids self.old.lists lits.now id;
+          rows = with_blockers self.old.rows lits.now;
+        }) }
         ensures err { OnErr result (self.new ≡ self.old) }
     {
         if lits.len() < 2 {
@@ -170,15 +190,15 @@ impl Watches {
     /// Adds the clause of the next id, which watches its first two literals.
     pub(crate) fn add(&mut self, lits: &[Lit], id: u32) -> Result<(), AllocError>
         requires rooms { All (λ l. code_of l < length self.old.lists) lits.now }
-        requires next { id ≡ length self.old.blocks + 1 }
+        requires next { id ≡ length self.old.arena + 1 }
         ensures ok { OnOk result (self.new ≡ arranged_more self.old lits.now id) }
         ensures err { OnErr result (self.new ≡ self.old) }
     {
-        self.blocks.push(lits)?;
+        self.arena.push(lits)?;
         match self.push_both(lits, id) {
             Ok(()) => Ok(()),
             Err(error) => {
-                self.blocks.pop();
+                self.arena.pop();
                 Err(error)
             }
         }
@@ -188,7 +208,10 @@ impl Watches {
     pub(crate) fn set(&mut self, lit: Lit, index: usize, by: Lit)
         requires room { code_of lit < length self.old.lists }
         requires beside { index < length (row_of self.old.rows lit) }
-        ensures { self.new ≡ record self.old { rows = with_row self.old.rows lit (slice_set (row_of self.old.rows lit) index by) } }
+        ensures { self.new ≡ record self.old {
+          rows =
+              with_row self.old.rows lit (slice_set (row_of self.old.rows lit) index by);
+        } }
     {
         self.lists[lit.code()].set(index, by);
     }
@@ -204,24 +227,33 @@ impl Watches {
         place: usize,
     ) -> Result<(), AllocError>
         requires rooms { (code_of from < length self.old.lists) × (code_of to < length self.old.lists) }
-        requires inside { index < length (listed_in self.old.lists from) }
-        requires id { (0 < slice_index_or (listed_in self.old.lists from) index 0) × (slice_index_or (listed_in self.old.lists from) index 0 ≤ length self.old.blocks) }
-        requires two { 2 ≤ length (block_at self.old.blocks (slice_index_or (listed_in self.old.lists from) index 0)) }
+        requires inside { index < length (watch_list_in self.old.lists from) }
+        requires id { (0 < slice_index_or (watch_list_in self.old.lists from) index 0) ×
+            (slice_index_or (watch_list_in self.old.lists from) index 0 ≤ length self.old.arena) }
+        requires two { 2 ≤ length (block_at self.old.arena
+            (slice_index_or (watch_list_in self.old.lists from) index 0)) }
         requires apart { from ≢ to }
-        requires there { Contains (block_at self.old.blocks (slice_index_or (listed_in self.old.lists from) index 0)) to }
-        requires other { IsNoneOf (pair_of (block_at self.old.blocks (slice_index_or (listed_in self.old.lists from) index 0))) to }
-        ensures ok { OnOk result (watching_of self.new ≡ watching_moved (watching_of self.old) (slice_index_or (listed_in self.old.lists from) index 0) from to index) }
-        ensures rows { OnOk result (self.new.rows ≡ rows_moved self.old.rows from to index (besides (pair_of (block_at self.old.blocks (slice_index_or (listed_in self.old.lists from) index 0))) from)) }
-        ensures order { OnOk result (ArePermuted self.old.blocks self.new.blocks) }
+        requires there { Contains (block_at self.old.arena
+            (slice_index_or (watch_list_in self.old.lists from) index 0)) to }
+        requires other { IsNoneOf (pair_of (block_at self.old.arena
+            (slice_index_or (watch_list_in self.old.lists from) index 0))) to }
+        ensures ok { OnOk result (watching_of self.new ≡
+            watching_moved (watching_of self.old) (slice_index_or (watch_list_in self.old.lists from) index 0) from to
+            index) }
+        ensures rows { OnOk result (self.new.rows ≡
+            rows_moved self.old.rows from to index
+            (other_watch (pair_of (block_at self.old.arena
+            (slice_index_or (watch_list_in self.old.lists from) index 0))) from)) }
+        ensures order { OnOk result (ArePermuted self.old.arena self.new.arena) }
         ensures err { OnErr result (self.new ≡ self.old) }
     {
         let start = self.lists[from.code()].at(index).start;
-        let block = self.blocks.read(start);
+        let block = self.arena.read(start);
         let low = place_of_watch(block, from);
         let blocker = block[1 - low];
         let high = place_of(block, to, place);
         self.lists[to.code()].push(Watch { blocker, start })?;
-        self.blocks.exchange(start, low, high);
+        self.arena.exchange(start, low, high);
         self.lists[from.code()].take_out(index);
         Ok(())
     }
@@ -229,10 +261,11 @@ impl Watches {
     /// Removes an id from two watch lists, at the indices `index` and `place`, and empties its literals.
     pub(crate) fn leave(&mut self, id: u32, one: Lit, index: usize, other: Lit, place: usize)
         requires some { 0 < id }
-        requires given { id ≤ length self.old.blocks }
+        requires given { id ≤ length self.old.arena }
         requires rooms { (code_of one < length self.old.lists) × (code_of other < length self.old.lists) }
         requires apart { one ≢ other }
-        requires inside { (index < length (listed_in self.old.lists one)) × (place < length (listed_in self.old.lists other)) }
+        requires inside { (index < length (watch_list_in self.old.lists one)) ×
+            (place < length (watch_list_in self.old.lists other)) }
         ensures { self.new ≡ arranged_without (arranged_left (arranged_left self.old one index) other place) id }
     {
         self.take_out(one, index);
@@ -243,10 +276,10 @@ impl Watches {
     /// Empties the literals of an id.
     pub(crate) fn empty(&mut self, id: u32)
         requires some { 0 < id }
-        requires given { id ≤ length self.old.blocks }
+        requires given { id ≤ length self.old.arena }
         ensures { self.new ≡ arranged_without self.old id }
     {
-        self.blocks.empty(id as usize - 1);
+        self.arena.empty(id as usize - 1);
     }
 
     /// Frees the memory of emptied lists. The others may move, so entries have the ids of their clauses
@@ -254,46 +287,51 @@ impl Watches {
     pub(crate) fn compact(&mut self)
         ensures { self.new ≡ self.old }
     {
-        all_ids_for_starts(&mut self.lists, &self.blocks);
-        self.blocks.pack();
-        all_starts_for_ids(&mut self.lists, &self.blocks);
+        all_ids_for_starts(&mut self.lists, &self.arena);
+        self.arena.pack();
+        all_starts_for_ids(&mut self.lists, &self.arena);
     }
 
     /// Removes the entry at an index from a watch list.
     fn take_out(&mut self, lit: Lit, index: usize)
         requires room { code_of lit < length self.old.lists }
-        requires inside { index < length (listed_in self.old.lists lit) }
-        ensures { self.new ≡ record self.old { lists = slice_set self.old.lists (code_of lit) (swap_remove (listed_in self.old.lists lit) index 0); rows = with_row self.old.rows lit (swap_remove (row_of self.old.rows lit) index (pos 1)) } }
+        requires inside { index < length (watch_list_in self.old.lists lit) }
+        ensures { self.new ≡ record self.old {
+          lists =
+              slice_set self.old.lists (code_of lit) (swap_remove (watch_list_in self.old.lists lit) index 0);
+          rows =
+              with_row self.old.rows lit (swap_remove (row_of self.old.rows lit) index (pos 1));
+        } }
     {
         self.lists[lit.code()].take_out(index);
     }
 }
 
 /// Replaces starts by ids, in each entry of all watch lists.
-fn all_ids_for_starts(lists: &mut [WatchList], blocks: &Blocks)
-    requires { AreDirect blocks.now lists.old }
-    ensures { lists.new ≡ map (map (named blocks.now.starts)) lists.old }
+fn all_ids_for_starts(lists: &mut [WatchList], arena: &Arena)
+    requires { AreDirect arena.now lists.old }
+    ensures { lists.new ≡ map (map (named arena.now.starts)) lists.old }
 {
     for index in 0..lists.len() {
-        lists[index].put_ids(blocks);
+        lists[index].put_ids(arena);
     }
 }
 
 /// Replaces ids by starts, in each entry of all watch lists.
-fn all_starts_for_ids(lists: &mut [WatchList], blocks: &Blocks)
-    requires { AreNamed blocks.now lists.old }
-    ensures { lists.new ≡ map (map (placed blocks.now.starts)) lists.old }
+fn all_starts_for_ids(lists: &mut [WatchList], arena: &Arena)
+    requires { AreNamed arena.now lists.old }
+    ensures { lists.new ≡ map (map (placed arena.now.starts)) lists.old }
 {
     for index in 0..lists.len() {
-        lists[index].put_starts(blocks);
+        lists[index].put_starts(arena);
     }
 }
 
 /// The first two literals; 1 replaces a missing one.
-fn first_two(lits: &[Lit]) -> Pair
+fn first_two(lits: &[Lit]) -> WatchedPair
     ensures { result ≡ pair_of lits.now }
 {
-    Pair {
+    WatchedPair {
         first: literal_at(lits, 0),
         second: literal_at(lits, 1),
     }

@@ -20,7 +20,7 @@ use Rattle.chain_core.specs.WrittenBlockLaws.{lines_read, lines_spelled}
 use Rattle.chain_core.specs.WrittenLineLaws.{both_true}
 use Rattle.cmd_agree.specs.declared.agree.AgreeError.{AgreeError}
 use Rattle.cmd_agree.specs.declared.agree.AgreeError.TheVariants.{BadEnd}
-use Rattle.cmd_agree.specs.Agree.{Question, ◌>>=◌, tables_in, chain_in, nothing_in, end_in, chain_behind, question_in, question_of}
+use Rattle.cmd_agree.specs.Agree.{AgreeInput, ◌>>=◌, tables_in, chain_in, nothing_in, end_in, chain_following, question_in, question_of}
 use Rattle.cmd_agree.specs.Asked.{end_line, AsksQuestion}
 use Rattle.cmd_agree.proofs.TablesRead.{tables_whole}
 
@@ -90,26 +90,26 @@ record SpellsChain (n m : ℕ) (ls : List Line) (c : Chain) : Type 0 where
   steps : length c.steps ≤ 16
   lines : ls ≡ chain_lines c ++ end_line ∷ []
 
-chain_spells : (read : tables.Read) (c : Chain) → chain_behind read ≡ Ok c → SpellsChain read.words.n (length read.words.on) read.rest c
-unfolding chain_behind
+chain_spells : (read : tables.Read) (c : Chain) → chain_following read ≡ Ok c → SpellsChain read.words.n (length read.words.on) read.rest c
+unfolding chain_following
 chain_spells read c e =
     let found = bind_ok (chain_in (block.chain_of (2 + length read.words.on) read.words.n (length read.words.on) read.rest)) _ c e in
     let ended = bind_ok (end_in (3 + 2 * length read.words.on + length found.0.chain.steps) found.0.rest) _ c found.2 in
     let lines = lines_spelled (2 + length read.words.on) read.words.n (length read.words.on) read.rest found.0 (chain_ok _ found.0 found.1) in
-    let behind : found.0.rest ≡ end_line ∷ [] = end_spells _ found.0.rest ended.0 ended.1 in
+    let following : found.0.rest ≡ end_line ∷ [] = end_spells _ found.0.rest ended.0 ended.1 in
     let same : found.0.chain ≡ c = ok_is found.0.chain c ended.2 in
     let here : SpellsChain read.words.n (length read.words.on) read.rest found.0.chain = record {
       chain = lines.chain;
       inputs = lines.inputs;
       outputs = lines.outputs;
       steps = lines.steps;
-      lines = lines.lines ∙ ap (λ (ls : List Line). chain_lines found.0.chain ++ ls) behind;
+      lines = lines.lines ∙ ap (λ (ls : List Line). chain_lines found.0.chain ++ ls) following;
     } in
     subst (λ (x : Chain). SpellsChain read.words.n (length read.words.on) read.rest x) same here
 
 -- the spelling of a chain and the end after it are read as that chain
-chain_back : (w : Words) (c : Chain) (ls : List Line) → IsSpec w → SpellsChain w.n (length w.on) ls c → chain_behind (record { words = w; rest = ls }) ≡ Ok c
-unfolding chain_behind
+chain_back : (w : Words) (c : Chain) (ls : List Line) → IsSpec w → SpellsChain w.n (length w.on) ls c → chain_following (record { words = w; rest = ls }) ≡ Ok c
+unfolding chain_following
 chain_back w c ls spec spells =
     let few_inputs = spec.inputs in
     let few_outputs = spec.outputs in
@@ -117,31 +117,32 @@ chain_back w c ls spec spells =
     let outputs = spells.outputs in
     let small : IsSmallChain c = record { chain = spells.chain; inputs = omega arith; steps = spells.steps; outs = omega arith } in
     let first = 2 + length w.on in
-    let lines : block.chain_of first w.n (length w.on) ls ≡ block.chain_of first c.n (length c.outs) (chain_lines c ++ end_line ∷ []) = λ i. block.chain_of first (sym inputs i) (sym outputs i) (spells.lines i) in
+    let lines : block.chain_of first w.n (length w.on) ls ≡ block.chain_of first c.n (length c.outs) (chain_lines c ++
+    end_line ∷ []) = λ i. block.chain_of first (sym inputs i) (sym outputs i) (spells.lines i) in
     let read = lines ∙ lines_read first c (end_line ∷ []) small in
     rw (read, end_back (3 + 2 * length w.on + length c.steps)) refl
 
 -- ---- questions
 
-abbrev question_as : Specification → Chain → Question
+abbrev question_as : Specification → Chain → AgreeInput
 question_as tables chain = record { tables = tables; chain = chain }
 
 -- A text that is read as a question is its spelling.
-pub question_spelled : (bytes : List ℕ) (question : Question) → question_of bytes ≡ Ok question → AsksQuestion bytes question
+pub question_spelled : (bytes : List ℕ) (question : AgreeInput) → question_of bytes ≡ Ok question → AsksQuestion bytes question
 unfolding question_in
 question_spelled bytes question e =
     let ls = lines_of bytes in
     let read = bind_ok (tables_in (tables.tables_of ls)) _ question e in
-    let chain = bind_ok (chain_behind read.0) _ question read.2 in
+    let chain = bind_ok (chain_following read.0) _ question read.2 in
     let spells = tables_spelled ls read.0 (tables_ok (tables.tables_of ls) read.0 read.1) in
     let block = chain_spells read.0 chain.0 chain.1 in
-    let found : Question = record { tables = specification read.0.words; chain = chain.0 } in
+    let found : AgreeInput = record { tables = specification read.0.words; chain = chain.0 } in
     let same : found ≡ question = ok_is found question chain.2 in
     let here : AsksQuestion bytes found = record {
       words = read.0.words;
       are = tables_whole ls read.0 (tables_ok (tables.tables_of ls) read.0 read.1);
       specify = refl;
-      behind = read.0.rest;
+      following = read.0.rest;
       tables = spells;
       chain = block.chain;
       inputs = block.inputs;
@@ -149,25 +150,27 @@ question_spelled bytes question e =
       steps = block.steps;
       lines = block.lines;
     } in
-    subst (λ (q : Question). AsksQuestion bytes q) same here
+    subst (λ (q : AgreeInput). AsksQuestion bytes q) same here
 
 -- The spelling of a question is read as that question.
-words_back : (bytes : List ℕ) (w : Words) (c : Chain) (behind : List Line) → IsSpec w → SpellsTables (specification w) (lines_of bytes) behind → SpellsChain w.n (length w.on) behind c → question_of bytes ≡ Ok (record { tables = specification w; chain = c })
+words_back : (bytes : List ℕ) (w : Words) (c : Chain) (following : List Line) → IsSpec w →
+    SpellsTables (specification w) (lines_of bytes) following → SpellsChain w.n (length w.on) following c →
+    question_of bytes ≡ Ok (record { tables = specification w; chain = c })
 unfolding question_in
-words_back bytes w c behind spec tables chain =
-    rw (tables_again w (lines_of bytes) behind spec tables, chain_back w c behind spec chain) refl
+words_back bytes w c following spec tables chain =
+    rw (tables_again w (lines_of bytes) following spec tables, chain_back w c following spec chain) refl
 
-pub question_back : (bytes : List ℕ) (question : Question) → AsksQuestion bytes question → question_of bytes ≡ Ok question
+pub question_back : (bytes : List ℕ) (question : AgreeInput) → AsksQuestion bytes question → question_of bytes ≡ Ok question
 question_back bytes question asks =
     let w = asks.words in
-    let chain : SpellsChain w.n (length w.on) asks.behind question.chain = record {
+    let chain : SpellsChain w.n (length w.on) asks.following question.chain = record {
       chain = asks.chain;
       inputs = asks.inputs ∙ ap (λ (s : Specification). s.inputs) asks.specify;
       outputs = asks.outputs ∙ ap (λ (s : Specification). s.outputs) asks.specify;
       steps = asks.steps;
       lines = asks.lines;
     } in
-    let spelled : SpellsTables (specification w) (lines_of bytes) asks.behind = subst (λ (s : Specification). SpellsTables s (lines_of bytes) asks.behind) asks.specify asks.tables in
-    let back = words_back bytes w question.chain asks.behind asks.are spelled chain in
+    let spelled : SpellsTables (specification w) (lines_of bytes) asks.following = subst (λ (s : Specification). SpellsTables s (lines_of bytes) asks.following) asks.specify asks.tables in
+    let back = words_back bytes w question.chain asks.following asks.are spelled chain in
     let same : done (question_as (specification w) question.chain) ≡ done question = λ i. done (question_as (sym asks.specify i) question.chain) in
     back ∙ same

@@ -7,7 +7,7 @@ use Rattle.text_core.specs.Lines.{Line}
 use Rattle.text_core.specs.Words.{begins_lower}
 use Rattle.tt_core.specs.Cells.{is_cell, on_bit, care_bit, word_of}
 use Rattle.tt_core.specs.Words.{Words, IsSpec}
-use Rattle.tt_core.specs.Tables.{Read, inputs_of, row_fault, with_row, end_of, unless_fault, rows_of, behind_inputs, tables_of}
+use Rattle.tt_core.specs.Tables.{Read, inputs_of, row_fault, with_row, end_of, unless_fault, rows_of, after_inputs, tables_of}
 use Rattle.tt_core.specs.KeepLaws.{kept}
 use Rattle.tt_core.specs.declared.error.SpecError.{SpecError}
 use Rattle.tt_core.specs.declared.error.SpecError.TheVariants.{BadRow, WrongLength, TooManyInputs, TooManyOutputs, NoOutput}
@@ -34,7 +34,10 @@ none_or None read r e = (refl, e)
 none_or (Some fault) read r e = absurd cc
 
 -- one more line, or the end
-row_step : (lower full : Bool) (w : Words) (l : Line) (ls : List Line) (r : Read) → (length w.on == 8) ≡ full → IsSpec w → (IsSpec (with_row w l.text) → rows_of (with_row w l.text) ls ≡ Ok r → IsSpec r.words) → cond lower (end_of w (l ∷ ls)) (cond full (Err TooManyOutputs) (unless_fault (row_fault w.n (2 + length w.on) l) (rows_of (with_row w l.text) ls))) ≡ Ok r → IsSpec r.words
+row_step : (lower full : Bool) (w : Words) (l : Line) (ls : List Line) (r : Read) → (length w.on == 8) ≡ full →
+    IsSpec w → (IsSpec (with_row w l.text) → rows_of (with_row w l.text) ls ≡ Ok r → IsSpec r.words) →
+    cond lower (end_of w (l ∷ ls)) (cond full (Err TooManyOutputs)
+    (unless_fault (row_fault w.n (2 + length w.on) l) (rows_of (with_row w l.text) ls))) ≡ Ok r → IsSpec r.words
 row_step true full w l ls r is spec next e = subst (λ (x : Words). IsSpec x) (at_end (length w.on == 0) w (l ∷ ls) r e) spec
 row_step false true w l ls r is spec next e = absurd cc
 row_step false false w l ls r is spec next e =
@@ -67,7 +70,7 @@ header_whole false n ls r is e =
     let low : n ≤ 6 = grind (arith, nat_tests) in
     rows_whole (record { n = n; on = []; care = [] }) ls r (nothing_whole n low) e
 
-inputs_whole : (o : Option ℕ) (ls : List Line) (r : Read) → behind_inputs o ls ≡ Ok r → IsSpec r.words
+inputs_whole : (o : Option ℕ) (ls : List Line) (r : Read) → after_inputs o ls ≡ Ok r → IsSpec r.words
 inputs_whole None ls r e = absurd cc
 inputs_whole (Some n) ls r e = header_whole (nat_lt 6 n) n ls r refl e
 

@@ -11,14 +11,14 @@ use Rattle.tt_core.specs.declared.error.SpecError.{SpecError}
 use Rattle.chain_core.specs.declared.error.ChainError.{ChainError}
 use Rattle.tt_core.specs.Tables as tables
 use Rattle.chain_core.specs.Block as block
-use Rattle.cmd_agree.specs.declared.agree.Answer.{Answer}
-use Rattle.cmd_agree.specs.declared.agree.Answer.TheVariants.{Agrees, Differs}
+use Rattle.cmd_agree.specs.declared.agree.AgreeAnswer.{AgreeAnswer}
+use Rattle.cmd_agree.specs.declared.agree.AgreeAnswer.TheVariants.{Agrees, Differs}
 use Rattle.cmd_agree.specs.declared.agree.AgreeError.{AgreeError}
 use Rattle.cmd_agree.specs.declared.agree.AgreeError.TheVariants.{Tables, Chained, BadEnd, Memory}
 use Rattle.cmd_lines.specs.TableLines.{most_of_tables}
 
 -- an input of `agree`: tables and a chain; the question is whether the chain implements them
-pub record Question : Type 0 where
+pub record AgreeInput : Type 0 where
   pub tables : Specification
   pub chain : Chain
 
@@ -46,25 +46,25 @@ end_in number [] = Err (BadEnd number)
 end_in number (l ∷ ls) = if l.ended && bytes_eq l.text (codes "end") then nothing_in (number + 1) ls else Err (BadEnd number)
 
 -- the chain block after the tables, followed by the line `end`
-unfoldable pub chain_behind : tables.Read → Result Chain AgreeError
-chain_behind read = do
+unfoldable pub chain_following : tables.Read → Result Chain AgreeError
+chain_following read = do
   found ← chain_in (block.chain_of (2 + length read.words.on) read.words.n (length read.words.on) read.rest)
   end ← end_in (3 + 2 * length read.words.on + length found.chain.steps) found.rest
   Ok found.chain
 
 -- tables, a chain block for their inputs and outputs, and the line `end`
-unfoldable pub question_in : List Line → Result Question AgreeError
+unfoldable pub question_in : List Line → Result AgreeInput AgreeError
 question_in ls = do
   read ← tables_in (tables.tables_of ls)
-  chain ← chain_behind read
+  chain ← chain_following read
   Ok (record { tables = specification read.words; chain = chain })
 
 -- the tables and the chain of the input
-abbrev pub question_of : List ℕ → Result Question AgreeError
+abbrev pub question_of : List ℕ → Result AgreeInput AgreeError
 question_of bytes = question_in (lines_of bytes)
 
 -- The bytes, no more than are read, are the spelling of this question.
-pub record IsQuestion (bytes : List ℕ) (question : Question) : Type 0 where
+pub record IsQuestion (bytes : List ℕ) (question : AgreeInput) : Type 0 where
   pub within : length bytes ≤ most_of_tables
   pub read : question_of bytes ≡ Ok question
 
@@ -89,12 +89,12 @@ Gives view (Ok x) read = read ≡ Ok (view x)
 Gives view (Err e) read = Fails e read
 
 -- the answer to a question: the chain implements the tables, or the first difference
-abbrev pub IsAnswer : Question → Answer → Type 0
+abbrev pub IsAnswer : AgreeInput → AgreeAnswer → Type 0
 IsAnswer question Agrees = agreement.Agrees question.chain question.tables
 IsAnswer question (Differs output row) = IsFirstDifference question.chain question.tables output row
 
 -- The bytes are a question with this answer.
-pub record HasAnswer (bytes : List ℕ) (answer : Answer) : Type 0 where
-  pub question : Question
+pub record HasAnswer (bytes : List ℕ) (answer : AgreeAnswer) : Type 0 where
+  pub question : AgreeInput
   pub asked : IsQuestion bytes question
   pub is_answer : IsAnswer question answer

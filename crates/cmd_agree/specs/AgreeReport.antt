@@ -2,19 +2,19 @@
 use Rattle.std.specs.Prelude.{ℕ, List, ◌++◌, None, codes, decimal}
 use Rattle.chain_core.specs.declared.error.ChainError.{ChainError}
 use Rattle.chain_core.specs.declared.error.ChainError.TheVariants as chains
-use Rattle.cmd_agree.specs.declared.agree.Answer.{Answer}
-use Rattle.cmd_agree.specs.declared.agree.Answer.TheVariants.{Agrees, Differs}
+use Rattle.cmd_agree.specs.declared.agree.AgreeAnswer.{AgreeAnswer}
+use Rattle.cmd_agree.specs.declared.agree.AgreeAnswer.TheVariants.{Agrees, Differs}
 use Rattle.cmd_agree.specs.declared.agree.AgreeError.{AgreeError}
 use Rattle.cmd_agree.specs.declared.agree.AgreeError.TheVariants as errors
 use Rattle.frame_core.specs.declared.status.Status.{Status}
 use Rattle.frame_core.specs.declared.status.Status.TheVariants.{Done, Malformed, Limit, Memory, Refused}
 use Rattle.cmd_agree.specs.Agree.{HasAnswer, HasFault}
 use Rattle.cmd_lines.specs.TableLines.{most_of_tables, spec_status, named_spec}
-use Rattle.frame_core.specs.Told.{Reply, Field, Refusal, at, memory}
+use Rattle.frame_core.specs.Reported.{Reply, Field, Refusal, at, memory}
 use Rattle.frame_core.specs.Task.{Task, at_once}
 
 -- A chain that differs has the status `Refused`.
-abbrev pub answer_status : Answer → Status
+abbrev pub answer_status : AgreeAnswer → Status
 answer_status Agrees = Done
 answer_status (Differs output row) = Refused
 
@@ -33,7 +33,7 @@ error_status (errors.BadEnd line) = Malformed
 error_status errors.Memory = Memory
 
 -- the output: `agrees`, or `differs H T` (output, row)
-unfoldable pub answer_text : Answer → List ℕ
+unfoldable pub answer_text : AgreeAnswer → List ℕ
 answer_text Agrees = codes "agrees\n"
 answer_text (Differs output row) = codes "differs " ++ decimal output ++ codes " " ++ decimal row ++ codes "\n"
 
@@ -52,11 +52,11 @@ named_error (errors.BadEnd line) = at (codes "BadEnd") line
 named_error errors.Memory = memory
 
 -- an answer as a reply, and an error as a refusal
-abbrev pub agree_reply : Answer → Reply
+abbrev pub agree_reply : AgreeAnswer → Reply
 agree_reply answer = record { text = answer_text answer; report = None; status = answer_status answer }
 
 abbrev pub agree_refusal : AgreeError → Refusal
 agree_refusal error = record { status = error_status error; named = named_error error }
 
 abbrev pub agree_task : Task
-agree_task = at_once most_of_tables Answer HasAnswer agree_reply AgreeError HasFault agree_refusal
+agree_task = at_once most_of_tables AgreeAnswer HasAnswer agree_reply AgreeError HasFault agree_refusal

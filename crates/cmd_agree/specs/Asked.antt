@@ -5,7 +5,7 @@ use Rattle.tt_core.specs.Words.{Words, IsSpec, specification}
 use Rattle.tt_core.specs.Spelling.{SpellsTables}
 use Rattle.chain_theory.specs.Chain.{IsChain}
 use Rattle.chain_core.specs.Spelling.{chain_lines}
-use Rattle.cmd_agree.specs.Agree.{Question}
+use Rattle.cmd_agree.specs.Agree.{AgreeInput}
 
 -- `end`, and an LF
 abbrev pub end_line : Line
@@ -20,14 +20,14 @@ end_line = record { text = codes "end"; ended = true }
 --     x3 x1 x2 0110
 --     out x3
 --     end
-pub record AsksQuestion (bytes : List ℕ) (question : Question) : Type 0 where
+pub record AsksQuestion (bytes : List ℕ) (question : AgreeInput) : Type 0 where
   pub words : Words
   pub are : IsSpec words
   pub specify : question.tables ≡ specification words
-  pub behind : List Line
-  pub tables : SpellsTables question.tables (lines_of bytes) behind
+  pub following : List Line
+  pub tables : SpellsTables question.tables (lines_of bytes) following
   pub chain : IsChain question.chain
   pub inputs : question.chain.n ≡ question.tables.inputs
   pub outputs : length question.chain.outs ≡ question.tables.outputs
   pub steps : length question.chain.steps ≤ 16
-  pub lines : behind ≡ chain_lines question.chain ++ end_line ∷ []
+  pub lines : following ≡ chain_lines question.chain ++ end_line ∷ []

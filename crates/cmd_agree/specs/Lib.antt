@@ -3,4 +3,4 @@ pub mod AgreeLaws
 pub mod AgreePromise
 pub mod AgreeReport
 pub mod Asked
-pub mod Owed
+pub mod Obligations

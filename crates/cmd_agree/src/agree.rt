@@ -1,6 +1,8 @@
 //! The command `agree`: whether a chain implements tables.
 ghost use Rattle.std.specs.Prelude.{◌≡◌, IfOk};
-ghost use Rattle.cmd_agree.specs.AgreeReport.{answer_text, answer_status, error_status, chain_status as chain_status_of, named_chain, named_error, agree_reply, agree_refusal, agree_task};
+ghost use Rattle.cmd_agree.specs.AgreeReport.{answer_text, answer_status, error_status};
+ghost use Rattle.cmd_agree.specs.AgreeReport.{chain_status as chain_status_of, named_chain, named_error, agree_reply};
+ghost use Rattle.cmd_agree.specs.AgreeReport.{agree_refusal, agree_task};
 ghost use Rattle.frame_core.specs.Views.{line_value, reply_value, refusal_value};
 
 use crate::judging::judge;
@@ -13,7 +15,7 @@ use tt_core::SpecError;
 
 /// The result of comparing a chain with tables.
 #[derive(Clone, Copy, Debug)]
-pub(crate) enum Answer {
+pub(crate) enum AgreeAnswer {
     /// The chain has the value of every specified cell.
     Agrees,
     /// The chain differs in a specified cell: the least output with a difference, from 1 on, and its least row.
@@ -33,14 +35,14 @@ pub(crate) enum AgreeError {
     Memory,
 }
 
-impl Answer {
+impl AgreeAnswer {
     /// The status of the answer.
     pub(crate) fn status(self) -> Status
         ensures { result ≡ answer_status self }
     {
         match self {
-            Answer::Agrees => Status::Done,
-            Answer::Differs { .. } => Status::Refused,
+            AgreeAnswer::Agrees => Status::Done,
+            AgreeAnswer::Differs { .. } => Status::Refused,
         }
     }
 }
@@ -74,7 +76,7 @@ fn chain_status(error: ChainError) -> Status
 }
 
 /// The error line of a fault of a chain block.
-#[tactic(auto, unfolding(crate::specs::AgreeReport::named_chain, frame_core::specs::Told::memory))]
+#[tactic(auto, unfolding(crate::specs::AgreeReport::named_chain, frame_core::specs::Reported::memory))]
 fn name_chain(error: ChainError) -> ErrorLine
     ensures { line_value result ≡ named_chain error }
 {
@@ -89,7 +91,7 @@ fn name_chain(error: ChainError) -> ErrorLine
 }
 
 /// The error line of an error.
-#[tactic(auto, unfolding(crate::specs::AgreeReport::named_error, frame_core::specs::Told::memory))]
+#[tactic(auto, unfolding(crate::specs::AgreeReport::named_error, frame_core::specs::Reported::memory))]
 fn name_error(error: AgreeError) -> ErrorLine
     ensures { line_value result ≡ named_error error }
 {
@@ -113,13 +115,13 @@ fn refusal_of(error: AgreeError) -> Refusal
 
 /// The text of an answer.
 #[tactic(auto, unfolding(crate::specs::AgreeReport::answer_text))]
-fn text_of(alloc: Global, answer: Answer) -> Result<Vec<u8>, AllocError>
+fn text_of(alloc: Global, answer: AgreeAnswer) -> Result<Vec<u8>, AllocError>
     ensures { IfOk result (λ text. text.items ≡ answer_text answer) }
 {
     let mut text = Vec::new(alloc);
     match answer {
-        Answer::Agrees => text.extend_from_slice(b"agrees\n")?,
-        Answer::Differs { output, row } => {
+        AgreeAnswer::Agrees => text.extend_from_slice(b"agrees\n")?,
+        AgreeAnswer::Differs { output, row } => {
             text.extend_from_slice(b"differs ")?;
             push_number(&mut text, output)?;
             text.extend_from_slice(b" ")?;
@@ -131,7 +133,7 @@ fn text_of(alloc: Global, answer: Answer) -> Result<Vec<u8>, AllocError>
 }
 
 /// An answer as a reply.
-fn reply_of(alloc: Global, answer: Answer) -> Result<Reply, AllocError>
+fn reply_of(alloc: Global, answer: AgreeAnswer) -> Result<Reply, AllocError>
     ensures { IfOk result (λ reply. reply_value reply ≡ agree_reply answer) }
 {
     Ok(Reply {
@@ -154,7 +156,7 @@ impl Replier for Agree {
         Some(MOST_BYTES_OF_TABLES)
     }
 
-    #[tactic(auto, using(crate::proofs::Agreeing::telling))]
+    #[tactic(auto, using(crate::proofs::Agreeing::reporting))]
     fn reply(&self, alloc: Global, bytes: &[u8]) -> Result<Reply, Stop> {
         match judge(alloc, bytes) {
             Ok(answer) => match reply_of(alloc, answer) {

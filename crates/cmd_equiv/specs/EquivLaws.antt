@@ -3,8 +3,8 @@ use Rattle.std.specs.Prelude.{◌≡◌, ℕ, ◌≤◌, ◌⊎◌, List, length
 use Rattle.std.proofs.Common.{arith, sym, ◌∙◌, ap, subst, refl, inl, inr}
 use Rattle.std.proofs.Math.Logic.{⊎_elim}
 use Rattle.net_core.specs.declared.error.NetError.{NetError}
-use Rattle.equiv_run.specs.declared.answer.Standing.{Standing}
-use Rattle.equiv_run.specs.declared.answer.Standing.TheVariants as standings
+use Rattle.equiv_run.specs.declared.answer.EquivOutcome.{EquivOutcome}
+use Rattle.equiv_run.specs.declared.answer.EquivOutcome.TheVariants as standings
 use Rattle.equiv_run.specs.declared.answer.CompareError.{CompareError}
 use Rattle.equiv_run.specs.declared.answer.CompareError.TheVariants.{NoSecond, First, Second, DifferentInterface, Memory}
 use Rattle.net_theory.specs.Document.{Document}
@@ -20,19 +20,19 @@ use Rattle.command_line.specs.CommandLine.{AsksFor}
 use Rattle.frame_core.specs.declared.status.Status.TheVariants as statuses
 use Rattle.frame_core.specs.Task.{IsAnswerStatus, IsRefusalStatus, IsAnswerable, IsTask}
 use Rattle.frame_core.specs.Run.{Run}
-use Rattle.frame_core.specs.Promise.{OutputHeld, TellsError, Replies, Faults, CommandPromise}
+use Rattle.frame_core.specs.Promise.{OutputHeld, ReportsError, Replies, Faults, CommandPromise}
 use Rattle.frame_core.specs.TaskLaws.{at_once_task}
 use Rattle.frame_core.specs.KeepingLaws.{of_input}
 use Rattle.frame_core.specs.ReadOffLaws.{gets}
 use Rattle.cmd_equiv.specs.EquivReport.{standing_status, pair_status, Comparison, equiv_reply, equiv_refusal, IsComparison, HasComparedFault, equiv_task}
-use Rattle.cmd_equiv.specs.EquivPromise.{AreComparable, TellsStanding, TellsInterface, EquivPromise}
+use Rattle.cmd_equiv.specs.EquivPromise.{AreComparable, ReportsStanding, ReportsInterface, EquivPromise}
 use Rattle.cmd_lines.specs.NetLineLaws.{not_refused, status_kind}
 use Rattle.net_document.specs.FormatLaws.{fault_never}
 use Rattle.blif_text.specs.ListingLaws.{texts_list}
 
 -- ---- `equiv` is a command
 
-answer_statuses : (s : Standing) → IsAnswerStatus (standing_status s)
+answer_statuses : (s : EquivOutcome) → IsAnswerStatus (standing_status s)
 answer_statuses standings.Equal = inl refl
 answer_statuses standings.Undecided = inr (inl refl)
 answer_statuses standings.Differ = inr (inr refl)
@@ -47,9 +47,9 @@ refusal_statuses bytes Memory fault = absurd fault
 pub equiv_is_task : (budget : ℕ) → IsTask (equiv_task budget)
 equiv_is_task budget =
     at_once_task most_of_two Comparison (IsComparison budget) equiv_reply CompareError HasComparedFault equiv_refusal
-    (λ c. answer_statuses c.standing)
+    (λ c. answer_statuses c.outcome)
     (λ bytes error meets. inl (refusal_statuses bytes error meets.fault))
-    (λ bytes c error has fault. answer_never budget bytes c.text c.standing error has.answer fault.fault)
+    (λ bytes c error has fault. answer_never budget bytes c.text c.outcome error has.answer fault.fault)
     (λ bytes a b x y. ap equiv_refusal (fault_one bytes a b x.fault y.fault))
     (λ bytes c has. has.within)
     (λ bytes error fault. fault.within)
@@ -97,64 +97,69 @@ answerable budget input within are = record {
   sound = λ error fault. two_never input are.first are.second error are.two are.interface fault.fault;
 }
 
-complete : (budget : ℕ) (r : Run) (input : List ℕ) → CommandPromise (equiv_task budget) r → r.source.bytes ≡ Some input → length input ≤ most_of_two → AreComparable input → OutputHeld r → Replies (equiv_task budget) r input
-complete budget r input promise told within are held =
-    gets (equiv_task budget) r input (λ answer. refl) promise told (answerable budget input within are) held
+complete : (budget : ℕ) (r : Run) (input : List ℕ) → CommandPromise (equiv_task budget) r →
+    r.source.bytes ≡ Some input → length input ≤ most_of_two → AreComparable input → OutputHeld r →
+    Replies (equiv_task budget) r input
+complete budget r input promise reported within are held =
+    gets (equiv_task budget) r input (λ answer. refl) promise reported (answerable budget input within are) held
 
--- a reply with the status of `standing` reports `standing`
-stood : (budget : ℕ) (r : Run) (input : List ℕ) (standing : Standing) (got : Replies (equiv_task budget) r input) → got.answer.standing ≡ standing → TellsStanding budget standing r input
-stood budget r input standing got is = subst (λ (s : Standing). TellsStanding budget s r input) is (record {
+-- a reply with the status of `outcome` reports `outcome`
+stood : (budget : ℕ) (r : Run) (input : List ℕ) (outcome : EquivOutcome) (got : Replies (equiv_task budget) r input) → got.answer.outcome ≡ outcome → ReportsStanding budget outcome r input
+stood budget r input outcome got is = subst (λ (s : EquivOutcome). ReportsStanding budget s r input) is (record {
   text = got.answer.text;
-  told = got.has.answer;
+  reported = got.has.answer;
   stands = got.stands;
 })
 
-equal_is : (s : Standing) → standing_status s ≡ statuses.Done → s ≡ standings.Equal
+equal_is : (s : EquivOutcome) → standing_status s ≡ statuses.Done → s ≡ standings.Equal
 equal_is standings.Equal is = refl
 equal_is standings.Undecided is = absurd cc
 equal_is standings.Differ is = absurd cc
 
-undecided_is : (s : Standing) → standing_status s ≡ statuses.Undecided → s ≡ standings.Undecided
+undecided_is : (s : EquivOutcome) → standing_status s ≡ statuses.Undecided → s ≡ standings.Undecided
 undecided_is standings.Equal is = absurd cc
 undecided_is standings.Undecided is = refl
 undecided_is standings.Differ is = absurd cc
 
-differ_is : (s : Standing) → standing_status s ≡ statuses.Refused → s ≡ standings.Differ
+differ_is : (s : EquivOutcome) → standing_status s ≡ statuses.Refused → s ≡ standings.Differ
 differ_is standings.Equal is = absurd cc
 differ_is standings.Undecided is = absurd cc
 differ_is standings.Differ is = refl
 
-equal_only : (budget : ℕ) (r : Run) (input : List ℕ) → CommandPromise (equiv_task budget) r → r.source.bytes ≡ Some input → r.status ≡ statuses.Done → TellsStanding budget standings.Equal r input
-equal_only budget r input promise told is =
-    let got : Replies (equiv_task budget) r input = of_input (equiv_task budget) r (Replies (equiv_task budget) r) input (promise.done_only is) told in
-    stood budget r input standings.Equal got (equal_is got.answer.standing (sym got.stands.status_is ∙ is))
+equal_only : (budget : ℕ) (r : Run) (input : List ℕ) → CommandPromise (equiv_task budget) r → r.source.bytes ≡ Some input → r.status ≡ statuses.Done → ReportsStanding budget standings.Equal r input
+equal_only budget r input promise reported is =
+    let got : Replies (equiv_task budget) r input = of_input (equiv_task budget) r (Replies (equiv_task budget) r) input (promise.done_only is) reported in
+    stood budget r input standings.Equal got (equal_is got.answer.outcome (sym got.stands.status_is ∙ is))
 
-undecided_only : (budget : ℕ) (r : Run) (input : List ℕ) → CommandPromise (equiv_task budget) r → r.source.bytes ≡ Some input → r.status ≡ statuses.Undecided → TellsStanding budget standings.Undecided r input
-undecided_only budget r input promise told is =
-    let got : Replies (equiv_task budget) r input = of_input (equiv_task budget) r (Replies (equiv_task budget) r) input (promise.undecided_only is) told in
-    stood budget r input standings.Undecided got (undecided_is got.answer.standing (sym got.stands.status_is ∙ is))
+undecided_only : (budget : ℕ) (r : Run) (input : List ℕ) → CommandPromise (equiv_task budget) r →
+    r.source.bytes ≡ Some input → r.status ≡ statuses.Undecided → ReportsStanding budget standings.Undecided r input
+undecided_only budget r input promise reported is =
+    let got : Replies (equiv_task budget) r input = of_input (equiv_task budget) r (Replies (equiv_task budget) r) input (promise.undecided_only is) reported in
+    stood budget r input standings.Undecided got (undecided_is got.answer.outcome (sym got.stands.status_is ∙ is))
 
 -- the only fault with the status `Refused`
-interface_told : (r : Run) (input : List ℕ) (e : CompareError) → HasComparedFault input e → TellsError r (equiv_refusal e) → pair_status e ≡ statuses.Refused → TellsInterface r input
-interface_told r input NoSecond meets told is = absurd cc
-interface_told r input (First e) meets told is = absurd (not_refused e is)
-interface_told r input (Second e) meets told is = absurd (not_refused e is)
-interface_told r input DifferentInterface meets told is = record { other = meets.fault; told = told }
-interface_told r input Memory meets told is = absurd cc
+interface_reported : (r : Run) (input : List ℕ) (e : CompareError) → HasComparedFault input e → ReportsError r (equiv_refusal e) → pair_status e ≡ statuses.Refused → ReportsInterface r input
+interface_reported r input NoSecond meets reported is = absurd cc
+interface_reported r input (First e) meets reported is = absurd (not_refused e is)
+interface_reported r input (Second e) meets reported is = absurd (not_refused e is)
+interface_reported r input DifferentInterface meets reported is = record { other = meets.fault; reported = reported }
+interface_reported r input Memory meets reported is = absurd cc
 
-differ_only : (budget : ℕ) (r : Run) (input : List ℕ) → CommandPromise (equiv_task budget) r → r.source.bytes ≡ Some input → r.status ≡ statuses.Refused → TellsStanding budget standings.Differ r input ⊎ TellsInterface r input
-differ_only budget r input promise told is =
+differ_only : (budget : ℕ) (r : Run) (input : List ℕ) → CommandPromise (equiv_task budget) r →
+    r.source.bytes ≡ Some input → r.status ≡ statuses.Refused → ReportsStanding budget standings.Differ r input ⊎
+    ReportsInterface r input
+differ_only budget r input promise reported is =
     ⊎_elim
-    (λ (got : Replies (equiv_task budget) r input). inl (stood budget r input standings.Differ got (differ_is got.answer.standing (sym got.stands.status_is ∙ is))))
-    (λ (none : Faults (equiv_task budget) r input). inr (interface_told r input none.fault none.meets none.told (sym none.told.status_is ∙ is)))
-    (of_input (equiv_task budget) r (λ bytes. Replies (equiv_task budget) r bytes ⊎ Faults (equiv_task budget) r bytes) input (promise.refused_only is) told)
+    (λ (got : Replies (equiv_task budget) r input). inl (stood budget r input standings.Differ got (differ_is got.answer.outcome (sym got.stands.status_is ∙ is))))
+    (λ (none : Faults (equiv_task budget) r input). inr (interface_reported r input none.fault none.meets none.reported (sym none.reported.status_is ∙ is)))
+    (of_input (equiv_task budget) r (λ bytes. Replies (equiv_task budget) r bytes ⊎ Faults (equiv_task budget) r bytes) input (promise.refused_only is) reported)
 
 -- The promise of `equiv`.
 pub equiv_promised : (r : Run) → ((budget : ℕ) → AsksFor r.words (Equiv budget) → CommandPromise (equiv_task budget) r) → EquivPromise r
 equiv_promised r keeps = record {
-  complete = λ budget input run within are held. complete budget r input (keeps budget run.asks) run.told within are held;
-  equal_only = λ budget input run is. equal_only budget r input (keeps budget run.asks) run.told is;
-  undecided_only = λ budget input run is. undecided_only budget r input (keeps budget run.asks) run.told is;
-  differ_only = λ budget input run is. differ_only budget r input (keeps budget run.asks) run.told is;
-  refused = λ budget input error run fault held. (keeps budget run.asks).refused input error run.told fault held;
+  complete = λ budget input run within are held. complete budget r input (keeps budget run.asks) run.reported within are held;
+  equal_only = λ budget input run is. equal_only budget r input (keeps budget run.asks) run.reported is;
+  undecided_only = λ budget input run is. undecided_only budget r input (keeps budget run.asks) run.reported is;
+  differ_only = λ budget input run is. differ_only budget r input (keeps budget run.asks) run.reported is;
+  refused = λ budget input error run fault held. (keeps budget run.asks).refused input error run.reported fault held;
 }

@@ -1,15 +1,15 @@
 -- The promise of `equiv`, besides that of every command.
 use Rattle.std.specs.Prelude.{◌≡◌, ℕ, ◌≤◌, ◌⊎◌, List, length}
 use Rattle.net_theory.specs.Document.{Document}
-use Rattle.equiv_run.specs.declared.answer.Standing.{Standing}
-use Rattle.equiv_run.specs.declared.answer.Standing.TheVariants as standings
+use Rattle.equiv_run.specs.declared.answer.EquivOutcome.{EquivOutcome}
+use Rattle.equiv_run.specs.declared.answer.EquivOutcome.TheVariants as standings
 use Rattle.equiv_run.specs.declared.answer.CompareError.{CompareError}
 use Rattle.equiv_run.specs.declared.answer.CompareError.TheVariants.{DifferentInterface}
 use Rattle.equiv_run.specs.Pairs.{most_of_two, AreTwo, ShareInterface, IsAnswer, HasOtherInterface}
 use Rattle.command_line.specs.declared.command.Command.TheVariants.{Equiv}
 use Rattle.frame_core.specs.declared.status.Status.TheVariants.{Done, Undecided, Refused}
 use Rattle.frame_core.specs.Run.{Run}
-use Rattle.frame_core.specs.Promise.{InputHeld, OutputHeld, Stands, TellsError, Replies}
+use Rattle.frame_core.specs.Promise.{InputHeld, OutputHeld, Stands, ReportsError, Replies}
 use Rattle.cmd_equiv.specs.EquivReport.{equiv_reply, equiv_refusal, HasComparedFault, equiv_task}
 use Rattle.cmd_lines.specs.Runs.{Runs}
 
@@ -20,16 +20,16 @@ pub record AreComparable (bytes : List ℕ) : Type 0 where
   pub two : AreTwo bytes first second
   pub interface : ShareInterface first second
 
--- The output reports `standing`, and proves it.
-pub record TellsStanding (budget : ℕ) (standing : Standing) (r : Run) (input : List ℕ) : Type 0 where
+-- The output reports `outcome`, and proves it.
+pub record ReportsStanding (budget : ℕ) (outcome : EquivOutcome) (r : Run) (input : List ℕ) : Type 0 where
   pub text : List ℕ
-  pub told : IsAnswer budget input text standing
-  pub stands : Stands r (equiv_reply (record { text = text; standing = standing }))
+  pub reported : IsAnswer budget input text outcome
+  pub stands : Stands r (equiv_reply (record { text = text; outcome = outcome }))
 
 -- The netlists have different interfaces, and this is reported.
-pub record TellsInterface (r : Run) (input : List ℕ) : Type 0 where
+pub record ReportsInterface (r : Run) (input : List ℕ) : Type 0 where
   pub other : HasOtherInterface input
-  pub told : TellsError r (equiv_refusal DifferentInterface)
+  pub reported : ReportsError r (equiv_refusal DifferentInterface)
 
 pub record EquivPromise (r : Run) : Type 0 where
   -- Two netlists with the same interface are compared.
@@ -43,20 +43,20 @@ pub record EquivPromise (r : Run) : Type 0 where
   pub equal_only : (budget : ℕ) (input : List ℕ)
       → Runs (Equiv budget) r input
       → r.status ≡ Done
-      → TellsStanding budget standings.Equal r input
+      → ReportsStanding budget standings.Equal r input
   -- The status 4 occurs only with a log that reaches the budget.
   pub undecided_only : (budget : ℕ) (input : List ℕ)
       → Runs (Equiv budget) r input
       → r.status ≡ Undecided
-      → TellsStanding budget standings.Undecided r input
+      → ReportsStanding budget standings.Undecided r input
   -- The status 8 occurs only if they differ as reported, or have different interfaces.
   pub differ_only : (budget : ℕ) (input : List ℕ)
       → Runs (Equiv budget) r input
       → r.status ≡ Refused
-      → TellsStanding budget standings.Differ r input ⊎ TellsInterface r input
+      → ReportsStanding budget standings.Differ r input ⊎ ReportsInterface r input
   -- For an input that can't be compared its first fault is reported.
   pub refused : (budget : ℕ) (input : List ℕ) (error : CompareError)
       → Runs (Equiv budget) r input
       → HasComparedFault input error
       → InputHeld r
-      → TellsError r (equiv_refusal error)
+      → ReportsError r (equiv_refusal error)

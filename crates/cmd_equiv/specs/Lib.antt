@@ -1,4 +1,4 @@
 pub mod EquivLaws
 pub mod EquivPromise
 pub mod EquivReport
-pub mod Owed
+pub mod Obligations

@@ -1,13 +1,14 @@
 //! The command `equiv`: whether two netlists have the same outputs and next states.
 ghost use Rattle.std.specs.Prelude.{◌≡◌, ◌∷◌};
 ghost use Rattle.command_line.specs.CommandLine.{IsBudget};
-ghost use Rattle.frame_core.specs.Told.{Word, plain};
+ghost use Rattle.frame_core.specs.Reported.{Word, plain};
 ghost use Rattle.frame_core.specs.Views.{reply_value, refusal_value};
 ghost use Rattle.cmd_lines.specs.NetLines.{net_status as net_status_of, named_net};
-ghost use Rattle.cmd_equiv.specs.EquivReport.{standing_status as standing_status_of, equiv_reply, equiv_refusal, equiv_task};
+ghost use Rattle.cmd_equiv.specs.EquivReport.{standing_status as standing_status_of, equiv_reply, equiv_refusal};
+ghost use Rattle.cmd_equiv.specs.EquivReport.{equiv_task};
 
 use cmd_lines::{name_net, net_status};
-use equiv_run::{CompareError, Compared, Standing, compare_texts};
+use equiv_run::{CompareError, Compared, EquivOutcome, compare_texts};
 use frame_core::{ErrorLine, Field, Refusal, Replier, Reply, Status, Stop};
 use net_core::NetError;
 use sat_solve::Solver;
@@ -18,31 +19,34 @@ use std::marker::PhantomData;
 const MOST_BYTES: usize = 33_554_432;
 
 /// The status of the result of a comparison.
-fn standing_status(standing: Standing) -> Status
-    ensures { result ≡ standing_status_of standing }
+fn standing_status(outcome: EquivOutcome) -> Status
+    ensures { result ≡ standing_status_of outcome }
 {
-    match standing {
-        Standing::Equal => Status::Done,
-        Standing::Differ => Status::Refused,
-        Standing::Undecided => Status::Undecided,
+    match outcome {
+        EquivOutcome::Equal => Status::Done,
+        EquivOutcome::Differ => Status::Refused,
+        EquivOutcome::Undecided => Status::Undecided,
     }
 }
 
 /// The reply of a comparison.
 fn reply_of(compared: Compared) -> Reply
-    ensures { reply_value result ≡ equiv_reply (record { text = compared.text.items; standing = compared.standing }) }
+    ensures { reply_value result ≡ equiv_reply (record { text = compared.text.items; outcome = compared.outcome }) }
 {
     Reply {
         text: compared.text,
         report: None,
-        status: standing_status(compared.standing),
+        status: standing_status(compared.outcome),
     }
 }
 
 /// The refusal of a fault of one of the two netlists.
 #[tactic(auto, unfolding(frame_core::specs::Views::shown))]
 fn fault_of(netlist: &'static [u8], error: NetError) -> Refusal
-    ensures { refusal_value result ≡ record { status = net_status_of error; named = Word netlist.now ∷ named_net error } }
+    ensures { refusal_value result ≡ record {
+      status = net_status_of error;
+      named = Word netlist.now ∷ named_net error;
+    } }
 {
     let status = net_status(&error);
     Refusal {
@@ -62,7 +66,7 @@ fn plainly(status: Status, name: &'static [u8]) -> Refusal
 }
 
 /// The refusal if two netlists can't be compared.
-#[tactic(auto, unfolding(crate::specs::EquivReport::named_pair, frame_core::specs::Told::memory))]
+#[tactic(auto, unfolding(crate::specs::EquivReport::named_pair, frame_core::specs::Reported::memory))]
 fn refusal_of(error: CompareError) -> Refusal
     ensures { refusal_value result ≡ equiv_refusal error }
 {
@@ -94,7 +98,7 @@ impl<S: Solver> Replier for Equiv<S> {
         Some(MOST_BYTES)
     }
 
-    #[tactic(auto, using(crate::proofs::Equating::telling))]
+    #[tactic(auto, using(crate::proofs::Equating::reporting))]
     fn reply(&self, alloc: Global, bytes: &[u8]) -> Result<Reply, Stop> {
         match compare_texts::<S>(alloc, bytes, self.budget) {
             Ok(compared) => Ok(reply_of(compared)),

@@ -1,12 +1,12 @@
 -- The promise of `gen`, besides that of every command.
 use Rattle.std.specs.Prelude.{◌≡◌, ℕ, [], ◌⊎◌}
-use Rattle.command_line.specs.declared.command.Deed.{Deed}
-use Rattle.command_line.specs.declared.command.Deed.TheVariants.{Write, Improve}
+use Rattle.command_line.specs.declared.command.GenAction.{GenAction}
+use Rattle.command_line.specs.declared.command.GenAction.TheVariants.{Write, Improve}
 use Rattle.command_line.specs.declared.command.Command.TheVariants.{Gen}
 use Rattle.command_line.specs.CommandLine.{AsksFor}
 use Rattle.frame_core.specs.declared.status.Status.TheVariants.{Done, WriteFault, Memory}
 use Rattle.frame_core.specs.Run.{Run}
-use Rattle.frame_core.specs.Promise.{OutputHeld, AllSteady, Stands, ReportCut}
+use Rattle.frame_core.specs.Promise.{OutputHeld, AllSteady, Stands, ReportTruncated}
 use Rattle.cmd_improve.specs.ImproveReport.{Improvement, improve_reply}
 use Rattle.cmd_gen.specs.GenReport.{gen_reply, IsImprovedNetlist, gen_task}
 
@@ -36,14 +36,14 @@ pub record GenPromise (r : Run) : Type 0 where
   pub answered : (blocks : ℕ)
       → AsksFor r.words (Gen blocks Improve)
       → OutputHeld r
-      → ImprovesNetlist blocks r ⊎ ReportCut (gen_task blocks Improve) r []
+      → ImprovesNetlist blocks r ⊎ ReportTruncated (gen_task blocks Improve) r []
   -- The status 0 occurs only with that.
   pub improved_only : (blocks : ℕ)
       → AsksFor r.words (Gen blocks Improve)
       → r.status ≡ Done
       → ImprovesNetlist blocks r
   -- The source is never called. Otherwise the run ends with a write fault, or because memory ran out.
-  pub untouched : (blocks : ℕ) (deed : Deed) → AsksFor r.words (Gen blocks deed) → r.source' ≡ r.source
-  pub others : (blocks : ℕ) (deed : Deed)
-      → AsksFor r.words (Gen blocks deed)
+  pub untouched : (blocks : ℕ) (action : GenAction) → AsksFor r.words (Gen blocks action) → r.source' ≡ r.source
+  pub others : (blocks : ℕ) (action : GenAction)
+      → AsksFor r.words (Gen blocks action)
       → (r.status ≡ Done) ⊎ ((r.status ≡ WriteFault) ⊎ (r.status ≡ Memory))

@@ -1,4 +1,4 @@
 pub mod GenLaws
 pub mod GenPromise
 pub mod GenReport
-pub mod Owed
+pub mod Obligations

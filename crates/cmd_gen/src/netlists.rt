@@ -1,12 +1,12 @@
 //! The command `gen`: a netlist of generated blocks.
 ghost use Rattle.std.specs.Prelude.{◌≡◌, ◌≤◌, ℕ, List, IfOk};
 ghost use Rattle.gen_core.specs.Generated.{generated_text};
-ghost use Rattle.command_line.specs.declared.command.Deed.TheVariants.{Write, Improve};
+ghost use Rattle.command_line.specs.declared.command.GenAction.TheVariants.{Write, Improve};
 ghost use Rattle.command_line.specs.Options.{most_blocks};
 ghost use Rattle.frame_core.specs.Views.{reply_value, Judges};
 ghost use Rattle.cmd_gen.specs.GenReport.{gen_reply, gen_task};
 
-use command_line::Deed;
+use command_line::GenAction;
 use frame_core::{Replier, Reply, Status, Stop};
 use gen_core::generate;
 use gen_core::laws::{generated_netlists_are_netlists, generated_netlists_are_small};
@@ -38,7 +38,7 @@ fn reply_of(alloc: Global, blocks: u32) -> Result<Reply, AllocError>
 }
 
 /// The reply of `gen` if the netlist is written.
-#[tactic(auto, using(crate::proofs::Generating::telling))]
+#[tactic(auto, using(crate::proofs::Generating::reporting))]
 fn written(alloc: Global, blocks: u32) -> Result<Reply, Stop>
     ensures { (bytes : List ℕ) → Judges (gen_task blocks Write) bytes result }
 {
@@ -49,7 +49,7 @@ fn written(alloc: Global, blocks: u32) -> Result<Reply, Stop>
 }
 
 /// The reply of `gen` if the netlist is improved.
-#[tactic(auto, using(crate::proofs::Generating::telling))]
+#[tactic(auto, using(crate::proofs::Generating::reporting))]
 fn improved<S: Solver>(alloc: Global, blocks: u32) -> Result<Reply, Stop>
     requires { blocks ≤ most_blocks }
     ensures { (bytes : List ℕ) → Judges (gen_task blocks Improve) bytes result }
@@ -59,7 +59,7 @@ fn improved<S: Solver>(alloc: Global, blocks: u32) -> Result<Reply, Stop>
     let Ok(text) = text_of(alloc, blocks) else {
         return Err(Stop::NoMemory);
     };
-    match improve_blif::<S>(alloc, &text, ImproveSettings::usual()) {
+    match improve_blif::<S>(alloc, &text, ImproveSettings::defaults()) {
         Ok(improved) => Ok(cmd_improve::reply_of(improved)),
         Err(NetError::Memory) => Err(Stop::NoMemory),
         Err(_) => unreachable!(),
@@ -72,13 +72,13 @@ pub struct Gen<S> {
     /// The number of blocks.
     pub blocks: u32,
     /// Whether the netlist is written as generated, or improved.
-    pub deed: Deed,
+    pub action: GenAction,
     /// The solver.
     pub solver: PhantomData<S>,
 }
 
 impl<S: Solver> Replier for Gen<S> {
-    ghost task = { λ job. gen_task job.blocks job.deed };
+    ghost task = { λ job. gen_task job.blocks job.action };
 
     ghost ready = { λ job. (1 ≤ job.blocks) × (job.blocks ≤ most_blocks) };
 
@@ -88,9 +88,9 @@ impl<S: Solver> Replier for Gen<S> {
 
     fn reply(&self, alloc: Global, bytes: &[u8]) -> Result<Reply, Stop> {
         let _nothing = bytes;
-        match self.deed {
-            Deed::Write => written(alloc, self.blocks),
-            Deed::Improve => improved::<S>(alloc, self.blocks),
+        match self.action {
+            GenAction::Write => written(alloc, self.blocks),
+            GenAction::Improve => improved::<S>(alloc, self.blocks),
         }
     }
 }

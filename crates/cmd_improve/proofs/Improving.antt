@@ -12,27 +12,32 @@ use Rattle.command_line.specs.declared.command.Format.TheVariants.{Bench}
 use Rattle.command_line.specs.WithinLaws.{within_members}
 use Rattle.command_line.specs.CommandLine.{HasGatesOf}
 use Rattle.cmd_improve.specs.ImproveReport.{FormatAsked, format_of, most_of_netlist, improve_reply, improve_refusal, improve_task}
-use Rattle.frame_core.specs.Told.{Reply, Refusal}
-use Rattle.frame_core.specs.Task.{Tells, Refuses}
+use Rattle.frame_core.specs.Reported.{Reply, Refusal}
+use Rattle.frame_core.specs.Task.{HasReply, Refuses}
 
 -- ---- its answers
 
-pub tells : (format : FormatAsked) (asked : ImproveSettings) (bytes text report : List ℕ) (reply : Reply) → length bytes ≤ most_of_netlist → IsReported (format_of format) asked bytes text report → reply ≡ improve_reply (record { text = text; report = report }) → Tells (improve_task format asked) bytes reply
-tells format asked bytes text report reply within reported is = record {
+pub reports : (format : FormatAsked) (settings : ImproveSettings) (bytes text report : List ℕ) (reply : Reply) →
+    length bytes ≤ most_of_netlist → IsReported (format_of format) settings bytes text report →
+    reply ≡ improve_reply (record { text = text; report = report }) →
+    HasReply (improve_task format settings) bytes reply
+reports format settings bytes text report reply within reported is = record {
   answer = record { text = text; report = report };
   has = record { within = within; reported = reported };
   is = is;
 }
 
-pub refuses : (format : FormatAsked) (asked : ImproveSettings) (bytes : List ℕ) (e : NetError) (refusal : Refusal) → length bytes ≤ most_of_netlist → (e ≡ nets.Memory → ⊥) → IsRefusedText (format_of format) bytes e → refusal ≡ improve_refusal e → Refuses (improve_task format asked) bytes refusal
-refuses format asked bytes e refusal within other fault is = record {
+pub refuses : (format : FormatAsked) (settings : ImproveSettings) (bytes : List ℕ) (e : NetError) (refusal : Refusal) →
+    length bytes ≤ most_of_netlist → (e ≡ nets.Memory → ⊥) → IsRefusedText (format_of format) bytes e →
+    refusal ≡ improve_refusal e → Refuses (improve_task format settings) bytes refusal
+refuses format settings bytes e refusal within other fault is = record {
   fault = e;
   meets = record { within = within; fault = (fault, other) };
   is = is;
 }
 
 -- a basis of the format's gates fits it
-pub fits : (asked : ImproveSettings) → HasGatesOf Bench asked.basis → FitsFormat (format_of Bench) asked
-fits asked has = fits_bench asked (within_members asked.basis bench_set has)
+pub fits : (settings : ImproveSettings) → HasGatesOf Bench settings.basis → FitsFormat (format_of Bench) settings
+fits settings has = fits_bench settings (within_members settings.basis bench_set has)
 
-pub ruleset telling = (common_steps, tells, refuses, fits)
+pub ruleset reporting = (common_steps, reports, refuses, fits)

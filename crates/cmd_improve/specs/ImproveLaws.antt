@@ -14,7 +14,7 @@ use Rattle.command_line.specs.declared.command.Format.TheVariants.{Blif, Bench}
 use Rattle.command_line.specs.CommandLine.{AsksFor}
 use Rattle.cmd_improve.specs.ImproveReport.{FormatAsked, format_of, most_of_netlist, Improvement, improve_reply, improve_refusal, IsImprovement, HasNetlistFault, improve_task}
 use Rattle.cmd_lines.specs.NetLines.{net_status, named_net}
-use Rattle.frame_core.specs.Told.{memory_refusal}
+use Rattle.frame_core.specs.Reported.{memory_refusal}
 use Rattle.frame_core.specs.Task.{IsRefusalStatus, IsAnswerable, IsTask}
 use Rattle.frame_core.specs.Run.{Run}
 use Rattle.frame_core.specs.Promise.{CommandPromise}
@@ -52,15 +52,15 @@ unfolding IsStatus
 statuses_of e = statuses e
 
 -- an input that was improved is a netlist
-reported_netlist : (format : FormatAsked) (asked : ImproveSettings) (bytes text report : List ℕ) → IsReported (format_of format) asked bytes text report → IsNetlist (format_of format) bytes
-reported_netlist format asked bytes text report is = record { listed = is.improved.read; said = is.improved.said; well = is.improved.well }
+reported_netlist : (format : FormatAsked) (settings : ImproveSettings) (bytes text report : List ℕ) → IsReported (format_of format) settings bytes text report → IsNetlist (format_of format) bytes
+reported_netlist format settings bytes text report is = record { listed = is.improved.read; said = is.improved.said; well = is.improved.well }
 
-pub improve_is_task : (format : FormatAsked) (asked : ImproveSettings) → IsTask (improve_task format asked)
-improve_is_task format asked =
-    at_once_task most_of_netlist Improvement (IsImprovement format asked) improve_reply NetError (HasNetlistFault format) improve_refusal
+pub improve_is_task : (format : FormatAsked) (settings : ImproveSettings) → IsTask (improve_task format settings)
+improve_is_task format settings =
+    at_once_task most_of_netlist Improvement (IsImprovement format settings) improve_reply NetError (HasNetlistFault format) improve_refusal
     (λ i. inl refl)
     (λ bytes fault meets. statuses_of fault)
-    (λ bytes i error has fault. fault_never (format_of format) bytes error (lists_well format) (reported_netlist format asked bytes i.text i.report has.reported) fault.fault)
+    (λ bytes i error has fault. fault_never (format_of format) bytes error (lists_well format) (reported_netlist format settings bytes i.text i.report has.reported) fault.fault)
     (λ bytes a b x y. ap improve_refusal (fault_one (format_of format) bytes a b x.fault y.fault))
     (λ bytes i has. has.within)
     (λ bytes error fault. fault.within)
@@ -68,19 +68,21 @@ improve_is_task format asked =
 -- ---- its promise
 
 -- a netlist has no fault
-answerable : (format : FormatAsked) (asked : ImproveSettings) (input : List ℕ) → length input ≤ most_of_netlist → IsNetlist (format_of format) input → IsAnswerable (improve_task format asked) input
-answerable format asked input within netlist = record {
+answerable : (format : FormatAsked) (settings : ImproveSettings) (input : List ℕ) → length input ≤ most_of_netlist →
+    IsNetlist (format_of format) input → IsAnswerable (improve_task format settings) input
+answerable format settings input within netlist = record {
   within = λ long. omega arith;
   sound = λ error fault. fault_never (format_of format) input error (lists_well format) netlist fault.fault;
 }
 
 -- The promise of `improve`.
-pub improve_promised : (r : Run) → ((format : FormatAsked) (asked : ImproveSettings) → AsksFor r.words (Improve format asked) → CommandPromise (improve_task format asked) r) → ImprovePromise r
+pub improve_promised : (r : Run) → ((format : FormatAsked) (settings : ImproveSettings) →
+    AsksFor r.words (Improve format settings) → CommandPromise (improve_task format settings) r) → ImprovePromise r
 improve_promised r keeps = record {
-  complete = λ format asked input run within netlist steady. (keeps format asked run.asks).complete input run.told (answerable format asked input within netlist) steady;
-  answered = λ format asked input run within netlist held. (keeps format asked run.asks).answered input run.told (answerable format asked input within netlist) held;
-  done_only = λ format asked input run is. done_replies (improve_task format asked) r input (keeps format asked run.asks) run.told is;
-  decided = λ format asked asks is. never_undecided (improve_task format asked) r (λ i. refl) (keeps format asked asks) is;
-  never_refused = λ format asked asks is. refused_never (improve_task format asked) r (λ i e. cc) not_refused (keeps format asked asks) is;
-  refused = λ format asked input error run fault held. (keeps format asked run.asks).refused input error run.told fault held;
+  complete = λ format settings input run within netlist steady. (keeps format settings run.asks).complete input run.reported (answerable format settings input within netlist) steady;
+  answered = λ format settings input run within netlist held. (keeps format settings run.asks).answered input run.reported (answerable format settings input within netlist) held;
+  done_only = λ format settings input run is. done_replies (improve_task format settings) r input (keeps format settings run.asks) run.reported is;
+  decided = λ format settings asks is. never_undecided (improve_task format settings) r (λ i. refl) (keeps format settings asks) is;
+  never_refused = λ format settings asks is. refused_never (improve_task format settings) r (λ i e. cc) not_refused (keeps format settings asks) is;
+  refused = λ format settings input error run fault held. (keeps format settings run.asks).refused input error run.reported fault held;
 }

@@ -9,7 +9,7 @@ use Rattle.command_line.specs.declared.command.Format.TheVariants.{Blif, Bench}
 use Rattle.settings.specs.declared.improve.ImproveSettings.{ImproveSettings}
 use Rattle.improve_windows.specs.Improving.{IsReported}
 use Rattle.frame_core.specs.declared.status.Status.TheVariants.{Done}
-use Rattle.frame_core.specs.Told.{Reply, Refusal}
+use Rattle.frame_core.specs.Reported.{Reply, Refusal}
 use Rattle.frame_core.specs.Task.{Task, at_once}
 use Rattle.cmd_lines.specs.NetLines.{net_status, named_net}
 
@@ -40,9 +40,9 @@ improve_refusal error = record { status = net_status error; named = named_net er
 -- The bytes are a netlist, and the text is an equivalent netlist with no more gates, within the settings. The
 -- report has the cost of both, the windows that are undecided, each with a certificate, and whether all other
 -- windows are settled (no window can be improved any more).
-pub record IsImprovement (format : FormatAsked) (asked : ImproveSettings) (bytes : List ℕ) (i : Improvement) : Type 0 where
+pub record IsImprovement (format : FormatAsked) (settings : ImproveSettings) (bytes : List ℕ) (i : Improvement) : Type 0 where
   pub within : length bytes ≤ most_of_netlist
-  pub reported : IsReported (format_of format) asked bytes i.text i.report
+  pub reported : IsReported (format_of format) settings bytes i.text i.report
 
 -- The bytes aren't a netlist, and this is their first fault.
 pub record HasNetlistFault (format : FormatAsked) (bytes : List ℕ) (error : NetError) : Type 0 where
@@ -50,4 +50,4 @@ pub record HasNetlistFault (format : FormatAsked) (bytes : List ℕ) (error : Ne
   pub fault : HasNetFault (format_of format) bytes error
 
 abbrev pub improve_task : FormatAsked → ImproveSettings → Task
-improve_task format asked = at_once most_of_netlist Improvement (IsImprovement format asked) improve_reply NetError (HasNetlistFault format) improve_refusal
+improve_task format settings = at_once most_of_netlist Improvement (IsImprovement format settings) improve_reply NetError (HasNetlistFault format) improve_refusal

@@ -1,4 +1,4 @@
 pub mod ImproveLaws
 pub mod ImprovePromise
 pub mod ImproveReport
-pub mod Owed
+pub mod Obligations

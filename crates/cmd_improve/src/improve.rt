@@ -3,7 +3,8 @@ ghost use Rattle.std.specs.Prelude.{◌≡◌, ◌≤◌, length, IfOk, IfErr};
 ghost use Rattle.net_document.specs.Format.{IsRefusedText};
 ghost use Rattle.improve_windows.specs.Improving.{IsReported};
 ghost use Rattle.command_line.specs.CommandLine.{IsAsked};
-ghost use Rattle.cmd_improve.specs.ImproveReport.{format_of, most_of_netlist, improve_reply, improve_refusal, improve_task};
+ghost use Rattle.cmd_improve.specs.ImproveReport.{format_of, most_of_netlist, improve_reply, improve_refusal};
+ghost use Rattle.cmd_improve.specs.ImproveReport.{improve_task};
 ghost use Rattle.frame_core.specs.Views.{reply_value, refusal_value};
 
 use cmd_lines::{name_net, net_status};
@@ -33,7 +34,10 @@ fn refusal_of(error: NetError) -> Refusal
 
 /// The reply of an improved netlist.
 pub fn reply_of(improved: ImprovedText) -> Reply
-    ensures { reply_value result ≡ improve_reply (record { text = improved.text.items; report = improved.report.items }) }
+    ensures { reply_value result ≡ improve_reply (record {
+      text = improved.text.items;
+      report = improved.report.items;
+    }) }
 {
     Reply {
         text: improved.text,
@@ -43,7 +47,7 @@ pub fn reply_of(improved: ImprovedText) -> Reply
 }
 
 /// Improves a netlist of a format.
-#[tactic(auto, using(crate::proofs::Improving::telling))]
+#[tactic(auto, using(crate::proofs::Improving::reporting))]
 fn improve_text<S: Solver>(
     alloc: Global,
     format: Format,
@@ -51,8 +55,9 @@ fn improve_text<S: Solver>(
     settings: &ImproveSettings,
 ) -> Result<ImprovedText, NetError>
     requires length { length bytes.now ≤ most_of_netlist }
-    requires asked { IsAsked format settings.now }
-    ensures improved { IfOk result (λ i. IsReported (format_of format) settings.now bytes.now i.text.items i.report.items) }
+    requires settings { IsAsked format settings.now }
+    ensures improved { IfOk result (λ i. IsReported (format_of format) settings.now bytes.now i.text.items
+        i.report.items) }
     ensures refused { IfErr result (IsRefusedText (format_of format) bytes.now) }
 {
     match format {
@@ -81,7 +86,7 @@ impl<S: Solver> Replier for Improve<S> {
         Some(MOST_BYTES)
     }
 
-    #[tactic(auto, using(crate::proofs::Improving::telling))]
+    #[tactic(auto, using(crate::proofs::Improving::reporting))]
     fn reply(&self, alloc: Global, bytes: &[u8]) -> Result<Reply, Stop> {
         match improve_text::<S>(alloc, self.format, bytes, &self.settings) {
             Ok(improved) => Ok(reply_of(improved)),

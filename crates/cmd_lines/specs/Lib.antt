@@ -1,6 +1,6 @@
 pub mod NetLineLaws
 pub mod NetLines
-pub mod Owing
+pub mod Answering
 pub mod Runs
 pub mod TableLineLaws
 pub mod TableLines

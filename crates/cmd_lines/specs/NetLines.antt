@@ -4,7 +4,7 @@ use Rattle.net_core.specs.declared.error.NetError.{NetError}
 use Rattle.net_core.specs.declared.error.NetError.TheVariants as nets
 use Rattle.frame_core.specs.declared.status.Status.{Status}
 use Rattle.frame_core.specs.declared.status.Status.TheVariants.{Malformed, Limit, Memory}
-use Rattle.frame_core.specs.Told.{Field, Word, Number, at, memory}
+use Rattle.frame_core.specs.Reported.{Field, Word, Number, at, memory}
 
 -- Faults of form have the status `Malformed`, and what exceeds a limit has the status `Limit`.
 abbrev pub net_status : NetError → Status

@@ -7,4 +7,4 @@ use Rattle.frame_core.specs.Run.{Run}
 -- The arguments of `r` asked for `command`, and its source held `input`.
 pub record Runs (command : Command) (r : Run) (input : List ℕ) : Type 0 where
   pub asks : AsksFor r.words command
-  pub told : r.source.bytes ≡ Some input
+  pub reported : r.source.bytes ≡ Some input

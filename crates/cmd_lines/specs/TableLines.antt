@@ -4,7 +4,7 @@ use Rattle.tt_core.specs.declared.error.SpecError.{SpecError}
 use Rattle.tt_core.specs.declared.error.SpecError.TheVariants as tables
 use Rattle.frame_core.specs.declared.status.Status.{Status}
 use Rattle.frame_core.specs.declared.status.Status.TheVariants.{Malformed, Limit, Memory}
-use Rattle.frame_core.specs.Told.{Field, plain, at, memory}
+use Rattle.frame_core.specs.Reported.{Field, plain, at, memory}
 
 -- the most bytes of tables, and of an input of `agree`
 abbrev pub most_of_tables : ℕ

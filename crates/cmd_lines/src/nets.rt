@@ -1,8 +1,9 @@
 //! The statuses and error lines of faults of netlists.
 ghost use Rattle.std.specs.Prelude.{◌≡◌, ◌++◌, ◌∷◌, []};
-ghost use Rattle.frame_core.specs.Told.{at as at_of};
+ghost use Rattle.frame_core.specs.Reported.{at as at_of};
 ghost use Rattle.frame_core.specs.Views.{shown, line_value};
-ghost use Rattle.cmd_lines.specs.NetLines.{net_status as net_status_of, of_name as of_name_text, at_name as at_name_text, named_net};
+ghost use Rattle.cmd_lines.specs.NetLines.{net_status as net_status_of, of_name as of_name_text};
+ghost use Rattle.cmd_lines.specs.NetLines.{at_name as at_name_text, named_net};
 
 use frame_core::{ErrorLine, Field, Status};
 use net_core::{Name, NetError};
@@ -57,7 +58,7 @@ fn at_name(lead: Field, variant: &'static [u8], line: u32, name: Name) -> ErrorL
 }
 
 /// The error line of a fault of a netlist, after the word `lead` unless that is `Nothing`.
-#[tactic(auto, unfolding(crate::specs::NetLines::named_net, frame_core::specs::Told::memory, frame_core::specs::Views::shown))]
+#[tactic(auto, unfolding(crate::specs::NetLines::named_net, frame_core::specs::Reported::memory, frame_core::specs::Views::shown))]
 pub fn name_net(lead: Field, error: NetError) -> ErrorLine
     ensures { line_value result ≡ shown (lead ∷ []) ++ named_net error }
 {

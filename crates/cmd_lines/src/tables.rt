@@ -23,7 +23,7 @@ pub fn spec_status(error: SpecError) -> Status
 }
 
 /// The error line of a fault of tables.
-#[tactic(auto, unfolding(crate::specs::TableLines::named_spec, frame_core::specs::Told::memory))]
+#[tactic(auto, unfolding(crate::specs::TableLines::named_spec, frame_core::specs::Reported::memory))]
 pub fn name_spec(error: SpecError) -> ErrorLine
     ensures { line_value result ≡ named_spec error }
 {

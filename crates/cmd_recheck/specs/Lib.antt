@@ -1,5 +1,5 @@
 pub mod Keeping
-pub mod Owed
+pub mod Obligations
 pub mod QuestionLaws
 pub mod RecheckDepthLaws
 pub mod RecheckDepthPromise

@@ -5,34 +5,34 @@ use Rattle.text_core.specs.Lines.{Line, lines_of}
 use Rattle.tt_core.specs.Words.{Words, specification}
 use Rattle.op_basis.specs.Basis.{members}
 use Rattle.chain_core.specs.Spelling.{line}
-use Rattle.cert_theory.specs.Spelling.{first_text, tables_lines, basis_line, method_line, conflicts_line, max_line, section_lines, ending_lines}
+use Rattle.cert_theory.specs.Spelling.{first_text, tables_lines, basis_line, method_line, conflicts_line, max_line, section_lines, trailer_lines}
 use Rattle.cert_theory.specs.Question.{HasQuestion}
-use Rattle.cert_laws.specs.BundlesAgain.{spells_tables, basis_lower}
+use Rattle.cert_laws.specs.CertificatesAgain.{spells_tables, basis_lower}
 use Rattle.cert_laws.specs.QuestionLaws.{one_question}
 use Rattle.depth_theory.specs.declared.data.DepthVerdict.{DepthVerdict}
-use Rattle.depth_theory.specs.DepthBundle.{DepthBundle}
+use Rattle.depth_theory.specs.DepthCertificate.{DepthCertificate}
 use Rattle.depth_theory.specs.DepthSpelling.{depth_line, levels_of, flat_lines, IsDepthText}
 use Rattle.depth_theory.specs.DepthAgain.{depth_lines_again}
 use Rattle.depth_theory.specs.DepthMeaning.{Means}
 
 -- the certificate spells its tables and its basis
-pub depth_asks : (bytes : List ℕ) (b : DepthBundle) → IsDepthText bytes b → HasQuestion bytes b.bundle.heading.spec b.bundle.heading.basis
+pub depth_asks : (bytes : List ℕ) (b : DepthCertificate) → IsDepthText bytes b → HasQuestion bytes b.certificate.header.spec b.certificate.header.basis
 depth_asks bytes b is =
-    let h = b.bundle.heading in
+    let h = b.certificate.header in
     let valid = is.is_depth.valid in
     let last = line (method_line h.method) ∷ line (conflicts_line h.conflicts) ∷ line (max_line h.max) ∷ [] in
-    let sections = flat_map section_lines b.bundle.sections ++ ending_lines b.bundle.chain b.bundle.verdict in
-    let behind = line (depth_line (levels_of b.verdict)) ∷ flat_lines b.parts b.verdict in
+    let sections = flat_map section_lines b.certificate.sections ++ trailer_lines b.certificate.chain b.certificate.verdict in
+    let following = line (depth_line (levels_of b.verdict)) ∷ flat_lines b.parts b.verdict in
     let basis = line (basis_line h.basis) ∷ last in
     record {
-      spec = valid.heading.tables;
-      basis_from = valid.heading.asked.basis_from;
-      basis_below = valid.heading.basis_below;
-      behind = tables_lines h.spec ++ line (basis_line h.basis) ∷ (last ++ (sections ++ behind));
+      spec = valid.header.tables;
+      basis_from = valid.header.settings.basis_from;
+      basis_below = valid.header.basis_below;
+      following = tables_lines h.spec ++ line (basis_line h.basis) ∷ (last ++ (sections ++ following));
       first = ap lines_of is.text ∙ depth_lines_again b is.is_depth
-          ∙ ap (λ (ls : List Line). line first_text ∷ ls) (append_assoc (tables_lines h.spec ++ basis) sections behind ∙ append_assoc (tables_lines h.spec) basis (sections ++ behind));
-      rest = last ++ (sections ++ behind);
-      tables = spells_tables h.spec (line (basis_line h.basis)) (last ++ (sections ++ behind)) is.output (basis_lower h.basis);
+          ∙ ap (λ (ls : List Line). line first_text ∷ ls) (append_assoc (tables_lines h.spec ++ basis) sections following ∙ append_assoc (tables_lines h.spec) basis (sections ++ following));
+      rest = last ++ (sections ++ following);
+      tables = spells_tables h.spec (line (basis_line h.basis)) (last ++ (sections ++ following)) is.output (basis_lower h.basis);
     }
 
 means_as : (w u : Words) (a b steps : ℕ) (v : DepthVerdict) → w ≡ u → a ≡ b → Means (specification w) (members a) steps v → Means (specification u) (members b) steps v
@@ -40,7 +40,9 @@ means_as w u a b steps v same_words same_basis means =
     subst (λ (n : ℕ). Means (specification u) (members n) steps v) same_basis (subst (λ (x : Words). Means (specification x) (members a) steps v) same_words means)
 
 -- What its verdict says is true for the tables and the basis that the lines spell.
-pub levels_answer : (bytes : List ℕ) (b : DepthBundle) (v : DepthVerdict) (steps : ℕ) (w : Words) (basis : ℕ) → IsDepthText bytes b → Means (specification b.bundle.heading.spec) (members b.bundle.heading.basis) steps v → HasQuestion bytes w basis → Means (specification w) (members basis) steps v
-levels_answer bytes b v steps w basis is means asked =
-    let same = one_question bytes b.bundle.heading.spec w b.bundle.heading.basis basis (depth_asks bytes b is) asked in
-    means_as b.bundle.heading.spec w b.bundle.heading.basis basis steps v same.0 same.1 means
+pub levels_answer : (bytes : List ℕ) (b : DepthCertificate) (v : DepthVerdict) (steps : ℕ) (w : Words) (basis : ℕ) →
+    IsDepthText bytes b → Means (specification b.certificate.header.spec) (members b.certificate.header.basis) steps v
+    → HasQuestion bytes w basis → Means (specification w) (members basis) steps v
+levels_answer bytes b v steps w basis is means has_question =
+    let same = one_question bytes b.certificate.header.spec w b.certificate.header.basis basis (depth_asks bytes b is) has_question in
+    means_as b.certificate.header.spec w b.certificate.header.basis basis steps v same.0 same.1 means

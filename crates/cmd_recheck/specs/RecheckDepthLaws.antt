@@ -3,27 +3,27 @@ use Rattle.std.specs.Prelude.{◌≡◌, ℕ, ◌⊎◌, List, length, Err}
 use Rattle.std.proofs.Common.{◌∙◌, ap, refl, inl, inr}
 use Rattle.std.proofs.Math.Logic.{⊎_elim}
 use Rattle.text_core.specs.Lines.{lines_of}
-use Rattle.cert_theory.specs.declared.data.BundleError.{BundleError}
-use Rattle.cert_theory.specs.declared.data.BundleError.TheVariants as bundles
+use Rattle.cert_theory.specs.declared.data.CertificateError.{CertificateError}
+use Rattle.cert_theory.specs.declared.data.CertificateError.TheVariants as certificates
 use Rattle.depth_theory.specs.declared.data.DepthVerdict.{DepthVerdict}
 use Rattle.depth_theory.specs.declared.data.DepthError.{DepthError}
 use Rattle.depth_theory.specs.declared.data.DepthError.TheVariants as depths
-use Rattle.depth_theory.specs.DepthBundle.{DepthBundle}
+use Rattle.depth_theory.specs.DepthCertificate.{DepthCertificate}
 use Rattle.depth_theory.specs.DepthJudging.{Answer}
 use Rattle.depth_theory.specs.DepthSpelling.{IsDepthText}
 use Rattle.command_line.specs.declared.command.Command.TheVariants.{RecheckDepth}
 use Rattle.command_line.specs.CommandLine.{AsksFor}
 use Rattle.frame_core.specs.declared.status.Status.TheVariants.{Malformed, Refused}
-use Rattle.frame_core.specs.Told.{memory_refusal}
+use Rattle.frame_core.specs.Reported.{memory_refusal}
 use Rattle.frame_core.specs.Task.{IsTask}
 use Rattle.frame_core.specs.Run.{Run}
 use Rattle.frame_core.specs.Promise.{Stands, CommandPromise}
 use Rattle.frame_core.specs.TaskLaws.{at_once_task}
-use Rattle.depth_file.specs.SpentLaws.{log_is_spent}
-use Rattle.depth_theory.specs.Verdicts.{most_of_bundle, GivesLevels}
-use Rattle.cmd_recheck.specs.RecheckReport.{bundle_status}
+use Rattle.depth_file.specs.BudgetLaws.{log_reaches_budget}
+use Rattle.depth_theory.specs.Verdicts.{most_of_certificate, GivesLevels}
+use Rattle.cmd_recheck.specs.RecheckReport.{certificate_status}
 use Rattle.cmd_recheck.specs.RecheckDepthReport.{named_depth, depth_reply, depth_refusal, HasDepthFault, depth_task}
-use Rattle.cmd_recheck.specs.RecheckDepthPromise.{TellsLevels, RecheckDepthPromise}
+use Rattle.cmd_recheck.specs.RecheckDepthPromise.{ReportsLevels, RecheckDepthPromise}
 use Rattle.cmd_recheck.specs.RechecksLaws.{IsFaultRefusal, fault_status, IsRechecking, rechecks}
 use Rattle.depth_file.specs.AnswerLaws.{one_answer}
 use Rattle.cmd_recheck.specs.RecheckLaws.{status_kind}
@@ -34,20 +34,20 @@ one_fault answer d e is other = cc
 
 -- ---- `recheck --depth yes` is a command
 
-of_memory : depth_refusal (depths.Bundle bundles.Memory) ≡ memory_refusal
+of_memory : depth_refusal (depths.Certificate certificates.Memory) ≡ memory_refusal
 unfolding named_depth
 of_memory = refl
 
-of_inside : (e : BundleError) → IsFaultRefusal (depth_refusal (depths.Bundle e))
+of_inside : (e : CertificateError) → IsFaultRefusal (depth_refusal (depths.Certificate e))
 of_inside e =
     ⊎_elim
-    (λ (is : (bundle_status e ≡ Malformed) ⊎ (bundle_status e ≡ Refused)). inl is)
-    (λ (is : e ≡ bundles.Memory). inr (ap (λ (x : BundleError). depth_refusal (depths.Bundle x)) is ∙ of_memory))
+    (λ (is : (certificate_status e ≡ Malformed) ⊎ (certificate_status e ≡ Refused)). inl is)
+    (λ (is : e ≡ certificates.Memory). inr (ap (λ (x : CertificateError). depth_refusal (depths.Certificate x)) is ∙ of_memory))
     (status_kind e)
 
 faults : (e : DepthError) → IsFaultRefusal (depth_refusal e)
 unfolding named_depth
-faults (depths.Bundle e) = of_inside e
+faults (depths.Certificate e) = of_inside e
 faults depths.NotLeastForm = inl (inr refl)
 faults (depths.Syntax line) = inl (inl refl)
 faults (depths.WrongDepth line) = inl (inr refl)
@@ -60,10 +60,10 @@ faults depths.Memory = inr refl
 
 pub depth_is_task : IsTask depth_task
 depth_is_task =
-    at_once_task most_of_bundle DepthVerdict GivesLevels depth_reply DepthError HasDepthFault depth_refusal
+    at_once_task most_of_certificate DepthVerdict GivesLevels depth_reply DepthError HasDepthFault depth_refusal
     (λ verdict. inl refl)
     (λ bytes fault meets. fault_status (depth_refusal fault) (faults fault))
-    (λ bytes verdict error gives fault. fault.none gives.has.bundle gives.has.is_text)
+    (λ bytes verdict error gives fault. fault.none gives.has.certificate gives.has.is_text)
     (λ bytes a b x y. ap depth_refusal (one_fault (Err a) a b refl (one_answer (lines_of bytes) (Err a) (Err b) x.fault y.fault)))
     (λ bytes verdict gives. gives.within)
     (λ bytes error fault. fault.within)
@@ -71,31 +71,31 @@ depth_is_task =
 -- ---- its promise
 
 -- A text with a verdict spells tables and a basis, and the verdict is true for them.
-tells_levels : (r : Run) (input : List ℕ) (verdict : DepthVerdict) → GivesLevels input verdict → Stands r (depth_reply verdict) → TellsLevels r input
-tells_levels r input verdict gives stands =
-    let b : DepthBundle = gives.has.bundle in
+reports_levels : (r : Run) (input : List ℕ) (verdict : DepthVerdict) → GivesLevels input verdict → Stands r (depth_reply verdict) → ReportsLevels r input
+reports_levels r input verdict gives stands =
+    let b : DepthCertificate = gives.has.certificate in
     let is : IsDepthText input b = gives.has.is_text in
     record {
       verdict = verdict;
       has = gives;
       stands = stands;
-      asks = (b.bundle.heading.spec, b.bundle.heading.basis, depth_asks input b is);
+      asks = (b.certificate.header.spec, b.certificate.header.basis, depth_asks input b is);
       steps = length is.is_depth.chain.steps;
-      means = λ tables basis asked. levels_answer input b verdict (length is.is_depth.chain.steps) tables basis is (gives.means b is) asked;
-      spent = λ low d bounded. log_is_spent input b low d is (gives.has.verdict ∙ bounded);
+      means = λ tables basis has_question. levels_answer input b verdict (length is.is_depth.chain.steps) tables basis is (gives.means b is) has_question;
+      spent = λ low d bounded. log_reaches_budget input b low d is (gives.has.verdict ∙ bounded);
     }
 
-is_rechecking : IsRechecking depth_task IsDepthText (λ (b : DepthBundle). b.verdict) TellsLevels
+is_rechecking : IsRechecking depth_task IsDepthText (λ (b : DepthCertificate). b.verdict) ReportsLevels
 is_rechecking = record {
   reads = refl;
   done = λ verdict. refl;
-  quiet = λ verdict. refl;
+  faultless = λ verdict. refl;
   faults = faults;
   sound = λ input b error is fault. fault.none b is;
   only = λ input b verdict is gives. gives.only b is;
-  tells = tells_levels;
+  reports = reports_levels;
 }
 
 -- The promise of `recheck --depth yes`.
 pub depth_promised : (r : Run) → (AsksFor r.words RecheckDepth → CommandPromise depth_task r) → RecheckDepthPromise r
-depth_promised = rechecks RecheckDepth depth_task IsDepthText (λ (b : DepthBundle). b.verdict) TellsLevels is_rechecking
+depth_promised = rechecks RecheckDepth depth_task IsDepthText (λ (b : DepthCertificate). b.verdict) ReportsLevels is_rechecking

@@ -6,10 +6,10 @@ use Rattle.op_basis.specs.Basis.{members}
 use Rattle.cert_theory.specs.Question.{HasQuestion}
 use Rattle.depth_theory.specs.declared.data.DepthVerdict.{DepthVerdict}
 use Rattle.depth_theory.specs.declared.data.DepthVerdict.TheVariants.{Bounded}
-use Rattle.depth_theory.specs.DepthBundle.{DepthBundle}
+use Rattle.depth_theory.specs.DepthCertificate.{DepthCertificate}
 use Rattle.depth_theory.specs.DepthSpelling.{IsDepthText}
 use Rattle.depth_theory.specs.DepthMeaning.{Means}
-use Rattle.depth_file.specs.Spent.{IsLeftOpen}
+use Rattle.depth_file.specs.BudgetReached.{IsLeftOpen}
 use Rattle.cmd_recheck.specs.RecheckDepthReport.{depth_reply, depth_task}
 use Rattle.cmd_recheck.specs.Rechecks.{Rechecks}
 use Rattle.depth_theory.specs.Verdicts.{GivesLevels}
@@ -20,7 +20,7 @@ use Rattle.frame_core.specs.Promise.{Stands}
 -- For whatever tables and basis they spell there: `steps` is the least number of steps; some chain of `steps`
 -- steps has the levels of the verdict; and none has fewer levels, or fewer than the lower number if the verdict
 -- has two. In that case the bytes have a log of a fence with the lower number of levels that reaches the budget.
-pub record TellsLevels (r : Run) (input : List ℕ) : Type 0 where
+pub record ReportsLevels (r : Run) (input : List ℕ) : Type 0 where
   pub verdict : DepthVerdict
   pub has : GivesLevels input verdict
   pub stands : Stands r (depth_reply verdict)
@@ -31,8 +31,8 @@ pub record TellsLevels (r : Run) (input : List ℕ) : Type 0 where
       → Means (specification tables) (members basis) steps verdict
   pub spent : (low d : ℕ)
       → verdict ≡ Bounded low d
-      → IsLeftOpen input has.has.bundle.bundle.heading steps low
+      → IsLeftOpen input has.has.certificate.certificate.header steps low
 
 -- The promise for certificates of the fewest levels.
 abbrev pub RecheckDepthPromise : Run → Type 0
-RecheckDepthPromise r = Rechecks RecheckDepth depth_task IsDepthText (λ (b : DepthBundle). b.verdict) TellsLevels r
+RecheckDepthPromise r = Rechecks RecheckDepth depth_task IsDepthText (λ (b : DepthCertificate). b.verdict) ReportsLevels r

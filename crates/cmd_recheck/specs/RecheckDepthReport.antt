@@ -1,20 +1,20 @@
 -- The task of `recheck --depth yes`: the reply for each verdict, and the refusal for each fault.
 use Rattle.std.specs.Prelude.{ℕ, ◌≤◌, List, ◌∷◌, ◌++◌, length, None, codes, Err}
 use Rattle.text_core.specs.Lines.{lines_of}
-use Rattle.cert_theory.specs.declared.data.BundleError.{BundleError}
-use Rattle.cert_theory.specs.declared.data.BundleError.TheVariants as bundles
+use Rattle.cert_theory.specs.declared.data.CertificateError.{CertificateError}
+use Rattle.cert_theory.specs.declared.data.CertificateError.TheVariants as certificates
 use Rattle.depth_theory.specs.declared.data.DepthVerdict.{DepthVerdict}
 use Rattle.depth_theory.specs.declared.data.DepthError.{DepthError}
 use Rattle.depth_theory.specs.declared.data.DepthError.TheVariants as depths
-use Rattle.depth_theory.specs.DepthBundle.{DepthBundle}
+use Rattle.depth_theory.specs.DepthCertificate.{DepthCertificate}
 use Rattle.depth_theory.specs.DepthSpelling.{levels_line, IsDepthText}
 use Rattle.depth_theory.specs.DepthJudging.{IsJudged}
 use Rattle.frame_core.specs.declared.status.Status.{Status}
 use Rattle.frame_core.specs.declared.status.Status.TheVariants.{Done, Malformed, Memory, Refused}
-use Rattle.frame_core.specs.Told.{Reply, Field, Word, Refusal, plain, at, memory}
+use Rattle.frame_core.specs.Reported.{Reply, Field, Word, Refusal, plain, at, memory}
 use Rattle.frame_core.specs.Task.{Task, at_once}
-use Rattle.depth_theory.specs.Verdicts.{most_of_bundle, GivesLevels}
-use Rattle.cmd_recheck.specs.RecheckReport.{bundle_status, named_step, named_bundle}
+use Rattle.depth_theory.specs.Verdicts.{most_of_certificate, GivesLevels}
+use Rattle.cmd_recheck.specs.RecheckReport.{certificate_status, named_step, named_certificate}
 
 -- the output: the line of the levels
 unfoldable pub levels_text : DepthVerdict → List ℕ
@@ -23,7 +23,7 @@ levels_text verdict = levels_line verdict ++ codes "\n"
 -- A text that isn't of the form of a depth certificate is `Malformed`; one of that form that isn't valid is
 -- `Refused`.
 abbrev pub depth_status : DepthError → Status
-depth_status (depths.Bundle e) = bundle_status e
+depth_status (depths.Certificate e) = certificate_status e
 depth_status depths.NotLeastForm = Refused
 depth_status (depths.Syntax line) = Malformed
 depth_status (depths.WrongDepth line) = Refused
@@ -36,12 +36,12 @@ depth_status depths.Memory = Memory
 
 -- A fault in the certificate of the fewest steps has the word "Bundle" before it; running out of memory hasn't.
 -- Example: Bundle StepRefused 13 NotUnit 22.
-abbrev pub named_inside : BundleError → List Field
-named_inside bundles.Memory = memory
-named_inside e = Word (codes "Bundle") ∷ named_bundle e
+abbrev pub named_inside : CertificateError → List Field
+named_inside certificates.Memory = memory
+named_inside e = Word (codes "Bundle") ∷ named_certificate e
 
 unfoldable pub named_depth : DepthError → List Field
-named_depth (depths.Bundle e) = named_inside e
+named_depth (depths.Certificate e) = named_inside e
 named_depth depths.NotLeastForm = plain (codes "NotLeastForm")
 named_depth (depths.Syntax line) = at (codes "Syntax") line
 named_depth (depths.WrongDepth line) = at (codes "WrongDepth") line
@@ -61,9 +61,9 @@ depth_refusal error = record { status = depth_status error; named = named_depth 
 
 -- The bytes aren't the spelling of a valid depth certificate, and this is their first fault.
 pub record HasDepthFault (bytes : List ℕ) (error : DepthError) : Type 0 where
-  pub within : length bytes ≤ most_of_bundle
-  pub none : (b : DepthBundle) → IsDepthText bytes b → ⊥
+  pub within : length bytes ≤ most_of_certificate
+  pub none : (b : DepthCertificate) → IsDepthText bytes b → ⊥
   pub fault : IsJudged (lines_of bytes) (Err error)
 
 abbrev pub depth_task : Task
-depth_task = at_once most_of_bundle DepthVerdict GivesLevels depth_reply DepthError HasDepthFault depth_refusal
+depth_task = at_once most_of_certificate DepthVerdict GivesLevels depth_reply DepthError HasDepthFault depth_refusal

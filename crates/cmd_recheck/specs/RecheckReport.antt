@@ -4,33 +4,33 @@ use Rattle.text_core.specs.Lines.{lines_of}
 use Rattle.lrat_check.specs.declared.error.CheckError.{CheckError}
 use Rattle.lrat_check.specs.declared.error.CheckError.TheVariants as steps
 use Rattle.cert_theory.specs.declared.data.Verdict.{Verdict}
-use Rattle.cert_theory.specs.declared.data.BundleError.{BundleError}
-use Rattle.cert_theory.specs.declared.data.BundleError.TheVariants as bundles
-use Rattle.cert_theory.specs.Bundle.{Bundle}
-use Rattle.cert_theory.specs.Spelling.{verdict_line, IsBundle}
-use Rattle.cert_theory.specs.Judging.{bundle_of}
+use Rattle.cert_theory.specs.declared.data.CertificateError.{CertificateError}
+use Rattle.cert_theory.specs.declared.data.CertificateError.TheVariants as certificates
+use Rattle.cert_theory.specs.Certificate.{Certificate}
+use Rattle.cert_theory.specs.Spelling.{verdict_line, IsCertificateText}
+use Rattle.cert_theory.specs.Judging.{certificate_of}
 use Rattle.frame_core.specs.declared.status.Status.{Status}
 use Rattle.frame_core.specs.declared.status.Status.TheVariants.{Done, Malformed, Memory, Refused}
-use Rattle.frame_core.specs.Told.{Reply, Field, Word, Number, Refusal, at, memory}
+use Rattle.frame_core.specs.Reported.{Reply, Field, Word, Number, Refusal, at, memory}
 use Rattle.frame_core.specs.Task.{Task, at_once}
-use Rattle.depth_theory.specs.Verdicts.{most_of_bundle, GivesVerdict}
+use Rattle.depth_theory.specs.Verdicts.{most_of_certificate, GivesVerdict}
 
 -- the output: the verdict line
 unfoldable pub verdict_text : Verdict → List ℕ
 verdict_text verdict = verdict_line verdict ++ codes "\n"
 
 -- A text that isn't of the form of a certificate is `Malformed`; one of that form that isn't valid is `Refused`.
-abbrev pub bundle_status : BundleError → Status
-bundle_status (bundles.Syntax line) = Malformed
-bundle_status (bundles.SizeOutOfOrder line) = Refused
-bundle_status (bundles.StepRefused line e) = Refused
-bundle_status (bundles.NotRefuted line) = Refused
-bundle_status (bundles.ChainDiffers output row) = Refused
-bundle_status (bundles.OperatorNotInBasis place) = Refused
-bundle_status (bundles.OpenTooShort line) = Refused
-bundle_status (bundles.NotNew line) = Refused
-bundle_status (bundles.WrongVerdict line) = Refused
-bundle_status bundles.Memory = Memory
+abbrev pub certificate_status : CertificateError → Status
+certificate_status (certificates.Syntax line) = Malformed
+certificate_status (certificates.SizeOutOfOrder line) = Refused
+certificate_status (certificates.StepRefused line e) = Refused
+certificate_status (certificates.NotRefuted line) = Refused
+certificate_status (certificates.ChainDiffers output row) = Refused
+certificate_status (certificates.OperatorNotInBasis place) = Refused
+certificate_status (certificates.OpenTooShort line) = Refused
+certificate_status (certificates.NotNew line) = Refused
+certificate_status (certificates.WrongVerdict line) = Refused
+certificate_status certificates.Memory = Memory
 
 -- a refused log line: its number, the name of its fault, and the id or variable of the fault
 abbrev pub refused_step : ℕ → List ℕ → List Field → List Field
@@ -49,30 +49,30 @@ named_step line (steps.IdNotGreater id) = refused_step line (codes "IdNotGreater
 named_step line (steps.UnknownVariable variable) = refused_step line (codes "UnknownVariable") (Number variable ∷ [])
 named_step line steps.Memory = refused_step line (codes "Memory") []
 
-unfoldable pub named_bundle : BundleError → List Field
-named_bundle (bundles.Syntax line) = at (codes "Syntax") line
-named_bundle (bundles.SizeOutOfOrder line) = at (codes "SizeOutOfOrder") line
-named_bundle (bundles.StepRefused line e) = named_step line e
-named_bundle (bundles.NotRefuted line) = at (codes "NotRefuted") line
-named_bundle (bundles.ChainDiffers output row) = two_of (codes "ChainDiffers") output row
-named_bundle (bundles.OperatorNotInBasis place) = at (codes "OperatorNotInBasis") place
-named_bundle (bundles.OpenTooShort line) = at (codes "OpenTooShort") line
-named_bundle (bundles.NotNew line) = at (codes "NotNew") line
-named_bundle (bundles.WrongVerdict line) = at (codes "WrongVerdict") line
-named_bundle bundles.Memory = memory
+unfoldable pub named_certificate : CertificateError → List Field
+named_certificate (certificates.Syntax line) = at (codes "Syntax") line
+named_certificate (certificates.SizeOutOfOrder line) = at (codes "SizeOutOfOrder") line
+named_certificate (certificates.StepRefused line e) = named_step line e
+named_certificate (certificates.NotRefuted line) = at (codes "NotRefuted") line
+named_certificate (certificates.ChainDiffers output row) = two_of (codes "ChainDiffers") output row
+named_certificate (certificates.OperatorNotInBasis place) = at (codes "OperatorNotInBasis") place
+named_certificate (certificates.OpenTooShort line) = at (codes "OpenTooShort") line
+named_certificate (certificates.NotNew line) = at (codes "NotNew") line
+named_certificate (certificates.WrongVerdict line) = at (codes "WrongVerdict") line
+named_certificate certificates.Memory = memory
 
 -- a verdict as a reply, and an error as a refusal
 abbrev pub recheck_reply : Verdict → Reply
 recheck_reply verdict = record { text = verdict_text verdict; report = None; status = Done }
 
-abbrev pub recheck_refusal : BundleError → Refusal
-recheck_refusal error = record { status = bundle_status error; named = named_bundle error }
+abbrev pub recheck_refusal : CertificateError → Refusal
+recheck_refusal error = record { status = certificate_status error; named = named_certificate error }
 
 -- The bytes aren't the spelling of a valid certificate, and this is their first fault.
-pub record HasBundleFault (bytes : List ℕ) (error : BundleError) : Type 0 where
-  pub within : length bytes ≤ most_of_bundle
-  pub none : (b : Bundle) → IsBundle bytes b → ⊥
-  pub fault : bundle_of (lines_of bytes) ≡ Err error
+pub record HasCertificateFault (bytes : List ℕ) (error : CertificateError) : Type 0 where
+  pub within : length bytes ≤ most_of_certificate
+  pub none : (b : Certificate) → IsCertificateText bytes b → ⊥
+  pub fault : certificate_of (lines_of bytes) ≡ Err error
 
 abbrev pub recheck_task : Task
-recheck_task = at_once most_of_bundle Verdict GivesVerdict recheck_reply BundleError HasBundleFault recheck_refusal
+recheck_task = at_once most_of_certificate Verdict GivesVerdict recheck_reply CertificateError HasCertificateFault recheck_refusal

@@ -3,10 +3,10 @@
 ghost use Rattle.std.specs.Prelude.{◌≡◌, ℕ, ◌+◌, ◌^◌, ◌<◌, ◌≤◌, List, ◌++◌, Some, None, Ok, Err, IfOk, length};
 ghost use Rattle.line_reader.specs.Reader.{IsReader, StandsFor};
 ghost use Rattle.line_reader.specs.Seen.{seen};
-ghost use Rattle.depth_theory.specs.Verdicts.{most_of_bundle};
+ghost use Rattle.depth_theory.specs.Verdicts.{most_of_certificate};
 ghost use Rattle.cmd_recheck.specs.Keeping.{Keeps, IsWhole, count_of};
 ghost use Rattle.frame_core.specs.declared.status.Status.TheVariants.{Done};
-ghost use Rattle.frame_core.specs.Task.{Task, Tells};
+ghost use Rattle.frame_core.specs.Task.{Task, HasReply};
 ghost use Rattle.frame_core.specs.Views.{Judges};
 
 use frame_core::{Ended, Refusal, Reply, Status, Stop, StreamJob, finish};
@@ -27,7 +27,7 @@ pub enum Reading<S> {
 }
 
 /// A kind of certificates: the stage that takes their lines, and the texts that report their verdicts.
-pub trait Kind {
+pub trait CertificateKind {
     /// The stage that takes their lines.
     type Lines: LineStage;
 
@@ -35,7 +35,7 @@ pub trait Kind {
     ghost task: { Self → Task };
 
     /// The most bytes that are read.
-    ghost reads: { (kind : Self) → (task kind).reads ≡ Some most_of_bundle };
+    ghost reads: { (kind : Self) → (task kind).reads ≡ Some most_of_certificate };
 
     /// The output for the result of a certificate.
     fn text_of(
@@ -43,17 +43,21 @@ pub trait Kind {
         alloc: Global,
         end: <Self::Lines as LineStage>::End,
     ) -> Result<Vec<u8>, AllocError>
-        ensures { (bytes : List ℕ) → length bytes ≤ most_of_bundle → Self.Lines.gives (Ok end) bytes →
-            IfOk result (λ text. Tells (task self.now) bytes (record { text = text.items; report = None; status = Done })) };
+        ensures { (bytes : List ℕ) → length bytes ≤ most_of_certificate → Self.Lines.gives (Ok end) bytes →
+            IfOk result (λ text. HasReply (task self.now) bytes (record {
+              text = text.items;
+              report = None;
+              status = Done;
+            })) };
 
     /// The refusal of a text with this fault.
     fn stop(&self, fault: <Self::Lines as LineStage>::Fault) -> Stop
-        ensures { (bytes : List ℕ) → length bytes ≤ most_of_bundle → Self.Lines.gives (Err fault) bytes →
+        ensures { (bytes : List ℕ) → length bytes ≤ most_of_certificate → Self.Lines.gives (Err fault) bytes →
             Judges (task self.now) bytes (Err result) };
 }
 
 /// Reads the next piece. A refusal holds for every text that begins with what was read.
-fn read_on<K: Kind>(
+fn read_on<K: CertificateKind>(
     kind: &K,
     reader: PieceReader<K::Lines>,
     piece: &[u8],
@@ -75,12 +79,13 @@ fn read_on<K: Kind>(
 }
 
 /// The reply for the result of a certificate.
-fn reply_to<K: Kind>(
+fn reply_to<K: CertificateKind>(
     alloc: Global,
     kind: &K,
     end: <K::Lines as LineStage>::End,
 ) -> Result<Reply, Stop>
-    ensures { (bytes : List ℕ) → length bytes ≤ most_of_bundle → K.Lines.gives (Ok end) bytes → Judges (K.task kind.now) bytes result }
+    ensures { (bytes : List ℕ) → length bytes ≤ most_of_certificate → K.Lines.gives (Ok end) bytes →
+        Judges (K.task kind.now) bytes result }
 {
     match kind.text_of(alloc, end) {
         Ok(text) => Ok(Reply {
@@ -93,9 +98,14 @@ fn reply_to<K: Kind>(
 }
 
 /// The reply at the end of a certificate.
-fn tell<K: Kind>(alloc: Global, kind: &K, kept: Reading<K::Lines>) -> Result<Reply, Stop>
+fn reply_of<K: CertificateKind>(
+    alloc: Global,
+    kind: &K,
+    kept: Reading<K::Lines>,
+) -> Result<Reply, Stop>
     requires { IsWhole K.Lines.whole K.Lines.held kept }
-    ensures { (bytes : List ℕ) → Keeps (K.task kind.now) K.Lines.stands kept bytes → length bytes ≤ most_of_bundle →
+    ensures { (bytes : List ℕ) → Keeps (K.task kind.now) K.Lines.stands kept bytes →
+        length bytes ≤ most_of_certificate →
         Judges (K.task kind.now) bytes result }
 {
     match kept {
@@ -111,7 +121,7 @@ fn tell<K: Kind>(alloc: Global, kind: &K, kept: Reading<K::Lines>) -> Result<Rep
 #[derive(Drop)]
 pub struct Recheck<K>(pub K);
 
-impl<K: Kind> StreamJob for Recheck<K> {
+impl<K: CertificateKind> StreamJob for Recheck<K> {
     ghost task = { λ job. K.task job.0 };
 
     ghost ready = { λ _. Unit {0} };
@@ -151,6 +161,6 @@ impl<K: Kind> StreamJob for Recheck<K> {
         out: &mut O,
         note: &mut N,
     ) -> Ended {
-        finish(tell(alloc, &self.0, kept), out, note)
+        finish(reply_of(alloc, &self.0, kept), out, note)
     }
 }

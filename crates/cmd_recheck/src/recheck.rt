@@ -3,21 +3,21 @@ ghost use Rattle.std.specs.Prelude.{◌≡◌, IfOk, refl};
 ghost use Rattle.cmd_recheck.specs.RecheckReport.{verdict_text, recheck_refusal, recheck_task};
 ghost use Rattle.frame_core.specs.Views.{refusal_value};
 
-use crate::bundles::{bundle_status, name_bundle};
-use crate::job::Kind;
-use cert_file::{BundleError, Stage, Verdict};
+use crate::certificates::{certificate_status, name_certificate};
+use crate::job::CertificateKind;
+use cert_file::{CertificateError, Stage, Verdict};
 use frame_core::{Field, Refusal, Stop};
 use std::alloc::{AllocError, Global};
 use text_core::push_number;
 
 /// A fault as a refusal.
 #[tactic(auto, unfolding(frame_core::specs::Views::shown))]
-fn refusal_of(error: BundleError) -> Refusal
+fn refusal_of(error: CertificateError) -> Refusal
     ensures { refusal_value result ≡ recheck_refusal error }
 {
     Refusal {
-        status: bundle_status(error),
-        line: name_bundle(Field::Nothing, error),
+        status: certificate_status(error),
+        line: name_certificate(Field::Nothing, error),
     }
 }
 
@@ -55,7 +55,7 @@ fn verdict_bytes(alloc: Global, verdict: Verdict) -> Result<Vec<u8>, AllocError>
 #[derive(Drop)]
 pub struct Steps;
 
-impl Kind for Steps {
+impl CertificateKind for Steps {
     type Lines = Stage;
 
     ghost task = { λ _. recheck_task };
@@ -66,9 +66,9 @@ impl Kind for Steps {
         verdict_bytes(alloc, verdict)
     }
 
-    fn stop(&self, error: BundleError) -> Stop {
+    fn stop(&self, error: CertificateError) -> Stop {
         match error {
-            BundleError::Memory => Stop::NoMemory,
+            CertificateError::Memory => Stop::NoMemory,
             error => Stop::NoAnswer(refusal_of(error)),
         }
     }

@@ -1,11 +1,12 @@
 //! Certificates of the fewest levels, as a kind for the job of `recheck`.
 ghost use Rattle.std.specs.Prelude.{◌≡◌, IfOk, refl};
 ghost use Rattle.frame_core.specs.Views.{line_value, refusal_value};
-ghost use Rattle.cmd_recheck.specs.RecheckDepthReport.{levels_text, depth_status as depth_status_of, named_inside, named_depth, depth_refusal, depth_task};
+ghost use Rattle.cmd_recheck.specs.RecheckDepthReport.{levels_text, depth_status as depth_status_of, named_inside};
+ghost use Rattle.cmd_recheck.specs.RecheckDepthReport.{named_depth, depth_refusal, depth_task};
 
-use crate::bundles::{bundle_status, name_bundle, name_step};
-use crate::job::Kind;
-use cert_file::BundleError;
+use crate::certificates::{certificate_status, name_certificate, name_step};
+use crate::job::CertificateKind;
+use cert_file::CertificateError;
 use depth_file::{DepthError, DepthVerdict, Stage};
 use frame_core::{ErrorLine, Field, Refusal, Status, Stop};
 use std::alloc::{AllocError, Global};
@@ -16,7 +17,7 @@ fn depth_status(error: DepthError) -> Status
     ensures { result ≡ depth_status_of error }
 {
     match error {
-        DepthError::Bundle(error) => bundle_status(error),
+        DepthError::Certificate(error) => certificate_status(error),
         DepthError::Syntax(_) => Status::Malformed,
         DepthError::Memory => Status::Memory,
         DepthError::NotLeastForm
@@ -30,23 +31,23 @@ fn depth_status(error: DepthError) -> Status
 }
 
 /// The error line of a fault in the certificate of the fewest steps.
-#[tactic(auto, unfolding(frame_core::specs::Told::memory, frame_core::specs::Views::shown), using(crate::proofs::RecheckingDepth::inside))]
-fn name_inside(error: BundleError) -> ErrorLine
+#[tactic(auto, unfolding(frame_core::specs::Reported::memory, frame_core::specs::Views::shown), using(crate::proofs::RecheckingDepth::inside))]
+fn name_inside(error: CertificateError) -> ErrorLine
     ensures { line_value result ≡ named_inside error }
 {
     match error {
-        BundleError::Memory => ErrorLine::plain(b"Memory"),
-        error => name_bundle(Field::Known(b"Bundle"), error),
+        CertificateError::Memory => ErrorLine::plain(b"Memory"),
+        error => name_certificate(Field::Known(b"Bundle"), error),
     }
 }
 
 /// The error line of a fault.
-#[tactic(auto, unfolding(crate::specs::RecheckDepthReport::named_depth, frame_core::specs::Told::memory, frame_core::specs::Views::shown))]
+#[tactic(auto, unfolding(crate::specs::RecheckDepthReport::named_depth, frame_core::specs::Reported::memory, frame_core::specs::Views::shown))]
 fn name_depth(error: DepthError) -> ErrorLine
     ensures { line_value result ≡ named_depth error }
 {
     match error {
-        DepthError::Bundle(error) => name_inside(error),
+        DepthError::Certificate(error) => name_inside(error),
         DepthError::NotLeastForm => ErrorLine::plain(b"NotLeastForm"),
         DepthError::Syntax(line) => ErrorLine::at(b"Syntax", line),
         DepthError::WrongDepth(line) => ErrorLine::at(b"WrongDepth", line),
@@ -95,7 +96,7 @@ fn levels_bytes(alloc: Global, verdict: DepthVerdict) -> Result<Vec<u8>, AllocEr
 #[derive(Drop)]
 pub struct Levels;
 
-impl Kind for Levels {
+impl CertificateKind for Levels {
     type Lines = Stage;
 
     ghost task = { λ _. depth_task };

@@ -11,25 +11,27 @@ use Rattle.settings.specs.declared.synth.SynthSettings.{SynthSettings}
 use Rattle.synth_core.specs.Tables.{tables_alone}
 use Rattle.cmd_lines.specs.TableLines.{most_of_tables}
 use Rattle.cmd_synth.specs.SynthReport.{synth_refusal, synth_task}
-use Rattle.frame_core.specs.Told.{Refusal}
+use Rattle.frame_core.specs.Reported.{Refusal}
 use Rattle.frame_core.specs.Task.{Refuses}
 
 -- ---- the result of the search
 
-pub told_fault : (e : SpecError) (read : Result Words SpecError) → Fails e read → (e ≡ tables.Memory → ⊥) → read ≡ Err e
-told_fault (tables.BadHeader line) read fails other = fails
-told_fault (tables.BadRow line) read fails other = fails
-told_fault (tables.WrongLength line) read fails other = fails
-told_fault tables.TooManyInputs read fails other = fails
-told_fault tables.TooManyOutputs read fails other = fails
-told_fault tables.NoOutput read fails other = fails
-told_fault tables.Memory read fails other = absurd (other refl)
+pub reported_fault : (e : SpecError) (read : Result Words SpecError) → Fails e read → (e ≡ tables.Memory → ⊥) → read ≡ Err e
+reported_fault (tables.BadHeader line) read fails other = fails
+reported_fault (tables.BadRow line) read fails other = fails
+reported_fault (tables.WrongLength line) read fails other = fails
+reported_fault tables.TooManyInputs read fails other = fails
+reported_fault tables.TooManyOutputs read fails other = fails
+reported_fault tables.NoOutput read fails other = fails
+reported_fault tables.Memory read fails other = absurd (other refl)
 
-pub refuses : (asked : SynthSettings) (bytes : List ℕ) (e : SpecError) (refusal : Refusal) → length bytes ≤ most_of_tables → (e ≡ tables.Memory → ⊥) → Fails e (tables_alone (lines_of bytes)) → refusal ≡ synth_refusal e → Refuses (synth_task asked) bytes refusal
-refuses asked bytes e refusal within other fails is = record {
+pub refuses : (settings : SynthSettings) (bytes : List ℕ) (e : SpecError) (refusal : Refusal) →
+    length bytes ≤ most_of_tables → (e ≡ tables.Memory → ⊥) → Fails e (tables_alone (lines_of bytes)) →
+    refusal ≡ synth_refusal e → Refuses (synth_task settings) bytes refusal
+refuses settings bytes e refusal within other fails is = record {
   fault = e;
-  meets = record { within = within; fault = told_fault e (tables_alone (lines_of bytes)) fails other };
+  meets = record { within = within; fault = reported_fault e (tables_alone (lines_of bytes)) fails other };
   is = is;
 }
 
-pub ruleset telling = (common_steps, refuses)
+pub ruleset reporting = (common_steps, refuses)

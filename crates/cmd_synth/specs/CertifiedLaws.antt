@@ -7,26 +7,26 @@ use Rattle.tt_core.specs.Spelling.{SpellsTables}
 use Rattle.tt_core.specs.declared.error.SpecError.{SpecError}
 use Rattle.tt_core.specs.ReadBack.{tables_again}
 use Rattle.op_basis.specs.Basis.{members}
-use Rattle.cert_theory.specs.declared.data.Heading.{Heading}
+use Rattle.cert_theory.specs.declared.data.Header.{Header}
 use Rattle.cert_theory.specs.declared.data.Verdict.{Verdict}
-use Rattle.cert_theory.specs.Bundle.{Bundle}
+use Rattle.cert_theory.specs.Certificate.{Certificate}
 use Rattle.cert_laws.specs.CodingLaws.{method_is_coding}
 use Rattle.cert_theory.specs.Meaning.{Means}
-use Rattle.cert_theory.specs.Spelling.{IsBundle}
-use Rattle.cert_theory.specs.Judging.{bundle_of}
-use Rattle.cert_laws.specs.BundlesAgain.{text_again}
+use Rattle.cert_theory.specs.Spelling.{IsCertificateText}
+use Rattle.cert_theory.specs.Judging.{certificate_of}
+use Rattle.cert_laws.specs.CertificatesAgain.{text_again}
 use Rattle.cert_laws.specs.Meanings.{verdict_means}
 use Rattle.settings.specs.declared.synth.SynthSettings.{SynthSettings}
 use Rattle.synth_core.specs.Certifying.{IsCertificate}
 use Rattle.synth_core.specs.Tables.{words_alone, tables_alone}
-use Rattle.depth_theory.specs.Verdicts.{most_of_bundle, GivesVerdict}
+use Rattle.depth_theory.specs.Verdicts.{most_of_certificate, GivesVerdict}
 use Rattle.cmd_lines.specs.TableLines.{most_of_tables}
 use Rattle.cmd_synth.specs.SynthReport.{Certified, IsCertified}
 use Rattle.depth_theory.specs.VerdictLaws.{is_verdict}
 
 -- the verdict of a valid certificate is true
-bundle_means : (b : Bundle) (bytes : List ℕ) → IsBundle bytes b → Means (specification b.heading.spec) (members b.heading.basis) b.verdict
-bundle_means b bytes is = verdict_means b (method_is_coding b.heading.method) is.valid
+certificate_means : (b : Certificate) (bytes : List ℕ) → IsCertificateText bytes b → Means (specification b.header.spec) (members b.header.basis) b.verdict
+certificate_means b bytes is = verdict_means b (method_is_coding b.header.method) is.valid
 
 means_as : (w x : Words) (a b : ℕ) (u v : Verdict) → w ≡ x → a ≡ b → u ≡ v → Means (specification w) (members a) u → Means (specification x) (members b) v
 means_as w x a b u v same_words same_basis same_verdict means =
@@ -42,33 +42,35 @@ pub tables_are : (a b : Words) (bytes : List ℕ) → IsSpec a → IsSpec b → 
 tables_are a b bytes spec other spelled again =
     same_tables (tables_alone (lines_of bytes)) a b (ap words_alone (tables_again a (lines_of bytes) [] spec spelled)) (ap words_alone (tables_again b (lines_of bytes) [] other again))
 
-pub its_meaning : (asked : SynthSettings) (bytes text : List ℕ) (verdict : Verdict) → IsCertificate bytes asked text verdict → (w : Words) → IsSpec w → SpellsTables (specification w) (lines_of bytes) [] → Means (specification w) (members asked.basis) verdict
-its_meaning asked bytes text verdict c w spec spelled =
-    means_as c.bundle.heading.spec w c.bundle.heading.basis asked.basis c.bundle.verdict verdict
-    (tables_are c.bundle.heading.spec w bytes c.is_bundle.valid.heading.tables spec c.tables spelled)
-    (ap (λ (h : Heading). h.basis) c.heading_is)
+pub its_meaning : (settings : SynthSettings) (bytes text : List ℕ) (verdict : Verdict) →
+    IsCertificate bytes settings text verdict → (w : Words) → IsSpec w →
+    SpellsTables (specification w) (lines_of bytes) [] → Means (specification w) (members settings.basis) verdict
+its_meaning settings bytes text verdict c w spec spelled =
+    means_as c.certificate.header.spec w c.certificate.header.basis settings.basis c.certificate.verdict verdict
+    (tables_are c.certificate.header.spec w bytes c.is_certificate.valid.header.tables spec c.tables spelled)
+    (ap (λ (h : Header). h.basis) c.header_is)
     c.verdict_is
-    (bundle_means c.bundle text c.is_bundle)
+    (certificate_means c.certificate text c.is_certificate)
 
-judged_as : (text : List ℕ) (b : Bundle) (verdict : Verdict) → IsBundle text b → b.verdict ≡ verdict → bundle_of (lines_of text) ≡ Ok verdict
-judged_as text b verdict is same = subst (λ (v : Verdict). bundle_of (lines_of text) ≡ Ok v) same (text_again text b is)
+judged_as : (text : List ℕ) (b : Certificate) (verdict : Verdict) → IsCertificateText text b → b.verdict ≡ verdict → certificate_of (lines_of text) ≡ Ok verdict
+judged_as text b verdict is same = subst (λ (v : Verdict). certificate_of (lines_of text) ≡ Ok v) same (text_again text b is)
 
-pub its_verdict : (asked : SynthSettings) (bytes text : List ℕ) (verdict : Verdict) → IsCertificate bytes asked text verdict → bundle_of (lines_of text) ≡ Ok verdict
-its_verdict asked bytes text verdict c = judged_as text c.bundle verdict c.is_bundle c.verdict_is
+pub its_verdict : (settings : SynthSettings) (bytes text : List ℕ) (verdict : Verdict) → IsCertificate bytes settings text verdict → certificate_of (lines_of text) ≡ Ok verdict
+its_verdict settings bytes text verdict c = judged_as text c.certificate verdict c.is_certificate c.verdict_is
 
-pub its_recheck : (asked : SynthSettings) (bytes text : List ℕ) (verdict : Verdict) → IsCertificate bytes asked text verdict → length text ≤ most_of_bundle → GivesVerdict text verdict
-its_recheck asked bytes text verdict c within = record {
+pub its_recheck : (settings : SynthSettings) (bytes text : List ℕ) (verdict : Verdict) → IsCertificate bytes settings text verdict → length text ≤ most_of_certificate → GivesVerdict text verdict
+its_recheck settings bytes text verdict c within = record {
   within = within;
-  read = its_verdict asked bytes text verdict c;
-  is_verdict = is_verdict text verdict (its_verdict asked bytes text verdict c);
+  read = its_verdict settings bytes text verdict c;
+  is_verdict = is_verdict text verdict (its_verdict settings bytes text verdict c);
 }
 
 -- Everything that a certificate guarantees.
-pub certified : (asked : SynthSettings) (bytes : List ℕ) (c : Certified) → length bytes ≤ most_of_tables → IsCertificate bytes asked c.text c.verdict → IsCertified asked bytes c
-certified asked bytes c within certificate = record {
+pub certified : (settings : SynthSettings) (bytes : List ℕ) (c : Certified) → length bytes ≤ most_of_tables → IsCertificate bytes settings c.text c.verdict → IsCertified settings bytes c
+certified settings bytes c within certificate = record {
   within = within;
   certificate = certificate;
-  means = λ w tables. its_meaning asked bytes c.text c.verdict certificate w tables.are tables.spelled;
-  judged = its_verdict asked bytes c.text c.verdict certificate;
-  rechecked = its_recheck asked bytes c.text c.verdict certificate;
+  means = λ w tables. its_meaning settings bytes c.text c.verdict certificate w tables.are tables.spelled;
+  judged = its_verdict settings bytes c.text c.verdict certificate;
+  rechecked = its_recheck settings bytes c.text c.verdict certificate;
 }

@@ -6,17 +6,17 @@ use Rattle.tt_core.specs.Words.{Words, specification}
 use Rattle.tt_core.specs.declared.error.SpecError.{SpecError}
 use Rattle.op_basis.specs.Basis.{members}
 use Rattle.chain_theory.specs.Chain.{Chain}
-use Rattle.cert_theory.specs.declared.data.Heading.{Heading}
+use Rattle.cert_theory.specs.declared.data.Header.{Header}
 use Rattle.cert_theory.specs.declared.data.Verdict.{Verdict}
 use Rattle.cert_theory.specs.declared.data.Verdict.TheVariants as sizes
-use Rattle.cert_theory.specs.Bundle.{IsEnding, first_open}
+use Rattle.cert_theory.specs.Certificate.{IsTrailer, first_open}
 use Rattle.depth_theory.specs.declared.data.DepthVerdict.{DepthVerdict}
 use Rattle.depth_theory.specs.declared.data.DepthVerdict.TheVariants.{Levels, Bounded}
 use Rattle.depth_theory.specs.DepthMeaning as depths
 use Rattle.depth_theory.specs.DepthMeanings.{depth_means}
-use Rattle.depth_file.specs.Spent.{IsLeftOpen}
-use Rattle.depth_file.specs.SpentLaws.{log_is_spent}
-use Rattle.synth_core.specs.Asking.{heading_of}
+use Rattle.depth_file.specs.BudgetReached.{IsLeftOpen}
+use Rattle.depth_file.specs.BudgetLaws.{log_reaches_budget}
+use Rattle.synth_core.specs.SettingsHeader.{header_of}
 use Rattle.settings.specs.declared.synth.SynthSettings.{SynthSettings}
 use Rattle.synth_core.specs.Tables.{tables_alone}
 use Rattle.synth_core.specs.declared.least_depth.Found.{Found}
@@ -46,25 +46,31 @@ means_as w x a b steps u v same_words same_basis same_verdict means =
     (subst (λ (n : ℕ). depths.Means (specification x) (members n) steps u) same_basis
     (subst (λ (y : Words). depths.Means (specification y) (members a) steps u) same_words means))
 
-pub least_levels : (asked : SynthSettings) (bytes text : List ℕ) (v : DepthVerdict) → (c : IsLeast bytes asked text v) → (w : Words) → AreTables bytes w → depths.Means (specification w) (members asked.basis) (length c.is_text.is_depth.chain.steps) v
-least_levels asked bytes text v c w are =
+pub least_levels : (settings : SynthSettings) (bytes text : List ℕ) (v : DepthVerdict) →
+    (c : IsLeast bytes settings text v) → (w : Words) → AreTables bytes w →
+    depths.Means (specification w) (members settings.basis) (length c.is_text.is_depth.chain.steps) v
+least_levels settings bytes text v c w are =
     let is = c.is_text.is_depth in
-    let h = c.bundle.bundle.heading in
-    means_as h.spec w h.basis asked.basis (length is.chain.steps) c.bundle.verdict v
-    (tables_are h.spec w bytes is.valid.heading.tables are.are c.tables are.spelled)
-    (ap (λ (x : Heading). x.basis) c.heading_is)
+    let h = c.certificate.certificate.header in
+    means_as h.spec w h.basis settings.basis (length is.chain.steps) c.certificate.verdict v
+    (tables_are h.spec w bytes is.valid.header.tables are.are c.tables are.spelled)
+    (ap (λ (x : Header). x.basis) c.header_is)
     c.verdict_is
-    (depth_means c.bundle is)
+    (depth_means c.certificate is)
 
 -- the log of a fence with the lower number of levels reaches the budget
-own_heading : (asked : SynthSettings) (bytes text : List ℕ) (v : DepthVerdict) → (c : IsLeast bytes asked text v) → (w : Words) → AreTables bytes w → c.bundle.bundle.heading ≡ heading_of w asked
-own_heading asked bytes text v c w are =
-    c.heading_is ∙ ap (λ (x : Words). heading_of x asked) (tables_are c.bundle.bundle.heading.spec w bytes c.is_text.is_depth.valid.heading.tables are.are c.tables are.spelled)
+own_header : (settings : SynthSettings) (bytes text : List ℕ) (v : DepthVerdict) →
+    (c : IsLeast bytes settings text v) → (w : Words) → AreTables bytes w →
+    c.certificate.certificate.header ≡ header_of w settings
+own_header settings bytes text v c w are =
+    c.header_is ∙ ap (λ (x : Words). header_of x settings) (tables_are c.certificate.certificate.header.spec w bytes c.is_text.is_depth.valid.header.tables are.are c.tables are.spelled)
 
-left_open : (asked : SynthSettings) (bytes text : List ℕ) (low d : ℕ) → (c : IsLeast bytes asked text (Bounded low d)) → (w : Words) → AreTables bytes w → IsLeftOpen text (heading_of w asked) (length c.is_text.is_depth.chain.steps) low
-left_open asked bytes text low d c w are =
-    subst (λ (h : Heading). IsLeftOpen text h (length c.is_text.is_depth.chain.steps) low) (own_heading asked bytes text (Bounded low d) c w are)
-    (log_is_spent text c.bundle low d c.is_text c.verdict_is)
+left_open : (settings : SynthSettings) (bytes text : List ℕ) (low d : ℕ) →
+    (c : IsLeast bytes settings text (Bounded low d)) → (w : Words) → AreTables bytes w →
+    IsLeftOpen text (header_of w settings) (length c.is_text.is_depth.chain.steps) low
+left_open settings bytes text low d c w are =
+    subst (λ (h : Header). IsLeftOpen text h (length c.is_text.is_depth.chain.steps) low) (own_header settings bytes text (Bounded low d) c w are)
+    (log_reaches_budget text c.certificate low d c.is_text c.verdict_is)
 
 -- ---- `synth --least-depth yes` is a command
 
@@ -74,80 +80,94 @@ found_statuses (Least (Bounded low d)) = inr (inl refl)
 found_statuses (Other v) = answer_statuses v
 
 -- tables with a certificate have no fault
-sound : {A : Type 0} (asked : SynthSettings) (bytes text : List ℕ) (f : Found) (e : SpecError) → IsCertificate bytes asked text f → tables_alone (lines_of bytes) ≡ Err e → A
-sound asked bytes text (Least v) e c bad = no_fault c.bundle.bundle.heading.spec (lines_of bytes) e c.is_text.is_depth.valid.heading.tables c.tables bad
-sound asked bytes text (Other v) e c bad = no_fault c.certificate.bundle.heading.spec (lines_of bytes) e c.certificate.is_bundle.valid.heading.tables c.certificate.tables bad
+sound : {A : Type 0} (settings : SynthSettings) (bytes text : List ℕ) (f : Found) (e : SpecError) → IsCertificate bytes settings text f → tables_alone (lines_of bytes) ≡ Err e → A
+sound settings bytes text (Least v) e c bad = no_fault c.certificate.certificate.header.spec (lines_of bytes) e c.is_text.is_depth.valid.header.tables c.tables bad
+sound settings bytes text (Other v) e c bad = no_fault c.certificate.certificate.header.spec (lines_of bytes) e c.certificate.is_certificate.valid.header.tables c.certificate.tables bad
 
-pub least_depth_is_task : (asked : SynthSettings) → IsTask (least_depth_task asked)
-least_depth_is_task asked =
-    at_once_task most_of_tables Certified (IsCertified asked) least_depth_reply SpecError HasTablesFault synth_refusal
+pub least_depth_is_task : (settings : SynthSettings) → IsTask (least_depth_task settings)
+least_depth_is_task settings =
+    at_once_task most_of_tables Certified (IsCertified settings) least_depth_reply SpecError HasTablesFault synth_refusal
     (λ c. found_statuses c.found)
     (λ bytes fault meets. statuses_of fault)
-    (λ bytes c error has fault. sound asked bytes c.text c.found error has.certificate fault.fault)
+    (λ bytes c error has fault. sound settings bytes c.text c.found error has.certificate fault.fault)
     (λ bytes a b x y. ap synth_refusal (one_error (tables_alone (lines_of bytes)) a b x.fault y.fault))
     (λ bytes c has. has.within)
     (λ bytes error fault. fault.within)
 
 -- ---- its promise
 
-complete : (r : Run) (asked : SynthSettings) (input : List ℕ) (w : Words) → CommandPromise (least_depth_task asked) r → r.source.bytes ≡ Some input → AreTables input w → OutputHeld r → Replies (least_depth_task asked) r input
-complete r asked input w promise told are held =
+complete : (r : Run) (settings : SynthSettings) (input : List ℕ) (w : Words) →
+    CommandPromise (least_depth_task settings) r → r.source.bytes ≡ Some input → AreTables input w → OutputHeld r →
+    Replies (least_depth_task settings) r input
+complete r settings input w promise reported are held =
     let within = are.within in
-    gets (least_depth_task asked) r input (λ c. refl) promise told (record { within = λ long. omega arith; sound = λ error fault. no_fault w (lines_of input) error are.are are.spelled fault.fault }) held
+    gets (least_depth_task settings) r input (λ c. refl) promise reported (record {
+      within = λ long. omega arith;
+      sound = λ error fault. no_fault w (lines_of input) error are.are are.spelled fault.fault;
+    }) held
 
-answer_only : (r : Run) (asked : SynthSettings) (input : List ℕ) → CommandPromise (least_depth_task asked) r → r.source.bytes ≡ Some input → (r.status ≡ Done) ⊎ (r.status ≡ Undecided) → Replies (least_depth_task asked) r input
-answer_only r asked input promise told is = answer_replies (least_depth_task asked) r input promise told is
+answer_only : (r : Run) (settings : SynthSettings) (input : List ℕ) → CommandPromise (least_depth_task settings) r →
+    r.source.bytes ≡ Some input → (r.status ≡ Done) ⊎ (r.status ≡ Undecided) →
+    Replies (least_depth_task settings) r input
+answer_only r settings input promise reported is = answer_replies (least_depth_task settings) r input promise reported is
 
 not_refused_found : (f : Found) → found_status f ≡ Refused → ⊥
 not_refused_found (Least (Levels d)) is = cc
 not_refused_found (Least (Bounded low d)) is = cc
 not_refused_found (Other v) is = not_refused_by v is
 
-never_refused : (r : Run) (asked : SynthSettings) → CommandPromise (least_depth_task asked) r → r.status ≡ Refused → ⊥
-never_refused r asked promise is = refused_never (least_depth_task asked) r (λ c. not_refused_found c.found) not_refused promise is
+never_refused : (r : Run) (settings : SynthSettings) → CommandPromise (least_depth_task settings) r → r.status ≡ Refused → ⊥
+never_refused r settings promise is = refused_never (least_depth_task settings) r (λ c. not_refused_found c.found) not_refused promise is
 
 -- ---- what its statuses mean
 
 -- in a verdict that no chain of at most `x` steps implements the tables, `x` is the `max` of the settings
-none_to : (h : Heading) (count x : ℕ) (low : Option ℕ) (c : Option Chain) → IsEnding h count low c (sizes.NoChain x) → x ≡ h.max
-none_to h count x None None ending = let e = ending.1 in cc
-none_to h count x (Some l) None ending = let e = ending.1 in absurd cc
-none_to h count x None (Some c) ending = let e = ending.1 in absurd cc
-none_to h count x (Some l) (Some c) ending = let e = ending.1 in absurd cc
+none_to : (h : Header) (count x : ℕ) (low : Option ℕ) (c : Option Chain) → IsTrailer h count low c (sizes.NoChain x) → x ≡ h.max
+none_to h count x None None trailer = let e = trailer.1 in cc
+none_to h count x (Some l) None trailer = let e = trailer.1 in absurd cc
+none_to h count x None (Some c) trailer = let e = trailer.1 in absurd cc
+none_to h count x (Some l) (Some c) trailer = let e = trailer.1 in absurd cc
 
-none_to_max : (asked : SynthSettings) (bytes text : List ℕ) (x : ℕ) → IsOther bytes asked text (sizes.NoChain x) → x ≡ asked.max
-none_to_max asked bytes text x other =
+none_to_max : (settings : SynthSettings) (bytes text : List ℕ) (x : ℕ) → IsOther bytes settings text (sizes.NoChain x) → x ≡ settings.max
+none_to_max settings bytes text x other =
     let c = other.certificate in
-    let b = c.bundle in
-    none_to b.heading (length b.sections) x (first_open b.sections) b.chain
-    (subst (λ (v : Verdict). IsEnding b.heading (length b.sections) (first_open b.sections) b.chain v) c.verdict_is c.is_bundle.valid.ending)
-    ∙ ap (λ (h : Heading). h.max) c.heading_is
+    let b = c.certificate in
+    none_to b.header (length b.sections) x (first_open b.sections) b.chain
+    (subst (λ (v : Verdict). IsTrailer b.header (length b.sections) (first_open b.sections) b.chain v) c.verdict_is c.is_certificate.valid.trailer)
+    ∙ ap (λ (h : Header). h.max) c.header_is
 
 -- a certificate was written
 abbrev StandsCertified : Run → SynthSettings → List ℕ → List ℕ → Found → Type 0
-StandsCertified r asked input text f = IsCertified asked input (record { text = text; found = f }) × Stands r (least_depth_reply (record { text = text; found = f }))
+StandsCertified r settings input text f = IsCertified settings input (record { text = text; found = f }) × Stands r (least_depth_reply (record { text = text; found = f }))
 
-finds_none : (r : Run) (asked : SynthSettings) (input text : List ℕ) (w : Words) (x : ℕ) → AreTables input w → x ≡ asked.max → StandsCertified r asked input text (Other (sizes.NoChain x)) → FindsNone asked w r input
-finds_none r asked input text w x are same leaves =
-    let here : StandsCertified r asked input text (Other (sizes.NoChain asked.max)) = subst (λ (y : ℕ). StandsCertified r asked input text (Other (sizes.NoChain y))) same leaves in
+finds_none : (r : Run) (settings : SynthSettings) (input text : List ℕ) (w : Words) (x : ℕ) → AreTables input w →
+    x ≡ settings.max → StandsCertified r settings input text (Other (sizes.NoChain x)) → FindsNone settings w r input
+finds_none r settings input text w x are same leaves =
+    let here : StandsCertified r settings input text (Other (sizes.NoChain settings.max)) = subst (λ (y : ℕ). StandsCertified r settings input text (Other (sizes.NoChain y))) same leaves in
     record { text = text; certified = here.0; stands = here.1; none = here.0.means w are }
 
-tells_least : (r : Run) (asked : SynthSettings) (input text : List ℕ) (w : Words) (f : Found) → AreTables input w → StandsCertified r asked input text f → found_status f ≡ Done → FindsLeast asked w r input ⊎ FindsNone asked w r input
-tells_least r asked input text w (Least (Levels d)) are leaves is =
+reports_least : (r : Run) (settings : SynthSettings) (input text : List ℕ) (w : Words) (f : Found) →
+    AreTables input w → StandsCertified r settings input text f → found_status f ≡ Done →
+    FindsLeast settings w r input ⊎ FindsNone settings w r input
+reports_least r settings input text w (Least (Levels d)) are leaves is =
     let means = leaves.0.means w are in
     inl (record { text = text; levels = d; certified = leaves.0; stands = leaves.1; steps = means.0; least = means.1 })
-tells_least r asked input text w (Least (Bounded low d)) are leaves is = absurd cc
-tells_least r asked input text w (Other (sizes.Minimum n)) are leaves is = let none = leaves.0.certificate.no_minimum in absurd cc
-tells_least r asked input text w (Other (sizes.NoChain x)) are leaves is = inr (finds_none r asked input text w x are (none_to_max asked input text x leaves.0.certificate) leaves)
-tells_least r asked input text w (Other (sizes.Bounded low n)) are leaves is = absurd cc
-tells_least r asked input text w (Other (sizes.Open low)) are leaves is = absurd cc
+reports_least r settings input text w (Least (Bounded low d)) are leaves is = absurd cc
+reports_least r settings input text w (Other (sizes.Minimum n)) are leaves is = let none = leaves.0.certificate.no_minimum in absurd cc
+reports_least r settings input text w (Other (sizes.NoChain x)) are leaves is = inr (finds_none r settings input text w x are (none_to_max settings input text x leaves.0.certificate) leaves)
+reports_least r settings input text w (Other (sizes.Bounded low n)) are leaves is = absurd cc
+reports_least r settings input text w (Other (sizes.Open low)) are leaves is = absurd cc
 
-leaves_steps : (r : Run) (asked : SynthSettings) (input text : List ℕ) (w : Words) (v : Verdict) → AreTables input w → StandsCertified r asked input text (Other v) → verdict_status v ≡ Undecided → LeavesSteps asked w r input
-leaves_steps r asked input text w v are leaves is = record { text = text; verdict = v; certified = leaves.0; stands = leaves.1; is_open = is; means = leaves.0.means w are }
+leaves_steps : (r : Run) (settings : SynthSettings) (input text : List ℕ) (w : Words) (v : Verdict) →
+    AreTables input w → StandsCertified r settings input text (Other v) → verdict_status v ≡ Undecided →
+    LeavesSteps settings w r input
+leaves_steps r settings input text w v are leaves is = record { text = text; verdict = v; certified = leaves.0; stands = leaves.1; is_open = is; means = leaves.0.means w are }
 
-tells_bounds : (r : Run) (asked : SynthSettings) (input text : List ℕ) (w : Words) (f : Found) → AreTables input w → StandsCertified r asked input text f → found_status f ≡ Undecided → FindsBounds asked w r input ⊎ LeavesSteps asked w r input
-tells_bounds r asked input text w (Least (Levels d)) are leaves is = absurd cc
-tells_bounds r asked input text w (Least (Bounded low d)) are leaves is =
+reports_bounds : (r : Run) (settings : SynthSettings) (input text : List ℕ) (w : Words) (f : Found) →
+    AreTables input w → StandsCertified r settings input text f → found_status f ≡ Undecided →
+    FindsBounds settings w r input ⊎ LeavesSteps settings w r input
+reports_bounds r settings input text w (Least (Levels d)) are leaves is = absurd cc
+reports_bounds r settings input text w (Least (Bounded low d)) are leaves is =
     let c = leaves.0.certificate in
     inl (record {
       text = text;
@@ -156,24 +176,27 @@ tells_bounds r asked input text w (Least (Bounded low d)) are leaves is =
       certified = leaves.0;
       stands = leaves.1;
       steps = length c.is_text.is_depth.chain.steps;
-      bounded = least_levels asked input text (Bounded low d) c w are;
-      spent = left_open asked input text low d c w are;
+      bounded = least_levels settings input text (Bounded low d) c w are;
+      spent = left_open settings input text low d c w are;
     })
-tells_bounds r asked input text w (Other v) are leaves is = inr (leaves_steps r asked input text w v are leaves is)
+reports_bounds r settings input text w (Other v) are leaves is = inr (leaves_steps r settings input text w v are leaves is)
 
-least : (r : Run) (asked : SynthSettings) (input : List ℕ) (w : Words) → AreTables input w → r.status ≡ Done → Replies (least_depth_task asked) r input → FindsLeast asked w r input ⊎ FindsNone asked w r input
-least r asked input w are is got = tells_least r asked input got.answer.text w got.answer.found are (got.has, got.stands) (sym got.stands.status_is ∙ is)
+least : (r : Run) (settings : SynthSettings) (input : List ℕ) (w : Words) → AreTables input w → r.status ≡ Done →
+    Replies (least_depth_task settings) r input → FindsLeast settings w r input ⊎ FindsNone settings w r input
+least r settings input w are is got = reports_least r settings input got.answer.text w got.answer.found are (got.has, got.stands) (sym got.stands.status_is ∙ is)
 
-bounded : (r : Run) (asked : SynthSettings) (input : List ℕ) (w : Words) → AreTables input w → r.status ≡ Undecided → Replies (least_depth_task asked) r input → FindsBounds asked w r input ⊎ LeavesSteps asked w r input
-bounded r asked input w are is got = tells_bounds r asked input got.answer.text w got.answer.found are (got.has, got.stands) (sym got.stands.status_is ∙ is)
+bounded : (r : Run) (settings : SynthSettings) (input : List ℕ) (w : Words) → AreTables input w →
+    r.status ≡ Undecided → Replies (least_depth_task settings) r input → FindsBounds settings w r input ⊎
+    LeavesSteps settings w r input
+bounded r settings input w are is got = reports_bounds r settings input got.answer.text w got.answer.found are (got.has, got.stands) (sym got.stands.status_is ∙ is)
 
 -- The promise of `synth --least-depth yes`.
-pub least_depth_promised : (r : Run) → ((asked : SynthSettings) → AsksFor r.words (LeastDepth asked) → CommandPromise (least_depth_task asked) r) → LeastDepthPromise r
+pub least_depth_promised : (r : Run) → ((settings : SynthSettings) → AsksFor r.words (LeastDepth settings) → CommandPromise (least_depth_task settings) r) → LeastDepthPromise r
 least_depth_promised r keeps = record {
-  complete = λ asked input w run are held. complete r asked input w (keeps asked run.asks) run.told are held;
-  answer_only = λ asked input run is. answer_only r asked input (keeps asked run.asks) run.told is;
-  never_refused = λ asked asks is. never_refused r asked (keeps asked asks) is;
-  least = λ asked input w run are is. least r asked input w are is (answer_only r asked input (keeps asked run.asks) run.told (inl is));
-  bounded = λ asked input w run are is. bounded r asked input w are is (answer_only r asked input (keeps asked run.asks) run.told (inr is));
-  refused = λ asked input error run fault held. (keeps asked run.asks).refused input error run.told fault held;
+  complete = λ settings input w run are held. complete r settings input w (keeps settings run.asks) run.reported are held;
+  answer_only = λ settings input run is. answer_only r settings input (keeps settings run.asks) run.reported is;
+  never_refused = λ settings asks is. never_refused r settings (keeps settings asks) is;
+  least = λ settings input w run are is. least r settings input w are is (answer_only r settings input (keeps settings run.asks) run.reported (inl is));
+  bounded = λ settings input w run are is. bounded r settings input w are is (answer_only r settings input (keeps settings run.asks) run.reported (inr is));
+  refused = λ settings input error run fault held. (keeps settings run.asks).refused input error run.reported fault held;
 }

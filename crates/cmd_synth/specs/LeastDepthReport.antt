@@ -8,7 +8,7 @@ use Rattle.tt_core.specs.declared.error.SpecError.{SpecError}
 use Rattle.op_basis.specs.Basis.{members}
 use Rattle.settings.specs.declared.synth.SynthSettings.{SynthSettings}
 use Rattle.cert_theory.specs.Meaning as sizes
-use Rattle.cert_theory.specs.Judging.{bundle_of}
+use Rattle.cert_theory.specs.Judging.{certificate_of}
 use Rattle.depth_theory.specs.declared.data.DepthVerdict.TheVariants.{Levels, Bounded}
 use Rattle.depth_theory.specs.DepthMeaning as depths
 use Rattle.depth_theory.specs.DepthJudging.{IsJudged}
@@ -17,10 +17,10 @@ use Rattle.synth_core.specs.declared.least_depth.Found.TheVariants.{Least, Other
 use Rattle.synth_core.specs.DepthCertifying.{IsCertificate}
 use Rattle.frame_core.specs.declared.status.Status.{Status}
 use Rattle.frame_core.specs.declared.status.Status.TheVariants.{Done, Undecided}
-use Rattle.frame_core.specs.Told.{Reply}
+use Rattle.frame_core.specs.Reported.{Reply}
 use Rattle.frame_core.specs.Task.{Task, at_once}
 use Rattle.cmd_lines.specs.TableLines.{most_of_tables}
-use Rattle.depth_theory.specs.Verdicts.{most_of_bundle, GivesVerdict}
+use Rattle.depth_theory.specs.Verdicts.{most_of_certificate, GivesVerdict}
 use Rattle.depth_theory.specs.Verdicts.{GivesLevels}
 use Rattle.cmd_synth.specs.SynthReport.{verdict_status, synth_refusal, AreTables, HasTablesFault}
 
@@ -47,7 +47,7 @@ Means s basis (Other verdict) = sizes.Means s basis verdict
 -- Judging the text gives this verdict: as a depth certificate, or as a certificate of the fewest steps.
 abbrev pub IsJudgedSo : List ℕ → Found → Type 0
 IsJudgedSo text (Least verdict) = IsJudged (lines_of text) (Ok verdict)
-IsJudgedSo text (Other verdict) = bundle_of (lines_of text) ≡ Ok verdict
+IsJudgedSo text (Other verdict) = certificate_of (lines_of text) ≡ Ok verdict
 
 -- `recheck --depth yes` reports this verdict, or `recheck` does.
 abbrev pub IsAcceptedSo : List ℕ → Found → Type 0
@@ -57,14 +57,14 @@ IsAcceptedSo text (Other verdict) = GivesVerdict text verdict
 -- The text is a depth certificate for the tables in the bytes and for the settings, or a certificate of the
 -- fewest steps whose verdict isn't a minimum. What it says about chains is true. Judging the text gives the same
 -- verdict, and so does `recheck --depth yes`, or `recheck`, if the text is within its limit.
-pub record IsCertified (asked : SynthSettings) (bytes : List ℕ) (c : Certified) : Type 0 where
+pub record IsCertified (settings : SynthSettings) (bytes : List ℕ) (c : Certified) : Type 0 where
   pub within : length bytes ≤ most_of_tables
-  pub certificate : IsCertificate bytes asked c.text c.found
+  pub certificate : IsCertificate bytes settings c.text c.found
   pub means : (tables : Words)
       → AreTables bytes tables
-      → Means (specification tables) (members asked.basis) c.found
+      → Means (specification tables) (members settings.basis) c.found
   pub judged : IsJudgedSo c.text c.found
-  pub rechecked : length c.text ≤ most_of_bundle → IsAcceptedSo c.text c.found
+  pub rechecked : length c.text ≤ most_of_certificate → IsAcceptedSo c.text c.found
 
 abbrev pub least_depth_task : SynthSettings → Task
-least_depth_task asked = at_once most_of_tables Certified (IsCertified asked) least_depth_reply SpecError HasTablesFault synth_refusal
+least_depth_task settings = at_once most_of_tables Certified (IsCertified settings) least_depth_reply SpecError HasTablesFault synth_refusal

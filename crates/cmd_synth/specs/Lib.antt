@@ -2,7 +2,7 @@ pub mod CertifiedLaws
 pub mod LeastDepthLaws
 pub mod LeastDepthPromise
 pub mod LeastDepthReport
-pub mod Owed
+pub mod Obligations
 pub mod SynthLaws
 pub mod SynthPromise
 pub mod SynthReport

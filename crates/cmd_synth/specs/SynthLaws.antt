@@ -17,13 +17,13 @@ use Rattle.command_line.specs.CommandLine.{AsksFor}
 use Rattle.frame_core.specs.declared.status.Status.TheVariants.{Done, Undecided, WriteFault, Memory, Refused}
 use Rattle.cmd_lines.specs.TableLines.{most_of_tables, spec_status, named_spec}
 use Rattle.cmd_synth.specs.SynthReport.{verdict_status, Certified, synth_reply, synth_refusal, AreTables, IsCertified, HasTablesFault, BeginsCertificate, synth_task}
-use Rattle.frame_core.specs.Told.{memory_refusal}
+use Rattle.frame_core.specs.Reported.{memory_refusal}
 use Rattle.port_io.specs.Bytes.{Appends}
-use Rattle.frame_core.specs.Task.{IsAnswerStatus, IsRefusalStatus, IsTask, IsAnswerFront, IsBegunFront, MayStand}
+use Rattle.frame_core.specs.Task.{IsAnswerStatus, IsRefusalStatus, IsTask, IsAnswerPrefix, IsBegunPrefix, MayBeLeft}
 use Rattle.command_line.specs.declared.command.Command.TheVariants.{Synth}
 use Rattle.frame_core.specs.Run.{Run}
-use Rattle.frame_core.specs.Promise.{OutputHeld, TellsError, Replies, OfInput, ReplyCut, ReportCut, ReplyStarved, CommandPromise}
-use Rattle.cmd_synth.specs.SynthPromise.{LeavesFront, SynthPromise}
+use Rattle.frame_core.specs.Promise.{OutputHeld, ReportsError, Replies, OfInput, ReplyTruncated, ReportTruncated, ReplyOutOfMemory, CommandPromise}
+use Rattle.cmd_synth.specs.SynthPromise.{LeavesPrefix, SynthPromise}
 use Rattle.frame_core.specs.TaskLaws.{in_pieces_task}
 use Rattle.frame_core.specs.KeepingLaws.{of_input}
 use Rattle.frame_core.specs.ReadOffLaws.{gets, no_report, answer_replies, refused_never}
@@ -65,18 +65,18 @@ pub one_error : (read : Result Words SpecError) (d e : SpecError) → read ≡ E
 one_error read d e is other = cc
 
 -- the input of a certificate is the spelling of its tables
-its_tables : (asked : SynthSettings) (bytes text : List ℕ) (verdict : Verdict) (c : IsCertificate bytes asked text verdict) → IsSpec c.bundle.heading.spec
-its_tables asked bytes text verdict c = c.is_bundle.valid.heading.tables
+its_tables : (settings : SynthSettings) (bytes text : List ℕ) (verdict : Verdict) (c : IsCertificate bytes settings text verdict) → IsSpec c.certificate.header.spec
+its_tables settings bytes text verdict c = c.is_certificate.valid.header.tables
 
 not_beyond : (bytes : List ℕ) → length bytes ≤ most_of_tables → most_of_tables < length bytes → ⊥
 not_beyond bytes within long = omega arith
 
-pub synth_is_task : (asked : SynthSettings) → IsTask (synth_task asked)
-synth_is_task asked =
-    in_pieces_task (Some most_of_tables) Certified (IsCertified asked) synth_reply SpecError HasTablesFault synth_refusal (BeginsCertificate asked)
+pub synth_is_task : (settings : SynthSettings) → IsTask (synth_task settings)
+synth_is_task settings =
+    in_pieces_task (Some most_of_tables) Certified (IsCertified settings) synth_reply SpecError HasTablesFault synth_refusal (BeginsCertificate settings)
     (λ c. answer_statuses c.verdict)
     (λ bytes fault meets. statuses_of fault)
-    (λ bytes c error has fault. no_fault has.certificate.bundle.heading.spec (lines_of bytes) error (its_tables asked bytes c.text c.verdict has.certificate) has.certificate.tables fault.fault)
+    (λ bytes c error has fault. no_fault has.certificate.certificate.header.spec (lines_of bytes) error (its_tables settings bytes c.text c.verdict has.certificate) has.certificate.tables fault.fault)
     (λ bytes a b x y. ap synth_refusal (one_error (tables_alone (lines_of bytes)) a b x.fault y.fault))
     (λ bytes c has long. not_beyond bytes has.within long)
     (λ bytes error fault long. not_beyond bytes fault.within long)
@@ -85,13 +85,18 @@ synth_is_task asked =
 
 -- ---- its promise
 
-complete : (r : Run) (asked : SynthSettings) (input : List ℕ) (w : Words) → CommandPromise (synth_task asked) r → r.source.bytes ≡ Some input → AreTables input w → OutputHeld r → Replies (synth_task asked) r input
-complete r asked input w promise told tables held =
+complete : (r : Run) (settings : SynthSettings) (input : List ℕ) (w : Words) → CommandPromise (synth_task settings) r →
+    r.source.bytes ≡ Some input → AreTables input w → OutputHeld r → Replies (synth_task settings) r input
+complete r settings input w promise reported tables held =
     let within = tables.within in
-    gets (synth_task asked) r input (λ c. refl) promise told (record { within = λ long. omega arith; sound = λ error fault. no_fault w (lines_of input) error tables.are tables.spelled fault.fault }) held
+    gets (synth_task settings) r input (λ c. refl) promise reported (record {
+      within = λ long. omega arith;
+      sound = λ error fault. no_fault w (lines_of input) error tables.are tables.spelled fault.fault;
+    }) held
 
-answer_only : (r : Run) (asked : SynthSettings) (input : List ℕ) → CommandPromise (synth_task asked) r → r.source.bytes ≡ Some input → (r.status ≡ Done) ⊎ (r.status ≡ Undecided) → Replies (synth_task asked) r input
-answer_only r asked input promise told is = answer_replies (synth_task asked) r input promise told is
+answer_only : (r : Run) (settings : SynthSettings) (input : List ℕ) → CommandPromise (synth_task settings) r →
+    r.source.bytes ≡ Some input → (r.status ≡ Done) ⊎ (r.status ≡ Undecided) → Replies (synth_task settings) r input
+answer_only r settings input promise reported is = answer_replies (synth_task settings) r input promise reported is
 
 pub not_refused_by : (v : Verdict) → verdict_status v ≡ Refused → ⊥
 not_refused_by (verdicts.Minimum r) is = cc
@@ -99,58 +104,59 @@ not_refused_by (verdicts.NoChain x) is = cc
 not_refused_by (verdicts.Bounded low r) is = cc
 not_refused_by (verdicts.Open low) is = cc
 
-never_refused : (r : Run) (asked : SynthSettings) → CommandPromise (synth_task asked) r → r.status ≡ Refused → ⊥
-never_refused r asked promise is = refused_never (synth_task asked) r (λ c. not_refused_by c.verdict) not_refused promise is
+never_refused : (r : Run) (settings : SynthSettings) → CommandPromise (synth_task settings) r → r.status ≡ Refused → ⊥
+never_refused r settings promise is = refused_never (synth_task settings) r (λ c. not_refused_by c.verdict) not_refused promise is
 
 -- the truncated certificates that are allowed on the output
-front_left : (r : Run) (asked : SynthSettings) (input front : List ℕ) → MayStand (synth_task asked) input front → Appends r.out.bytes r.out'.bytes front → LeavesFront r asked input
-front_left r asked input front stands on_out =
+prefix_left : (r : Run) (settings : SynthSettings) (input prefix : List ℕ) → MayBeLeft (synth_task settings) input prefix → Appends r.out.bytes r.out'.bytes prefix → LeavesPrefix r settings input
+prefix_left r settings input prefix stands on_out =
     ⊎_elim
-    (λ (of : IsAnswerFront (synth_task asked) input front). let c = of.has.certificate in
-    let left : LeavesFront r asked input = record {
-      tables = c.bundle.heading.spec;
-      are = record { within = of.has.within; are = c.is_bundle.valid.heading.tables; spelled = c.tables };
+    (λ (of : IsAnswerPrefix (synth_task settings) input prefix). let c = of.has.certificate in
+    let left : LeavesPrefix r settings input = record {
+      tables = c.certificate.header.spec;
+      are = record { within = of.has.within; are = c.is_certificate.valid.header.tables; spelled = c.tables };
       text = of.answer.text;
-      is_front = inl (c.bundle, c.is_bundle, c.heading_is);
-      written = front;
-      begins = of.is_front;
+      is_prefix = inl (c.certificate, c.is_certificate, c.header_is);
+      written = prefix;
+      begins = of.is_prefix;
       on_out = on_out;
     } in left)
-    (λ (of : IsBegunFront (synth_task asked) input front).
-    let left : LeavesFront r asked input = record {
+    (λ (of : IsBegunPrefix (synth_task settings) input prefix).
+    let left : LeavesPrefix r settings input = record {
       tables = of.begins.tables;
       are = of.begins.are;
       text = of.text;
-      is_front = inr (of.begins.sections, of.begins.begun);
-      written = front;
-      begins = of.is_front;
+      is_prefix = inr (of.begins.sections, of.begins.begun);
+      written = prefix;
+      begins = of.is_prefix;
       on_out = on_out;
     } in left)
     stands
 
-cut : (r : Run) (asked : SynthSettings) (input : List ℕ) → CommandPromise (synth_task asked) r → r.source.bytes ≡ Some input → r.status ≡ WriteFault → LeavesFront r asked input
-cut r asked input promise told is =
+truncated : (r : Run) (settings : SynthSettings) (input : List ℕ) → CommandPromise (synth_task settings) r → r.source.bytes ≡ Some input → r.status ≡ WriteFault → LeavesPrefix r settings input
+truncated r settings input promise reported is =
     ⊎_elim
-    (λ (left : ReplyCut (synth_task asked) r input). front_left r asked input left.front left.leaves left.on_out)
-    (λ (none : ReportCut (synth_task asked) r input). no_report (synth_task asked) r input (λ c. refl) none)
-    (of_input (synth_task asked) r (λ bytes. ReplyCut (synth_task asked) r bytes ⊎ ReportCut (synth_task asked) r bytes) input (promise.write_fault_only is) told)
+    (λ (left : ReplyTruncated (synth_task settings) r input). prefix_left r settings input left.prefix left.leaves left.on_out)
+    (λ (none : ReportTruncated (synth_task settings) r input). no_report (synth_task settings) r input (λ c. refl) none)
+    (of_input (synth_task settings) r (λ bytes. ReplyTruncated (synth_task settings) r bytes ⊎ ReportTruncated (synth_task settings) r bytes) input (promise.write_fault_only is) reported)
 
-starved : (r : Run) (asked : SynthSettings) (input : List ℕ) → CommandPromise (synth_task asked) r → r.source.bytes ≡ Some input → r.status ≡ Memory → (r.out' ≡ r.out) ⊎ LeavesFront r asked input
-starved r asked input promise told is =
+out_of_memory : (r : Run) (settings : SynthSettings) (input : List ℕ) → CommandPromise (synth_task settings) r →
+    r.source.bytes ≡ Some input → r.status ≡ Memory → (r.out' ≡ r.out) ⊎ LeavesPrefix r settings input
+out_of_memory r settings input promise reported is =
     ⊎_elim
-    (λ (error : TellsError r memory_refusal). inl error.on_out)
-    (λ (of : OfInput (synth_task asked) r (ReplyStarved (synth_task asked) r)).
-    let left = of_input (synth_task asked) r (ReplyStarved (synth_task asked) r) input of told in
-    inr (front_left r asked input left.front left.leaves left.on_out))
+    (λ (error : ReportsError r memory_refusal). inl error.on_out)
+    (λ (of : OfInput (synth_task settings) r (ReplyOutOfMemory (synth_task settings) r)).
+    let left = of_input (synth_task settings) r (ReplyOutOfMemory (synth_task settings) r) input of reported in
+    inr (prefix_left r settings input left.prefix left.leaves left.on_out))
     (promise.memory_only is)
 
 -- The promise of `synth`.
-pub synth_promised : (r : Run) → ((asked : SynthSettings) → AsksFor r.words (Synth asked) → CommandPromise (synth_task asked) r) → SynthPromise r
+pub synth_promised : (r : Run) → ((settings : SynthSettings) → AsksFor r.words (Synth settings) → CommandPromise (synth_task settings) r) → SynthPromise r
 synth_promised r keeps = record {
-  complete = λ asked input w run tables held. complete r asked input w (keeps asked run.asks) run.told tables held;
-  answer_only = λ asked input run is. answer_only r asked input (keeps asked run.asks) run.told is;
-  never_refused = λ asked asks is. never_refused r asked (keeps asked asks) is;
-  refused = λ asked input error run fault held. (keeps asked run.asks).refused input error run.told fault held;
-  cut = λ asked input run is. cut r asked input (keeps asked run.asks) run.told is;
-  starved = λ asked input run is. starved r asked input (keeps asked run.asks) run.told is;
+  complete = λ settings input w run tables held. complete r settings input w (keeps settings run.asks) run.reported tables held;
+  answer_only = λ settings input run is. answer_only r settings input (keeps settings run.asks) run.reported is;
+  never_refused = λ settings asks is. never_refused r settings (keeps settings asks) is;
+  refused = λ settings input error run fault held. (keeps settings run.asks).refused input error run.reported fault held;
+  truncated = λ settings input run is. truncated r settings input (keeps settings run.asks) run.reported is;
+  out_of_memory = λ settings input run is. out_of_memory r settings input (keeps settings run.asks) run.reported is;
 }

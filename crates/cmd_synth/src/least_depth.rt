@@ -3,7 +3,8 @@ ghost use Rattle.std.specs.Prelude.{◌≡◌};
 ghost use Rattle.settings.specs.declared.methods.Method.TheVariants.{Fence};
 ghost use Rattle.settings.specs.Synth.{IsInRange};
 ghost use Rattle.frame_core.specs.Views.{reply_value};
-ghost use Rattle.cmd_synth.specs.LeastDepthReport.{found_status as found_status_of, least_depth_reply, least_depth_task};
+ghost use Rattle.cmd_synth.specs.LeastDepthReport.{found_status as found_status_of, least_depth_reply};
+ghost use Rattle.cmd_synth.specs.LeastDepthReport.{least_depth_task};
 
 use crate::synth::{refusal_of, verdict_status};
 use cmd_lines::MOST_BYTES_OF_TABLES;
@@ -12,7 +13,7 @@ use sat_solve::Solver;
 use settings::SynthSettings;
 use std::alloc::Global;
 use std::marker::PhantomData;
-use synth_core::{DepthCertificate, DepthVerdict, Found, certify_depth};
+use synth_core::{CertifiedDepth, DepthVerdict, Found, certify_depth};
 use tt_core::SpecError;
 
 /// The status of what was found.
@@ -27,8 +28,11 @@ fn found_status(found: Found) -> Status
 }
 
 /// A certificate as a reply.
-fn reply_of(certificate: DepthCertificate) -> Reply
-    ensures { reply_value result ≡ least_depth_reply (record { text = certificate.text.items; found = certificate.found }) }
+fn reply_of(certificate: CertifiedDepth) -> Reply
+    ensures { reply_value result ≡ least_depth_reply (record {
+      text = certificate.text.items;
+      found = certificate.found;
+    }) }
 {
     Reply {
         text: certificate.text,
@@ -55,7 +59,7 @@ impl<S: Solver> Replier for LeastDepth<S> {
         Some(MOST_BYTES_OF_TABLES)
     }
 
-    #[tactic(auto, using(crate::proofs::LeastDepths::telling))]
+    #[tactic(auto, using(crate::proofs::LeastDepths::reporting))]
     fn reply(&self, alloc: Global, bytes: &[u8]) -> Result<Reply, Stop> {
         match certify_depth::<S>(alloc, bytes, &self.settings) {
             Ok(certificate) => Ok(reply_of(certificate)),

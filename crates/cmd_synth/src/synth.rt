@@ -4,9 +4,9 @@ ghost use Rattle.std.specs.Prelude.{◌≡◌, ℕ, ◌≤◌, List, length, Err
 ghost use Rattle.text_core.specs.Lines.{lines_of};
 ghost use Rattle.tt_core.specs.Gives.{Fails};
 ghost use Rattle.settings.specs.declared.synth.SynthSettings.{SynthSettings};
-ghost use Rattle.synth_core.specs.Pieces.{IsUnderWay};
+ghost use Rattle.synth_core.specs.Pieces.{IsInProgress};
 ghost use Rattle.synth_core.specs.Tables.{tables_alone};
-ghost use Rattle.frame_core.specs.Outside.{Side, side};
+ghost use Rattle.frame_core.specs.Outside.{PortState, port_state};
 ghost use Rattle.cmd_synth.specs.SynthWriting.{IsOut, Comes, GoesUpTo, GoesOut};
 ghost use Rattle.settings.specs.Synth.{IsInRange};
 ghost use Rattle.cmd_lines.specs.TableLines.{most_of_tables};
@@ -17,10 +17,10 @@ use cmd_lines::{MOST_BYTES_OF_TABLES, name_spec, spec_status};
 use frame_core::{Ended, Job, Refusal, Status, Stop, finish};
 use port_io::{Sink, WriteFault, write_all};
 use sat_solve::Solver;
-use size_loop::Search;
+use size_loop::SizeSearch;
 use std::alloc::Global;
 use std::marker::PhantomData;
-use synth_core::{Begun, Piece, SynthSettings, Verdict, begin, go_on};
+use synth_core::{BegunSynthesis, Piece, SynthSettings, Verdict, begin, next_piece};
 use tt_core::SpecError;
 
 /// The status of a verdict.
@@ -47,40 +47,40 @@ pub(crate) fn refusal_of(error: SpecError) -> Refusal
 #[derive(Drop)]
 pub(crate) enum Next {
     /// The search goes on.
-    On(Search),
+    On(SizeSearch),
     /// The command has ended.
     End(Ended),
 }
 
 /// Searches the next size, and writes its section of the certificate.
 #[tactic(auto, using(crate::proofs::Writing::writing))]
-fn write_next<S: Solver, O: Sink>(alloc: Global, search: Search, out: &mut O) -> Next
-    ensures comes { (asked : SynthSettings) (bytes : List ℕ) (first : Side) → length bytes ≤ most_of_tables →
-        IsOut asked bytes first (side O.written O.faults out.old) search →
-        Comes asked bytes first (side O.written O.faults out.new) result }
+fn write_next<S: Solver, O: Sink>(alloc: Global, search: SizeSearch, out: &mut O) -> Next
+    ensures comes { (settings : SynthSettings) (bytes : List ℕ) (first : PortState) → length bytes ≤ most_of_tables →
+        IsOut settings bytes first (port_state O.written O.faults out.old) search →
+        Comes settings bytes first (port_state O.written O.faults out.new) result }
     ensures up { GoesUpTo search result }
 {
-    let Ok(piece) = go_on::<S>(alloc, search) else {
-        return Next::End(Ended::Starved);
+    let Ok(piece) = next_piece::<S>(alloc, search) else {
+        return Next::End(Ended::OutOfMemoryMidway);
     };
     match piece {
         Piece::Section { search, text } => match write_all(out, &text) {
             Ok(()) => Next::On(search),
-            Err(WriteFault::WriteFault) => Next::End(Ended::CutShort),
+            Err(WriteFault::WriteFault) => Next::End(Ended::Truncated),
         },
-        Piece::Ending { text, verdict } => match write_all(out, &text) {
+        Piece::Trailer { text, verdict } => match write_all(out, &text) {
             Ok(()) => Next::End(Ended::Answered(verdict_status(verdict))),
-            Err(WriteFault::WriteFault) => Next::End(Ended::CutShort),
+            Err(WriteFault::WriteFault) => Next::End(Ended::Truncated),
         },
     }
 }
 
 /// Writes the sections of a search and the trailer, each as soon as it is found.
 #[tactic(auto, using(crate::proofs::Writing::writing))]
-fn write_sections<S: Solver, O: Sink>(alloc: Global, search: Search, out: &mut O) -> Ended
-    ensures { (asked : SynthSettings) (bytes : List ℕ) (first : Side) → length bytes ≤ most_of_tables →
-        IsOut asked bytes first (side O.written O.faults out.old) search →
-        GoesOut asked bytes result first (side O.written O.faults out.new) }
+fn write_sections<S: Solver, O: Sink>(alloc: Global, search: SizeSearch, out: &mut O) -> Ended
+    ensures { (settings : SynthSettings) (bytes : List ℕ) (first : PortState) → length bytes ≤ most_of_tables →
+        IsOut settings bytes first (port_state O.written O.faults out.old) search →
+        GoesOut settings bytes result first (port_state O.written O.faults out.new) }
 {
     let mut search = search;
     loop {
@@ -93,22 +93,22 @@ fn write_sections<S: Solver, O: Sink>(alloc: Global, search: Search, out: &mut O
 
 /// Writes a certificate, from its header on.
 #[tactic(auto, using(crate::proofs::Writing::writing))]
-fn write_certificate<S: Solver, O: Sink>(alloc: Global, begun: Begun, out: &mut O) -> Ended
-    ensures { (asked : SynthSettings) (bytes : List ℕ) → length bytes ≤ most_of_tables →
-        IsUnderWay bytes asked begun.search begun.text.items →
-        GoesOut asked bytes result (side O.written O.faults out.old) (side O.written O.faults out.new) }
+fn write_certificate<S: Solver, O: Sink>(alloc: Global, begun: BegunSynthesis, out: &mut O) -> Ended
+    ensures { (settings : SynthSettings) (bytes : List ℕ) → length bytes ≤ most_of_tables →
+        IsInProgress bytes settings begun.search begun.text.items →
+        GoesOut settings bytes result (port_state O.written O.faults out.old) (port_state O.written O.faults out.new) }
 {
     if let Err(WriteFault::WriteFault) = write_all(out, &begun.text) {
-        return Ended::CutShort;
+        return Ended::Truncated;
     }
     write_sections::<S, O>(alloc, begun.search, out)
 }
 
 /// Why there is no certificate.
-#[tactic(auto, using(crate::proofs::Synthesising::telling))]
+#[tactic(auto, using(crate::proofs::Synthesising::reporting))]
 fn stop_of(error: SpecError) -> Stop
-    ensures { (asked : SynthSettings) (bytes : List ℕ) → length bytes ≤ most_of_tables →
-        Fails error (tables_alone (lines_of bytes)) → Judges (synth_task asked) bytes (Err result) }
+    ensures { (settings : SynthSettings) (bytes : List ℕ) → length bytes ≤ most_of_tables →
+        Fails error (tables_alone (lines_of bytes)) → Judges (synth_task settings) bytes (Err result) }
 {
     match error {
         SpecError::Memory => Stop::NoMemory,

@@ -5,7 +5,9 @@ use Rattle.sat_theory.specs.Formula.{IsClause, IsWithin}
 use Rattle.cnf_core.specs.Bounds.{IsCnf}
 
 -- a clause over the variables may be added, while there is room
-pub cnf_pushed : (vars : ℕ) (old new : List (List ℤ)) (clause : List ℤ) → new ≡ old ++ clause ∷ [] → IsCnf (record { vars = vars; clauses = old }) → IsClause clause → IsWithin vars clause → length old + 1 < 2000000000 → IsCnf (record { vars = vars; clauses = new })
+pub cnf_pushed : (vars : ℕ) (old new : List (List ℤ)) (clause : List ℤ) → new ≡ old ++ clause ∷ [] →
+    IsCnf (record { vars = vars; clauses = old }) → IsClause clause → IsWithin vars clause →
+    length old + 1 < 2000000000 → IsCnf (record { vars = vars; clauses = new })
 cnf_pushed vars old new clause is before is_clause within few = rw is (record {
   formula = record {
     clauses = All-push IsClause old clause before.formula.clauses is_clause;

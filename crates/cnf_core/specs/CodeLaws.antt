@@ -78,7 +78,9 @@ xor_1-odd n odd =
 
 opposite-even : (n : ℕ) → 2 ≤ n → n % 2 ≡ 0 → literal_of (bit_xor n 1) ≡ opposite (literal_of n)
 opposite-even n some even =
-    let beside : code_of (opposite (literal_of n)) ≡ bit_xor n 1 = rw (literal_of-even n even, xor_1-even n even) (opposite_code (n / 2) (omega arith) ∙ (let goal : 2 * (n / 2) + 1 ≡ n + 1 = omega arith in goal)) in
+    let beside : code_of (opposite (literal_of n)) ≡ bit_xor n 1 =
+    rw (literal_of-even n even, xor_1-even n even) (opposite_code (n / 2) (omega arith)
+    ∙ (let goal : 2 * (n / 2) + 1 ≡ n + 1 = omega arith in goal)) in
     code_of-same (literal_of (bit_xor n 1)) (opposite (literal_of n)) (code_of-literal_of (bit_xor n 1) (rw (xor_1-even n even) (omega arith)) ∙ sym beside)
 
 opposite-odd : (n : ℕ) → 2 ≤ n → n % 2 ≡ 1 → literal_of (bit_xor n 1) ≡ opposite (literal_of n)

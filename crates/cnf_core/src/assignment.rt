@@ -1,6 +1,7 @@
 //! Assignments, and the test whether one satisfies a formula: each clause needs a true literal.
 ghost use Rattle.std.specs.Prelude.{◌≡◌, ◌↔◌, IsTrue, length};
-ghost use Rattle.sat_theory.specs.Formula.{bits_of, literal_value as literal_value_of, IsTrueClause, Satisfies, variable};
+ghost use Rattle.sat_theory.specs.Formula.{bits_of, literal_value as literal_value_of, IsTrueClause, Satisfies};
+ghost use Rattle.sat_theory.specs.Formula.{variable};
 
 use crate::{Clause, Cnf, Lit};
 use std::marker::Model;

@@ -16,13 +16,19 @@ use Rattle.settings.specs.Synth.{IsInRange, most_conflicts}
 use Rattle.settings.specs.Improve as improver
 use Rattle.command_line.specs.declared.command.Command.{Command}
 use Rattle.command_line.specs.declared.command.Command.TheVariants as commands
-use Rattle.command_line.specs.declared.table.Kind.{Kind}
-use Rattle.command_line.specs.declared.table.Kind.TheVariants.{Agree, Recheck, Synth, Improve, Equiv, Gen}
-use Rattle.command_line.specs.declared.command.Deed.{Deed}
+use Rattle.command_line.specs.declared.table.OptionKind.{OptionKind}
+use Rattle.command_line.specs.declared.table.OptionKind.TheVariants.{Agree, Recheck, Synth, Improve, Equiv, Gen}
+use Rattle.command_line.specs.declared.command.GenAction.{GenAction}
 use Rattle.command_line.specs.declared.command.Format.{Format}
 use Rattle.command_line.specs.declared.command.Format.TheVariants.{Blif, Bench}
-use Rattle.command_line.specs.Options.{Row, from_on, number_within, basis_or_none, basis_in, is_within, if_of_gates, basis_row, gates_row, format_basis_row, method_row, max_row, conflicts_row, cap_row, rounds_row, format_row, observe_row, effort_row, blocks_row, run_row, least_depth_row, depth_row, kind_named, options_of}
-use Rattle.command_line.specs.CommandLine.{word_behind, are_options, value_in, value, asked_from, asked_in, least_depth_by, synth_from, recheck_from, settings_from, settings_for, improve_with, improve_for, equiv_from, gen_from, command_with, command_in, command_of, HasGatesOf, IsAsked, IsAskable}
+use Rattle.command_line.specs.Options.{OptionRow, from_on, number_within, basis_or_none, basis_in, is_within}
+use Rattle.command_line.specs.Options.{if_of_gates, basis_row, gates_row, format_basis_row, method_row, max_row}
+use Rattle.command_line.specs.Options.{conflicts_row, cap_row, rounds_row, format_row, observe_row, effort_row}
+use Rattle.command_line.specs.Options.{blocks_row, run_row, least_depth_row, depth_row, kind_named, options_of}
+use Rattle.command_line.specs.CommandLine.{word_after, are_options, value_in, value, asked_from, asked_in}
+use Rattle.command_line.specs.CommandLine.{least_depth_by, synth_from, recheck_from, settings_from, settings_for}
+use Rattle.command_line.specs.CommandLine.{improve_with, improve_for, equiv_from, gen_from, command_with, command_in}
+use Rattle.command_line.specs.CommandLine.{command_of, HasGatesOf, IsAsked, IsAskable}
 
 pub some_is : {A : Type 0} (a b : A) → Some a ≡ Some b → a ≡ b
 some_is a b e = cc
@@ -56,7 +62,8 @@ basis_range : (word : List ℕ) (b : ℕ) → basis_in word ≡ Some b → 0 < b
 basis_range word b e = basis_some word b (basis_ok (basis_of word) b e)
 
 -- what holds for whatever a word spells and for the default holds for the value of the option
-pub in_row : {A : Type 0} (row : Row A) (P : A → Type 0) → ((word : List ℕ) (x : A) → row.read word ≡ Some x → P x) → ((x : A) → row.default ≡ Some x → P x) → (o : Option (List ℕ)) (x : A) → value_in row o ≡ Some x → P x
+pub in_row : {A : Type 0} (row : OptionRow A) (P : A → Type 0) → ((word : List ℕ) (x : A) → row.read word ≡ Some x →
+    P x) → ((x : A) → row.default ≡ Some x → P x) → (o : Option (List ℕ)) (x : A) → value_in row o ≡ Some x → P x
 in_row row P reads default None x e = default x e
 in_row row P reads default (Some word) x e = reads word x e
 
@@ -113,7 +120,8 @@ flag_by : (s : SynthSettings) (flag : Bool) (c : Command) → synth_from (Some s
 flag_by s false c e = some_is _ c e
 flag_by s true c e = depth_by s.method s c refl e
 
-synth_made : (words : List (List ℕ)) (o : Option SynthSettings) (flag : Option Bool) (c : Command) → asked_in words ≡ o → value least_depth_row words ≡ flag → synth_from o flag ≡ Some c → IsSynthIn words c
+synth_made : (words : List (List ℕ)) (o : Option SynthSettings) (flag : Option Bool) (c : Command) →
+    asked_in words ≡ o → value least_depth_row words ≡ flag → synth_from o flag ≡ Some c → IsSynthIn words c
 synth_made words (Some s) (Some flag) c is flag_is e = record { s = s; flag = flag; is = flag_by s flag c e; are = asked_made _ _ _ _ s is; flag_is = flag_is }
 synth_made words (Some s) None c is flag_is e = absurd cc
 synth_made words None flag c is flag_is e = absurd cc
@@ -144,7 +152,9 @@ pub record AreSettingsOf (basis : Option ℕ) (method : Option Method) (cap roun
   pub observe_is : observe ≡ Some s.observe
   pub effort_is : effort ≡ Some s.effort
 
-settings_made : (basis : Option ℕ) (method : Option Method) (cap rounds conflicts : Option ℕ) (observe : Option Bool) (effort : Option ℕ) (s : ImproveSettings) → settings_from basis method cap rounds conflicts observe effort ≡ Some s → AreSettingsOf basis method cap rounds conflicts observe effort s
+settings_made : (basis : Option ℕ) (method : Option Method) (cap rounds conflicts : Option ℕ) (observe : Option Bool)
+    (effort : Option ℕ) (s : ImproveSettings) → settings_from basis method cap rounds conflicts observe effort ≡
+    Some s → AreSettingsOf basis method cap rounds conflicts observe effort s
 settings_made (Some b) (Some m) (Some n) (Some r) (Some x) (Some o) (Some f) s e =
     let same = some_is _ s e in
     record {
@@ -164,12 +174,17 @@ settings_made (Some b) (Some m) None rounds conflicts observe effort s e = absur
 settings_made (Some b) None cap rounds conflicts observe effort s e = absurd cc
 settings_made None method cap rounds conflicts observe effort s e = absurd cc
 
-pub settings_back : (basis : Option ℕ) (method : Option Method) (cap rounds conflicts : Option ℕ) (observe : Option Bool) (effort : Option ℕ) (s : ImproveSettings) → AreSettingsOf basis method cap rounds conflicts observe effort s → settings_from basis method cap rounds conflicts observe effort ≡ Some s
+pub settings_back : (basis : Option ℕ) (method : Option Method) (cap rounds conflicts : Option ℕ)
+    (observe : Option Bool) (effort : Option ℕ) (s : ImproveSettings) →
+    AreSettingsOf basis method cap rounds conflicts observe effort s →
+    settings_from basis method cap rounds conflicts observe effort ≡ Some s
 settings_back basis method cap rounds conflicts observe effort s are = rw (are.basis_is, are.method_is, are.cap_is, are.rounds_is, are.conflicts_is, are.observe_is, are.effort_is) refl
 
 -- those of words, by a format
 abbrev pub AreSettingsIn : List (List ℕ) → Format → ImproveSettings → Type 0
-AreSettingsIn words f s = AreSettingsOf (value (format_basis_row f) words) (value method_row words) (value cap_row words) (value rounds_row words) (value conflicts_row words) (value observe_row words) (value effort_row words) s
+AreSettingsIn words f s = AreSettingsOf (value (format_basis_row f) words) (value method_row words)
+    (value cap_row words) (value rounds_row words) (value conflicts_row words) (value observe_row words)
+    (value effort_row words) s
 
 -- words ask `improve` for a format, with settings
 pub record IsImproveIn (words : List (List ℕ)) (c : Command) : Type 0 where
@@ -196,59 +211,60 @@ pub equiv_made : (conflicts : Option ℕ) (c : Command) → equiv_from conflicts
 equiv_made (Some n) c e = (n, some_is _ c e, refl)
 equiv_made None c e = absurd cc
 
-pub gen_made : (blocks : Option ℕ) (deed : Option Deed) (c : Command) → gen_from blocks deed ≡ Some c → (n : ℕ) × (d : Deed) × (commands.Gen n d ≡ c) × (blocks ≡ Some n) × (deed ≡ Some d)
+pub gen_made : (blocks : Option ℕ) (action : Option GenAction) (c : Command) → gen_from blocks action ≡ Some c →
+    (n : ℕ) × (d : GenAction) × (commands.Gen n d ≡ c) × (blocks ≡ Some n) × (action ≡ Some d)
 gen_made (Some n) (Some d) c e = (n, d, some_is _ c e, refl, refl)
 gen_made (Some n) None c e = absurd cc
-gen_made None deed c e = absurd cc
+gen_made None action c e = absurd cc
 
 blocks_range : (words : List (List ℕ)) (n : ℕ) → value blocks_row words ≡ Some n → (1 ≤ n) × (n ≤ 10000)
 blocks_range words n e =
     in_row blocks_row (λ (x : ℕ). (1 ≤ x) × (x ≤ 10000))
     (λ (word : List ℕ) (x : ℕ) at. number_range 1 10000 x word (omega arith) at)
     (λ (x : ℕ) at. absurd cc)
-    (word_behind blocks_row.name words) n e
+    (word_after blocks_row.name words) n e
 
 max_range : (words : List (List ℕ)) (n : ℕ) → value max_row words ≡ Some n → n ≤ 16
 max_range words n e =
     in_row max_row (λ (x : ℕ). x ≤ 16)
     (λ (word : List ℕ) (x : ℕ) at. (number_range 0 16 x word (omega arith) at).1)
     (λ (x : ℕ) at. let same = some_is 16 x at in omega (arith, same))
-    (word_behind max_row.name words) n e
+    (word_after max_row.name words) n e
 
 cap_range : (words : List (List ℕ)) (n : ℕ) → value cap_row words ≡ Some n → n ≤ 8
 cap_range words n e =
     in_row cap_row (λ (x : ℕ). x ≤ 8)
     (λ (word : List ℕ) (x : ℕ) at. (number_range 0 8 x word (omega arith) at).1)
     (λ (x : ℕ) at. let same = some_is 5 x at in omega (arith, same))
-    (word_behind cap_row.name words) n e
+    (word_after cap_row.name words) n e
 
 effort_range : (words : List (List ℕ)) (n : ℕ) → value effort_row words ≡ Some n → n ≤ 1000
 effort_range words n e =
     in_row effort_row (λ (x : ℕ). x ≤ 1000)
     (λ (word : List ℕ) (x : ℕ) at. (number_range 0 1000 x word (omega arith) at).1)
     (λ (x : ℕ) at. let same = some_is 0 x at in omega (arith, same))
-    (word_behind effort_row.name words) n e
+    (word_after effort_row.name words) n e
 
 rounds_range : (words : List (List ℕ)) (n : ℕ) → value rounds_row words ≡ Some n → (1 ≤ n) × (n ≤ 100000)
 rounds_range words n e =
     in_row rounds_row (λ (x : ℕ). (1 ≤ x) × (x ≤ 100000))
     (λ (word : List ℕ) (x : ℕ) at. number_range 1 100000 x word (omega arith) at)
     (λ (x : ℕ) at. let same = some_is 1000 x at in (omega (arith, same), omega (arith, same)))
-    (word_behind rounds_row.name words) n e
+    (word_after rounds_row.name words) n e
 
 conflicts_range : (words : List (List ℕ)) (n : ℕ) → value conflicts_row words ≡ Some n → (1 ≤ n) × (n ≤ most_conflicts)
 conflicts_range words n e =
     in_row conflicts_row (λ (x : ℕ). (1 ≤ x) × (x ≤ most_conflicts))
     (λ (word : List ℕ) (x : ℕ) at. number_range 1 most_conflicts x word (omega arith) at)
     (λ (x : ℕ) at. let same = some_is 100000 x at in (omega (arith, same), omega (arith, same)))
-    (word_behind conflicts_row.name words) n e
+    (word_after conflicts_row.name words) n e
 
 bases_range : (words : List (List ℕ)) (n : ℕ) → value basis_row words ≡ Some n → 0 < n
 bases_range words n e =
     in_row basis_row (λ (x : ℕ). 0 < x)
     basis_range
     (λ (x : ℕ) at. let same = some_is 65535 x at in omega (arith, same))
-    (word_behind basis_row.name words) n e
+    (word_after basis_row.name words) n e
 
 -- a basis of BENCH gates
 gates_by : (o : Option ℕ) (x : ℕ) → if_of_gates o ≡ Some x → (o ≡ Some x) × (is_within x bench_set ≡ true)
@@ -262,7 +278,7 @@ gates_range words n e =
     in_row gates_row (λ (x : ℕ). (0 < x) × (is_within x bench_set ≡ true))
     (λ (word : List ℕ) (x : ℕ) at. let by = gates_by (basis_in word) x at in (basis_range word x by.0, by.1))
     (λ (x : ℕ) at. let same = some_is bench_set x at in (omega (arith, same), ap (λ (b : ℕ). is_within b bench_set) (sym same)))
-    (word_behind gates_row.name words) n e
+    (word_after gates_row.name words) n e
 
 format_range : (f : Format) (words : List (List ℕ)) (n : ℕ) → value (format_basis_row f) words ≡ Some n → (0 < n) × HasGatesOf f n
 format_range Blif words n e = (bases_range words n e, tt)
@@ -296,11 +312,21 @@ improve_range words c e =
     let basis = format_range made.f words made.s.basis made.are.basis_is in
     let rounds = rounds_range words made.s.rounds made.are.rounds_is in
     let conflicts = conflicts_range words made.s.conflicts made.are.conflicts_is in
-    let range : improver.IsInRange made.s = record { basis_from = basis.0; cap_to = cap_range words made.s.cap made.are.cap_is; rounds_from = rounds.0; rounds_to = rounds.1; conflicts_from = conflicts.0; conflicts_to = conflicts.1; effort_to = effort_range words made.s.effort made.are.effort_is } in
+    let range : improver.IsInRange made.s = record {
+      basis_from = basis.0;
+      cap_to = cap_range words made.s.cap made.are.cap_is;
+      rounds_from = rounds.0;
+      rounds_to =
+          rounds.1;
+      conflicts_from = conflicts.0;
+      conflicts_to = conflicts.1;
+      effort_to =
+          effort_range words made.s.effort made.are.effort_is;
+    } in
     let is : IsAsked made.f made.s = record { range = range; basis = basis.1 } in
     askable (commands.Improve made.f made.s) c made.is is
 
-kind_range : (kind : Kind) (words : List (List ℕ)) (c : Command) → command_with kind words ≡ Some c → IsAskable c
+kind_range : (kind : OptionKind) (words : List (List ℕ)) (c : Command) → command_with kind words ≡ Some c → IsAskable c
 kind_range Agree words c e = askable commands.Agree c (some_is _ c e) tt
 kind_range Recheck words c e = recheck_range words c e
 kind_range Synth words c e = synth_range words c e
@@ -312,7 +338,7 @@ kind_range Gen words c e =
     let made = gen_made (value blocks_row words) (value run_row words) c e in
     askable (commands.Gen made.0 made.1) c made.2 (blocks_range words made.0 made.3)
 
-in_range : (o : Option Kind) (words : List (List ℕ)) (c : Command) → command_in o words ≡ Some c → IsAskable c
+in_range : (o : Option OptionKind) (words : List (List ℕ)) (c : Command) → command_in o words ≡ Some c → IsAskable c
 in_range None words c e = absurd cc
 in_range (Some kind) words c e = kind_range kind words c (passed (are_options (options_of kind) words) (command_with kind words) c e).1
 

@@ -13,12 +13,15 @@ use Rattle.command_line.specs.declared.command.Command.{Command}
 use Rattle.command_line.specs.declared.command.Command.TheVariants as commands
 use Rattle.command_line.specs.declared.command.WordsError.{WordsError}
 use Rattle.command_line.specs.declared.command.WordsError.TheVariants.{Usage}
-use Rattle.command_line.specs.declared.table.Kind.{Kind}
-use Rattle.command_line.specs.declared.table.Kind.TheVariants as kinds
-use Rattle.command_line.specs.declared.command.Deed.{Deed}
+use Rattle.command_line.specs.declared.table.OptionKind.{OptionKind}
+use Rattle.command_line.specs.declared.table.OptionKind.TheVariants as kinds
+use Rattle.command_line.specs.declared.command.GenAction.{GenAction}
 use Rattle.command_line.specs.declared.command.Format.{Format}
 use Rattle.command_line.specs.declared.command.Format.TheVariants.{Blif, Bench}
-use Rattle.command_line.specs.Options.{Row, is_word, is_among, is_within, basis_row, format_basis_row, method_row, max_row, conflicts_row, cap_row, rounds_row, format_row, observe_row, effort_row, most_blocks, blocks_row, run_row, least_depth_row, depth_row, kind_named, options_of}
+use Rattle.command_line.specs.Options.{OptionRow, is_word, is_among, is_within, basis_row, format_basis_row, method_row}
+use Rattle.command_line.specs.Options.{max_row, conflicts_row, cap_row, rounds_row, format_row, observe_row, effort_row}
+use Rattle.command_line.specs.Options.{most_blocks, blocks_row, run_row, least_depth_row, depth_row, kind_named}
+use Rattle.command_line.specs.Options.{options_of}
 
 -- the bytes of each word
 abbrev pub spelled : Vec (String Global) Global → List (List ℕ)
@@ -27,13 +30,13 @@ spelled words = map string_bytes words.items
 -- ---- options: names and values alternate
 
 -- the word after a name
-unfoldable pub word_behind : List ℕ → List (List ℕ) → Option (List ℕ)
-word_behind name [] = None
-word_behind name (found ∷ []) = None
-word_behind name (found ∷ word ∷ words) = if is_word name found then Some word else word_behind name words
+unfoldable pub word_after : List ℕ → List (List ℕ) → Option (List ℕ)
+word_after name [] = None
+word_after name (found ∷ []) = None
+word_after name (found ∷ word ∷ words) = if is_word name found then Some word else word_after name words
 
 abbrev pub is_named : List ℕ → List (List ℕ) → Bool
-is_named name words = is_some (word_behind name words)
+is_named name words = is_some (word_after name words)
 
 -- Each name is one of these, and none occurs twice.
 unfoldable pub are_options : List (List ℕ) → List (List ℕ) → Bool
@@ -42,12 +45,12 @@ are_options names (name ∷ []) = false
 are_options names (name ∷ word ∷ words) = is_among name names && not (is_named name words) && are_options names words
 
 -- the value of an option: what its word spells, or the default if the option isn't named
-abbrev pub value_in : {A : Type 0} → Row A → Option (List ℕ) → Option A
+abbrev pub value_in : {A : Type 0} → OptionRow A → Option (List ℕ) → Option A
 value_in row None = row.default
 value_in row (Some word) = row.read word
 
-abbrev pub value : {A : Type 0} → Row A → List (List ℕ) → Option A
-value row words = value_in row (word_behind row.name words)
+abbrev pub value : {A : Type 0} → OptionRow A → List (List ℕ) → Option A
+value row words = value_in row (word_after row.name words)
 
 -- ---- commands
 
@@ -87,7 +90,9 @@ settings_from basis method cap rounds conflicts observe effort = None
 
 -- the settings of `improve` for a format
 abbrev pub settings_for : Format → List (List ℕ) → Option ImproveSettings
-settings_for format words = settings_from (value (format_basis_row format) words) (value method_row words) (value cap_row words) (value rounds_row words) (value conflicts_row words) (value observe_row words) (value effort_row words)
+settings_for format words = settings_from (value (format_basis_row format) words) (value method_row words)
+    (value cap_row words) (value rounds_row words) (value conflicts_row words) (value observe_row words)
+    (value effort_row words)
 
 abbrev pub improve_with : Format → Option ImproveSettings → Option Command
 improve_with format None = None
@@ -107,15 +112,15 @@ equiv_from None = None
 abbrev pub equiv_in : List (List ℕ) → Option Command
 equiv_in words = equiv_from (value conflicts_row words)
 
-abbrev pub gen_from : Option ℕ → Option Deed → Option Command
-gen_from (Some blocks) (Some deed) = Some (commands.Gen blocks deed)
-gen_from blocks deed = None
+abbrev pub gen_from : Option ℕ → Option GenAction → Option Command
+gen_from (Some blocks) (Some action) = Some (commands.Gen blocks action)
+gen_from blocks action = None
 
 abbrev pub gen_in : List (List ℕ) → Option Command
 gen_in words = gen_from (value blocks_row words) (value run_row words)
 
 -- a command with the values of its options
-abbrev pub command_with : Kind → List (List ℕ) → Option Command
+abbrev pub command_with : OptionKind → List (List ℕ) → Option Command
 command_with kinds.Agree words = Some commands.Agree
 command_with kinds.Recheck words = recheck_in words
 command_with kinds.Synth words = synth_in words
@@ -123,7 +128,7 @@ command_with kinds.Improve words = improve_in words
 command_with kinds.Equiv words = equiv_in words
 command_with kinds.Gen words = gen_in words
 
-abbrev pub command_in : Option Kind → List (List ℕ) → Option Command
+abbrev pub command_in : Option OptionKind → List (List ℕ) → Option Command
 command_in None words = None
 command_in (Some kind) words = if are_options (options_of kind) words then command_with kind words else None
 
@@ -150,9 +155,9 @@ abbrev pub IsBudget : ℕ → Type 0
 IsBudget conflicts = (1 ≤ conflicts) × (conflicts ≤ most_conflicts)
 
 -- the defaults if only the format is named
-abbrev pub usual_for : Format → ImproveSettings
-usual_for Blif = improver.usual
-usual_for Bench = record improver.usual { basis = bench_set }
+abbrev pub defaults_for : Format → ImproveSettings
+defaults_for Blif = improver.defaults
+defaults_for Bench = record improver.defaults { basis = bench_set }
 
 -- The basis has only operators of the format's gates. In BLIF a gate may have any operator.
 abbrev pub HasGatesOf : Format → ℕ → Type 0
@@ -172,4 +177,4 @@ IsAskable (commands.Synth settings) = IsInRange settings
 IsAskable (commands.LeastDepth settings) = IsInRange settings × (settings.method ≡ Fence)
 IsAskable (commands.Improve format settings) = IsAsked format settings
 IsAskable (commands.Equiv conflicts) = IsBudget conflicts
-IsAskable (commands.Gen blocks deed) = (1 ≤ blocks) × (blocks ≤ most_blocks)
+IsAskable (commands.Gen blocks action) = (1 ≤ blocks) × (blocks ≤ most_blocks)

@@ -7,12 +7,12 @@ use Rattle.op_basis.specs.Text.{bench_set, basis_of}
 use Rattle.op_basis.specs.declared.error.BasisError.{BasisError}
 use Rattle.settings.specs.declared.methods.Method.{Method}
 use Rattle.settings.specs.Methods.{method_named}
-use Rattle.settings.specs.Synth.{usual, most_steps, most_conflicts}
+use Rattle.settings.specs.Synth.{defaults, most_steps, most_conflicts}
 use Rattle.settings.specs.Improve as improver
-use Rattle.command_line.specs.declared.table.Kind.{Kind}
-use Rattle.command_line.specs.declared.table.Kind.TheVariants.{Agree, Recheck, Synth, Improve, Equiv, Gen}
-use Rattle.command_line.specs.declared.command.Deed.{Deed}
-use Rattle.command_line.specs.declared.command.Deed.TheVariants as deeds
+use Rattle.command_line.specs.declared.table.OptionKind.{OptionKind}
+use Rattle.command_line.specs.declared.table.OptionKind.TheVariants.{Agree, Recheck, Synth, Improve, Equiv, Gen}
+use Rattle.command_line.specs.declared.command.GenAction.{GenAction}
+use Rattle.command_line.specs.declared.command.GenAction.TheVariants as deeds
 use Rattle.command_line.specs.declared.command.Format.{Format}
 use Rattle.command_line.specs.declared.command.Format.TheVariants.{Blif, Bench}
 
@@ -24,7 +24,7 @@ is_among name names = list_any (is_word name) names
 
 -- An option: its name, how the word after it is read, and its default. An option without a default has to be
 -- named.
-pub record Row (A : Type 0) : Type 0 where
+pub record OptionRow (A : Type 0) : Type 0 where
   pub name : List ℕ
   pub read : List ℕ → Option A
   pub default : Option A
@@ -38,7 +38,7 @@ from_on low (Some n) = if nat_lt n low then None else Some n
 abbrev pub number_within : ℕ → ℕ → List ℕ → Option ℕ
 number_within low high word = from_on low (number_up_to high word)
 
-abbrev pub number_row : List ℕ → ℕ → ℕ → Option ℕ → Row ℕ
+abbrev pub number_row : List ℕ → ℕ → ℕ → Option ℕ → OptionRow ℕ
 number_row name low high default = record { name = name; read = number_within low high; default = default }
 
 abbrev pub basis_or_none : Result ℕ BasisError → Option ℕ
@@ -60,7 +60,7 @@ if_of_gates (Some basis) = if is_within basis bench_set then Some basis else Non
 abbrev pub format_in : List ℕ → Option Format
 format_in word = if is_word word (codes "blif") then Some Blif else (if is_word word (codes "bench") then Some Bench else None)
 
-abbrev pub deed_in : List ℕ → Option Deed
+abbrev pub deed_in : List ℕ → Option GenAction
 deed_in word = if is_word word (codes "write") then Some deeds.Write else (if is_word word (codes "improve") then Some deeds.Improve else None)
 
 -- `yes` or `no`
@@ -68,74 +68,74 @@ abbrev pub flag_in : List ℕ → Option Bool
 flag_in word = if is_word word (codes "yes") then Some true else (if is_word word (codes "no") then Some false else None)
 
 -- a flag, with the default `no`
-abbrev pub flag_row : List ℕ → Row Bool
+abbrev pub flag_row : List ℕ → OptionRow Bool
 flag_row name = record { name = name; read = flag_in; default = Some false }
 
 -- ---- the rows
 
-abbrev pub basis_row : Row ℕ
-basis_row = record { name = codes "--basis"; read = basis_in; default = Some usual.basis }
+abbrev pub basis_row : OptionRow ℕ
+basis_row = record { name = codes "--basis"; read = basis_in; default = Some defaults.basis }
 
 -- In BENCH the basis has only operators of gates, and the default is all of these.
-abbrev pub gates_row : Row ℕ
+abbrev pub gates_row : OptionRow ℕ
 gates_row = record { name = codes "--basis"; read = λ word. if_of_gates (basis_in word); default = Some bench_set }
 
-abbrev pub format_basis_row : Format → Row ℕ
+abbrev pub format_basis_row : Format → OptionRow ℕ
 format_basis_row Blif = basis_row
 format_basis_row Bench = gates_row
 
-abbrev pub method_row : Row Method
-method_row = record { name = codes "--method"; read = method_named; default = Some usual.method }
+abbrev pub method_row : OptionRow Method
+method_row = record { name = codes "--method"; read = method_named; default = Some defaults.method }
 
 -- the greatest number of steps that is tried
-abbrev pub max_row : Row ℕ
-max_row = number_row (codes "--max") 0 most_steps (Some usual.max)
+abbrev pub max_row : OptionRow ℕ
+max_row = number_row (codes "--max") 0 most_steps (Some defaults.max)
 
 -- the conflict budget of a formula
-abbrev pub conflicts_row : Row ℕ
-conflicts_row = number_row (codes "--conflicts") 1 most_conflicts (Some usual.conflicts)
+abbrev pub conflicts_row : OptionRow ℕ
+conflicts_row = number_row (codes "--conflicts") 1 most_conflicts (Some defaults.conflicts)
 
 -- the most gates of a window
-abbrev pub cap_row : Row ℕ
-cap_row = number_row (codes "--cap") 0 improver.most_gates_of_window (Some improver.usual.cap)
+abbrev pub cap_row : OptionRow ℕ
+cap_row = number_row (codes "--cap") 0 improver.most_gates_of_window (Some improver.defaults.cap)
 
 -- the most rounds over all windows that may change the netlist
-abbrev pub rounds_row : Row ℕ
-rounds_row = number_row (codes "--rounds") 1 improver.most_rounds (Some improver.usual.rounds)
+abbrev pub rounds_row : OptionRow ℕ
+rounds_row = number_row (codes "--rounds") 1 improver.most_rounds (Some improver.defaults.rounds)
 
-abbrev pub format_row : Row Format
+abbrev pub format_row : OptionRow Format
 format_row = record { name = codes "--format"; read = format_in; default = Some Blif }
 
 -- whether observability don't-cares (ODC) of windows are used
-abbrev pub observe_row : Row Bool
+abbrev pub observe_row : OptionRow Bool
 observe_row = flag_row (codes "--observe")
 
 -- how many rounds of moves that keep the size
-abbrev pub effort_row : Row ℕ
-effort_row = number_row (codes "--effort") 0 improver.most_effort (Some improver.usual.effort)
+abbrev pub effort_row : OptionRow ℕ
+effort_row = number_row (codes "--effort") 0 improver.most_effort (Some improver.defaults.effort)
 
 -- how many blocks are generated; this option has no default
 abbrev pub most_blocks : ℕ
 most_blocks = 10000
 
-abbrev pub blocks_row : Row ℕ
+abbrev pub blocks_row : OptionRow ℕ
 blocks_row = number_row (codes "--blocks") 1 most_blocks None
 
 -- what is done with the netlist
-abbrev pub run_row : Row Deed
+abbrev pub run_row : OptionRow GenAction
 run_row = record { name = codes "--run"; read = deed_in; default = Some deeds.Write }
 
 -- whether a chain of the fewest levels among those of the fewest steps is searched for
-abbrev pub least_depth_row : Row Bool
+abbrev pub least_depth_row : OptionRow Bool
 least_depth_row = flag_row (codes "--least-depth")
 
 -- whether the certificate to check is one of the fewest levels
-abbrev pub depth_row : Row Bool
+abbrev pub depth_row : OptionRow Bool
 depth_row = flag_row (codes "--depth")
 
 -- ---- which command takes which options
 
-abbrev pub kind_text : Kind → List ℕ
+abbrev pub kind_text : OptionKind → List ℕ
 kind_text Agree = codes "agree"
 kind_text Recheck = codes "recheck"
 kind_text Synth = codes "synth"
@@ -144,7 +144,7 @@ kind_text Equiv = codes "equiv"
 kind_text Gen = codes "gen"
 
 -- the command with a name
-abbrev pub kind_named : List ℕ → Option Kind
+abbrev pub kind_named : List ℕ → Option OptionKind
 kind_named name =
     if is_word name (kind_text Agree) then Some Agree
     else (if is_word name (kind_text Recheck) then Some Recheck
@@ -155,7 +155,7 @@ kind_named name =
     else None)))))
 
 -- the names of the options that a command takes
-abbrev pub options_of : Kind → List (List ℕ)
+abbrev pub options_of : OptionKind → List (List ℕ)
 options_of Agree = []
 options_of Recheck = depth_row.name ∷ []
 options_of Synth = basis_row.name ∷ method_row.name ∷ max_row.name ∷ conflicts_row.name ∷ least_depth_row.name ∷ []

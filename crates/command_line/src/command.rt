@@ -11,7 +11,7 @@ pub enum Format {
 
 /// What `gen` does with the netlist.
 #[derive(Clone, Copy, PartialEq, Eq)]
-pub enum Deed {
+pub enum GenAction {
     /// Write it.
     Write,
     /// Improve it, as `improve` does, and write the result.
@@ -42,7 +42,7 @@ pub enum Command {
     /// Generate a netlist of `blocks` blocks, 1 to 10,000, and write or improve it.
     Gen {
         blocks: u32,
-        deed: Deed,
+        action: GenAction,
     },
 }
 

@@ -20,6 +20,6 @@ mod pairs;
 mod table;
 mod words;
 
-pub use command::{Command, Deed, Format, WordsError};
+pub use command::{Command, Format, GenAction, WordsError};
 pub use settings::{ImproveSettings, SynthSettings};
 pub use words::read_words;

@@ -6,7 +6,7 @@ ghost use Rattle.std.specs.String.{string_bytes};
 ghost use Rattle.command_line.specs.Options.{options_of, is_word as is_word_of};
 ghost use Rattle.command_line.specs.CommandLine as spec;
 
-use crate::table::{Kind, takes};
+use crate::table::{OptionKind, takes};
 
 /// Whether two words are the same.
 pub(crate) fn is_word(word: &[u8], name: &[u8]) -> bool
@@ -16,9 +16,9 @@ pub(crate) fn is_word(word: &[u8], name: &[u8]) -> bool
 }
 
 /// The word after a name; None if the name doesn't occur.
-#[tactic(auto, unfolding(crate::specs::CommandLine::word_behind))]
-pub(crate) fn word_behind<'a>(name: &[u8], words: &'a [String]) -> Option<&'a [u8]>
-    ensures { option_map (λ (x : Bor (List ℕ)). x.now) result ≡ spec.word_behind name.now (map string_bytes words.now) }
+#[tactic(auto, unfolding(crate::specs::CommandLine::word_after))]
+pub(crate) fn word_after<'a>(name: &[u8], words: &'a [String]) -> Option<&'a [u8]>
+    ensures { option_map (λ (x : Bor (List ℕ)). x.now) result ≡ spec.word_after name.now (map string_bytes words.now) }
 {
     let mut left = words;
     while let Some((found, after)) = left.split_first() {
@@ -37,12 +37,12 @@ pub(crate) fn word_behind<'a>(name: &[u8], words: &'a [String]) -> Option<&'a [u
 fn is_named(name: &[u8], words: &[String]) -> bool
     ensures { result ≡ spec.is_named name.now (map string_bytes words.now) }
 {
-    word_behind(name, words).is_some()
+    word_after(name, words).is_some()
 }
 
 /// Whether names and values alternate, the command takes each option that is named, and none occurs twice.
 #[tactic(auto, unfolding(crate::specs::CommandLine::are_options))]
-pub(crate) fn are_options(kind: Kind, words: &[String]) -> bool
+pub(crate) fn are_options(kind: OptionKind, words: &[String]) -> bool
     ensures { result ≡ spec.are_options (options_of kind) (map string_bytes words.now) }
 {
     let mut left = words;

@@ -6,8 +6,8 @@ ghost use Rattle.op_basis.specs.Text.{bench_set};
 ghost use Rattle.command_line.specs.Options as spec;
 ghost use Rattle.command_line.specs.CommandLine.{value};
 
-use crate::command::{Deed, Format};
-use crate::pairs::{is_word, word_behind};
+use crate::command::{Format, GenAction};
+use crate::pairs::{is_word, word_after};
 use op_basis::{BENCH, Basis, read_basis};
 use settings::{
     ImproveSettings, MOST_CONFLICTS, MOST_EFFORT, MOST_GATES_OF_WINDOW, MOST_ROUNDS, MOST_STEPS,
@@ -47,7 +47,7 @@ const MOST_BLOCKS: u32 = 10_000;
 
 /// The commands that have names of their own.
 #[derive(Clone, Copy)]
-pub(crate) enum Kind {
+pub(crate) enum OptionKind {
     Agree,
     Recheck,
     Synth,
@@ -57,45 +57,45 @@ pub(crate) enum Kind {
 }
 
 /// The command with a name.
-pub(crate) fn kind_named(name: &[u8]) -> Option<Kind>
+pub(crate) fn kind_named(name: &[u8]) -> Option<OptionKind>
     ensures { result ≡ spec.kind_named name.now }
 {
     if is_word(name, b"agree") {
-        return Some(Kind::Agree);
+        return Some(OptionKind::Agree);
     }
     if is_word(name, b"recheck") {
-        return Some(Kind::Recheck);
+        return Some(OptionKind::Recheck);
     }
     if is_word(name, b"synth") {
-        return Some(Kind::Synth);
+        return Some(OptionKind::Synth);
     }
     if is_word(name, b"improve") {
-        return Some(Kind::Improve);
+        return Some(OptionKind::Improve);
     }
     if is_word(name, b"equiv") {
-        return Some(Kind::Equiv);
+        return Some(OptionKind::Equiv);
     }
     if is_word(name, b"gen") {
-        return Some(Kind::Gen);
+        return Some(OptionKind::Gen);
     }
     None
 }
 
 /// Whether a command takes the option with a name.
-pub(crate) fn takes(kind: Kind, name: &[u8]) -> bool
+pub(crate) fn takes(kind: OptionKind, name: &[u8]) -> bool
     ensures { result ≡ spec.is_among name.now (spec.options_of kind) }
 {
     match kind {
-        Kind::Agree => false,
-        Kind::Recheck => is_word(name, DEPTH),
-        Kind::Synth => {
+        OptionKind::Agree => false,
+        OptionKind::Recheck => is_word(name, DEPTH),
+        OptionKind::Synth => {
             is_word(name, BASIS)
                 || is_word(name, METHOD)
                 || is_word(name, MAX)
                 || is_word(name, CONFLICTS)
                 || is_word(name, LEAST_DEPTH)
         }
-        Kind::Improve => {
+        OptionKind::Improve => {
             is_word(name, BASIS)
                 || is_word(name, METHOD)
                 || is_word(name, CAP)
@@ -105,8 +105,8 @@ pub(crate) fn takes(kind: Kind, name: &[u8]) -> bool
                 || is_word(name, OBSERVE)
                 || is_word(name, EFFORT)
         }
-        Kind::Equiv => is_word(name, CONFLICTS),
-        Kind::Gen => is_word(name, BLOCKS) || is_word(name, RUN),
+        OptionKind::Equiv => is_word(name, CONFLICTS),
+        OptionKind::Gen => is_word(name, BLOCKS) || is_word(name, RUN),
     }
 }
 
@@ -121,11 +121,11 @@ fn number_within(low: u32, high: u32, word: &[u8]) -> Option<u32>
 }
 
 /// The value of an option that is a number.
-fn number(name: &[u8], low: u32, high: u32, usual: Option<u32>, words: &[String]) -> Option<u32>
-    ensures { result ≡ value (spec.number_row name.now low high usual) (map string_bytes words.now) }
+fn number(name: &[u8], low: u32, high: u32, defaults: Option<u32>, words: &[String]) -> Option<u32>
+    ensures { result ≡ value (spec.number_row name.now low high defaults) (map string_bytes words.now) }
 {
-    match word_behind(name, words) {
-        None => usual,
+    match word_after(name, words) {
+        None => defaults,
         Some(word) => number_within(low, high, word),
     }
 }
@@ -134,7 +134,7 @@ fn number(name: &[u8], low: u32, high: u32, usual: Option<u32>, words: &[String]
 fn flag(name: &[u8], words: &[String]) -> Option<bool>
     ensures { result ≡ value (spec.flag_row name.now) (map string_bytes words.now) }
 {
-    match word_behind(name, words) {
+    match word_after(name, words) {
         None => Some(false),
         Some(word) if is_word(word, b"yes") => Some(true),
         Some(word) if is_word(word, b"no") => Some(false),
@@ -146,8 +146,8 @@ fn flag(name: &[u8], words: &[String]) -> Option<bool>
 pub(crate) fn given_basis(words: &[String]) -> Option<Basis>
     ensures { result ≡ value spec.basis_row (map string_bytes words.now) }
 {
-    match word_behind(BASIS, words) {
-        None => Some(SynthSettings::usual().basis),
+    match word_after(BASIS, words) {
+        None => Some(SynthSettings::defaults().basis),
         Some(word) => match read_basis(word) {
             Ok(basis) => Some(basis),
             Err(_) => None,
@@ -166,7 +166,7 @@ fn is_of_gates(basis: Basis) -> bool
 fn given_gates(words: &[String]) -> Option<Basis>
     ensures { result ≡ value spec.gates_row (map string_bytes words.now) }
 {
-    match word_behind(BASIS, words) {
+    match word_after(BASIS, words) {
         None => Some(Basis::new(BENCH)),
         Some(word) => match read_basis(word) {
             Ok(basis) if is_of_gates(basis) => Some(basis),
@@ -189,8 +189,8 @@ pub(crate) fn given_basis_for(format: Format, words: &[String]) -> Option<Basis>
 pub(crate) fn given_method(words: &[String]) -> Option<Method>
     ensures { result ≡ value spec.method_row (map string_bytes words.now) }
 {
-    match word_behind(METHOD, words) {
-        None => Some(SynthSettings::usual().method),
+    match word_after(METHOD, words) {
+        None => Some(SynthSettings::defaults().method),
         Some(word) => method_named(word),
     }
 }
@@ -199,38 +199,44 @@ pub(crate) fn given_method(words: &[String]) -> Option<Method>
 pub(crate) fn given_max(words: &[String]) -> Option<u32>
     ensures { result ≡ value spec.max_row (map string_bytes words.now) }
 {
-    number(MAX, 0, MOST_STEPS, Some(SynthSettings::usual().max), words)
+    number(
+        MAX,
+        0,
+        MOST_STEPS,
+        Some(SynthSettings::defaults().max),
+        words,
+    )
 }
 
 /// The value of `--conflicts`.
 pub(crate) fn given_conflicts(words: &[String]) -> Option<u32>
     ensures { result ≡ value spec.conflicts_row (map string_bytes words.now) }
 {
-    let usual = SynthSettings::usual().conflicts;
-    number(CONFLICTS, 1, MOST_CONFLICTS, Some(usual), words)
+    let defaults = SynthSettings::defaults().conflicts;
+    number(CONFLICTS, 1, MOST_CONFLICTS, Some(defaults), words)
 }
 
 /// The value of `--cap`.
 pub(crate) fn given_cap(words: &[String]) -> Option<u32>
     ensures { result ≡ value spec.cap_row (map string_bytes words.now) }
 {
-    let usual = ImproveSettings::usual().cap;
-    number(CAP, 0, MOST_GATES_OF_WINDOW, Some(usual), words)
+    let defaults = ImproveSettings::defaults().cap;
+    number(CAP, 0, MOST_GATES_OF_WINDOW, Some(defaults), words)
 }
 
 /// The value of `--rounds`.
 pub(crate) fn given_rounds(words: &[String]) -> Option<u32>
     ensures { result ≡ value spec.rounds_row (map string_bytes words.now) }
 {
-    let usual = ImproveSettings::usual().rounds;
-    number(ROUNDS, 1, MOST_ROUNDS, Some(usual), words)
+    let defaults = ImproveSettings::defaults().rounds;
+    number(ROUNDS, 1, MOST_ROUNDS, Some(defaults), words)
 }
 
 /// The value of `--format`.
 pub(crate) fn given_format(words: &[String]) -> Option<Format>
     ensures { result ≡ value spec.format_row (map string_bytes words.now) }
 {
-    match word_behind(FORMAT, words) {
+    match word_after(FORMAT, words) {
         None => Some(Format::Blif),
         Some(word) if is_word(word, b"blif") => Some(Format::Blif),
         Some(word) if is_word(word, b"bench") => Some(Format::Bench),
@@ -249,8 +255,8 @@ pub(crate) fn given_observe(words: &[String]) -> Option<bool>
 pub(crate) fn given_effort(words: &[String]) -> Option<u32>
     ensures { result ≡ value spec.effort_row (map string_bytes words.now) }
 {
-    let usual = ImproveSettings::usual().effort;
-    number(EFFORT, 0, MOST_EFFORT, Some(usual), words)
+    let defaults = ImproveSettings::defaults().effort;
+    number(EFFORT, 0, MOST_EFFORT, Some(defaults), words)
 }
 
 /// The value of `--blocks`, which has no default.
@@ -261,13 +267,13 @@ pub(crate) fn given_blocks(words: &[String]) -> Option<u32>
 }
 
 /// The value of `--run`.
-pub(crate) fn given_deed(words: &[String]) -> Option<Deed>
+pub(crate) fn given_deed(words: &[String]) -> Option<GenAction>
     ensures { result ≡ value spec.run_row (map string_bytes words.now) }
 {
-    match word_behind(RUN, words) {
-        None => Some(Deed::Write),
-        Some(word) if is_word(word, b"write") => Some(Deed::Write),
-        Some(word) if is_word(word, b"improve") => Some(Deed::Improve),
+    match word_after(RUN, words) {
+        None => Some(GenAction::Write),
+        Some(word) if is_word(word, b"write") => Some(GenAction::Write),
+        Some(word) if is_word(word, b"improve") => Some(GenAction::Improve),
         Some(_) => None,
     }
 }

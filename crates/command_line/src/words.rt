@@ -6,7 +6,7 @@ ghost use Rattle.command_line.specs.CommandLine as spec;
 use crate::command::{Command, Format, WordsError};
 use crate::pairs::are_options;
 use crate::table::{
-    Kind, given_basis, given_basis_for, given_blocks, given_cap, given_conflicts, given_deed,
+    OptionKind, given_basis, given_basis_for, given_blocks, given_cap, given_conflicts, given_deed,
     given_depth, given_effort, given_format, given_least_depth, given_max, given_method,
     given_observe, given_rounds, kind_named,
 };
@@ -110,22 +110,22 @@ fn gen_in(words: &[String]) -> Option<Command>
     ensures { result ≡ spec.gen_in (map string_bytes words.now) }
 {
     match (given_blocks(words), given_deed(words)) {
-        (Some(blocks), Some(deed)) => Some(Command::Gen { blocks, deed }),
+        (Some(blocks), Some(action)) => Some(Command::Gen { blocks, action }),
         _ => None,
     }
 }
 
 /// A command with the values of its options.
-fn command_with(kind: Kind, words: &[String]) -> Option<Command>
+fn command_with(kind: OptionKind, words: &[String]) -> Option<Command>
     ensures { result ≡ spec.command_with kind (map string_bytes words.now) }
 {
     match kind {
-        Kind::Agree => Some(Command::Agree),
-        Kind::Recheck => recheck_in(words),
-        Kind::Synth => synth_in(words),
-        Kind::Improve => improve_in(words),
-        Kind::Equiv => equiv_in(words),
-        Kind::Gen => gen_in(words),
+        OptionKind::Agree => Some(Command::Agree),
+        OptionKind::Recheck => recheck_in(words),
+        OptionKind::Synth => synth_in(words),
+        OptionKind::Improve => improve_in(words),
+        OptionKind::Equiv => equiv_in(words),
+        OptionKind::Gen => gen_in(words),
     }
 }
 

@@ -1,6 +1,6 @@
 pub mod Marking
 pub mod Gathering
-pub mod Walks
+pub mod Resolvents
 pub mod Shortening
 pub mod Conflicts
 pub mod Raising

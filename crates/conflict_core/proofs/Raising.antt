@@ -15,12 +15,12 @@ use Rattle.std.proofs.lemmas.Bool.Decides.{Decides-int_eq}
 use Rattle.std.proofs.lemmas.Grind.{common_steps}
 use Rattle.cdcl_theory.specs.Codes.{marked_in}
 use Rattle.trail_core.specs.Values.{IsOver}
-use Rattle.conflict_core.specs.Walking.{AreOthers, HasFallenAt}
-use Rattle.conflict_core.specs.Learning.{IsRaised}
+use Rattle.conflict_core.specs.Markings.{AreOthers, HasFalsifiedAt}
+use Rattle.conflict_core.specs.Learning.{IsMovedToFront}
 
 -- the marked literals in another order
-pub fallen_permuted : (places : ℤ → ℕ) (old new : List ℤ) (p : ℕ) → IsPermutation old new → HasFallenAt places old p → HasFallenAt places new p
-fallen_permuted places old new p order (w, there, at) = (w, Contains-permutation old new w order there, at)
+pub falsified_permuted : (positions : ℤ → ℕ) (old new : List ℤ) (p : ℕ) → IsPermutation old new → HasFalsifiedAt positions old p → HasFalsifiedAt positions new p
+falsified_permuted positions old new p order (w, there, at) = (w, Contains-permutation old new w order there, at)
 
 pub others_permuted : (vars : ℕ) (marks : List Bool) (first : ℤ) (old new : List ℤ) → IsPermutation old new → AreOthers vars marks first old → AreOthers vars marks first new
 others_permuted vars marks first old new order others = record {
@@ -46,20 +46,28 @@ stood xs i k low within =
     (λ (last : k ≡ i). record {
       index = 0;
       inside = some;
-      same = λ d. sym (ap (λ (ys : List ℤ). slice_index_or ys k d) (swap_is xs 0 i d some low)) ∙ ap (λ (j : ℕ). slice_index_or (slice_set (slice_set xs 0 (slice_index_or xs i d)) i (slice_index_or xs 0 d)) j d) last ∙ get_or-set_same (slice_set xs 0 (slice_index_or xs i d)) i (slice_index_or xs 0 d) d (rw length-set low);
+      same = λ d. sym (ap (λ (ys : List ℤ). slice_index_or ys k d) (swap_is xs 0 i d some low))
+          ∙ ap (λ (j : ℕ). slice_index_or (slice_set (slice_set xs 0 (slice_index_or xs i d)) i (slice_index_or xs 0 d))
+          j d) last ∙ get_or-set_same (slice_set xs 0 (slice_index_or xs i d)) i (slice_index_or xs 0 d) d
+          (rw length-set low);
       which = inl (last, refl);
     })
     (λ (apart : k ≡ i → ⊥). ⊎_elim
     (λ (first : k ≡ 0). record {
       index = i;
       inside = low;
-      same = λ d. sym (ap (λ (ys : List ℤ). slice_index_or ys k d) (swap_is xs 0 i d some low)) ∙ get_or-set_other (slice_set xs 0 (slice_index_or xs i d)) i k (slice_index_or xs 0 d) d apart ∙ ap (λ (j : ℕ). slice_index_or (slice_set xs 0 (slice_index_or xs i d)) j d) first ∙ get_or-set_same xs 0 (slice_index_or xs i d) d some;
+      same = λ d. sym (ap (λ (ys : List ℤ). slice_index_or ys k d) (swap_is xs 0 i d some low))
+          ∙ get_or-set_other (slice_set xs 0 (slice_index_or xs i d)) i k (slice_index_or xs 0 d) d apart
+          ∙ ap (λ (j : ℕ). slice_index_or (slice_set xs 0 (slice_index_or xs i d)) j d) first
+          ∙ get_or-set_same xs 0 (slice_index_or xs i d) d some;
       which = inr (inl (apart, first, refl));
     })
     (λ (other : k ≡ 0 → ⊥). record {
       index = k;
       inside = within;
-      same = λ d. sym (ap (λ (ys : List ℤ). slice_index_or ys k d) (swap_is xs 0 i d some low)) ∙ get_or-set_other (slice_set xs 0 (slice_index_or xs i d)) i k (slice_index_or xs 0 d) d apart ∙ get_or-set_other xs 0 k (slice_index_or xs i d) d other;
+      same = λ d. sym (ap (λ (ys : List ℤ). slice_index_or ys k d) (swap_is xs 0 i d some low))
+          ∙ get_or-set_other (slice_set xs 0 (slice_index_or xs i d)) i k (slice_index_or xs 0 d) d apart
+          ∙ get_or-set_other xs 0 k (slice_index_or xs i d) d other;
       which = inr (inr (apart, other, refl));
     })
     (cases_eq k 0))
@@ -76,10 +84,32 @@ swapped_all xs i P low all k d within =
 swapped_contains : (xs : List ℤ) (i : ℕ) (m : ℤ) → i < length xs → Contains xs m → Contains (swap xs 0 i) m
 swapped_contains xs i m low (k, within, at) =
     ⊎_elim
-    (λ (last : k ≡ i). (0, rw length-swap some, to_here 0 some (λ was. ⊎_elim (λ (a : (0 ≡ i) × (was.index ≡ 0)). a.1 ∙ a.0 ∙ sym last) (λ (b : ((0 ≡ i → ⊥) × (0 ≡ 0) × (was.index ≡ i)) ⊎ ((0 ≡ i → ⊥) × (0 ≡ 0 → ⊥) × (was.index ≡ 0))). ⊎_elim (λ (a : (0 ≡ i → ⊥) × (0 ≡ 0) × (was.index ≡ i)). a.2 ∙ sym last) (λ (a : (0 ≡ i → ⊥) × (0 ≡ 0 → ⊥) × (was.index ≡ 0)). absurd (a.1 refl)) b) was.which)))
+    (λ (last : k ≡ i). (
+      0,
+      rw length-swap some,
+      to_here 0 some (λ was. ⊎_elim (λ (a : (0 ≡ i) × (was.index ≡ 0)). a.1
+          ∙ a.0 ∙ sym last) (λ (b : ((0 ≡ i → ⊥) × (0 ≡ 0) × (was.index ≡ i)) ⊎
+          ((0 ≡ i → ⊥) × (0 ≡ 0 → ⊥) × (was.index ≡ 0))). ⊎_elim (λ (a : (0 ≡ i → ⊥) × (0 ≡ 0) × (was.index ≡ i)). a.2
+          ∙ sym last) (λ (a : (0 ≡ i → ⊥) × (0 ≡ 0 → ⊥) × (was.index ≡ 0)). absurd (a.1 refl)) b) was.which),
+    ))
     (λ (apart : k ≡ i → ⊥). ⊎_elim
-    (λ (first : k ≡ 0). (i, rw length-swap low, to_here i low (λ was. ⊎_elim (λ (a : (i ≡ i) × (was.index ≡ 0)). a.1 ∙ sym first) (λ (b : ((i ≡ i → ⊥) × (i ≡ 0) × (was.index ≡ i)) ⊎ ((i ≡ i → ⊥) × (i ≡ 0 → ⊥) × (was.index ≡ i))). ⊎_elim (λ (a : (i ≡ i → ⊥) × (i ≡ 0) × (was.index ≡ i)). absurd (a.0 refl)) (λ (a : (i ≡ i → ⊥) × (i ≡ 0 → ⊥) × (was.index ≡ i)). absurd (a.0 refl)) b) was.which)))
-    (λ (other : k ≡ 0 → ⊥). (k, rw length-swap within, to_here k within (λ was. ⊎_elim (λ (a : (k ≡ i) × (was.index ≡ 0)). absurd (apart a.0)) (λ (b : ((k ≡ i → ⊥) × (k ≡ 0) × (was.index ≡ i)) ⊎ ((k ≡ i → ⊥) × (k ≡ 0 → ⊥) × (was.index ≡ k))). ⊎_elim (λ (a : (k ≡ i → ⊥) × (k ≡ 0) × (was.index ≡ i)). absurd (other a.1)) (λ (a : (k ≡ i → ⊥) × (k ≡ 0 → ⊥) × (was.index ≡ k)). a.2) b) was.which)))
+    (λ (first : k ≡ 0). (
+      i,
+      rw length-swap low,
+      to_here i low (λ was. ⊎_elim (λ (a : (i ≡ i) × (was.index ≡ 0)). a.1
+          ∙ sym first) (λ (b : ((i ≡ i → ⊥) × (i ≡ 0) × (was.index ≡ i)) ⊎
+          ((i ≡ i → ⊥) × (i ≡ 0 → ⊥) × (was.index ≡ i))). ⊎_elim (λ (a : (i ≡ i → ⊥) × (i ≡ 0) ×
+          (was.index ≡ i)). absurd (a.0 refl)) (λ (a : (i ≡ i → ⊥) × (i ≡ 0 → ⊥) × (was.index ≡ i)). absurd (a.0 refl)) b)
+          was.which),
+    ))
+    (λ (other : k ≡ 0 → ⊥). (
+      k,
+      rw length-swap within,
+      to_here k within (λ was. ⊎_elim (λ (a : (k ≡ i) × (was.index ≡ 0)). absurd (apart a.0))
+          (λ (b : ((k ≡ i → ⊥) × (k ≡ 0) × (was.index ≡ i)) ⊎ ((k ≡ i → ⊥) × (k ≡ 0 → ⊥) × (was.index ≡ k))). ⊎_elim
+          (λ (a : (k ≡ i → ⊥) × (k ≡ 0) × (was.index ≡ i)). absurd (other a.1)) (λ (a : (k ≡ i → ⊥) × (k ≡ 0 → ⊥) ×
+          (was.index ≡ k)). a.2) b) was.which),
+    ))
     (cases_eq k 0))
     (cases_eq k i)
   where
@@ -100,7 +130,9 @@ swapped_differ xs i low differ a b d less within same =
     let was_b : Stood xs i b = stood xs i b low low_b in
     differ_at xs was_a.index was_b.index d differ was_a.inside was_b.inside (λ e. moved a b was_a.index was_b.index less was_a.which was_b.which e) (sym (was_a.same d) ∙ same ∙ was_b.same d)
   where
-    moved : (a b p q : ℕ) → a < b → ((a ≡ i) × (p ≡ 0)) ⊎ (((a ≡ i → ⊥) × (a ≡ 0) × (p ≡ i)) ⊎ ((a ≡ i → ⊥) × (a ≡ 0 → ⊥) × (p ≡ a))) → ((b ≡ i) × (q ≡ 0)) ⊎ (((b ≡ i → ⊥) × (b ≡ 0) × (q ≡ i)) ⊎ ((b ≡ i → ⊥) × (b ≡ 0 → ⊥) × (q ≡ b))) → p ≡ q → ⊥
+    moved : (a b p q : ℕ) → a < b → ((a ≡ i) × (p ≡ 0)) ⊎
+        (((a ≡ i → ⊥) × (a ≡ 0) × (p ≡ i)) ⊎ ((a ≡ i → ⊥) × (a ≡ 0 → ⊥) × (p ≡ a))) → ((b ≡ i) × (q ≡ 0)) ⊎
+        (((b ≡ i → ⊥) × (b ≡ 0) × (q ≡ i)) ⊎ ((b ≡ i → ⊥) × (b ≡ 0 → ⊥) × (q ≡ b))) → p ≡ q → ⊥
     moved a b p q less (inl x) (inl y) e = omega (arith, less, x.0, y.0)
     moved a b p q less (inl x) (inr (inl y)) e = omega (arith, less, y.1)
     moved a b p q less (inl x) (inr (inr y)) e = omega (arith, less, x.1, y.2, e)
@@ -112,43 +144,49 @@ swapped_differ xs i low differ a b d less within same =
     moved a b p q less (inr (inr x)) (inr (inr y)) e = omega (arith, less, x.2, y.2, e)
 
 -- A property of all literals, and one of some literal, are kept,
-pub raised_all : (places : ℤ → ℕ) (back : ℕ) (old new : List ℤ) (P : ℤ → Type 0) → IsRaised places back old new → All P old → All P new
-raised_all places back old new P (inl (i, low, is, at)) all = rw is (swapped_all old i P low all)
-raised_all places back old new P (inr (is, none)) all = rw is all
+pub fronted_all : (positions : ℤ → ℕ) (back : ℕ) (old new : List ℤ) (P : ℤ → Type 0) → IsMovedToFront positions back old new → All P old → All P new
+fronted_all positions back old new P (inl (i, low, is, at)) all = rw is (swapped_all old i P low all)
+fronted_all positions back old new P (inr (is, none)) all = rw is all
 
-pub raised_contains : (places : ℤ → ℕ) (back : ℕ) (old new : List ℤ) (m : ℤ) → IsRaised places back old new → Contains old m → Contains new m
-raised_contains places back old new m (inl (i, low, is, at)) there = rw is (swapped_contains old i m low there)
-raised_contains places back old new m (inr (is, none)) there = rw is there
+pub fronted_contains : (positions : ℤ → ℕ) (back : ℕ) (old new : List ℤ) (m : ℤ) → IsMovedToFront positions back old new → Contains old m → Contains new m
+fronted_contains positions back old new m (inl (i, low, is, at)) there = rw is (swapped_contains old i m low there)
+fronted_contains positions back old new m (inr (is, none)) there = rw is there
 
-pub raised_fallen : (places : ℤ → ℕ) (back : ℕ) (old new : List ℤ) → IsRaised places back old new → HasFallenAt places old back → HasFallenAt places new back
-raised_fallen places back old new raised (w, there, at) = (w, raised_contains places back old new w raised there, at)
+pub fronted_falsified : (positions : ℤ → ℕ) (back : ℕ) (old new : List ℤ) → IsMovedToFront positions back old new → HasFalsifiedAt positions old back → HasFalsifiedAt positions new back
+fronted_falsified positions back old new fronted (w, there, at) = (w, fronted_contains positions back old new w fronted there, at)
 
 -- and so is that they are the marked ones but one.
-pub raised_others : (places : ℤ → ℕ) (vars back : ℕ) (marks : List Bool) (first : ℤ) (old new : List ℤ) → IsRaised places back old new → AreOthers vars marks first old → AreOthers vars marks first new
-raised_others places vars back marks first old new raised others = record {
-  over = raised_all places back old new (IsOver vars) raised others.over;
-  inside = raised_all places back old new (λ m. (marked_in marks m ≡ true) × (m ≢ first)) raised others.inside;
-  all = λ m is. ⊎_elim (λ (same : m ≡ first). inl same) (λ (there : Contains old m). inr (raised_contains places back old new m raised there)) (others.all m is);
-  differ = differ raised;
+pub fronted_others : (positions : ℤ → ℕ) (vars back : ℕ) (marks : List Bool) (first : ℤ) (old new : List ℤ) →
+    IsMovedToFront positions back old new → AreOthers vars marks first old → AreOthers vars marks first new
+fronted_others positions vars back marks first old new fronted others = record {
+  over = fronted_all positions back old new (IsOver vars) fronted others.over;
+  inside = fronted_all positions back old new (λ m. (marked_in marks m ≡ true) × (m ≢ first)) fronted others.inside;
+  all = λ m is. ⊎_elim (λ (same : m ≡ first). inl same) (λ (there : Contains old m). inr (fronted_contains positions back old new m fronted there)) (others.all m is);
+  differ = differ fronted;
 }
   where
-    differ : IsRaised places back old new → AllPairs (λ a b. a ≢ b) new
+    differ : IsMovedToFront positions back old new → AllPairs (λ a b. a ≢ b) new
     differ (inl (i, low, is, at)) = rw is (swapped_differ old i low others.differ)
     differ (inr (is, none)) = rw is others.differ
 
 -- The first one has the position `back`.
-pub raised_head : (places : ℤ → ℕ) (back : ℕ) (old new : List ℤ) (d : ℤ) → IsRaised places back old new → All (λ m. 0 < places m) new → All (λ m. places m ≤ back) old → (0 < back → HasFallenAt places old back) → 0 < length new → places (slice_index_or new 0 d) ≡ back
-raised_head places back old new d (inl (i, low, is, at)) down all there some =
+pub fronted_head : (positions : ℤ → ℕ) (back : ℕ) (old new : List ℤ) (d : ℤ) → IsMovedToFront positions back old new →
+    All (λ m. 0 < positions m) new → All (λ m. positions m ≤ back) old →
+    (0 < back → HasFalsifiedAt positions old back) → 0 < length new → positions (slice_index_or new 0 d) ≡ back
+fronted_head positions back old new d (inl (i, low, is, at)) down all there some =
     let was : Stood old i 0 = stood old i 0 low (omega (arith, low)) in
-    let index : was.index ≡ i = ⊎_elim (λ (a : (0 ≡ i) × (was.index ≡ 0)). a.1 ∙ a.0) (λ (b : ((0 ≡ i → ⊥) × (0 ≡ 0) × (was.index ≡ i)) ⊎ ((0 ≡ i → ⊥) × (0 ≡ 0 → ⊥) × (was.index ≡ 0))). ⊎_elim (λ (a : (0 ≡ i → ⊥) × (0 ≡ 0) × (was.index ≡ i)). a.2) (λ (a : (0 ≡ i → ⊥) × (0 ≡ 0 → ⊥) × (was.index ≡ 0)). absurd (a.1 refl)) b) was.which in
-    ap places (ap (λ (xs : List ℤ). slice_index_or xs 0 d) is ∙ was.same d ∙ ap (λ (n : ℕ). slice_index_or old n d) index) ∙ at d
-raised_head places back old new d (inr (is, none)) down all there some =
-    let first : 0 < places (slice_index_or new 0 d) = down 0 d some in
-    let low : places (slice_index_or old 0 d) ≤ back = all 0 d (subst (λ (xs : List ℤ). 0 < length xs) is some) in
-    let same : places (slice_index_or new 0 d) ≡ places (slice_index_or old 0 d) = ap (λ (xs : List ℤ). places (slice_index_or xs 0 d)) is in
-    let w : HasFallenAt places old back = there (omega (arith, first, low, same)) in
-    absurd (All-contains (λ l. places l ≢ back) old w.0 none w.1 w.2)
+    let index : was.index ≡ i = ⊎_elim (λ (a : (0 ≡ i) × (was.index ≡ 0)). a.1
+    ∙ a.0) (λ (b : ((0 ≡ i → ⊥) × (0 ≡ 0) × (was.index ≡ i)) ⊎ ((0 ≡ i → ⊥) × (0 ≡ 0 → ⊥) × (was.index ≡ 0))). ⊎_elim
+    (λ (a : (0 ≡ i → ⊥) × (0 ≡ 0) × (was.index ≡ i)). a.2) (λ (a : (0 ≡ i → ⊥) × (0 ≡ 0 → ⊥) ×
+    (was.index ≡ 0)). absurd (a.1 refl)) b) was.which in
+    ap positions (ap (λ (xs : List ℤ). slice_index_or xs 0 d) is ∙ was.same d ∙ ap (λ (n : ℕ). slice_index_or old n d) index) ∙ at d
+fronted_head positions back old new d (inr (is, none)) down all there some =
+    let first : 0 < positions (slice_index_or new 0 d) = down 0 d some in
+    let low : positions (slice_index_or old 0 d) ≤ back = all 0 d (subst (λ (xs : List ℤ). 0 < length xs) is some) in
+    let same : positions (slice_index_or new 0 d) ≡ positions (slice_index_or old 0 d) = ap (λ (xs : List ℤ). positions (slice_index_or xs 0 d)) is in
+    let w : HasFalsifiedAt positions old back = there (omega (arith, first, low, same)) in
+    absurd (All-contains (λ l. positions l ≢ back) old w.0 none w.1 w.2)
 
 -- none so far has the position `back`
-pub none_more : (places : ℤ → ℕ) (lits : List ℤ) (i back : ℕ) → ((k : ℕ) (d : ℤ) → k < i → places (slice_index_or lits k d) ≢ back) → length lits ≤ i → All (λ l. places l ≢ back) lits
-none_more places lits i back none done k d within = none k d (omega (arith, within, done))
+pub none_more : (positions : ℤ → ℕ) (lits : List ℤ) (i back : ℕ) → ((k : ℕ) (d : ℤ) → k < i → positions (slice_index_or lits k d) ≢ back) → length lits ≤ i → All (λ l. positions l ≢ back) lits
+none_more positions lits i back none done k d within = none k d (omega (arith, within, done))

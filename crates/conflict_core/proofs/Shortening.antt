@@ -7,14 +7,14 @@ use Rattle.std.proofs.lemmas.List.Elements.{All-contains, Contains-get_or}
 use Rattle.sat_theory.specs.Formula.{variable, opposite, IsClause}
 use Rattle.cdcl_theory.specs.Codes.{marked_in, without_literal}
 use Rattle.cdcl_theory.specs.CodeLaws.{cases_literal, opposite-opposite, opposite-differs, variable-opposite, without_literal-other, without_literal-same}
-use Rattle.cdcl_theory.specs.Trails.{Trailed, fell, IsTrail}
+use Rattle.cdcl_theory.specs.Trails.{TrailState, falsified_at, IsTrail}
 use Rattle.cdcl_theory.specs.Resolving.{IsDerived}
 use Rattle.cdcl_theory.specs.ResolvingLaws.{derived_step}
 use Rattle.clause_db.specs.Watching.{list_of}
 use Rattle.clause_db.specs.Stored.{Stored, live_in, Watches, IsStored}
-use Rattle.clause_db.specs.Blocking.{IsOf}
+use Rattle.clause_db.specs.Blockers.{IsLiteralOf}
 use Rattle.clause_db.specs.Moving.{watched_in}
-use Rattle.conflict_core.specs.Walking.{AreFewer, IsWalk}
+use Rattle.conflict_core.specs.Markings.{AreFewer, IsResolution}
 use Rattle.conflict_core.proofs.Gathering.{listed_unset}
 
 -- the clause at an index of a watch list watches the literal
@@ -61,7 +61,11 @@ pub record IsTwo (live : ℕ → Option (List ℤ)) (id : ℕ) (first other : �
   pub there : Contains clause other
   pub both : (first ≡ other → ⊥) → (m : ℤ) → Contains clause m → (m ≡ first) ⊎ (m ≡ other)
 
-pub two_at : (s : Stored) (first other : ℤ) (index id : ℕ) (lits : List ℤ) → IsStored s → index < length (list_of s.watches first) → id ≡ slice_index_or (list_of s.watches first) index 0 → IsOf s (slice_index_or (list_of s.watches first) index 0) other → ((clause : List ℤ) → live_in s id ≡ Some clause → (m : ℤ) → Contains lits m ↔ Contains clause m) → length lits ≡ 2 → IsTwo (live_in s) id first other
+pub two_at : (s : Stored) (first other : ℤ) (index id : ℕ) (lits : List ℤ) → IsStored s →
+    index < length (list_of s.watches first) → id ≡ slice_index_or (list_of s.watches first) index 0 →
+    IsLiteralOf s (slice_index_or (list_of s.watches first) index 0) other →
+    ((clause : List ℤ) → live_in s id ≡ Some clause → (m : ℤ) → Contains lits m ↔ Contains clause m) →
+    length lits ≡ 2 → IsTwo (live_in s) id first other
 two_at s first other index id lits stored inside id_is of same two =
     let watches : Watches s id first = entry_watches s first index id stored inside id_is in
     let is : live_in s id ≡ Some watches.clause = watches.is_live in
@@ -83,8 +87,12 @@ two_apart live id first other is e =
     opposite-differs other (All-contains (λ l. 0 < variable l) is.clause other is.is_clause.literals is.there) (sym e ∙ same)
 
 -- so the latter stays marked,
-pub first_stays : (live : ℕ → Option (List ℤ)) (id : ℕ) (first other : ℤ) (old new : List Bool) → IsTwo live id first other → marked_in old first ≡ true → marked_in new ≡ without_literal (marked_in old) (opposite other) → marked_in new first ≡ true
-first_stays live id first other old new is kept unmarked = ap (λ (f : ℤ → Bool). f first) unmarked ∙ without_literal-other (marked_in old) (opposite other) first (two_apart live id first other is) ∙ kept
+pub first_stays : (live : ℕ → Option (List ℤ)) (id : ℕ) (first other : ℤ) (old new : List Bool) →
+    IsTwo live id first other → marked_in old first ≡ true →
+    marked_in new ≡ without_literal (marked_in old) (opposite other) → marked_in new first ≡ true
+first_stays live id first other old new is kept unmarked =
+    ap (λ (f : ℤ → Bool). f first) unmarked ∙ without_literal-other (marked_in old) (opposite other) first
+    (two_apart live id first other is) ∙ kept
 
 -- and no further literal is marked.
 pub fewer_unmarked : (l : ℤ) (start old new : List Bool) → AreFewer start old → marked_in new ≡ without_literal (marked_in old) l → AreFewer start new
@@ -97,29 +105,36 @@ fewer_unmarked l start old new before unmarked m mark = before m (⊎_elim
     at = ap (λ (f : ℤ → Bool). f m) unmarked
 
 -- The binary clause as a hint.
-pub walk_shortened : (live : ℕ → Option (List ℤ)) (t : Trailed) (id : ℕ) (first other : ℤ) (old new : List Bool) (touched : List ℤ) (ids now : List ℕ) → IsTrail t → IsTwo live id first other → marked_in old first ≡ true → marked_in old (opposite other) ≡ true → marked_in new ≡ without_literal (marked_in old) (opposite other) → length new ≡ length old → now ≡ ids ++ id ∷ [] → IsWalk live t old touched ids → IsWalk live t new touched now
-walk_shortened live t id first other old new touched ids now trail is kept on unmarked same ids_are walk = record {
+pub resolution_shortened : (live : ℕ → Option (List ℤ)) (t : TrailState) (id : ℕ) (first other : ℤ)
+    (old new : List Bool) (touched : List ℤ) (ids now : List ℕ) → IsTrail t → IsTwo live id first other →
+    marked_in old first ≡ true → marked_in old (opposite other) ≡ true →
+    marked_in new ≡ without_literal (marked_in old) (opposite other) → length new ≡ length old → now ≡ ids ++ id ∷ [] →
+    IsResolution live t old touched ids → IsResolution live t new touched now
+resolution_shortened live t id first other old new touched ids now trail is kept on unmarked same ids_are resolution = record {
   resolvent = rw ids_are (record {
-    below = λ m mark. walk.resolvent.below m (fewer_unmarked (opposite other) old old new (λ m was. was) unmarked m mark);
-    derived = subst (λ (hs : List ℕ). IsDerived live (fell t) (marked_in new) hs) (sym (reverse-append ids (id ∷ []))) (derived_step live (fell t) (marked_in old) (marked_in new) (reverse ids) id is.clause other walk.resolvent.derived is.is_live is.there up down others moved);
+    below = λ m mark. resolution.resolvent.below m (fewer_unmarked (opposite other) old old new (λ m was. was) unmarked m mark);
+    derived = subst (λ (hs : List ℕ). IsDerived live (falsified_at t) (marked_in new) hs)
+        (sym (reverse-append ids (id ∷ []))) (derived_step live (falsified_at t) (marked_in old) (marked_in new)
+        (reverse ids) id is.clause other resolution.resolvent.derived is.is_live is.there up down others moved);
   });
-  listed = listed_unset t.vars old new touched (opposite other) walk.listed unmarked same;
+  listed = listed_unset t.vars old new touched (opposite other) resolution.listed unmarked same;
 }
   where
     at : (m : ℤ) → marked_in new m ≡ without_literal (marked_in old) (opposite other) m
     at m = ap (λ (f : ℤ → Bool). f m) unmarked
 
-    down : 0 < fell t (opposite other)
-    down = (walk.resolvent.below (opposite other) on).0
+    down : 0 < falsified_at t (opposite other)
+    down = (resolution.resolvent.below (opposite other) on).0
 
-    up : fell t other ≡ 0
-    up = let none : fell t (opposite (opposite other)) ≡ 0 = trail.places.one_side (opposite other) down in rw opposite-opposite at none
+    up : falsified_at t other ≡ 0
+    up = let none : falsified_at t (opposite (opposite other)) ≡ 0 = trail.positions.one_side (opposite other) down in rw opposite-opposite at none
 
     differ : first ≡ other → ⊥
-    differ e = let some : 0 < fell t first = (walk.resolvent.below first kept).0 in let none : fell t first ≡ 0 = ap (fell t) e ∙ up in omega arith
+    differ e = let some : 0 < falsified_at t first = (resolution.resolvent.below first kept).0 in let none : falsified_at t first ≡ 0 = ap (falsified_at t) e ∙ up in omega arith
 
     moved : (m : ℤ) → marked_in old m ≡ true → (m ≡ opposite other) ⊎ (marked_in new m ≡ true)
-    moved m marked = ⊎_elim (λ (e : m ≡ opposite other). inl e) (λ (differs : m ≡ opposite other → ⊥). inr (at m ∙ without_literal-other (marked_in old) (opposite other) m differs ∙ marked)) (cases_literal m (opposite other))
+    moved m marked = ⊎_elim (λ (e : m ≡ opposite other). inl e) (λ (differs : m ≡ opposite other → ⊥). inr (at m
+        ∙ without_literal-other (marked_in old) (opposite other) m differs ∙ marked)) (cases_literal m (opposite other))
 
     others : All (λ m. (m ≡ other) ⊎ (marked_in new m ≡ true)) is.clause
     others k d low = ⊎_elim

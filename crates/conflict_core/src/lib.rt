@@ -25,7 +25,7 @@ mod analysis;
 mod learnt;
 mod marks;
 mod redundancy;
-mod walk;
+mod resolution;
 
 pub use analysis::Analysis;
 pub use learnt::Learnt;

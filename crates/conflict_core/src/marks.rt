@@ -3,7 +3,7 @@
 ghost use Rattle.std.specs.Prelude.{◌≡◌, ℕ, ◌<◌, [], length, All, IfOk, OnOk};
 ghost use Rattle.sat_theory.specs.Holding.{with_literal};
 ghost use Rattle.cdcl_theory.specs.Codes.{code_of, marked_in, without_literal};
-ghost use Rattle.conflict_core.specs.Walking.{HasRoom, IsClear, AreTaken};
+ghost use Rattle.conflict_core.specs.Markings.{HasRoom, IsClear, AreGathered};
 
 use cnf_core::Lit;
 use std::alloc::{AllocError, Global};
@@ -11,11 +11,11 @@ use std::marker::Model;
 
 /// A set of literals as a table of marks. Contracts see the list of marks.
 #[derive(Drop)]
-pub(crate) struct Marks {
+pub(crate) struct LitSet {
     marks: Vec<bool>,
 }
 
-impl Model for Marks {
+impl Model for LitSet {
     ghost use Rattle.std.specs.Prelude.{List, Bool};
 
     ghost Value = { List Bool };
@@ -24,12 +24,12 @@ impl Model for Marks {
 }
 
 #[tactic(auto, using(crate::proofs::Marking::marking))]
-impl Marks {
+impl LitSet {
     /// The empty set, with room for the literals of the variables 1 to `vars`.
-    pub(crate) fn new(alloc: Global, vars: u32) -> Result<Marks, AllocError>
+    pub(crate) fn new(alloc: Global, vars: u32) -> Result<LitSet, AllocError>
         ensures { IfOk result (IsClear vars) }
     {
-        Ok(Marks {
+        Ok(LitSet {
             marks: vec![in alloc; false; 2 * vars as usize + 2]?,
         })
     }
@@ -68,12 +68,12 @@ impl Marks {
         self.marks.fill(false);
     }
 
-    /// Removes the literals of a list from the set, and appends those that were in it to `taken`.
+    /// Removes the literals of a list from the set, and appends those that were in it to `gathered`.
     #[tactic(auto, using(crate::proofs::Marking::taking))]
-    pub(crate) fn take(&mut self, lits: &[Lit], taken: &mut Vec<Lit>) -> Result<(), AllocError>
+    pub(crate) fn take(&mut self, lits: &[Lit], gathered: &mut Vec<Lit>) -> Result<(), AllocError>
         requires inside { All (λ l. code_of l < length self.old) lits.now }
-        requires empty { taken.old.items ≡ [] }
-        ensures taken { OnOk result (AreTaken lits.now self.old self.new taken.new.items) }
+        requires empty { gathered.old.items ≡ [] }
+        ensures gathered { OnOk result (AreGathered lits.now self.old self.new gathered.new.items) }
         ensures room { length self.new ≡ length self.old }
     {
         for lit in lits {
@@ -81,7 +81,7 @@ impl Marks {
                 continue;
             }
             self.unset(*lit);
-            taken.push(*lit)?;
+            gathered.push(*lit)?;
         }
         Ok(())
     }

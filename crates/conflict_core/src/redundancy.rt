@@ -4,11 +4,11 @@
 ghost use Rattle.std.specs.Prelude.{◌≡◌, ℤ, ◌+◌, ◌<◌, ◌≤◌, true, length, All, IfOk, IfSome};
 ghost use Rattle.sat_theory.specs.Formula.{variable as variable_of, IsWithin};
 ghost use Rattle.cdcl_theory.specs.Codes.{marked_in};
-ghost use Rattle.cdcl_theory.specs.Trails.{IsExplained, fell as fell_of};
+ghost use Rattle.cdcl_theory.specs.Trails.{IsExplained, falsified_at as falsified_in};
 ghost use Rattle.clause_db.specs.Stored.{live_in};
-ghost use Rattle.conflict_core.specs.Walking.{HasRoom};
+ghost use Rattle.conflict_core.specs.Markings.{HasRoom};
 
-use crate::marks::Marks;
+use crate::marks::LitSet;
 use clause_db::ClauseDb;
 use cnf_core::Lit;
 use std::alloc::{AllocError, Global};
@@ -19,12 +19,12 @@ const DEPTH: u32 = 1000;
 
 /// What is known of a false literal.
 #[derive(Clone, Copy)]
-enum Verdict {
-    Open,
+enum Removability {
+    Unknown,
     /// redundant: the literals of the clause imply it
-    Follows,
+    Removable,
     /// it isn't, or the recursion reached its greatest depth
-    Stands,
+    Failed,
 }
 
 /// The redundant literals of a clause, which may be resolved away, found by a search over reasons. Only the
@@ -32,7 +32,7 @@ enum Verdict {
 #[derive(Drop)]
 pub(crate) struct Redundancy {
     /// by variable
-    verdicts: Vec<Verdict>,
+    verdicts: Vec<Removability>,
     /// the literals that have a verdict
     judged: Vec<Lit>,
     /// the redundant ones, each after all that imply it
@@ -47,7 +47,7 @@ impl Redundancy {
         ensures { IfOk result (λ r. length r.verdicts.items ≡ vars + 1) }
     {
         Ok(Redundancy {
-            verdicts: vec![in alloc; Verdict::Open; vars as usize + 1]?,
+            verdicts: vec![in alloc; Removability::Unknown; vars as usize + 1]?,
             judged: Vec::new(alloc),
             redundant: Vec::new(alloc),
         })
@@ -57,12 +57,12 @@ impl Redundancy {
         ensures { length self.new.verdicts.items ≡ length self.old.verdicts.items }
     {
         while let Some(lit) = self.judged.pop() {
-            self.verdicts[lit.variable() as usize] = Verdict::Open;
+            self.verdicts[lit.variable() as usize] = Removability::Unknown;
         }
         self.redundant.clear();
     }
 
-    fn note(&mut self, lit: Lit, verdict: Verdict) -> Result<(), AllocError>
+    fn note(&mut self, lit: Lit, verdict: Removability) -> Result<(), AllocError>
         requires { variable_of lit < length self.old.verdicts.items }
         ensures { length self.new.verdicts.items ≡ length self.old.verdicts.items }
     {
@@ -77,7 +77,7 @@ impl Redundancy {
         &mut self,
         trail: &Trail,
         clauses: &ClauseDb,
-        marks: &Marks,
+        marks: &LitSet,
         lit: Lit,
         depth: u32,
     ) -> Result<bool, AllocError>
@@ -85,14 +85,14 @@ impl Redundancy {
         requires explained { IsExplained (live_in clauses.now) trail.now }
         requires marks { HasRoom trail.now.vars marks.now }
         requires over { variable_of lit ≤ trail.now.vars }
-        requires fallen { 0 < fell_of trail.now lit }
+        requires falsified { 0 < falsified_in trail.now lit }
         requires room { length self.old.verdicts.items ≡ trail.now.vars + 1 }
         ensures { length self.new.verdicts.items ≡ length self.old.verdicts.items }
     {
         let implied = lit.opposite();
         let id = trail.reason(implied);
         if depth == 0 || id == 0 {
-            self.note(lit, Verdict::Stands)?;
+            self.note(lit, Removability::Failed)?;
             return Ok(false);
         }
         for other in clauses.arranged(id) {
@@ -100,16 +100,16 @@ impl Redundancy {
                 continue;
             }
             let follows = match self.verdicts[other.variable() as usize] {
-                Verdict::Follows => true,
-                Verdict::Stands => false,
-                Verdict::Open => self.judge(trail, clauses, marks, *other, depth - 1)?,
+                Removability::Removable => true,
+                Removability::Failed => false,
+                Removability::Unknown => self.judge(trail, clauses, marks, *other, depth - 1)?,
             };
             if !follows && !marks.has(*other) {
-                self.note(lit, Verdict::Stands)?;
+                self.note(lit, Removability::Failed)?;
                 return Ok(false);
             }
         }
-        self.note(lit, Verdict::Follows)?;
+        self.note(lit, Removability::Removable)?;
         self.redundant.push(lit)?;
         Ok(true)
     }
@@ -120,24 +120,24 @@ impl Redundancy {
         &mut self,
         trail: &Trail,
         clauses: &ClauseDb,
-        marks: &Marks,
+        marks: &LitSet,
         lits: &[Lit],
         start: usize,
     ) -> Result<(), AllocError>
         requires vars { clauses.now.vars ≡ trail.now.vars }
         requires explained { IsExplained (live_in clauses.now) trail.now }
         requires marks { HasRoom trail.now.vars marks.now }
-        requires fallen { (l : ℤ) → marked_in marks.now l ≡ true → 0 < fell_of trail.now l }
+        requires falsified { (l : ℤ) → marked_in marks.now l ≡ true → 0 < falsified_in trail.now l }
         requires within { IsWithin trail.now.vars lits.now }
         requires room { length self.old.verdicts.items ≡ trail.now.vars + 1 }
         ensures { length self.new.verdicts.items ≡ length self.old.verdicts.items }
     {
         self.clear();
         for lit in lits {
-            if !marks.has(*lit) || trail.fell(*lit) as usize > start {
+            if !marks.has(*lit) || trail.falsified_at(*lit) as usize > start {
                 continue;
             }
-            if let Verdict::Open = self.verdicts[lit.variable() as usize] {
+            if let Removability::Unknown = self.verdicts[lit.variable() as usize] {
                 self.judge(trail, clauses, marks, *lit, DEPTH)?;
             }
         }

@@ -1,7 +1,7 @@
-pub use Rattle.cert_theory.specs.Bundle
+pub use Rattle.cert_theory.specs.Certificate
 pub mod Decided
 pub mod DecidedLaws
-pub mod RememberedLaws
+pub mod CacheLaws
 pub mod Ordered
 pub mod OrderedLaws
 pub mod StepLaws

@@ -7,7 +7,7 @@ ghost use Rattle.cert_theory.specs.Meaning.{Means};
 ghost use Rattle.decide_core.specs.Decided.{Fewer, IsSearched, IsSized, IsShorter, IsOpenVerdict};
 
 use crate::question::Question;
-use cert_theory::{Bundle, Heading, Verdict};
+use cert_theory::{Certificate, Header, Verdict};
 use chain_core::Chain;
 use sat_solve::Solver;
 use size_loop::{SizeOutcome, search, search_size};
@@ -21,7 +21,7 @@ pub enum Decided {
     /// No chain does.
     Least,
     /// Undecided: the certificate of a search that has spent its budget.
-    Open(Bundle),
+    Open(Certificate),
 }
 
 /// The result of a search with a certificate.
@@ -32,12 +32,12 @@ pub enum Searched {
     /// No chain of at most `max` steps of the header does.
     Nothing,
     /// Undecided, with the certificate.
-    Open(Bundle),
+    Open(Certificate),
 }
 
 /// The result of a search without a certificate.
 #[derive(Drop)]
-pub enum Sized {
+pub enum SizeResult {
     /// This chain implements the tables, and no chain of fewer than `low` steps does.
     Found { chain: Chain, low: u32 },
     /// No chain of at most `max` steps of the header does.
@@ -75,27 +75,27 @@ fn fewest_of(verdict: Verdict) -> u32
 /// Searches all sizes, with a certificate.
 #[tactic(auto, using(crate::specs::DecidedLaws::deciding))]
 pub fn search_whole<S: Solver>(alloc: Global, question: Question) -> Result<Searched, AllocError>
-    ensures { IfOk result (λ searched. IsSearched question.entry.heading.now searched) }
+    ensures { IfOk result (λ searched. IsSearched question.entry.header.now searched) }
 {
-    let heading = question.heading;
-    let bundle = search::<S>(
+    let header = question.header;
+    let certificate = search::<S>(
         alloc,
-        &heading.spec,
-        heading.basis,
-        heading.method,
-        heading.max,
-        heading.conflicts,
+        &header.spec,
+        header.basis,
+        header.method,
+        header.max,
+        header.conflicts,
     )?;
-    if is_open(bundle.verdict) {
-        return Ok(Searched::Open(bundle));
+    if is_open(certificate.verdict) {
+        return Ok(Searched::Open(certificate));
     }
-    let fewest = fewest_of(bundle.verdict);
-    let Bundle {
-        heading: _,
+    let fewest = fewest_of(certificate.verdict);
+    let Certificate {
+        header: _,
         sections: _,
         chain,
         verdict: _,
-    } = bundle;
+    } = certificate;
     match chain {
         Some(chain) => Ok(Searched::Found { chain, fewest }),
         None => Ok(Searched::Nothing),
@@ -108,29 +108,29 @@ pub fn search_from<S: Solver>(
     alloc: Global,
     question: Question,
     from: u32,
-) -> Result<Sized, AllocError>
-    requires fewer { Fewer question.heading.now from }
-    requires from { from ≤ question.heading.now.max }
-    ensures { IfOk result (λ sized. IsSized question.entry.heading.now sized) }
+) -> Result<SizeResult, AllocError>
+    requires fewer { Fewer question.header.now from }
+    requires from { from ≤ question.header.now.max }
+    ensures { IfOk result (λ sized. IsSized question.entry.header.now sized) }
 {
-    for size in from..question.heading.max + 1 {
-        match search_size::<S>(alloc, question.heading, size)? {
-            SizeOutcome::Found(chain) => return Ok(Sized::Found { chain, low: size }),
+    for size in from..question.header.max + 1 {
+        match search_size::<S>(alloc, question.header, size)? {
+            SizeOutcome::Found(chain) => return Ok(SizeResult::Found { chain, low: size }),
             SizeOutcome::Logged(section) => {
                 if section.is_open() {
-                    return Ok(Sized::Open { low: size });
+                    return Ok(SizeResult::Open { low: size });
                 }
             }
         }
     }
-    Ok(Sized::Nothing)
+    Ok(SizeResult::Nothing)
 }
 
 /// The chain without steps and outputs, for tables without outputs.
 #[tactic(auto, using(crate::specs::DecidedLaws::deciding))]
-pub fn no_steps(alloc: Global, heading: &Heading) -> Chain
-    requires output { length heading.now.spec.on ≡ 0 }
-    ensures { IsShorter heading.now result }
+pub fn no_steps(alloc: Global, header: &Header) -> Chain
+    requires output { length header.now.spec.on ≡ 0 }
+    ensures { IsShorter header.now result }
 {
-    Chain::new(heading.spec.n(), Vec::new(alloc), Vec::new(alloc))
+    Chain::new(header.spec.n(), Vec::new(alloc), Vec::new(alloc))
 }

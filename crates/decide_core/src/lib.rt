@@ -19,13 +19,13 @@
 //! ```
 #![tactic(auto)]
 
+mod caching;
 mod deciding;
 mod ordering;
 mod question;
-mod remembering;
 mod stepping;
 
-pub use cert_theory::{Bundle, Heading};
+pub use cert_theory::{Certificate, Header};
 pub use deciding::Decided;
 pub use ordering::decide;
-pub use spec_cache::Memory;
+pub use spec_cache::SpecCache;

@@ -5,27 +5,27 @@ ghost use Rattle.std.specs.Prelude.{◌≡◌, ◌≤◌, length, IfSome, IfNone
 ghost use Rattle.spec_cache.specs.Order.{IsPermuting};
 ghost use Rattle.decide_core.specs.Decided.{IsDecided, IsClosed, IsShorter, HasNone};
 
+use crate::caching::{cached, copied, with_chain, without_chain};
 use crate::deciding::Decided;
-use crate::ordering::{reordered, turned_heading};
+use crate::ordering::{permuted_header, reordered};
 use crate::question::Question;
-use crate::remembering::{copied, remembered, with_chain, without_chain};
-use cert_theory::Heading;
+use cert_theory::Header;
 use chain_core::Chain;
-use spec_cache::{Key, Memory, inverse, normal_order};
+use spec_cache::{SpecCache, SpecKey, inverse, normal_order};
 use std::alloc::{AllocError, Global};
-use step_core::few_steps;
+use step_core::least_chain;
 
 /// The most steps whose results aren't cached.
-const FORGOTTEN_STEPS: u32 = 2;
+const UNCACHED_STEPS: u32 = 2;
 
 /// Decides by enumeration.
 #[tactic(auto, using(crate::specs::StepLaws::stepping))]
-fn walked(alloc: Global, heading: &Heading) -> Result<Decided, AllocError>
-    requires few { heading.now.max ≤ 4 }
-    ensures decided { IfOk result (λ decided. IsDecided heading.now decided) }
+fn enumerated(alloc: Global, header: &Header) -> Result<Decided, AllocError>
+    requires few { header.now.max ≤ 4 }
+    ensures decided { IfOk result (λ decided. IsDecided header.now decided) }
     ensures closed { IfOk result IsClosed }
 {
-    match few_steps(alloc, &heading.spec, heading.basis, heading.max)? {
+    match least_chain(alloc, &header.spec, header.basis, header.max)? {
         Some(chain) => Ok(Decided::Shorter(chain)),
         None => Ok(Decided::Least),
     }
@@ -42,32 +42,32 @@ fn size_of(chain: &Chain) -> u32
 #[tactic(auto, using(crate::specs::StepLaws::stepping))]
 fn known_steps(
     alloc: Global,
-    memory: &mut Memory,
+    cache: &mut SpecCache,
     question: Question,
 ) -> Result<Option<Chain>, AllocError>
-    requires basis { memory.old.basis ≡ question.heading.now.basis }
-    requires few { question.heading.now.max ≤ 4 }
-    ensures some { IfOk result (λ found. IfSome found (λ chain. IsShorter question.entry.heading.now chain)) }
-    ensures none { IfOk result (λ found. IfNone found (HasNone question.entry.heading.now)) }
-    ensures basis { memory.new.basis ≡ memory.old.basis }
+    requires basis { cache.old.basis ≡ question.header.now.basis }
+    requires few { question.header.now.max ≤ 4 }
+    ensures some { IfOk result (λ found. IfSome found (λ chain. IsShorter question.entry.header.now chain)) }
+    ensures none { IfOk result (λ found. IfNone found (HasNone question.entry.header.now)) }
+    ensures basis { cache.new.basis ≡ cache.old.basis }
 {
-    let heading = question.heading;
-    let key = Key::of(alloc, &heading.spec)?;
-    let known = memory.fewest(&key);
-    if heading.max < known {
+    let header = question.header;
+    let key = SpecKey::of(alloc, &header.spec)?;
+    let known = cache.fewest(&key);
+    if header.max < known {
         return Ok(None);
     }
-    if let Some(chain) = remembered(alloc, memory, &key, heading)? {
+    if let Some(chain) = cached(alloc, cache, &key, header)? {
         return Ok(Some(chain));
     }
-    match few_steps(alloc, &heading.spec, heading.basis, heading.max)? {
+    match least_chain(alloc, &header.spec, header.basis, header.max)? {
         None => {
-            memory.note(key, without_chain(heading.max + 1, false))?;
+            cache.note(key, without_chain(header.max + 1, false))?;
             Ok(None)
         }
         Some(chain) => {
             let found = with_chain(size_of(&chain), copied(alloc, &chain)?);
-            memory.note(key, found)?;
+            cache.note(key, found)?;
             Ok(Some(chain))
         }
     }
@@ -75,22 +75,22 @@ fn known_steps(
 
 /// Decides by the cache or by enumeration, with the inputs permuted.
 #[tactic(auto, using(crate::specs::OrderedLaws::ordering))]
-fn walked_turned(
+fn enumerated_permuted(
     alloc: Global,
-    memory: &mut Memory,
+    cache: &mut SpecCache,
     question: Question,
     order: &[u32],
 ) -> Result<Decided, AllocError>
-    requires basis { memory.old.basis ≡ question.heading.now.basis }
-    requires few { question.heading.now.max ≤ 4 }
-    requires order { IsPermuting question.heading.now.spec.n order.now }
-    ensures decided { IfOk result (λ decided. IsDecided question.entry.heading.now decided) }
+    requires basis { cache.old.basis ≡ question.header.now.basis }
+    requires few { question.header.now.max ≤ 4 }
+    requires order { IsPermuting question.header.now.spec.n order.now }
+    ensures decided { IfOk result (λ decided. IsDecided question.entry.header.now decided) }
     ensures closed { IfOk result IsClosed }
-    ensures basis { memory.new.basis ≡ memory.old.basis }
+    ensures basis { cache.new.basis ≡ cache.old.basis }
 {
     let back = inverse(alloc, order)?;
-    let turned = turned_heading(alloc, question, order)?;
-    match known_steps(alloc, memory, Question::new(&turned))? {
+    let permuted = permuted_header(alloc, question, order)?;
+    match known_steps(alloc, cache, Question::new(&permuted))? {
         None => Ok(Decided::Least),
         Some(chain) => Ok(Decided::Shorter(reordered(alloc, &chain, &back)?)),
     }
@@ -100,19 +100,19 @@ fn walked_turned(
 #[tactic(auto, using(crate::specs::OrderedLaws::ordering))]
 pub(crate) fn decide_few(
     alloc: Global,
-    memory: &mut Memory,
+    cache: &mut SpecCache,
     question: Question,
 ) -> Result<Decided, AllocError>
-    requires basis { memory.old.basis ≡ question.heading.now.basis }
-    requires few { question.heading.now.max ≤ 4 }
-    ensures decided { IfOk result (λ decided. IsDecided question.entry.heading.now decided) }
+    requires basis { cache.old.basis ≡ question.header.now.basis }
+    requires few { question.header.now.max ≤ 4 }
+    ensures decided { IfOk result (λ decided. IsDecided question.entry.header.now decided) }
     ensures closed { IfOk result IsClosed }
-    ensures basis { memory.new.basis ≡ memory.old.basis }
+    ensures basis { cache.new.basis ≡ cache.old.basis }
 {
-    let heading = question.heading;
-    if heading.max <= FORGOTTEN_STEPS {
-        return walked(alloc, heading);
+    let header = question.header;
+    if header.max <= UNCACHED_STEPS {
+        return enumerated(alloc, header);
     }
-    let order = normal_order(alloc, &heading.spec)?;
-    walked_turned(alloc, memory, question, &order)
+    let order = normal_order(alloc, &header.spec)?;
+    enumerated_permuted(alloc, cache, question, &order)
 }

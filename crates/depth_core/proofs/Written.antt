@@ -4,10 +4,10 @@ use Rattle.std.specs.List.{flat_map}
 use Rattle.std.proofs.lemmas.Grind.{common_steps, flat_map-append}
 use Rattle.text_core.specs.Lines.{Line, line_bytes}
 use Rattle.chain_core.specs.Spelling.{line}
-use Rattle.cert_theory.specs.Spelling.{part_lines, end_text, bundle_lines, bundle_text, text_of}
-use Rattle.cert_theory.specs.Bundle.{PartLog, Bundle}
+use Rattle.cert_theory.specs.Spelling.{subproblem_lines, end_text, certificate_lines, cert_text, text_of}
+use Rattle.cert_theory.specs.Certificate.{SubproblemLog, Certificate}
 use Rattle.depth_theory.specs.declared.data.DepthVerdict.{DepthVerdict}
-use Rattle.depth_theory.specs.DepthBundle.{DepthBundle}
+use Rattle.depth_theory.specs.DepthCertificate.{DepthCertificate}
 use Rattle.depth_core.specs.Texts.{whole_text}
 use Rattle.depth_theory.specs.DepthSpelling.{levels_of, depth_line, levels_line, flat_lines, depth_text}
 
@@ -20,25 +20,33 @@ regroup a b c d e = simp append_assoc (simp append-nil)
 turned : (t a b c d e : List ℕ) → ((((t ++ a) ++ b) ++ c) ++ d) ++ e ≡ t ++ (a ++ b ++ c ++ d ++ e)
 turned t a b c d e = simp append_assoc
 
-pub depth_parts : (b : DepthBundle) → depth_text b ≡ bundle_text b.bundle ++ line_bytes (line (depth_line (levels_of b.verdict))) ++ text_of (flat_map part_lines b.parts) ++ line_bytes (line (levels_line b.verdict)) ++ line_bytes (line end_text)
-depth_parts b =
-    text_both (bundle_lines b.bundle) (line (depth_line (levels_of b.verdict)) ∷ flat_lines b.parts b.verdict)
-    ∙ ap (λ (xs : List ℕ). bundle_text b.bundle ++ (line_bytes (line (depth_line (levels_of b.verdict))) ++ xs)) (text_both (flat_map part_lines b.parts) (line (levels_line b.verdict) ∷ line end_text ∷ []))
-    ∙ regroup (bundle_text b.bundle) (line_bytes (line (depth_line (levels_of b.verdict)))) (text_of (flat_map part_lines b.parts)) (line_bytes (line (levels_line b.verdict))) (line_bytes (line end_text))
+pub depth_subproblems : (b : DepthCertificate) → depth_text b ≡ cert_text b.certificate ++
+    line_bytes (line (depth_line (levels_of b.verdict))) ++ text_of (flat_map subproblem_lines b.subproblems) ++
+    line_bytes (line (levels_line b.verdict)) ++ line_bytes (line end_text)
+depth_subproblems b =
+    text_both (certificate_lines b.certificate) (line (depth_line (levels_of b.verdict)) ∷ flat_lines b.subproblems b.verdict)
+    ∙ ap (λ (xs : List ℕ). cert_text b.certificate ++ (line_bytes (line (depth_line (levels_of b.verdict))) ++ xs))
+    (text_both (flat_map subproblem_lines b.subproblems) (line (levels_line b.verdict) ∷ line end_text ∷ []))
+    ∙ regroup (cert_text b.certificate) (line_bytes (line (depth_line (levels_of b.verdict))))
+    (text_of (flat_map subproblem_lines b.subproblems)) (line_bytes (line (levels_line b.verdict)))
+    (line_bytes (line end_text))
 
-pub pushed : (b : Bundle) (parts : List PartLog) (v : DepthVerdict) (t0 t1 t2 t3 t4 t5 : List ℕ) → t1 ≡ t0 ++ bundle_text b → t2 ≡ t1 ++ line_bytes (line (depth_line (levels_of v))) → t3 ≡ t2 ++ text_of (flat_map part_lines parts) → t4 ≡ t3 ++ line_bytes (line (levels_line v)) → t5 ≡ t4 ++ line_bytes (line end_text) → t5 ≡ t0 ++ whole_text b parts v
+pub pushed : (b : Certificate) (subproblems : List SubproblemLog) (v : DepthVerdict) (t0 t1 t2 t3 t4 t5 : List ℕ) →
+    t1 ≡ t0 ++ cert_text b → t2 ≡ t1 ++ line_bytes (line (depth_line (levels_of v))) → t3 ≡ t2 ++
+    text_of (flat_map subproblem_lines subproblems) → t4 ≡ t3 ++ line_bytes (line (levels_line v)) → t5 ≡ t4 ++
+    line_bytes (line end_text) → t5 ≡ t0 ++ whole_text b subproblems v
 unfolding whole_text
-pushed b parts v t0 t1 t2 t3 t4 t5 one two three four five =
+pushed b subproblems v t0 t1 t2 t3 t4 t5 one two three four five =
     let d = line_bytes (line (depth_line (levels_of v))) in
-    let p = text_of (flat_map part_lines parts) in
+    let p = text_of (flat_map subproblem_lines subproblems) in
     let l = line_bytes (line (levels_line v)) in
     let e = line_bytes (line end_text) in
     five
     ∙ ap (λ (xs : List ℕ). xs ++ e) (four ∙ ap (λ (xs : List ℕ). xs ++ l) (three ∙ ap (λ (xs : List ℕ). xs ++ p) (two ∙ ap (λ (xs : List ℕ). xs ++ d) one)))
-    ∙ turned t0 (bundle_text b) d p l e
-    ∙ ap (λ (xs : List ℕ). t0 ++ xs) (sym (depth_parts (record { bundle = b; parts = parts; verdict = v })))
+    ∙ turned t0 (cert_text b) d p l e
+    ∙ ap (λ (xs : List ℕ). t0 ++ xs) (sym (depth_subproblems (record { certificate = b; subproblems = subproblems; verdict = v })))
 
-pub whole_is : (b : DepthBundle) → whole_text b.bundle b.parts b.verdict ≡ depth_text b
+pub whole_is : (b : DepthCertificate) → whole_text b.certificate b.subproblems b.verdict ≡ depth_text b
 unfolding whole_text
 whole_is b = refl
 

@@ -3,62 +3,66 @@
 ghost use Rattle.std.specs.Prelude.{◌≡◌, ◌≤◌, ◌<◌, IfOk, Contains};
 ghost use Rattle.std.specs.List.{filter};
 ghost use Rattle.settings.specs.declared.methods.Method.TheVariants.{Fence};
-ghost use Rattle.cert_theory.specs.Bundle.{PartLog, IsHeading};
-ghost use Rattle.depth_theory.specs.DepthBundle.{part_levels, open_levels as open_levels_of};
-ghost use Rattle.enc_theory.specs.Parts.{parts_for};
+ghost use Rattle.cert_theory.specs.Certificate.{SubproblemLog, IsHeader};
+ghost use Rattle.depth_theory.specs.DepthCertificate.{subproblem_levels, open_levels as open_levels_of};
+ghost use Rattle.enc_theory.specs.Subproblems.{subproblems_for};
 ghost use Rattle.depth_core.specs.Flattened.{IsTriedLow, IsLevel, at_level, is_flatter};
 
-use cert_theory::{Ended, Heading, PartLog};
+use cert_theory::{Ended, Header, SubproblemLog};
 use chain_core::Chain;
 use enc_fence::FenceEnc;
-use enc_theory::Part;
+use enc_theory::Subproblem;
 use sat_solve::Solver;
-use size_loop::{PartOutcome, try_part};
+use size_loop::{SubproblemOutcome, try_subproblem};
 use std::alloc::{AllocError, Global};
 
 /// The result for the fences with `levels` levels.
 #[derive(Drop)]
-pub(crate) enum Level {
+pub(crate) enum LevelOutcome {
     /// A chain of the size with at most `levels` levels.
     Found(Chain),
     /// The logs of these fences; none has a chain.
-    Logged(Vec<PartLog>),
+    Logged(Vec<SubproblemLog>),
 }
 
 /// The number of levels of a subproblem's fence.
-pub(crate) fn levels_in(part: &Part) -> usize
-    ensures { result ≡ part_levels part.now }
+pub(crate) fn levels_in(subproblem: &Subproblem) -> usize
+    ensures { result ≡ subproblem_levels subproblem.now }
 {
-    match part {
-        Part::Levels(fence) => fence.levels().len(),
-        Part::Whole => 0,
+    match subproblem {
+        Subproblem::Levels(fence) => fence.levels().len(),
+        Subproblem::Whole => 0,
     }
 }
 
 /// A copy of a subproblem.
-fn copied(alloc: Global, part: &Part) -> Result<Part, AllocError>
-    ensures { IfOk result (λ copy. copy ≡ part.now) }
+fn copied(alloc: Global, subproblem: &Subproblem) -> Result<Subproblem, AllocError>
+    ensures { IfOk result (λ copy. copy ≡ subproblem.now) }
 {
-    match part {
-        Part::Levels(fence) => {
+    match subproblem {
+        Subproblem::Levels(fence) => {
             let levels = Vec::from_slice(alloc, fence.levels())?;
-            Ok(Part::Levels(fence_core::Fence::new(levels)))
+            Ok(Subproblem::Levels(fence_core::Fence::new(levels)))
         }
-        Part::Whole => Ok(Part::Whole),
+        Subproblem::Whole => Ok(Subproblem::Whole),
     }
 }
 
 /// Copies of the subproblems whose fences have `levels` levels, in their order.
 #[tactic(auto, using(crate::proofs::LevelLogs::picked))]
-fn with_levels(alloc: Global, parts: &[Part], levels: usize) -> Result<Vec<Part>, AllocError>
-    ensures { IfOk result (λ own. own.items ≡ filter (at_level levels) parts.now) }
+fn with_levels(
+    alloc: Global,
+    subproblems: &[Subproblem],
+    levels: usize,
+) -> Result<Vec<Subproblem>, AllocError>
+    ensures { IfOk result (λ own. own.items ≡ filter (at_level levels) subproblems.now) }
 {
     let mut own = Vec::new(alloc);
-    let mut left = parts;
-    while let Some((part, rest)) = left.split_first() {
+    let mut left = subproblems;
+    while let Some((subproblem, rest)) = left.split_first() {
         left = rest;
-        if levels_in(part) == levels {
-            own.push(copied(alloc, part)?)?;
+        if levels_in(subproblem) == levels {
+            own.push(copied(alloc, subproblem)?)?;
         }
     }
     Ok(own)
@@ -67,57 +71,57 @@ fn with_levels(alloc: Global, parts: &[Part], levels: usize) -> Result<Vec<Part>
 /// Searches a subproblem of `size` by fences with the solver `S`.
 fn try_fence<S: Solver>(
     alloc: Global,
-    heading: &Heading,
+    header: &Header,
     size: u32,
-    part: Part,
-) -> Result<PartOutcome, AllocError>
-    requires heading { IsHeading heading.now }
-    requires by_fences { heading.now.method ≡ Fence }
-    requires size { size ≤ heading.now.max }
-    requires part { Contains (parts_for heading.now.spec size) part }
-    ensures { IfOk result (λ outcome. IsTriedLow heading.now size part outcome) }
+    subproblem: Subproblem,
+) -> Result<SubproblemOutcome, AllocError>
+    requires header { IsHeader header.now }
+    requires by_fences { header.now.method ≡ Fence }
+    requires size { size ≤ header.now.max }
+    requires subproblem { Contains (subproblems_for header.now.spec size) subproblem }
+    ensures { IfOk result (λ outcome. IsTriedLow header.now size subproblem outcome) }
 {
-    let outcome = try_part::<S, FenceEnc>(alloc, &FenceEnc, heading, size, part)?;
+    let outcome = try_subproblem::<S, FenceEnc>(alloc, &FenceEnc, header, size, subproblem)?;
     Ok(outcome)
 }
 
-/// Searches those of the subproblems `parts` of `size` whose fences have `levels` levels, with the solver `S`.
+/// Searches those of the subproblems `subproblems` of `size` whose fences have `levels` levels, with the solver `S`.
 #[tactic(auto, using(crate::proofs::LevelLogs::levels))]
 pub(crate) fn search_level<S: Solver>(
     alloc: Global,
-    heading: &Heading,
+    header: &Header,
     size: u32,
-    parts: &[Part],
+    subproblems: &[Subproblem],
     levels: usize,
-) -> Result<Level, AllocError>
-    requires heading { IsHeading heading.now }
-    requires by_fences { heading.now.method ≡ Fence }
-    requires size { size ≤ heading.now.max }
-    requires parts { parts.now ≡ parts_for heading.now.spec size }
-    ensures { IfOk result (λ level. IsLevel heading.now size levels level) }
+) -> Result<LevelOutcome, AllocError>
+    requires header { IsHeader header.now }
+    requires by_fences { header.now.method ≡ Fence }
+    requires size { size ≤ header.now.max }
+    requires subproblems { subproblems.now ≡ subproblems_for header.now.spec size }
+    ensures { IfOk result (λ level. IsLevel header.now size levels level) }
 {
     let mut logs = Vec::new(alloc);
-    for part in with_levels(alloc, parts, levels)? {
-        match try_fence::<S>(alloc, heading, size, part)? {
-            PartOutcome::Found(chain) => return Ok(Level::Found(chain)),
-            PartOutcome::Logged(log) => logs.push(log)?,
+    for subproblem in with_levels(alloc, subproblems, levels)? {
+        match try_fence::<S>(alloc, header, size, subproblem)? {
+            SubproblemOutcome::Found(chain) => return Ok(LevelOutcome::Found(chain)),
+            SubproblemOutcome::Logged(log) => logs.push(log)?,
         }
     }
-    Ok(Level::Logged(logs))
+    Ok(LevelOutcome::Logged(logs))
 }
 
 /// The logs whose fences have fewer than `levels` levels.
 #[tactic(auto, using(crate::proofs::LevelLogs::kept))]
 pub(crate) fn flatter_than(
     alloc: Global,
-    logs: Vec<PartLog>,
+    logs: Vec<SubproblemLog>,
     levels: usize,
-) -> Result<Vec<PartLog>, AllocError>
+) -> Result<Vec<SubproblemLog>, AllocError>
     ensures { IfOk result (λ kept. kept.items ≡ filter (is_flatter levels) logs.items) }
 {
     let mut kept = Vec::new(alloc);
     for log in logs {
-        if levels_in(&log.part) < levels {
+        if levels_in(&log.subproblem) < levels {
             kept.push(log)?;
         }
     }
@@ -126,13 +130,13 @@ pub(crate) fn flatter_than(
 
 /// The number of levels of the first open fence.
 #[tactic(auto, using(crate::proofs::LevelLogs::opened))]
-pub(crate) fn open_levels(parts: &[PartLog]) -> Option<usize>
-    ensures { result ≡ open_levels_of parts.now }
+pub(crate) fn open_levels(subproblems: &[SubproblemLog]) -> Option<usize>
+    ensures { result ≡ open_levels_of subproblems.now }
 {
-    let mut left = parts;
-    while let Some((part, rest)) = left.split_first() {
-        if part.ended == Ended::Open {
-            return Some(levels_in(&part.part));
+    let mut left = subproblems;
+    while let Some((subproblem, rest)) = left.split_first() {
+        if subproblem.ended == Ended::Open {
+            return Some(levels_in(&subproblem.subproblem));
         }
         left = rest;
     }

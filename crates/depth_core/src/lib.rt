@@ -9,7 +9,7 @@
 //! dropped.
 //!
 //! The theorem is that of `least_depth`: it returns a valid depth certificate for its arguments, or a valid
-//! certificate whose verdict isn't a minimum. The logs of both stay small (`size_loop`'s `Thrift`).
+//! certificate whose verdict isn't a minimum. The logs of both stay small (`size_loop`'s `LiveBounds`).
 //!
 //! - `searching`: the search, `least_depth`.
 //! - `levels`: the fences with one number of levels, one after the other.
@@ -20,12 +20,12 @@
 //! ```
 #![tactic(auto)]
 
-mod bundle;
+mod certificate;
 mod levels;
 mod searching;
 mod writing;
 
-pub use bundle::DepthBundle;
+pub use certificate::DepthCertificate;
 pub use depth_theory::{DepthError, DepthVerdict};
-pub use searching::{Deep, least_depth};
+pub use searching::{DepthResult, least_depth};
 pub use writing::write_depth;

@@ -3,14 +3,14 @@ ghost use Rattle.std.specs.Prelude.{◌≡◌, ℕ, ◌≤◌, ◌<◌, ◌+◌,
 ghost use Rattle.settings.specs.Synth.{IsInRange};
 ghost use Rattle.chain_theory.specs.Levels.{depth};
 ghost use Rattle.settings.specs.declared.methods.Method.TheVariants.{Fence};
-ghost use Rattle.cert_theory.specs.Bundle.{IsHeading, IsFound, IsValid};
-ghost use Rattle.cert_theory.specs.Thrift.{AreThrifty};
-ghost use Rattle.depth_theory.specs.DepthBundle.{open_levels as open_levels_of, levels_found};
-ghost use Rattle.depth_core.specs.Flattened.{IsFlat, IsDeep, AreSearched, minimum_of};
+ghost use Rattle.cert_theory.specs.Certificate.{IsHeader, IsFound, IsValid};
+ghost use Rattle.cert_theory.specs.LiveBounds.{HaveLiveBounds};
+ghost use Rattle.depth_theory.specs.DepthCertificate.{open_levels as open_levels_of, levels_found};
+ghost use Rattle.depth_core.specs.Flattened.{IsFlattest, IsDepthResult, AreSearched, minimum_of};
 
-use crate::DepthBundle;
-use crate::levels::{Level, flatter_than, open_levels, search_level};
-use cert_theory::{Bundle, Heading, PartLog, Section, Verdict};
+use crate::DepthCertificate;
+use crate::levels::{LevelOutcome, flatter_than, open_levels, search_level};
+use cert_theory::{Certificate, Header, Section, SubproblemLog, Verdict};
 use chain_core::{Chain, depth_of};
 use depth_theory::DepthVerdict;
 use enc_fence::FenceEnc;
@@ -24,23 +24,23 @@ use tt_core::Spec;
 
 /// The result of a search for the fewest steps and levels.
 #[derive(Drop)]
-pub enum Deep {
+pub enum DepthResult {
     /// A chain with the fewest steps was found, and the fences with fewer levels were searched.
-    Least(DepthBundle),
+    Least(DepthCertificate),
     /// The fewest steps aren't known, or no chain is within `max`: a certificate whose verdict isn't a minimum.
-    Other(Bundle),
+    Other(Certificate),
 }
 
-/// A chain of `levels` levels, and the logs `parts` of the fences with fewer levels.
+/// A chain of `levels` levels, and the logs `subproblems` of the fences with fewer levels.
 #[derive(Drop)]
-struct Flat {
+struct FlattestChain {
     chain: Chain,
-    parts: Vec<PartLog>,
+    subproblems: Vec<SubproblemLog>,
     levels: u32,
 }
 
 /// Appends the logs of one more level.
-fn add_logs(logs: &mut Vec<PartLog>, more: Vec<PartLog>) -> Result<(), AllocError>
+fn add_logs(logs: &mut Vec<SubproblemLog>, more: Vec<SubproblemLog>) -> Result<(), AllocError>
     ensures { OnOk result (logs.new.items ≡ logs.old.items ++ more.items) }
 {
     for log in more {
@@ -54,47 +54,47 @@ fn add_logs(logs: &mut Vec<PartLog>, more: Vec<PartLog>) -> Result<(), AllocErro
 #[tactic(auto, using(crate::proofs::LevelLogs::flattening))]
 fn flatten<S: Solver>(
     alloc: Global,
-    heading: &Heading,
+    header: &Header,
     size: u32,
     chain: Chain,
-) -> Result<Flat, AllocError>
-    requires heading { IsHeading heading.now }
-    requires by_fences { heading.now.method ≡ Fence }
-    requires size { size ≤ heading.now.max }
-    requires found { IsFound heading.now size chain }
-    ensures flat { IfOk result (λ flat. IsFlat heading.now size flat.chain flat.parts.items) }
-    ensures levels { IfOk result (λ flat. flat.levels ≡ depth flat.chain) }
+) -> Result<FlattestChain, AllocError>
+    requires header { IsHeader header.now }
+    requires by_fences { header.now.method ≡ Fence }
+    requires size { size ≤ header.now.max }
+    requires found { IsFound header.now size chain }
+    ensures flattest { IfOk result (λ flattest. IsFlattest header.now size flattest.chain flattest.subproblems.items) }
+    ensures levels { IfOk result (λ flattest. flattest.levels ≡ depth flattest.chain) }
 {
     let deepest = depth_of(alloc, &chain)?;
-    let parts = FenceEnc.parts(alloc, &heading.spec, size)?;
+    let subproblems = FenceEnc.subproblems(alloc, &header.spec, size)?;
     let mut logs = Vec::new(alloc);
     for levels in 0..deepest {
-        match search_level::<S>(alloc, heading, size, &parts, levels as usize)? {
-            Level::Found(chain) => {
+        match search_level::<S>(alloc, header, size, &subproblems, levels as usize)? {
+            LevelOutcome::Found(chain) => {
                 let levels = depth_of(alloc, &chain)?;
                 let kept = flatter_than(alloc, logs, levels as usize)?;
-                return Ok(Flat {
+                return Ok(FlattestChain {
                     chain,
-                    parts: kept,
+                    subproblems: kept,
                     levels,
                 });
             }
-            Level::Logged(more) => add_logs(&mut logs, more)?,
+            LevelOutcome::Logged(more) => add_logs(&mut logs, more)?,
         }
     }
-    Ok(Flat {
+    Ok(FlattestChain {
         chain,
-        parts: logs,
+        subproblems: logs,
         levels: deepest,
     })
 }
 
-/// The verdict on a chain of `levels` levels, from the logs `parts` of the fences with fewer levels.
-fn verdict_of(parts: &[PartLog], levels: u32) -> DepthVerdict
-    requires below { (low : ℕ) → open_levels_of parts.now ≡ Some low → low < levels }
-    ensures { result ≡ levels_found (open_levels_of parts.now) levels }
+/// The verdict on a chain of `levels` levels, from the logs `subproblems` of the fences with fewer levels.
+fn verdict_of(subproblems: &[SubproblemLog], levels: u32) -> DepthVerdict
+    requires below { (low : ℕ) → open_levels_of subproblems.now ≡ Some low → low < levels }
+    ensures { result ≡ levels_found (open_levels_of subproblems.now) levels }
 {
-    match open_levels(parts) {
+    match open_levels(subproblems) {
         None => DepthVerdict::Levels(levels),
         Some(low) => DepthVerdict::Bounded {
             low: low as u32,
@@ -104,10 +104,10 @@ fn verdict_of(parts: &[PartLog], levels: u32) -> DepthVerdict
 }
 
 /// The fewest steps, if the certificate's verdict is a minimum.
-fn minimum_in(bundle: &Bundle) -> Option<u32>
-    ensures { result ≡ minimum_of bundle.now.verdict }
+fn minimum_in(certificate: &Certificate) -> Option<u32>
+    ensures { result ≡ minimum_of certificate.now.verdict }
 {
-    match bundle.verdict {
+    match certificate.verdict {
         Verdict::Minimum(size) => Some(size),
         Verdict::NoChain(_) | Verdict::Bounded { .. } | Verdict::Open { .. } => None,
     }
@@ -117,30 +117,30 @@ fn minimum_in(bundle: &Bundle) -> Option<u32>
 #[tactic(auto, using(crate::proofs::LevelLogs::bundling))]
 fn least<S: Solver>(
     alloc: Global,
-    heading: Heading,
+    header: Header,
     sections: Vec<Section>,
     chain: Chain,
     size: u32,
-) -> Result<Deep, AllocError>
-    requires by_fences { heading.method ≡ Fence }
-    requires searched { AreSearched heading sections.items chain size }
-    ensures { IfOk result (λ deep. IsDeep heading deep) }
+) -> Result<DepthResult, AllocError>
+    requires by_fences { header.method ≡ Fence }
+    requires searched { AreSearched header sections.items chain size }
+    ensures { IfOk result (λ deep. IsDepthResult header deep) }
 {
-    let Flat {
+    let FlattestChain {
         chain,
-        parts,
+        subproblems,
         levels,
-    } = flatten::<S>(alloc, &heading, size, chain)?;
-    let verdict = verdict_of(&parts, levels);
-    let bundle = Bundle {
-        heading,
+    } = flatten::<S>(alloc, &header, size, chain)?;
+    let verdict = verdict_of(&subproblems, levels);
+    let certificate = Certificate {
+        header,
         sections,
         chain: Some(chain),
         verdict: Verdict::Minimum(size),
     };
-    Ok(Deep::Least(DepthBundle {
-        bundle,
-        parts,
+    Ok(DepthResult::Least(DepthCertificate {
+        certificate,
+        subproblems,
         verdict,
     }))
 }
@@ -148,21 +148,25 @@ fn least<S: Solver>(
 /// The depth certificate for a certificate whose verdict is a minimum of `size` steps: takes it apart and searches
 /// on.
 #[tactic(auto, using(crate::proofs::LevelLogs::searching))]
-fn deepened<S: Solver>(alloc: Global, bundle: Bundle, size: u32) -> Result<Deep, AllocError>
-    requires by_fences { bundle.heading.method ≡ Fence }
-    requires valid { IsValid bundle }
-    requires thrifty { AreThrifty bundle.heading bundle.sections }
-    requires minimum { minimum_of bundle.verdict ≡ Some size }
-    ensures { IfOk result (λ deep. IsDeep bundle.heading deep) }
+fn deepened<S: Solver>(
+    alloc: Global,
+    certificate: Certificate,
+    size: u32,
+) -> Result<DepthResult, AllocError>
+    requires by_fences { certificate.header.method ≡ Fence }
+    requires valid { IsValid certificate }
+    requires live_bounds { HaveLiveBounds certificate.header certificate.sections }
+    requires minimum { minimum_of certificate.verdict ≡ Some size }
+    ensures { IfOk result (λ deep. IsDepthResult certificate.header deep) }
 {
-    let Bundle {
-        heading,
+    let Certificate {
+        header,
         sections,
         chain,
         verdict: _,
-    } = bundle;
+    } = certificate;
     match chain {
-        Some(chain) => least::<S>(alloc, heading, sections, chain, size),
+        Some(chain) => least::<S>(alloc, header, sections, chain, size),
         None => unreachable!(),
     }
 }
@@ -178,13 +182,19 @@ pub fn least_depth<S: Solver>(
     basis: Basis,
     max: u32,
     budget: u32,
-) -> Result<Deep, AllocError>
-    requires asked { IsInRange (record { basis = basis; method = Fence; max = max; conflicts = budget }) }
-    ensures { IfOk result (λ deep. IsDeep (record { spec = spec.now; basis = basis; method = Fence; conflicts = budget; max = max }) deep) }
+) -> Result<DepthResult, AllocError>
+    requires settings { IsInRange (record { basis = basis; method = Fence; max = max; conflicts = budget }) }
+    ensures { IfOk result (λ deep. IsDepthResult (record {
+      spec = spec.now;
+      basis = basis;
+      method = Fence;
+      conflicts = budget;
+      max = max;
+    }) deep) }
 {
-    let bundle = search::<S>(alloc, spec, basis, Method::Fence, max, budget)?;
-    match minimum_in(&bundle) {
-        Some(size) => deepened::<S>(alloc, bundle, size),
-        None => Ok(Deep::Other(bundle)),
+    let certificate = search::<S>(alloc, spec, basis, Method::Fence, max, budget)?;
+    match minimum_in(&certificate) {
+        Some(size) => deepened::<S>(alloc, certificate, size),
+        None => Ok(DepthResult::Other(certificate)),
     }
 }

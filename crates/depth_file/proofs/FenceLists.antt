@@ -4,7 +4,7 @@ use Rattle.std.specs.List.{filter}
 use Rattle.std.proofs.lemmas.Grind.{common_steps}
 use Rattle.std.proofs.lemmas.Bool.Decides.{nat_tests}
 use Rattle.std.proofs.lemmas.List.{map-append}
-use Rattle.enc_theory.specs.declared.part.Part.TheVariants.{Levels}
+use Rattle.enc_theory.specs.declared.subproblem.Subproblem.TheVariants.{Levels}
 use Rattle.depth_theory.specs.Flatter.{has_levels, of_levels, by_levels}
 use Rattle.depth_theory.specs.FlatterLaws.{by_levels_more}
 

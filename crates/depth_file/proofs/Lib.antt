@@ -1,5 +1,5 @@
-pub mod Fronts
+pub mod Prefixes
 pub mod FenceLists
 pub mod Going
-pub mod Behind
-pub mod Standing
+pub mod After
+pub mod StageAnswers

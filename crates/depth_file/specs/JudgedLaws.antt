@@ -1,44 +1,50 @@
 -- The text of a depth certificate is judged to have its verdict.
 use Rattle.std.proofs.Common.{◌≡◌, List, ℕ, ◌+◌, length, Result, Ok, Err, refl, sym, ap, ◌∙◌, subst}
 use Rattle.text_core.specs.Lines.{Line, lines_of}
-use Rattle.cert_theory.specs.declared.data.BundleError.{BundleError}
+use Rattle.cert_theory.specs.declared.data.CertificateError.{CertificateError}
 use Rattle.cert_theory.specs.declared.data.Verdict.{Verdict}
-use Rattle.cert_theory.specs.Bundle.{Bundle, IsValid, HasOutput}
-use Rattle.cert_theory.specs.Judging.{bundle_of}
-use Rattle.cert_theory.specs.Spelling.{bundle_lines, text_of, IsBundle}
-use Rattle.cert_laws.specs.BundlesAgain.{lines_again, text_again}
-use Rattle.cert_file.specs.ToldLaws.{one_bundle}
-use Rattle.depth_theory.specs.DepthBundle.{DepthBundle}
-use Rattle.depth_theory.specs.DepthJudging.{Answer, IsJudged, behind_least, behind_bundle, least_of, front_of, behind_of}
+use Rattle.cert_theory.specs.Certificate.{Certificate, IsValid, HasOutput}
+use Rattle.cert_theory.specs.Judging.{certificate_of}
+use Rattle.cert_theory.specs.Spelling.{certificate_lines, text_of, IsCertificateText}
+use Rattle.cert_laws.specs.CertificatesAgain.{lines_again, text_again}
+use Rattle.cert_file.specs.ClaimLaws.{one_certificate}
+use Rattle.depth_theory.specs.DepthCertificate.{DepthCertificate}
+use Rattle.depth_theory.specs.DepthJudging.{Answer, IsJudged, after_least, after_certificate, least_of, prefix_of, suffix_of}
 use Rattle.depth_theory.specs.DepthSpelling.{IsDepthText}
-use Rattle.depth_theory.specs.DepthAgain.{judged_again, depth_front}
+use Rattle.depth_theory.specs.DepthAgain.{judged_again, depth_prefix}
 
-pub never_both : {A : Type 0} (v : Verdict) (e : BundleError) (r : Result Verdict BundleError) → r ≡ Ok v → r ≡ Err e → A
+pub never_both : {A : Type 0} (v : Verdict) (e : CertificateError) (r : Result Verdict CertificateError) → r ≡ Ok v → r ≡ Err e → A
 never_both v e r one two = absurd cc
 
-is_bundle : (b : Bundle) (text : List ℕ) → IsValid b → HasOutput b → text ≡ text_of (bundle_lines b) → IsBundle text b
-is_bundle b text valid output same = record { valid = valid; output = output; text = same }
+is_certificate : (b : Certificate) (text : List ℕ) → IsValid b → HasOutput b → text ≡ text_of (certificate_lines b) → IsCertificateText text b
+is_certificate b text valid output same = record { valid = valid; output = output; text = same }
 
-pub read_again : (b : Bundle) → IsValid b → HasOutput b → bundle_of (bundle_lines b) ≡ Ok b.verdict
-read_again b valid output = ap bundle_of (sym (lines_again b valid)) ∙ text_again (text_of (bundle_lines b)) b (is_bundle b (text_of (bundle_lines b)) valid output refl)
+pub read_again : (b : Certificate) → IsValid b → HasOutput b → certificate_of (certificate_lines b) ≡ Ok b.verdict
+read_again b valid output = ap certificate_of (sym (lines_again b valid)) ∙ text_again (text_of (certificate_lines b)) b (is_certificate b (text_of (certificate_lines b)) valid output refl)
 
 -- the lines after the certificate are judged by themselves
-pub same_behind : (b c : Bundle) (number : ℕ) (ls : List Line) → IsValid b → HasOutput b → IsValid c → HasOutput c → bundle_lines b ≡ bundle_lines c → behind_bundle b number ls ≡ behind_bundle c number ls
-same_behind b c number ls valid output others has same =
-    let told = one_bundle (text_of (bundle_lines b)) b c (is_bundle b (text_of (bundle_lines b)) valid output refl) (is_bundle c (text_of (bundle_lines b)) others has (ap text_of same)) in
-    λ i. behind_least (told.heading i) (least_of (told.heading i).method (told.verdict i) (told.chain i)) number ls
+pub same_after : (b c : Certificate) (number : ℕ) (ls : List Line) → IsValid b → HasOutput b → IsValid c →
+    HasOutput c → certificate_lines b ≡ certificate_lines c →
+    after_certificate b number ls ≡ after_certificate c number ls
+same_after b c number ls valid output others has same =
+    let claim = one_certificate (text_of (certificate_lines b)) b c
+    (is_certificate b (text_of (certificate_lines b)) valid output refl)
+    (is_certificate c (text_of (certificate_lines b)) others has (ap text_of same)) in
+    λ i. after_least (claim.header i) (least_of (claim.header i).method (claim.verdict i) (claim.chain i)) number ls
 
-own_judged : (bytes : List ℕ) (b : DepthBundle) → IsDepthText bytes b → IsJudged (lines_of bytes) (behind_bundle b.bundle (length (front_of (lines_of bytes)) + 1) (behind_of (lines_of bytes)))
+own_judged : (bytes : List ℕ) (b : DepthCertificate) → IsDepthText bytes b →
+    IsJudged (lines_of bytes) (after_certificate b.certificate (length (prefix_of (lines_of bytes)) + 1)
+    (suffix_of (lines_of bytes)))
 own_judged bytes b is =
     let lines = lines_of bytes in
-    let own = depth_front bytes b is in
+    let own = depth_prefix bytes b is in
     let valid = is.is_depth.valid in
     record {
-      refused = λ e bad. never_both b.bundle.verdict e (bundle_of (front_of lines)) (ap bundle_of own ∙ read_again b.bundle valid is.output) bad;
-      behind = λ c others has same. same_behind b.bundle c (length (front_of lines) + 1) (behind_of lines) valid is.output others has (sym own ∙ same);
+      refused = λ e bad. never_both b.certificate.verdict e (certificate_of (prefix_of lines)) (ap certificate_of own ∙ read_again b.certificate valid is.output) bad;
+      following = λ c others has same. same_after b.certificate c (length (prefix_of lines) + 1) (suffix_of lines) valid is.output others has (sym own ∙ same);
     }
 
-pub text_judged : (bytes : List ℕ) (b : DepthBundle) → IsDepthText bytes b → IsJudged (lines_of bytes) (Ok b.verdict)
+pub text_judged : (bytes : List ℕ) (b : DepthCertificate) → IsDepthText bytes b → IsJudged (lines_of bytes) (Ok b.verdict)
 text_judged bytes b is =
     let judged = own_judged bytes b is in
-    subst (λ (a : Answer). IsJudged (lines_of bytes) a) (judged_again bytes b (behind_bundle b.bundle (length (front_of (lines_of bytes)) + 1) (behind_of (lines_of bytes))) is judged) judged
+    subst (λ (a : Answer). IsJudged (lines_of bytes) a) (judged_again bytes b (after_certificate b.certificate (length (prefix_of (lines_of bytes)) + 1) (suffix_of (lines_of bytes))) is judged) judged

@@ -1,8 +1,8 @@
 pub mod AnswerLaws
 pub mod EndLaws
-pub mod Fronts
+pub mod Prefixes
 pub mod JudgedLaws
-pub mod Spent
-pub mod SpentLaws
+pub mod BudgetReached
+pub mod BudgetLaws
 pub mod Stages
-pub mod Standing
+pub mod StageAnswers

@@ -2,39 +2,39 @@
 use Rattle.std.specs.Prelude.{◌≡◌, ℕ, ◌+◌, ◌≤◌, ◌<◌, List, ◌∷◌, length, map, drop, Option, Some, None, Result, Ok, Err}
 use Rattle.text_core.specs.Lines.{Line}
 use Rattle.sat_theory.specs.Line as theory
-use Rattle.enc_theory.specs.declared.part.Part.TheVariants.{Levels}
+use Rattle.enc_theory.specs.declared.subproblem.Subproblem.TheVariants.{Levels}
 use Rattle.settings.specs.declared.methods.Method.TheVariants.{Fence}
-use Rattle.cert_theory.specs.Bundle.{formula_of}
-use Rattle.cert_file.specs.declared.part.PartReader.{PartReader}
+use Rattle.cert_theory.specs.Certificate.{formula_of}
+use Rattle.cert_file.specs.declared.subproblem.SubproblemReader.{SubproblemReader}
 use Rattle.cert_file.specs.Logged.{IsReading}
 use Rattle.cert_file.specs.Reader.{seen, IsReader}
 use Rattle.depth_theory.specs.declared.data.DepthVerdict.{DepthVerdict}
 use Rattle.depth_theory.specs.declared.data.DepthError.{DepthError}
 use Rattle.depth_theory.specs.Flatter.{flatter}
 use Rattle.depth_theory.specs.DepthGives.{Fails}
-use Rattle.depth_theory.specs.DepthJudging.{Answer, Due, Begun, Within, behind_chain, flat_from, end_of, nothing_behind}
-use Rattle.depth_file.specs.Fronts.{IsFront}
-use Rattle.depth_file.specs.declared.stage.Flat.{Flat}
+use Rattle.depth_theory.specs.DepthJudging.{Answer, Due, Begun, Within, after_chain, flat_from, end_of, nothing_after}
+use Rattle.depth_file.specs.Prefixes.{IsInPrefix}
+use Rattle.depth_file.specs.declared.stage.FenceCursor.{FenceCursor}
 use Rattle.depth_file.specs.declared.stage.Stage.{Stage}
 use Rattle.depth_file.specs.declared.stage.Stage.TheVariants as stages
 
 -- the fences that are due, and the index of the next one
-pub record IsFlat (f : Flat) : Type 0 where
-  pub by_fences : f.heading.method ≡ Fence
-  pub operators : 0 < f.heading.basis
+pub record IsFenceCursor (f : FenceCursor) : Type 0 where
+  pub by_fences : f.header.method ≡ Fence
+  pub operators : 0 < f.header.basis
   pub size : f.size ≤ 16
-  pub fences : f.fences.items ≡ map Levels (flatter f.heading.spec f.size f.levels)
+  pub fences : f.fences.items ≡ map Levels (flatter f.header.spec f.size f.levels)
   pub at : f.at ≤ length f.fences.items
 
 -- a fence is due or being read
-pub record IsRunning (f : Flat) : Type 0 where
-  pub flat : IsFlat f
+pub record IsRunning (f : FenceCursor) : Type 0 where
+  pub flat : IsFenceCursor f
   pub within : f.at < length f.fences.items
 
 abbrev pub IsStage : Stage → Type 0
-IsStage (stages.Front reader) = IsReader (seen reader)
+IsStage (stages.Prefix reader) = IsReader (seen reader)
 IsStage (stages.Depth h size levels) = (h.method ≡ Fence) × (0 < h.basis) × (size ≤ 16)
-IsStage (stages.Due f) = IsFlat f
+IsStage (stages.Due f) = IsFenceCursor f
 IsStage (stages.Begun f) = IsRunning f
 IsStage (stages.Within f reader) = IsRunning f
 IsStage (stages.End verdict) = Unit {0}
@@ -42,13 +42,13 @@ IsStage (stages.Done verdict) = Unit {0}
 
 -- how many bytes the certificate reader was fed, if there is one
 abbrev pub fed_of : Stage → ℕ
-fed_of (stages.Front reader) = reader.fed
+fed_of (stages.Prefix reader) = reader.fed
 fed_of stage = 0
 
 -- the stage isn't within the certificate at the head
-abbrev pub IsBehindFront : Stage → Type 0
-IsBehindFront (stages.Front reader) = ⊥
-IsBehindFront stage = Unit {0}
+abbrev pub IsAfterPrefix : Stage → Type 0
+IsAfterPrefix (stages.Prefix reader) = ⊥
+IsAfterPrefix stage = Unit {0}
 
 -- the verdict, if nothing more is due
 abbrev pub verdict_in : Stage → Option DepthVerdict
@@ -56,41 +56,41 @@ verdict_in (stages.Done verdict) = Some verdict
 verdict_in stage = None
 
 -- the fences from the current one on, and those after it
-abbrev pub due_of : Flat → List (List ℕ)
-due_of f = drop f.at (flatter f.heading.spec f.size f.levels)
+abbrev pub due_of : FenceCursor → List (List ℕ)
+due_of f = drop f.at (flatter f.header.spec f.size f.levels)
 
-abbrev pub later_of : Flat → List (List ℕ)
-later_of f = drop (f.at + 1) (flatter f.heading.spec f.size f.levels)
+abbrev pub later_of : FenceCursor → List (List ℕ)
+later_of f = drop (f.at + 1) (flatter f.header.spec f.size f.levels)
 
 -- the current fence
-abbrev pub IsNext : Flat → List ℕ → Type 0
+abbrev pub IsNext : FenceCursor → List ℕ → Type 0
 IsNext f fence = due_of f ≡ fence ∷ later_of f
 
 -- After the name of a fence.
-pub record IsBegun (f : Flat) (number : ℕ) (lines : List Line) (answer : Answer) : Type 0 where
+pub record IsBegun (f : FenceCursor) (number : ℕ) (lines : List Line) (answer : Answer) : Type 0 where
   pub fence : List ℕ
   pub is_next : IsNext f fence
-  pub answer_is : answer ≡ flat_from f.heading f.size f.levels number f.low (Begun fence (later_of f)) lines
+  pub answer_is : answer ≡ flat_from f.header f.size f.levels number f.low (Begun fence (later_of f)) lines
 
 -- In a log: the reader has read the lines so far.
-pub record IsLogging (f : Flat) (reader : PartReader) (number : ℕ) (lines : List Line) (answer : Answer) : Type 0 where
+pub record IsLogging (f : FenceCursor) (reader : SubproblemReader) (number : ℕ) (lines : List Line) (answer : Answer) : Type 0 where
   pub fence : List ℕ
   pub is_next : IsNext f fence
   pub log : List theory.Line
-  pub reading : IsReading (formula_of f.heading f.size (Levels fence)) f.heading.conflicts log reader
-  pub answer_is : answer ≡ flat_from f.heading f.size f.levels number f.low (Within fence (later_of f) reader.ended log) lines
+  pub reading : IsReading (formula_of f.header f.size (Levels fence)) f.header.conflicts log reader
+  pub answer_is : answer ≡ flat_from f.header f.size f.levels number f.low (Within fence (later_of f) reader.ended log) lines
 
 -- The answer, if these lines follow.
-abbrev pub Stands : Stage → ℕ → List Line → Answer → Type 0
-Stands (stages.Front reader) number lines answer = IsFront reader number lines answer
-Stands (stages.Depth h size levels) number lines answer = answer ≡ behind_chain h size levels number lines
-Stands (stages.Due f) number lines answer = answer ≡ flat_from f.heading f.size f.levels number f.low (Due (due_of f)) lines
-Stands (stages.Begun f) number lines answer = IsBegun f number lines answer
-Stands (stages.Within f reader) number lines answer = IsLogging f reader number lines answer
-Stands (stages.End verdict) number lines answer = answer ≡ end_of number verdict lines
-Stands (stages.Done verdict) number lines answer = answer ≡ nothing_behind number verdict lines
+abbrev pub AnswersLines : Stage → ℕ → List Line → Answer → Type 0
+AnswersLines (stages.Prefix reader) number lines answer = IsInPrefix reader number lines answer
+AnswersLines (stages.Depth h size levels) number lines answer = answer ≡ after_chain h size levels number lines
+AnswersLines (stages.Due f) number lines answer = answer ≡ flat_from f.header f.size f.levels number f.low (Due (due_of f)) lines
+AnswersLines (stages.Begun f) number lines answer = IsBegun f number lines answer
+AnswersLines (stages.Within f reader) number lines answer = IsLogging f reader number lines answer
+AnswersLines (stages.End verdict) number lines answer = answer ≡ end_of number verdict lines
+AnswersLines (stages.Done verdict) number lines answer = answer ≡ nothing_after number verdict lines
 
 -- after one more line: the new stage has the answer, or the line is at fault whatever follows
 abbrev pub Judged : Result Stage DepthError → ℕ → List Line → Answer → Type 0
-Judged (Ok stage) number lines answer = Stands stage number lines answer
+Judged (Ok stage) number lines answer = AnswersLines stage number lines answer
 Judged (Err e) number lines answer = Fails e answer

@@ -1,12 +1,12 @@
 //! The listed fences with fewer levels than a chain, in their order.
 ghost use Rattle.std.specs.Prelude.{◌≡◌, ◌++◌, ◌≤◌, map, IfOk, OnOk};
-ghost use Rattle.enc_theory.specs.declared.part.Part.TheVariants.{Levels};
+ghost use Rattle.enc_theory.specs.declared.subproblem.Subproblem.TheVariants.{Levels};
 ghost use Rattle.depth_theory.specs.Flatter.{of_levels, flatter};
 
-use enc_theory::Part;
+use enc_theory::Subproblem;
 use fence_core::{Fence, fences};
 use std::alloc::{AllocError, Global};
-use tt_core::{Spec, live_part};
+use tt_core::{Spec, live_spec};
 
 /// A copy of a fence.
 fn copied(alloc: Global, fence: &Fence) -> Result<Fence, AllocError>
@@ -20,17 +20,17 @@ fn copied(alloc: Global, fence: &Fence) -> Result<Fence, AllocError>
 #[tactic(auto, using(crate::proofs::FenceLists::fencing), unfolding(depth_theory::specs::Flatter::of_levels))]
 fn push_level(
     alloc: Global,
-    parts: &mut Vec<Part>,
+    subproblems: &mut Vec<Subproblem>,
     fences: &[Fence],
     levels: usize,
 ) -> Result<(), AllocError>
-    ensures { OnOk result (parts.new.items ≡ parts.old.items ++ map Levels (of_levels fences.now levels)) }
+    ensures { OnOk result (subproblems.new.items ≡ subproblems.old.items ++ map Levels (of_levels fences.now levels)) }
 {
     let mut left = fences;
     while let Some((fence, rest)) = left.split_first() {
         left = rest;
         if fence.levels().len() == levels {
-            parts.push(Part::Levels(copied(alloc, fence)?))?;
+            subproblems.push(Subproblem::Levels(copied(alloc, fence)?))?;
         }
     }
     Ok(())
@@ -38,20 +38,20 @@ fn push_level(
 
 /// The listed fences of `size` steps that have fewer than `levels` levels.
 #[tactic(auto, using(crate::proofs::FenceLists::flattening))]
-pub(crate) fn flatter_parts(
+pub(crate) fn flatter_subproblems(
     alloc: Global,
     spec: &Spec,
     size: u32,
     levels: u32,
-) -> Result<Vec<Part>, AllocError>
+) -> Result<Vec<Subproblem>, AllocError>
     requires { size ≤ 16 }
-    ensures { IfOk result (λ parts. parts.items ≡ map Levels (flatter spec.now size levels)) }
+    ensures { IfOk result (λ subproblems. subproblems.items ≡ map Levels (flatter spec.now size levels)) }
 {
-    let live = live_part(alloc, spec)?;
+    let live = live_spec(alloc, spec)?;
     let listed = fences(alloc, size, live.outputs())?;
-    let mut parts = Vec::new(alloc);
+    let mut subproblems = Vec::new(alloc);
     for below in 0..levels {
-        push_level(alloc, &mut parts, &listed, below as usize)?;
+        push_level(alloc, &mut subproblems, &listed, below as usize)?;
     }
-    Ok(parts)
+    Ok(subproblems)
 }

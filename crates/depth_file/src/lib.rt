@@ -13,15 +13,15 @@
 //! ```
 #![tactic(auto)]
 
-mod bundle;
+mod certificate;
 mod checking;
 mod fences;
 pub mod laws;
 mod line_stage;
 mod lines;
-mod onward;
 mod reader;
 mod stage;
+mod stepping;
 
 pub use checking::check_depth;
 pub use depth_theory::{DepthError, DepthVerdict};

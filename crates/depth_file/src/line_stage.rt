@@ -2,11 +2,11 @@
 ghost use Rattle.std.specs.Prelude.{Err};
 ghost use Rattle.depth_file.specs.EndLaws.{ended};
 ghost use Rattle.depth_file.specs.Stages.{IsStage, fed_of};
-ghost use Rattle.depth_file.specs.Standing.{StandsIn, Refuses, Ends};
+ghost use Rattle.depth_file.specs.StageAnswers.{AnswersText, Refuses, Ends};
 
-use crate::onward::{take, verdict_of};
 use crate::stage::Stage;
-use cert_file::BundleReader;
+use crate::stepping::{take, verdict_of};
+use cert_file::CertificateReader;
 use depth_theory::{DepthError, DepthVerdict};
 use line_reader::{LineStage, TextLine};
 use std::alloc::Global;
@@ -20,15 +20,15 @@ impl LineStage for Stage {
 
     ghost held = { λ stage. fed_of stage };
 
-    ghost stands = { λ stage number lines all. StandsIn stage number lines all };
+    ghost stands = { λ stage number lines all. AnswersText stage number lines all };
 
     ghost refuses = { λ e all. Refuses e all };
 
     ghost gives = { λ result text. Ends result text };
 
     fn start(alloc: Global) -> Stage {
-        Stage::Front {
-            reader: BundleReader::new(alloc),
+        Stage::Prefix {
+            reader: CertificateReader::new(alloc),
         }
     }
 

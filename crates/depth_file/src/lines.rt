@@ -1,27 +1,27 @@
 //! Single lines after the certificate.
 ghost use Rattle.std.specs.Prelude.{◌≡◌};
-ghost use Rattle.cert_theory.specs.PartLines as parts;
+ghost use Rattle.cert_theory.specs.SubproblemLines as subproblems;
 ghost use Rattle.line_reader.specs.TextLines.{line_of};
 ghost use Rattle.depth_theory.specs.DepthGives.{Gives};
 ghost use Rattle.depth_theory.specs.DepthJudging as judging;
 
-use cert_file::{Numbered, TextLine, is_line, is_title, number_behind, numbered_in};
-use cert_theory::{PartError, title_of};
+use cert_file::{TextLine, VerdictNumbers, is_fence_name, is_line, number_after, numbered_in};
+use cert_theory::{SubproblemError, fence_name};
 use depth_theory::{DepthError, DepthVerdict};
 use std::alloc::Global;
 
 /// A fault of a log, with its line number.
-pub(crate) fn fault_at(number: u32, fault: PartError) -> DepthError
+pub(crate) fn fault_at(number: u32, fault: SubproblemError) -> DepthError
     ensures { result ≡ judging.fault_at number fault }
 {
     match fault {
-        PartError::Syntax => DepthError::Syntax(number),
-        PartError::StepRefused(fault) => DepthError::StepRefused(number, fault),
-        PartError::NotNew => DepthError::NotNew(number),
-        PartError::NotRefuted => DepthError::NotRefuted(number),
-        PartError::TooShort => DepthError::OpenTooShort(number),
-        PartError::EmptyStands => DepthError::WrongLevels(number),
-        PartError::Memory => DepthError::Memory,
+        SubproblemError::Syntax => DepthError::Syntax(number),
+        SubproblemError::StepRefused(fault) => DepthError::StepRefused(number, fault),
+        SubproblemError::NotNew => DepthError::NotNew(number),
+        SubproblemError::NotRefuted => DepthError::NotRefuted(number),
+        SubproblemError::TooShort => DepthError::OpenTooShort(number),
+        SubproblemError::EmptyClauseDerived => DepthError::WrongLevels(number),
+        SubproblemError::Memory => DepthError::Memory,
     }
 }
 
@@ -33,8 +33,8 @@ fn levels_in(line: &TextLine) -> Option<DepthVerdict>
         return None;
     };
     match numbers {
-        Numbered::One(levels) => Some(DepthVerdict::Levels(levels)),
-        Numbered::Two { low, most } => Some(DepthVerdict::Bounded { low, levels: most }),
+        VerdictNumbers::One(levels) => Some(DepthVerdict::Levels(levels)),
+        VerdictNumbers::Two { low, most } => Some(DepthVerdict::Bounded { low, levels: most }),
     }
 }
 
@@ -60,7 +60,7 @@ fn is_same(verdict: DepthVerdict, due: DepthVerdict) -> bool
 pub(crate) fn verdict_at(line: &TextLine, due: DepthVerdict) -> Result<DepthVerdict, DepthError>
     ensures { Gives (λ v. v) result (judging.verdict_at line.now.number due (line_of line.now)) }
 {
-    if is_title(line) {
+    if is_fence_name(line) {
         return Err(DepthError::NotRefuted(line.number));
     }
     let Some(verdict) = levels_in(line) else {
@@ -77,16 +77,17 @@ pub(crate) fn verdict_at(line: &TextLine, due: DepthVerdict) -> Result<DepthVerd
 fn may_follow(line: &TextLine) -> bool
     ensures { result ≡ judging.may_follow (line_of line.now) }
 {
-    is_title(line) || levels_in(line).is_some()
+    is_fence_name(line) || levels_in(line).is_some()
 }
 
 /// Reads the name of a fence: the number of steps on each level.
-#[tactic(auto, unfolding(cert_theory::specs::PartLines::title_in))]
-pub(crate) fn title_at(alloc: Global, line: &TextLine, fence: &[u32]) -> Result<(), DepthError>
-    ensures { Gives (λ x. x) result (judging.at_line line.now.number (parts.title_in (judging.may_follow (line_of line.now)) fence.now (line_of line.now))) }
+#[tactic(auto, unfolding(cert_theory::specs::SubproblemLines::name_in))]
+pub(crate) fn name_at(alloc: Global, line: &TextLine, fence: &[u32]) -> Result<(), DepthError>
+    ensures { Gives (λ x. x) result (judging.at_line line.now.number
+        (subproblems.name_in (judging.may_follow (line_of line.now)) fence.now (line_of line.now))) }
 {
-    let title = title_of(alloc, fence)?;
-    if is_line(&title, line) {
+    let name = fence_name(alloc, fence)?;
+    if is_line(&name, line) {
         return Ok(());
     }
     if may_follow(line) {
@@ -100,7 +101,7 @@ pub(crate) fn title_at(alloc: Global, line: &TextLine, fence: &[u32]) -> Result<
 pub(crate) fn depth_at(line: &TextLine, depth: u32) -> Result<(), DepthError>
     ensures { Gives (λ x. x) result (judging.depth_at line.now.number depth (line_of line.now)) }
 {
-    let Some(stated) = number_behind(b"depth ", line) else {
+    let Some(stated) = number_after(b"depth ", line) else {
         return Err(DepthError::Syntax(line.number));
     };
     if stated != depth {

@@ -4,5 +4,5 @@ use crate::stage::Stage;
 use line_reader::PieceReader;
 
 /// A reader of a depth certificate. It keeps its stage, which has the checker of one log at most, and the
-/// unfinished line, but no earlier lines. At the end it returns the verdict (`specs/Standing`: `Ends`).
+/// unfinished line, but no earlier lines. At the end it returns the verdict (`specs/StageAnswers`: `Ends`).
 pub type DepthReader = PieceReader<Stage>;

@@ -1,18 +1,18 @@
 //! The stages of reading a depth certificate: what is due next, and what is kept of the lines so far. A stage
 //! determines the answer of the whole text, whatever lines follow (`specs/Stages.antt`).
-use cert_file::{BundleReader, PartReader};
-use cert_theory::Heading;
+use cert_file::{CertificateReader, SubproblemReader};
+use cert_theory::Header;
 use depth_theory::DepthVerdict;
-use enc_theory::Part;
+use enc_theory::Subproblem;
 
 /// The fences with fewer levels than the chain, and the position of the current one.
 #[derive(Drop)]
-pub struct Flat {
-    pub(crate) heading: Heading,
+pub struct FenceCursor {
+    pub(crate) header: Header,
     /// The number of steps and of levels of the chain.
     pub(crate) size: u32,
     pub(crate) levels: u32,
-    pub(crate) fences: Vec<Part>,
+    pub(crate) fences: Vec<Subproblem>,
     /// The index of the current fence.
     pub(crate) at: usize,
     /// The number of levels of the first open fence before it.
@@ -23,27 +23,27 @@ pub struct Flat {
 #[derive(Drop)]
 pub enum Stage {
     /// A line of the certificate, which ends with the first line `end`.
-    Front {
-        reader: BundleReader,
+    Prefix {
+        reader: CertificateReader,
     },
     /// The line with the depth, after a certificate whose chain has `size` steps on `levels` levels.
     Depth {
-        heading: Heading,
+        header: Header,
         size: u32,
         levels: u32,
     },
     /// The name of the current fence, or the verdict if none is left.
     Due {
-        flat: Flat,
+        flat: FenceCursor,
     },
     /// How the log of the current fence ends.
     Begun {
-        flat: Flat,
+        flat: FenceCursor,
     },
     /// A line of the log of the current fence.
     Within {
-        flat: Flat,
-        reader: PartReader,
+        flat: FenceCursor,
+        reader: SubproblemReader,
     },
     /// The last line.
     End {

@@ -12,11 +12,11 @@ use Rattle.std.specs.Prelude.{◌≡◌, ℕ, List, [], ◌∷◌, ◌++◌, cod
 use Rattle.std.specs.List.{flat_map}
 use Rattle.text_core.specs.Lines.{Line}
 use Rattle.chain_core.specs.Spelling.{line}
-use Rattle.cert_theory.specs.Bundle.{PartLog, HasOutput}
-use Rattle.cert_theory.specs.Spelling.{part_lines, end_text, bundle_lines, text_of}
+use Rattle.cert_theory.specs.Certificate.{SubproblemLog, HasOutput}
+use Rattle.cert_theory.specs.Spelling.{subproblem_lines, end_text, certificate_lines, text_of}
 use Rattle.depth_theory.specs.declared.data.DepthVerdict.{DepthVerdict}
 use Rattle.depth_theory.specs.declared.data.DepthVerdict.TheVariants as verdicts
-use Rattle.depth_theory.specs.DepthBundle.{DepthBundle, IsDepth}
+use Rattle.depth_theory.specs.DepthCertificate.{DepthCertificate, IsDepth}
 
 -- the number of levels of the chain, from the verdict
 abbrev pub levels_of : DepthVerdict → ℕ
@@ -31,23 +31,23 @@ levels_line (verdicts.Levels d) = codes "levels " ++ decimal d
 levels_line (verdicts.Bounded low d) = codes "levels-bounded " ++ (decimal low ++ 32 ∷ decimal d)
 
 -- the lines after that of the depth
-abbrev pub flat_lines : List PartLog → DepthVerdict → List Line
-flat_lines parts v = flat_map part_lines parts ++ line (levels_line v) ∷ line end_text ∷ []
+abbrev pub flat_lines : List SubproblemLog → DepthVerdict → List Line
+flat_lines subproblems v = flat_map subproblem_lines subproblems ++ line (levels_line v) ∷ line end_text ∷ []
 
-abbrev pub depth_lines : DepthBundle → List Line
-depth_lines b = bundle_lines b.bundle ++ line (depth_line (levels_of b.verdict)) ∷ flat_lines b.parts b.verdict
+abbrev pub depth_lines : DepthCertificate → List Line
+depth_lines b = certificate_lines b.certificate ++ line (depth_line (levels_of b.verdict)) ∷ flat_lines b.subproblems b.verdict
 
-abbrev pub depth_text : DepthBundle → List ℕ
+abbrev pub depth_text : DepthCertificate → List ℕ
 depth_text b = text_of (depth_lines b)
 
 -- Bytes are the text of a depth certificate.
-pub record IsDepthText (bytes : List ℕ) (b : DepthBundle) : Type 0 where
+pub record IsDepthText (bytes : List ℕ) (b : DepthCertificate) : Type 0 where
   pub is_depth : IsDepth b
-  pub output : HasOutput b.bundle
+  pub output : HasOutput b.certificate
   pub text : bytes ≡ depth_text b
 
 -- Bytes are the text of a depth certificate with this verdict.
 pub record HasDepth (bytes : List ℕ) (v : DepthVerdict) : Type 0 where
-  pub bundle : DepthBundle
-  pub is_text : IsDepthText bytes bundle
-  pub verdict : bundle.verdict ≡ v
+  pub certificate : DepthCertificate
+  pub is_text : IsDepthText bytes certificate
+  pub verdict : certificate.verdict ≡ v

@@ -39,7 +39,9 @@ eq_same n = grind (arith, nat_tests)
 pub flatter_has : (fences : List (List ℕ)) (d : ℕ) (f : List ℕ) → Contains fences f → length f < d → Contains (by_levels fences d) f
 unfolding by_levels of_levels
 flatter_has fences d f there low =
-    flat_map_make (of_levels fences) (range_with_len 0 d) (length f) f (range_contains 0 d (length f) (omega arith) (omega arith)) (filter_has (has_levels (length f)) fences f there (eq_same (length f)))
+    flat_map_make (of_levels fences) (range_with_len 0 d) (length f) f
+    (range_contains 0 d (length f) (omega arith) (omega arith))
+    (filter_has (has_levels (length f)) fences f there (eq_same (length f)))
 
 pub level_is : (fences : List (List ℕ)) (k : ℕ) (f : List ℕ) → Contains (of_levels fences k) f → length f ≡ k
 unfolding of_levels

@@ -1,12 +1,12 @@
 pub mod Flatter
-pub mod DepthBundle
+pub mod DepthCertificate
 pub mod DepthSpelling
 pub mod DepthGives
 pub mod DepthJudging
 pub mod DepthMeaning
 pub mod FlatterLaws
 pub mod DepthMeanings
-pub mod FrontLines
+pub mod PrefixLines
 pub mod DepthSpellings
 pub mod DepthAgain
 pub mod VerdictLaws

@@ -1,5 +1,5 @@
 //! Verdicts of depth certificates, and the faults of a text that isn't one.
-use cert_theory::BundleError;
+use cert_theory::CertificateError;
 use lrat_check::CheckError;
 use std::alloc::{AllocError, AllocFailed};
 
@@ -19,7 +19,7 @@ pub enum DepthVerdict {
 pub enum DepthError {
     /// The lines up to the first line `end` aren't a valid certificate, with its fault, which is never out of
     /// memory.
-    Bundle(BundleError),
+    Certificate(CertificateError),
     /// The certificate isn't by fences, or its verdict isn't a minimum.
     NotLeastForm,
     /// The line isn't allowed there, has no LF, or is missing.

@@ -6,7 +6,7 @@
 //! of levels and no fewer or, if a fence is left open, none with fewer levels than the first open fence.
 //!
 //! - `specs/Flatter.antt`: the listed fences with fewer levels, in their order.
-//! - `specs/DepthBundle.antt`: a depth certificate as a value, and when it is valid.
+//! - `specs/DepthCertificate.antt`: a depth certificate as a value, and when it is valid.
 //! - `specs/DepthSpelling.antt`: how it is written.
 //! - `specs/DepthJudging.antt`: how lines are judged, and the first fault if they aren't a depth certificate.
 //! - `specs/DepthMeaning.antt`: what each verdict says about chains.

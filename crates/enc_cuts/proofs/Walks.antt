@@ -3,13 +3,15 @@ use Rattle.std.proofs.Common.{◌≡◌, ℕ, List, [], ◌∷◌, ◌++◌, ref
 use Rattle.std.specs.Prelude.{ℤ}
 use Rattle.std.specs.List.{flat_map}
 use Rattle.std.proofs.lemmas.Grind.{common_steps}
-use Rattle.clause_core.specs.declared.raw.Raw.{Raw}
+use Rattle.clause_core.specs.declared.raw.RawLit.{RawLit}
 use Rattle.enc_theory.specs.declared.data.Sizes.{Sizes}
 use Rattle.enc_theory.specs.Pairs.{StepSlots}
-use Rattle.enc_theory.specs.Cuts.{used_by, used, order_slot, order_with, order, again_later, again_all, exchange_slot, readers_without, exchange_steps}
+use Rattle.enc_theory.specs.Cuts.{used_by, used, order_slot, order_with, order, no_reapplication_later, no_reapplication_all, exchange_slot, readers_without, exchange_steps}
 
 -- the clauses of one step after those before, and the remaining steps
-pub walked : (f : List StepSlots → List (List ℤ)) (piece old new all : List (List ℤ)) (left later : List StepSlots) (s : StepSlots) → new ≡ old ++ piece → left ≡ s ∷ later → f (s ∷ later) ≡ piece ++ f later → old ++ f left ≡ all → new ++ f later ≡ all
+pub walked : (f : List StepSlots → List (List ℤ)) (piece old new all : List (List ℤ)) (left later : List StepSlots)
+    (s : StepSlots) → new ≡ old ++ piece → left ≡ s ∷ later → f (s ∷ later) ≡ piece ++ f later → old ++ f left ≡ all →
+    new ++ f later ≡ all
 walked f piece old new all left later s is split one before =
     ap (λ (xs : List (List ℤ)). xs ++ f later) is ∙ append_assoc old piece (f later) ∙ ap (λ (xs : List (List ℤ)). old ++ xs) (sym one) ∙ ap (λ (xs : List StepSlots). old ++ f xs) (sym split) ∙ before
 
@@ -43,32 +45,36 @@ order-none = refl
 
 pub ruleset order_walk = (common_steps, order-step, order-none)
 
-pub again-step : (s : StepSlots) (later : List StepSlots) → again_all (s ∷ later) ≡ flat_map (again_later s) later ++ again_all later
-unfolding again_all
-again-step s later = refl
+pub no_reapplication-step : (s : StepSlots) (later : List StepSlots) → no_reapplication_all (s ∷ later) ≡ flat_map (no_reapplication_later s) later ++ no_reapplication_all later
+unfolding no_reapplication_all
+no_reapplication-step s later = refl
 
-pub again-none : again_all [] ≡ []
-unfolding again_all
-again-none = refl
+pub no_reapplication-none : no_reapplication_all [] ≡ []
+unfolding no_reapplication_all
+no_reapplication-none = refl
 
-pub ruleset again_walk = (common_steps, again-step, again-none)
+pub ruleset no_reapplication_walk = (common_steps, no_reapplication-step, no_reapplication-none)
 
-pub exchange-step : (p q : ℕ) (before : List Raw) (s : StepSlots) (later : List StepSlots) → exchange_steps p q before (s ∷ later) ≡ flat_map (exchange_slot p q before) s.slots ++ exchange_steps p q (before ++ readers_without p q s) later
+pub exchange-step : (p q : ℕ) (before : List RawLit) (s : StepSlots) (later : List StepSlots) →
+    exchange_steps p q before (s ∷ later) ≡ flat_map (exchange_slot p q before) s.slots ++
+    exchange_steps p q (before ++ readers_without p q s) later
 unfolding exchange_steps
 exchange-step p q before s later = refl
 
-pub exchange-none : (p q : ℕ) (before : List Raw) → exchange_steps p q before [] ≡ []
+pub exchange-none : (p q : ℕ) (before : List RawLit) → exchange_steps p q before [] ≡ []
 unfolding exchange_steps
 exchange-none p q before = refl
 
 pub ruleset exchange_walk = (common_steps, exchange-step, exchange-none)
 
 -- the same, with the literals of the steps before
-pub exchanged : (p q : ℕ) (before after : List Raw) (old new all : List (List ℤ)) (left later : List StepSlots) (s : StepSlots) → new ≡ old ++ flat_map (exchange_slot p q before) s.slots → left ≡ s ∷ later → after ≡ before ++ readers_without p q s → old ++ exchange_steps p q before left ≡ all → new ++ exchange_steps p q after later ≡ all
+pub exchanged : (p q : ℕ) (before after : List RawLit) (old new all : List (List ℤ)) (left later : List StepSlots)
+    (s : StepSlots) → new ≡ old ++ flat_map (exchange_slot p q before) s.slots → left ≡ s ∷ later → after ≡ before ++
+    readers_without p q s → old ++ exchange_steps p q before left ≡ all → new ++ exchange_steps p q after later ≡ all
 exchanged p q before after old new all left later s is split more at =
     let piece = flat_map (exchange_slot p q before) s.slots in
     let rest = exchange_steps p q (before ++ readers_without p q s) later in
-    ap (λ (xs : List Raw). new ++ exchange_steps p q xs later) more
+    ap (λ (xs : List RawLit). new ++ exchange_steps p q xs later) more
     ∙ ap (λ (xs : List (List ℤ)). xs ++ rest) is
     ∙ append_assoc old piece rest
     ∙ ap (λ (xs : List (List ℤ)). old ++ xs) (sym (exchange-step p q before s later))

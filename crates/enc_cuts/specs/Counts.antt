@@ -6,15 +6,21 @@ use Rattle.std.proofs.Math.Nat.{mul-add}
 use Rattle.op_basis.specs.Basis.{members}
 use Rattle.op_basis.specs.Closed.{const_closed, polarity_closed, reapply_closed}
 use Rattle.tt_core.specs.Words.{Words}
-use Rattle.clause_core.specs.declared.raw.Raw.{Raw}
-use Rattle.clause_core.specs.declared.raw.Raw.TheVariants.{Var}
+use Rattle.clause_core.specs.declared.raw.RawLit.{RawLit}
+use Rattle.clause_core.specs.declared.raw.RawLit.TheVariants.{Var}
 use Rattle.enc_theory.specs.declared.data.Sizes.{Sizes}
 use Rattle.enc_theory.specs.declared.data.Slot.{Slot}
 use Rattle.clause_core.specs.Clauses.{written}
 use Rattle.enc_theory.specs.Numbering.{places, outputs, f_var}
 use Rattle.enc_theory.specs.Pairs.{StepSlots, slot_count}
 use Rattle.enc_theory.specs.Families.{common}
-use Rattle.enc_theory.specs.Cuts.{bears, readers, used_by, used, other_operator, not_idle, equal_raw, equal_slot, negation_raw, negations, not_trivial_at, not_trivial, comes_before, not_both, order_pair, order_slot, order_with, order, applies_again, again_pair, again_slot, has_place, reading, again_later, again_all, again, may_exchange, reads_without, readers_without, exchange_slot, exchange_steps, exchange_pair, exchange_with, exchange, row_0_at, row_0, cuts}
+use Rattle.enc_theory.specs.Cuts.{drives, readers, used_by, used, other_operator, not_idle, equal_raw, equal_slot}
+use Rattle.enc_theory.specs.Cuts.{negation_raw, negations, not_trivial_at, not_trivial, comes_before, not_both}
+use Rattle.enc_theory.specs.Cuts.{order_pair, order_slot, order_with, order, is_reapplication, no_reapplication_pair}
+use Rattle.enc_theory.specs.Cuts.{no_reapplication_slot, has_place, reading, no_reapplication_later}
+use Rattle.enc_theory.specs.Cuts.{no_reapplication_all, no_reapplication, may_exchange, reads_without, readers_without}
+use Rattle.enc_theory.specs.Cuts.{exchange_slot, exchange_steps, exchange_pair, exchange_with, exchange, row_0_at}
+use Rattle.enc_theory.specs.Cuts.{row_0, cuts}
 use Rattle.enc_frame.specs.Room.{IsSmall}
 use Rattle.enc_frame.specs.Counts.{common-few}
 use Rattle.clause_core.specs.CountLaws.{flat_map-few, pieces-few, written-few, times-few}
@@ -27,7 +33,7 @@ if-few false clauses k few = omega arith
 used-few : (z : Sizes) (steps : List StepSlots) → length (used z steps) ≤ length steps
 unfolding used used_by
 used-few z [] = omega arith
-used-few z (s ∷ later) = rw length-append (omega (arith, written-few (map (bears z s.place) (outputs z) ++ flat_map (readers s.place) later), used-few z later))
+used-few z (s ∷ later) = rw length-append (omega (arith, written-few (map (drives z s.place) (outputs z) ++ flat_map (readers s.place) later), used-few z later))
 
 -- ---- trivial steps
 
@@ -88,35 +94,42 @@ reading-few p (u ∷ slots) = kept (has_place p u) u (reading p slots) (length s
     kept true u rest k few = omega arith
     kept false u rest k few = omega arith
 
-again_slot-few : (p : ℕ) (slots : List Slot) (u : Slot) → length (again_slot p slots u) ≤ length slots
-unfolding again_slot again_pair
-again_slot-few p slots u = let all = pieces-few (again_pair p u) 1 slots (λ v. if-few (applies_again p u v) (not_both u v) 1 (not_both-few u v)) in omega (arith, all)
+no_reapplication_slot-few : (p : ℕ) (slots : List Slot) (u : Slot) → length (no_reapplication_slot p slots u) ≤ length slots
+unfolding no_reapplication_slot no_reapplication_pair
+no_reapplication_slot-few p slots u = let all = pieces-few (no_reapplication_pair p u) 1 slots (λ v. if-few (is_reapplication p u v) (not_both u v) 1 (not_both-few u v)) in omega (arith, all)
 
-again_later-few : (s later : StepSlots) → length (again_later s later) ≤ length s.slots * length later.slots
-unfolding again_later
-again_later-few s later = pieces-few (again_slot s.place (reading s.place later.slots)) (length later.slots) s.slots (λ u. omega (arith, again_slot-few s.place (reading s.place later.slots) u, reading-few s.place later.slots))
+no_reapplication_later-few : (s later : StepSlots) → length (no_reapplication_later s later) ≤ length s.slots * length later.slots
+unfolding no_reapplication_later
+no_reapplication_later-few s later = pieces-few (no_reapplication_slot s.place (reading s.place later.slots))
+    (length later.slots) s.slots (λ u. omega (
+      arith,
+      no_reapplication_slot-few s.place (reading s.place later.slots) u,
+      reading-few s.place later.slots,
+    ))
 
-again_by-few : (s : StepSlots) (later : List StepSlots) → length (flat_map (again_later s) later) ≤ length s.slots * slot_count later
+no_reapplication_by-few : (s : StepSlots) (later : List StepSlots) → length (flat_map (no_reapplication_later s) later) ≤ length s.slots * slot_count later
 unfolding slot_count
-again_by-few s [] = omega arith
-again_by-few s (next ∷ later) =
-    let spread : length s.slots * (length next.slots + slot_count later) ≡ length s.slots * length next.slots + length s.slots * slot_count later = mul-add (length s.slots) (length next.slots) (slot_count later) in
-    rw length-append (omega (arith, again_later-few s next, again_by-few s later))
+no_reapplication_by-few s [] = omega arith
+no_reapplication_by-few s (next ∷ later) =
+    let spread : length s.slots * (length next.slots + slot_count later) ≡
+    length s.slots * length next.slots + length s.slots * slot_count later =
+    mul-add (length s.slots) (length next.slots) (slot_count later) in
+    rw length-append (omega (arith, no_reapplication_later-few s next, no_reapplication_by-few s later))
 
-again-few : (steps : List StepSlots) → slot_count steps ≤ 16000 → length (again_all steps) ≤ slot_count steps * 16000
-unfolding again_all slot_count
-again-few [] few = omega arith
-again-few (s ∷ later) few =
+no_reapplication-few : (steps : List StepSlots) → slot_count steps ≤ 16000 → length (no_reapplication_all steps) ≤ slot_count steps * 16000
+unfolding no_reapplication_all slot_count
+no_reapplication-few [] few = omega arith
+no_reapplication-few (s ∷ later) few =
     let own = times-few (length s.slots) (slot_count later) (length s.slots) 16000 (omega arith) (omega arith) in
-    rw length-append (omega (arith, again_by-few s later, own, again-few later (omega arith)))
+    rw length-append (omega (arith, no_reapplication_by-few s later, own, no_reapplication-few later (omega arith)))
 
 -- ---- symmetric inputs
 
-exchange_slot-few : (p q : ℕ) (before : List Raw) (u : Slot) → length (exchange_slot p q before u) ≤ 1
+exchange_slot-few : (p q : ℕ) (before : List RawLit) (u : Slot) → length (exchange_slot p q before u) ≤ 1
 unfolding exchange_slot
 exchange_slot-few p q before u = if-few (reads_without q p u) (written _) 1 (written-few _)
 
-exchange_steps-few : (p q : ℕ) (before : List Raw) (steps : List StepSlots) → length (exchange_steps p q before steps) ≤ slot_count steps
+exchange_steps-few : (p q : ℕ) (before : List RawLit) (steps : List StepSlots) → length (exchange_steps p q before steps) ≤ slot_count steps
 unfolding exchange_steps slot_count
 exchange_steps-few p q before [] = omega arith
 exchange_steps-few p q before (s ∷ later) =
@@ -128,7 +141,8 @@ unfolding exchange exchange_with exchange_pair
 exchange-few w steps inputs few =
     let one : (p q : ℕ) → length (exchange_pair w steps p q) ≤ 16000 = λ p q. if-few (may_exchange w p q) (exchange_steps p q [] steps) 16000 (omega (arith, exchange_steps-few p q [] steps)) in
     let row : (p : ℕ) → length (exchange_with w steps p) ≤ 96000 = λ p.
-    let all : length (flat_map (exchange_pair w steps p) (range_with_len (suc p) (w.n - p))) ≤ (w.n - p) * 16000 = flat_map-few (exchange_pair w steps p) 16000 (suc p) (w.n - p) (λ q low high. one p q) in
+    let all : length (flat_map (exchange_pair w steps p) (range_with_len (suc p) (w.n - p))) ≤ (w.n - p) * 16000 =
+    flat_map-few (exchange_pair w steps p) 16000 (suc p) (w.n - p) (λ q low high. one p q) in
     omega (arith, all) in
     let all : length (flat_map (exchange_with w steps) (range_with_len 1 w.n)) ≤ w.n * 96000 = flat_map-few (exchange_with w steps) 96000 1 w.n (λ p low high. row p) in
     omega (arith, all)
@@ -141,11 +155,21 @@ row_0-few basis z small =
 
 -- The constraints are few enough for a formula.
 pub cuts-few : (w : Words) (basis : ℕ) (z : Sizes) (steps : List StepSlots) → IsSmall z → w.n ≤ 6 → length steps ≤ 16 → slot_count steps ≤ 16000 → length (cuts w basis z steps) ≤ 600000000
-unfolding cuts not_trivial again
+unfolding cuts not_trivial no_reapplication
 cuts-few w basis z steps small inputs few slots =
     rw (length-append, length-append, length-append, length-append, length-append)
-    (omega (arith, used-few z steps, trivial-few (const_closed (members basis)) basis z steps, order-few steps slots, if-few (reapply_closed (members basis)) (again_all steps) (slot_count steps * 16000) (again-few steps slots), exchange-few w steps inputs slots, row_0-few basis z small))
+    (omega (
+      arith,
+      used-few z steps,
+      trivial-few (const_closed (members basis)) basis z steps,
+      order-few steps slots,
+      if-few (reapply_closed (members basis)) (no_reapplication_all steps) (slot_count steps * 16000)
+          (no_reapplication-few steps slots),
+      exchange-few w steps inputs slots,
+      row_0-few basis z small,
+    ))
 
 -- the clauses that define chains and the constraints together
-pub both-few : (w : Words) (basis : ℕ) (z : Sizes) (steps : List StepSlots) → IsSmall z → w.n ≤ 6 → length steps ≤ 16 → slot_count steps ≤ 16000 → length (common w basis z steps ++ cuts w basis z steps) ≤ 610000000
+pub both-few : (w : Words) (basis : ℕ) (z : Sizes) (steps : List StepSlots) → IsSmall z → w.n ≤ 6 → length steps ≤ 16 →
+    slot_count steps ≤ 16000 → length (common w basis z steps ++ cuts w basis z steps) ≤ 610000000
 both-few w basis z steps small inputs few slots = rw length-append (omega (arith, common-few w basis z steps small few slots, cuts-few w basis z steps small inputs few slots))

@@ -3,13 +3,13 @@ use Rattle.std.proofs.Common.{ℕ, ◌==◌, Bool, true, false, List, [], ◌∷
 use Rattle.std.specs.Prelude.{if◌then◌else◌}
 use Rattle.std.specs.List.{flat_map}
 use Rattle.std.proofs.lemmas.List.Elements.{All-nil, All-cons, All-append, All-head, All-tail, All-map, All-filter, Contains-get_or}
-use Rattle.clause_core.specs.declared.raw.Raw.TheVariants.{Var}
+use Rattle.clause_core.specs.declared.raw.RawLit.TheVariants.{Var}
 use Rattle.enc_theory.specs.declared.data.Sizes.{Sizes}
 use Rattle.enc_theory.specs.declared.data.Slot.{Slot}
 use Rattle.enc_theory.specs.Numbering.{f_var, g_var, outputs}
 use Rattle.enc_theory.specs.Pairs.{StepSlots}
-use Rattle.enc_theory.specs.Families.{bearer, chosen, operator_raw}
-use Rattle.enc_theory.specs.Cuts.{bears, reads, reader, readers, equal_pair, reads_without, reader_without, readers_without, has_place, reading}
+use Rattle.enc_theory.specs.Families.{driver, chosen, operator_raw}
+use Rattle.enc_theory.specs.Cuts.{drives, reads, reader, readers, equal_pair, reads_without, reader_without, readers_without, has_place, reading}
 use Rattle.enc_laws.specs.Bounds.{f_positive, f_below, g_positive, g_below}
 use Rattle.clause_core.specs.Holds.{range_inside}
 use Rattle.enc_laws.specs.Layouts.{IsStepPlace}
@@ -42,9 +42,9 @@ operator_within z vars i op room place =
     (within_first z vars (f_var z i true false) _ room (f_positive z i true false, f_below z i true false at))
     (within_first z vars (f_var z i true true) _ room (f_positive z i true true, f_below z i true true at))
 
-pub bearers_within : (z : Sizes) (vars i : ℕ) → HasRoom z vars → IsPlace z i → All (IsWithin vars) (map (bears z i) (outputs z))
-unfolding bears bearer
-bearers_within z vars i room place = map_each (IsWithin vars) (bears z i) (outputs z) (λ h c.
+pub drivers_within : (z : Sizes) (vars i : ℕ) → HasRoom z vars → IsPlace z i → All (IsWithin vars) (map (drives z i) (outputs z))
+unfolding drives driver
+drivers_within z vars i room place = map_each (IsWithin vars) (drives z i) (outputs z) (λ h c.
     let (some, low) = range_inside 1 z.m h c in
     let at = step_place z i place in
     within_first z vars (g_var z h i) true room (g_positive z h i at, g_below z h i some (omega arith) at))

@@ -1,12 +1,13 @@
 //! Symmetric inputs are read in order.
 ghost use Rattle.std.specs.Prelude.{◌≡◌, ◌≤◌, ◌<◌, ◌++◌, [], All, OnOk};
 ghost use Rattle.std.specs.List.{flat_map};
-ghost use Rattle.enc_theory.specs.Cuts.{may_exchange as may_exchange_of, reader_without, readers_without, exchange_slot, exchange_steps, exchange_pair, exchange_with, exchange};
+ghost use Rattle.enc_theory.specs.Cuts.{may_exchange as may_exchange_of, reader_without, readers_without};
+ghost use Rattle.enc_theory.specs.Cuts.{exchange_slot, exchange_steps, exchange_pair, exchange_with, exchange};
 ghost use Rattle.clause_core.specs.Clauses.{IsWithin};
 ghost use Rattle.enc_cuts.specs.Vars.{HasVar, HaveVars};
 
 use crate::slots::reads_without;
-use clause_core::{ClauseList, Raw};
+use clause_core::{ClauseList, RawLit};
 use enc_frame::StepSlots;
 use enc_theory::Slot;
 use std::alloc::{AllocError, Global};
@@ -23,20 +24,20 @@ fn may_exchange(spec: &Spec, p: u32, q: u32) -> bool
 
 /// Adds the pair's selection literal if the pair has `p` and not `q`.
 #[tactic(auto, unfolding(enc_theory::specs::Cuts::reader_without, enc_theory::specs::Families::chosen))]
-fn push_reader_without(raws: &mut Vec<Raw>, p: u32, q: u32, slot: Slot) -> Result<(), AllocError>
+fn push_reader_without(raws: &mut Vec<RawLit>, p: u32, q: u32, slot: Slot) -> Result<(), AllocError>
     ensures { OnOk result (raws.new.items ≡ raws.old.items ++ reader_without p q slot) }
 {
     if !reads_without(p, q, slot) {
         return Ok(());
     }
-    raws.push(Raw::Var(slot.var, true))?;
+    raws.push(RawLit::Var(slot.var, true))?;
     Ok(())
 }
 
 /// Adds the selection literals of a step's pairs with `p` and not `q`.
 #[tactic(auto, using(clause_core::specs::RangeLaws::loops), unfolding(enc_theory::specs::Cuts::readers_without))]
 fn push_readers_without(
-    raws: &mut Vec<Raw>,
+    raws: &mut Vec<RawLit>,
     p: u32,
     q: u32,
     step: &StepSlots,
@@ -57,17 +58,20 @@ fn push_exchange_slot(
     list: &mut ClauseList,
     p: u32,
     q: u32,
-    before: &[Raw],
+    before: &[RawLit],
     slot: Slot,
 ) -> Result<(), AllocError>
     requires slot { HasVar list.old.vars slot }
     requires before { All (IsWithin list.old.vars) before.now }
-    ensures { OnOk result (list.new ≡ record list.old { clauses = list.old.clauses ++ exchange_slot p q before.now slot }) }
+    ensures { OnOk result (list.new ≡ record list.old {
+      clauses = list.old.clauses ++
+          exchange_slot p q before.now slot;
+    }) }
 {
     if !reads_without(q, p, slot) {
         return Ok(());
     }
-    let mut raws = vec![in alloc; Raw::Var(slot.var, false)]?;
+    let mut raws = vec![in alloc; RawLit::Var(slot.var, false)]?;
     raws.extend_from_slice(before)?;
     list.push(alloc, &raws)
 }
@@ -79,12 +83,15 @@ fn push_exchange_slots(
     list: &mut ClauseList,
     p: u32,
     q: u32,
-    before: &[Raw],
+    before: &[RawLit],
     slots: &[Slot],
 ) -> Result<(), AllocError>
     requires slots { All (HasVar list.old.vars) slots.now }
     requires before { All (IsWithin list.old.vars) before.now }
-    ensures { OnOk result (list.new ≡ record list.old { clauses = list.old.clauses ++ flat_map (exchange_slot p q before.now) slots.now }) }
+    ensures { OnOk result (list.new ≡ record list.old {
+      clauses = list.old.clauses ++
+          flat_map (exchange_slot p q before.now) slots.now;
+    }) }
 {
     for slot in slots {
         push_exchange_slot(alloc, list, p, q, before, *slot)?;
@@ -102,7 +109,10 @@ fn push_exchange_steps(
     steps: &[StepSlots],
 ) -> Result<(), AllocError>
     requires slots { All (HaveVars list.old.vars) steps.now }
-    ensures { OnOk result (list.new ≡ record list.old { clauses = list.old.clauses ++ exchange_steps p q [] steps.now }) }
+    ensures { OnOk result (list.new ≡ record list.old {
+      clauses = list.old.clauses ++
+          exchange_steps p q [] steps.now;
+    }) }
 {
     let mut before = Vec::new(alloc);
     let mut left = steps;
@@ -126,7 +136,10 @@ fn push_exchange_pair(
 ) -> Result<(), AllocError>
     requires inputs { (1 ≤ p) × (p < q) × (q ≤ spec.now.n) }
     requires slots { All (HaveVars list.old.vars) steps.now }
-    ensures { OnOk result (list.new ≡ record list.old { clauses = list.old.clauses ++ exchange_pair spec.now steps.now p q }) }
+    ensures { OnOk result (list.new ≡ record list.old {
+      clauses = list.old.clauses ++
+          exchange_pair spec.now steps.now p q;
+    }) }
 {
     if may_exchange(spec, p, q) {
         return push_exchange_steps(alloc, list, p, q, steps);
@@ -145,7 +158,10 @@ fn push_exchange_with(
 ) -> Result<(), AllocError>
     requires input { (1 ≤ p) × (p ≤ spec.now.n) }
     requires slots { All (HaveVars list.old.vars) steps.now }
-    ensures { OnOk result (list.new ≡ record list.old { clauses = list.old.clauses ++ exchange_with spec.now steps.now p }) }
+    ensures { OnOk result (list.new ≡ record list.old {
+      clauses = list.old.clauses ++
+          exchange_with spec.now steps.now p;
+    }) }
 {
     let n = spec.n();
     for q in p + 1..n + 1 {

@@ -8,7 +8,7 @@ use cnf_core::Cnf;
 use enc_frame::{Layout, Pairs, push_common, sizes};
 use op_basis::Basis;
 use std::alloc::{AllocError, Global};
-use tt_core::{Spec, live_part};
+use tt_core::{Spec, live_spec};
 
 /// The formula of size `r` over the given pairs: the clauses that define chains of the live outputs, and the
 /// constraints.
@@ -23,7 +23,7 @@ pub fn formula_with_cuts<P: Pairs>(
     requires { r ≤ 16 }
     ensures { IfOk result (λ cnf. cnf ≡ with_cuts (P.pairs_of pairs.now) spec.now basis r) }
 {
-    let live = live_part(alloc, spec)?;
+    let live = live_spec(alloc, spec)?;
     // for the prover: brings in that the live part is within the bounds
     let _n = live.n();
     let z = sizes(&live, r);

@@ -27,21 +27,21 @@ ghost use Rattle.std.specs.Prelude.{◌≡◌, ◌++◌, All, OnOk};
 ghost use Rattle.enc_theory.specs.Cuts.{cuts as cuts_of};
 ghost use Rattle.enc_frame.specs.Room.{HasRoom, HasSlots, AreFor};
 
-mod again;
 mod exchange;
 mod formula;
+mod no_reapplication;
 mod order;
 mod row_zero;
 mod slots;
 mod trivial;
 mod used;
 
-use crate::again::push_again;
 use crate::exchange::push_exchange;
 pub use crate::formula::formula_with_cuts;
+use crate::no_reapplication::push_no_reapplication;
 use crate::order::push_order;
 pub use crate::row_zero::push_row_0;
-pub use crate::slots::push_bearers;
+pub use crate::slots::push_drivers;
 use crate::trivial::push_not_trivial;
 pub use crate::trivial::{push_not_idle, push_operator};
 use crate::used::push_used;
@@ -67,12 +67,15 @@ pub fn push_cuts(
     requires room { HasRoom z list.old.vars }
     requires tables { AreFor z spec.now }
     requires slots { All (HasSlots z list.old.vars) steps.now }
-    ensures { OnOk result (list.new ≡ record list.old { clauses = list.old.clauses ++ cuts_of spec.now basis z steps.now }) }
+    ensures { OnOk result (list.new ≡ record list.old {
+      clauses = list.old.clauses ++
+          cuts_of spec.now basis z steps.now;
+    }) }
 {
     push_used(alloc, list, z, steps)?;
     push_not_trivial(alloc, list, basis, z, steps)?;
     push_order(alloc, list, steps)?;
-    push_again(alloc, list, basis, steps)?;
+    push_no_reapplication(alloc, list, basis, steps)?;
     push_exchange(alloc, list, spec, steps)?;
     push_row_0(alloc, list, basis, z)
 }

@@ -1,7 +1,8 @@
 //! Co-lexicographic order: the pairs of consecutive steps never decrease.
 ghost use Rattle.std.specs.Prelude.{◌≡◌, ◌++◌, All, OnOk};
 ghost use Rattle.std.specs.List.{flat_map};
-ghost use Rattle.enc_theory.specs.Cuts.{larger as larger_of, smaller as smaller_of, comes_before as comes_before_of, order_pair, order_slot, order_with, order};
+ghost use Rattle.enc_theory.specs.Cuts.{larger as larger_of, smaller as smaller_of, comes_before as comes_before_of};
+ghost use Rattle.enc_theory.specs.Cuts.{order_pair, order_slot, order_with, order};
 ghost use Rattle.enc_cuts.specs.Vars.{HasVar, HaveVars};
 
 use crate::slots::push_not_both;
@@ -77,7 +78,10 @@ fn push_order_slots(
 ) -> Result<(), AllocError>
     requires slots { All (HasVar list.old.vars) slots.now }
     requires next { All (HasVar list.old.vars) next.now }
-    ensures { OnOk result (list.new ≡ record list.old { clauses = list.old.clauses ++ flat_map (order_slot next.now) slots.now }) }
+    ensures { OnOk result (list.new ≡ record list.old {
+      clauses = list.old.clauses ++
+          flat_map (order_slot next.now) slots.now;
+    }) }
 {
     for u in slots {
         push_order_slot(alloc, list, *u, next)?;

@@ -5,7 +5,7 @@ ghost use Rattle.enc_theory.specs.Numbering.{places};
 ghost use Rattle.enc_theory.specs.Cuts.{row_0_at, row_0};
 ghost use Rattle.enc_frame.specs.Room.{HasRoom, IsPlace};
 
-use crate::slots::push_bearers;
+use crate::slots::push_drivers;
 use clause_core::ClauseList;
 use enc_frame::x_is;
 use enc_theory::Sizes;
@@ -20,7 +20,7 @@ fn push_row_0_at(alloc: Global, list: &mut ClauseList, z: Sizes, i: u32) -> Resu
     ensures { OnOk result (list.new ≡ record list.old { clauses = list.old.clauses ++ row_0_at z i }) }
 {
     let mut raws = vec![in alloc; x_is(z, i, 0, false)]?;
-    push_bearers(&mut raws, z, i)?;
+    push_drivers(&mut raws, z, i)?;
     list.push(alloc, &raws)
 }
 
@@ -28,7 +28,10 @@ fn push_row_0_at(alloc: Global, list: &mut ClauseList, z: Sizes, i: u32) -> Resu
 #[tactic(auto, using(clause_core::specs::RangeLaws::loops))]
 fn push_rows_0(alloc: Global, list: &mut ClauseList, z: Sizes) -> Result<(), AllocError>
     requires room { HasRoom z list.old.vars }
-    ensures { OnOk result (list.new ≡ record list.old { clauses = list.old.clauses ++ flat_map (row_0_at z) (places z) }) }
+    ensures { OnOk result (list.new ≡ record list.old {
+      clauses = list.old.clauses ++
+          flat_map (row_0_at z) (places z);
+    }) }
 {
     for i in z.n + 1..z.n + 1 + z.r {
         push_row_0_at(alloc, list, z, i)?;

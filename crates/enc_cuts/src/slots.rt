@@ -1,11 +1,11 @@
 //! Tests of pairs for the constraints, and literals made from pairs.
 ghost use Rattle.std.specs.Prelude.{◌≡◌, ◌++◌, map, OnOk};
 ghost use Rattle.enc_theory.specs.Numbering.{outputs};
-ghost use Rattle.enc_theory.specs.Cuts.{bears, reads as reads_of, reads_without as reads_without_of, not_both};
+ghost use Rattle.enc_theory.specs.Cuts.{drives, reads as reads_of, reads_without as reads_without_of, not_both};
 ghost use Rattle.enc_cuts.specs.Vars.{HasVar};
 ghost use Rattle.enc_frame.specs.Room.{IsSmall, IsPlace};
 
-use clause_core::{ClauseList, Raw};
+use clause_core::{ClauseList, RawLit};
 use enc_frame::g_var;
 use enc_theory::{Sizes, Slot};
 use std::alloc::{AllocError, Global};
@@ -25,14 +25,14 @@ pub(crate) fn reads_without(p: u32, q: u32, slot: Slot) -> bool
 }
 
 /// Adds for each output the literal that the step drives it.
-#[tactic(auto, using(clause_core::specs::RangeLaws::loops), unfolding(enc_theory::specs::Cuts::bears, enc_theory::specs::Families::bearer))]
-pub fn push_bearers(raws: &mut Vec<Raw>, z: Sizes, place: u32) -> Result<(), AllocError>
+#[tactic(auto, using(clause_core::specs::RangeLaws::loops), unfolding(enc_theory::specs::Cuts::drives, enc_theory::specs::Families::driver))]
+pub fn push_drivers(raws: &mut Vec<RawLit>, z: Sizes, place: u32) -> Result<(), AllocError>
     requires small { IsSmall z }
     requires place { IsPlace z place }
-    ensures { OnOk result (raws.new.items ≡ raws.old.items ++ map (bears z place) (outputs z)) }
+    ensures { OnOk result (raws.new.items ≡ raws.old.items ++ map (drives z place) (outputs z)) }
 {
     for h in 1..z.m + 1 {
-        raws.push(Raw::Var(g_var(z, h, place), true))?;
+        raws.push(RawLit::Var(g_var(z, h, place), true))?;
     }
     Ok(())
 }
@@ -49,5 +49,8 @@ pub(crate) fn push_not_both(
     requires second { HasVar list.old.vars v }
     ensures { OnOk result (list.new ≡ record list.old { clauses = list.old.clauses ++ not_both u v }) }
 {
-    list.push(alloc, &[Raw::Var(u.var, false), Raw::Var(v.var, false)])
+    list.push(
+        alloc,
+        &[RawLit::Var(u.var, false), RawLit::Var(v.var, false)],
+    )
 }

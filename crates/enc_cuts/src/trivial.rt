@@ -3,10 +3,11 @@ ghost use Rattle.std.specs.Prelude.{◌≡◌, ◌<◌, ◌++◌, All, OnOk};
 ghost use Rattle.op_basis.specs.Closed.{const_closed};
 ghost use Rattle.std.specs.List.{flat_map};
 ghost use Rattle.enc_theory.specs.Families.{operator_raw};
-ghost use Rattle.enc_theory.specs.Cuts.{other_operator, not_idle, equal_raw, equal_slot, equal_pair, negation_raw, negations, not_trivial_at, not_trivial};
+ghost use Rattle.enc_theory.specs.Cuts.{other_operator, not_idle, equal_raw, equal_slot, equal_pair, negation_raw};
+ghost use Rattle.enc_theory.specs.Cuts.{negations, not_trivial_at, not_trivial};
 ghost use Rattle.enc_frame.specs.Room.{IsSmall, HasRoom, IsPlace, IsSlot, HasSlots};
 
-use clause_core::{ClauseList, Raw};
+use clause_core::{ClauseList, RawLit};
 use enc_frame::{StepSlots, f_var};
 use enc_theory::{Sizes, Slot};
 use op_basis::{Basis, Op};
@@ -14,15 +15,15 @@ use std::alloc::{AllocError, Global};
 
 /// Adds the literals that the operator of step `i` isn't `op`.
 #[tactic(auto, unfolding(enc_theory::specs::Families::operator_raw))]
-pub fn push_operator(raws: &mut Vec<Raw>, z: Sizes, i: u32, op: Op) -> Result<(), AllocError>
+pub fn push_operator(raws: &mut Vec<RawLit>, z: Sizes, i: u32, op: Op) -> Result<(), AllocError>
     requires small { IsSmall z }
     requires place { IsPlace z i }
     ensures { OnOk result (raws.new.items ≡ raws.old.items ++ operator_raw z i op) }
 {
-    raws.push(Raw::Var(f_var(z, i, false, false), !op.apply(false, false)))?;
-    raws.push(Raw::Var(f_var(z, i, false, true), !op.apply(false, true)))?;
-    raws.push(Raw::Var(f_var(z, i, true, false), !op.apply(true, false)))?;
-    raws.push(Raw::Var(f_var(z, i, true, true), !op.apply(true, true)))?;
+    raws.push(RawLit::Var(f_var(z, i, false, false), !op.apply(false, false)))?;
+    raws.push(RawLit::Var(f_var(z, i, false, true), !op.apply(false, true)))?;
+    raws.push(RawLit::Var(f_var(z, i, true, false), !op.apply(true, false)))?;
+    raws.push(RawLit::Var(f_var(z, i, true, true), !op.apply(true, true)))?;
     Ok(())
 }
 
@@ -87,9 +88,9 @@ fn push_equal(
     requires slot { IsSlot list.old.vars i slot }
     ensures { OnOk result (list.new ≡ record list.old { clauses = list.old.clauses ++ equal_raw constants z i slot }) }
 {
-    let no_pair = Raw::Var(slot.var, false);
-    let low = Raw::Var(f_var(z, i, false, false), true);
-    let high = Raw::Var(f_var(z, i, true, true), false);
+    let no_pair = RawLit::Var(slot.var, false);
+    let low = RawLit::Var(f_var(z, i, false, false), true);
+    let high = RawLit::Var(f_var(z, i, true, true), false);
     if !constants {
         return list.push(alloc, &[no_pair, low, high]);
     }
@@ -120,19 +121,19 @@ fn push_equal_slot(
 
 /// Adds the pair's selection literal if its operands are equal.
 #[tactic(auto, unfolding(enc_theory::specs::Cuts::equal_pair, enc_theory::specs::Families::chosen))]
-fn push_equal_pair(raws: &mut Vec<Raw>, slot: Slot) -> Result<(), AllocError>
+fn push_equal_pair(raws: &mut Vec<RawLit>, slot: Slot) -> Result<(), AllocError>
     ensures { OnOk result (raws.new.items ≡ raws.old.items ++ equal_pair slot) }
 {
     if slot.j != slot.k {
         return Ok(());
     }
-    raws.push(Raw::Var(slot.var, true))?;
+    raws.push(RawLit::Var(slot.var, true))?;
     Ok(())
 }
 
 /// Adds the selection literals of all pairs of equal operands.
 #[tactic(auto, using(clause_core::specs::RangeLaws::loops))]
-fn push_equal_pairs(raws: &mut Vec<Raw>, slots: &[Slot]) -> Result<(), AllocError>
+fn push_equal_pairs(raws: &mut Vec<RawLit>, slots: &[Slot]) -> Result<(), AllocError>
     ensures { OnOk result (raws.new.items ≡ raws.old.items ++ flat_map equal_pair slots.now) }
 {
     for slot in slots {
@@ -154,7 +155,10 @@ fn push_negation(
 ) -> Result<(), AllocError>
     requires room { HasRoom z list.old.vars }
     requires step { HasSlots z list.old.vars step.now }
-    ensures { OnOk result (list.new ≡ record list.old { clauses = list.old.clauses ++ negation_raw basis z step.now op }) }
+    ensures { OnOk result (list.new ≡ record list.old {
+      clauses = list.old.clauses ++
+          negation_raw basis z step.now op;
+    }) }
 {
     if !basis.contains(op) {
         return Ok(());
@@ -193,7 +197,10 @@ fn push_equal_slots(
 ) -> Result<(), AllocError>
     requires room { HasRoom z list.old.vars }
     requires step { HasSlots z list.old.vars step.now }
-    ensures { OnOk result (list.new ≡ record list.old { clauses = list.old.clauses ++ flat_map (equal_slot constants z step.now.place) step.now.slots }) }
+    ensures { OnOk result (list.new ≡ record list.old {
+      clauses = list.old.clauses ++
+          flat_map (equal_slot constants z step.now.place) step.now.slots;
+    }) }
 {
     for slot in step.slots() {
         push_equal_slot(alloc, list, constants, z, step.place(), *slot)?;
@@ -213,7 +220,10 @@ fn push_not_trivial_at(
 ) -> Result<(), AllocError>
     requires room { HasRoom z list.old.vars }
     requires step { HasSlots z list.old.vars step.now }
-    ensures { OnOk result (list.new ≡ record list.old { clauses = list.old.clauses ++ not_trivial_at constants basis z step.now }) }
+    ensures { OnOk result (list.new ≡ record list.old {
+      clauses = list.old.clauses ++
+          not_trivial_at constants basis z step.now;
+    }) }
 {
     push_not_idle(alloc, list, constants, basis, z, step.place())?;
     push_equal_slots(alloc, list, constants, z, step)?;

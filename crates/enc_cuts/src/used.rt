@@ -4,27 +4,27 @@ ghost use Rattle.std.specs.List.{flat_map};
 ghost use Rattle.enc_theory.specs.Cuts.{reader, readers, used_by, used};
 ghost use Rattle.enc_frame.specs.Room.{HasRoom, HasSlots};
 
-use crate::slots::{push_bearers, reads};
-use clause_core::{ClauseList, Raw};
+use crate::slots::{push_drivers, reads};
+use clause_core::{ClauseList, RawLit};
 use enc_frame::StepSlots;
 use enc_theory::{Sizes, Slot};
 use std::alloc::{AllocError, Global};
 
 /// Adds the pair's selection literal if the pair has the place.
 #[tactic(auto, unfolding(enc_theory::specs::Cuts::reader, enc_theory::specs::Families::chosen))]
-fn push_reader(raws: &mut Vec<Raw>, place: u32, slot: Slot) -> Result<(), AllocError>
+fn push_reader(raws: &mut Vec<RawLit>, place: u32, slot: Slot) -> Result<(), AllocError>
     ensures { OnOk result (raws.new.items ≡ raws.old.items ++ reader place slot) }
 {
     if !reads(slot, place) {
         return Ok(());
     }
-    raws.push(Raw::Var(slot.var, true))?;
+    raws.push(RawLit::Var(slot.var, true))?;
     Ok(())
 }
 
 /// Adds the selection literals of a step's pairs with the place.
 #[tactic(auto, using(clause_core::specs::RangeLaws::loops), unfolding(enc_theory::specs::Cuts::readers))]
-fn push_readers(raws: &mut Vec<Raw>, place: u32, step: &StepSlots) -> Result<(), AllocError>
+fn push_readers(raws: &mut Vec<RawLit>, place: u32, step: &StepSlots) -> Result<(), AllocError>
     ensures { OnOk result (raws.new.items ≡ raws.old.items ++ readers place step.now) }
 {
     for slot in step.slots() {
@@ -35,7 +35,11 @@ fn push_readers(raws: &mut Vec<Raw>, place: u32, step: &StepSlots) -> Result<(),
 
 /// Adds the selection literals of all later steps' pairs with the place.
 #[tactic(auto, using(clause_core::specs::RangeLaws::loops))]
-fn push_all_readers(raws: &mut Vec<Raw>, place: u32, steps: &[StepSlots]) -> Result<(), AllocError>
+fn push_all_readers(
+    raws: &mut Vec<RawLit>,
+    place: u32,
+    steps: &[StepSlots],
+) -> Result<(), AllocError>
     ensures { OnOk result (raws.new.items ≡ raws.old.items ++ flat_map (readers place) steps.now) }
 {
     for step in steps {
@@ -59,7 +63,7 @@ fn push_used_by(
     ensures { OnOk result (list.new ≡ record list.old { clauses = list.old.clauses ++ used_by z step.now later.now }) }
 {
     let mut raws = Vec::new(alloc);
-    push_bearers(&mut raws, z, step.place())?;
+    push_drivers(&mut raws, z, step.place())?;
     push_all_readers(&mut raws, step.place(), later)?;
     list.push(alloc, &raws)
 }

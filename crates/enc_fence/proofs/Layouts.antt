@@ -18,18 +18,24 @@ use Rattle.enc_cuts.specs.Formula.{with_cuts, live_with_cuts}
 use Rattle.enc_fence.specs.StepPairs.{step_pairs, layout-same}
 
 -- with the pairs of all places, including inputs, the layout is the fence's
-pub fence_laid : (basis : ℕ) (fence levels : List ℕ) (z : Sizes) (n : ℕ) (ordered : Bool) → n ≡ z.n → ordered ≡ swap_closed (members basis) → levels ≡ fence → layout (step_pairs ordered n levels) z ≡ fence_layout basis fence z
+pub fence_laid : (basis : ℕ) (fence levels : List ℕ) (z : Sizes) (n : ℕ) (ordered : Bool) → n ≡ z.n →
+    ordered ≡ swap_closed (members basis) → levels ≡ fence →
+    layout (step_pairs ordered n levels) z ≡ fence_layout basis fence z
 fence_laid basis fence levels z n ordered inputs is same = rw (inputs, is, same) (layout-same (swap_closed (members basis)) fence z)
 
 -- so the chain that an assignment spells over that layout is the fence's
-pub small_in : (w : Words) (basis r : ℕ) (fence : List ℕ) (v : Assignment) (z : Sizes) (steps : List StepSlots) → z ≡ sizes_of (live_words w) r → steps ≡ fence_layout basis fence z → IsSmallChain (fence_decoded w basis r fence v) → IsSmallChain (decoded w z steps v)
+pub small_in : (w : Words) (basis r : ℕ) (fence : List ℕ) (v : Assignment) (z : Sizes) (steps : List StepSlots) →
+    z ≡ sizes_of (live_words w) r → steps ≡ fence_layout basis fence z →
+    IsSmallChain (fence_decoded w basis r fence v) → IsSmallChain (decoded w z steps v)
 unfolding fence_decoded
 small_in w basis r fence v z steps sizes is small = rw (is, sizes) small
 
 pub ruleset same = (common_steps, fence_laid)
 
 -- and the formula of these pairs is the fence's
-pub fence_is : (w : Words) (basis r : ℕ) (fence levels : List ℕ) (n : ℕ) (ordered : Bool) → n ≡ w.n → ordered ≡ swap_closed (members basis) → levels ≡ fence → with_cuts (step_pairs ordered n levels) w basis r ≡ fence_formula w basis r fence
+pub fence_is : (w : Words) (basis r : ℕ) (fence levels : List ℕ) (n : ℕ) (ordered : Bool) → n ≡ w.n →
+    ordered ≡ swap_closed (members basis) → levels ≡ fence → with_cuts (step_pairs ordered n levels) w basis r ≡
+    fence_formula w basis r fence
 unfolding with_cuts live_with_cuts fence_formula fence_live
 fence_is w basis r fence levels n ordered inputs is same =
     let live = live_words w in

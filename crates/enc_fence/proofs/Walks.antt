@@ -27,7 +27,9 @@ pub ruleset walk = (common_steps, under_here, under_later, under_none)
 pub ruleset turns = (common_steps, flat_map-turn_from)
 
 -- the pairs of a step are those with a larger operand on the level below
-pub pairs_of_step : (ordered : Bool) (n : ℕ) (fence : List ℕ) (place first count : ℕ) → n < place → range_with_len first count ≡ places_under 1 n fence (place - (n + 1)) → flat_map (pairs_with ordered) (range_with_len first count) ≡ step_pairs ordered n fence place
+pub pairs_of_step : (ordered : Bool) (n : ℕ) (fence : List ℕ) (place first count : ℕ) → n < place →
+    range_with_len first count ≡ places_under 1 n fence (place - (n + 1)) →
+    flat_map (pairs_with ordered) (range_with_len first count) ≡ step_pairs ordered n fence place
 unfolding fence_pairs
 pairs_of_step ordered n fence place first count step e = ap (flat_map (pairs_with ordered)) e ∙ sym (those_of_step ordered n fence place step)
 

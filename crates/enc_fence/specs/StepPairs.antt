@@ -67,7 +67,8 @@ few_where ordered n fence place low step =
     let row = under_is_row 1 n fence (place - (n + 1)) in
     let row_low = row.low in
     let row_high = row.high in
-    let all : length (flat_map (pairs_with ordered) (range_with_len row.from row.count)) ≤ row.count * 43 = flat_map-few (pairs_with ordered) 43 row.from row.count (λ large from to. with-few ordered large (omega arith)) in
+    let all : length (flat_map (pairs_with ordered) (range_with_len row.from row.count)) ≤ row.count * 43 =
+    flat_map-few (pairs_with ordered) 43 row.from row.count (λ large from to. with-few ordered large (omega arith)) in
     subst (λ (places : List ℕ). length (flat_map (pairs_with ordered) places) ≤ 1000) (sym row.is) (omega (arith, all))
 
 pub none_of_input : (ordered : Bool) (n : ℕ) (fence : List ℕ) (place : ℕ) → place ≤ n → step_pairs ordered n fence place ≡ []

@@ -7,18 +7,18 @@ ghost use Rattle.sat_theory.specs.Formula.{bits_of};
 ghost use Rattle.op_basis.specs.Basis.{members};
 ghost use Rattle.op_basis.specs.Closed.{swap_closed};
 ghost use Rattle.enc_theory.specs.Fence.{fence_decoded};
-ghost use Rattle.enc_theory.specs.Parts.{fence_in};
+ghost use Rattle.enc_theory.specs.Subproblems.{fence_in};
 
 use crate::pairs::FencePairs;
 use chain_core::Chain;
 use cnf_core::{Assign, Cnf};
 use enc_cuts::formula_with_cuts;
 use enc_frame::{Encoding, Layout, decode, sizes};
-use enc_theory::Part;
+use enc_theory::Subproblem;
 use fence_core::fences;
 use op_basis::Basis;
 use std::alloc::{AllocError, Global};
-use tt_core::{Spec, live_part};
+use tt_core::{Spec, live_spec};
 
 /// SSV with symmetry-breaking constraints, over the pairs of a fence. A size has one subproblem for each listed
 /// fence of the live outputs, in lexicographic order.
@@ -26,26 +26,26 @@ use tt_core::{Spec, live_part};
 pub struct FenceEnc;
 
 /// The numbers of steps on the levels of a subproblem's fence.
-#[tactic(auto, unfolding(enc_theory::specs::Parts::fence_in))]
-fn levels_in(part: &Part) -> &[u32]
-    ensures { result.now ≡ fence_in part.now }
+#[tactic(auto, unfolding(enc_theory::specs::Subproblems::fence_in))]
+fn levels_in(subproblem: &Subproblem) -> &[u32]
+    ensures { result.now ≡ fence_in subproblem.now }
 {
-    match part {
-        Part::Levels(fence) => fence.levels(),
-        Part::Whole => &[],
+    match subproblem {
+        Subproblem::Levels(fence) => fence.levels(),
+        Subproblem::Whole => &[],
     }
 }
 
 /// The pairs that the steps of chains over `n` inputs may have in a subproblem's fence.
-fn pairs_in(n: u32, basis: Basis, part: &Part) -> FencePairs<'_>
+fn pairs_in(n: u32, basis: Basis, subproblem: &Subproblem) -> FencePairs<'_>
     ensures n { result.n ≡ n }
     ensures ordered { result.ordered ≡ swap_closed (members basis) }
-    ensures levels { result.levels.now ≡ fence_in part.now }
+    ensures levels { result.levels.now ≡ fence_in subproblem.now }
 {
     FencePairs {
         n,
         ordered: basis.swap_closed(),
-        levels: levels_in(part),
+        levels: levels_in(subproblem),
     }
 }
 
@@ -56,40 +56,46 @@ fn decode_in(
     spec: &Spec,
     basis: Basis,
     r: u32,
-    part: &Part,
+    subproblem: &Subproblem,
     assign: &Assign,
 ) -> Result<Chain, AllocError>
     requires size { r ≤ 16 }
-    requires chain { IsSmallChain (fence_decoded spec.now basis r (fence_in part.now) (bits_of assign.now)) }
-    ensures { IfOk result (λ chain. chain ≡ fence_decoded spec.now basis r (fence_in part.now) (bits_of assign.now)) }
+    requires chain { IsSmallChain (fence_decoded spec.now basis r (fence_in subproblem.now) (bits_of assign.now)) }
+    ensures { IfOk result (λ chain. chain ≡ fence_decoded spec.now basis r (fence_in subproblem.now)
+        (bits_of assign.now)) }
 {
-    let live = live_part(alloc, spec)?;
+    let live = live_spec(alloc, spec)?;
     let z = sizes(&live, r);
-    let layout = Layout::new(alloc, &pairs_in(live.n(), basis, part), z)?;
+    let layout = Layout::new(alloc, &pairs_in(live.n(), basis, subproblem), z)?;
     decode(alloc, spec, z, &layout.steps, assign)
 }
 
 impl Encoding for FenceEnc {
     ghost use Rattle.enc_theory.specs.Fence.{fence_formula};
-    ghost use Rattle.enc_theory.specs.Parts.{parts_for, fence_in};
+    ghost use Rattle.enc_theory.specs.Subproblems.{subproblems_for, fence_in};
     ghost use Rattle.enc_laws.specs.FenceLaws.{is_sound, is_complete};
 
-    ghost parts_of = { λ encoding w r. parts_for w r };
+    ghost subproblems_of = { λ encoding w r. subproblems_for w r };
 
-    ghost formula_of = { λ encoding w basis r part. fence_formula w basis r (fence_in part) };
+    ghost formula_of = { λ encoding w basis r subproblem. fence_formula w basis r (fence_in subproblem) };
 
-    ghost sound = { λ encoding w basis r part. is_sound w basis r part };
+    ghost sound = { λ encoding w basis r subproblem. is_sound w basis r subproblem };
 
     ghost complete = { λ encoding w basis r. is_complete w basis r };
 
-    #[tactic(auto, unfolding(enc_theory::specs::Parts::parts_for))]
-    fn parts(&self, alloc: Global, spec: &Spec, r: u32) -> Result<Vec<Part>, AllocError> {
-        let live = live_part(alloc, spec)?;
-        let mut parts = Vec::new(alloc);
+    #[tactic(auto, unfolding(enc_theory::specs::Subproblems::subproblems_for))]
+    fn subproblems(
+        &self,
+        alloc: Global,
+        spec: &Spec,
+        r: u32,
+    ) -> Result<Vec<Subproblem>, AllocError> {
+        let live = live_spec(alloc, spec)?;
+        let mut subproblems = Vec::new(alloc);
         for fence in fences(alloc, r, live.outputs())? {
-            parts.push(Part::Levels(fence))?;
+            subproblems.push(Subproblem::Levels(fence))?;
         }
-        Ok(parts)
+        Ok(subproblems)
     }
 
     #[tactic(auto, using(crate::proofs::Layouts::formulas))]
@@ -99,9 +105,9 @@ impl Encoding for FenceEnc {
         spec: &Spec,
         basis: Basis,
         r: u32,
-        part: &Part,
+        subproblem: &Subproblem,
     ) -> Result<Cnf, AllocError> {
-        let pairs = pairs_in(spec.n(), basis, part);
+        let pairs = pairs_in(spec.n(), basis, subproblem);
         formula_with_cuts(alloc, spec, basis, r, &pairs)
     }
 
@@ -111,11 +117,11 @@ impl Encoding for FenceEnc {
         spec: &Spec,
         basis: Basis,
         r: u32,
-        part: &Part,
+        subproblem: &Subproblem,
         assign: &Assign,
     ) -> Result<Chain, AllocError> {
         // for the prover: brings in that the tables are within the limits
         let _n = spec.n();
-        decode_in(alloc, spec, basis, r, part, assign)
+        decode_in(alloc, spec, basis, r, subproblem, assign)
     }
 }

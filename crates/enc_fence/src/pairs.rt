@@ -45,7 +45,8 @@ fn places_under(n: u32, levels: &[u32], k: u32) -> Places
 fn pairs_over(alloc: Global, ordered: bool, places: Places) -> Result<Vec<Pair>, AllocError>
     requires from { 1 ≤ places.first }
     requires few { places.first + places.count ≤ 22 }
-    ensures { IfOk result (λ pairs. pairs.items ≡ flat_map (pairs_with ordered) (range_with_len places.first places.count)) }
+    ensures { IfOk result (λ pairs. pairs.items ≡
+        flat_map (pairs_with ordered) (range_with_len places.first places.count)) }
 {
     let mut pairs = Vec::new(alloc);
     for large in places.first..places.first + places.count {

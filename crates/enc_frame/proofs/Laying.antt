@@ -32,7 +32,9 @@ pub laid-none : (pairs : ℕ → List Pair) (v place last : ℕ) → last ≤ pl
 unfolding laid
 laid-none pairs v place last low = let e : last - place ≡ 0 = omega arith in rw e refl
 
-pub laid-more : (pairs : ℕ → List Pair) (v place last : ℕ) → place < last → laid pairs v place (last - place) ≡ record { place = place; slots = numbered v (pairs place) } ∷ laid pairs (v + length (pairs place)) (place + 1) (last - (place + 1))
+pub laid-more : (pairs : ℕ → List Pair) (v place last : ℕ) → place < last →
+    laid pairs v place (last - place) ≡ record { place = place; slots = numbered v (pairs place) } ∷ laid pairs
+    (v + length (pairs place)) (place + 1) (last - (place + 1))
 unfolding laid
 laid-more pairs v place last low = let e : last - place ≡ suc (last - (place + 1)) = omega arith in rw e refl
 
@@ -48,7 +50,10 @@ slot_count-push (r ∷ steps) s = omega (arith, slot_count-push steps s)
 pub ruleset laying = (common_steps, laid-none, laid-more, slot_count-none, slot_count-push, length-numbered)
 
 -- One more step, followed by the layout of the rest, is the layout.
-pub laid_on : (pairs : ℕ → List Pair) (v count place last : ℕ) (own : List Pair) (slots : List Slot) (old new all : List StepSlots) → place < last → own ≡ pairs place → slots ≡ numbered v own → count ≡ length own → new ≡ old ++ record { place = place; slots = slots } ∷ [] → old ++ laid pairs v place (last - place) ≡ all → new ++ laid pairs (v + count) (place + 1) (last - (place + 1)) ≡ all
+pub laid_on : (pairs : ℕ → List Pair) (v count place last : ℕ) (own : List Pair) (slots : List Slot)
+    (old new all : List StepSlots) → place < last → own ≡ pairs place → slots ≡ numbered v own → count ≡ length own →
+    new ≡ old ++ record { place = place; slots = slots } ∷ [] → old ++ laid pairs v place (last - place) ≡ all → new ++
+    laid pairs (v + count) (place + 1) (last - (place + 1)) ≡ all
 laid_on pairs v count place last own slots old new all low is numbers long push before =
     let step : StepSlots = record { place = place; slots = numbered v (pairs place) } in
     let more : laid pairs v place (last - place) ≡ step ∷ laid pairs (v + length (pairs place)) (place + 1) (last - (place + 1)) = laid-more pairs v place last low in
@@ -70,7 +75,9 @@ slots_within vars place v (p ∷ ps) each some few =
     (record { j_from = here.j_from; j_below = here.j_below; k_from = here.k_from; k_below = here.k_below; var_from = some; var_within = omega (arith, few) })
     (slots_within vars place (v + 1) ps (All-tail (IsPair place) p ps each) (omega arith) (omega (arith, few)))
 
-laid_within : (pairs : ℕ → List Pair) (below : (place : ℕ) → All (IsPair place) (pairs place)) (z : Sizes) (vars v place count : ℕ) → z.n + 1 ≤ place → place + count ≤ z.n + 1 + z.r → 1 ≤ v → v + slot_count (laid pairs v place count) ≤ vars + 1 → All (HasSlots z vars) (laid pairs v place count)
+laid_within : (pairs : ℕ → List Pair) (below : (place : ℕ) → All (IsPair place) (pairs place)) (z : Sizes)
+    (vars v place count : ℕ) → z.n + 1 ≤ place → place + count ≤ z.n + 1 + z.r → 1 ≤ v →
+    v + slot_count (laid pairs v place count) ≤ vars + 1 → All (HasSlots z vars) (laid pairs v place count)
 unfolding laid slot_count
 laid_within pairs below z vars v place zero from to some few = All-nil (HasSlots z vars)
 laid_within pairs below z vars v place (suc count) from to some few =
@@ -81,7 +88,9 @@ laid_within pairs below z vars v place (suc count) from to some few =
     (laid_within pairs below z vars next (place + 1) count (omega arith) (omega arith) (omega arith) (omega (arith, few, own)))
 
 -- A layout's steps have pairs of places below them, whose variables are within.
-pub layout_within : (pairs : ℕ → List Pair) (below : (place : ℕ) → All (IsPair place) (pairs place)) (z : Sizes) (vars : ℕ) (steps : List StepSlots) → 1 ≤ s_first z → steps ≡ layout pairs z → vars ≡ vars_of z steps → All (HasSlots z vars) steps
+pub layout_within : (pairs : ℕ → List Pair) (below : (place : ℕ) → All (IsPair place) (pairs place)) (z : Sizes)
+    (vars : ℕ) (steps : List StepSlots) → 1 ≤ s_first z → steps ≡ layout pairs z → vars ≡ vars_of z steps →
+    All (HasSlots z vars) steps
 layout_within pairs below z vars steps some is count =
     let few : s_first z + slot_count (layout pairs z) ≤ vars + 1 = rw (count, is) (omega arith) in
     subst (λ (ss : List StepSlots). All (HasSlots z vars) ss) (sym is) (laid_within pairs below z vars (s_first z) (z.n + 1) z.r (omega arith) (omega arith) some few)

@@ -5,15 +5,15 @@ use Rattle.std.proofs.lemmas.Bool.{cases_Bool}
 use Rattle.std.proofs.lemmas.Grind.{common_steps}
 use Rattle.std.proofs.Math.Logic.{⊎_elim}
 use Rattle.sat_theory.specs.Formula.{signed}
-use Rattle.clause_core.specs.declared.raw.Raw.{Raw}
-use Rattle.clause_core.specs.declared.raw.Raw.TheVariants.{Fixed, Var}
+use Rattle.clause_core.specs.declared.raw.RawLit.{RawLit}
+use Rattle.clause_core.specs.declared.raw.RawLit.TheVariants.{Fixed, Var}
 use Rattle.clause_core.specs.Clauses.{has, simplified, listed, written}
 use Rattle.enc_theory.specs.declared.data.Sizes.{Sizes}
 use Rattle.enc_theory.specs.declared.data.Slot.{Slot}
 use Rattle.enc_theory.specs.Numbering.{x_is, f_var}
 use Rattle.enc_theory.specs.Families.{value_clause, value_raw}
 
-simplified_true : (lits : List ℤ) (before after : List Raw) → simplified lits (before ++ Fixed true ∷ after) ≡ None
+simplified_true : (lits : List ℤ) (before after : List RawLit) → simplified lits (before ++ Fixed true ∷ after) ≡ None
 unfolding simplified
 simplified_true lits [] after = refl
 simplified_true lits (Fixed true ∷ before) after = refl
@@ -26,7 +26,7 @@ simplified_true lits (Var v bit ∷ before) after = ⊎_elim
     (cases_Bool (has lits (signed v bit)))))
     (cases_Bool (has lits (signed v (not bit))))
 
-written_true : (before after : List Raw) → written (before ++ Fixed true ∷ after) ≡ []
+written_true : (before after : List RawLit) → written (before ++ Fixed true ∷ after) ≡ []
 unfolding written
 written_true before after = ap listed (simplified_true [] before after)
 

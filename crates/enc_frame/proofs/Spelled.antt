@@ -10,7 +10,7 @@ use Rattle.enc_theory.specs.declared.data.Sizes.{Sizes}
 use Rattle.enc_theory.specs.declared.data.Slot.{Slot}
 use Rattle.enc_theory.specs.Pairs.{pair}
 use Rattle.enc_theory.specs.Numbering.{g_var}
-use Rattle.enc_theory.specs.Decode.{first_pair, first_bearer}
+use Rattle.enc_theory.specs.Decode.{first_pair, first_driver}
 use Rattle.clause_core.specs.RangeLaws.{map-turn_from}
 
 -- ---- the first pair
@@ -31,19 +31,20 @@ pub ruleset pairs = (common_steps, first_pair-none, first_pair-found, first_pair
 
 -- ---- the first step for an output
 
-pub bearer-none : (z : Sizes) (v : Assignment) (h i last : ℕ) → last ≤ i → first_bearer z v h (range_with_len i (last - i)) ≡ z.n + 1
-unfolding first_bearer
-bearer-none z v h i last low = let e : last - i ≡ 0 = omega arith in rw e refl
+pub driver-none : (z : Sizes) (v : Assignment) (h i last : ℕ) → last ≤ i → first_driver z v h (range_with_len i (last - i)) ≡ z.n + 1
+unfolding first_driver
+driver-none z v h i last low = let e : last - i ≡ 0 = omega arith in rw e refl
 
-pub bearer-found : (z : Sizes) (v : Assignment) (h i last : ℕ) → i < last → v (g_var z h i) ≡ true → first_bearer z v h (range_with_len i (last - i)) ≡ i
-unfolding first_bearer
-bearer-found z v h i last low is = let e : last - i ≡ suc (last - (i + 1)) = omega arith in rw e (rw is refl)
+pub driver-found : (z : Sizes) (v : Assignment) (h i last : ℕ) → i < last → v (g_var z h i) ≡ true → first_driver z v h (range_with_len i (last - i)) ≡ i
+unfolding first_driver
+driver-found z v h i last low is = let e : last - i ≡ suc (last - (i + 1)) = omega arith in rw e (rw is refl)
 
-pub bearer-next : (z : Sizes) (v : Assignment) (h i last : ℕ) → i < last → v (g_var z h i) ≡ false → first_bearer z v h (range_with_len i (last - i)) ≡ first_bearer z v h (range_with_len (i + 1) (last - (i + 1)))
-unfolding first_bearer
-bearer-next z v h i last low is = let e : last - i ≡ suc (last - (i + 1)) = omega arith in rw e (rw is refl)
+pub driver-next : (z : Sizes) (v : Assignment) (h i last : ℕ) → i < last → v (g_var z h i) ≡ false →
+    first_driver z v h (range_with_len i (last - i)) ≡ first_driver z v h (range_with_len (i + 1) (last - (i + 1)))
+unfolding first_driver
+driver-next z v h i last low is = let e : last - i ≡ suc (last - (i + 1)) = omega arith in rw e (rw is refl)
 
-pub ruleset bearers = (common_steps, bearer-none, bearer-found, bearer-next)
+pub ruleset drivers = (common_steps, driver-none, driver-found, driver-next)
 
 -- ---- live outputs among the first
 

@@ -6,12 +6,15 @@ use Rattle.chain_theory.specs.declared.data.Cell.{Cell}
 use Rattle.chain_theory.specs.declared.data.Cell.TheVariants.{Zero, One, Free}
 use Rattle.op_basis.specs.Basis.{members}
 use Rattle.tt_core.specs.Words.{Words, cell_of}
-use Rattle.clause_core.specs.declared.raw.Raw.{Raw}
+use Rattle.clause_core.specs.declared.raw.RawLit.{RawLit}
 use Rattle.enc_theory.specs.declared.data.Sizes.{Sizes}
 use Rattle.enc_theory.specs.declared.data.Slot.{Slot}
 use Rattle.clause_core.specs.Clauses.{written}
 use Rattle.enc_theory.specs.Pairs.{StepSlots, slot_count}
-use Rattle.enc_theory.specs.Families.{out_exists_at, out_exists, out_value_is, out_value_at, out_value, out_values_of, out_values_at, out_values, pair_exists_at, pair_exists, value_raw, value_clause, value_bit, value_row, value_slot, value_step, values, operator_raw, operator_clause, operators_at, operators, common}
+use Rattle.enc_theory.specs.Families.{out_exists_at, out_exists, out_value_is, out_value_at, out_value, out_values_of}
+use Rattle.enc_theory.specs.Families.{out_values_at, out_values, pair_exists_at, pair_exists, value_raw, value_clause}
+use Rattle.enc_theory.specs.Families.{value_bit, value_row, value_slot, value_step, values, operator_raw}
+use Rattle.enc_theory.specs.Families.{operator_clause, operators_at, operators, common}
 use Rattle.enc_frame.specs.Room.{IsSmall}
 use Rattle.enc_frame.specs.BoundLaws.{rows_few}
 use Rattle.clause_core.specs.CountLaws.{flat_map-few, pieces-few, written-few}
@@ -54,7 +57,14 @@ pair_exists-few steps = let all : length (flat_map pair_exists_at steps) ≤ len
 
 value_bit-few : (z : Sizes) (i : ℕ) (u : Slot) (t : ℕ) (a : Bool) → length (value_bit z i u t a) ≤ 4
 unfolding value_bit value_clause
-value_bit-few z i u t a = rw (length-append, length-append, length-append) (omega (arith, written-few (value_raw z i u t a false false), written-few (value_raw z i u t a false true), written-few (value_raw z i u t a true false), written-few (value_raw z i u t a true true)))
+value_bit-few z i u t a = rw (length-append, length-append, length-append)
+    (omega (
+      arith,
+      written-few (value_raw z i u t a false false),
+      written-few (value_raw z i u t a false true),
+      written-few (value_raw z i u t a true false),
+      written-few (value_raw z i u t a true true),
+    ))
 
 value_row-few : (z : Sizes) (i : ℕ) (u : Slot) (t : ℕ) → length (value_row z i u t) ≤ 8
 unfolding value_row
@@ -74,14 +84,16 @@ values-few z (s ∷ steps) small =
     let rest : length (flat_map (value_step z) steps) ≤ slot_count steps * 512 = values-few z steps small in
     rw length-append (omega (arith, own, rest))
 
-clause_if-few : (member : Bool) (raws : List Raw) → length (if member then [] else written raws) ≤ 1
+clause_if-few : (member : Bool) (raws : List RawLit) → length (if member then [] else written raws) ≤ 1
 clause_if-few true raws = omega arith
 clause_if-few false raws = written-few raws
 
 operators_at-few : (basis : ℕ) (z : Sizes) (i : ℕ) → length (operators_at basis z i) ≤ 16
 unfolding operators_at operator_clause
 operators_at-few basis z i =
-    let all : length (flat_map (operator_clause basis z i) (range_with_len 0 16)) ≤ 16 * 1 = flat_map-few (operator_clause basis z i) 1 0 16 (λ op low high. clause_if-few (members basis op) (operator_raw z i op)) in
+    let all : length (flat_map (operator_clause basis z i) (range_with_len 0 16)) ≤ 16 * 1 =
+    flat_map-few (operator_clause basis z i) 1 0 16 (λ op low high.
+    clause_if-few (members basis op) (operator_raw z i op)) in
     omega (arith, all)
 
 pub operators-few : (basis : ℕ) (z : Sizes) → IsSmall z → length (operators basis z) ≤ 256

@@ -38,11 +38,13 @@ of-few false large small = omega arith
 pub with-few : (ordered : Bool) (large : ℕ) → large ≤ 21 → length (pairs_with ordered large) ≤ 43
 unfolding pairs_with
 with-few ordered large low =
-    let others : length (flat_map (pairs_of ordered large) (range_with_len 1 (large - 1))) ≤ (large - 1) * 2 = flat_map-few (pairs_of ordered large) 2 1 (large - 1) (λ small from to. of-few ordered large small) in
+    let others : length (flat_map (pairs_of ordered large) (range_with_len 1 (large - 1))) ≤ (large - 1) * 2 =
+    flat_map-few (pairs_of ordered large) 2 1 (large - 1) (λ small from to. of-few ordered large small) in
     omega (arith, others)
 
 pub pairs_below-few : (ordered : Bool) (place : ℕ) → place ≤ 22 → length (pairs_below ordered place) ≤ 1000
 unfolding pairs_below
 pairs_below-few ordered place low =
-    let all : length (flat_map (pairs_with ordered) (range_with_len 1 (place - 1))) ≤ (place - 1) * 43 = flat_map-few (pairs_with ordered) 43 1 (place - 1) (λ large from to. with-few ordered large (omega arith)) in
+    let all : length (flat_map (pairs_with ordered) (range_with_len 1 (place - 1))) ≤ (place - 1) * 43 =
+    flat_map-few (pairs_with ordered) 43 1 (place - 1) (λ large from to. with-few ordered large (omega arith)) in
     omega (arith, all)

@@ -5,7 +5,9 @@ ghost use Rattle.sat_theory.specs.Formula.{bits_of};
 ghost use Rattle.tt_core.specs.Live.{live_among};
 ghost use Rattle.tt_core.specs.Words.{specification};
 ghost use Rattle.enc_theory.specs.Numbering.{places, outputs};
-ghost use Rattle.enc_theory.specs.Decode.{first_pair as first_pair_of, operator_in, decoded_step as decoded_step_of, first_bearer as first_bearer_of, decoded_out, restored_at, restored as restored_of, with_outs as with_outs_of, decoded};
+ghost use Rattle.enc_theory.specs.Decode.{first_pair as first_pair_of, operator_in, decoded_step as decoded_step_of};
+ghost use Rattle.enc_theory.specs.Decode.{first_driver as first_driver_of, decoded_out, restored_at};
+ghost use Rattle.enc_theory.specs.Decode.{restored as restored_of, with_outs as with_outs_of, decoded};
 ghost use Rattle.enc_frame.specs.Room.{IsSmall, IsPlace, HasPlace};
 
 use crate::layout::StepSlots;
@@ -96,11 +98,11 @@ fn decoded_steps(
 }
 
 /// The first step whose variable for output `h` is true.
-#[tactic(auto, using(crate::proofs::Spelled::bearers))]
-fn first_bearer(bits: &[bool], z: Sizes, h: u32) -> u32
+#[tactic(auto, using(crate::proofs::Spelled::drivers))]
+fn first_driver(bits: &[bool], z: Sizes, h: u32) -> u32
     requires small { IsSmall z }
     requires output { (1 ≤ h) × (h ≤ z.m) }
-    ensures { result ≡ first_bearer_of z (bits_of bits.now) h (places z) }
+    ensures { result ≡ first_driver_of z (bits_of bits.now) h (places z) }
 {
     for place in z.n + 1..z.n + 1 + z.r {
         if bit(bits, g_var(z, h, place)) {
@@ -118,7 +120,7 @@ fn live_outs(alloc: Global, bits: &[bool], z: Sizes) -> Result<Vec<Out>, AllocEr
 {
     let mut outs = Vec::new(alloc);
     for h in 1..z.m + 1 {
-        outs.push(Out::Place(first_bearer(bits, z, h)))?;
+        outs.push(Out::Place(first_driver(bits, z, h)))?;
     }
     Ok(outs)
 }

@@ -1,19 +1,21 @@
 //! The clauses that define chains.
 ghost use Rattle.std.specs.Prelude.{◌≡◌, ◌+◌, ◌^◌, ◌<◌, ◌≤◌, ◌++◌, All, OnOk};
-ghost use Rattle.enc_theory.specs.Families.{out_exists_at, out_exists, out_value_is, out_value, out_values_of, out_values_at, out_values, pair_exists_at, pair_exists, operator_raw, operator_clause, operators_at, operators, common};
+ghost use Rattle.enc_theory.specs.Families.{out_exists_at, out_exists, out_value_is, out_value, out_values_of};
+ghost use Rattle.enc_theory.specs.Families.{out_values_at, out_values, pair_exists_at, pair_exists, operator_raw};
+ghost use Rattle.enc_theory.specs.Families.{operator_clause, operators_at, operators, common};
 ghost use Rattle.enc_frame.specs.Room.{HasRoom, IsPlace, HasSlots, AreFor};
 
 use crate::layout::StepSlots;
 use crate::values::push_values;
 use crate::vars::{f_var, g_var, rows, x_is};
-use clause_core::{ClauseList, Raw};
+use clause_core::{ClauseList, RawLit};
 use enc_theory::Sizes;
 use op_basis::{Basis, Op};
 use std::alloc::{AllocError, Global};
 use tt_core::{Cell, Spec, row};
 
 /// The clause that some step drives output `h`.
-#[tactic(auto, using(clause_core::specs::RangeLaws::loops), unfolding(enc_theory::specs::Families::out_exists_at, enc_theory::specs::Families::bearer))]
+#[tactic(auto, using(clause_core::specs::RangeLaws::loops), unfolding(enc_theory::specs::Families::out_exists_at, enc_theory::specs::Families::driver))]
 fn push_out_exists_at(
     alloc: Global,
     list: &mut ClauseList,
@@ -26,7 +28,7 @@ fn push_out_exists_at(
 {
     let mut raws = Vec::new(alloc);
     for i in z.n + 1..z.n + 1 + z.r {
-        raws.push(Raw::Var(g_var(z, h, i), true))?;
+        raws.push(RawLit::Var(g_var(z, h, i), true))?;
     }
     list.push(alloc, &raws)
 }
@@ -62,7 +64,7 @@ fn push_out_value_is(
 {
     list.push(
         alloc,
-        &[Raw::Var(g_var(z, h, i), false), x_is(z, i, t, bit)],
+        &[RawLit::Var(g_var(z, h, i), false), x_is(z, i, t, bit)],
     )
 }
 
@@ -165,7 +167,7 @@ fn push_pair_exists_at(
 {
     let mut raws = Vec::new(alloc);
     for slot in step.slots() {
-        raws.push(Raw::Var(slot.var, true))?;
+        raws.push(RawLit::Var(slot.var, true))?;
     }
     list.push(alloc, &raws)
 }
@@ -208,10 +210,10 @@ fn push_operator_clause(
     list.push(
         alloc,
         &[
-            Raw::Var(f_var(z, i, false, false), !op.apply(false, false)),
-            Raw::Var(f_var(z, i, false, true), !op.apply(false, true)),
-            Raw::Var(f_var(z, i, true, false), !op.apply(true, false)),
-            Raw::Var(f_var(z, i, true, true), !op.apply(true, true)),
+            RawLit::Var(f_var(z, i, false, false), !op.apply(false, false)),
+            RawLit::Var(f_var(z, i, false, true), !op.apply(false, true)),
+            RawLit::Var(f_var(z, i, true, false), !op.apply(true, false)),
+            RawLit::Var(f_var(z, i, true, true), !op.apply(true, true)),
         ],
     )
 }
@@ -267,7 +269,10 @@ pub fn push_common(
     requires room { HasRoom z list.old.vars }
     requires tables { AreFor z spec.now }
     requires slots { All (HasSlots z list.old.vars) steps.now }
-    ensures { OnOk result (list.new ≡ record list.old { clauses = list.old.clauses ++ common spec.now basis z steps.now }) }
+    ensures { OnOk result (list.new ≡ record list.old {
+      clauses = list.old.clauses ++
+          common spec.now basis z steps.now;
+    }) }
 {
     push_out_exists(alloc, list, z)?;
     push_out_values(alloc, list, spec, z)?;

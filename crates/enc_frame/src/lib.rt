@@ -29,7 +29,7 @@ mod vars;
 
 pub use cut_set::{CutSet, cuts};
 pub use decoding::{bit, decode, operator, with_outs};
-pub use enc_theory::Part;
+pub use enc_theory::Subproblem;
 pub use encoding::Encoding;
 pub use families::{push_common, push_operators, push_out_exists, push_out_values};
 pub use layout::{Layout, StepSlots};

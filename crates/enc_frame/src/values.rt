@@ -1,19 +1,19 @@
 //! The clauses that the value of a step is its operator's value at its operands' values.
 ghost use Rattle.std.specs.Prelude.{◌≡◌, ◌+◌, ◌^◌, ◌<◌, ◌≤◌, ◌++◌, true, false, All, IsTrue, OnOk};
-ghost use Rattle.clause_core.specs.declared.raw.Raw.TheVariants.{Fixed};
+ghost use Rattle.clause_core.specs.declared.raw.RawLit.TheVariants.{Fixed};
 ghost use Rattle.enc_theory.specs.Families.{value_clause, value_row, value_slot, value_step, values};
 ghost use Rattle.enc_theory.specs.Numbering.{x_is as x_is_of};
 ghost use Rattle.enc_frame.specs.Room.{IsSmall, HasRoom, IsPlace, IsSlot, HasSlots};
 
 use crate::layout::StepSlots;
 use crate::vars::{f_var, rows, x_is};
-use clause_core::{ClauseList, Raw};
+use clause_core::{ClauseList, RawLit};
 use enc_theory::{Sizes, Slot};
 use std::alloc::{AllocError, Global};
 
 /// The subject of a value clause: a step, a pair that it may have, and a row.
 #[derive(Clone, Copy)]
-struct At {
+struct ValuePosition {
     step: u32,
     slot: Slot,
     row: u32,
@@ -27,8 +27,8 @@ fn is_certain(z: Sizes, j: u32, t: u32, bit: bool) -> bool
     ensures { IsTrue result → x_is_of z j t bit ≡ Fixed true }
 {
     match x_is(z, j, t, bit) {
-        Raw::Fixed(certain) => certain,
-        Raw::Var(_, _) => false,
+        RawLit::Fixed(certain) => certain,
+        RawLit::Var(_, _) => false,
     }
 }
 
@@ -39,7 +39,7 @@ fn push_value_clause(
     alloc: Global,
     list: &mut ClauseList,
     z: Sizes,
-    at: At,
+    at: ValuePosition,
     a: bool,
     b: bool,
     c: bool,
@@ -48,7 +48,10 @@ fn push_value_clause(
     requires place { IsPlace z at.step }
     requires slot { IsSlot list.old.vars at.step at.slot }
     requires row { at.row < 2 ^ z.n }
-    ensures { OnOk result (list.new ≡ record list.old { clauses = list.old.clauses ++ value_clause z at.step at.slot at.row a b c }) }
+    ensures { OnOk result (list.new ≡ record list.old {
+      clauses = list.old.clauses ++
+          value_clause z at.step at.slot at.row a b c;
+    }) }
 {
     if is_certain(z, at.slot.k, at.row, !c) {
         return Ok(());
@@ -56,11 +59,11 @@ fn push_value_clause(
     list.push(
         alloc,
         &[
-            Raw::Var(at.slot.var, false),
+            RawLit::Var(at.slot.var, false),
             x_is(z, at.step, at.row, !a),
             x_is(z, at.slot.j, at.row, !b),
             x_is(z, at.slot.k, at.row, !c),
-            Raw::Var(f_var(z, at.step, b, c), a),
+            RawLit::Var(f_var(z, at.step, b, c), a),
         ],
     )
 }
@@ -72,7 +75,7 @@ fn push_value_half(
     alloc: Global,
     list: &mut ClauseList,
     z: Sizes,
-    at: At,
+    at: ValuePosition,
     a: bool,
     b: bool,
 ) -> Result<(), AllocError>
@@ -80,7 +83,10 @@ fn push_value_half(
     requires place { IsPlace z at.step }
     requires slot { IsSlot list.old.vars at.step at.slot }
     requires row { at.row < 2 ^ z.n }
-    ensures { OnOk result (list.new ≡ record list.old { clauses = list.old.clauses ++ (value_clause z at.step at.slot at.row a b false ++ value_clause z at.step at.slot at.row a b true) }) }
+    ensures { OnOk result (list.new ≡ record list.old {
+      clauses = list.old.clauses ++
+          (value_clause z at.step at.slot at.row a b false ++ value_clause z at.step at.slot at.row a b true);
+    }) }
 {
     if is_certain(z, at.slot.j, at.row, !b) {
         return Ok(());
@@ -91,12 +97,20 @@ fn push_value_half(
 
 /// The eight clauses of a row.
 #[tactic(auto, using(crate::proofs::Skipped::skipping), unfolding(enc_theory::specs::Families::value_row, enc_theory::specs::Families::value_bit))]
-fn push_value_row(alloc: Global, list: &mut ClauseList, z: Sizes, at: At) -> Result<(), AllocError>
+fn push_value_row(
+    alloc: Global,
+    list: &mut ClauseList,
+    z: Sizes,
+    at: ValuePosition,
+) -> Result<(), AllocError>
     requires room { HasRoom z list.old.vars }
     requires place { IsPlace z at.step }
     requires slot { IsSlot list.old.vars at.step at.slot }
     requires row { at.row < 2 ^ z.n }
-    ensures { OnOk result (list.new ≡ record list.old { clauses = list.old.clauses ++ value_row z at.step at.slot at.row }) }
+    ensures { OnOk result (list.new ≡ record list.old {
+      clauses = list.old.clauses ++
+          value_row z at.step at.slot at.row;
+    }) }
 {
     push_value_half(alloc, list, z, at, false, false)?;
     push_value_half(alloc, list, z, at, false, true)?;
@@ -119,7 +133,7 @@ fn push_value_slot(
     ensures { OnOk result (list.new ≡ record list.old { clauses = list.old.clauses ++ value_slot z step slot }) }
 {
     for row in 0..rows(z) {
-        push_value_row(alloc, list, z, At { step, slot, row })?;
+        push_value_row(alloc, list, z, ValuePosition { step, slot, row })?;
     }
     Ok(())
 }

@@ -1,11 +1,12 @@
 //! The numbers of a formula's variables.
 ghost use Rattle.std.specs.Prelude.{◌≡◌, ℕ, ◌+◌, ◌^◌, ◌<◌, ◌≤◌};
-ghost use Rattle.enc_theory.specs.Numbering.{sizes_of, x_var as x_var_of, g_var as g_var_of, f_first as f_first_of, f_var as f_var_of, s_first as s_first_of, x_is as x_is_of};
+ghost use Rattle.enc_theory.specs.Numbering.{sizes_of, x_var as x_var_of, g_var as g_var_of, f_first as f_first_of};
+ghost use Rattle.enc_theory.specs.Numbering.{f_var as f_var_of, s_first as s_first_of, x_is as x_is_of};
 ghost use Rattle.enc_frame.specs.Room.{IsSmall, HasRoom, IsPlace};
 ghost use Rattle.clause_core.specs.Clauses.{IsWithin};
 
 use chain_theory::plain::input;
-use clause_core::Raw;
+use clause_core::RawLit;
 use enc_theory::Sizes;
 use tt_core::Spec;
 
@@ -89,7 +90,7 @@ pub fn s_first(z: Sizes) -> u32
 
 /// The literal, or constant, that place `j` has the bit on row `t`.
 #[tactic(auto, unfolding(enc_theory::specs::Numbering::x_is, clause_core::specs::Clauses::IsWithin))]
-pub fn x_is(z: Sizes, j: u32, t: u32, bit: bool) -> Raw
+pub fn x_is(z: Sizes, j: u32, t: u32, bit: bool) -> RawLit
     requires small { IsSmall z }
     requires place { (1 ≤ j) × (j < z.n + 1 + z.r) }
     requires row { t < 2 ^ z.n }
@@ -97,8 +98,8 @@ pub fn x_is(z: Sizes, j: u32, t: u32, bit: bool) -> Raw
     ensures within { (vars : ℕ) → HasRoom z vars → IsWithin vars result }
 {
     if j <= z.n {
-        Raw::Fixed(if input(z.n, t, j) { bit } else { !bit })
+        RawLit::Fixed(if input(z.n, t, j) { bit } else { !bit })
     } else {
-        Raw::Var(x_var(z, j, t), bit)
+        RawLit::Var(x_var(z, j, t), bit)
     }
 }

@@ -25,7 +25,7 @@ unfolding s_first
 s_positive z = omega arith
 
 pub slot_positive : (z : Sizes) (steps : List StepSlots) (s : StepSlots) (u : Slot) → IsLaid z steps → IsSlotOf steps s u → 1 ≤ u.var
-slot_positive z steps s u laid is = omega (arith, s_positive z, laid.behind s u is)
+slot_positive z steps s u laid is = omega (arith, s_positive z, laid.bits_after s u is)
 
 pub x_below : (z : Sizes) (i t : ℕ) → IsStepPlace z i → t < 2 ^ z.n → x_var z i t < s_first z
 unfolding x_var s_first

@@ -55,10 +55,10 @@ module _ (z : Sizes) (value : ℕ → ℕ → Bool) (out : ℕ → ℕ → Bool)
 
   pub built_s : (x : ℕ) → s_first z ≤ x → built z value out operator rest x ≡ rest x
   unfolding built s_first
-  built_s x behind =
+  built_s x bits_after =
       let above_g : f_first z ≤ x = omega arith in
       let above_x : x_count z + 1 ≤ x = omega arith in
-      rw (le-ltb x (x_count z + 1) above_x, le-ltb x (f_first z) above_g, le-ltb x (f_first z + 4 * z.r) behind) refl
+      rw (le-ltb x (x_count z + 1) above_x, le-ltb x (f_first z) above_g, le-ltb x (f_first z + 4 * z.r) bits_after) refl
 
   pub built_x : (i t : ℕ) → IsStepPlace z i → t < 2 ^ z.n → built z value out operator rest (x_var z i t) ≡ value i t
   unfolding x_var

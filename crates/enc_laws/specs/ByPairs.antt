@@ -4,7 +4,7 @@ use Rattle.std.specs.Prelude.{slice_get}
 use Rattle.chain_theory.specs.Chain.{Step, Chain}
 use Rattle.chain_theory.specs.Agreement.{HasChain, IsMinimum}
 use Rattle.op_basis.specs.Basis.{members}
-use Rattle.chain_laws.specs.Reduced.{IsReduced}
+use Rattle.chain_laws.specs.NormalForm.{IsNormalForm}
 use Rattle.sat_theory.specs.Formula.{Formula, IsFormula, Assignment, Satisfies}
 use Rattle.tt_core.specs.Words.{Words, specification}
 use Rattle.tt_core.specs.Live.{live_words}
@@ -63,7 +63,9 @@ module _ (pairs : ℕ → List Pair) (w : Words) (basis r : ℕ) (below : AreBel
   pub by_pairs_decodes : (v : Assignment) → Satisfies v (formula_by pairs (live_words w) basis r) → IsFor w basis r (decoded w (sizes_of (live_words w) r) (layout pairs (sizes_of (live_words w) r)) v)
   by_pairs_decodes v satisfies =
       let z : Sizes = sizes_of (live_words w) r in
-      let (chain, cut) = holds_both v (common (live_words w) basis z (layout pairs z)) (cuts (live_words w) basis z (layout pairs z)) (holds_satisfied v (formula_by pairs (live_words w) basis r) satisfies) in
+      let (chain, cut) = holds_both v (common (live_words w) basis z (layout pairs z))
+      (cuts (live_words w) basis z (layout pairs z))
+      (holds_satisfied v (formula_by pairs (live_words w) basis r) satisfies) in
       decoded_is_for w basis r (layout pairs z) v (layout_is_laid pairs z below) chain
 
   -- Each step that is spelled has one of its given pairs.
@@ -72,14 +74,18 @@ module _ (pairs : ℕ → List Pair) (w : Words) (basis r : ℕ) (below : AreBel
   by_pairs_has_pair v satisfies i d at =
       let z : Sizes = sizes_of (live_words w) r in
       let laid = layout_is_laid pairs z below in
-      let (chain, cut) = holds_both v (common (live_words w) basis z (layout pairs z)) (cuts (live_words w) basis z (layout pairs z)) (holds_satisfied v (formula_by pairs (live_words w) basis r) satisfies) in
+      let (chain, cut) = holds_both v (common (live_words w) basis z (layout pairs z))
+      (cuts (live_words w) basis z (layout pairs z))
+      (holds_satisfied v (formula_by pairs (live_words w) basis r) satisfies) in
       let is = decoded_is (live_words w) basis z (layout pairs z) v i d laid (solves_from (live_words w) basis z (layout pairs z) v laid chain) at in
       let slot = laid_slot pairs (s_first z) (z.n + 1) z.r is.from is.slot is.has in
       subst (λ (place : ℕ). Contains (pairs place) (pair d.j d.k)) is.place (subst (λ (s : Step). Contains (pairs is.from.place) (pair s.j s.k)) (sym is.is) slot.has)
 
   -- The assignment of a chain in normal form satisfies the formula.
-  pub reduced_satisfies : (c : Chain) → IsFor (live_words w) basis r c → IsReduced (members basis) (specification (live_words w)) c → IsAllowed pairs (live_words w) r c → IsSatisfiable (formula_by pairs (live_words w) basis r)
-  reduced_satisfies c is reduced allowed =
+  pub normal_form_satisfies : (c : Chain) → IsFor (live_words w) basis r c →
+      IsNormalForm (members basis) (specification (live_words w)) c → IsAllowed pairs (live_words w) r c →
+      IsSatisfiable (formula_by pairs (live_words w) basis r)
+  normal_form_satisfies c is normal_form allowed =
       let z : Sizes = sizes_of (live_words w) r in
       let v : Assignment = assignment_of z (layout pairs z) c in
       let placed : IsPlaced (live_words w) basis r (layout pairs z) c = record { is = is; laid = layout_is_laid pairs z below; pairs = allowed_pairs pairs (live_words w) r c below allowed } in (
@@ -87,7 +93,7 @@ module _ (pairs : ℕ → List Pair) (w : Words) (basis r : ℕ) (below : AreBel
         satisfied_holds v (formula_by pairs (live_words w) basis r)
             (both_hold v (common (live_words w) basis z (layout pairs z)) (cuts (live_words w) basis z (layout pairs z))
             (chain_satisfies pairs (live_words w) basis r c below (part_is_all_live w) is allowed)
-            (cuts_hold (live_words w) basis r (layout pairs z) c placed reduced)),
+            (cuts_hold (live_words w) basis r (layout pairs z) c placed normal_form)),
       )
 
   pub by_pairs_is_formula : IsFormula (formula_by pairs (live_words w) basis r)

@@ -9,11 +9,17 @@ use Rattle.enc_theory.specs.declared.data.Sizes.{Sizes}
 use Rattle.clause_core.specs.Clauses.{written}
 use Rattle.enc_theory.specs.Numbering.{places, rows, f_var}
 use Rattle.enc_theory.specs.Families.{out_exists, out_values, operators}
-use Rattle.enc_theory.specs.Select.{choice_var, value_var, below, chooses, choice_exists, choices_exist, operands_exist, copy_raw, copy_row, copy_place, copy_step, copies, result_raw, result_clause, result_bit, result_row, result_step, results, chosen_chain}
-use Rattle.clause_core.specs.Holds.{holds, holds_both, both_hold, holds_each, each_holds, same, raw_value, raws_bit, raws_bit-map, holds-written, positive-map, any_get, any_make, range_contains, range_inside}
+use Rattle.enc_theory.specs.Select.{choice_var, value_var, below, chooses, choice_exists, choices_exist, operands_exist}
+use Rattle.enc_theory.specs.Select.{copy_raw, copy_row, copy_place, copy_step, copies, result_raw, result_clause}
+use Rattle.enc_theory.specs.Select.{result_bit, result_row, result_step, results, chosen_chain}
+use Rattle.clause_core.specs.Holds.{holds, holds_both, both_hold, holds_each, each_holds, same, raw_value, raws_bit}
+use Rattle.clause_core.specs.Holds.{raws_bit-map, holds-written, positive-map, any_get, any_make, range_contains}
+use Rattle.clause_core.specs.Holds.{range_inside}
 use Rattle.enc_laws.specs.Bounds.{f_positive}
 use Rattle.enc_laws.specs.Layouts.{IsStepPlace}
-use Rattle.enc_laws.specs.Solves.{x_bit, MeetsTables, place_there, there_place, row_there, there_row, x_is_positive, x_is_value, clause_of, clause_gives, gives_clause, meets_from, bearers_hold, outs_hold, operators_hold}
+use Rattle.enc_laws.specs.Solves.{x_bit, MeetsTables, place_there, there_place, row_there, there_row, x_is_positive}
+use Rattle.enc_laws.specs.Solves.{x_is_value, clause_of, clause_gives, gives_clause, meets_from, drivers_hold}
+use Rattle.enc_laws.specs.Solves.{outs_hold, operators_hold}
 use Rattle.enc_laws.specs.SelectVars.{IsBelow, choice_positive, value_positive}
 
 -- The assignment gives each step a lower place for each operand, the operand the value of that place, and the
@@ -39,7 +45,9 @@ is_below z i j place c = let (from, to) = there_below i j c in record { place = 
 
 choice_bits : (z : Sizes) (v : Assignment) (side : Side) (i : ℕ) → holds v (choice_exists z i side) ≡ list_any (λ j. v (choice_var z side i j)) (below i)
 unfolding choice_exists chooses raw_value same
-choice_bits z v side i = holds-written v (map (chooses z side i) (below i)) (positive-map (chooses z side i) (below i) (λ j c. choice_positive z side i j)) ∙ raws_bit-map v (chooses z side i) (below i)
+choice_bits z v side i = holds-written v (map (chooses z side i) (below i))
+    (positive-map (chooses z side i) (below i) (λ j c. choice_positive z side i j))
+    ∙ raws_bit-map v (chooses z side i) (below i)
 
 choice_of_side : (z : Sizes) (v : Assignment) (side : Side) (i : ℕ) → holds v (choices_exist z i) ≡ true → holds v (choice_exists z i side) ≡ true
 unfolding choices_exist
@@ -64,7 +72,9 @@ choice_make z v each = each_holds v (choices_exist z) (places z) (λ i c.
 
 -- ---- an operand has the value of its place
 
-copy_bits : (z : Sizes) (v : Assignment) (side : Side) (i j t : ℕ) (e : Bool) → holds v (written (copy_raw z side i j t e)) ≡ (not (v (choice_var z side i j)) || (same (v (value_var z side i t)) e || (same (x_bit z v j t) (not e) || false)))
+copy_bits : (z : Sizes) (v : Assignment) (side : Side) (i j t : ℕ) (e : Bool) →
+    holds v (written (copy_raw z side i j t e)) ≡ (not (v (choice_var z side i j)) ||
+    (same (v (value_var z side i t)) e || (same (x_bit z v j t) (not e) || false)))
 unfolding copy_raw raws_bit raw_value same
 copy_bits z v side i j t e =
     holds-written v (copy_raw z side i j t e) (choice_positive z side i j, (value_positive z side i t, (x_is_positive z j t (not e), tt)))
@@ -92,7 +102,8 @@ unfolding copy_row
 copy_row_get z v side i j t true all = (holds_both v (written (copy_raw z side i j t false)) (written (copy_raw z side i j t true)) all).1
 copy_row_get z v side i j t false all = (holds_both v (written (copy_raw z side i j t false)) (written (copy_raw z side i j t true)) all).0
 
-copy_get : (z : Sizes) (v : Assignment) (side : Side) (i j t : ℕ) → holds v (copies z side) ≡ true → IsBelow z i j → t < 2 ^ z.n → v (choice_var z side i j) ≡ true → v (value_var z side i t) ≡ x_bit z v j t
+copy_get : (z : Sizes) (v : Assignment) (side : Side) (i j t : ℕ) → holds v (copies z side) ≡ true → IsBelow z i j →
+    t < 2 ^ z.n → v (choice_var z side i j) ≡ true → v (value_var z side i t) ≡ x_bit z v j t
 unfolding copies copy_step copy_place
 copy_get z v side i j t all is row true_ =
     let at_i = holds_each v (copy_step z side) (places z) i all (place_there z i is.place) in
@@ -100,7 +111,9 @@ copy_get z v side i j t all is row true_ =
     let at_t = holds_each v (copy_row z side i j) (rows z) t at_j (row_there z t row) in
     copied (v (choice_var z side i j)) (v (value_var z side i t)) (x_bit z v j t) true_ (sym (copy_bits z v side i j t (x_bit z v j t)) ∙ copy_row_get z v side i j t (x_bit z v j t) at_t)
 
-copy_make : (z : Sizes) (v : Assignment) (side : Side) → ((i j t : ℕ) → IsBelow z i j → t < 2 ^ z.n → v (choice_var z side i j) ≡ true → v (value_var z side i t) ≡ x_bit z v j t) → holds v (copies z side) ≡ true
+copy_make : (z : Sizes) (v : Assignment) (side : Side) →
+    ((i j t : ℕ) → IsBelow z i j → t < 2 ^ z.n → v (choice_var z side i j) ≡ true →
+    v (value_var z side i t) ≡ x_bit z v j t) → holds v (copies z side) ≡ true
 unfolding copies copy_step copy_place copy_row
 copy_make z v side each =
     each_holds v (copy_step z side) (places z) (λ i in_places. each_holds v (copy_place z side i) (below i) (λ j in_below. each_holds v (copy_row z side i j) (rows z) (λ t in_rows.
@@ -143,7 +156,8 @@ four_make z v i t a each =
     (each true false))
     (each true true)
 
-result_get : (z : Sizes) (v : Assignment) (i t : ℕ) → holds v (results z) ≡ true → IsStepPlace z i → t < 2 ^ z.n → x_bit z v i t ≡ v (f_var z i (v (value_var z First i t)) (v (value_var z Second i t)))
+result_get : (z : Sizes) (v : Assignment) (i t : ℕ) → holds v (results z) ≡ true → IsStepPlace z i → t < 2 ^ z.n →
+    x_bit z v i t ≡ v (f_var z i (v (value_var z First i t)) (v (value_var z Second i t)))
 unfolding results result_step
 result_get z v i t all is row =
     let at_i = holds_each v (result_step z) (places z) i all (place_there z i is) in
@@ -153,7 +167,8 @@ result_get z v i t all is row =
     let k : Bool = v (value_var z Second i t) in
     clause_gives true x j k (v (f_var z i j k)) refl (sym (result_bits z v i t x j k) ∙ result_row_get z v i t x j k at_t)
 
-result_make : (z : Sizes) (v : Assignment) → ((i t : ℕ) → IsStepPlace z i → t < 2 ^ z.n → x_bit z v i t ≡ v (f_var z i (v (value_var z First i t)) (v (value_var z Second i t)))) → holds v (results z) ≡ true
+result_make : (z : Sizes) (v : Assignment) → ((i t : ℕ) → IsStepPlace z i → t < 2 ^ z.n →
+    x_bit z v i t ≡ v (f_var z i (v (value_var z First i t)) (v (value_var z Second i t)))) → holds v (results z) ≡ true
 unfolding results result_step result_row
 result_make z v each =
     each_holds v (result_step z) (places z) (λ i in_places. each_holds v (result_row z i) (rows z) (λ t in_rows.
@@ -190,7 +205,7 @@ chooses_to w basis z v is =
     (both_hold v _ (copies z Second)
     (both_hold v _ (copies z First)
     (both_hold v _ (operands_exist z)
-    (both_hold v (out_exists z) (out_values w z) (bearers_hold w basis z v is.tables) (outs_hold w basis z v is.tables))
+    (both_hold v (out_exists z) (out_values w z) (drivers_hold w basis z v is.tables) (outs_hold w basis z v is.tables))
     (choice_make z v is.choice))
     (copy_make z v First (is.copy First)))
     (copy_make z v Second (is.copy Second)))

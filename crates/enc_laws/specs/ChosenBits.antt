@@ -17,8 +17,8 @@ use Rattle.clause_core.specs.Holds.{any_get, any_make}
 use Rattle.enc_laws.specs.Layouts.{IsStepPlace}
 use Rattle.enc_laws.specs.Solves.{place_there, there_place}
 use Rattle.enc_laws.specs.Decoded.{IsFor}
-use Rattle.enc_laws.specs.Complete.{step_at, chain_bits, IsOfChain, bits_of_chain, bits_behind, HasStepOuts, bits_are, chain_meets, step_below, step_has_value}
-use Rattle.enc_laws.specs.SelectVars.{IsBelow, choice_from, choice_below, choice_once, row_low, value_behind}
+use Rattle.enc_laws.specs.Complete.{step_at, chain_bits, IsOfChain, bits_of_chain, bits_after_are, HasStepOuts, bits_are, chain_meets, step_below, step_has_value}
+use Rattle.enc_laws.specs.SelectVars.{IsBelow, choice_from, choice_below, choice_once, row_low, value_after}
 use Rattle.enc_laws.specs.Chooses.{Chooses}
 
 abbrev pub operand : Side → Step → ℕ
@@ -78,8 +78,12 @@ operand_bit_is z c side i t is row =
     rw (div-mul-add (i - (z.n + 1)) (2 ^ z.n) t row, mod-mul-add (i - (z.n + 1)) (2 ^ z.n) t row, place) refl
 
 side_chooses : (z : Sizes) (c : Chain) (side : Side) (i : ℕ) → step_chooses z c (choice_var z side i (operand side (step_at c i))) i ≡ true
-side_chooses z c First i = or_left (choice_var z First i (step_at c i).j == choice_var z First i (step_at c i).j) (choice_var z Second i (step_at c i).k == choice_var z First i (step_at c i).j) (eq-eqb (choice_var z First i (step_at c i).j) (choice_var z First i (step_at c i).j) refl)
-side_chooses z c Second i = or_right (choice_var z First i (step_at c i).j == choice_var z Second i (step_at c i).k) (choice_var z Second i (step_at c i).k == choice_var z Second i (step_at c i).k) (eq-eqb (choice_var z Second i (step_at c i).k) (choice_var z Second i (step_at c i).k) refl)
+side_chooses z c First i = or_left (choice_var z First i (step_at c i).j == choice_var z First i (step_at c i).j)
+    (choice_var z Second i (step_at c i).k == choice_var z First i (step_at c i).j)
+    (eq-eqb (choice_var z First i (step_at c i).j) (choice_var z First i (step_at c i).j) refl)
+side_chooses z c Second i = or_right (choice_var z First i (step_at c i).j == choice_var z Second i (step_at c i).k)
+    (choice_var z Second i (step_at c i).k == choice_var z Second i (step_at c i).k)
+    (eq-eqb (choice_var z Second i (step_at c i).k) (choice_var z Second i (step_at c i).k) refl)
 
 pub operand_is_below : (w : Words) (basis r : ℕ) (c : Chain) (side : Side) (i : ℕ) → IsFor w basis r c → IsStepPlace (sizes_of w r) i → IsBelow (sizes_of w r) i (operand side (step_at c i))
 operand_is_below w basis r c First i is place = let below = step_below w basis r c is i place in record { place = place; from = below.j_from; to = below.j_below }
@@ -88,7 +92,9 @@ operand_is_below w basis r c Second i is place = let below = step_below w basis 
 same_operand : (c : Chain) (own side : Side) (i l j : ℕ) → own ≡ side → i ≡ l → operand own (step_at c i) ≡ j → operand side (step_at c l) ≡ j
 same_operand c own side i l j e e' is = ap (λ (s : Side). operand s (step_at c l)) (sym e) ∙ ap (λ (p : ℕ). operand own (step_at c p)) (sym e') ∙ is
 
-only_its : (w : Words) (basis r : ℕ) (c : Chain) (side : Side) (l j : ℕ) → IsFor w basis r c → IsBelow (sizes_of w r) l j → choice_bit (sizes_of w r) c (choice_var (sizes_of w r) side l j) ≡ true → operand side (step_at c l) ≡ j
+only_its : (w : Words) (basis r : ℕ) (c : Chain) (side : Side) (l j : ℕ) → IsFor w basis r c →
+    IsBelow (sizes_of w r) l j → choice_bit (sizes_of w r) c (choice_var (sizes_of w r) side l j) ≡ true →
+    operand side (step_at c l) ≡ j
 unfolding choice_bit
 only_its w basis r c side l j is below true_ =
     let z : Sizes = sizes_of w r in
@@ -109,15 +115,17 @@ pub select_bits : (w : Words) (basis r : ℕ) (c : Chain) → IsFor w basis r c 
 unfolding choice_bit
 select_bits w basis r c is =
     let z : Sizes = sizes_of w r in
-    let rest : (side : Side) (i j : ℕ) → IsBelow (sizes_of w r) i j → chain_bits (sizes_of w r) c (select_rest (sizes_of w r) c) (choice_var (sizes_of w r) side i j) ≡ choice_bit (sizes_of w r) c (choice_var (sizes_of w r) side i j) = λ side i j below.
-    bits_behind z c (select_rest z c) (choice_var z side i j) (choice_from z side i j) ∙ rest_choice z c side i j below in
+    let rest : (side : Side) (i j : ℕ) → IsBelow (sizes_of w r) i j →
+    chain_bits (sizes_of w r) c (select_rest (sizes_of w r) c) (choice_var (sizes_of w r) side i j) ≡
+    choice_bit (sizes_of w r) c (choice_var (sizes_of w r) side i j) = λ side i j below.
+    bits_after_are z c (select_rest z c) (choice_var z side i j) (choice_from z side i j) ∙ rest_choice z c side i j below in
     record {
       of = bits_of_chain w r c (select_rest (sizes_of w r) c);
       has = λ side i place.
           let x : ℕ = choice_var (sizes_of w r) side i (operand side (step_at c i)) in
           rest side i (operand side (step_at c i)) (operand_is_below w basis r c side i is place) ∙ any_make (step_chooses z c x) (places z) i (place_there z i place) (side_chooses z c side i);
       only = λ side i j below true_. only_its w basis r c side i j is below (sym (rest side i j below) ∙ true_);
-      values = λ side i t place row. bits_behind z c (select_rest z c) (value_var z side i t) (value_behind z side i t) ∙ rest_value z c side i t place row ∙ operand_bit_is z c side i t place row;
+      values = λ side i t place row. bits_after_are z c (select_rest z c) (value_var z side i t) (value_after z side i t) ∙ rest_value z c side i t place row ∙ operand_bit_is z c side i t place row;
     }
 
 -- and has the properties.

@@ -17,12 +17,12 @@ use Rattle.enc_theory.specs.declared.data.Side.{Side}
 use Rattle.enc_theory.specs.declared.data.Side.TheVariants.{First, Second}
 use Rattle.enc_theory.specs.declared.data.Sizes.{Sizes}
 use Rattle.enc_theory.specs.Numbering.{places, f_var}
-use Rattle.enc_theory.specs.Decode.{first_bearer}
+use Rattle.enc_theory.specs.Decode.{first_driver}
 use Rattle.enc_theory.specs.Select.{choice_var, value_var, below, first_choice, chosen_step}
 use Rattle.clause_core.specs.Holds.{contains_head, contains_tail, any_make}
 use Rattle.enc_laws.specs.Layouts.{IsStepPlace}
 use Rattle.enc_laws.specs.Solves.{x_bit}
-use Rattle.enc_laws.specs.Sound.{IsSpelled, bearer_place, bearer_met, made_from}
+use Rattle.enc_laws.specs.Sound.{IsSpelled, driver_place, driver_met, made_from}
 use Rattle.enc_laws.specs.SelectVars.{IsBelow}
 use Rattle.enc_laws.specs.Chooses.{Chooses, below_there, is_below}
 
@@ -31,7 +31,9 @@ pub record IsFirstChoice (z : Sizes) (v : Assignment) (side : Side) (i : ℕ) (j
   pub inside : Contains js j
   pub true_ : v (choice_var z side i j) ≡ true
 
-here_or_later : (z : Sizes) (v : Assignment) (side : Side) (i j : ℕ) (js : List ℕ) (later : ℕ) (b : Bool) → v (choice_var z side i j) ≡ b → (b ≡ false → IsFirstChoice z v side i js later) → IsFirstChoice z v side i (j ∷ js) (if b then j else later)
+here_or_later : (z : Sizes) (v : Assignment) (side : Side) (i j : ℕ) (js : List ℕ) (later : ℕ) (b : Bool) →
+    v (choice_var z side i j) ≡ b → (b ≡ false → IsFirstChoice z v side i js later) →
+    IsFirstChoice z v side i (j ∷ js) (if b then j else later)
 here_or_later z v side i j js later true e found = record { inside = contains_head j js; true_ = e }
 here_or_later z v side i j js later false e found = let more = found refl in record { inside = contains_tail j later js more.inside; true_ = more.true_ }
 
@@ -39,7 +41,9 @@ first_choice_is : (z : Sizes) (v : Assignment) (side : Side) (i : ℕ) (js : Lis
 unfolding first_choice
 first_choice_is z v side i [] any = absurd cc
 first_choice_is z v side i (j ∷ js) any =
-    here_or_later z v side i j js (first_choice z v side i js) (v (choice_var z side i j)) refl (λ e. first_choice_is z v side i js (sym (ap (λ (b : Bool). b || list_any (λ j. v (choice_var z side i j)) js) e) ∙ any))
+    here_or_later z v side i j js (first_choice z v side i js) (v (choice_var z side i j)) refl
+    (λ e. first_choice_is z v side i js (sym (ap (λ (b : Bool). b || list_any (λ j. v (choice_var z side i j)) js) e)
+    ∙ any))
 
 -- the operand that the assignment spells
 abbrev pub spelled_operand : Sizes → Assignment → Side → ℕ → ℕ
@@ -72,7 +76,7 @@ module _ (w : Words) (basis : ℕ) (z : Sizes) (v : Assignment) (is : Chooses w 
       record { place = record { from = omega arith; to = omega arith }; is_step = made.is ∙ ap (chosen_step z v) (sym here) }
 
   -- An assignment with the properties spells steps, and a step for each output.
-  pub chosen_spells : IsSpelled w z v (map (chosen_step z v) (places z)) (λ h. first_bearer z v h (places z))
+  pub chosen_spells : IsSpelled w z v (map (chosen_step z v) (places z)) (λ h. first_driver z v h (places z))
   unfolding chosen_step
   chosen_spells = record {
     count = length-map (places z) (chosen_step z v) ∙ length-range_with_len (z.n + 1) z.r;
@@ -96,8 +100,8 @@ module _ (w : Words) (basis : ℕ) (z : Sizes) (v : Assignment) (is : Chooses w 
         ∙ rw (operand_value First i t step.place row, operand_value Second i t step.place row) refl
         ∙ sym (operator_values (λ b c. v (f_var z i b c)) (x_bit z v (spelled_operand z v First i) t) (x_bit z v (spelled_operand z v Second i) t))
         ∙ ap (λ (s : Step). apply s.op (x_bit z v s.j t) (x_bit z v s.k t)) (sym step.is_step);
-    place = λ h some low. bearer_place w basis z v h is.tables some low;
-    met = λ h t some low row. bearer_met w basis z v h t is.tables some low row;
+    place = λ h some low. driver_place w basis z v h is.tables some low;
+    met = λ h t some low row. driver_met w basis z v h t is.tables some low row;
   }
 
   -- each step that is spelled is over the basis

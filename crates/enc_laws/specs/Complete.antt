@@ -110,8 +110,8 @@ bits_of_chain w r c rest = record {
   operators = λ i b b' is. built_f (sizes_of w r) (λ i t. value c t i) (λ h i. is_place i (out_at c.outs h)) (λ i b c'. apply (step_at c i).op b c') rest i b b' is;
 }
 
-pub bits_behind : (z : Sizes) (c : Chain) (rest : ℕ → Bool) (x : ℕ) → s_first z ≤ x → chain_bits z c rest x ≡ rest x
-bits_behind z c rest x behind = built_s z (λ i t. value c t i) (λ h i. is_place i (out_at c.outs h)) (λ i b c'. apply (step_at c i).op b c') rest x behind
+pub bits_after_are : (z : Sizes) (c : Chain) (rest : ℕ → Bool) (x : ℕ) → s_first z ≤ x → chain_bits z c rest x ≡ rest x
+bits_after_are z c rest x bits_after = built_s z (λ i t. value c t i) (λ h i. is_place i (out_at c.outs h)) (λ i b c'. apply (step_at c i).op b c') rest x bits_after
 
 module _ (w : Words) (basis r : ℕ) (c : Chain) where
   -- the step at a place
@@ -153,7 +153,7 @@ module _ (w : Words) (basis r : ℕ) (c : Chain) (v : Assignment) (of : IsOfChai
   -- and the tables are met
   pub chain_meets : IsFor w basis r c → HasStepOuts c (length w.on) → MeetsTables w basis (sizes_of w r) v
   chain_meets is outs = record {
-    bearer = λ h some low.
+    driver = λ h some low.
         let out = outs.each h some low in
         let above = out.above in
         let within = out.within in
@@ -179,7 +179,7 @@ module _ (w : Words) (basis r : ℕ) (steps : List StepSlots) (c : Chain) where
   of_pairs = bits_of_chain w r c (slot_bit c steps)
 
   pub v_s : (x : ℕ) → s_first (sizes_of w r) ≤ x → assignment_of (sizes_of w r) steps c x ≡ slot_bit c steps x
-  v_s x behind = bits_behind (sizes_of w r) c (slot_bit c steps) x behind
+  v_s x bits_after = bits_after_are (sizes_of w r) c (slot_bit c steps) x bits_after
 
   pub bits_are_values : IsFor w basis r c → (p t : ℕ) → p < w.n + 1 + r → t < 2 ^ w.n → x_bit (sizes_of w r) (assignment_of (sizes_of w r) steps c) p t ≡ value c t p
   bits_are_values is p t low row = bits_are w basis r c (assignment_of (sizes_of w r) steps c) of_pairs is p t low row
@@ -191,10 +191,10 @@ module _ (w : Words) (basis r : ℕ) (steps : List StepSlots) (c : Chain) where
     pair = λ s in_steps.
         let has = pairs.has s in_steps in
         let slot : IsSlotOf steps s has.slot = record { step = in_steps; slot = has.inside } in
-        (has.slot, has.inside, v_s has.slot.var (laid.behind s has.slot slot) ∙ slot_true steps c s has.slot slot (test_pair (step_at c s.place) has.slot has.is_j has.is_k));
+        (has.slot, has.inside, v_s has.slot.var (laid.bits_after s has.slot slot) ∙ slot_true steps c s has.slot slot (test_pair (step_at c s.place) has.slot has.is_j has.is_k));
     value = λ s u t slot row true_.
         let place = laid_is_place (sizes_of w r) steps s laid slot.step in
-        let (j, k) = pair_test (step_at c s.place) u (true_slot steps c s u pairs slot (sym (v_s u.var (laid.behind s u slot)) ∙ true_)) in
+        let (j, k) = pair_test (step_at c s.place) u (true_slot steps c s u pairs slot (sym (v_s u.var (laid.bits_after s u slot)) ∙ true_)) in
         let below = laid.below s u slot in
         let j_below = below.j_below in
         let k_below = below.k_below in

@@ -11,7 +11,7 @@ use Rattle.enc_theory.specs.declared.data.Sizes.{Sizes}
 use Rattle.enc_theory.specs.Numbering.{sizes_of, places}
 use Rattle.enc_theory.specs.Pairs.{StepSlots}
 use Rattle.enc_theory.specs.Families.{common}
-use Rattle.enc_theory.specs.Decode.{first_bearer, decoded_step, restored, with_outs, decoded}
+use Rattle.enc_theory.specs.Decode.{first_driver, decoded_step, restored, with_outs, decoded}
 use Rattle.clause_core.specs.Holds.{holds}
 use Rattle.enc_laws.specs.Layouts.{IsLaid}
 use Rattle.enc_laws.specs.Live.{whole_chain, restored_is_chain, restored_agrees}
@@ -30,27 +30,31 @@ for_is_there w basis r c is = record { chain = c; is_chain = is.is_chain; size =
 
 -- the steps that are spelled, and the drivers of live outputs
 abbrev pub live_chain : Sizes → List Step → Assignment → Chain
-live_chain z steps v = spelled z steps (λ h. first_bearer z v h (places z))
+live_chain z steps v = spelled z steps (λ h. first_driver z v h (places z))
 
 spelled_is_whole : (w : Words) (r : ℕ) (steps : List Step) (v : Assignment) → with_outs w (sizes_of (live_words w) r) steps v ≡ whole_chain w (live_chain (sizes_of (live_words w) r) steps v)
 spelled_is_whole w r steps v = ap (λ (outs : List Out). record { n = w.n; steps = steps; outs = restored (specification w) outs }) (decoded_outs (sizes_of (live_words w) r) v)
 
 -- A chain of spelled steps implements the tables, in whatever encoding the steps are spelled.
-pub spelled_is_for : (w : Words) (basis r : ℕ) (steps : List Step) (v : Assignment) → IsSpelled (live_words w) (sizes_of (live_words w) r) v steps (λ h. first_bearer (sizes_of (live_words w) r) v h (places (sizes_of (live_words w) r)))
+pub spelled_is_for : (w : Words) (basis r : ℕ) (steps : List Step) (v : Assignment) →
+    IsSpelled (live_words w) (sizes_of (live_words w) r) v steps
+    (λ h. first_driver (sizes_of (live_words w) r) v h (places (sizes_of (live_words w) r)))
     → ((outs : List Out) → IsOver (members basis) (record { n = w.n; steps = steps; outs = outs })) → IsFor w basis r (with_outs w (sizes_of (live_words w) r) steps v)
 spelled_is_for w basis r steps v is over =
     let z : Sizes = sizes_of (live_words w) r in
-    let agrees : Agrees (live_chain z steps v) (specification (live_words w)) = spelled_agrees (live_words w) z v steps (λ h. first_bearer z v h (places z)) refl refl is in
+    let agrees : Agrees (live_chain z steps v) (specification (live_words w)) = spelled_agrees (live_words w) z v steps (λ h. first_driver z v h (places z)) refl refl is in
     subst (IsFor w basis r) (sym (spelled_is_whole w r steps v)) record {
-      is_chain = restored_is_chain w (live_chain z steps v) (spelled_is_chain (live_words w) z v steps (λ h. first_bearer z v h (places z)) is) refl agrees.outputs;
+      is_chain = restored_is_chain w (live_chain z steps v) (spelled_is_chain (live_words w) z v steps (λ h. first_driver z v h (places z)) is) refl agrees.outputs;
       size = is.count;
-      is_over = over (restored (specification w) (spelled_outs (λ h. first_bearer z v h (places z)) z));
+      is_over = over (restored (specification w) (spelled_outs (λ h. first_driver z v h (places z)) z));
       agrees = restored_agrees w (live_chain z steps v) agrees;
     }
 
 -- The chain spelled by an assignment that satisfies the clauses implements the tables, whatever pairs the steps
 -- may have.
-pub decoded_is_for : (w : Words) (basis r : ℕ) (steps : List StepSlots) (v : Assignment) → IsLaid (sizes_of (live_words w) r) steps → holds v (common (live_words w) basis (sizes_of (live_words w) r) steps) ≡ true → IsFor w basis r (decoded w (sizes_of (live_words w) r) steps v)
+pub decoded_is_for : (w : Words) (basis r : ℕ) (steps : List StepSlots) (v : Assignment) →
+    IsLaid (sizes_of (live_words w) r) steps → holds v (common (live_words w) basis (sizes_of (live_words w) r) steps)
+    ≡ true → IsFor w basis r (decoded w (sizes_of (live_words w) r) steps v)
 unfolding decoded
 decoded_is_for w basis r steps v laid all =
     let z : Sizes = sizes_of (live_words w) r in

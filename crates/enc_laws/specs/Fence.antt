@@ -12,11 +12,11 @@ use Rattle.chain_theory.specs.Levels.{level, HasLevels}
 use Rattle.chain_theory.specs.LevelLaws.{input_level}
 use Rattle.chain_laws.specs.LevelOrder.{level_of_larger}
 use Rattle.chain_theory.specs.Levels.{HasChainOfLevels}
-use Rattle.chain_laws.specs.Reduced.{IsReduced}
+use Rattle.chain_laws.specs.NormalForm.{IsNormalForm}
 use Rattle.chain_laws.specs.Least.{levels_at_most_steps}
 use Rattle.fence_core.specs.Fence.{IsFenceOf}
 use Rattle.fence_core.specs.Listing.{sum-cons}
-use Rattle.chain_laws.specs.Fences.{level_by, StandsIn, HasFencedChain, least_in_fence}
+use Rattle.chain_laws.specs.Fences.{level_by, IsInFence, HasFencedChain, least_in_fence}
 use Rattle.sat_theory.specs.Formula.{IsFormula, Assignment, Satisfies}
 use Rattle.tt_core.specs.Words.{Words, specification}
 use Rattle.tt_core.specs.Live.{live_words}
@@ -30,7 +30,7 @@ use Rattle.enc_laws.specs.Live.{picked}
 use Rattle.enc_laws.specs.Decoded.{IsFor, for_is_there}
 use Rattle.enc_laws.specs.Complete.{step_at, step_below, step_there}
 use Rattle.enc_laws.specs.Laws.{IsAllowed, picked_is_for}
-use Rattle.enc_laws.specs.ByPairs.{whole_has, by_pairs_decodes, reduced_satisfies, by_pairs_is_formula}
+use Rattle.enc_laws.specs.ByPairs.{whole_has, by_pairs_decodes, normal_form_satisfies, by_pairs_is_formula}
 
 -- ---- the places of the level below
 
@@ -44,7 +44,9 @@ under_low first count (q ∷ qs) k p c = ⊎_elim
     let (from, to) = range_inside first count p (subst (λ (x : List ℕ). Contains x p) is c) in
     (from, omega arith))
     (λ (past : q ≤ k).
-    let is : places_under first count (q ∷ qs) k ≡ places_under (first + count) q qs (k - q) = cond-false (nat_lt k q) (range_with_len first count) (places_under (first + count) q qs (k - q)) (le-ltb k q past) in
+    let is : places_under first count (q ∷ qs) k ≡ places_under (first + count) q qs (k - q) =
+    cond-false (nat_lt k q) (range_with_len first count) (places_under (first + count) q qs (k - q))
+    (le-ltb k q past) in
     let (from, to) = under_low (first + count) q qs (k - q) p (subst (λ (x : List ℕ). Contains x p) is c) in
     (omega arith, omega arith))
     (cases_lt k q)
@@ -87,7 +89,8 @@ level_positive (q ∷ qs) k low = ⊎_elim
     (cases_lt k q)
 
 -- A place whose level is one below that of a step is among them.
-under_has : (first count : ℕ) (fence : List ℕ) (k p : ℕ) → k < sum fence → first ≤ p → p < first + count + k → level_from first count fence p + 1 ≡ level_by fence k → Contains (places_under first count fence k) p
+under_has : (first count : ℕ) (fence : List ℕ) (k p : ℕ) → k < sum fence → first ≤ p → p < first + count + k →
+    level_from first count fence p + 1 ≡ level_by fence k → Contains (places_under first count fence k) p
 unfolding places_under
 under_has first count [] k p low from to e = absurd (omega arith)
 under_has first count (q ∷ qs) k p low from to e =
@@ -102,7 +105,9 @@ under_has first count (q ∷ qs) k p low from to e =
     omega (arith, level_positive (q ∷ qs) (p - (first + count)) (omega arith))))
     (cases_lt p (first + count))))
     (λ (past : q ≤ k).
-    let is : places_under first count (q ∷ qs) k ≡ places_under (first + count) q qs (k - q) = cond-false (nat_lt k q) (range_with_len first count) (places_under (first + count) q qs (k - q)) (le-ltb k q past) in
+    let is : places_under first count (q ∷ qs) k ≡ places_under (first + count) q qs (k - q) =
+    cond-false (nat_lt k q) (range_with_len first count) (places_under (first + count) q qs (k - q))
+    (le-ltb k q past) in
     let own = level_past q qs k past in
     let positive = level_positive qs (k - q) (omega arith) in
     subst (λ (x : List ℕ). Contains x p) (sym is) (⊎_elim
@@ -120,7 +125,7 @@ under_has first count (q ∷ qs) k p low from to e =
 -- ---- a chain in its fence
 
 -- the level of a place of a chain ordered by level, by its fence
-level_is : (c : Chain) (fence : List ℕ) → StandsIn c fence → (p : ℕ) → 1 ≤ p → p < c.n + 1 + length c.steps → level c p ≡ level_from 1 c.n fence p
+level_is : (c : Chain) (fence : List ℕ) → IsInFence c fence → (p : ℕ) → 1 ≤ p → p < c.n + 1 + length c.steps → level c p ≡ level_from 1 c.n fence p
 level_is c fence stands p from low = ⊎_elim
     (λ (is_input : p ≤ c.n). input_level c.n p c.steps is_input ∙ sym (level_from_low 1 c.n fence p (omega arith)))
     (λ (is_step : (i : ℕ) × (i < length c.steps) × (p ≡ c.n + 1 + i)).
@@ -130,9 +135,11 @@ level_is c fence stands p from low = ⊎_elim
     (place_cases c.n (length c.steps) p low)
 
 -- The pairs of a chain in normal form, in its fence, are those of the encoding.
-stands_allowed : (w : Words) (basis r : ℕ) (c : Chain) (fence : List ℕ) → IsFor w basis r c → IsReduced (members basis) (specification w) c → StandsIn c fence → IsAllowed (fence_pairs (swap_closed (members basis)) w.n fence) w r c
+stands_allowed : (w : Words) (basis r : ℕ) (c : Chain) (fence : List ℕ) → IsFor w basis r c →
+    IsNormalForm (members basis) (specification w) c → IsInFence c fence →
+    IsAllowed (fence_pairs (swap_closed (members basis)) w.n fence) w r c
 unfolding fence_pairs
-stands_allowed w basis r c fence is reduced stands = record {
+stands_allowed w basis r c fence is normal_form stands = record {
   each = λ i place.
       let steps : List StepSlots = fence_layout basis fence (sizes_of w r) in
       let a : Step = step_at c i in
@@ -147,12 +154,16 @@ stands_allowed w basis r c fence is reduced stands = record {
       let j_from = below.j_from in
       let whole = stands.whole in
       let index : c.n + 1 + (i - (c.n + 1)) ≡ i = omega arith in
-      let own : level c i ≡ 1 + level c (max a.j a.k) = ap (level c) (sym index) ∙ level_of_larger c is.is_chain reduced.in_order (i - (c.n + 1)) a at in
-      let mine : level c i ≡ level_by fence (i - (w.n + 1)) = level_is c fence stands i (omega arith) (omega arith) ∙ level_from_high 1 c.n fence i (omega arith) ∙ ap (level_by fence) (let e : i - (1 + c.n) ≡ i - (w.n + 1) = omega arith in e) in
-      let theirs : level c (max a.j a.k) ≡ level_from 1 w.n fence (max a.j a.k) = level_is c fence stands (max a.j a.k) (omega arith) (omega arith) ∙ ap (λ (n : ℕ). level_from 1 n fence (max a.j a.k)) inputs in
+      let own : level c i ≡ 1 + level c (max a.j a.k) = ap (level c) (sym index) ∙ level_of_larger c is.is_chain normal_form.in_order (i - (c.n + 1)) a at in
+      let mine : level c i ≡ level_by fence (i - (w.n + 1)) = level_is c fence stands i (omega arith) (omega arith)
+      ∙ level_from_high 1 c.n fence i (omega arith)
+      ∙ ap (level_by fence) (let e : i - (1 + c.n) ≡ i - (w.n + 1) = omega arith in e) in
+      let theirs : level c (max a.j a.k) ≡ level_from 1 w.n fence (max a.j a.k) =
+      level_is c fence stands (max a.j a.k) (omega arith) (omega arith)
+      ∙ ap (λ (n : ℕ). level_from 1 n fence (max a.j a.k)) inputs in
       flat_map_make (pairs_with (swap_closed (members basis))) (places_under 1 w.n fence (i - (w.n + 1))) (max a.j a.k) (pair a.j a.k)
       (under_has 1 w.n fence (i - (w.n + 1)) (max a.j a.k) (omega arith) (omega arith) (omega arith) (omega arith))
-      (pair_with_larger (swap_closed (members basis)) a.j a.k below.j_from below.k_from (λ closed. reduced.operands_rise closed (i - (c.n + 1)) a at));
+      (pair_with_larger (swap_closed (members basis)) a.j a.k below.j_from below.k_from (λ closed. normal_form.operands_rise closed (i - (c.n + 1)) a at));
 }
 
 -- ---- the laws
@@ -175,21 +186,30 @@ pub record HasFence (w : Words) (basis r d : ℕ) : Type 0 where
 
 -- If a chain of r steps and at most d levels over the basis implements the tables and none of fewer steps does,
 -- a listed fence of at most d levels has a satisfiable formula.
-pub fence_complete_at : (w : Words) (basis r d : ℕ) → HasChainOfLevels (specification w) (members basis) r d → ((q : ℕ) → q < r → HasChain (specification w) (members basis) q → ⊥) → HasFence w basis r d
+pub fence_complete_at : (w : Words) (basis r d : ℕ) → HasChainOfLevels (specification w) (members basis) r d →
+    ((q : ℕ) → q < r → HasChain (specification w) (members basis) q → ⊥) → HasFence w basis r d
 unfolding fence_formula fence_live
 fence_complete_at w basis r d has none_fewer =
     let whole : IsFor w basis r has.chain = record { is_chain = has.is_chain; size = has.size; is_over = has.is_over; agrees = has.agrees } in
-    let part : IsFor (live_words w) basis r (picked w has.chain) = picked_is_for w basis r has.chain whole in
+    let of_live : IsFor (live_words w) basis r (picked w has.chain) = picked_is_for w basis r has.chain whole in
     let least : HasFencedChain (specification (live_words w)) (members basis) r d = least_in_fence (specification (live_words w)) (members basis) r d
-    (record { chain = picked w has.chain; is_chain = part.is_chain; size = part.size; is_over = part.is_over; agrees = part.agrees; levels = has.levels })
+    (record { chain = picked w has.chain; is_chain = of_live.is_chain; size = of_live.size; is_over = of_live.is_over; agrees = of_live.agrees; levels = has.levels })
     (λ q less has_q. none_fewer q less (whole_has w basis q has_q)) in
-    let is : IsFor (live_words w) basis r least.reduced.has.chain = record { is_chain = least.reduced.has.is_chain; size = least.reduced.has.size; is_over = least.reduced.has.is_over; agrees = least.reduced.has.agrees } in
+    let is : IsFor (live_words w) basis r least.normal_form.has.chain =
+    record {
+      is_chain = least.normal_form.has.is_chain;
+      size = least.normal_form.has.size;
+      is_over = least.normal_form.has.is_over;
+      agrees = least.normal_form.has.agrees;
+    } in
     record {
       fence = least.fence;
-      listed = record { filled = least.stands.filled; whole = least.stands.whole ∙ least.reduced.has.size; listed = least.listed };
+      listed = record { filled = least.stands.filled; whole = least.stands.whole ∙ least.normal_form.has.size; listed = least.listed };
       low = least.low;
-      satisfiable = reduced_satisfies (fence_pairs (swap_closed (members basis)) w.n least.fence) w basis r (fence_pairs_are_below (swap_closed (members basis)) w.n least.fence) least.reduced.has.chain is least.reduced.reduced
-          (stands_allowed (live_words w) basis r least.reduced.has.chain least.fence is least.reduced.reduced least.stands);
+      satisfiable = normal_form_satisfies (fence_pairs (swap_closed (members basis)) w.n least.fence) w basis r
+          (fence_pairs_are_below (swap_closed (members basis)) w.n least.fence) least.normal_form.has.chain is
+          least.normal_form.normal_form
+          (stands_allowed (live_words w) basis r least.normal_form.has.chain least.fence is least.normal_form.normal_form least.stands);
     }
 
 -- If a chain of r steps over the basis implements the tables and none of fewer steps does, a listed fence has a

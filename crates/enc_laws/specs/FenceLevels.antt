@@ -71,7 +71,9 @@ under_level first count (q ∷ qs) k p c = ⊎_elim
     let (from, to) = range_inside first count p (subst (λ (x : List ℕ). Contains x p) is c) in
     omega (arith, level_from_low first count (q ∷ qs) p to, level_here q qs k here))
     (λ (past : q ≤ k).
-    let is : places_under first count (q ∷ qs) k ≡ places_under (first + count) q qs (k - q) = cond-false (nat_lt k q) (range_with_len first count) (places_under (first + count) q qs (k - q)) (le-ltb k q past) in
+    let is : places_under first count (q ∷ qs) k ≡ places_under (first + count) q qs (k - q) =
+    cond-false (nat_lt k q) (range_with_len first count) (places_under (first + count) q qs (k - q))
+    (le-ltb k q past) in
     let later : Contains (places_under (first + count) q qs (k - q)) p = subst (λ (x : List ℕ). Contains x p) is c in
     let (from, to) = under_low (first + count) q qs (k - q) p later in
     let rest = under_level (first + count) q qs (k - q) p later in
@@ -80,12 +82,22 @@ under_level first count (q ∷ qs) k p c = ⊎_elim
     let offset : p - (first + count) - q ≡ p - (first + count + q) = omega arith in
     ⊎_elim
     (λ (in_level : p < first + count + q). omega (arith, mine, level_here q qs (p - (first + count)) (omega arith), level_from_low (first + count) q qs p in_level, rest, own))
-    (λ (over_level : first + count + q ≤ p). omega (arith, mine, level_past q qs (p - (first + count)) (omega arith), ap (level_by qs) offset, level_from_high (first + count) q qs p over_level, rest, own))
+    (λ (over_level : first + count + q ≤ p). omega (
+      arith,
+      mine,
+      level_past q qs (p - (first + count)) (omega arith),
+      ap (level_by qs) offset,
+      level_from_high (first + count) q qs p over_level,
+      rest,
+      own,
+    ))
     (cases_lt p (first + count + q)))
     (cases_lt k q)
 
 -- both operands of a pair have lower levels
-pair_rises : (ordered : Bool) (n : ℕ) (fence : List ℕ) (i : ℕ) (p : Pair) → n + 1 ≤ i → Contains (fence_pairs ordered n fence i) p → (level_from 1 n fence p.j < level_from 1 n fence i) × (level_from 1 n fence p.k < level_from 1 n fence i)
+pair_rises : (ordered : Bool) (n : ℕ) (fence : List ℕ) (i : ℕ) (p : Pair) → n + 1 ≤ i →
+    Contains (fence_pairs ordered n fence i) p → (level_from 1 n fence p.j < level_from 1 n fence i) ×
+    (level_from 1 n fence p.k < level_from 1 n fence i)
 unfolding fence_pairs
 pair_rises ordered n fence i p high c =
     let from = flat_map_get (pairs_with ordered) (places_under 1 n fence (i - (n + 1))) p c in
@@ -108,7 +120,9 @@ fence_has_levels w basis r fence v satisfies =
     let is : IsFor w basis r (fence_decoded w basis r fence v) = fence_decodes w basis r fence v satisfies in
     λ p from to.
     let low = level_at_most w.n steps is.is_chain.steps (level_from 1 w.n fence)
-    (λ i s at. pair_rises ordered w.n fence (w.n + 1 + i) (pair s.j s.k) (omega arith) (by_pairs_has_pair (fence_pairs ordered w.n fence) w basis r (fence_pairs_are_below ordered w.n fence) v satisfies i s at))
+    (λ i s at. pair_rises ordered w.n fence (w.n + 1 + i) (pair s.j s.k) (omega arith)
+    (by_pairs_has_pair (fence_pairs ordered w.n fence) w basis r (fence_pairs_are_below ordered w.n fence) v
+    satisfies i s at))
     (p + 1) p (omega arith) from (omega arith) in
     omega (arith, low, from_low w.n fence p)
 

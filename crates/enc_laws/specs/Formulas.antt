@@ -7,14 +7,17 @@ use Rattle.chain_theory.specs.declared.data.Cell.{Cell}
 use Rattle.chain_theory.specs.declared.data.Cell.TheVariants.{Zero, One, Free}
 use Rattle.op_basis.specs.Basis.{members}
 use Rattle.tt_core.specs.Words.{Words, cell_of}
-use Rattle.clause_core.specs.declared.raw.Raw.TheVariants.{Var}
+use Rattle.clause_core.specs.declared.raw.RawLit.TheVariants.{Var}
 use Rattle.enc_theory.specs.declared.data.Sizes.{Sizes}
 use Rattle.enc_theory.specs.declared.data.Pair.{Pair}
 use Rattle.enc_theory.specs.declared.data.Slot.{Slot}
 use Rattle.clause_core.specs.Clauses.{written}
 use Rattle.enc_theory.specs.Numbering.{places, rows, outputs, g_var, f_var, s_first, x_is}
 use Rattle.enc_theory.specs.Pairs.{StepSlots, numbered, laid, layout, slot_count, vars_of}
-use Rattle.enc_theory.specs.Families.{bearer, out_exists_at, out_exists, out_value_is, out_value_at, out_value, out_values_of, out_values_at, out_values, chosen, pair_exists_at, pair_exists, value_raw, value_clause, value_bit, value_row, value_slot, value_step, values, operator_raw, operator_clause, operators_at, operators, common}
+use Rattle.enc_theory.specs.Families.{driver, out_exists_at, out_exists, out_value_is, out_value_at, out_value}
+use Rattle.enc_theory.specs.Families.{out_values_of, out_values_at, out_values, chosen, pair_exists_at, pair_exists}
+use Rattle.enc_theory.specs.Families.{value_raw, value_clause, value_bit, value_row, value_slot, value_step, values}
+use Rattle.enc_theory.specs.Families.{operator_raw, operator_clause, operators_at, operators, common}
 use Rattle.clause_core.specs.WrittenLaws.{IsOf, are_of-map, AreClauses, no_clauses, written_clauses, clauses_each, clauses_both}
 use Rattle.clause_core.specs.Holds.{contains_cases, range_inside}
 use Rattle.enc_laws.specs.Bounds.{x_positive, g_positive, f_positive, s_positive, slot_positive, x_below, g_below, f_below}
@@ -43,20 +46,29 @@ x_is_of vars z steps j t bit room low row = ⊎_elim
     (λ (inp : j ≤ z.n). rw (le-leb j z.n inp) tt)
     (cases_lt z.n j)
 
-pub bearer_clauses : (vars : ℕ) (z : Sizes) (steps : List StepSlots) → HasRoom vars z steps → AreClauses vars (out_exists z)
-unfolding out_exists out_exists_at bearer
-bearer_clauses vars z steps room = clauses_each vars (out_exists_at z) (outputs z) (λ h in_outputs.
+pub driver_clauses : (vars : ℕ) (z : Sizes) (steps : List StepSlots) → HasRoom vars z steps → AreClauses vars (out_exists z)
+unfolding out_exists out_exists_at driver
+driver_clauses vars z steps room = clauses_each vars (out_exists_at z) (outputs z) (λ h in_outputs.
     let (some, low) = range_inside 1 z.m h in_outputs in
-    written_clauses vars (map (bearer z h) (places z)) (are_of-map vars (bearer z h) (places z) (λ i in_places.
+    written_clauses vars (map (driver z h) (places z)) (are_of-map vars (driver z h) (places z) (λ i in_places.
     let (from, to) = range_inside (z.n + 1) z.r i in_places in
     let is : IsStepPlace z i = record { from = from; to = to } in
     let common = room.common in
     (g_positive z h i is, omega (arith, g_below z h i some (omega arith) is)))))
 
-out_clauses : (vars : ℕ) (z : Sizes) (steps : List StepSlots) (h i t : ℕ) (cell : Cell) → HasRoom vars z steps → 1 ≤ h → h ≤ z.m → IsStepPlace z i → t < 2 ^ z.n → AreClauses vars (out_value_at z h i t cell)
+out_clauses : (vars : ℕ) (z : Sizes) (steps : List StepSlots) (h i t : ℕ) (cell : Cell) → HasRoom vars z steps →
+    1 ≤ h → h ≤ z.m → IsStepPlace z i → t < 2 ^ z.n → AreClauses vars (out_value_at z h i t cell)
 unfolding out_value_at out_value_is
-out_clauses vars z steps h i t Zero room some low is row = written_clauses vars (Var (g_var z h i) false ∷ x_is z i t false ∷ []) ((g_positive z h i is, (let common = room.common in omega (arith, g_below z h i some low is))), (x_is_of vars z steps i t false room is.to row, tt))
-out_clauses vars z steps h i t One room some low is row = written_clauses vars (Var (g_var z h i) false ∷ x_is z i t true ∷ []) ((g_positive z h i is, (let common = room.common in omega (arith, g_below z h i some low is))), (x_is_of vars z steps i t true room is.to row, tt))
+out_clauses vars z steps h i t Zero room some low is row =
+    written_clauses vars (Var (g_var z h i) false ∷ x_is z i t false ∷ []) (
+      (g_positive z h i is, (let common = room.common in omega (arith, g_below z h i some low is))),
+      (x_is_of vars z steps i t false room is.to row, tt),
+    )
+out_clauses vars z steps h i t One room some low is row =
+    written_clauses vars (Var (g_var z h i) false ∷ x_is z i t true ∷ []) (
+      (g_positive z h i is, (let common = room.common in omega (arith, g_below z h i some low is))),
+      (x_is_of vars z steps i t true room is.to row, tt),
+    )
 out_clauses vars z steps h i t Free room some low is row = no_clauses vars
 
 pub outs_clauses : (vars : ℕ) (w : Words) (z : Sizes) (steps : List StepSlots) → HasRoom vars z steps → AreClauses vars (out_values w z)
@@ -74,7 +86,9 @@ pair_clauses vars z steps room = clauses_each vars pair_exists_at steps (λ s in
     let is : IsSlotOf steps s u = record { step = in_steps; slot = in_slots } in
     (room.positive s u is, room.slots s u is))))
 
-one_value_clauses : (vars : ℕ) (z : Sizes) (steps : List StepSlots) (s : StepSlots) (u : Slot) (t : ℕ) (a b c : Bool) → HasRoom vars z steps → IsLaid z steps → IsStepPlace z s.place → IsSlotOf steps s u → t < 2 ^ z.n → AreClauses vars (value_clause z s.place u t a b c)
+one_value_clauses : (vars : ℕ) (z : Sizes) (steps : List StepSlots) (s : StepSlots) (u : Slot) (t : ℕ) (a b c : Bool) →
+    HasRoom vars z steps → IsLaid z steps → IsStepPlace z s.place → IsSlotOf steps s u → t < 2 ^ z.n →
+    AreClauses vars (value_clause z s.place u t a b c)
 unfolding value_clause value_raw
 one_value_clauses vars z steps s u t a b c room laid place is row =
     let below = laid.below s u is in
@@ -101,8 +115,14 @@ unfolding values value_step value_slot value_row value_bit
 values_clauses vars z steps room laid =
     clauses_each vars (value_step z) steps (λ s in_steps. clauses_each vars (value_slot z s.place) s.slots (λ u in_slots. clauses_each vars (value_row z s.place u) (rows z) (λ t in_rows.
     let (start, end) = range_inside 0 (2 ^ z.n) t in_rows in
-    let one : (a b c : Bool) → AreClauses vars (value_clause z s.place u t a b c) = λ a b c. one_value_clauses vars z steps s u t a b c room laid (laid_is_place z steps s laid in_steps) (record { step = in_steps; slot = in_slots }) (omega arith) in
-    let four : (a : Bool) → AreClauses vars (value_bit z s.place u t a) = λ a. clauses_both vars _ (value_clause z s.place u t a true true) (clauses_both vars _ (value_clause z s.place u t a true false) (clauses_both vars (value_clause z s.place u t a false false) (value_clause z s.place u t a false true) (one a false false) (one a false true)) (one a true false)) (one a true true) in
+    let one : (a b c : Bool) → AreClauses vars (value_clause z s.place u t a b c) =
+    λ a b c. one_value_clauses vars z steps s u t a b c room laid (laid_is_place z steps s laid in_steps)
+    (record { step = in_steps; slot = in_slots }) (omega arith) in
+    let four : (a : Bool) → AreClauses vars (value_bit z s.place u t a) =
+    λ a. clauses_both vars _ (value_clause z s.place u t a true true)
+    (clauses_both vars _ (value_clause z s.place u t a true false)
+    (clauses_both vars (value_clause z s.place u t a false false) (value_clause z s.place u t a false true)
+    (one a false false) (one a false true)) (one a true false)) (one a true true) in
     clauses_both vars (value_bit z s.place u t false) (value_bit z s.place u t true) (four false) (four true))))
 
 operator_clauses : (vars : ℕ) (basis : ℕ) (z : Sizes) (steps : List StepSlots) (i op : ℕ) → HasRoom vars z steps → IsStepPlace z i → AreClauses vars (operator_clause basis z i op)
@@ -127,7 +147,7 @@ common_clauses vars w basis z steps room laid =
     clauses_both vars _ (operators basis z)
     (clauses_both vars _ (values z steps)
     (clauses_both vars _ (pair_exists steps)
-    (clauses_both vars (out_exists z) (out_values w z) (bearer_clauses vars z steps room) (outs_clauses vars w z steps room))
+    (clauses_both vars (out_exists z) (out_values w z) (driver_clauses vars z steps room) (outs_clauses vars w z steps room))
     (pair_clauses vars z steps room))
     (values_clauses vars z steps room laid))
     (operators_clauses vars basis z steps room)

@@ -89,11 +89,12 @@ unfolding plain_formula plain_live
 plain_complete w basis r has =
     let z : Sizes = sizes_of (live_words w) r in
     let is : IsFor w basis r has.chain = record { is_chain = has.is_chain; size = has.size; is_over = has.is_over; agrees = has.agrees } in
-    let part : IsFor (live_words w) basis r (picked w has.chain) = picked_is_for w basis r has.chain is in
+    let of_live : IsFor (live_words w) basis r (picked w has.chain) = picked_is_for w basis r has.chain is in
     let v : Assignment = assignment_of z (plain_layout z) (picked w has.chain) in (
       assignment_of z (plain_layout z) (picked w has.chain),
       satisfied_holds v (plain_formula w basis r)
-          (chain_satisfies (pairs_below false) (live_words w) basis r (picked w has.chain) (pairs_are_below false w.n) (part_is_all_live w) part (all_allowed (live_words w) basis r (picked w has.chain) part)),
+          (chain_satisfies (pairs_below false) (live_words w) basis r (picked w has.chain) (pairs_are_below false w.n)
+          (part_is_all_live w) of_live (all_allowed (live_words w) basis r (picked w has.chain) of_live)),
     )
 
 -- The formula is well-formed.

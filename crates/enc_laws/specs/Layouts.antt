@@ -34,7 +34,7 @@ pub record IsLaid (z : Sizes) (steps : List StepSlots) : Type 0 where
   pub count : length steps ≡ z.r
   pub places : (k : ℕ) (s : StepSlots) → slice_get steps k ≡ Some s → s.place ≡ z.n + 1 + k
   pub below : (s : StepSlots) (u : Slot) → IsSlotOf steps s u → IsPairBelow s.place u.j u.k
-  pub behind : (s : StepSlots) (u : Slot) → IsSlotOf steps s u → s_first z ≤ u.var
+  pub bits_after : (s : StepSlots) (u : Slot) → IsSlotOf steps s u → s_first z ≤ u.var
 
 pub laid_is_place : (z : Sizes) (steps : List StepSlots) (s : StepSlots) → IsLaid z steps → Contains steps s → IsStepPlace z s.place
 laid_is_place z steps s laid (k, low, at) =
@@ -170,7 +170,9 @@ pub record IsSameSlot (s s' : StepSlots) (u u' : Slot) : Type 0 where
   pub step : s ≡ s'
   pub slot : u ≡ u'
 
-pub laid_once : (pairs : ℕ → List Pair) (v place count : ℕ) (s s' : StepSlots) (u u' : Slot) → IsSlotOf (laid pairs v place count) s u → IsSlotOf (laid pairs v place count) s' u' → u.var ≡ u'.var → IsSameSlot s s' u u'
+pub laid_once : (pairs : ℕ → List Pair) (v place count : ℕ) (s s' : StepSlots) (u u' : Slot) →
+    IsSlotOf (laid pairs v place count) s u → IsSlotOf (laid pairs v place count) s' u' → u.var ≡ u'.var →
+    IsSameSlot s s' u u'
 unfolding laid
 laid_once pairs v place zero s s' u u' is is' e = absurd (omega (arith, is.step.1))
 laid_once pairs v place (suc count) s s' u u' is is' e = ⊎_elim
@@ -209,7 +211,7 @@ layout_is_laid pairs z are = record {
   count = laid_count pairs (s_first z) (z.n + 1) z.r;
   places = λ k s at. laid_place pairs (s_first z) (z.n + 1) z.r k s at;
   below = λ s u is. are.each s.place (pair u.j u.k) (laid_step pairs (s_first z) (z.n + 1) z.r s is.step).place_from (laid_slot pairs (s_first z) (z.n + 1) z.r s u is).has;
-  behind = λ s u is. (laid_slot pairs (s_first z) (z.n + 1) z.r s u is).from;
+  bits_after = λ s u is. (laid_slot pairs (s_first z) (z.n + 1) z.r s u is).from;
 }
 
 pub layout_once : (pairs : ℕ → List Pair) (z : Sizes) (s s' : StepSlots) (u u' : Slot) → IsSlotOf (layout pairs z) s u → IsSlotOf (layout pairs z) s' u' → u.var ≡ u'.var → IsSameSlot s s' u u'

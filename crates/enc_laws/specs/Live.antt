@@ -1,5 +1,7 @@
 -- The tables of the live outputs and the whole tables: chains of each give chains of the other.
-use Rattle.std.proofs.Common.{◌≡◌, ◌⊎◌, ℕ, zero, suc, ◌+◌, ◌-◌, ◌<◌, ◌≤◌, ◌^◌, Bool, true, false, List, ◌∷◌, [], ◌++◌, length, map, get_or, Option, Some, None, refl, sym, ap, ◌∙◌, subst, arith, inl, inr, ⊎_elim}
+use Rattle.std.proofs.Common.{◌≡◌, ◌⊎◌, ℕ, zero, suc, ◌+◌, ◌-◌, ◌<◌, ◌≤◌, ◌^◌, Bool, true, false, List, ◌∷◌, [], ◌++◌}
+use Rattle.std.proofs.Common.{length, map, get_or, Option, Some, None, refl, sym, ap, ◌∙◌, subst, arith, inl, inr}
+use Rattle.std.proofs.Common.{⊎_elim}
 use Rattle.std.specs.Prelude.{slice_index, slice_index_or, Contains, if◌then◌else◌}
 use Rattle.std.proofs.lemmas.Bool.{cases_lt, both_ways, false_from_ne_true}
 use Rattle.std.proofs.lemmas.List.{length-map, length_push, get_or_append_left, get_or_push, get_or-map}
@@ -117,7 +119,8 @@ out_cases n last (Place p) names costs = ⊎_elim (λ (above : n < p). record { 
     (λ (below : p ≤ n). absurd (costs (names.0, below))) (cases_lt n p)
 
 -- A live output is a step's place, in each chain that implements the tables.
-pub live_out_is_step : (s : Specification) (c : Chain) (h : ℕ) → IsChain c → Agrees c s → 1 ≤ h → h ≤ s.outputs → is_live s h ≡ true → IsStepOut c.n (c.n + length c.steps) (slice_index_or c.outs (h - 1) Zero)
+pub live_out_is_step : (s : Specification) (c : Chain) (h : ℕ) → IsChain c → Agrees c s → 1 ≤ h → h ≤ s.outputs →
+    is_live s h ≡ true → IsStepOut c.n (c.n + length c.steps) (slice_index_or c.outs (h - 1) Zero)
 live_out_is_step s c h is agrees some low live =
     let count = agrees.outputs in
     let names : NamesPlace (c.n + length c.steps) (slice_index_or c.outs (h - 1) Zero) = is.outs (h - 1) Zero (omega arith) in
@@ -170,7 +173,9 @@ picked_agrees w c agrees = record {
   outputs = length-map (live_outputs (specification w)) (out_at c.outs) ∙ sym (part_outputs w);
   cells = λ h t some low row.
       let whole = whole_is_live w h some low in
-      let same : output_value (picked w c) h t ≡ output_value c (whole_output w h) t = ap (out_value (picked w c) t) (picked_at w c.outs h some low) ∙ same_steps c (picked_outs w c.outs) t (out_at c.outs (whole_output w h)) in
+      let same : output_value (picked w c) h t ≡ output_value c (whole_output w h) t =
+      ap (out_value (picked w c) t) (picked_at w c.outs h some low)
+      ∙ same_steps c (picked_outs w c.outs) t (out_at c.outs (whole_output w h)) in
       rw (part_cell w h t some low, same) (agrees.cells (whole_output w h) t whole.from whole.to row);
 }
 
@@ -192,7 +197,9 @@ pub record IsOfPart (w : Words) (outs : List Out) (h : ℕ) (out : Out) : Type 0
   pub is : out ≡ out_at outs output
 
 restored_by : (w : Words) (outs : List Out) (h : ℕ) (found : Option Out) → trivial_of (specification w) h ≡ found → 1 ≤ h → h ≤ length w.on
-    → IsFitting (specification w) h (restored_out found (slice_index_or outs (length (live_among (specification w) (h - 1))) Zero)) ⊎ IsOfPart w outs h (restored_out found (slice_index_or outs (length (live_among (specification w) (h - 1))) Zero))
+    → IsFitting (specification w) h (restored_out found
+    (slice_index_or outs (length (live_among (specification w) (h - 1))) Zero)) ⊎
+    IsOfPart w outs h (restored_out found (slice_index_or outs (length (live_among (specification w) (h - 1))) Zero))
 unfolding is_live
 restored_by w outs h (Some out) e some low = let first = found_first (specification w) h out e in inl record { trivial = first.trivial; fitting = first.fitting }
 restored_by w outs h None e some low =
@@ -208,7 +215,9 @@ restored_by w outs h None e some low =
       is = ap (λ (i : ℕ). slice_index_or outs i Zero) (sym place);
     }
 
-pub restored_cases : (w : Words) (outs : List Out) (h : ℕ) → 1 ≤ h → h ≤ length w.on → IsFitting (specification w) h (restored_at (specification w) outs h) ⊎ IsOfPart w outs h (restored_at (specification w) outs h)
+pub restored_cases : (w : Words) (outs : List Out) (h : ℕ) → 1 ≤ h → h ≤ length w.on →
+    IsFitting (specification w) h (restored_at (specification w) outs h) ⊎
+    IsOfPart w outs h (restored_at (specification w) outs h)
 unfolding restored_at
 restored_cases w outs h some low = restored_by w outs h (trivial_of (specification w) h) refl some low
 
@@ -231,22 +240,24 @@ restored_is_chain w c is inputs count = record {
   outs = λ k d low.
       let long = length-restored (specification w) c.outs in
       rw (restored_get (specification w) c.outs k d (omega arith)) (⊎_elim
-      (λ (fit : IsFitting (specification w) (1 + k) (restored_at (specification w) c.outs (1 + k))). fitting_names w.n (c.n + length c.steps) (restored_at (specification w) c.outs (1 + k)) (omega arith) fit.trivial)
-      (λ (part : IsOfPart w c.outs (1 + k) (restored_at (specification w) c.outs (1 + k))).
-      let from = part.from in
-      let to = part.to in
-      rw (part.is) (is.outs (part.output - 1) Zero (omega arith)))
+      (λ (fit : IsFitting (specification w) (1 + k) (restored_at (specification w) c.outs (1 + k))). fitting_names w.n
+      (c.n + length c.steps) (restored_at (specification w) c.outs (1 + k)) (omega arith) fit.trivial)
+      (λ (of_live : IsOfPart w c.outs (1 + k) (restored_at (specification w) c.outs (1 + k))).
+      let from = of_live.from in
+      let to = of_live.to in
+      rw (of_live.is) (is.outs (of_live.output - 1) Zero (omega arith)))
       (restored_cases w c.outs (1 + k) (omega arith) (omega arith)));
 }
 
-restored_met : (w : Words) (c : Chain) (h t : ℕ) (out : Out) → Agrees c (specification (live_words w)) → t < 2 ^ w.n → IsFitting (specification w) h out ⊎ IsOfPart w c.outs h out → is_met (cell_of w h t) (out_value c t out) ≡ true
+restored_met : (w : Words) (c : Chain) (h t : ℕ) (out : Out) → Agrees c (specification (live_words w)) → t < 2 ^ w.n →
+    IsFitting (specification w) h out ⊎ IsOfPart w c.outs h out → is_met (cell_of w h t) (out_value c t out) ≡ true
 restored_met w c h t out agrees row (inl fit) =
     subst (λ (b : Bool). is_met (cell_of w h t) b ≡ true)
     (sym (trivial_is c t out (subst (λ (n : ℕ). IsTrivial n out) (sym agrees.inputs) fit.trivial) ∙ ap (λ (n : ℕ). trivial_value n t out) agrees.inputs))
     (fits_meets (specification w) h out fit.fitting t row)
-restored_met w c h t out agrees row (inr part) =
-    rw (part.is) (subst (λ (x : ℕ). is_met (cell_of w x t) (out_value c t (out_at c.outs part.output)) ≡ true) part.whole
-    (rw (part_cell w part.output t part.from part.to) at (agrees.cells part.output t part.from part.to row)))
+restored_met w c h t out agrees row (inr of_live) =
+    rw (of_live.is) (subst (λ (x : ℕ). is_met (cell_of w x t) (out_value c t (out_at c.outs of_live.output)) ≡ true) of_live.whole
+    (rw (part_cell w of_live.output t of_live.from of_live.to) at (agrees.cells of_live.output t of_live.from of_live.to row)))
 
 -- If a chain implements the live outputs' tables, it implements the tables once the trivial outputs are put
 -- back.
@@ -256,7 +267,11 @@ restored_agrees w c agrees = record {
   outputs = length-restored (specification w) c.outs;
   cells = λ h t some low row.
       let place : 1 + (h - 1) ≡ h = omega arith in
-      let at : out_at (restored (specification w) c.outs) h ≡ restored_at (specification w) c.outs h = restored_get (specification w) c.outs (h - 1) Zero (omega arith) ∙ ap (restored_at (specification w) c.outs) place in
-      let same : output_value (whole_chain w c) h t ≡ out_value c t (restored_at (specification w) c.outs h) = ap (out_value (whole_chain w c) t) at ∙ same_steps c (restored (specification w) c.outs) t (restored_at (specification w) c.outs h) in
+      let at : out_at (restored (specification w) c.outs) h ≡ restored_at (specification w) c.outs h =
+      restored_get (specification w) c.outs (h - 1) Zero (omega arith)
+      ∙ ap (restored_at (specification w) c.outs) place in
+      let same : output_value (whole_chain w c) h t ≡ out_value c t (restored_at (specification w) c.outs h) =
+      ap (out_value (whole_chain w c) t) at ∙ same_steps c (restored (specification w) c.outs) t
+      (restored_at (specification w) c.outs h) in
       rw same (restored_met w c h t (restored_at (specification w) c.outs h) agrees row (restored_cases w c.outs h some low));
 }

@@ -5,18 +5,18 @@ use Rattle.std.specs.List.{range_with_len}
 use Rattle.std.proofs.lemmas.Bool.{and_from, and_parts, or_left, or_right, or_cases, eqb-true, eq-eqb, ltb-true, both_ways, not-true, not_from_false, false_from_ne_true}
 use Rattle.chain_theory.specs.Chain.{Step}
 use Rattle.chain_laws.specs.Keys.{ComesBefore}
-use Rattle.chain_laws.specs.Reduced.{Reads, ReadsWithout, AppliesAgain}
+use Rattle.chain_laws.specs.NormalForm.{Reads, ReadsWithout, IsReapplication}
 use Rattle.sat_theory.specs.Formula.{Assignment}
 use Rattle.chain_theory.specs.declared.data.Cell.{Cell}
 use Rattle.chain_theory.specs.declared.data.Cell.TheVariants as cells
 use Rattle.tt_core.specs.Symmetry.{IsSymmetric, exchanged}
 use Rattle.tt_core.specs.Words.{Words, specification, cell_of}
-use Rattle.clause_core.specs.declared.raw.Raw.{Raw}
+use Rattle.clause_core.specs.declared.raw.RawLit.{RawLit}
 use Rattle.enc_theory.specs.declared.data.Sizes.{Sizes}
 use Rattle.enc_theory.specs.declared.data.Slot.{Slot}
 use Rattle.enc_theory.specs.Pairs.{StepSlots}
 use Rattle.enc_theory.specs.Families.{operator_raw}
-use Rattle.enc_theory.specs.Cuts.{reads, larger, smaller, comes_before, applies_again, same_cell, same_at, same_output, may_exchange, reads_without}
+use Rattle.enc_theory.specs.Cuts.{reads, larger, smaller, comes_before, is_reapplication, same_cell, same_at, same_output, may_exchange, reads_without}
 use Rattle.enc_laws.specs.Bounds.{f_positive}
 use Rattle.clause_core.specs.Holds.{all_get, all_make, holds, raws_bit, ArePositive, range_contains, range_inside}
 use Rattle.enc_laws.specs.Layouts.{IsSlotOf}
@@ -75,8 +75,8 @@ pub reads_test : (u : Slot) (a : Step) (p : ℕ) → u.j ≡ a.j → u.k ≡ a.k
 reads_test u a p j k (inl e) = or_left (u.j == p) (u.k == p) (eq-eqb u.j p (j ∙ e))
 reads_test u a p j k (inr e) = or_right (u.j == p) (u.k == p) (eq-eqb u.k p (k ∙ e))
 
-pub steps_again : (p : ℕ) (u v : Slot) (a b : Step) → u.j ≡ a.j → u.k ≡ a.k → v.j ≡ b.j → v.k ≡ b.k → applies_again p u v ≡ true → AppliesAgain p a b
-unfolding applies_again
+pub steps_again : (p : ℕ) (u v : Slot) (a b : Step) → u.j ≡ a.j → u.k ≡ a.k → v.j ≡ b.j → v.k ≡ b.k → is_reapplication p u v ≡ true → IsReapplication p a b
+unfolding is_reapplication
 steps_again p u v a b uj uk vj vk e = ⊎_elim
     (λ (first : (v.j == p && reads u v.k) ≡ true).
     let (here, other) = and_parts (v.j == p) (reads u v.k) first in
@@ -109,7 +109,9 @@ pub exchange_symmetric : (w : Words) (p q : ℕ) → may_exchange w p q ≡ true
 unfolding may_exchange same_output same_at
 exchange_symmetric w p q may = λ h some low t row.
     same_cells (cell_of w h (exchanged w.n p q t)) (cell_of w h t)
-    (all_get (same_at w p q h) (range_with_len 0 (2 ^ w.n)) t (all_get (same_output w p q) (range_with_len 1 (length w.on)) h may (range_contains 1 (length w.on) h some (omega arith))) (range_contains 0 (2 ^ w.n) t (omega arith) (omega arith)))
+    (all_get (same_at w p q h) (range_with_len 0 (2 ^ w.n)) t
+    (all_get (same_output w p q) (range_with_len 1 (length w.on)) h may
+    (range_contains 1 (length w.on) h some (omega arith))) (range_contains 0 (2 ^ w.n) t (omega arith) (omega arith)))
 
 pub symmetric_exchange : (w : Words) (p q : ℕ) → IsSymmetric (specification w) p q → may_exchange w p q ≡ true
 unfolding may_exchange same_output same_at
@@ -129,7 +131,7 @@ without_test u a p q j k (one, none) = and_from (reads u p) (not (reads u q)) (r
     (not_from_false (reads u q) (false_from_ne_true (reads u q) (λ e. none (reads_from u a q j k e))))
 
 -- if a step before the place has a pair with p and not q, one of the literals is true
-pub record HasBefore (steps : List StepSlots) (v : Assignment) (p q place : ℕ) (before : List Raw) : Type 0 where
+pub record HasBefore (steps : List StepSlots) (v : Assignment) (p q place : ℕ) (before : List RawLit) : Type 0 where
   pub each : (s : StepSlots) (u : Slot) → IsSlotOf steps s u → s.place < place → reads_without p q u ≡ true → v u.var ≡ true → raws_bit v before ≡ true
 
 pub implies_bit : (a b : Bool) → (a ≡ true → b ≡ true) → (not a || b) ≡ true

@@ -3,8 +3,8 @@ use Rattle.std.proofs.Common.{ℕ, map}
 use Rattle.chain_theory.specs.Chain.{Chain}
 use Rattle.chain_theory.specs.Agreement.{HasChain, IsMinimum}
 use Rattle.op_basis.specs.Basis.{members}
-use Rattle.chain_laws.specs.Reduced.{IsReduced}
-use Rattle.chain_laws.specs.Least.{minimum_is_reduced}
+use Rattle.chain_laws.specs.NormalForm.{IsNormalForm}
+use Rattle.chain_laws.specs.Least.{minimum_is_in_normal_form}
 use Rattle.sat_theory.specs.Formula.{IsFormula, Assignment, Satisfies}
 use Rattle.tt_core.specs.Words.{Words, specification}
 use Rattle.tt_core.specs.Live.{live_words}
@@ -38,9 +38,10 @@ pub select_sound : (w : Words) (basis r : ℕ) → IsSatisfiable (select_formula
 select_sound w basis r (v, satisfies) = for_is_there w basis r (select_decoded w r v) (select_decodes w basis r v satisfies)
 
 -- The assignment of a chain in normal form satisfies the formula.
-reduced_selects : (w : Words) (basis r : ℕ) (c : Chain) → IsFor (live_words w) basis r c → IsReduced (members basis) (specification (live_words w)) c → IsSatisfiable (select_live (live_words w) basis r)
+normal_form_selects : (w : Words) (basis r : ℕ) (c : Chain) → IsFor (live_words w) basis r c →
+    IsNormalForm (members basis) (specification (live_words w)) c → IsSatisfiable (select_live (live_words w) basis r)
 unfolding select_live
-reduced_selects w basis r c is reduced =
+normal_form_selects w basis r c is normal_form =
     let z : Sizes = sizes_of (live_words w) r in
     let v : Assignment = chain_bits z c (select_rest z c) in
     let choices : IsOfChoices (live_words w) r c v = select_bits (live_words w) basis r c is in (
@@ -48,7 +49,7 @@ reduced_selects w basis r c is reduced =
       satisfied_holds v (select_live (live_words w) basis r)
           (both_hold v (chosen_chain (live_words w) basis z) (chosen_cuts basis z)
           (chooses_to (live_words w) basis z v (chain_chooses (live_words w) basis r c v is (live_outs (live_words w) basis r c (part_is_all_live w) is) choices))
-          (chosen_cuts_hold (live_words w) basis r c v choices is reduced)),
+          (chosen_cuts_hold (live_words w) basis r c v choices is normal_form)),
     )
 
 -- If a chain of r steps over the basis implements the tables and none of fewer steps does, the formula is
@@ -56,12 +57,14 @@ reduced_selects w basis r c is reduced =
 pub select_complete : (w : Words) (basis r : ℕ) → IsMinimum (specification w) (members basis) r → IsSatisfiable (select_formula w basis r)
 unfolding select_formula
 select_complete w basis r minimum =
-    let least = minimum_is_reduced (specification (live_words w)) (members basis) r (part_minimum w basis r minimum) in
-    reduced_selects w basis r least.has.chain (record { is_chain = least.has.is_chain; size = least.has.size; is_over = least.has.is_over; agrees = least.has.agrees }) least.reduced
+    let least = minimum_is_in_normal_form (specification (live_words w)) (members basis) r (part_minimum w basis r minimum) in
+    normal_form_selects w basis r least.has.chain (record { is_chain = least.has.is_chain; size = least.has.size; is_over = least.has.is_over; agrees = least.has.agrees }) least.normal_form
 
 -- The formula is well-formed.
 pub select_is_formula : (w : Words) (basis r : ℕ) → IsFormula (select_formula w basis r)
 unfolding select_formula select_live
 select_is_formula w basis r =
     let z : Sizes = sizes_of (live_words w) r in
-    are_formula (select_live (live_words w) basis r) (clauses_both (select_vars z) (chosen_chain (live_words w) basis z) (chosen_cuts basis z) (chain_clauses (live_words w) basis z) (chosen_cuts_clauses (live_words w) basis z))
+    are_formula (select_live (live_words w) basis r)
+    (clauses_both (select_vars z) (chosen_chain (live_words w) basis z) (chosen_cuts basis z)
+    (chain_clauses (live_words w) basis z) (chosen_cuts_clauses (live_words w) basis z))

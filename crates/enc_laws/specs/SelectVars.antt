@@ -98,13 +98,13 @@ row_low z i t is row =
     let turned : 2 ^ z.n * z.r ≡ z.r * 2 ^ z.n = mul_comm (2 ^ z.n) z.r in
     omega arith
 
-pub value_behind : (z : Sizes) (side : Side) (i t : ℕ) → s_first z ≤ value_var z side i t
+pub value_after : (z : Sizes) (side : Side) (i t : ℕ) → s_first z ≤ value_var z side i t
 unfolding value_var value_first
-value_behind z First i t = omega arith
-value_behind z Second i t = omega arith
+value_after z First i t = omega arith
+value_after z Second i t = omega arith
 
 pub value_positive : (z : Sizes) (side : Side) (i t : ℕ) → 1 ≤ value_var z side i t
-value_positive z side i t = omega (arith, value_behind z side i t, s_positive z)
+value_positive z side i t = omega (arith, value_after z side i t, s_positive z)
 
 -- ---- all are within the number of variables
 

@@ -13,15 +13,20 @@ use Rattle.op_basis.specs.Basis.{members}
 use Rattle.op_basis.specs.Laws.{operator_values, operator_low, operator_only}
 use Rattle.sat_theory.specs.Formula.{Assignment}
 use Rattle.tt_core.specs.Words.{Words, cell_of}
-use Rattle.clause_core.specs.declared.raw.Raw.TheVariants.{Fixed, Var}
+use Rattle.clause_core.specs.declared.raw.RawLit.TheVariants.{Fixed, Var}
 use Rattle.enc_theory.specs.declared.data.Sizes.{Sizes}
 use Rattle.enc_theory.specs.declared.data.Slot.{Slot}
 use Rattle.clause_core.specs.Clauses.{written}
 use Rattle.enc_theory.specs.Numbering.{places, rows, outputs, x_var, g_var, f_var, x_is}
 use Rattle.enc_theory.specs.Pairs.{StepSlots}
-use Rattle.enc_theory.specs.Families.{bearer, out_exists_at, out_exists, out_value_is, out_value_at, out_value, out_values_of, out_values_at, out_values, chosen, pair_exists_at, pair_exists, value_raw, value_clause, value_bit, value_row, value_slot, value_step, values, operator_raw, operator_clause, operators_at, operators, common}
+use Rattle.enc_theory.specs.Families.{driver, out_exists_at, out_exists, out_value_is, out_value_at, out_value}
+use Rattle.enc_theory.specs.Families.{out_values_of, out_values_at, out_values, chosen, pair_exists_at, pair_exists}
+use Rattle.enc_theory.specs.Families.{value_raw, value_clause, value_bit, value_row, value_slot, value_step, values}
+use Rattle.enc_theory.specs.Families.{operator_raw, operator_clause, operators_at, operators, common}
 use Rattle.enc_theory.specs.Decode.{operator_in}
-use Rattle.clause_core.specs.Holds.{holds, holds_both, both_hold, holds_each, each_holds, same, raw_value, raws_bit, raws_bit-map, holds-written, IsPositive, positive-map, any_get, any_make, range_contains, range_inside}
+use Rattle.clause_core.specs.Holds.{holds, holds_both, both_hold, holds_each, each_holds, same, raw_value, raws_bit}
+use Rattle.clause_core.specs.Holds.{raws_bit-map, holds-written, IsPositive, positive-map, any_get, any_make}
+use Rattle.clause_core.specs.Holds.{range_contains, range_inside}
 use Rattle.enc_laws.specs.Bounds.{x_positive, g_positive, f_positive, slot_positive}
 use Rattle.enc_laws.specs.Layouts.{IsStepPlace, IsSlotOf, IsLaid}
 
@@ -32,7 +37,7 @@ x_bit z v j t = if leb j z.n then input z.n t j else v (x_var z j t)
 -- The assignment gives each output a driver whose values meet the output's cells, and each step an operator of
 -- the basis, however steps select their operands.
 pub record MeetsTables (w : Words) (basis : ℕ) (z : Sizes) (v : Assignment) : Type 0 where
-  pub bearer : (h : ℕ) → 1 ≤ h → h ≤ z.m → (i : ℕ) × IsStepPlace z i × (v (g_var z h i) ≡ true)
+  pub driver : (h : ℕ) → 1 ≤ h → h ≤ z.m → (i : ℕ) × IsStepPlace z i × (v (g_var z h i) ≡ true)
   pub out : (h i t : ℕ) → 1 ≤ h → h ≤ z.m → IsStepPlace z i → t < 2 ^ z.n → v (g_var z h i) ≡ true → is_met (cell_of w h t) (x_bit z v i t) ≡ true
   pub operator : (i : ℕ) → IsStepPlace z i → members basis (operator_in z v i) ≡ true
 
@@ -81,29 +86,31 @@ fixed_value false false = refl
 -- the literal means what it is named for
 pub x_is_value : (z : Sizes) (v : Assignment) (j t : ℕ) (bit : Bool) → raw_value v (x_is z j t bit) ≡ same (x_bit z v j t) bit
 unfolding x_is x_bit raw_value
-x_is_value z v j t bit = elim (leb j z.n) as (λ b. raw_value v (if b then Fixed (if input z.n t j then bit else not bit) else Var (x_var z j t) bit) ≡ same (if b then input z.n t j else v (x_var z j t)) bit) [
-  | true ↦ fixed_value (input z.n t j) bit
-  | false ↦ refl
-]
+x_is_value z v j t bit = elim (leb j z.n) as (λ b.
+    raw_value v (if b then Fixed (if input z.n t j then bit else not bit) else Var (x_var z j t) bit) ≡
+    same (if b then input z.n t j else v (x_var z j t)) bit) [
+      | true ↦ fixed_value (input z.n t j) bit
+      | false ↦ refl
+    ]
 
 -- ---- each output has a driver
 
-bears : (z : Sizes) (v : Assignment) (h : ℕ) → holds v (out_exists_at z h) ≡ list_any (λ i. v (g_var z h i)) (places z)
-unfolding out_exists_at bearer raw_value same
-bears z v h = holds-written v (map (bearer z h) (places z)) (positive-map (bearer z h) (places z) (λ i c. g_positive z h i (there_place z i c))) ∙ raws_bit-map v (bearer z h) (places z)
+drives : (z : Sizes) (v : Assignment) (h : ℕ) → holds v (out_exists_at z h) ≡ list_any (λ i. v (g_var z h i)) (places z)
+unfolding out_exists_at driver raw_value same
+drives z v h = holds-written v (map (driver z h) (places z)) (positive-map (driver z h) (places z) (λ i c. g_positive z h i (there_place z i c))) ∙ raws_bit-map v (driver z h) (places z)
 
-bearer_from : (z : Sizes) (v : Assignment) (h : ℕ) → holds v (out_exists z) ≡ true → 1 ≤ h → h ≤ z.m → (i : ℕ) × IsStepPlace z i × (v (g_var z h i) ≡ true)
+driver_from : (z : Sizes) (v : Assignment) (h : ℕ) → holds v (out_exists z) ≡ true → 1 ≤ h → h ≤ z.m → (i : ℕ) × IsStepPlace z i × (v (g_var z h i) ≡ true)
 unfolding out_exists
-bearer_from z v h all some low =
-    let found = any_get (λ i. v (g_var z h i)) (places z) (sym (bears z v h) ∙ holds_each v (out_exists_at z) (outputs z) h all (output_there z h some low)) in
+driver_from z v h all some low =
+    let found = any_get (λ i. v (g_var z h i)) (places z) (sym (drives z v h) ∙ holds_each v (out_exists_at z) (outputs z) h all (output_there z h some low)) in
     (found.element, there_place z found.element found.inside, found.passes)
 
-bearer_to : (z : Sizes) (v : Assignment) → ((h : ℕ) → 1 ≤ h → h ≤ z.m → (i : ℕ) × IsStepPlace z i × (v (g_var z h i) ≡ true)) → holds v (out_exists z) ≡ true
+driver_to : (z : Sizes) (v : Assignment) → ((h : ℕ) → 1 ≤ h → h ≤ z.m → (i : ℕ) × IsStepPlace z i × (v (g_var z h i) ≡ true)) → holds v (out_exists z) ≡ true
 unfolding out_exists
-bearer_to z v each = each_holds v (out_exists_at z) (outputs z) (λ h c.
+driver_to z v each = each_holds v (out_exists_at z) (outputs z) (λ h c.
     let (some, low) = there_output z h c in
     let (i, is, true_) = each h some low in
-    bears z v h ∙ any_make (λ i. v (g_var z h i)) (places z) i (place_there z i is) true_)
+    drives z v h ∙ any_make (λ i. v (g_var z h i)) (places z) i (place_there z i is) true_)
 
 -- ---- a driver has the values of its output's cells
 
@@ -143,7 +150,8 @@ out_to z v h i t Zero is met = out_bits z v h i t false is ∙ met_to (v (g_var 
 out_to z v h i t One is met = out_bits z v h i t true is ∙ met_to (v (g_var z h i)) (x_bit z v i t) true met
 out_to z v h i t Free is met = refl
 
-outs_from : (w : Words) (z : Sizes) (v : Assignment) (h i t : ℕ) → holds v (out_values w z) ≡ true → 1 ≤ h → h ≤ z.m → IsStepPlace z i → t < 2 ^ z.n → v (g_var z h i) ≡ true → is_met (cell_of w h t) (x_bit z v i t) ≡ true
+outs_from : (w : Words) (z : Sizes) (v : Assignment) (h i t : ℕ) → holds v (out_values w z) ≡ true → 1 ≤ h → h ≤ z.m →
+    IsStepPlace z i → t < 2 ^ z.n → v (g_var z h i) ≡ true → is_met (cell_of w h t) (x_bit z v i t) ≡ true
 unfolding out_values out_values_at out_values_of out_value
 outs_from w z v h i t all some low is row true_ =
     let at_h = holds_each v (out_values_at w z) (outputs z) h all (output_there z h some low) in
@@ -151,7 +159,8 @@ outs_from w z v h i t all some low is row true_ =
     let at_t = holds_each v (out_value w z h i) (rows z) t at_i (row_there z t row) in
     out_from z v h i t (cell_of w h t) is at_t true_
 
-outs_to : (w : Words) (z : Sizes) (v : Assignment) → ((h i t : ℕ) → 1 ≤ h → h ≤ z.m → IsStepPlace z i → t < 2 ^ z.n → v (g_var z h i) ≡ true → is_met (cell_of w h t) (x_bit z v i t) ≡ true) → holds v (out_values w z) ≡ true
+outs_to : (w : Words) (z : Sizes) (v : Assignment) → ((h i t : ℕ) → 1 ≤ h → h ≤ z.m → IsStepPlace z i → t < 2 ^ z.n →
+    v (g_var z h i) ≡ true → is_met (cell_of w h t) (x_bit z v i t) ≡ true) → holds v (out_values w z) ≡ true
 unfolding out_values out_values_at out_values_of out_value
 outs_to w z v each =
     each_holds v (out_values_at w z) (outputs z) (λ h in_outputs. each_holds v (out_values_of w z h) (places z) (λ i in_places. each_holds v (out_value w z h i) (rows z) (λ t in_rows.
@@ -163,15 +172,20 @@ outs_to w z v each =
 
 pairs_bit : (z : Sizes) (v : Assignment) (steps : List StepSlots) (s : StepSlots) → IsLaid z steps → Contains steps s → holds v (pair_exists_at s) ≡ list_any (λ u. v u.var) s.slots
 unfolding pair_exists_at chosen raw_value same
-pairs_bit z v steps s laid c = holds-written v (map chosen s.slots) (positive-map chosen s.slots (λ u in_slots. slot_positive z steps s u laid (record { step = c; slot = in_slots }))) ∙ raws_bit-map v chosen s.slots
+pairs_bit z v steps s laid c = holds-written v (map chosen s.slots)
+    (positive-map chosen s.slots (λ u in_slots. slot_positive z steps s u laid (record { step = c; slot = in_slots })))
+    ∙ raws_bit-map v chosen s.slots
 
-pair_from : (z : Sizes) (v : Assignment) (steps : List StepSlots) (s : StepSlots) → IsLaid z steps → holds v (pair_exists steps) ≡ true → Contains steps s → (u : Slot) × Contains s.slots u × (v u.var ≡ true)
+pair_from : (z : Sizes) (v : Assignment) (steps : List StepSlots) (s : StepSlots) → IsLaid z steps →
+    holds v (pair_exists steps) ≡ true → Contains steps s → (u : Slot) × Contains s.slots u × (v u.var ≡ true)
 unfolding pair_exists
 pair_from z v steps s laid all c =
     let found = any_get (λ u. v u.var) s.slots (sym (pairs_bit z v steps s laid c) ∙ holds_each v pair_exists_at steps s all c) in
     (found.element, found.inside, found.passes)
 
-pair_to : (z : Sizes) (v : Assignment) (steps : List StepSlots) → IsLaid z steps → ((s : StepSlots) → Contains steps s → (u : Slot) × Contains s.slots u × (v u.var ≡ true)) → holds v (pair_exists steps) ≡ true
+pair_to : (z : Sizes) (v : Assignment) (steps : List StepSlots) → IsLaid z steps →
+    ((s : StepSlots) → Contains steps s → (u : Slot) × Contains s.slots u × (v u.var ≡ true)) →
+    holds v (pair_exists steps) ≡ true
 unfolding pair_exists
 pair_to z v steps laid each = each_holds v pair_exists_at steps (λ s c.
     let (u, inside, true_) = each s c in
@@ -186,7 +200,16 @@ value_bits : (z : Sizes) (v : Assignment) (steps : List StepSlots) (s : StepSlot
     → holds v (value_clause z s.place u t a b c) ≡ clause_of (v u.var) (x_bit z v s.place t) (x_bit z v u.j t) (x_bit z v u.k t) (v (f_var z s.place b c)) a b c
 unfolding value_clause value_raw raws_bit raw_value same
 value_bits z v steps s u t a b c laid is =
-    holds-written v (value_raw z s.place u t a b c) (slot_positive z steps s u laid is, (x_is_positive z s.place t (not a), (x_is_positive z u.j t (not b), (x_is_positive z u.k t (not c), (f_positive z s.place b c, tt)))))
+    holds-written v (value_raw z s.place u t a b c) (
+      slot_positive z steps s u laid is,
+      (
+        x_is_positive z s.place t (not a),
+        (
+          x_is_positive z u.j t (not b),
+          (x_is_positive z u.k t (not c), (f_positive z s.place b c, tt)),
+        ),
+      ),
+    )
     ∙ rw (x_is_value z v s.place t (not a), x_is_value z v u.j t (not b), x_is_value z v u.k t (not c)) refl
 
 four_get : (z : Sizes) (v : Assignment) (i : ℕ) (u : Slot) (t : ℕ) (a b c : Bool) → holds v (value_bit z i u t a) ≡ true → holds v (value_clause z i u t a b c) ≡ true
@@ -210,8 +233,12 @@ row_make : (z : Sizes) (v : Assignment) (i : ℕ) (u : Slot) (t : ℕ) → ((a b
 unfolding value_row value_bit
 row_make z v i u t each =
     both_hold v (value_bit z i u t false) (value_bit z i u t true)
-    (both_hold v _ (value_clause z i u t false true true) (both_hold v _ (value_clause z i u t false true false) (both_hold v (value_clause z i u t false false false) (value_clause z i u t false false true) (each false false false) (each false false true)) (each false true false)) (each false true true))
-    (both_hold v _ (value_clause z i u t true true true) (both_hold v _ (value_clause z i u t true true false) (both_hold v (value_clause z i u t true false false) (value_clause z i u t true false true) (each true false false) (each true false true)) (each true true false)) (each true true true))
+    (both_hold v _ (value_clause z i u t false true true) (both_hold v _ (value_clause z i u t false true false)
+    (both_hold v (value_clause z i u t false false false) (value_clause z i u t false false true)
+    (each false false false) (each false false true)) (each false true false)) (each false true true))
+    (both_hold v _ (value_clause z i u t true true true) (both_hold v _ (value_clause z i u t true true false)
+    (both_hold v (value_clause z i u t true false false) (value_clause z i u t true false true)
+    (each true false false) (each true false true)) (each true true false)) (each true true true))
 
 -- the clause of the operands' bits gives the step its value
 pub clause_gives : (s x j k f : Bool) → s ≡ true → clause_of s x j k f x j k ≡ true → x ≡ f
@@ -256,12 +283,16 @@ gives_clause true x j k f a b c value = ⊎_elim
     (λ (j_other : same j (not b) ≡ true). or_left (same j (not b)) _ j_other)
     (λ (j_is : j ≡ b). or_right (same j (not b)) _ (⊎_elim
     (λ (k_other : same k (not c) ≡ true). or_left (same k (not c)) _ k_other)
-    (λ (k_is : k ≡ c). or_right (same k (not c)) _ (or_left (same (f b c) a) false (has_own (f b c) a (ap (λ (y : Bool). f b y) (sym k_is) ∙ ap (λ (y : Bool). f y k) (sym j_is) ∙ sym (value refl) ∙ x_is))))
+    (λ (k_is : k ≡ c). or_right (same k (not c)) _
+    (or_left (same (f b c) a) false (has_own (f b c) a (ap (λ (y : Bool). f b y) (sym k_is)
+    ∙ ap (λ (y : Bool). f y k) (sym j_is) ∙ sym (value refl) ∙ x_is))))
     (other_or k c)))
     (other_or j b)))
     (other_or x a)
 
-value_from : (z : Sizes) (v : Assignment) (steps : List StepSlots) (s : StepSlots) (u : Slot) (t : ℕ) → IsLaid z steps → holds v (values z steps) ≡ true → IsSlotOf steps s u → t < 2 ^ z.n → v u.var ≡ true → x_bit z v s.place t ≡ v (f_var z s.place (x_bit z v u.j t) (x_bit z v u.k t))
+value_from : (z : Sizes) (v : Assignment) (steps : List StepSlots) (s : StepSlots) (u : Slot) (t : ℕ) →
+    IsLaid z steps → holds v (values z steps) ≡ true → IsSlotOf steps s u → t < 2 ^ z.n → v u.var ≡ true →
+    x_bit z v s.place t ≡ v (f_var z s.place (x_bit z v u.j t) (x_bit z v u.k t))
 unfolding values value_step value_slot
 value_from z v steps s u t laid all is row true_ =
     let at_s = holds_each v (value_step z) steps s all is.step in
@@ -272,7 +303,9 @@ value_from z v steps s u t laid all is row true_ =
     let k : Bool = x_bit z v u.k t in
     clause_gives (v u.var) x j k (v (f_var z s.place j k)) true_ (sym (value_bits z v steps s u t x j k laid is) ∙ row_get z v s.place u t x j k at_t)
 
-value_to : (z : Sizes) (v : Assignment) (steps : List StepSlots) → IsLaid z steps → ((s : StepSlots) (u : Slot) (t : ℕ) → IsSlotOf steps s u → t < 2 ^ z.n → v u.var ≡ true → x_bit z v s.place t ≡ v (f_var z s.place (x_bit z v u.j t) (x_bit z v u.k t))) → holds v (values z steps) ≡ true
+value_to : (z : Sizes) (v : Assignment) (steps : List StepSlots) → IsLaid z steps →
+    ((s : StepSlots) (u : Slot) (t : ℕ) → IsSlotOf steps s u → t < 2 ^ z.n → v u.var ≡ true →
+    x_bit z v s.place t ≡ v (f_var z s.place (x_bit z v u.j t) (x_bit z v u.k t))) → holds v (values z steps) ≡ true
 unfolding values value_step value_slot
 value_to z v steps laid each =
     each_holds v (value_step z) steps (λ s in_steps. each_holds v (value_slot z s.place) s.slots (λ u in_slots. each_holds v (value_row z s.place u) (rows z) (λ t in_rows.
@@ -282,7 +315,11 @@ value_to z v steps laid each =
 
 -- ---- a step's operator is in the basis
 
-pub operator_bits : (z : Sizes) (v : Assignment) (i op : ℕ) → holds v (written (operator_raw z i op)) ≡ (same (v (f_var z i false false)) (not (apply op false false)) || (same (v (f_var z i false true)) (not (apply op false true)) || (same (v (f_var z i true false)) (not (apply op true false)) || (same (v (f_var z i true true)) (not (apply op true true)) || false))))
+pub operator_bits : (z : Sizes) (v : Assignment) (i op : ℕ) →
+    holds v (written (operator_raw z i op)) ≡ (same (v (f_var z i false false)) (not (apply op false false)) ||
+    (same (v (f_var z i false true)) (not (apply op false true)) ||
+    (same (v (f_var z i true false)) (not (apply op true false)) ||
+    (same (v (f_var z i true true)) (not (apply op true true)) || false))))
 unfolding operator_raw raws_bit raw_value
 operator_bits z v i op = holds-written v (operator_raw z i op) (f_positive z i false false, (f_positive z i false true, (f_positive z i true false, (f_positive z i true true, tt))))
 
@@ -305,7 +342,12 @@ operator_is_member basis z v i op all is = true_from_ne_false (members basis op)
     let clause : holds v (written (operator_raw z i op)) ≡ true = (rw no at all) in
     let has : (b c : Bool) → v (f_var z i b c) ≡ apply op b c = λ b c. sym (ap (λ (x : ℕ). apply x b c) is ∙ operator_values (λ b c. v (f_var z i b c)) b c) in
     both_ways (holds v (written (operator_raw z i op)))
-    (rw (never_other (v (f_var z i false false)) (apply op false false) (has false false), never_other (v (f_var z i false true)) (apply op false true) (has false true), never_other (v (f_var z i true false)) (apply op true false) (has true false), never_other (v (f_var z i true true)) (apply op true true) (has true true)) at (operator_bits z v i op))
+    (rw (
+      never_other (v (f_var z i false false)) (apply op false false) (has false false),
+      never_other (v (f_var z i false true)) (apply op false true) (has false true),
+      never_other (v (f_var z i true false)) (apply op true false) (has true false),
+      never_other (v (f_var z i true true)) (apply op true true) (has true true),
+    ) at (operator_bits z v i op))
     clause)
 
 operator_from : (basis : ℕ) (z : Sizes) (v : Assignment) (i : ℕ) → holds v (operators basis z) ≡ true → IsStepPlace z i → members basis (operator_in z v i) ≡ true
@@ -313,7 +355,8 @@ unfolding operators operators_at
 operator_from basis z v i all is =
     let at_i = holds_each v (operators_at basis z) (places z) i all (place_there z i is) in
     let low = operator_low (λ b c. v (f_var z i b c)) in
-    operator_is_member basis z v i (operator_in z v i) (holds_each v (operator_clause basis z i) (range_with_len 0 16) (operator_in z v i) at_i (range_contains 0 16 (operator_in z v i) (omega arith) low)) refl
+    operator_is_member basis z v i (operator_in z v i) (holds_each v (operator_clause basis z i) (range_with_len 0 16)
+    (operator_in z v i) at_i (range_contains 0 16 (operator_in z v i) (omega arith) low)) refl
 
 -- another operator than the step's differs from it at some pair of bits
 pub differs_from : (z : Sizes) (v : Assignment) (i op : ℕ) → op < 16 → (op ≡ operator_in z v i → ⊥) → holds v (written (operator_raw z i op)) ≡ true
@@ -334,7 +377,8 @@ differs_from z v i op low other = true_from_ne_false (holds v (written (operator
       ]
     ]) y)))
 
-operator_holds : (basis : ℕ) (z : Sizes) (v : Assignment) (i op : ℕ) (test : Bool) → members basis op ≡ test → op < 16 → members basis (operator_in z v i) ≡ true → holds v (operator_clause basis z i op) ≡ true
+operator_holds : (basis : ℕ) (z : Sizes) (v : Assignment) (i op : ℕ) (test : Bool) → members basis op ≡ test →
+    op < 16 → members basis (operator_in z v i) ≡ true → holds v (operator_clause basis z i op) ≡ true
 unfolding operator_clause holds
 operator_holds basis z v i op true is low member = rw is refl
 operator_holds basis z v i op false is low member = rw is (differs_from z v i op low (λ e. both_ways (members basis op) is (ap (members basis) e ∙ member)))
@@ -349,14 +393,14 @@ operator_to basis z v each =
 -- ---- the families without pairs
 
 pub meets_from : (w : Words) (basis : ℕ) (z : Sizes) (v : Assignment) → holds v (out_exists z) ≡ true → holds v (out_values w z) ≡ true → holds v (operators basis z) ≡ true → MeetsTables w basis z v
-meets_from w basis z v bearers outs all = record {
-  bearer = λ h some low. bearer_from z v h bearers some low;
+meets_from w basis z v drivers outs all = record {
+  driver = λ h some low. driver_from z v h drivers some low;
   out = λ h i t some low is row true_. outs_from w z v h i t outs some low is row true_;
   operator = λ i is. operator_from basis z v i all is;
 }
 
-pub bearers_hold : (w : Words) (basis : ℕ) (z : Sizes) (v : Assignment) → MeetsTables w basis z v → holds v (out_exists z) ≡ true
-bearers_hold w basis z v meets = bearer_to z v meets.bearer
+pub drivers_hold : (w : Words) (basis : ℕ) (z : Sizes) (v : Assignment) → MeetsTables w basis z v → holds v (out_exists z) ≡ true
+drivers_hold w basis z v meets = driver_to z v meets.driver
 
 pub outs_hold : (w : Words) (basis : ℕ) (z : Sizes) (v : Assignment) → MeetsTables w basis z v → holds v (out_values w z) ≡ true
 outs_hold w basis z v meets = outs_to w z v meets.out
@@ -387,7 +431,7 @@ solves_to w basis z steps v laid solves =
     both_hold v _ (operators basis z)
     (both_hold v _ (values z steps)
     (both_hold v _ (pair_exists steps)
-    (both_hold v (out_exists z) (out_values w z) (bearers_hold w basis z v solves.tables) (outs_hold w basis z v solves.tables))
+    (both_hold v (out_exists z) (out_values w z) (drivers_hold w basis z v solves.tables) (outs_hold w basis z v solves.tables))
     (pair_to z v steps laid solves.pair))
     (value_to z v steps laid solves.value))
     (operators_hold w basis z v solves.tables)

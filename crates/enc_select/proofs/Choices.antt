@@ -16,7 +16,9 @@ pub choice-found : (z : Sizes) (v : Assignment) (side : Side) (i j last : ℕ) �
 unfolding first_choice
 choice-found z v side i j last low is = let e : last - j ≡ suc (last - (j + 1)) = omega arith in rw e (rw is refl)
 
-pub choice-next : (z : Sizes) (v : Assignment) (side : Side) (i j last : ℕ) → j < last → v (choice_var z side i j) ≡ false → first_choice z v side i (range_with_len j (last - j)) ≡ first_choice z v side i (range_with_len (j + 1) (last - (j + 1)))
+pub choice-next : (z : Sizes) (v : Assignment) (side : Side) (i j last : ℕ) → j < last →
+    v (choice_var z side i j) ≡ false → first_choice z v side i (range_with_len j (last - j)) ≡
+    first_choice z v side i (range_with_len (j + 1) (last - (j + 1)))
 unfolding first_choice
 choice-next z v side i j last low is = let e : last - j ≡ suc (last - (j + 1)) = omega arith in rw e (rw is refl)
 

@@ -9,9 +9,16 @@ use Rattle.enc_theory.specs.declared.data.Side.{Side}
 use Rattle.enc_theory.specs.declared.data.Side.TheVariants.{First, Second}
 use Rattle.enc_theory.specs.declared.data.Sizes.{Sizes}
 use Rattle.clause_core.specs.Clauses.{written}
-use Rattle.clause_core.specs.declared.raw.Raw.TheVariants.{Var}
+use Rattle.clause_core.specs.declared.raw.RawLit.TheVariants.{Var}
 use Rattle.enc_theory.specs.Numbering.{places, rows, f_var}
-use Rattle.enc_theory.specs.Select.{below, chooses, not_these, choice_exists, choices_exist, operands_exist, copy_raw, copy_row, copy_place, copy_step, copies, result_raw, result_clause, result_bit, result_row, result_step, results, chosen_chain, rising_pair, rising_from, rising_step, rising, used_step, used_steps, equal_choice, negation_pair, negation_from, negation_step, trivial_step, trivial_steps, falling_pair, falling_from, falling_step, falling, different, again_operand, again_operands, again_from, again_after, again_step, again_steps, chosen_cuts}
+use Rattle.enc_theory.specs.Select.{below, chooses, not_these, choice_exists, choices_exist, operands_exist, copy_raw}
+use Rattle.enc_theory.specs.Select.{copy_row, copy_place, copy_step, copies, result_raw, result_clause, result_bit}
+use Rattle.enc_theory.specs.Select.{result_row, result_step, results, chosen_chain, rising_pair, rising_from}
+use Rattle.enc_theory.specs.Select.{rising_step, rising, used_step, used_steps, equal_choice, negation_pair}
+use Rattle.enc_theory.specs.Select.{negation_from, negation_step, trivial_step, trivial_steps, falling_pair}
+use Rattle.enc_theory.specs.Select.{falling_from, falling_step, falling, different, no_reapplication_operand}
+use Rattle.enc_theory.specs.Select.{no_reapplication_operands, no_reapplication_from, no_reapplication_after}
+use Rattle.enc_theory.specs.Select.{no_reapplication_step, no_reapplication_steps, chosen_cuts}
 use Rattle.enc_frame.specs.Room.{IsSmall}
 use Rattle.clause_core.specs.CountLaws.{flat_map-few, pieces-few, written-few, times-few}
 use Rattle.enc_frame.specs.Counts.{out_exists-few, out_values-few, operators-few}
@@ -48,7 +55,9 @@ unless-few false clauses k few = few
 
 operands-few : (z : Sizes) → IsSmall z → length (operands_exist z) ≤ 32
 unfolding operands_exist choices_exist choice_exists
-operands-few z small = let all = all_steps-few (choices_exist z) 2 z small (λ i low. rw length-append (omega (arith, written-few (map (chooses z First i) (below i)), written-few (map (chooses z Second i) (below i))))) in omega (arith, all)
+operands-few z small =
+    let all = all_steps-few (choices_exist z) 2 z small (λ i low. rw length-append (omega (arith, written-few (map (chooses z First i) (below i)), written-few (map (chooses z Second i) (below i))))) in
+    omega (arith, all)
 
 copy_row-few : (z : Sizes) (side : Side) (i j t : ℕ) → length (copy_row z side i j t) ≤ 2
 unfolding copy_row
@@ -56,11 +65,22 @@ copy_row-few z side i j t = rw length-append (omega (arith, written-few (copy_ra
 
 copies-few : (z : Sizes) (side : Side) → IsSmall z → length (copies z side) ≤ 45056
 unfolding copies copy_step copy_place
-copies-few z side small = let all = all_steps-few (copy_step z side) 2816 z small (λ i low. let own = below-few (copy_place z side i) 128 i (omega arith) (λ j less. rows-few (copy_row z side i j) 2 z small (λ t. copy_row-few z side i j t)) in omega (arith, own)) in omega (arith, all)
+copies-few z side small =
+    let all = all_steps-few (copy_step z side) 2816 z small (λ i low. let own =
+    below-few (copy_place z side i) 128 i (omega arith) (λ j less.
+    rows-few (copy_row z side i j) 2 z small (λ t. copy_row-few z side i j t)) in omega (arith, own)) in
+    omega (arith, all)
 
 result_bit-few : (z : Sizes) (i t : ℕ) (a : Bool) → length (result_bit z i t a) ≤ 4
 unfolding result_bit result_clause
-result_bit-few z i t a = rw (length-append, length-append, length-append) (omega (arith, written-few (result_raw z i t a false false), written-few (result_raw z i t a false true), written-few (result_raw z i t a true false), written-few (result_raw z i t a true true)))
+result_bit-few z i t a = rw (length-append, length-append, length-append)
+    (omega (
+      arith,
+      written-few (result_raw z i t a false false),
+      written-few (result_raw z i t a false true),
+      written-few (result_raw z i t a true false),
+      written-few (result_raw z i t a true true),
+    ))
 
 results-few : (z : Sizes) → IsSmall z → length (results z) ≤ 8192
 unfolding results result_step result_row
@@ -79,7 +99,10 @@ chain-few w basis z small =
 rising-few : (basis : ℕ) (z : Sizes) → IsSmall z → length (rising basis z) ≤ 7744
 unfolding rising rising_step rising_from rising_pair
 rising-few basis z small = if-few (swap_closed (members basis)) (flat_map (rising_step z) (places z)) 7744
-    (let all = all_steps-few (rising_step z) 484 z small (λ i low. let own = below-few (rising_from z i) 22 i (omega arith) (λ j less. let row = below-few (rising_pair z i j) 1 j (omega arith) (λ k less'. written-few _) in omega (arith, row)) in omega (arith, own)) in omega (arith, all))
+    (let all = all_steps-few (rising_step z) 484 z small (λ i low. let own =
+    below-few (rising_from z i) 22 i (omega arith) (λ j less. let row =
+    below-few (rising_pair z i j) 1 j (omega arith) (λ k less'. written-few _) in omega (arith, row)) in
+    omega (arith, own)) in omega (arith, all))
 
 used-few : (z : Sizes) → IsSmall z → length (used_steps z) ≤ 16
 unfolding used_steps used_step
@@ -87,13 +110,20 @@ used-few z small = let all = all_steps-few (used_step z) 1 z small (λ i low. wr
 
 equal-few : (constants : Bool) (z : Sizes) (i j : ℕ) → length (equal_choice constants z i j) ≤ 2
 unfolding equal_choice
-equal-few true z i j = rw length-append (omega (arith, written-few (not_these z i j j ++ Var (f_var z i false false) true ∷ []), written-few (not_these z i j j ++ Var (f_var z i true true) false ∷ [])))
+equal-few true z i j = rw length-append (omega (
+  arith,
+  written-few (not_these z i j j ++
+      Var (f_var z i false false) true ∷ []),
+  written-few (not_these z i j j ++ Var (f_var z i true true) false ∷ []),
+))
 equal-few false z i j = omega (arith, written-few (not_these z i j j ++ Var (f_var z i false false) true ∷ Var (f_var z i true true) false ∷ []))
 
 negation-few : (basis : ℕ) (z : Sizes) (i op : ℕ) → i ≤ 22 → length (negation_step basis z i op) ≤ 484
 unfolding negation_step negation_from negation_pair
 negation-few basis z i op low = if-few (members basis op) (flat_map (negation_from z i op) (below i)) 484
-    (let all = below-few (negation_from z i op) 22 i (omega arith) (λ j less. let row = below-few (negation_pair z i op j) 1 i (omega arith) (λ k less'. unless-few (j == k) (written _) 1 (written-few _)) in omega (arith, row)) in omega (arith, all))
+    (let all = below-few (negation_from z i op) 22 i (omega arith) (λ j less. let row =
+    below-few (negation_pair z i op j) 1 i (omega arith) (λ k less'.
+    unless-few (j == k) (written _) 1 (written-few _)) in omega (arith, row)) in omega (arith, all))
 
 trivial-few : (basis : ℕ) (z : Sizes) → IsSmall z → length (trivial_steps basis z) ≤ 16256
 unfolding trivial_steps trivial_step
@@ -109,41 +139,47 @@ falling-few : (basis : ℕ) (z : Sizes) → IsSmall z → length (falling basis 
 unfolding falling falling_step falling_from falling_pair
 falling-few basis z small = if-few (swap_closed (members basis)) (flat_map (falling_step z) (range_with_len (z.n + 1) (z.r - 1))) 7744
     (let n = small.inputs in let r = small.steps in
-    let all = steps-few (falling_step z) 484 (z.n + 1) (z.r - 1) (omega arith) (omega arith) (λ i low. let own = below-few (falling_from z i) 22 i (omega arith) (λ k less. let row = below-few (falling_pair z i k) 1 k (omega arith) (λ l less'. written-few _) in omega (arith, row)) in omega (arith, own)) in
+    let all = steps-few (falling_step z) 484 (z.n + 1) (z.r - 1) (omega arith) (omega arith) (λ i low. let own =
+    below-few (falling_from z i) 22 i (omega arith) (λ k less. let row =
+    below-few (falling_pair z i k) 1 k (omega arith) (λ l less'. written-few _) in omega (arith, row)) in
+    omega (arith, own)) in
     omega (arith, all))
 
-again_operand-few : (ordered : Bool) (z : Sizes) (i l j k o : ℕ) → length (again_operand ordered z i l j k o) ≤ 2
-unfolding again_operand
-again_operand-few ordered z i l j k o =
+no_reapplication_operand-few : (ordered : Bool) (z : Sizes) (i l j k o : ℕ) → length (no_reapplication_operand ordered z i l j k o) ≤ 2
+unfolding no_reapplication_operand
+no_reapplication_operand-few ordered z i l j k o =
     let second = unless-few ordered (written (not_these z i j k ++ not_these z l i o)) 1 (written-few (not_these z i j k ++ not_these z l i o)) in
     rw length-append (omega (arith, written-few (not_these z i j k ++ not_these z l o i), second))
 
 different-few : (j k : ℕ) → length (different j k) ≤ 2
 different-few j k = (elim (j == k) as (λ b. length (if b then j ∷ [] else min j k ∷ max j k ∷ []) ≤ 2) [ true ↦ omega arith | false ↦ omega arith ])
 
-again_operands-few : (ordered : Bool) (z : Sizes) (i l j k : ℕ) → length (again_operands ordered z i l j k) ≤ 4
-unfolding again_operands
-again_operands-few ordered z i l j k = unless-few (ordered && nat_lt k j) (flat_map (again_operand ordered z i l j k) (different j k)) 4
-    (let all = pieces-few (again_operand ordered z i l j k) 2 (different j k) (λ o. again_operand-few ordered z i l j k o) in
+no_reapplication_operands-few : (ordered : Bool) (z : Sizes) (i l j k : ℕ) → length (no_reapplication_operands ordered z i l j k) ≤ 4
+unfolding no_reapplication_operands
+no_reapplication_operands-few ordered z i l j k = unless-few (ordered && nat_lt k j) (flat_map (no_reapplication_operand ordered z i l j k) (different j k)) 4
+    (let all = pieces-few (no_reapplication_operand ordered z i l j k) 2 (different j k) (λ o. no_reapplication_operand-few ordered z i l j k o) in
     omega (arith, all, different-few j k))
 
-again-few : (basis : ℕ) (z : Sizes) → IsSmall z → length (again_steps basis z) ≤ 495616
-unfolding again_steps again_step again_after again_from
-again-few basis z small =
+no_reapplication-few : (basis : ℕ) (z : Sizes) → IsSmall z → length (no_reapplication_steps basis z) ≤ 495616
+unfolding no_reapplication_steps no_reapplication_step no_reapplication_after no_reapplication_from
+no_reapplication-few basis z small =
     let ordered : Bool = swap_closed (members basis) in
-    if-few (reapply_closed (members basis)) (flat_map (again_step ordered z) (places z)) 495616
+    if-few (reapply_closed (members basis)) (flat_map (no_reapplication_step ordered z) (places z)) 495616
     (let n = small.inputs in let r = small.steps in
-    let after : (i l : ℕ) → i ≤ 22 → length (again_after ordered z i l) ≤ 1936 = λ i l low.
-    let own = below-few (again_from ordered z i l) 88 i (omega arith) (λ j less. let row = below-few (again_operands ordered z i l j) 4 i (omega arith) (λ k less'. again_operands-few ordered z i l j k) in omega (arith, row)) in omega (arith, own) in
-    let all : length (flat_map (again_step ordered z) (range_with_len (z.n + 1) z.r)) ≤ z.r * 30976 = flat_map-few (again_step ordered z) 30976 (z.n + 1) z.r (λ i from to.
-    let own = steps-few (again_after ordered z i) 1936 (i + 1) (z.n + z.r - i) (omega arith) (omega arith) (λ l low. after i l (omega arith)) in omega (arith, own)) in
+    let after : (i l : ℕ) → i ≤ 22 → length (no_reapplication_after ordered z i l) ≤ 1936 = λ i l low.
+    let own = below-few (no_reapplication_from ordered z i l) 88 i (omega arith) (λ j less. let row =
+    below-few (no_reapplication_operands ordered z i l j) 4 i (omega arith) (λ k less'.
+    no_reapplication_operands-few ordered z i l j k) in omega (arith, row)) in
+    omega (arith, own) in
+    let all : length (flat_map (no_reapplication_step ordered z) (range_with_len (z.n + 1) z.r)) ≤ z.r * 30976 = flat_map-few (no_reapplication_step ordered z) 30976 (z.n + 1) z.r (λ i from to.
+    let own = steps-few (no_reapplication_after ordered z i) 1936 (i + 1) (z.n + z.r - i) (omega arith) (omega arith) (λ l low. after i l (omega arith)) in omega (arith, own)) in
     omega (arith, all))
 
 cuts-few : (basis : ℕ) (z : Sizes) → IsSmall z → length (chosen_cuts basis z) ≤ 1000000
 unfolding chosen_cuts
 cuts-few basis z small =
     rw (length-append, length-append, length-append, length-append, length-append)
-    (omega (arith, rising-few basis z small, used-few z small, trivial-few basis z small, falling-few basis z small, again-few basis z small, row_0-few basis z small))
+    (omega (arith, rising-few basis z small, used-few z small, trivial-few basis z small, falling-few basis z small, no_reapplication-few basis z small, row_0-few basis z small))
 
 -- The clauses are few enough for a formula.
 pub both-few : (w : Words) (basis : ℕ) (z : Sizes) → IsSmall z → length (chosen_chain w basis z ++ chosen_cuts basis z) ≤ 2000000

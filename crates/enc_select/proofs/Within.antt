@@ -2,7 +2,7 @@
 use Rattle.std.proofs.Common.{ℕ, ◌+◌, ◌-◌, ◌<◌, ◌≤◌, Bool, true, List, [], ◌∷◌, map, get_or, All, Contains, arith}
 use Rattle.std.specs.List.{flat_map}
 use Rattle.std.proofs.lemmas.List.Elements.{All-nil, All-append, All-map, Contains-get_or}
-use Rattle.clause_core.specs.declared.raw.Raw.TheVariants.{Var}
+use Rattle.clause_core.specs.declared.raw.RawLit.TheVariants.{Var}
 use Rattle.enc_theory.specs.declared.data.Side.{Side}
 use Rattle.enc_theory.specs.declared.data.Side.TheVariants.{First, Second}
 use Rattle.enc_theory.specs.declared.data.Sizes.{Sizes}
@@ -22,7 +22,9 @@ choice_within z vars side i j bit room place from to = within_var vars (choice_v
 
 pub these_within : (z : Sizes) (vars i j k : ℕ) → HasChoices z vars → IsPlace z i → 1 ≤ j → j < i → 1 ≤ k → k < i → All (IsWithin vars) (not_these z i j k)
 these_within z vars i j k room place j_from j_to k_from k_to =
-    two (IsWithin vars) (Var (choice_var z First i j) _) (Var (choice_var z Second i k) _) (choice_within z vars First i j _ room place j_from j_to) (choice_within z vars Second i k _ room place k_from k_to)
+    two (IsWithin vars) (Var (choice_var z First i j) _) (Var (choice_var z Second i k) _)
+    (choice_within z vars First i j _ room place j_from j_to)
+    (choice_within z vars Second i k _ room place k_from k_to)
 
 map_each : {X Y : Type 0} (P : Y → Type 0) (f : X → Y) (xs : List X) → ((x : X) → Contains xs x → P (f x)) → All P (map f xs)
 map_each {X} {Y} P f xs each = All-map P f xs (λ k d low. each (get_or xs k d) (Contains-get_or xs k d low))
@@ -47,4 +49,6 @@ choosers_within z vars i room place =
     pieces_each (IsWithin vars) (choosers z i) (above z i) (λ l c.
     let (l_from, l_to) = range_inside (i + 1) (z.n + z.r - i) l c in
     let at : IsPlace z l = record { from = omega arith; below = omega arith } in
-    two (IsWithin vars) (Var (choice_var z First l i) _) (Var (choice_var z Second l i) _) (choice_within z vars First l i _ room at (omega arith) (omega arith)) (choice_within z vars Second l i _ room at (omega arith) (omega arith)))
+    two (IsWithin vars) (Var (choice_var z First l i) _) (Var (choice_var z Second l i) _)
+    (choice_within z vars First l i _ room at (omega arith) (omega arith))
+    (choice_within z vars Second l i _ room at (omega arith) (omega arith)))

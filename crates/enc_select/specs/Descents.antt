@@ -2,7 +2,7 @@
 -- have in common.
 use Rattle.std.specs.Prelude.{ℕ, ℤ, false, List, [], ◌∷◌}
 use Rattle.std.specs.List.{flat_map}
-use Rattle.clause_core.specs.declared.raw.Raw.TheVariants.{Var}
+use Rattle.clause_core.specs.declared.raw.RawLit.TheVariants.{Var}
 use Rattle.clause_core.specs.Clauses.{written}
 use Rattle.enc_theory.specs.declared.data.Side.{Side}
 use Rattle.enc_theory.specs.declared.data.Sizes.{Sizes}

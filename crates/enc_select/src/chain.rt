@@ -1,12 +1,14 @@
 //! The clauses that define chains.
 ghost use Rattle.std.specs.Prelude.{◌≡◌, ◌+◌, ◌^◌, ◌<◌, ◌≤◌, ◌++◌, OnOk};
 ghost use Rattle.clause_core.specs.Clauses.{written};
-ghost use Rattle.enc_theory.specs.Select.{choice_exists, choices_exist, operands_exist, copy_raw, copy_row, copy_place, copy_step, copies, result_clause, result_bit, result_row, result_step, results, chosen_chain};
+ghost use Rattle.enc_theory.specs.Select.{choice_exists, choices_exist, operands_exist, copy_raw, copy_row, copy_place};
+ghost use Rattle.enc_theory.specs.Select.{copy_step, copies, result_clause, result_bit, result_row, result_step};
+ghost use Rattle.enc_theory.specs.Select.{results, chosen_chain};
 ghost use Rattle.enc_frame.specs.Room.{IsPlace, AreFor};
 ghost use Rattle.enc_select.specs.Room.{HasChoices};
 
 use crate::literals::{choice, value};
-use clause_core::{ClauseList, Raw};
+use clause_core::{ClauseList, RawLit};
 use enc_frame::{f_var, push_operators, push_out_exists, push_out_values, rows, x_is};
 use enc_theory::{Side, Sizes};
 use op_basis::Basis;
@@ -48,7 +50,7 @@ fn push_operands_exist(alloc: Global, list: &mut ClauseList, z: Sizes) -> Result
 
 /// The subject of a copy clause: an operand of a step, a place that it may be, and a row.
 #[derive(Clone, Copy)]
-struct At {
+struct CopyPosition {
     side: Side,
     step: u32,
     place: u32,
@@ -61,14 +63,17 @@ fn push_copy(
     alloc: Global,
     list: &mut ClauseList,
     z: Sizes,
-    at: At,
+    at: CopyPosition,
     bit: bool,
 ) -> Result<(), AllocError>
     requires room { HasChoices z list.old.vars }
     requires place { IsPlace z at.step }
     requires operand { (1 ≤ at.place) × (at.place < at.step) }
     requires row { at.row < 2 ^ z.n }
-    ensures { OnOk result (list.new ≡ record list.old { clauses = list.old.clauses ++ written (copy_raw z at.side at.step at.place at.row bit) }) }
+    ensures { OnOk result (list.new ≡ record list.old {
+      clauses = list.old.clauses ++
+          written (copy_raw z at.side at.step at.place at.row bit);
+    }) }
 {
     list.push(
         alloc,
@@ -82,12 +87,20 @@ fn push_copy(
 
 /// The clauses of both bits.
 #[tactic(auto, unfolding(enc_theory::specs::Select::copy_row))]
-fn push_copy_row(alloc: Global, list: &mut ClauseList, z: Sizes, at: At) -> Result<(), AllocError>
+fn push_copy_row(
+    alloc: Global,
+    list: &mut ClauseList,
+    z: Sizes,
+    at: CopyPosition,
+) -> Result<(), AllocError>
     requires room { HasChoices z list.old.vars }
     requires place { IsPlace z at.step }
     requires operand { (1 ≤ at.place) × (at.place < at.step) }
     requires row { at.row < 2 ^ z.n }
-    ensures { OnOk result (list.new ≡ record list.old { clauses = list.old.clauses ++ copy_row z at.side at.step at.place at.row }) }
+    ensures { OnOk result (list.new ≡ record list.old {
+      clauses = list.old.clauses ++
+          copy_row z at.side at.step at.place at.row;
+    }) }
 {
     push_copy(alloc, list, z, at, false)?;
     push_copy(alloc, list, z, at, true)
@@ -113,7 +126,7 @@ fn push_copy_place(
             alloc,
             list,
             z,
-            At {
+            CopyPosition {
                 side,
                 step,
                 place,
@@ -179,7 +192,7 @@ fn push_result_clause(
             x_is(z, i, t, !a),
             value(z, Side::First, i, t, !b),
             value(z, Side::Second, i, t, !c),
-            Raw::Var(f_var(z, i, b, c), a),
+            RawLit::Var(f_var(z, i, b, c), a),
         ],
     )
 }

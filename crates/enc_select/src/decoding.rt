@@ -3,7 +3,8 @@ ghost use Rattle.std.specs.Prelude.{◌≡◌, ◌≤◌, map, IfOk};
 ghost use Rattle.chain_core.specs.Steps.{step_of, steps_of, IsSmallChain};
 ghost use Rattle.sat_theory.specs.Formula.{bits_of};
 ghost use Rattle.enc_theory.specs.Numbering.{places};
-ghost use Rattle.enc_theory.specs.Select.{below, first_choice as first_choice_of, chosen_step as chosen_step_of, select_decoded};
+ghost use Rattle.enc_theory.specs.Select.{below, first_choice as first_choice_of, chosen_step as chosen_step_of};
+ghost use Rattle.enc_theory.specs.Select.{select_decoded};
 ghost use Rattle.enc_frame.specs.Room.{IsSmall, IsPlace};
 
 use crate::vars::choice_var;
@@ -12,7 +13,7 @@ use cnf_core::Assign;
 use enc_frame::{bit, operator, sizes, with_outs};
 use enc_theory::{Side, Sizes};
 use std::alloc::{AllocError, Global};
-use tt_core::{Spec, live_part};
+use tt_core::{Spec, live_spec};
 
 /// The first place below step `i` whose selection variable is true.
 #[tactic(auto, using(crate::proofs::Choices::choices))]
@@ -68,7 +69,7 @@ pub(crate) fn decode_chosen(
     requires chain { IsSmallChain (select_decoded spec.now r (bits_of assign.now)) }
     ensures { IfOk result (λ chain. chain ≡ select_decoded spec.now r (bits_of assign.now)) }
 {
-    let live = live_part(alloc, spec)?;
+    let live = live_spec(alloc, spec)?;
     let z = sizes(&live, r);
     let steps = chosen_steps(alloc, assign.bits(), z)?;
     with_outs(alloc, spec, z, steps, assign)

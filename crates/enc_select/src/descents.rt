@@ -48,7 +48,10 @@ fn push_descent(
     requires others { IsPlace z other.step }
     requires operand { (1 ≤ k) × (k < own.step) }
     requires lower { (1 ≤ l) × (l < other.step) }
-    ensures { OnOk result (list.new ≡ record list.old { clauses = list.old.clauses ++ descent z own.side own.step other.side other.step k l }) }
+    ensures { OnOk result (list.new ≡ record list.old {
+      clauses = list.old.clauses ++
+          descent z own.side own.step other.side other.step k l;
+    }) }
 {
     list.push(
         alloc,
@@ -74,7 +77,10 @@ fn push_descents_from(
     requires others { IsPlace z other.step }
     requires order { own.step ≤ other.step }
     requires operand { (1 ≤ k) × (k < own.step) }
-    ensures { OnOk result (list.new ≡ record list.old { clauses = list.old.clauses ++ descents_from z own.side own.step other.side other.step k }) }
+    ensures { OnOk result (list.new ≡ record list.old {
+      clauses = list.old.clauses ++
+          descents_from z own.side own.step other.side other.step k;
+    }) }
 {
     for l in 1..k {
         push_descent(alloc, list, z, own, other, k, l)?;
@@ -95,7 +101,10 @@ fn push_descents(
     requires places { IsPlace z own.step }
     requires others { IsPlace z other.step }
     requires order { own.step ≤ other.step }
-    ensures { OnOk result (list.new ≡ record list.old { clauses = list.old.clauses ++ descents z own.side own.step other.side other.step }) }
+    ensures { OnOk result (list.new ≡ record list.old {
+      clauses = list.old.clauses ++
+          descents z own.side own.step other.side other.step;
+    }) }
 {
     for k in 1..own.step {
         push_descents_from(alloc, list, z, own, other, k)?;
@@ -133,7 +142,10 @@ pub(crate) fn push_rising(
 fn push_falling_steps(alloc: Global, list: &mut ClauseList, z: Sizes) -> Result<(), AllocError>
     requires room { HasChoices z list.old.vars }
     requires some { 1 ≤ z.r }
-    ensures { OnOk result (list.new ≡ record list.old { clauses = list.old.clauses ++ flat_map (falling_step z) (range_with_len (z.n + 1) (z.r - 1)) }) }
+    ensures { OnOk result (list.new ≡ record list.old {
+      clauses = list.old.clauses ++
+          flat_map (falling_step z) (range_with_len (z.n + 1) (z.r - 1));
+    }) }
 {
     for step in z.n + 1..z.n + z.r {
         push_descents(alloc, list, z, second_of(step), second_of(step + 1))?;

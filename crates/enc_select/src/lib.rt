@@ -10,16 +10,16 @@
 //! The clauses on outputs and operators are those of `enc_frame`, and the constraints that don't mention
 //! operands are those of `enc_cuts`.
 //!
-//! - `chain` writes the clauses that define chains; `descents`, `used`, `trivial` and `again` write the
+//! - `chain` writes the clauses that define chains; `descents`, `used`, `trivial` and `no_reapplication` write the
 //!   symmetry-breaking constraints.
 //! - `decoding` decodes the steps of an assignment, and `vars` numbers the variables.
 #![tactic(auto)]
 
-mod again;
 mod chain;
 mod decoding;
 mod descents;
 mod literals;
+mod no_reapplication;
 mod select;
 mod trivial;
 mod used;

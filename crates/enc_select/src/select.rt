@@ -4,10 +4,10 @@ ghost use Rattle.std.specs.Prelude.{◌≡◌, ◌++◌, OnOk};
 ghost use Rattle.enc_theory.specs.Select.{chosen_cuts};
 ghost use Rattle.enc_select.specs.Room.{HasChoices};
 
-use crate::again::push_again;
 use crate::chain::push_chain;
 use crate::decoding::decode_chosen;
 use crate::descents::{push_falling, push_rising};
+use crate::no_reapplication::push_no_reapplication;
 use crate::trivial::push_trivial;
 use crate::used::push_used;
 use crate::vars::select_vars;
@@ -16,10 +16,10 @@ use clause_core::ClauseList;
 use cnf_core::{Assign, Cnf};
 use enc_cuts::push_row_0;
 use enc_frame::{Encoding, sizes};
-use enc_theory::{Part, Sizes};
+use enc_theory::{Sizes, Subproblem};
 use op_basis::Basis;
 use std::alloc::{AllocError, Global};
-use tt_core::{Spec, live_part};
+use tt_core::{Spec, live_spec};
 
 /// Writes the symmetry-breaking constraints: operands are ordered; all steps are used; operators are
 /// non-trivial; second operands never decrease; there is no re-application; and a step that drives no output is
@@ -33,7 +33,7 @@ fn push_cuts(alloc: Global, list: &mut ClauseList, basis: Basis, z: Sizes) -> Re
     push_used(alloc, list, z)?;
     push_trivial(alloc, list, basis, z)?;
     push_falling(alloc, list, basis, z)?;
-    push_again(alloc, list, basis, z)?;
+    push_no_reapplication(alloc, list, basis, z)?;
     push_row_0(alloc, list, basis, z)
 }
 
@@ -44,21 +44,26 @@ pub struct Select;
 
 impl Encoding for Select {
     ghost use Rattle.std.specs.Prelude.{[], ◌∷◌};
-    ghost use Rattle.enc_theory.specs.declared.part.Part.TheVariants.{Whole};
+    ghost use Rattle.enc_theory.specs.declared.subproblem.Subproblem.TheVariants.{Whole};
     ghost use Rattle.enc_theory.specs.Select.{select_formula};
     ghost use Rattle.enc_laws.specs.Select.{select_sound, select_complete};
     ghost use Rattle.enc_laws.specs.WholeLaws.{the_whole};
 
-    ghost parts_of = { λ select w r. Whole ∷ [] };
+    ghost subproblems_of = { λ select w r. Whole ∷ [] };
 
-    ghost formula_of = { λ select w basis r part. select_formula w basis r };
+    ghost formula_of = { λ select w basis r subproblem. select_formula w basis r };
 
-    ghost sound = { λ select w basis r part there sat. select_sound w basis r sat };
+    ghost sound = { λ select w basis r subproblem there sat. select_sound w basis r sat };
 
     ghost complete = { λ select w basis r least. (Whole, the_whole, select_complete w basis r least) };
 
-    fn parts(&self, alloc: Global, _spec: &Spec, _r: u32) -> Result<Vec<Part>, AllocError> {
-        Ok(vec![in alloc; Part::Whole]?)
+    fn subproblems(
+        &self,
+        alloc: Global,
+        _spec: &Spec,
+        _r: u32,
+    ) -> Result<Vec<Subproblem>, AllocError> {
+        Ok(vec![in alloc; Subproblem::Whole]?)
     }
 
     #[tactic(auto, using(crate::proofs::Formulas::limits), unfolding(enc_theory::specs::Select::select_formula, enc_theory::specs::Select::select_live))]
@@ -68,9 +73,9 @@ impl Encoding for Select {
         spec: &Spec,
         basis: Basis,
         r: u32,
-        _part: &Part,
+        _subproblem: &Subproblem,
     ) -> Result<Cnf, AllocError> {
-        let live = live_part(alloc, spec)?;
+        let live = live_spec(alloc, spec)?;
         let z = sizes(&live, r);
         let mut list = ClauseList::new(alloc, select_vars(z))?;
         push_chain(alloc, &mut list, &live, basis, z)?;
@@ -85,7 +90,7 @@ impl Encoding for Select {
         spec: &Spec,
         _basis: Basis,
         r: u32,
-        _part: &Part,
+        _subproblem: &Subproblem,
         assign: &Assign,
     ) -> Result<Chain, AllocError> {
         // for the prover: brings in that the tables are within the bounds

@@ -2,12 +2,13 @@
 ghost use Rattle.std.specs.Prelude.{◌≡◌, ◌<◌, ◌≤◌, ◌++◌, [], ◌∷◌, OnOk};
 ghost use Rattle.std.specs.List.{flat_map};
 ghost use Rattle.op_basis.specs.Closed.{const_closed};
-ghost use Rattle.enc_theory.specs.Select.{below, equal_choice, negation_pair, negation_from, negation_step, trivial_step, trivial_steps};
+ghost use Rattle.enc_theory.specs.Select.{below, equal_choice, negation_pair, negation_from, negation_step};
+ghost use Rattle.enc_theory.specs.Select.{trivial_step, trivial_steps};
 ghost use Rattle.enc_frame.specs.Room.{IsPlace};
 ghost use Rattle.enc_select.specs.Room.{HasChoices};
 
 use crate::literals::choice;
-use clause_core::{ClauseList, Raw};
+use clause_core::{ClauseList, RawLit};
 use enc_cuts::{push_not_idle, push_operator};
 use enc_frame::f_var;
 use enc_theory::{Side, Sizes};
@@ -31,8 +32,8 @@ fn push_equal(
 {
     let first = choice(z, Side::First, i, j, false);
     let second = choice(z, Side::Second, i, j, false);
-    let low = Raw::Var(f_var(z, i, false, false), true);
-    let high = Raw::Var(f_var(z, i, true, true), false);
+    let low = RawLit::Var(f_var(z, i, false, false), true);
+    let high = RawLit::Var(f_var(z, i, true, true), false);
     if !constants {
         return list.push(alloc, &[first, second, low, high]);
     }
@@ -51,7 +52,10 @@ fn push_equals(
 ) -> Result<(), AllocError>
     requires room { HasChoices z list.old.vars }
     requires place { IsPlace z i }
-    ensures { OnOk result (list.new ≡ record list.old { clauses = list.old.clauses ++ flat_map (equal_choice constants z i) (below i) }) }
+    ensures { OnOk result (list.new ≡ record list.old {
+      clauses = list.old.clauses ++
+          flat_map (equal_choice constants z i) (below i);
+    }) }
 {
     for j in 1..i {
         push_equal(alloc, list, constants, z, i, j)?;
@@ -119,7 +123,10 @@ fn push_negation_all(
 ) -> Result<(), AllocError>
     requires room { HasChoices z list.old.vars }
     requires place { IsPlace z i }
-    ensures { OnOk result (list.new ≡ record list.old { clauses = list.old.clauses ++ flat_map (negation_from z i op) (below i) }) }
+    ensures { OnOk result (list.new ≡ record list.old {
+      clauses = list.old.clauses ++
+          flat_map (negation_from z i op) (below i);
+    }) }
 {
     for j in 1..i {
         push_negation_from(alloc, list, z, i, op, j)?;
@@ -158,7 +165,10 @@ fn push_negations(
 ) -> Result<(), AllocError>
     requires room { HasChoices z list.old.vars }
     requires place { IsPlace z i }
-    ensures { OnOk result (list.new ≡ record list.old { clauses = list.old.clauses ++ flat_map (negation_step basis z i) (10 ∷ 12 ∷ []) }) }
+    ensures { OnOk result (list.new ≡ record list.old {
+      clauses = list.old.clauses ++
+          flat_map (negation_step basis z i) (10 ∷ 12 ∷ []);
+    }) }
 {
     push_negation(alloc, list, basis, z, i, Op::new(10))?;
     push_negation(alloc, list, basis, z, i, Op::new(12))
@@ -176,7 +186,10 @@ fn push_trivial_step(
 ) -> Result<(), AllocError>
     requires room { HasChoices z list.old.vars }
     requires place { IsPlace z i }
-    ensures { OnOk result (list.new ≡ record list.old { clauses = list.old.clauses ++ trivial_step constants basis z i }) }
+    ensures { OnOk result (list.new ≡ record list.old {
+      clauses = list.old.clauses ++
+          trivial_step constants basis z i;
+    }) }
 {
     push_not_idle(alloc, list, constants, basis, z, i)?;
     push_equals(alloc, list, constants, z, i)?;

@@ -6,14 +6,14 @@ ghost use Rattle.enc_frame.specs.Room.{IsSmall, IsPlace};
 ghost use Rattle.enc_select.specs.Room.{HasChoices};
 
 use crate::literals::choice;
-use clause_core::{ClauseList, Raw};
-use enc_cuts::push_bearers;
+use clause_core::{ClauseList, RawLit};
+use enc_cuts::push_drivers;
 use enc_theory::{Side, Sizes};
 use std::alloc::{AllocError, Global};
 
 /// Adds the literals that an operand of step `i` is `place`.
 #[tactic(auto, using(crate::proofs::Ranges::loops), unfolding(enc_theory::specs::Select::choosers, enc_theory::specs::Select::chooses))]
-fn push_choosers(raws: &mut Vec<Raw>, z: Sizes, place: u32, i: u32) -> Result<(), AllocError>
+fn push_choosers(raws: &mut Vec<RawLit>, z: Sizes, place: u32, i: u32) -> Result<(), AllocError>
     requires small { IsSmall z }
     requires step { IsPlace z i }
     requires operand { (1 ≤ place) × (place < i) }
@@ -26,7 +26,7 @@ fn push_choosers(raws: &mut Vec<Raw>, z: Sizes, place: u32, i: u32) -> Result<()
 
 /// Adds the literals that an operand of a later step is this step.
 #[tactic(auto, using(crate::proofs::Ranges::later))]
-fn push_readers(raws: &mut Vec<Raw>, z: Sizes, i: u32) -> Result<(), AllocError>
+fn push_readers(raws: &mut Vec<RawLit>, z: Sizes, i: u32) -> Result<(), AllocError>
     requires small { IsSmall z }
     requires place { IsPlace z i }
     ensures { OnOk result (raws.new.items ≡ raws.old.items ++ flat_map (choosers z i) (above z i)) }
@@ -45,7 +45,7 @@ fn push_used_step(alloc: Global, list: &mut ClauseList, z: Sizes, i: u32) -> Res
     ensures { OnOk result (list.new ≡ record list.old { clauses = list.old.clauses ++ used_step z i }) }
 {
     let mut raws = Vec::new(alloc);
-    push_bearers(&mut raws, z, i)?;
+    push_drivers(&mut raws, z, i)?;
     push_readers(&mut raws, z, i)?;
     list.push(alloc, &raws)
 }

@@ -1,7 +1,9 @@
 //! The numbers of the variables that an encoding by pairs doesn't have: the selection variables of single
 //! operands, and the operands' values.
 ghost use Rattle.std.specs.Prelude.{◌≡◌, ◌+◌, ◌-◌, ◌*◌, ◌^◌, ◌<◌, ◌≤◌};
-ghost use Rattle.enc_theory.specs.Select.{operand_count as operand_count_of, choice_first as choice_first_of, choice_var as choice_var_of, value_first as value_first_of, value_var as value_var_of, select_vars as select_vars_of};
+ghost use Rattle.enc_theory.specs.Select.{operand_count as operand_count_of, choice_first as choice_first_of};
+ghost use Rattle.enc_theory.specs.Select.{choice_var as choice_var_of, value_first as value_first_of};
+ghost use Rattle.enc_theory.specs.Select.{value_var as value_var_of, select_vars as select_vars_of};
 ghost use Rattle.enc_frame.specs.Room.{IsSmall, HasRoom, IsPlace};
 
 use enc_frame::{rows, s_first};

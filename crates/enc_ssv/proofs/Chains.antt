@@ -37,13 +37,15 @@ unfolding ssv_decoded spelled
 ssv_spelled w basis r v = refl
 
 pub ssv_is_for : (w : Words) (basis r : ℕ) (ordered : Bool) (v : Assignment) → ordered ≡ swap_closed (members basis) → Satisfies v (ssv_formula w basis r) → IsFor w basis r (spelled ordered w r v)
-ssv_is_for w basis r ordered v is sat = subst (λ (o : Bool). IsFor w basis r (spelled o w r v)) (sym is) (subst (λ (c : Chain). IsFor w basis r c) (ssv_spelled w basis r v) (ssv_decodes w basis r v sat))
+ssv_is_for w basis r ordered v is sat = subst (λ (o : Bool). IsFor w basis r (spelled o w r v)) (sym is)
+    (subst (λ (c : Chain). IsFor w basis r c) (ssv_spelled w basis r v) (ssv_decodes w basis r v sat))
 
 ssv_inputs_kept : (w : Words) (r : ℕ) (ordered : Bool) (v : Assignment) → (spelled ordered w r v).n ≡ w.n
 unfolding spelled decoded
 ssv_inputs_kept w r ordered v = refl
 
-pub ssv_is_small : (w : Words) (basis r : ℕ) (ordered : Bool) (v : Assignment) → IsSpec w → r ≤ 16 → ordered ≡ swap_closed (members basis) → Satisfies v (ssv_formula w basis r) → IsSmallChain (spelled ordered w r v)
+pub ssv_is_small : (w : Words) (basis r : ℕ) (ordered : Bool) (v : Assignment) → IsSpec w → r ≤ 16 →
+    ordered ≡ swap_closed (members basis) → Satisfies v (ssv_formula w basis r) → IsSmallChain (spelled ordered w r v)
 ssv_is_small w basis r ordered v spec low is sat = small_chain w basis r (spelled ordered w r v) spec low (ssv_inputs_kept w r ordered v) (ssv_is_for w basis r ordered v is sat)
 
 pub ruleset within = (common_steps, plain_is_small)

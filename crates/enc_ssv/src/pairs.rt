@@ -8,7 +8,7 @@ use chain_core::Chain;
 use cnf_core::Assign;
 use enc_frame::{AllPairs, Layout, decode, sizes};
 use std::alloc::{AllocError, Global};
-use tt_core::{Spec, live_part};
+use tt_core::{Spec, live_spec};
 
 /// The chain that an assignment spells, over all pairs or over those with j <= k.
 #[tactic(auto, unfolding(crate::specs::Spelled::spelled))]
@@ -23,7 +23,7 @@ pub(crate) fn decode_pairs(
     requires chain { IsSmallChain (spelled ordered spec.now r (bits_of assign.now)) }
     ensures { IfOk result (λ chain. chain ≡ spelled ordered spec.now r (bits_of assign.now)) }
 {
-    let live = live_part(alloc, spec)?;
+    let live = live_spec(alloc, spec)?;
     let z = sizes(&live, r);
     let layout = Layout::new(alloc, &AllPairs { ordered }, z)?;
     decode(alloc, spec, z, &layout.steps, assign)

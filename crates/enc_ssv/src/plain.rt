@@ -5,10 +5,10 @@ use chain_core::Chain;
 use clause_core::ClauseList;
 use cnf_core::{Assign, Cnf};
 use enc_frame::{AllPairs, Encoding, Layout, push_common, sizes};
-use enc_theory::Part;
+use enc_theory::Subproblem;
 use op_basis::Basis;
 use std::alloc::{AllocError, Global};
-use tt_core::{Spec, live_part};
+use tt_core::{Spec, live_spec};
 
 /// The plain encoding: the clauses that define chains, over all pairs of operands. A size has one subproblem,
 /// the whole.
@@ -17,21 +17,26 @@ pub struct Plain;
 
 impl Encoding for Plain {
     ghost use Rattle.std.specs.Prelude.{[], ◌∷◌};
-    ghost use Rattle.enc_theory.specs.declared.part.Part.TheVariants.{Whole};
+    ghost use Rattle.enc_theory.specs.declared.subproblem.Subproblem.TheVariants.{Whole};
     ghost use Rattle.enc_theory.specs.Plain.{plain_formula};
     ghost use Rattle.enc_laws.specs.Laws.{plain_sound, plain_complete};
     ghost use Rattle.enc_laws.specs.WholeLaws.{the_whole};
 
-    ghost parts_of = { λ plain w r. Whole ∷ [] };
+    ghost subproblems_of = { λ plain w r. Whole ∷ [] };
 
-    ghost formula_of = { λ plain w basis r part. plain_formula w basis r };
+    ghost formula_of = { λ plain w basis r subproblem. plain_formula w basis r };
 
-    ghost sound = { λ plain w basis r part there sat. plain_sound w basis r sat };
+    ghost sound = { λ plain w basis r subproblem there sat. plain_sound w basis r sat };
 
     ghost complete = { λ plain w basis r least. (Whole, the_whole, plain_complete w basis r least.reached) };
 
-    fn parts(&self, alloc: Global, _spec: &Spec, _r: u32) -> Result<Vec<Part>, AllocError> {
-        Ok(vec![in alloc; Part::Whole]?)
+    fn subproblems(
+        &self,
+        alloc: Global,
+        _spec: &Spec,
+        _r: u32,
+    ) -> Result<Vec<Subproblem>, AllocError> {
+        Ok(vec![in alloc; Subproblem::Whole]?)
     }
 
     #[tactic(auto, using(crate::proofs::Formulas::plain), unfolding(enc_theory::specs::Plain::plain_formula, enc_theory::specs::Plain::plain_live))]
@@ -41,9 +46,9 @@ impl Encoding for Plain {
         spec: &Spec,
         basis: Basis,
         r: u32,
-        _part: &Part,
+        _subproblem: &Subproblem,
     ) -> Result<Cnf, AllocError> {
-        let live = live_part(alloc, spec)?;
+        let live = live_spec(alloc, spec)?;
         let z = sizes(&live, r);
         let layout = Layout::new(alloc, &AllPairs { ordered: false }, z)?;
         let mut list = ClauseList::new(alloc, layout.vars)?;
@@ -58,7 +63,7 @@ impl Encoding for Plain {
         spec: &Spec,
         _basis: Basis,
         r: u32,
-        _part: &Part,
+        _subproblem: &Subproblem,
         assign: &Assign,
     ) -> Result<Chain, AllocError> {
         // for the prover: brings in that the tables are within the bounds

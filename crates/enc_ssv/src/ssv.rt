@@ -6,7 +6,7 @@ use chain_core::Chain;
 use cnf_core::{Assign, Cnf};
 use enc_cuts::formula_with_cuts;
 use enc_frame::{AllPairs, Encoding};
-use enc_theory::Part;
+use enc_theory::Subproblem;
 use op_basis::Basis;
 use std::alloc::{AllocError, Global};
 use tt_core::Spec;
@@ -18,21 +18,26 @@ pub struct Ssv;
 
 impl Encoding for Ssv {
     ghost use Rattle.std.specs.Prelude.{[], ◌∷◌};
-    ghost use Rattle.enc_theory.specs.declared.part.Part.TheVariants.{Whole};
+    ghost use Rattle.enc_theory.specs.declared.subproblem.Subproblem.TheVariants.{Whole};
     ghost use Rattle.enc_theory.specs.Ssv.{ssv_formula};
     ghost use Rattle.enc_laws.specs.Ssv.{ssv_sound, ssv_complete};
     ghost use Rattle.enc_laws.specs.WholeLaws.{the_whole};
 
-    ghost parts_of = { λ ssv w r. Whole ∷ [] };
+    ghost subproblems_of = { λ ssv w r. Whole ∷ [] };
 
-    ghost formula_of = { λ ssv w basis r part. ssv_formula w basis r };
+    ghost formula_of = { λ ssv w basis r subproblem. ssv_formula w basis r };
 
-    ghost sound = { λ ssv w basis r part there sat. ssv_sound w basis r sat };
+    ghost sound = { λ ssv w basis r subproblem there sat. ssv_sound w basis r sat };
 
     ghost complete = { λ ssv w basis r least. (Whole, the_whole, ssv_complete w basis r least) };
 
-    fn parts(&self, alloc: Global, _spec: &Spec, _r: u32) -> Result<Vec<Part>, AllocError> {
-        Ok(vec![in alloc; Part::Whole]?)
+    fn subproblems(
+        &self,
+        alloc: Global,
+        _spec: &Spec,
+        _r: u32,
+    ) -> Result<Vec<Subproblem>, AllocError> {
+        Ok(vec![in alloc; Subproblem::Whole]?)
     }
 
     #[tactic(auto, using(crate::proofs::Formulas::ssv))]
@@ -42,7 +47,7 @@ impl Encoding for Ssv {
         spec: &Spec,
         basis: Basis,
         r: u32,
-        _part: &Part,
+        _subproblem: &Subproblem,
     ) -> Result<Cnf, AllocError> {
         let pairs = AllPairs {
             ordered: basis.swap_closed(),
@@ -57,7 +62,7 @@ impl Encoding for Ssv {
         spec: &Spec,
         basis: Basis,
         r: u32,
-        _part: &Part,
+        _subproblem: &Subproblem,
         assign: &Assign,
     ) -> Result<Chain, AllocError> {
         // for the prover: brings in that the tables are within the bounds

@@ -22,13 +22,15 @@ fn decoded_by<E: Encoding>(
 ) -> Option<Chain>
     requires { 0 < basis }
 {
-    let parts = encoding.parts(alloc, spec, 1).ok()?;
-    let part = parts.get(0)?;
-    let cnf = encoding.formula(alloc, spec, basis, 1, part).ok()?;
+    let subproblems = encoding.subproblems(alloc, spec, 1).ok()?;
+    let subproblem = subproblems.get(0)?;
+    let cnf = encoding.formula(alloc, spec, basis, 1, subproblem).ok()?;
     if assign.bits().len() != cnf.vars() as usize || !satisfied(&cnf, assign) {
         return None;
     }
-    encoding.decode(alloc, spec, basis, 1, part, assign).ok()
+    encoding
+        .decode(alloc, spec, basis, 1, subproblem, assign)
+        .ok()
 }
 
 /// The bits of a text, where `1` is true.

@@ -1,7 +1,7 @@
 //! How clauses are written, which constraints a basis allows, and the pairs of a step.
 ghost use Rattle.std.specs.Prelude.{◌≡◌};
 
-use clause_core::{ClauseList, Raw};
+use clause_core::{ClauseList, RawLit};
 use enc_frame::{AllPairs, CutSet, Layout, cuts};
 use enc_theory::Sizes;
 use op_basis::read_basis;
@@ -16,18 +16,22 @@ fn write_some(alloc: Global, list: &mut ClauseList) -> Result<(), AllocError>
     list.push(
         alloc,
         &[
-            Raw::Var(4, true),
-            Raw::Fixed(false),
-            Raw::Var(2, false),
-            Raw::Var(4, true),
+            RawLit::Var(4, true),
+            RawLit::Fixed(false),
+            RawLit::Var(2, false),
+            RawLit::Var(4, true),
         ],
     )?;
     list.push(
         alloc,
-        &[Raw::Var(4, true), Raw::Var(1, true), Raw::Var(4, false)],
+        &[
+            RawLit::Var(4, true),
+            RawLit::Var(1, true),
+            RawLit::Var(4, false),
+        ],
     )?;
-    list.push(alloc, &[Raw::Var(3, true), Raw::Fixed(true)])?;
-    list.push(alloc, &[Raw::Fixed(false)])
+    list.push(alloc, &[RawLit::Var(3, true), RawLit::Fixed(true)])?;
+    list.push(alloc, &[RawLit::Fixed(false)])
 }
 
 #[test]

@@ -5,7 +5,7 @@ use chain_core::read_chain;
 use enc_fence::{FenceEnc, levels};
 use enc_frame::Encoding;
 use enc_ssv::Ssv;
-use enc_theory::Part;
+use enc_theory::Subproblem;
 use fence_core::{Fence, fences};
 use std::alloc::Global;
 use tt_core::read_tables;
@@ -79,17 +79,17 @@ fn fences_are_counted(rt: HostRuntime) {
 }
 
 /// How many subproblems a size has with fences.
-fn parts_of_size(alloc: Global, tables: &[u8], r: u32) -> Option<usize> {
+fn subproblems_of_size(alloc: Global, tables: &[u8], r: u32) -> Option<usize> {
     if tables.len() > 1000 || r > 16 {
         return None;
     }
     let read = read_tables(alloc, tables).ok()?;
-    let parts = FenceEnc.parts(alloc, &read.spec, r).ok()?;
-    Some(parts.len())
+    let subproblems = FenceEnc.subproblems(alloc, &read.spec, r).ok()?;
+    Some(subproblems.len())
 }
 
 #[test]
-fn live_outputs_decide_the_parts(rt: HostRuntime) {
+fn live_outputs_decide_the_subproblems(rt: HostRuntime) {
     for (tables, r, wanted) in [
         (b"inputs 2\n0110\n" as &[u8], 3, 2),
         (b"inputs 2\n0110\n1001\n", 3, 3),
@@ -100,20 +100,20 @@ fn live_outputs_decide_the_parts(rt: HostRuntime) {
         (b"inputs 2\n0011\n", 1, 0),
     ] {
         assert!(rt;
-            parts_of_size(rt.alloc(), tables, r) == Some(wanted),
+            subproblems_of_size(rt.alloc(), tables, r) == Some(wanted),
             "{wanted}"
         );
     }
 }
 
 #[test]
-fn other_sizes_have_one_part(rt: HostRuntime) {
+fn other_sizes_have_one_subproblem(rt: HostRuntime) {
     let Ok(read) = read_tables(rt.alloc(), b"inputs 2\n0110\n") else {
         assert!(rt; false);
         return;
     };
-    match Ssv.parts(rt.alloc(), &read.spec, 3) {
-        Ok(parts) => assert!(rt; matches!(parts.as_slice(), [Part::Whole])),
+    match Ssv.subproblems(rt.alloc(), &read.spec, 3) {
+        Ok(subproblems) => assert!(rt; matches!(subproblems.as_slice(), [Subproblem::Whole])),
         Err(_) => assert!(rt; false),
     }
 }

@@ -23,9 +23,9 @@ fn formula_by<E: Encoding>(
     requires size { r ≤ 16 }
     requires operators { 0 < basis }
 {
-    let parts = encoding.parts(alloc, spec, r).ok()?;
-    let part = parts.get(which)?;
-    encoding.formula(alloc, spec, basis, r, part).ok()
+    let subproblems = encoding.subproblems(alloc, spec, r).ok()?;
+    let subproblem = subproblems.get(which)?;
+    encoding.formula(alloc, spec, basis, r, subproblem).ok()
 }
 
 /// The formula of a subproblem of a size, for tables and a basis in texts.
@@ -81,8 +81,8 @@ fn ends_with(alloc: Global, formula: Option<Cnf>, vars: u32, all: bool, wanted: 
     if cnf.vars() != vars || numbers.len() < wanted.len() {
         return false;
     }
-    let front = numbers.len() - wanted.len();
-    (front == 0 || !all) && &numbers[front..] == wanted
+    let prefix = numbers.len() - wanted.len();
+    (prefix == 0 || !all) && &numbers[prefix..] == wanted
 }
 
 /// The checksum of a list of numbers.
@@ -360,7 +360,7 @@ fn formulas_are_written(rt: HostRuntime) {
 #[test]
 fn plain_formulas_have_no_cuts(rt: HostRuntime) {
     let formula = formula(rt.alloc(), Method::Plain, b"inputs 1\n10\n", b"0001", 1, 0);
-    let front = &NOT_BY_AND[..101];
-    let written = ends_with(rt.alloc(), formula, 8, true, front);
+    let prefix = &NOT_BY_AND[..101];
+    let written = ends_with(rt.alloc(), formula, 8, true, prefix);
     assert!(rt; written);
 }

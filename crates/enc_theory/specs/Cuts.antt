@@ -11,33 +11,33 @@ use Rattle.op_basis.specs.Basis.{members}
 use Rattle.op_basis.specs.Closed.{const_closed, polarity_closed, reapply_closed}
 use Rattle.tt_core.specs.Symmetry.{exchanged}
 use Rattle.tt_core.specs.Words.{Words, cell_of}
-use Rattle.clause_core.specs.declared.raw.Raw.{Raw}
-use Rattle.clause_core.specs.declared.raw.Raw.TheVariants.{Var}
+use Rattle.clause_core.specs.declared.raw.RawLit.{RawLit}
+use Rattle.clause_core.specs.declared.raw.RawLit.TheVariants.{Var}
 use Rattle.enc_theory.specs.declared.data.Sizes.{Sizes}
 use Rattle.enc_theory.specs.declared.data.Slot.{Slot}
 use Rattle.clause_core.specs.Clauses.{written}
 use Rattle.enc_theory.specs.Numbering.{places, outputs, f_var, x_is}
 use Rattle.enc_theory.specs.Pairs.{StepSlots}
-use Rattle.enc_theory.specs.Families.{bearer, chosen, operator_raw}
+use Rattle.enc_theory.specs.Families.{driver, chosen, operator_raw}
 
 -- ---- All steps used: for step i, one clause "i drives some output, or some later step has a pair with i".
 
 -- step i drives output h
-unfoldable pub bears : Sizes → ℕ → ℕ → Raw
-bears z i h = bearer z h i
+unfoldable pub drives : Sizes → ℕ → ℕ → RawLit
+drives z i h = driver z h i
 
 -- place p is an operand of the pair
 abbrev pub reads : Slot → ℕ → Bool
 reads u p = u.j == p || u.k == p
 
-unfoldable pub reader : ℕ → Slot → List Raw
+unfoldable pub reader : ℕ → Slot → List RawLit
 reader p u = if reads u p then chosen u ∷ [] else []
 
-unfoldable pub readers : ℕ → StepSlots → List Raw
+unfoldable pub readers : ℕ → StepSlots → List RawLit
 readers p s = flat_map (reader p) s.slots
 
 unfoldable pub used_by : Sizes → StepSlots → List StepSlots → List (List ℤ)
-used_by z s later = written (map (bears z s.place) (outputs z) ++ flat_map (readers s.place) later)
+used_by z s later = written (map (drives z s.place) (outputs z) ++ flat_map (readers s.place) later)
 
 unfoldable pub used : Sizes → List StepSlots → List (List ℤ)
 used z [] = []
@@ -67,7 +67,7 @@ equal_raw constants z i u =
 unfoldable pub equal_slot : Bool → Sizes → ℕ → Slot → List (List ℤ)
 equal_slot constants z i u = if u.j == u.k then equal_raw constants z i u else []
 
-unfoldable pub equal_pair : Slot → List Raw
+unfoldable pub equal_pair : Slot → List RawLit
 equal_pair u = if u.j == u.k then chosen u ∷ [] else []
 
 -- A negation of an operand, 1010 or 1100, has that operand twice: "the operator isn't this one, or the step has
@@ -117,14 +117,14 @@ order (s ∷ later) = order_with s later ++ order later
 -- ---- No re-application, if the basis is closed under it: for step i, a later step, a pair (j, k) of i, and a
 -- pair of the later step with i and one of j, k, "not both".
 
-unfoldable pub applies_again : ℕ → Slot → Slot → Bool
-applies_again p u v = (v.j == p && reads u v.k) || (v.k == p && reads u v.j)
+unfoldable pub is_reapplication : ℕ → Slot → Slot → Bool
+is_reapplication p u v = (v.j == p && reads u v.k) || (v.k == p && reads u v.j)
 
-unfoldable pub again_pair : ℕ → Slot → Slot → List (List ℤ)
-again_pair p u v = if applies_again p u v then not_both u v else []
+unfoldable pub no_reapplication_pair : ℕ → Slot → Slot → List (List ℤ)
+no_reapplication_pair p u v = if is_reapplication p u v then not_both u v else []
 
-unfoldable pub again_slot : ℕ → List Slot → Slot → List (List ℤ)
-again_slot p reading u = flat_map (again_pair p u) reading
+unfoldable pub no_reapplication_slot : ℕ → List Slot → Slot → List (List ℤ)
+no_reapplication_slot p reading u = flat_map (no_reapplication_pair p u) reading
 
 -- the pairs with the place
 unfoldable pub has_place : ℕ → Slot → Bool
@@ -133,15 +133,15 @@ has_place p u = reads u p
 abbrev pub reading : ℕ → List Slot → List Slot
 reading p slots = filter (has_place p) slots
 
-unfoldable pub again_later : StepSlots → StepSlots → List (List ℤ)
-again_later s later = flat_map (again_slot s.place (reading s.place later.slots)) s.slots
+unfoldable pub no_reapplication_later : StepSlots → StepSlots → List (List ℤ)
+no_reapplication_later s later = flat_map (no_reapplication_slot s.place (reading s.place later.slots)) s.slots
 
-unfoldable pub again_all : List StepSlots → List (List ℤ)
-again_all [] = []
-again_all (s ∷ later) = flat_map (again_later s) later ++ again_all later
+unfoldable pub no_reapplication_all : List StepSlots → List (List ℤ)
+no_reapplication_all [] = []
+no_reapplication_all (s ∷ later) = flat_map (no_reapplication_later s) later ++ no_reapplication_all later
 
-unfoldable pub again : ℕ → List StepSlots → List (List ℤ)
-again basis steps = if reapply_closed (members basis) then again_all steps else []
+unfoldable pub no_reapplication : ℕ → List StepSlots → List (List ℤ)
+no_reapplication basis steps = if reapply_closed (members basis) then no_reapplication_all steps else []
 
 -- ---- Symmetric inputs p < q: no step reads q without p before some step has read p without q. For p, q, step
 -- i and a pair of it with q and not p, "the step doesn't have this pair, or some step before has a pair with p
@@ -168,17 +168,17 @@ may_exchange w p q = list_all (same_output w p q) (range_with_len 1 (length w.on
 abbrev pub reads_without : ℕ → ℕ → Slot → Bool
 reads_without p q u = reads u p && not (reads u q)
 
-unfoldable pub reader_without : ℕ → ℕ → Slot → List Raw
+unfoldable pub reader_without : ℕ → ℕ → Slot → List RawLit
 reader_without p q u = if reads_without p q u then chosen u ∷ [] else []
 
-unfoldable pub readers_without : ℕ → ℕ → StepSlots → List Raw
+unfoldable pub readers_without : ℕ → ℕ → StepSlots → List RawLit
 readers_without p q s = flat_map (reader_without p q) s.slots
 
 -- `before` are the selection literals of the steps before, for pairs with p and not q
-unfoldable pub exchange_slot : ℕ → ℕ → List Raw → Slot → List (List ℤ)
+unfoldable pub exchange_slot : ℕ → ℕ → List RawLit → Slot → List (List ℤ)
 exchange_slot p q before u = if reads_without q p u then written (Var u.var false ∷ before) else []
 
-unfoldable pub exchange_steps : ℕ → ℕ → List Raw → List StepSlots → List (List ℤ)
+unfoldable pub exchange_steps : ℕ → ℕ → List RawLit → List StepSlots → List (List ℤ)
 exchange_steps p q before [] = []
 exchange_steps p q before (s ∷ later) = flat_map (exchange_slot p q before) s.slots ++ exchange_steps p q (before ++ readers_without p q s) later
 
@@ -195,11 +195,11 @@ exchange w steps = flat_map (exchange_with w steps) (range_with_len 1 w.n)
 -- step i "i is 0 on row 0, or i drives some output".
 
 unfoldable pub row_0_at : Sizes → ℕ → List (List ℤ)
-row_0_at z i = written (x_is z i 0 false ∷ map (bears z i) (outputs z))
+row_0_at z i = written (x_is z i 0 false ∷ map (drives z i) (outputs z))
 
 unfoldable pub row_0 : ℕ → Sizes → List (List ℤ)
 row_0 basis z = if polarity_closed (members basis) then flat_map (row_0_at z) (places z) else []
 
 -- ---- All constraints, the six families in their order.
 unfoldable pub cuts : Words → ℕ → Sizes → List StepSlots → List (List ℤ)
-cuts w basis z steps = used z steps ++ not_trivial basis z steps ++ order steps ++ again basis steps ++ exchange w steps ++ row_0 basis z
+cuts w basis z steps = used z steps ++ not_trivial basis z steps ++ order steps ++ no_reapplication basis steps ++ exchange w steps ++ row_0 basis z

@@ -28,12 +28,12 @@ unfoldable pub decoded_step : Sizes → Assignment → StepSlots → Step
 decoded_step z v s = record { j = (first_pair v s.slots).j; k = (first_pair v s.slots).k; op = operator_in z v s.place }
 
 -- a live output is driven by the first step whose variable for it is true
-unfoldable pub first_bearer : Sizes → Assignment → ℕ → List ℕ → ℕ
-first_bearer z v h [] = z.n + 1
-first_bearer z v h (i ∷ is) = if v (g_var z h i) then i else first_bearer z v h is
+unfoldable pub first_driver : Sizes → Assignment → ℕ → List ℕ → ℕ
+first_driver z v h [] = z.n + 1
+first_driver z v h (i ∷ is) = if v (g_var z h i) then i else first_driver z v h is
 
 unfoldable pub decoded_out : Sizes → Assignment → ℕ → Out
-decoded_out z v h = Place (first_bearer z v h (places z))
+decoded_out z v h = Place (first_driver z v h (places z))
 
 -- A trivial output is its constant or input; a live one is the next of the live outputs.
 abbrev pub restored_out : Option Out → Out → Out

@@ -7,8 +7,8 @@ use Rattle.chain_theory.specs.declared.data.Cell.{Cell}
 use Rattle.chain_theory.specs.declared.data.Cell.TheVariants.{Zero, One, Free}
 use Rattle.op_basis.specs.Basis.{members}
 use Rattle.tt_core.specs.Words.{Words, cell_of}
-use Rattle.clause_core.specs.declared.raw.Raw.{Raw}
-use Rattle.clause_core.specs.declared.raw.Raw.TheVariants.{Var}
+use Rattle.clause_core.specs.declared.raw.RawLit.{RawLit}
+use Rattle.clause_core.specs.declared.raw.RawLit.TheVariants.{Var}
 use Rattle.enc_theory.specs.declared.data.Sizes.{Sizes}
 use Rattle.enc_theory.specs.declared.data.Slot.{Slot}
 use Rattle.clause_core.specs.Clauses.{written}
@@ -17,11 +17,11 @@ use Rattle.enc_theory.specs.Pairs.{StepSlots}
 
 -- ---- Some step drives each output h: one clause "some i drives h" over all steps i.
 
-unfoldable pub bearer : Sizes → ℕ → ℕ → Raw
-bearer z h i = Var (g_var z h i) true
+unfoldable pub driver : Sizes → ℕ → ℕ → RawLit
+driver z h i = Var (g_var z h i) true
 
 unfoldable pub out_exists_at : Sizes → ℕ → List (List ℤ)
-out_exists_at z h = written (map (bearer z h) (places z))
+out_exists_at z h = written (map (driver z h) (places z))
 
 unfoldable pub out_exists : Sizes → List (List ℤ)
 out_exists z = flat_map (out_exists_at z) (outputs z)
@@ -51,7 +51,7 @@ out_values w z = flat_map (out_values_at w z) (outputs z)
 
 -- ---- Each step has some pair: one clause over all its selection variables.
 
-unfoldable pub chosen : Slot → Raw
+unfoldable pub chosen : Slot → RawLit
 chosen u = Var u.var true
 
 unfoldable pub pair_exists_at : StepSlots → List (List ℤ)
@@ -64,7 +64,7 @@ pair_exists steps = flat_map pair_exists_at steps
 -- bits a, b, c, "i doesn't have this pair, or i isn't a on t, or j isn't b, or k isn't c, or the operator is a
 -- at (b, c)".
 
-unfoldable pub value_raw : Sizes → ℕ → Slot → ℕ → Bool → Bool → Bool → List Raw
+unfoldable pub value_raw : Sizes → ℕ → Slot → ℕ → Bool → Bool → Bool → List RawLit
 value_raw z i u t a b c = Var u.var false ∷ x_is z i t (not a) ∷ x_is z u.j t (not b) ∷ x_is z u.k t (not c) ∷ Var (f_var z i b c) a ∷ []
 
 unfoldable pub value_clause : Sizes → ℕ → Slot → ℕ → Bool → Bool → Bool → List (List ℤ)
@@ -89,8 +89,10 @@ values z steps = flat_map (value_step z) steps
 -- ---- Each step's operator is in the basis: for step i and each operator outside the basis, one clause "i has
 -- another value at 00, or at 01, or at 10, or at 11".
 
-unfoldable pub operator_raw : Sizes → ℕ → ℕ → List Raw
-operator_raw z i op = Var (f_var z i false false) (not (apply op false false)) ∷ Var (f_var z i false true) (not (apply op false true)) ∷ Var (f_var z i true false) (not (apply op true false)) ∷ Var (f_var z i true true) (not (apply op true true)) ∷ []
+unfoldable pub operator_raw : Sizes → ℕ → ℕ → List RawLit
+operator_raw z i op = Var (f_var z i false false) (not (apply op false false)) ∷ Var (f_var z i false true)
+    (not (apply op false true)) ∷ Var (f_var z i true false) (not (apply op true false)) ∷ Var (f_var z i true true)
+    (not (apply op true true)) ∷ []
 
 unfoldable pub operator_clause : ℕ → Sizes → ℕ → ℕ → List (List ℤ)
 operator_clause basis z i op = if members basis op then [] else written (operator_raw z i op)

@@ -12,4 +12,4 @@ pub mod Fence
 pub mod FenceVectors
 pub mod Select
 pub mod SelectVectors
-pub mod Parts
+pub mod Subproblems

@@ -3,8 +3,8 @@ use Rattle.std.specs.Prelude.{ℕ, ◌+◌, ◌-◌, ◌*◌, ◌^◌, leb, Bool
 use Rattle.std.specs.List.{range_with_len}
 use Rattle.chain_theory.specs.Specification.{input}
 use Rattle.tt_core.specs.Words.{Words}
-use Rattle.clause_core.specs.declared.raw.Raw.{Raw}
-use Rattle.clause_core.specs.declared.raw.Raw.TheVariants.{Fixed, Var}
+use Rattle.clause_core.specs.declared.raw.RawLit.{RawLit}
+use Rattle.clause_core.specs.declared.raw.RawLit.TheVariants.{Fixed, Var}
 use Rattle.enc_theory.specs.declared.data.Sizes.{Sizes}
 
 -- the sizes of the formula for the tables with r steps
@@ -49,5 +49,5 @@ s_first z = f_first z + 4 * z.r
 
 -- Place j has the given bit on row t. For an input this is true or false; for a step it is a literal.
 -- Example: with 2 inputs, "place 1 has the bit 1 on row 2" is true, so a clause with it is a tautology.
-unfoldable pub x_is : Sizes → ℕ → ℕ → Bool → Raw
+unfoldable pub x_is : Sizes → ℕ → ℕ → Bool → RawLit
 x_is z j t bit = if leb j z.n then Fixed (if input z.n t j then bit else not bit) else Var (x_var z j t) bit

@@ -4,7 +4,10 @@ use Rattle.tt_core.specs.Live.{fits_rows, inputs_from, first_fit, is_live, live_
 use Rattle.clause_core.specs.Clauses.{has, simplified, written}
 use Rattle.enc_theory.specs.Numbering.{x_var, g_var, f_var, s_first, x_is}
 use Rattle.enc_theory.specs.Pairs.{pairs_of, pairs_with, pairs_below, numbered, laid, slot_count}
-use Rattle.enc_theory.specs.Families.{bearer, out_exists_at, out_exists, out_value_is, out_value_at, out_value, out_values_of, out_values_at, out_values, chosen, pair_exists_at, pair_exists, value_raw, value_clause, value_bit, value_row, value_slot, value_step, values, operator_raw, operator_clause, operators_at, operators, common}
+use Rattle.enc_theory.specs.Families.{driver, out_exists_at, out_exists, out_value_is, out_value_at, out_value}
+use Rattle.enc_theory.specs.Families.{out_values_of, out_values_at, out_values, chosen, pair_exists_at, pair_exists}
+use Rattle.enc_theory.specs.Families.{value_raw, value_clause, value_bit, value_row, value_slot, value_step, values}
+use Rattle.enc_theory.specs.Families.{operator_raw, operator_clause, operators_at, operators, common}
 use Rattle.enc_theory.specs.Plain.{plain_live, plain_formula}
 use Rattle.enc_theory.specs.Vectors.{Vector, vector, with_clause, with_clauses, literal_count, outline, outline_by, expected}
 
@@ -76,5 +79,9 @@ plain_vectors =
     ∷ []
 
 pub plain_is_expected : map (outline_by plain_formula) plain_vectors ≡ map expected plain_vectors
-unfolding fits_rows inputs_from first_fit is_live live_among words_of has simplified written x_var g_var f_var s_first x_is pairs_of pairs_with pairs_below numbered laid slot_count bearer out_exists_at out_exists out_value_is out_value_at out_value out_values_of out_values_at out_values chosen pair_exists_at pair_exists value_raw value_clause value_bit value_row value_slot value_step values operator_raw operator_clause operators_at operators common plain_live plain_formula with_clause with_clauses literal_count outline
+unfolding fits_rows inputs_from first_fit is_live live_among words_of has simplified written x_var g_var f_var s_first
+    x_is pairs_of pairs_with pairs_below numbered laid slot_count driver out_exists_at out_exists out_value_is
+    out_value_at out_value out_values_of out_values_at out_values chosen pair_exists_at pair_exists value_raw
+    value_clause value_bit value_row value_slot value_step values operator_raw operator_clause operators_at operators
+    common plain_live plain_formula with_clause with_clauses literal_count outline
 plain_is_expected = refl

@@ -11,15 +11,15 @@ use Rattle.op_basis.specs.Closed.{swap_closed, const_closed, reapply_closed}
 use Rattle.sat_theory.specs.Formula.{Formula, Assignment}
 use Rattle.tt_core.specs.Words.{Words}
 use Rattle.tt_core.specs.Live.{live_words}
-use Rattle.clause_core.specs.declared.raw.Raw.{Raw}
-use Rattle.clause_core.specs.declared.raw.Raw.TheVariants.{Var}
+use Rattle.clause_core.specs.declared.raw.RawLit.{RawLit}
+use Rattle.clause_core.specs.declared.raw.RawLit.TheVariants.{Var}
 use Rattle.enc_theory.specs.declared.data.Side.{Side}
 use Rattle.enc_theory.specs.declared.data.Side.TheVariants.{First, Second}
 use Rattle.enc_theory.specs.declared.data.Sizes.{Sizes}
 use Rattle.clause_core.specs.Clauses.{written}
 use Rattle.enc_theory.specs.Numbering.{sizes_of, places, rows, outputs, f_var, s_first, x_is}
 use Rattle.enc_theory.specs.Families.{out_exists, out_values, operator_raw, operators}
-use Rattle.enc_theory.specs.Cuts.{bears, not_idle, row_0}
+use Rattle.enc_theory.specs.Cuts.{drives, not_idle, row_0}
 use Rattle.enc_theory.specs.Decode.{operator_in, with_outs}
 
 -- ---- Variables: those of values, outputs and operators are as in an encoding by pairs; after them come the
@@ -62,7 +62,7 @@ above z i = range_with_len (i + 1) (z.n + z.r - i)
 -- ---- Each step has operands: for step i, one clause that the first operand is some place below it, and one
 -- that the second is.
 
-unfoldable pub chooses : Sizes → Side → ℕ → ℕ → Raw
+unfoldable pub chooses : Sizes → Side → ℕ → ℕ → RawLit
 chooses z side i j = Var (choice_var z side i j) true
 
 unfoldable pub choice_exists : Sizes → ℕ → Side → List (List ℤ)
@@ -77,7 +77,7 @@ operands_exist z = flat_map (choices_exist z) (places z)
 -- ---- An operand has the value of the selected place: for step i, place j below it, row t and bit e, "the
 -- operand isn't j, or its value is e, or j isn't e".
 
-unfoldable pub copy_raw : Sizes → Side → ℕ → ℕ → ℕ → Bool → List Raw
+unfoldable pub copy_raw : Sizes → Side → ℕ → ℕ → ℕ → Bool → List RawLit
 copy_raw z side i j t e = Var (choice_var z side i j) false ∷ Var (value_var z side i t) e ∷ x_is z j t (not e) ∷ []
 
 unfoldable pub copy_row : Sizes → Side → ℕ → ℕ → ℕ → List (List ℤ)
@@ -95,7 +95,7 @@ copies z side = flat_map (copy_step z side) (places z)
 -- ---- The value of a step is its operator's value at its operands' values: for step i, row t and bits a, b, c,
 -- "i isn't a, or its first operand isn't b, or its second isn't c, or the operator is a at (b, c)".
 
-unfoldable pub result_raw : Sizes → ℕ → ℕ → Bool → Bool → Bool → List Raw
+unfoldable pub result_raw : Sizes → ℕ → ℕ → Bool → Bool → Bool → List RawLit
 result_raw z i t a b c = x_is z i t (not a) ∷ Var (value_var z First i t) (not b) ∷ Var (value_var z Second i t) (not c) ∷ Var (f_var z i b c) a ∷ []
 
 unfoldable pub result_clause : Sizes → ℕ → ℕ → Bool → Bool → Bool → List (List ℤ)
@@ -121,7 +121,7 @@ chosen_chain w basis z = out_exists z ++ out_values w z ++ operands_exist z ++ c
 -- places j below it and k below j, "not j and k".
 
 -- "the step's operands aren't these"
-abbrev pub not_these : Sizes → ℕ → ℕ → ℕ → List Raw
+abbrev pub not_these : Sizes → ℕ → ℕ → ℕ → List RawLit
 not_these z i j k = Var (choice_var z First i j) false ∷ Var (choice_var z Second i k) false ∷ []
 
 unfoldable pub rising_pair : Sizes → ℕ → ℕ → ℕ → List (List ℤ)
@@ -139,11 +139,11 @@ rising basis z = if swap_closed (members basis) then flat_map (rising_step z) (p
 -- ---- All steps used: for step i, one clause "i drives some output, or some later step has i as its first or
 -- as its second operand".
 
-unfoldable pub choosers : Sizes → ℕ → ℕ → List Raw
+unfoldable pub choosers : Sizes → ℕ → ℕ → List RawLit
 choosers z p i = chooses z First i p ∷ chooses z Second i p ∷ []
 
 unfoldable pub used_step : Sizes → ℕ → List (List ℤ)
-used_step z i = written (map (bears z i) (outputs z) ++ flat_map (choosers z i) (above z i))
+used_step z i = written (map (drives z i) (outputs z) ++ flat_map (choosers z i) (above z i))
 
 unfoldable pub used_steps : Sizes → List (List ℤ)
 used_steps z = flat_map (used_step z) (places z)
@@ -197,27 +197,27 @@ falling basis z = if swap_closed (members basis) then flat_map (falling_step z) 
 abbrev pub different : ℕ → ℕ → List ℕ
 different j k = if j == k then j ∷ [] else min j k ∷ max j k ∷ []
 
-unfoldable pub again_operand : Bool → Sizes → ℕ → ℕ → ℕ → ℕ → ℕ → List (List ℤ)
-again_operand ordered z i l j k o = written (not_these z i j k ++ not_these z l o i) ++ (if ordered then [] else written (not_these z i j k ++ not_these z l i o))
+unfoldable pub no_reapplication_operand : Bool → Sizes → ℕ → ℕ → ℕ → ℕ → ℕ → List (List ℤ)
+no_reapplication_operand ordered z i l j k o = written (not_these z i j k ++ not_these z l o i) ++ (if ordered then [] else written (not_these z i j k ++ not_these z l i o))
 
-unfoldable pub again_operands : Bool → Sizes → ℕ → ℕ → ℕ → ℕ → List (List ℤ)
-again_operands ordered z i l j k = if ordered && nat_lt k j then [] else flat_map (again_operand ordered z i l j k) (different j k)
+unfoldable pub no_reapplication_operands : Bool → Sizes → ℕ → ℕ → ℕ → ℕ → List (List ℤ)
+no_reapplication_operands ordered z i l j k = if ordered && nat_lt k j then [] else flat_map (no_reapplication_operand ordered z i l j k) (different j k)
 
-unfoldable pub again_from : Bool → Sizes → ℕ → ℕ → ℕ → List (List ℤ)
-again_from ordered z i l j = flat_map (again_operands ordered z i l j) (below i)
+unfoldable pub no_reapplication_from : Bool → Sizes → ℕ → ℕ → ℕ → List (List ℤ)
+no_reapplication_from ordered z i l j = flat_map (no_reapplication_operands ordered z i l j) (below i)
 
-unfoldable pub again_after : Bool → Sizes → ℕ → ℕ → List (List ℤ)
-again_after ordered z i l = flat_map (again_from ordered z i l) (below i)
+unfoldable pub no_reapplication_after : Bool → Sizes → ℕ → ℕ → List (List ℤ)
+no_reapplication_after ordered z i l = flat_map (no_reapplication_from ordered z i l) (below i)
 
-unfoldable pub again_step : Bool → Sizes → ℕ → List (List ℤ)
-again_step ordered z i = flat_map (again_after ordered z i) (above z i)
+unfoldable pub no_reapplication_step : Bool → Sizes → ℕ → List (List ℤ)
+no_reapplication_step ordered z i = flat_map (no_reapplication_after ordered z i) (above z i)
 
-unfoldable pub again_steps : ℕ → Sizes → List (List ℤ)
-again_steps basis z = if reapply_closed (members basis) then flat_map (again_step (swap_closed (members basis)) z) (places z) else []
+unfoldable pub no_reapplication_steps : ℕ → Sizes → List (List ℤ)
+no_reapplication_steps basis z = if reapply_closed (members basis) then flat_map (no_reapplication_step (swap_closed (members basis)) z) (places z) else []
 
 -- ---- All constraints, in their order; the last one (normal steps) is that of the encoding by pairs.
 unfoldable pub chosen_cuts : ℕ → Sizes → List (List ℤ)
-chosen_cuts basis z = rising basis z ++ used_steps z ++ trivial_steps basis z ++ falling basis z ++ again_steps basis z ++ row_0 basis z
+chosen_cuts basis z = rising basis z ++ used_steps z ++ trivial_steps basis z ++ falling basis z ++ no_reapplication_steps basis z ++ row_0 basis z
 
 -- ---- The formula for tables whose outputs are all live.
 unfoldable pub select_live : Words → ℕ → ℕ → Formula

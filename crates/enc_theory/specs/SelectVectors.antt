@@ -1,13 +1,26 @@
 -- The encoding by single operands (MSV) against the independent program.
 use Rattle.std.specs.Prelude.{◌≡◌, List, [], ◌∷◌, map, refl}
-use Rattle.op_basis.specs.Closed.{swapped, complement, first_complemented, second_complemented, every_below, swaps, negates_both, has_no_negation_at, negates_one, keeps_constants, has_complements, is_allowed, left_on_first, left_on_second, right_on_first, right_on_second, reapplies, reapplies_all}
+use Rattle.op_basis.specs.Closed.{swapped, complement, first_complemented, second_complemented, every_below, swaps}
+use Rattle.op_basis.specs.Closed.{negates_both, has_no_negation_at, negates_one, keeps_constants, has_complements}
+use Rattle.op_basis.specs.Closed.{is_allowed, left_on_first, left_on_second, right_on_first, right_on_second, reapplies}
+use Rattle.op_basis.specs.Closed.{reapplies_all}
 use Rattle.chain_theory.specs.Rows.{row_of}
 use Rattle.tt_core.specs.Live.{fits_rows, inputs_from, first_fit, is_live, live_among, words_of}
 use Rattle.clause_core.specs.Clauses.{has, simplified, written}
 use Rattle.enc_theory.specs.Numbering.{x_var, g_var, f_var, s_first, x_is}
-use Rattle.enc_theory.specs.Families.{bearer, out_exists_at, out_exists, out_value_is, out_value_at, out_value, out_values_of, out_values_at, out_values, operator_raw, operator_clause, operators_at, operators}
-use Rattle.enc_theory.specs.Cuts.{bears, other_operator, not_idle, row_0_at, row_0}
-use Rattle.enc_theory.specs.Select.{operand_count, choice_first, choice_var, value_first, value_var, select_vars, chooses, choice_exists, choices_exist, operands_exist, copy_raw, copy_row, copy_place, copy_step, copies, result_raw, result_clause, result_bit, result_row, result_step, results, chosen_chain, rising_pair, rising_from, rising_step, rising, choosers, used_step, used_steps, equal_choice, negation_pair, negation_from, negation_step, trivial_step, trivial_steps, falling_pair, falling_from, falling_step, falling, again_operand, again_operands, again_from, again_after, again_step, again_steps, chosen_cuts, select_live, select_formula}
+use Rattle.enc_theory.specs.Families.{driver, out_exists_at, out_exists, out_value_is, out_value_at, out_value}
+use Rattle.enc_theory.specs.Families.{out_values_of, out_values_at, out_values, operator_raw, operator_clause}
+use Rattle.enc_theory.specs.Families.{operators_at, operators}
+use Rattle.enc_theory.specs.Cuts.{drives, other_operator, not_idle, row_0_at, row_0}
+use Rattle.enc_theory.specs.Select.{operand_count, choice_first, choice_var, value_first, value_var, select_vars}
+use Rattle.enc_theory.specs.Select.{chooses, choice_exists, choices_exist, operands_exist, copy_raw, copy_row}
+use Rattle.enc_theory.specs.Select.{copy_place, copy_step, copies, result_raw, result_clause, result_bit, result_row}
+use Rattle.enc_theory.specs.Select.{result_step, results, chosen_chain, rising_pair, rising_from, rising_step, rising}
+use Rattle.enc_theory.specs.Select.{choosers, used_step, used_steps, equal_choice, negation_pair, negation_from}
+use Rattle.enc_theory.specs.Select.{negation_step, trivial_step, trivial_steps, falling_pair, falling_from}
+use Rattle.enc_theory.specs.Select.{falling_step, falling, no_reapplication_operand, no_reapplication_operands}
+use Rattle.enc_theory.specs.Select.{no_reapplication_from, no_reapplication_after, no_reapplication_step}
+use Rattle.enc_theory.specs.Select.{no_reapplication_steps, chosen_cuts, select_live, select_formula}
 use Rattle.enc_theory.specs.Vectors.{Vector, vector, with_clause, with_clauses, literal_count, outline, outline_by, expected}
 
 -- tables, operators and size; then the numbers of variables, clauses and literals, and the checksum
@@ -80,5 +93,16 @@ select_vectors =
     ∷ []
 
 pub select_is_expected : map (outline_by select_formula) select_vectors ≡ map expected select_vectors
-unfolding fits_rows inputs_from first_fit is_live live_among words_of has simplified written x_var g_var f_var s_first x_is bearer out_exists_at out_exists out_value_is out_value_at out_value out_values_of out_values_at out_values operator_raw operator_clause operators_at operators swapped complement first_complemented second_complemented every_below swaps negates_both has_no_negation_at negates_one keeps_constants has_complements is_allowed left_on_first left_on_second right_on_first right_on_second reapplies reapplies_all row_of bears other_operator not_idle row_0_at row_0 with_clause with_clauses literal_count outline operand_count choice_first choice_var value_first value_var select_vars chooses choice_exists choices_exist operands_exist copy_raw copy_row copy_place copy_step copies result_raw result_clause result_bit result_row result_step results chosen_chain rising_pair rising_from rising_step rising choosers used_step used_steps equal_choice negation_pair negation_from negation_step trivial_step trivial_steps falling_pair falling_from falling_step falling again_operand again_operands again_from again_after again_step again_steps chosen_cuts select_live select_formula
+unfolding fits_rows inputs_from first_fit is_live live_among words_of has simplified written x_var g_var f_var s_first
+    x_is driver out_exists_at out_exists out_value_is out_value_at out_value out_values_of out_values_at out_values
+    operator_raw operator_clause operators_at operators swapped complement first_complemented second_complemented
+    every_below swaps negates_both has_no_negation_at negates_one keeps_constants has_complements is_allowed
+    left_on_first left_on_second right_on_first right_on_second reapplies reapplies_all row_of drives other_operator
+    not_idle row_0_at row_0 with_clause with_clauses literal_count outline operand_count choice_first choice_var
+    value_first value_var select_vars chooses choice_exists choices_exist operands_exist copy_raw copy_row copy_place
+    copy_step copies result_raw result_clause result_bit result_row result_step results chosen_chain rising_pair
+    rising_from rising_step rising choosers used_step used_steps equal_choice negation_pair negation_from negation_step
+    trivial_step trivial_steps falling_pair falling_from falling_step falling no_reapplication_operand
+    no_reapplication_operands no_reapplication_from no_reapplication_after no_reapplication_step no_reapplication_steps
+    chosen_cuts select_live select_formula
 select_is_expected = refl

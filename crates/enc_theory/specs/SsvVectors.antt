@@ -1,13 +1,25 @@
 -- SSV with symmetry-breaking constraints against the independent program.
 use Rattle.std.specs.Prelude.{◌≡◌, List, [], ◌∷◌, map, refl}
-use Rattle.op_basis.specs.Closed.{swapped, complement, first_complemented, second_complemented, every_below, swaps, negates_both, has_no_negation_at, negates_one, keeps_constants, has_complements, is_allowed, left_on_first, left_on_second, right_on_first, right_on_second, reapplies, reapplies_all}
+use Rattle.op_basis.specs.Closed.{swapped, complement, first_complemented, second_complemented, every_below, swaps}
+use Rattle.op_basis.specs.Closed.{negates_both, has_no_negation_at, negates_one, keeps_constants, has_complements}
+use Rattle.op_basis.specs.Closed.{is_allowed, left_on_first, left_on_second, right_on_first, right_on_second, reapplies}
+use Rattle.op_basis.specs.Closed.{reapplies_all}
 use Rattle.chain_theory.specs.Rows.{row_of}
 use Rattle.tt_core.specs.Live.{fits_rows, inputs_from, first_fit, is_live, live_among, words_of}
 use Rattle.clause_core.specs.Clauses.{has, simplified, written}
 use Rattle.enc_theory.specs.Numbering.{x_var, g_var, f_var, s_first, x_is}
 use Rattle.enc_theory.specs.Pairs.{pairs_of, pairs_with, pairs_below, numbered, laid, slot_count}
-use Rattle.enc_theory.specs.Families.{bearer, out_exists_at, out_exists, out_value_is, out_value_at, out_value, out_values_of, out_values_at, out_values, chosen, pair_exists_at, pair_exists, value_raw, value_clause, value_bit, value_row, value_slot, value_step, values, operator_raw, operator_clause, operators_at, operators, common}
-use Rattle.enc_theory.specs.Cuts.{bears, reader, readers, used_by, used, other_operator, not_idle, equal_raw, equal_slot, equal_pair, negation_raw, negations, not_trivial_at, not_trivial, comes_before, not_both, order_pair, order_slot, order_with, order, applies_again, again_pair, again_slot, has_place, again_later, again_all, again, same_at, same_output, may_exchange, reader_without, readers_without, exchange_slot, exchange_steps, exchange_pair, exchange_with, exchange, row_0_at, row_0, cuts}
+use Rattle.enc_theory.specs.Families.{driver, out_exists_at, out_exists, out_value_is, out_value_at, out_value}
+use Rattle.enc_theory.specs.Families.{out_values_of, out_values_at, out_values, chosen, pair_exists_at, pair_exists}
+use Rattle.enc_theory.specs.Families.{value_raw, value_clause, value_bit, value_row, value_slot, value_step, values}
+use Rattle.enc_theory.specs.Families.{operator_raw, operator_clause, operators_at, operators, common}
+use Rattle.enc_theory.specs.Cuts.{drives, reader, readers, used_by, used, other_operator, not_idle, equal_raw}
+use Rattle.enc_theory.specs.Cuts.{equal_slot, equal_pair, negation_raw, negations, not_trivial_at, not_trivial}
+use Rattle.enc_theory.specs.Cuts.{comes_before, not_both, order_pair, order_slot, order_with, order, is_reapplication}
+use Rattle.enc_theory.specs.Cuts.{no_reapplication_pair, no_reapplication_slot, has_place, no_reapplication_later}
+use Rattle.enc_theory.specs.Cuts.{no_reapplication_all, no_reapplication, same_at, same_output, may_exchange}
+use Rattle.enc_theory.specs.Cuts.{reader_without, readers_without, exchange_slot, exchange_steps, exchange_pair}
+use Rattle.enc_theory.specs.Cuts.{exchange_with, exchange, row_0_at, row_0, cuts}
 use Rattle.enc_theory.specs.Ssv.{ssv_live, ssv_formula}
 use Rattle.enc_theory.specs.Vectors.{Vector, vector, with_clause, with_clauses, literal_count, outline, outline_by, expected}
 
@@ -79,5 +91,16 @@ ssv_vectors =
     ∷ []
 
 pub ssv_is_expected : map (outline_by ssv_formula) ssv_vectors ≡ map expected ssv_vectors
-unfolding fits_rows inputs_from first_fit is_live live_among words_of has simplified written x_var g_var f_var s_first x_is pairs_of pairs_with pairs_below numbered laid slot_count bearer out_exists_at out_exists out_value_is out_value_at out_value out_values_of out_values_at out_values chosen pair_exists_at pair_exists value_raw value_clause value_bit value_row value_slot value_step values operator_raw operator_clause operators_at operators common swapped complement first_complemented second_complemented every_below swaps negates_both has_no_negation_at negates_one keeps_constants has_complements is_allowed left_on_first left_on_second right_on_first right_on_second reapplies reapplies_all row_of bears reader readers used_by used other_operator not_idle equal_raw equal_slot equal_pair negation_raw negations not_trivial_at not_trivial comes_before not_both order_pair order_slot order_with order applies_again again_pair again_slot has_place again_later again_all again same_at same_output may_exchange reader_without readers_without exchange_slot exchange_steps exchange_pair exchange_with exchange row_0_at row_0 cuts ssv_live ssv_formula with_clause with_clauses literal_count outline
+unfolding fits_rows inputs_from first_fit is_live live_among words_of has simplified written x_var g_var f_var s_first
+    x_is pairs_of pairs_with pairs_below numbered laid slot_count driver out_exists_at out_exists out_value_is
+    out_value_at out_value out_values_of out_values_at out_values chosen pair_exists_at pair_exists value_raw
+    value_clause value_bit value_row value_slot value_step values operator_raw operator_clause operators_at operators
+    common swapped complement first_complemented second_complemented every_below swaps negates_both has_no_negation_at
+    negates_one keeps_constants has_complements is_allowed left_on_first left_on_second right_on_first right_on_second
+    reapplies reapplies_all row_of drives reader readers used_by used other_operator not_idle equal_raw equal_slot
+    equal_pair negation_raw negations not_trivial_at not_trivial comes_before not_both order_pair order_slot order_with
+    order is_reapplication no_reapplication_pair no_reapplication_slot has_place no_reapplication_later
+    no_reapplication_all no_reapplication same_at same_output may_exchange reader_without readers_without exchange_slot
+    exchange_steps exchange_pair exchange_with exchange row_0_at row_0 cuts ssv_live ssv_formula with_clause
+    with_clauses literal_count outline
 ssv_is_expected = refl

@@ -21,7 +21,7 @@
 //!   encodings with them.
 //! - `specs/Select.antt`: the encoding by single operands (MSV), with its own form of the constraints.
 //! - `specs/Decode.antt`: the chain that a satisfying assignment spells.
-//! - `specs/Parts.antt`: the subproblems of a size, one for each fence.
+//! - `specs/Subproblems.antt`: the subproblems of a size, one for each fence.
 //!
 //! `laws` compares the definitions with an independent program, written from the same description, on about two
 //! hundred inputs: numbers of variables, clauses and literals, and checksums.
@@ -29,7 +29,7 @@
 
 mod data;
 pub mod laws;
-mod part;
+mod subproblem;
 
 pub use data::{Pair, Side, Sizes, Slot};
-pub use part::Part;
+pub use subproblem::Subproblem;

@@ -4,6 +4,6 @@ pub mod Limits
 pub mod MiteringLaws
 pub mod SinkLaws
 pub mod Comparing
-pub mod AlikeLaws
-pub mod Every
-pub mod EveryLaws
+pub mod EquivalenceLaws
+pub mod Exhaustive
+pub mod ExhaustiveLaws

@@ -2,7 +2,7 @@
 use Rattle.std.proofs.Common.{◌≡◌, ℕ, ◌+◌, ◌≤◌, ◌<◌, List, [], ◌∷◌, ◌++◌, All, length, refl, ap, ◌∙◌, arith}
 use Rattle.std.specs.List.{flat_map}
 use Rattle.sat_theory.specs.Formula.{Formula}
-use Rattle.clause_core.specs.declared.raw.Raw.{Raw}
+use Rattle.clause_core.specs.declared.raw.RawLit.{RawLit}
 use Rattle.clause_core.specs.Clauses.{written, IsWithin}
 use Rattle.net_theory.specs.Net.{Net}
 use Rattle.equiv_theory.specs.Miter.{first_variable, second_variable, first_difference, variables, gates_rows, sinks_rows, some_row, miter_rows, miter}
@@ -11,7 +11,7 @@ use Rattle.equiv_core.specs.Rows.{IsAdded}
 use Rattle.equiv_core.specs.RowLaws.{added_both, row_within}
 use Rattle.equiv_core.specs.Limits.{AreSmall}
 
-pub some_within : (vars d count : ℕ) (row : List Raw) → row ≡ some_row d count → 1 ≤ d → d + count ≤ vars + 1 → All (IsWithin vars) row
+pub some_within : (vars d count : ℕ) (row : List RawLit) → row ≡ some_row d count → 1 ≤ d → d + count ≤ vars + 1 → All (IsWithin vars) row
 some_within vars d count row is some room = rw is (row_within vars (some_row d count) (some_row_of vars d count some room))
 
 -- the clauses once all four parts were added to an empty formula

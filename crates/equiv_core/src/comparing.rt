@@ -3,12 +3,12 @@
 //! an input at which the circuits differ. A counterexample from the sweep is believed only after simulation.
 ghost use Rattle.std.specs.Prelude.{◌≡◌, ◌≤◌, ◌<◌, ◌*◌, ◌^◌, ℕ, length, Err, IfOk, IfErr, IfSome, OnOk};
 ghost use Rattle.sat_theory.specs.Formula.{Formula, bits_of, Satisfies};
-ghost use Rattle.sat_theory.specs.Log.{Refutes, IsSpent, IsKept, IsThinned};
+ghost use Rattle.sat_theory.specs.Log.{Refutes, ReachesBudget, KeepsHalf, DeletesQuarter};
 ghost use Rattle.sat_solve.specs.Budgets.{most_budget};
 ghost use Rattle.net_theory.specs.Circuit.{IsProper};
-ghost use Rattle.net_document.specs.Alike.{AreAlike};
+ghost use Rattle.net_document.specs.Equivalence.{AreEquivalentCircuits};
 ghost use Rattle.equiv_theory.specs.Miter.{miter as miter_of, variables};
-ghost use Rattle.equiv_theory.specs.Difference.{AreComparable, HaveSameInterface, IsFirstDifference};
+ghost use Rattle.equiv_theory.specs.Counterexample.{AreComparable, HaveSameInterface, IsCounterexample};
 ghost use Rattle.equiv_core.specs.declared.answer.EquivError.TheVariants.{DifferentInterface};
 ghost use Rattle.equiv_core.specs.Limits.{IsSmall};
 ghost use Rattle.equiv_core.specs.Comparing.{IfEqual, IfDiffer, IfUndecided, IfLogged, IsDecided};
@@ -25,55 +25,55 @@ use std::alloc::{AllocError, Global};
 
 /// A counterexample: under the values `at` of the sources the values of the sink `sink`, counted from 1, differ.
 #[derive(Drop)]
-struct Difference {
+struct Counterexample {
     sink: u32,
     at: Assign,
 }
 
 /// The counterexample in an assignment that satisfies the miter of two nets.
-fn difference_of(
+fn counterexample_of(
     alloc: Global,
     first: &Net,
     second: &Net,
     assign: &Assign,
-) -> Result<Difference, AllocError>
+) -> Result<Counterexample, AllocError>
     requires comparable { AreComparable first.now second.now }
     requires small { IsSmall first.now }
     requires long { length assign.now ≡ variables first.now second.now }
     requires solution { Satisfies (bits_of assign.now) (miter_of first.now second.now) }
-    ensures { IfOk result (λ d. IsFirstDifference first.now second.now d.sink d.at) }
+    ensures { IfOk result (λ d. IsCounterexample first.now second.now d.sink d.at) }
 {
     let (front, _) = assign.bits().split_at(first.sources() as usize);
-    let Some(place) = first_difference(alloc, first, second, front)? else {
+    let Some(node) = first_difference(alloc, first, second, front)? else {
         unreachable!()
     };
     let mut at = Vec::new(alloc);
     at.extend_from_slice(front)?;
-    Ok(Difference {
-        sink: place as u32 + 1,
+    Ok(Counterexample {
+        sink: node as u32 + 1,
         at: Assign::new(at),
     })
 }
 
 /// Simulates the values `at` of the sources. Returns the counterexample that they are, if they are one.
-fn shown(
+fn simulated(
     alloc: Global,
     first: &Net,
     second: &Net,
     at: Vec<bool>,
-) -> Result<Option<Difference>, AllocError>
+) -> Result<Option<Counterexample>, AllocError>
     requires comparable { AreComparable first.now second.now }
     requires small { IsSmall first.now }
-    ensures { IfOk result (λ shown. IfSome shown (λ d. IsFirstDifference first.now second.now d.sink d.at)) }
+    ensures { IfOk result (λ simulated. IfSome simulated (λ d. IsCounterexample first.now second.now d.sink d.at)) }
 {
     if at.len() != first.sources() as usize {
         return Ok(None);
     }
-    let Some(place) = first_difference(alloc, first, second, &at)? else {
+    let Some(node) = first_difference(alloc, first, second, &at)? else {
         return Ok(None);
     };
-    Ok(Some(Difference {
-        sink: place as u32 + 1,
+    Ok(Some(Counterexample {
+        sink: node as u32 + 1,
         at: Assign::new(at),
     }))
 }
@@ -86,17 +86,18 @@ fn swept<S: Solver>(
     second: &Net,
     solver: &mut S,
     budget: u32,
-) -> Result<(Option<Difference>, u32), AllocError>
+) -> Result<(Option<Counterexample>, u32), AllocError>
     requires comparable { AreComparable first.now second.now }
     requires small { IsSmall first.now }
     requires vars { S.vars_of solver.old ≡ variables first.now second.now }
     requires room { S.vars_of solver.old < 2 ^ 31 }
-    ensures stays { (f : Formula) (least : ℕ) → S.IsSolverOf f least solver.old → OnOk result (S.IsSolverOf f least solver.new) }
-    ensures differ { IfOk result (λ r. IfSome r.0 (λ d. IsFirstDifference first.now second.now d.sink d.at)) }
+    ensures stays { (f : Formula) (least : ℕ) → S.IsSolverOf f least solver.old →
+        OnOk result (S.IsSolverOf f least solver.new) }
+    ensures differ { IfOk result (λ r. IfSome r.0 (λ d. IsCounterexample first.now second.now d.sink d.at)) }
 {
     match sweep(alloc, first, second, solver, budget)? {
         Swept::Differ(at) => {
-            let difference = shown(alloc, first, second, at)?;
+            let difference = simulated(alloc, first, second, at)?;
             Ok((difference, 0))
         }
         Swept::Swept { spent } => Ok((None, spent)),
@@ -135,10 +136,11 @@ fn finished<S: Solver>(
     requires solver { S.IsSolverOf (miter_of first.now second.now) budget solver }
     requires budget { (1 ≤ budget) × (budget ≤ most_budget) }
     ensures equal { IfOk result (λ e. IfEqual e (Refutes (miter_of first.now second.now))) }
-    ensures differ { IfOk result (λ e. IfDiffer e (IsFirstDifference first.now second.now)) }
-    ensures undecided { IfOk result (λ e. IfUndecided e (λ lines. IsSpent (miter_of first.now second.now) lines budget)) }
-    ensures kept { IfOk result (λ e. IfUndecided e (IsKept (miter_of first.now second.now))) }
-    ensures thinned { IfOk result (λ e. IfLogged e (IsThinned (miter_of first.now second.now))) }
+    ensures differ { IfOk result (λ e. IfDiffer e (IsCounterexample first.now second.now)) }
+    ensures undecided { IfOk result (λ e. IfUndecided e (λ lines.
+        ReachesBudget (miter_of first.now second.now) lines budget)) }
+    ensures kept { IfOk result (λ e. IfUndecided e (KeepsHalf (miter_of first.now second.now))) }
+    ensures thinned { IfOk result (λ e. IfLogged e (DeletesQuarter (miter_of first.now second.now))) }
     ensures decides { 2 * 3 ^ variables first.now second.now ≤ budget → IfOk result IsDecided }
 {
     let left = left_of(budget, spent);
@@ -146,7 +148,7 @@ fn finished<S: Solver>(
         Solved::Unsat(log) => Ok(Equiv::Equal(log)),
         Solved::Open(log) => Ok(Equiv::Undecided(log)),
         Solved::Sat(assign) => {
-            let Difference { sink, at } = difference_of(alloc, first, second, &assign)?;
+            let Counterexample { sink, at } = counterexample_of(alloc, first, second, &assign)?;
             Ok(Equiv::Differ { sink, at })
         }
     }
@@ -166,17 +168,18 @@ pub(crate) fn compare<S: Solver>(
     requires miter { cnf.now ≡ miter_of first.now second.now }
     requires budget { (1 ≤ budget) × (budget ≤ most_budget) }
     ensures equal { IfOk result (λ e. IfEqual e (Refutes (miter_of first.now second.now))) }
-    ensures differ { IfOk result (λ e. IfDiffer e (IsFirstDifference first.now second.now)) }
-    ensures undecided { IfOk result (λ e. IfUndecided e (λ lines. IsSpent (miter_of first.now second.now) lines budget)) }
-    ensures kept { IfOk result (λ e. IfUndecided e (IsKept (miter_of first.now second.now))) }
-    ensures thinned { IfOk result (λ e. IfLogged e (IsThinned (miter_of first.now second.now))) }
+    ensures differ { IfOk result (λ e. IfDiffer e (IsCounterexample first.now second.now)) }
+    ensures undecided { IfOk result (λ e. IfUndecided e (λ lines.
+        ReachesBudget (miter_of first.now second.now) lines budget)) }
+    ensures kept { IfOk result (λ e. IfUndecided e (KeepsHalf (miter_of first.now second.now))) }
+    ensures thinned { IfOk result (λ e. IfLogged e (DeletesQuarter (miter_of first.now second.now))) }
     ensures decides { 2 * 3 ^ variables first.now second.now ≤ budget → IfOk result IsDecided }
 {
     let _vars = cnf.vars(); // for the prover: brings in the bounds of the formula
     let mut solver = S::new(alloc, cnf, budget)?;
     let share = share_of(budget);
     let (difference, spent) = swept(alloc, first, second, &mut solver, share)?;
-    if let Some(Difference { sink, at }) = difference {
+    if let Some(Counterexample { sink, at }) = difference {
         return Ok(Equiv::Differ { sink, at });
     }
     finished(alloc, first, second, solver, budget, spent)
@@ -203,13 +206,14 @@ pub fn equiv<S: Solver>(
     requires other { IsSmall second.now.net }
     requires budget { (1 ≤ budget) × (budget ≤ most_budget) }
     ensures equal { IfOk result (λ e. IfEqual e (Refutes (miter_of first.now.net second.now.net))) }
-    ensures alike { IfOk result (λ e. IfEqual e (λ _. AreAlike first.now second.now)) }
-    ensures differ { IfOk result (λ e. IfDiffer e (IsFirstDifference first.now.net second.now.net)) }
-    ensures undecided { IfOk result (λ e. IfUndecided e (λ lines. IsSpent (miter_of first.now.net second.now.net) lines budget)) }
-    ensures kept { IfOk result (λ e. IfUndecided e (IsKept (miter_of first.now.net second.now.net))) }
+    ensures equivalent { IfOk result (λ e. IfEqual e (λ _. AreEquivalentCircuits first.now second.now)) }
+    ensures differ { IfOk result (λ e. IfDiffer e (IsCounterexample first.now.net second.now.net)) }
+    ensures undecided { IfOk result (λ e. IfUndecided e (λ lines.
+        ReachesBudget (miter_of first.now.net second.now.net) lines budget)) }
+    ensures kept { IfOk result (λ e. IfUndecided e (KeepsHalf (miter_of first.now.net second.now.net))) }
     // At the end of either log at most three quarters of its additions, plus 2,000, plus the number of the miter's
     // variables, are live; and it deletes no clause of the miter.
-    ensures thinned { IfOk result (λ e. IfLogged e (IsThinned (miter_of first.now.net second.now.net))) }
+    ensures thinned { IfOk result (λ e. IfLogged e (DeletesQuarter (miter_of first.now.net second.now.net))) }
     ensures decides { 2 * 3 ^ variables first.now.net second.now.net ≤ budget → IfOk result IsDecided }
     ensures interface { IfOk result (λ _. HaveSameInterface first.now second.now) }
     ensures refused { IfErr result (λ e. e ≡ DifferentInterface → HaveSameInterface first.now second.now → ⊥) }

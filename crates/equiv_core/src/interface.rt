@@ -1,6 +1,6 @@
 //! Whether two circuits have the same interface, which is required to compare them.
 ghost use Rattle.std.specs.Prelude.{◌≡◌, ◌↔◌, IsTrue};
-ghost use Rattle.equiv_theory.specs.Difference.{HaveSameInterface};
+ghost use Rattle.equiv_theory.specs.Counterexample.{HaveSameInterface};
 
 use net_core::{Circuit, Latch, Name, Trigger};
 
@@ -17,8 +17,8 @@ fn same_control(first: &Option<(Trigger, Name)>, second: &Option<(Trigger, Name)
     ensures { IsTrue result ↔ (first.now ≡ second.now) }
 {
     match (first, second) {
-        (Some((trigger, name)), Some((other, behind))) => *trigger == *other
-            && same_name(name, behind),
+        (Some((trigger, name)), Some((other, after))) => *trigger == *other
+            && same_name(name, after),
         (None, None) => true,
         _ => false,
     }

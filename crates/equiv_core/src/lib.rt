@@ -17,12 +17,12 @@
 //!
 //! - `src/rows.rt`, `src/mitering.rt`: the clauses. `src/interface.rt`: whether two circuits have one interface.
 //! - `src/values.rt`: where two nets differ. `src/comparing.rt`: the three answers. `src/nets.rt`: the answer for
-//!   nets, without a log. `src/every.rt`: nets with few sources, compared exhaustively.
+//!   nets, without a log. `src/exhaustive.rt`: nets with few sources, compared exhaustively.
 #![tactic(auto)]
 
 mod answer;
 mod comparing;
-mod every;
+mod exhaustive;
 mod interface;
 mod mitering;
 mod nets;

@@ -2,10 +2,10 @@
 ghost use Rattle.std.specs.Prelude.{◌≡◌, IfOk};
 ghost use Rattle.net_theory.specs.Circuit.{IsProper};
 ghost use Rattle.equiv_theory.specs.Miter.{miter as miter_of};
-ghost use Rattle.equiv_theory.specs.Difference.{AreComparable, HaveSameInterface};
+ghost use Rattle.equiv_theory.specs.Counterexample.{AreComparable, HaveSameInterface};
 ghost use Rattle.equiv_core.specs.Limits.{AreSmall, IsSmall};
 
-use crate::numbering::Numbering;
+use crate::numbering::NetNumbering;
 use crate::rows::{push_gates, push_sinks, some_row};
 use clause_core::ClauseList;
 use cnf_core::Cnf;
@@ -20,21 +20,21 @@ fn list_miter(alloc: Global, first: &Net, second: &Net) -> Result<ClauseList, Al
 {
     let sources = first.sources();
     let before = first.gates().len() as u32;
-    let behind = second.gates().len() as u32;
+    let after = second.gates().len() as u32;
     let count = first.sinks().len() as u32;
-    let one = Numbering {
+    let one = NetNumbering {
         sources,
         before: 0,
         end: sources + 1 + before,
     };
     let others = second.sources();
-    let other = Numbering {
+    let other = NetNumbering {
         sources: others,
         before,
-        end: others + 1 + behind,
+        end: others + 1 + after,
     };
-    let difference = sources + before + behind + 1;
-    let mut list = ClauseList::new(alloc, sources + before + behind + count)?;
+    let difference = sources + before + after + 1;
+    let mut list = ClauseList::new(alloc, sources + before + after + count)?;
     push_gates(alloc, &mut list, one, sources + 1, first.gates())?;
     push_gates(alloc, &mut list, other, others + 1, second.gates())?;
     push_sinks(

@@ -3,13 +3,13 @@ ghost use Rattle.std.specs.Prelude.{◌≡◌, ◌≤◌, ◌*◌, ◌^◌, ℕ,
 ghost use Rattle.sat_solve.specs.Budgets.{most_budget};
 ghost use Rattle.net_theory.specs.Net.{sink_values};
 ghost use Rattle.equiv_theory.specs.Miter.{variables};
-ghost use Rattle.equiv_theory.specs.Difference.{AreComparable, Differ as AreDifferent};
+ghost use Rattle.equiv_theory.specs.Counterexample.{AreComparable, Differ as AreDifferent};
 ghost use Rattle.equiv_core.specs.Limits.{AreSmall};
-ghost use Rattle.equiv_core.specs.Every.{IsNarrow};
+ghost use Rattle.equiv_core.specs.Exhaustive.{IsNarrow};
 
 use crate::answer::Equiv;
 use crate::comparing::compare;
-use crate::every::{agree, are_narrow};
+use crate::exhaustive::{agree, are_narrow};
 use crate::mitering::miter_nets;
 use net_core::Net;
 use sat_solve::Solver;
@@ -32,9 +32,12 @@ pub fn equal_nets<S: Solver>(
     requires comparable { AreComparable first.now second.now }
     requires small { AreSmall first.now second.now }
     requires budget { (1 ≤ budget) × (budget ≤ most_budget) }
-    ensures same { IfOk result (λ same. same ≡ true → (given : ℕ → Bool) → sink_values first.now given ≡ sink_values second.now given) }
-    ensures narrow { IsNarrow first.now second.now → IfOk result (λ same. same ≡ false → AreDifferent first.now second.now) }
-    ensures decides { 2 * 3 ^ variables first.now second.now ≤ budget → IfOk result (λ same. same ≡ false → AreDifferent first.now second.now) }
+    ensures same { IfOk result (λ same. same ≡ true → (given : ℕ → Bool) →
+        sink_values first.now given ≡ sink_values second.now given) }
+    ensures narrow { IsNarrow first.now second.now →
+        IfOk result (λ same. same ≡ false → AreDifferent first.now second.now) }
+    ensures decides { 2 * 3 ^ variables first.now second.now ≤ budget →
+        IfOk result (λ same. same ≡ false → AreDifferent first.now second.now) }
 {
     if are_narrow(first, second) {
         return agree(alloc, first, second);

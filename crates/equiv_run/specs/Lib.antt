@@ -1,10 +1,10 @@
 pub mod Split
-pub mod Walking
-pub mod WalkLaws
+pub mod Scanning
+pub mod ScanLaws
 pub mod Texts
 pub mod TextLaws
 pub mod Pairs
-pub mod Told
+pub mod CircuitAnswers
 pub mod SmallLaws
 pub mod NameBits
 pub mod PairLaws

@@ -12,19 +12,19 @@ use Rattle.net_core.specs.declared.error.NetError.{NetError}
 use Rattle.net_document.specs.Listed.{Listed}
 use Rattle.net_document.specs.Format.{IsNetlist, IsCircuitOfText, HasNetFault}
 use Rattle.net_document.specs.FormatLaws as faults
-use Rattle.net_document.specs.AlikeLaws.{alike_same}
+use Rattle.net_document.specs.EquivalenceLaws.{equivalent_same}
 use Rattle.blif_text.specs.ListingLaws.{texts_list}
 use Rattle.blif_core.specs.Blif.{blif_format}
-use Rattle.equiv_theory.specs.Difference.{HaveSameInterface, IsFirstDifference, sink_bit}
-use Rattle.equiv_run.specs.declared.answer.Standing.{Standing}
-use Rattle.equiv_run.specs.declared.answer.Standing.TheVariants.{Equal, Differ, Undecided}
+use Rattle.equiv_theory.specs.Counterexample.{HaveSameInterface, IsCounterexample, sink_bit}
+use Rattle.equiv_run.specs.declared.answer.EquivOutcome.{EquivOutcome}
+use Rattle.equiv_run.specs.declared.answer.EquivOutcome.TheVariants.{Equal, Differ, Undecided}
 use Rattle.equiv_run.specs.declared.answer.CompareError.{CompareError}
 use Rattle.equiv_run.specs.declared.answer.CompareError.TheVariants.{NoSecond, First, Second, DifferentInterface, Memory}
 use Rattle.equiv_run.specs.declared.answer.Compared.{Compared}
 use Rattle.equiv_run.specs.Split.{split_of}
 use Rattle.equiv_run.specs.Texts.{differ_text}
-use Rattle.equiv_run.specs.Pairs.{Lists, AreTwo, ShareInterface, sink_in, DocumentsDiffer, IsTold, IsAnswer, HasFirstFault, HasSecondFault, HasPairFault, IsRefusedPair}
-use Rattle.equiv_run.specs.Told.{IsCircuitTold, IsOther}
+use Rattle.equiv_run.specs.Pairs.{Lists, AreTwo, ShareInterface, sink_in, DocumentsDiffer, IsDocumentAnswer, IsAnswer, HasFirstFault, HasSecondFault, HasPairFault, IsRefusedPair}
+use Rattle.equiv_run.specs.CircuitAnswers.{IsCircuitAnswer, IsOther}
 use Rattle.equiv_run.specs.NameBits.{has_assignment, values_are}
 
 -- ---- interfaces
@@ -54,7 +54,8 @@ sources_same c k same = ap (λ (ns : List Name). ns ++ map latch_output c.latche
 -- ---- differences
 
 -- the values of a map at the sinks are those of the net
-map_values : (d : Document) (c : Circuit) (given v : Name → Bool) (bits : List Bool) → IsProper c → Describes d c → map given (sources_of c) ≡ bits → IsMapOf d given v → map v (sink_names d) ≡ sink_values c.net (bit_of bits)
+map_values : (d : Document) (c : Circuit) (given v : Name → Bool) (bits : List Bool) → IsProper c → Describes d c →
+    map given (sources_of c) ≡ bits → IsMapOf d given v → map v (sink_names d) ≡ sink_values c.net (bit_of bits)
 map_values d c given v bits of describes is maps = describes.sinks given v maps ∙ values_are c given bits of is
 
 sinks_counted : (d : Document) (c : Circuit) → IsProper c → Describes d c → length (sink_names d) ≡ length c.net.sinks
@@ -65,14 +66,17 @@ sinks_counted d c of describes =
     let two : length (sink_names d) ≡ length d.outputs + length d.latches = length-append d.outputs _ ∙ ap (λ (n : ℕ). length d.outputs + n) (length-map d.latches _) in
     omega (arith, outputs, latches, one, two, of.sink_count)
 
-documents_differ : (d e : Document) (c k : Circuit) (sink : ℕ) (bits : List Bool) → IsProper c → IsProper k → Describes d c → Describes e k → HaveSameInterface c k → IsFirstDifference c.net k.net sink bits → DocumentsDiffer d e sink bits
+documents_differ : (d e : Document) (c k : Circuit) (sink : ℕ) (bits : List Bool) → IsProper c → IsProper k →
+    Describes d c → Describes e k → HaveSameInterface c k → IsCounterexample c.net k.net sink bits →
+    DocumentsDiffer d e sink bits
 documents_differ d e c k sink bits of_c of_k of_d of_e same first = record {
   first_has_one = of_d.one;
   second_has_one = of_e.one;
   each_source = first.each_source ∙ of_c.source_count ∙ ap length (sym (names_same d c of_d));
   counted = first.counted;
   below = omega (arith, first.first_sink.here.below, first.counted, sinks_counted d c of_c of_d);
-  some = subst (λ (ns : List Name). (given : Name → Bool) × (map given ns ≡ bits)) (sym (names_same d c of_d)) (has_assignment (sources_of c) bits of_c.distinct (first.each_source ∙ of_c.source_count));
+  some = subst (λ (ns : List Name). (given : Name → Bool) × (map given ns ≡ bits)) (sym (names_same d c of_d))
+      (has_assignment (sources_of c) bits of_c.distinct (first.each_source ∙ of_c.source_count));
   differ = λ given v w is maps_v maps_w equal. first.first_sink.here.differ (sym (at given v is maps_v (sink - 1)) ∙ equal ∙ at' given w is maps_w (sink - 1));
   least = λ given v w is maps_v maps_w j before. at given v is maps_v j ∙ first.first_sink.least j before ∙ sym (at' given w is maps_w j);
 } where
@@ -80,62 +84,75 @@ documents_differ d e c k sink bits of_c of_k of_d of_e same first = record {
   at given v is maps i = ap (λ (bs : List Bool). slice_index_or bs i false) (map_values d c given v bits of_c of_d (ap (map given) (sym (names_same d c of_d)) ∙ is) maps)
 
   at' : (given w : Name → Bool) → map given (source_names d) ≡ bits → IsMapOf e given w → (i : ℕ) → sink_in e w i ≡ sink_bit k.net (bit_of bits) i
-  at' given w is maps i = ap (λ (bs : List Bool). slice_index_or bs i false) (map_values e k given w bits of_k of_e (ap (map given) (sym (sources_same c k same)) ∙ ap (map given) (sym (names_same d c of_d)) ∙ is) maps)
+  at' given w is maps i = ap (λ (bs : List Bool). slice_index_or bs i false)
+      (map_values e k given w bits of_k of_e (ap (map given) (sym (sources_same c k same))
+      ∙ ap (map given) (sym (names_same d c of_d)) ∙ is) maps)
 
 -- ---- the answers
 
 lists_of : (bytes : List ℕ) (c : Circuit) → (of : IsCircuitOfText blif_format bytes c) → Lists bytes of.listed.document
 lists_of bytes c of = record { listed = of.listed; said = of.said; is = refl; well = of.well }
 
-told_of : (budget : ℕ) (d e : Document) (c k : Circuit) (text : List ℕ) (standing : Standing) → IsCircuitOf d c → IsCircuitOf e k → IsCircuitTold budget c k text standing → IsTold budget d e text standing
-told_of budget d e c k text Equal of_d of_e told = record {
-  same = alike_same d e c k of_d.describes of_e.describes told.alike;
+answered_of : (budget : ℕ) (d e : Document) (c k : Circuit) (text : List ℕ) (outcome : EquivOutcome) →
+    IsCircuitOf d c → IsCircuitOf e k → IsCircuitAnswer budget c k text outcome →
+    IsDocumentAnswer budget d e text outcome
+answered_of budget d e c k text Equal of_d of_e reported = record {
+  same = equivalent_same d e c k of_d.describes of_e.describes reported.equivalent;
   first = c.net;
   second = k.net;
   nets = record { first_is = of_d.net; second_is = of_e.net };
-  lines = told.lines;
-  refutes = told.refutes;
-  thinned = told.thinned;
-  text_is = told.text_is;
+  lines = reported.lines;
+  refutes = reported.refutes;
+  thinned = reported.thinned;
+  text_is = reported.text_is;
 }
-told_of budget d e c k text Differ of_d of_e told = record {
-  sink = told.sink;
-  bits = told.bits;
-  differ = documents_differ d e c k told.sink told.bits of_d.proper of_e.proper of_d.describes of_e.describes told.interface told.differ;
-  text_is = told.text_is ∙ ap (λ (ns : List Name). differ_text ns c.latches told.sink told.bits) (sym of_d.describes.outputs) ∙ ap (λ (ls : List Latch). differ_text d.outputs ls told.sink told.bits) (sym of_d.describes.latches);
+answered_of budget d e c k text Differ of_d of_e reported = record {
+  sink = reported.sink;
+  bits = reported.bits;
+  differ = documents_differ d e c k reported.sink reported.bits of_d.proper of_e.proper of_d.describes of_e.describes reported.interface reported.differ;
+  text_is = reported.text_is ∙ ap (λ (ns : List Name). differ_text ns c.latches reported.sink reported.bits)
+      (sym of_d.describes.outputs) ∙ ap (λ (ls : List Latch). differ_text d.outputs ls reported.sink reported.bits)
+      (sym of_d.describes.latches);
 }
-told_of budget d e c k text Undecided of_d of_e told = record {
+answered_of budget d e c k text Undecided of_d of_e reported = record {
   first = c.net;
   second = k.net;
   nets = record { first_is = of_d.net; second_is = of_e.net };
-  lines = told.lines;
-  spent = told.spent;
-  kept = told.kept;
-  thinned = told.thinned;
-  small = told.small;
-  text_is = told.text_is;
+  lines = reported.lines;
+  spent = reported.spent;
+  kept = reported.kept;
+  thinned = reported.thinned;
+  small = reported.small;
+  text_is = reported.text_is;
 }
 
-interface_of : (budget : ℕ) (c k : Circuit) (text : List ℕ) (standing : Standing) → IsCircuitTold budget c k text standing → HaveSameInterface c k
-interface_of budget c k text Equal told = told.interface
-interface_of budget c k text Differ told = told.interface
-interface_of budget c k text Undecided told = told.interface
+interface_of : (budget : ℕ) (c k : Circuit) (text : List ℕ) (outcome : EquivOutcome) → IsCircuitAnswer budget c k text outcome → HaveSameInterface c k
+interface_of budget c k text Equal reported = reported.interface
+interface_of budget c k text Differ reported = reported.interface
+interface_of budget c k text Undecided reported = reported.interface
 
-two_of : (bytes : List ℕ) (place : ℕ) (c k : Circuit) → split_of bytes ≡ Some place → (of_c : IsCircuitOfText blif_format (take place bytes) c) → (of_k : IsCircuitOfText blif_format (drop place bytes) k) → AreTwo bytes of_c.listed.document of_k.listed.document
+two_of : (bytes : List ℕ) (place : ℕ) (c k : Circuit) → split_of bytes ≡ Some place →
+    (of_c : IsCircuitOfText blif_format (take place bytes) c) →
+    (of_k : IsCircuitOfText blif_format (drop place bytes) k) → AreTwo bytes of_c.listed.document of_k.listed.document
 two_of bytes place c k parted of_c of_k = record { place = place; parted = parted; first = lists_of (take place bytes) c of_c; second = lists_of (drop place bytes) k of_k }
 
-pub answer_of : (budget : ℕ) (bytes : List ℕ) (place : ℕ) (c k : Circuit) (text : List ℕ) (standing : Standing) → split_of bytes ≡ Some place → IsCircuitOfText blif_format (take place bytes) c → IsCircuitOfText blif_format (drop place bytes) k → IsCircuitTold budget c k text standing → IsAnswer budget bytes text standing
-answer_of budget bytes place c k text standing parted of_c of_k told = record {
+pub answer_of : (budget : ℕ) (bytes : List ℕ) (place : ℕ) (c k : Circuit) (text : List ℕ) (outcome : EquivOutcome) →
+    split_of bytes ≡ Some place → IsCircuitOfText blif_format (take place bytes) c →
+    IsCircuitOfText blif_format (drop place bytes) k → IsCircuitAnswer budget c k text outcome →
+    IsAnswer budget bytes text outcome
+answer_of budget bytes place c k text outcome parted of_c of_k reported = record {
   first = of_c.listed.document;
   second = of_k.listed.document;
   two = two_of bytes place c k parted of_c of_k;
-  interface = shared of_c.listed.document of_k.listed.document c k of_c.circuit.describes of_k.circuit.describes (interface_of budget c k text standing told);
-  told = told_of budget of_c.listed.document of_k.listed.document c k text standing of_c.circuit of_k.circuit told;
+  interface = shared of_c.listed.document of_k.listed.document c k of_c.circuit.describes of_k.circuit.describes (interface_of budget c k text outcome reported);
+  reported = answered_of budget of_c.listed.document of_k.listed.document c k text outcome of_c.circuit of_k.circuit reported;
 }
 
 -- ---- the refusals
 
-pub other_refused : (bytes : List ℕ) (place : ℕ) (c k : Circuit) (e : CompareError) → split_of bytes ≡ Some place → IsCircuitOfText blif_format (take place bytes) c → IsCircuitOfText blif_format (drop place bytes) k → IsOther c k e → IsRefusedPair bytes e
+pub other_refused : (bytes : List ℕ) (place : ℕ) (c k : Circuit) (e : CompareError) → split_of bytes ≡ Some place →
+    IsCircuitOfText blif_format (take place bytes) c → IsCircuitOfText blif_format (drop place bytes) k →
+    IsOther c k e → IsRefusedPair bytes e
 other_refused bytes place c k DifferentInterface parted of_c of_k other = record {
   first = of_c.listed.document;
   second = of_k.listed.document;
@@ -148,7 +165,9 @@ other_refused bytes place c k (First e) parted of_c of_k other = absurd other
 other_refused bytes place c k (Second e) parted of_c of_k other = absurd other
 
 -- an error that is passed on
-pub error_other : (bytes : List ℕ) (place : ℕ) (c k : Circuit) (r : Result Compared CompareError) (e : CompareError) → IsErrAnd r (λ d. d ≡ e) → split_of bytes ≡ Some place → IsCircuitOfText blif_format (take place bytes) c → IsCircuitOfText blif_format (drop place bytes) k → IsOther c k e → IfErr r (IsRefusedPair bytes)
+pub error_other : (bytes : List ℕ) (place : ℕ) (c k : Circuit) (r : Result Compared CompareError) (e : CompareError) →
+    IsErrAnd r (λ d. d ≡ e) → split_of bytes ≡ Some place → IsCircuitOfText blif_format (take place bytes) c →
+    IsCircuitOfText blif_format (drop place bytes) k → IsOther c k e → IfErr r (IsRefusedPair bytes)
 error_other bytes place c k (Ok x) e is parted of_c of_k other = tt
 error_other bytes place c k (Err d) e is parted of_c of_k other = rw is (other_refused bytes place c k e parted of_c of_k other)
 
@@ -199,14 +218,18 @@ two_never bytes d k (Second x) two share fault = two_never_second bytes d k x tw
 two_never bytes d k DifferentInterface two share fault = fault.other (two_share bytes d k fault.first fault.second two fault.two share)
 two_never bytes d k Memory two share fault = absurd fault
 
-pub answer_never : (budget : ℕ) (bytes text : List ℕ) (standing : Standing) (e : CompareError) → IsAnswer budget bytes text standing → HasPairFault bytes e → ⊥
-answer_never budget bytes text standing e is fault = two_never bytes is.first is.second e is.two is.interface fault
+pub answer_never : (budget : ℕ) (bytes text : List ℕ) (outcome : EquivOutcome) (e : CompareError) → IsAnswer budget bytes text outcome → HasPairFault bytes e → ⊥
+answer_never budget bytes text outcome e is fault = two_never bytes is.first is.second e is.two is.interface fault
 
 first_one : (bytes : List ℕ) (a b : NetError) → HasFirstFault bytes a → HasFirstFault bytes b → a ≡ b
-first_one bytes a b x y = faults.fault_one blif_format (take y.place bytes) a b (subst (λ (p : ℕ). HasNetFault blif_format (take p bytes) a) (place_one (split_of bytes) x.place y.place x.parted y.parted) x.fault) y.fault
+first_one bytes a b x y = faults.fault_one blif_format (take y.place bytes) a b
+    (subst (λ (p : ℕ). HasNetFault blif_format (take p bytes) a)
+    (place_one (split_of bytes) x.place y.place x.parted y.parted) x.fault) y.fault
 
 second_one : (bytes : List ℕ) (a b : NetError) → HasSecondFault bytes a → HasSecondFault bytes b → a ≡ b
-second_one bytes a b x y = faults.fault_one blif_format (drop y.place bytes) a b (subst (λ (p : ℕ). HasNetFault blif_format (drop p bytes) a) (place_one (split_of bytes) x.place y.place x.parted y.parted) x.fault) y.fault
+second_one bytes a b x y = faults.fault_one blif_format (drop y.place bytes) a b
+    (subst (λ (p : ℕ). HasNetFault blif_format (drop p bytes) a)
+    (place_one (split_of bytes) x.place y.place x.parted y.parted) x.fault) y.fault
 
 first_second : (bytes : List ℕ) (a b : NetError) → HasFirstFault bytes a → HasSecondFault bytes b → ⊥
 first_second bytes a b x y = never (take y.place bytes) a y.first (subst (λ (p : ℕ). HasNetFault blif_format (take p bytes) a) (place_one (split_of bytes) x.place y.place x.parted y.parted) x.fault)

@@ -1,9 +1,9 @@
 -- Two netlists in one text, one after the other: the answers and the refusals.
 use Rattle.std.specs.Prelude.{◌≡◌, ◌≢◌, ℕ, ◌-◌, ◌*◌, ◌^◌, ◌≤◌, ◌<◌, Bool, false, List, length, map, take, drop, slice_index_or, Some, None, Ok}
 use Rattle.sat_theory.specs.Line.{Line}
-use Rattle.sat_theory.specs.Log.{Refutes, IsSpent, IsKept, IsThinned}
+use Rattle.sat_theory.specs.Log.{Refutes, ReachesBudget, KeepsHalf, DeletesQuarter}
 use Rattle.net_theory.specs.Document.{Name, Document, latches_of, source_names, sink_names}
-use Rattle.net_theory.specs.Behaviour.{IsMapOf, HasOneMap, Same}
+use Rattle.net_theory.specs.Behaviour.{IsMapOf, HasOneMap, IsEquivalent}
 use Rattle.net_theory.specs.WellFormed.{IsWellFormed}
 use Rattle.net_theory.specs.Net.{Net}
 use Rattle.net_theory.specs.NetOf.{net_of}
@@ -12,8 +12,8 @@ use Rattle.net_document.specs.Listed.{Listed}
 use Rattle.net_document.specs.Format.{IsNetlist, HasNetFault}
 use Rattle.blif_core.specs.Blif.{blif_format}
 use Rattle.equiv_theory.specs.Miter.{variables, miter}
-use Rattle.equiv_run.specs.declared.answer.Standing.{Standing}
-use Rattle.equiv_run.specs.declared.answer.Standing.TheVariants.{Equal, Differ, Undecided}
+use Rattle.equiv_run.specs.declared.answer.EquivOutcome.{EquivOutcome}
+use Rattle.equiv_run.specs.declared.answer.EquivOutcome.TheVariants.{Equal, Differ, Undecided}
 use Rattle.equiv_run.specs.declared.answer.CompareError.{CompareError}
 use Rattle.equiv_run.specs.declared.answer.CompareError.TheVariants.{NoSecond, First, Second, DifferentInterface, Memory}
 use Rattle.equiv_run.specs.Split.{split_of}
@@ -72,18 +72,18 @@ pub record HasMiter (d e : Document) (first second : Net) : Type 0 where
 -- ---- the answers
 
 -- They are equivalent: the lines refute the miter of their nets, and are thinned.
-pub record IsEqualTold (d e : Document) (text : List ℕ) : Type 0 where
-  pub same : Same d e
+pub record IsEqualAnswer (d e : Document) (text : List ℕ) : Type 0 where
+  pub same : IsEquivalent d e
   pub first : Net
   pub second : Net
   pub nets : HasMiter d e first second
   pub lines : List Line
   pub refutes : Refutes (miter first second) lines
-  pub thinned : IsThinned (miter first second) lines
+  pub thinned : DeletesQuarter (miter first second) lines
   pub text_is : text ≡ equal_text lines
 
 -- They differ under the values in the text, at the sink in the text and at none before it.
-pub record IsDifferTold (d e : Document) (text : List ℕ) : Type 0 where
+pub record IsDifferAnswer (d e : Document) (text : List ℕ) : Type 0 where
   pub sink : ℕ
   pub bits : List Bool
   pub differ : DocumentsDiffer d e sink bits
@@ -91,29 +91,29 @@ pub record IsDifferTold (d e : Document) (text : List ℕ) : Type 0 where
 
 -- The lines have spent the budget on the miter of their nets, at least half of their additions are live at the
 -- end, and they are thinned. A budget of twice three to the number of the miter's variables is never spent.
-pub record IsUndecidedTold (budget : ℕ) (d e : Document) (text : List ℕ) : Type 0 where
+pub record IsUndecidedAnswer (budget : ℕ) (d e : Document) (text : List ℕ) : Type 0 where
   pub first : Net
   pub second : Net
   pub nets : HasMiter d e first second
   pub lines : List Line
-  pub spent : IsSpent (miter first second) lines budget
-  pub kept : IsKept (miter first second) lines
-  pub thinned : IsThinned (miter first second) lines
+  pub spent : ReachesBudget (miter first second) lines budget
+  pub kept : KeepsHalf (miter first second) lines
+  pub thinned : DeletesQuarter (miter first second) lines
   pub small : budget < 2 * 3 ^ variables first second
   pub text_is : text ≡ undecided_text lines
 
-abbrev pub IsTold : ℕ → Document → Document → List ℕ → Standing → Type 0
-IsTold budget d e text Equal = IsEqualTold d e text
-IsTold budget d e text Differ = IsDifferTold d e text
-IsTold budget d e text Undecided = IsUndecidedTold budget d e text
+abbrev pub IsDocumentAnswer : ℕ → Document → Document → List ℕ → EquivOutcome → Type 0
+IsDocumentAnswer budget d e text Equal = IsEqualAnswer d e text
+IsDocumentAnswer budget d e text Differ = IsDifferAnswer d e text
+IsDocumentAnswer budget d e text Undecided = IsUndecidedAnswer budget d e text
 
 -- The bytes are two netlists of one interface, and the text is the answer for them.
-pub record IsAnswer (budget : ℕ) (bytes text : List ℕ) (standing : Standing) : Type 0 where
+pub record IsAnswer (budget : ℕ) (bytes text : List ℕ) (outcome : EquivOutcome) : Type 0 where
   pub first : Document
   pub second : Document
   pub two : AreTwo bytes first second
   pub interface : ShareInterface first second
-  pub told : IsTold budget first second text standing
+  pub reported : IsDocumentAnswer budget first second text outcome
 
 -- ---- the refusals
 

@@ -20,13 +20,14 @@ unless_ok : (f : Option NetError) (k l : Listed) → unless f k ≡ Ok l → k �
 unless_ok None k l e = cc
 unless_ok (Some f) k l e = absurd cc
 
-said_parts : (bytes : List ℕ) (l : Listed) (r : Result Said NetError) → said_of bytes ≡ r → (r >>= λ s. unless (control_fault (map table_output s.tables) s.controls) (listed_by s)) ≡ Ok l → IsSaidBy bytes l
-said_parts bytes l (Ok s) e f = record { state = s; said = e; same = unless_ok (control_fault (map table_output s.tables) s.controls) (listed_by s) l f }
-said_parts bytes l (Err x) e f = absurd cc
+content_parts : (bytes : List ℕ) (l : Listed) (r : Result Said NetError) → said_of bytes ≡ r →
+    (r >>= λ s. unless (control_fault (map table_output s.tables) s.controls) (listed_by s)) ≡ Ok l → IsSaidBy bytes l
+content_parts bytes l (Ok s) e f = record { state = s; said = e; same = unless_ok (control_fault (map table_output s.tables) s.controls) (listed_by s) l f }
+content_parts bytes l (Err x) e f = absurd cc
 
-said_by : (bytes : List ℕ) (l : Listed) → listed_of bytes ≡ Ok l → IsSaidBy bytes l
+content_by : (bytes : List ℕ) (l : Listed) → listed_of bytes ≡ Ok l → IsSaidBy bytes l
 unfolding listed_of
-said_by bytes l e = said_parts bytes l (said_of bytes) refl e
+content_by bytes l e = content_parts bytes l (said_of bytes) refl e
 
 -- a document has at most as many names as its text has bytes
 record IsFew (bytes : List ℕ) (d : Document) : Type 0 where
@@ -35,7 +36,7 @@ record IsFew (bytes : List ℕ) (d : Document) : Type 0 where
 
 few : (bytes : List ℕ) (l : Listed) → listed_of bytes ≡ Ok l → IsFew bytes l.document
 few bytes l e =
-    let s = said_by bytes l e in
+    let s = content_by bytes l e in
     record {
       sources = rw (← s.same) (text_small bytes s.state s.said);
       outputs = rw (← s.same) (let h = text_named bytes s.state s.said in omega (arith, h));
@@ -48,8 +49,12 @@ small_circuit bytes c short of =
     let latches : length c.latches ≡ length (latches_of d) = ap length (sym of.circuit.describes.latches) in
     let inputs : length c.inputs ≡ length d.inputs = ap length (sym of.circuit.describes.inputs) in
     let outputs : length c.outputs ≡ length d.outputs = ap length (sym of.circuit.describes.outputs) in
-    let names : source_count d ≡ length d.inputs + length (latches_of d) = length-append d.inputs (map latch_output (latches_of d)) ∙ ap (λ (n : ℕ). length d.inputs + n) (length-map (latches_of d) latch_output) in
-    let own : length (sources_of c) ≡ length c.inputs + length c.latches = length-append c.inputs (map latch_output c.latches) ∙ ap (λ (n : ℕ). length c.inputs + n) (length-map c.latches latch_output) in
+    let names : source_count d ≡ length d.inputs + length (latches_of d) =
+    length-append d.inputs (map latch_output (latches_of d))
+    ∙ ap (λ (n : ℕ). length d.inputs + n) (length-map (latches_of d) latch_output) in
+    let own : length (sources_of c) ≡ length c.inputs + length c.latches =
+    length-append c.inputs (map latch_output c.latches)
+    ∙ ap (λ (n : ℕ). length c.inputs + n) (length-map c.latches latch_output) in
     record {
       sources = omega (arith, f.sources, names, own, inputs, latches, of.circuit.proper.source_count, short);
       sinks = omega (arith, f.sources, f.outputs, names, latches, outputs, of.circuit.proper.sink_count, short);

@@ -12,13 +12,13 @@ abbrev pub first_ends : List (List ℕ) → Option Bool
 first_ends [] = None
 first_ends (w ∷ ws) = Some (is_same w (codes ".end"))
 
-abbrev pub is_told : Option Bool → Bool
-is_told None = false
-is_told (Some b) = b
+abbrev pub is_known_end : Option Bool → Bool
+is_known_end None = false
+is_known_end (Some b) = b
 
 -- the first word of a logical line is `.end`
 abbrev pub says_end : Logical → Bool
-says_end l = is_told (first_ends (words_of l.text))
+says_end l = is_known_end (first_ends (words_of l.text))
 
 -- the logical lines of physical lines, the first of which has this number
 abbrev pub logical_lines : ℕ → List Line → List Logical
@@ -29,17 +29,17 @@ logical_lines number lines = logical_from number (begun_at number) lines
 -- Example: for ".model a\n.end # a\n.model b\n" it is 18.
 pub record IsSplit (bytes : List ℕ) (place : ℕ) : Type 0 where
   pub front : List Line
-  pub behind : List Line
-  pub whole : lines_of bytes ≡ front ++ behind
+  pub after : List Line
+  pub whole : lines_of bytes ≡ front ++ after
   pub place_is : place ≡ length (flat_map line_bytes front)
-  pub behind_is : lines_of (drop place bytes) ≡ behind
+  pub after_is : lines_of (drop place bytes) ≡ after
   pub others : List Logical
   pub last : Logical
   pub lines : logical_lines 1 front ≡ others ++ last ∷ []
   pub ends : says_end last ≡ true
   pub none_before : All (λ l. says_end l ≡ false) others
   pub number : ℕ
-  pub parted : logical_of 1 bytes ≡ logical_lines 1 front ++ logical_lines number behind
+  pub parted : logical_of 1 bytes ≡ logical_lines 1 front ++ logical_lines number after
 
 -- the first of two values that is known
 abbrev pub or_first : Option Bool → Option Bool → Option Bool
@@ -53,9 +53,9 @@ piece_then (Some front) ended further = further front
 -- The same, line by line: `place` is the length of the lines so far, and `first` is what is known about the first
 -- word of the current logical line.
 unfoldable pub split_from : ℕ → Option Bool → List Line → Option ℕ
-split_from place first [] = if is_told first then Some place else None
+split_from place first [] = if is_known_end first then Some place else None
 split_from place first (l ∷ ls) = piece_then (without_last 92 (content_of l))
-    (if is_told (or_first first (first_ends (words_of (content_of l)))) then Some (place + length (line_bytes l)) else split_from (place + length (line_bytes l)) None ls)
+    (if is_known_end (or_first first (first_ends (words_of (content_of l)))) then Some (place + length (line_bytes l)) else split_from (place + length (line_bytes l)) None ls)
     (λ front. split_from (place + length (line_bytes l)) (or_first first (first_ends (words_of front))) ls)
 
 abbrev pub split_of : List ℕ → Option ℕ

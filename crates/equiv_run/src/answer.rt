@@ -7,7 +7,7 @@ use std::alloc::{AllocError, AllocFailed};
 
 /// The result of comparing two netlists.
 #[derive(Clone, Copy)]
-pub enum Standing {
+pub enum EquivOutcome {
     /// They are equivalent.
     Equal,
     /// They differ.
@@ -20,7 +20,7 @@ pub enum Standing {
 #[derive(Drop)]
 pub struct Compared {
     pub text: Vec<u8>,
-    pub standing: Standing,
+    pub outcome: EquivOutcome,
 }
 
 /// Why two netlists weren't compared.

@@ -23,7 +23,7 @@ mod reading;
 mod splitting;
 mod writing;
 
-pub use answer::{CompareError, Compared, Standing};
+pub use answer::{CompareError, Compared, EquivOutcome};
 pub use blif_core::NetError;
 pub use laws::pairs_have_an_answer_or_a_fault;
 pub use reading::compare_texts;

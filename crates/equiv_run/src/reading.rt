@@ -8,9 +8,9 @@ ghost use Rattle.equiv_core.specs.Limits.{IsSmall};
 ghost use Rattle.equiv_run.specs.declared.answer.CompareError.TheVariants.{NoSecond};
 ghost use Rattle.equiv_run.specs.Split.{split_of};
 ghost use Rattle.equiv_run.specs.Pairs.{most_of_two, IsAnswer, IsRefusedPair};
-ghost use Rattle.equiv_run.specs.Told.{IsCircuitTold, IsOther, IsFirstRefused, IsSecondRefused};
+ghost use Rattle.equiv_run.specs.CircuitAnswers.{IsCircuitAnswer, IsOther, IsFirstRefused, IsSecondRefused};
 
-use crate::answer::{CompareError, Compared, Standing};
+use crate::answer::{CompareError, Compared, EquivOutcome};
 use crate::splitting::split;
 use crate::writing::{differ_text, logged_text_of};
 use blif_core::{Circuit, NetError, read_blif};
@@ -45,7 +45,7 @@ fn read_second(alloc: Global, bytes: &[u8]) -> Result<Circuit, CompareError>
 }
 
 /// Compares two circuits, and writes the answer.
-#[tactic(auto, using(crate::specs::Told::tell_equal, crate::specs::Told::tell_differ, crate::specs::Told::tell_undecided), unfolding(crate::specs::Texts::equal_text, crate::specs::Texts::undecided_text))]
+#[tactic(auto, using(crate::specs::CircuitAnswers::answer_equal, crate::specs::CircuitAnswers::answer_differ, crate::specs::CircuitAnswers::answer_undecided), unfolding(crate::specs::Texts::equal_text, crate::specs::Texts::undecided_text))]
 fn compare_circuits<S: Solver>(
     alloc: Global,
     first: &Circuit,
@@ -57,7 +57,7 @@ fn compare_circuits<S: Solver>(
     requires small { IsSmall first.now.net }
     requires other { IsSmall second.now.net }
     requires budget { (1 ≤ conflicts) × (conflicts ≤ most_budget) }
-    ensures told { IfOk result (λ c. IsCircuitTold conflicts first.now second.now c.text.items c.standing) }
+    ensures reported { IfOk result (λ c. IsCircuitAnswer conflicts first.now second.now c.text.items c.outcome) }
     ensures refused { IfErr result (IsOther first.now second.now) }
 {
     match equiv::<S>(alloc, first, second, conflicts) {
@@ -65,7 +65,7 @@ fn compare_circuits<S: Solver>(
             let text = logged_text_of(alloc, b"equal\n", &log)?;
             Ok(Compared {
                 text,
-                standing: Standing::Equal,
+                outcome: EquivOutcome::Equal,
             })
         }
         Ok(Equiv::Differ { sink, at }) => {
@@ -78,14 +78,14 @@ fn compare_circuits<S: Solver>(
             )?;
             Ok(Compared {
                 text,
-                standing: Standing::Differ,
+                outcome: EquivOutcome::Differ,
             })
         }
         Ok(Equiv::Undecided(log)) => {
             let text = logged_text_of(alloc, b"undecided\n", &log)?;
             Ok(Compared {
                 text,
-                standing: Standing::Undecided,
+                outcome: EquivOutcome::Undecided,
             })
         }
         Err(EquivError::DifferentInterface) => Err(CompareError::DifferentInterface),
@@ -108,16 +108,16 @@ pub fn compare_texts<S: Solver>(
 ) -> Result<Compared, CompareError>
     requires small { length bytes.now ≤ most_of_two }
     requires budget { (1 ≤ conflicts) × (conflicts ≤ most_budget) }
-    ensures answer { IfOk result (λ c. IsAnswer conflicts bytes.now c.text.items c.standing) }
+    ensures answer { IfOk result (λ c. IsAnswer conflicts bytes.now c.text.items c.outcome) }
     ensures refused { IfErr result (IsRefusedPair bytes.now) }
     ensures second { split_of bytes.now ≡ None → result ≡ Err NoSecond }
 {
     let Some(place) = split(bytes) else {
         return Err(CompareError::NoSecond);
     };
-    let (front, behind) = bytes.split_at(place);
+    let (front, after) = bytes.split_at(place);
     let first = read_first(alloc, front)?;
-    let second = read_second(alloc, behind)?;
+    let second = read_second(alloc, after)?;
     let compared = compare_circuits::<S>(alloc, &first, &second, conflicts)?;
     Ok(compared)
 }

@@ -2,14 +2,14 @@
 //! logical line is `.end`: a continued line ends with a blank, so a word never spans two lines.
 ghost use Rattle.std.specs.Prelude.{◌≡◌, ◌≤◌, length, IfSome, IfNone};
 ghost use Rattle.blif_text.specs.Words.{words_of};
-ghost use Rattle.equiv_run.specs.Split.{first_ends, is_told, or_first, split_of, IsSplit, HasNoEnd};
+ghost use Rattle.equiv_run.specs.Split.{first_ends, is_known_end, or_first, split_of, IsSplit, HasNoEnd};
 
 use blif_text::next_word;
 use net_document::{content_of, without_last};
 use text_core::next_line;
 
 /// Whether the first word of a text is `.end`; None if it has no word.
-#[tactic(auto, using(crate::specs::WalkLaws::first_word))]
+#[tactic(auto, using(crate::specs::ScanLaws::first_word))]
 fn first_word(text: &[u8]) -> Option<bool>
     ensures { result ≡ first_ends (words_of text.now) }
 {
@@ -28,8 +28,8 @@ fn first_of(first: Option<bool>, text: &[u8]) -> Option<bool>
 }
 
 /// Whether the first word is known to be `.end`.
-fn tells(first: Option<bool>) -> bool
-    ensures { result ≡ is_told first }
+fn is_end(first: Option<bool>) -> bool
+    ensures { result ≡ is_known_end first }
 {
     match first {
         Some(ends) => ends,
@@ -51,7 +51,7 @@ pub fn split(bytes: &[u8]) -> Option<usize>
         let said = content_of(line, ended);
         left = rest;
         let Some(front) = without_last(b'\\', said) else {
-            if tells(first_of(first, said)) {
+            if is_end(first_of(first, said)) {
                 return Some(bytes.len() - left.len());
             }
             first = None;
@@ -59,7 +59,7 @@ pub fn split(bytes: &[u8]) -> Option<usize>
         };
         first = first_of(first, front);
     }
-    if tells(first) {
+    if is_end(first) {
         Some(bytes.len())
     } else {
         None

@@ -1,6 +1,7 @@
 //! The texts of the three answers.
 ghost use Rattle.std.specs.Prelude.{◌≡◌, ◌++◌, ◌+◌, ◌≤◌, length, OnOk, IfOk};
-ghost use Rattle.equiv_run.specs.Texts.{logged_text, characters, bits_text as bits_text_of, sink_text, differ_text as differ_text_of};
+ghost use Rattle.equiv_run.specs.Texts.{logged_text, characters, bits_text as bits_text_of, sink_text};
+ghost use Rattle.equiv_run.specs.Texts.{differ_text as differ_text_of};
 
 use log_core::{Log, write_log};
 use net_core::{Latch, Name};

@@ -2,7 +2,7 @@
 //! answers were derived by hand from the definition of the miter.
 ghost use Rattle.std.specs.Prelude.{IsTrue, IfSome};
 ghost use Rattle.net_theory.specs.Circuit.{IsProper};
-ghost use Rattle.equiv_theory.specs.Difference.{HaveSameInterface};
+ghost use Rattle.equiv_theory.specs.Counterexample.{HaveSameInterface};
 ghost use Rattle.equiv_core.specs.Limits.{IsSmall};
 
 use blif_core::{Circuit, read_blif};

@@ -60,7 +60,7 @@ fn is_refusal(error: &CompareError, wanted: Wanted) -> bool {
 }
 
 /// Whether two netlists compare as expected, on a budget of `conflicts`.
-fn is_told(alloc: Global, bytes: &[u8], conflicts: u32, wanted: Wanted) -> bool {
+fn is_answered(alloc: Global, bytes: &[u8], conflicts: u32, wanted: Wanted) -> bool {
     if bytes.len() > 100_000 || conflicts == 0 || conflicts > 10_000_000 {
         return false;
     }
@@ -71,7 +71,7 @@ fn is_told(alloc: Global, bytes: &[u8], conflicts: u32, wanted: Wanted) -> bool 
 }
 
 /// Texts, budgets, and the expected results.
-const TOLD: &[(&[u8], u32, Wanted)] = &[
+const ANSWERED: &[(&[u8], u32, Wanted)] = &[
     // netlists differ at the first sink that differs
     (
         b".model p\n.inputs a b\n.outputs y\n.names a b y\n11 1\n.end\n.model q\n.inputs a b\n.outputs y\n.names y\n.end\n",
@@ -206,13 +206,16 @@ const TOLD: &[(&[u8], u32, Wanted)] = &[
 
 #[test]
 fn netlists_are_compared(rt: HostRuntime) {
-    for &(text, conflicts, wanted) in TOLD {
-        assert!(rt; is_told(rt.alloc(), text, conflicts, wanted), "{text:?}");
+    for &(text, conflicts, wanted) in ANSWERED {
+        assert!(rt;
+            is_answered(rt.alloc(), text, conflicts, wanted),
+            "{text:?}"
+        );
     }
 }
 
 /// Texts, and where the first ends.
-const PARTED: &[(&[u8], Option<usize>)] = &[
+const SPLIT: &[(&[u8], Option<usize>)] = &[
     (b".model a\n.end # a\n.model b\n", Some(18)),
     (b".inputs .end\n .end\nx", Some(19)),
     // a continued line has one first word
@@ -224,8 +227,8 @@ const PARTED: &[(&[u8], Option<usize>)] = &[
 ];
 
 #[test]
-fn texts_part_after_the_first_end(rt: HostRuntime) {
-    for &(text, wanted) in PARTED {
+fn texts_are_split_after_the_first_end(rt: HostRuntime) {
+    for &(text, wanted) in SPLIT {
         assert!(rt; split(text) == wanted, "{text:?}");
     }
 }

@@ -5,10 +5,10 @@ use Rattle.std.proofs.lemmas.List.{length-map}
 use Rattle.clause_core.specs.Clauses.{IsSatisfiable}
 use Rattle.net_theory.specs.Document.{Name, Latch, latch_output}
 use Rattle.net_theory.specs.Net.{Net, sig_value, value, sink_values}
-use Rattle.net_theory.specs.Circuit.{Circuit, IsProper, sources_of, by_place}
-use Rattle.net_document.specs.Alike.{AreAlike}
+use Rattle.net_theory.specs.Circuit.{Circuit, IsProper, sources_of, by_node}
+use Rattle.net_document.specs.Equivalence.{AreEquivalentCircuits}
 use Rattle.equiv_theory.specs.Miter.{miter}
-use Rattle.equiv_theory.specs.Difference.{sink_bit, AreComparable, Differ, HaveSameInterface}
+use Rattle.equiv_theory.specs.Counterexample.{sink_bit, AreComparable, Differ, HaveSameInterface}
 use Rattle.equiv_theory.specs.MiterLaws.{miter_complete}
 
 same_sources : (c k : Circuit) → HaveSameInterface c k → sources_of c ≡ sources_of k
@@ -20,7 +20,10 @@ comparable c k of_c of_k same = record {
   first_net = of_c.net;
   second_net = of_k.net;
   sources = of_c.source_count ∙ ap length (same_sources c k same) ∙ sym of_k.source_count;
-  sinks = let outputs : length c.outputs ≡ length k.outputs = ap length same.outputs in let latches : length c.latches ≡ length k.latches = ap length same.latches in omega (arith, of_c.sink_count, of_k.sink_count);
+  sinks =
+      let outputs : length c.outputs ≡ length k.outputs = ap length same.outputs in
+      let latches : length c.latches ≡ length k.latches = ap length same.latches in
+      omega (arith, of_c.sink_count, of_k.sink_count);
 }
 
 -- lists of one length that differ nowhere are equal
@@ -50,14 +53,14 @@ pub refuted_values : (first second : Net) → AreComparable first second → (Is
 refuted_values first second are none given = values_same first second given are.sinks (λ differ. none (miter_complete first second are differ))
 
 -- If the miter of two circuits of one interface is unsatisfiable, the circuits are equivalent.
-pub refuted_alike : (c k : Circuit) → IsProper c → IsProper k → HaveSameInterface c k → (IsSatisfiable (miter c.net k.net) → ⊥) → AreAlike c k
-refuted_alike c k of_c of_k same none =
+pub refuted_equivalent : (c k : Circuit) → IsProper c → IsProper k → HaveSameInterface c k → (IsSatisfiable (miter c.net k.net) → ⊥) → AreEquivalentCircuits c k
+refuted_equivalent c k of_c of_k same none =
     let are : AreComparable c.net k.net = comparable c k of_c of_k same in
     record {
       inputs = same.inputs;
       outputs = same.outputs;
       clocks = same.clocks;
       latches = same.latches;
-      values = λ given. values_same c.net k.net (by_place (sources_of c) given) are.sinks (λ differ. none (miter_complete c.net k.net are differ))
-          ∙ ap (λ (ns : List Name). sink_values k.net (by_place ns given)) (same_sources c k same);
+      values = λ given. values_same c.net k.net (by_node (sources_of c) given) are.sinks (λ differ. none (miter_complete c.net k.net are differ))
+          ∙ ap (λ (ns : List Name). sink_values k.net (by_node ns given)) (same_sources c k same);
     }

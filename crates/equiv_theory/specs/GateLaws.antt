@@ -16,50 +16,54 @@ use Rattle.equiv_theory.specs.RowLaws.{are_true, true_both, both_true, none_true
 
 -- at each gate's node `bits` has the value of the gate's operator
 abbrev pub GatesHold : (ℕ → Bool) → ℕ → List Gate → Type 0
-GatesHold bits place gs = (i : ℕ) (g : Gate) → slice_get gs i ≡ Some g → bits (place + i) ≡ gate_value bits g
+GatesHold bits node gs = (i : ℕ) (g : Gate) → slice_get gs i ≡ Some g → bits (node + i) ≡ gate_value bits g
 
-hold_later : (bits : ℕ → Bool) (place : ℕ) (g : Gate) (gs : List Gate) → GatesHold bits place (g ∷ gs) → GatesHold bits (place + 1) gs
-hold_later bits place g gs hold i h at = let e : (place + 1) + i ≡ place + suc i = omega arith in ap bits e ∙ hold (suc i) h at
+hold_later : (bits : ℕ → Bool) (node : ℕ) (g : Gate) (gs : List Gate) → GatesHold bits node (g ∷ gs) → GatesHold bits (node + 1) gs
+hold_later bits node g gs hold i h at = let e : (node + 1) + i ≡ node + suc i = omega arith in ap bits e ∙ hold (suc i) h at
 
-hold_first : (bits : ℕ → Bool) (place : ℕ) (g : Gate) (gs : List Gate) → GatesHold bits place (g ∷ gs) → bits place ≡ gate_value bits g
-hold_first bits place g gs hold = ap bits (sym (add-zero place)) ∙ hold 0 g refl
+hold_first : (bits : ℕ → Bool) (node : ℕ) (g : Gate) (gs : List Gate) → GatesHold bits node (g ∷ gs) → bits node ≡ gate_value bits g
+hold_first bits node g gs hold = ap bits (sym (add-zero node)) ∙ hold 0 g refl
 
-pub gates_true : (v : Assignment) (var : ℕ → ℕ) (place : ℕ) (gs : List Gate) → are_true v (gates_rows var place gs) ≡ true → GatesHold (seen_by v var) place gs
+pub gates_true : (v : Assignment) (var : ℕ → ℕ) (node : ℕ) (gs : List Gate) → are_true v (gates_rows var node gs) ≡ true → GatesHold (seen_by v var) node gs
 unfolding gates_rows
-gates_true v var place [] all i g at = absurd cc
-gates_true v var place (h ∷ gs) all zero g at =
-    let both = true_both v (gate_rows var place h) (gates_rows var (place + 1) gs) all in
+gates_true v var node [] all i g at = absurd cc
+gates_true v var node (h ∷ gs) all zero g at =
+    let both = true_both v (gate_rows var node h) (gates_rows var (node + 1) gs) all in
     let same : h ≡ g = cc in
-    ap (seen_by v var) (add-zero place) ∙ gate_true v var place h both.0 ∙ ap (gate_value (seen_by v var)) same
-gates_true v var place (h ∷ gs) all (suc i) g at =
-    let both = true_both v (gate_rows var place h) (gates_rows var (place + 1) gs) all in
-    let e : place + suc i ≡ (place + 1) + i = omega arith in
-    ap (seen_by v var) e ∙ gates_true v var (place + 1) gs both.1 i g at
+    ap (seen_by v var) (add-zero node) ∙ gate_true v var node h both.0 ∙ ap (gate_value (seen_by v var)) same
+gates_true v var node (h ∷ gs) all (suc i) g at =
+    let both = true_both v (gate_rows var node h) (gates_rows var (node + 1) gs) all in
+    let e : node + suc i ≡ (node + 1) + i = omega arith in
+    ap (seen_by v var) e ∙ gates_true v var (node + 1) gs both.1 i g at
 
-pub gates_made : (v : Assignment) (var : ℕ → ℕ) (place : ℕ) (gs : List Gate) → GatesHold (seen_by v var) place gs → are_true v (gates_rows var place gs) ≡ true
+pub gates_made : (v : Assignment) (var : ℕ → ℕ) (node : ℕ) (gs : List Gate) → GatesHold (seen_by v var) node gs → are_true v (gates_rows var node gs) ≡ true
 unfolding gates_rows
-gates_made v var place [] hold = none_true v
-gates_made v var place (g ∷ gs) hold =
-    both_true v (gate_rows var place g) (gates_rows var (place + 1) gs)
-    (gate_made v var place g (hold_first (seen_by v var) place g gs hold))
-    (gates_made v var (place + 1) gs (hold_later (seen_by v var) place g gs hold))
+gates_made v var node [] hold = none_true v
+gates_made v var node (g ∷ gs) hold =
+    both_true v (gate_rows var node g) (gates_rows var (node + 1) gs)
+    (gate_made v var node g (hold_first (seen_by v var) node g gs hold))
+    (gates_made v var (node + 1) gs (hold_later (seen_by v var) node g gs hold))
 
 -- Such bits are the values of the gates.
-pub determined : (bits : ℕ → Bool) (place : ℕ) (gs : List Gate) → ((i : ℕ) (h : Gate) → slice_get gs i ≡ Some h → IsGateAt (place + i) h) → GatesHold bits place gs → (p : ℕ) → p < place + length gs → values_after bits place gs p ≡ bits p
+pub determined : (bits : ℕ → Bool) (node : ℕ) (gs : List Gate) →
+    ((i : ℕ) (h : Gate) → slice_get gs i ≡ Some h → IsGateAt (node + i) h) → GatesHold bits node gs → (p : ℕ) →
+    p < node + length gs → values_after bits node gs p ≡ bits p
 unfolding values_after
-determined bits place [] are hold p low = refl
-determined bits place (g ∷ gs) are hold p low =
-    let later : (i : ℕ) (x : Gate) → slice_get gs i ≡ Some x → IsGateAt ((place + 1) + i) x = λ i x at. let e : place + suc i ≡ (place + 1) + i = omega arith in subst (λ (q : ℕ). IsGateAt q x) e (are (suc i) x at) in
-    let own : bits place ≡ gate_value bits g = hold_first bits place g gs hold in
-    let agree : (q : ℕ) → q < place + 1 → extended bits place (gate_value bits g) q ≡ bits q = λ q l. ⊎_elim
-    (λ (here : q ≡ place). extended-same bits place q (gate_value bits g) here ∙ sym own ∙ ap bits (sym here))
-    (λ other. extended-other bits place q (gate_value bits g) other)
-    (cases_eq q place) in
-    values_after-same (extended bits place (gate_value bits g)) bits (place + 1) gs later agree p (omega arith)
-    ∙ determined bits (place + 1) gs later (hold_later bits place g gs hold) p (omega arith)
+determined bits node [] are hold p low = refl
+determined bits node (g ∷ gs) are hold p low =
+    let later : (i : ℕ) (x : Gate) → slice_get gs i ≡ Some x → IsGateAt ((node + 1) + i) x = λ i x at. let e : node + suc i ≡ (node + 1) + i = omega arith in
+    subst (λ (q : ℕ). IsGateAt q x) e (are (suc i) x at) in
+    let own : bits node ≡ gate_value bits g = hold_first bits node g gs hold in
+    let agree : (q : ℕ) → q < node + 1 → extended bits node (gate_value bits g) q ≡ bits q = λ q l. ⊎_elim
+    (λ (here : q ≡ node). extended-same bits node q (gate_value bits g) here ∙ sym own ∙ ap bits (sym here))
+    (λ other. extended-other bits node q (gate_value bits g) other)
+    (cases_eq q node) in
+    values_after-same (extended bits node (gate_value bits g)) bits (node + 1) gs later agree p (omega arith)
+    ∙ determined bits (node + 1) gs later (hold_later bits node g gs hold) p (omega arith)
 
 -- So if the net's clauses are true, the variables of its nodes have the nodes' values.
-pub values_true : (n : Net) (given bits : ℕ → Bool) → IsNet n → ((p : ℕ) → p ≤ n.sources → bits p ≡ given p) → GatesHold bits (n.sources + 1) n.gates → (p : ℕ) → p < end_of n → value n given p ≡ bits p
+pub values_true : (n : Net) (given bits : ℕ → Bool) → IsNet n → ((p : ℕ) → p ≤ n.sources → bits p ≡ given p) →
+    GatesHold bits (n.sources + 1) n.gates → (p : ℕ) → p < end_of n → value n given p ≡ bits p
 values_true n given bits is agree hold p low =
     values_after-same given bits (n.sources + 1) n.gates is.gates.each (λ q l. sym (agree q (omega arith))) p low
     ∙ determined bits (n.sources + 1) n.gates is.gates.each hold p low
@@ -79,7 +83,9 @@ values_hold n given bits is agree i g at =
 
 -- ---- sinks
 
-pub sinks_true : (v : Assignment) (var other : ℕ → ℕ) (d : ℕ) (us ws : List Sig) → are_true v (sinks_rows var other d us ws) ≡ true → (i : ℕ) (u w : Sig) → slice_get us i ≡ Some u → slice_get ws i ≡ Some w → v (d + i) ≡ true → sig_value (seen_by v var) u ≢ sig_value (seen_by v other) w
+pub sinks_true : (v : Assignment) (var other : ℕ → ℕ) (d : ℕ) (us ws : List Sig) →
+    are_true v (sinks_rows var other d us ws) ≡ true → (i : ℕ) (u w : Sig) → slice_get us i ≡ Some u →
+    slice_get ws i ≡ Some w → v (d + i) ≡ true → sig_value (seen_by v var) u ≢ sig_value (seen_by v other) w
 unfolding sinks_rows
 sinks_true v var other d [] ws all i u w at at' is = absurd cc
 sinks_true v var other d (x ∷ us) [] all i u w at at' is = absurd cc
@@ -87,21 +93,23 @@ sinks_true v var other d (x ∷ us) (y ∷ ws) all zero u w at at' is =
     let both = true_both v (sink_rows var other d x y) (sinks_rows var other (d + 1) us ws) all in
     let same : x ≡ u = cc in
     let same' : y ≡ w = cc in
-    subst (λ (s : Sig). sig_value (seen_by v var) s ≢ sig_value (seen_by v other) w) same (subst (λ (s : Sig). sig_value (seen_by v var) x ≢ sig_value (seen_by v other) s) same' (sink_true v var other d x y both.0 (ap v (sym (add-zero d)) ∙ is)))
+    subst (λ (s : Sig). sig_value (seen_by v var) s ≢ sig_value (seen_by v other) w) same
+    (subst (λ (s : Sig). sig_value (seen_by v var) x ≢ sig_value (seen_by v other) s) same'
+    (sink_true v var other d x y both.0 (ap v (sym (add-zero d)) ∙ is)))
 sinks_true v var other d (x ∷ us) (y ∷ ws) all (suc i) u w at at' is =
     let both = true_both v (sink_rows var other d x y) (sinks_rows var other (d + 1) us ws) all in
     let e : (d + 1) + i ≡ d + suc i = omega arith in
     sinks_true v var other (d + 1) us ws both.1 i u w at at' (ap v e ∙ is)
 
 -- the variable of each sink is true exactly if its two signals differ
-abbrev pub SinksTell : Assignment → (ℕ → Bool) → (ℕ → Bool) → ℕ → List Sig → List Sig → Type 0
-SinksTell v f g d us ws = (i : ℕ) (u w : Sig) → slice_get us i ≡ Some u → slice_get ws i ≡ Some w → v (d + i) ≡ is_other (sig_value f u) (sig_value g w)
+abbrev pub AreSinkDifferences : Assignment → (ℕ → Bool) → (ℕ → Bool) → ℕ → List Sig → List Sig → Type 0
+AreSinkDifferences v f g d us ws = (i : ℕ) (u w : Sig) → slice_get us i ≡ Some u → slice_get ws i ≡ Some w → v (d + i) ≡ is_other (sig_value f u) (sig_value g w)
 
-pub sinks_made : (v : Assignment) (var other : ℕ → ℕ) (d : ℕ) (us ws : List Sig) → SinksTell v (seen_by v var) (seen_by v other) d us ws → are_true v (sinks_rows var other d us ws) ≡ true
+pub sinks_made : (v : Assignment) (var other : ℕ → ℕ) (d : ℕ) (us ws : List Sig) → AreSinkDifferences v (seen_by v var) (seen_by v other) d us ws → are_true v (sinks_rows var other d us ws) ≡ true
 unfolding sinks_rows
-sinks_made v var other d [] ws tell = none_true v
-sinks_made v var other d (u ∷ us) [] tell = none_true v
-sinks_made v var other d (u ∷ us) (w ∷ ws) tell =
+sinks_made v var other d [] ws differences = none_true v
+sinks_made v var other d (u ∷ us) [] differences = none_true v
+sinks_made v var other d (u ∷ us) (w ∷ ws) differences =
     both_true v (sink_rows var other d u w) (sinks_rows var other (d + 1) us ws)
-    (sink_made v var other d u w (ap v (sym (add-zero d)) ∙ tell 0 u w refl refl))
-    (sinks_made v var other (d + 1) us ws (λ i x y at at'. let e : (d + 1) + i ≡ d + suc i = omega arith in ap v e ∙ tell (suc i) x y at at'))
+    (sink_made v var other d u w (ap v (sym (add-zero d)) ∙ differences 0 u w refl refl))
+    (sinks_made v var other (d + 1) us ws (λ i x y at at'. let e : (d + 1) + i ≡ d + suc i = omega arith in ap v e ∙ differences (suc i) x y at at'))

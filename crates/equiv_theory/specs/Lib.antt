@@ -1,5 +1,5 @@
 pub mod Miter
-pub mod Difference
+pub mod Counterexample
 pub mod RowLaws
 pub mod GateLaws
 pub mod FormulaLaws

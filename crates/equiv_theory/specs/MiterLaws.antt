@@ -6,7 +6,7 @@ use Rattle.std.proofs.lemmas.Bool.{lt-ltb, le-ltb, cases_lt}
 use Rattle.std.proofs.lemmas.List.{get_or-map}
 use Rattle.std.proofs.lemmas.Option.{slice_get-get_or, slice_get_within, get_or_from_slice_get}
 use Rattle.sat_theory.specs.Formula.{Assignment, Satisfies}
-use Rattle.clause_core.specs.declared.raw.Raw.TheVariants.{Var}
+use Rattle.clause_core.specs.declared.raw.RawLit.TheVariants.{Var}
 use Rattle.clause_core.specs.Clauses.{written, IsSatisfiable}
 use Rattle.clause_core.specs.Holds.{holds_satisfied, satisfied_holds, same, raw_value, raws_bit, raws_bit-map, any_get, any_make, range_contains, range_inside}
 use Rattle.net_theory.specs.declared.data.Sig.{Sig}
@@ -15,9 +15,9 @@ use Rattle.net_theory.specs.NameLaws.{all_at}
 use Rattle.net_theory.specs.Net.{Net, IsNet, IsSigBelow, sig_value, value, end_of}
 use Rattle.net_theory.specs.ValueLaws.{value-source, sig_value-same}
 use Rattle.equiv_theory.specs.Miter.{first_variable, second_variable, first_difference, variables, gates_rows, sinks_rows, some_row, miter_rows, miter}
-use Rattle.equiv_theory.specs.Difference.{sink_bit, AreComparable, DifferAt, Differ}
+use Rattle.equiv_theory.specs.Counterexample.{sink_bit, AreComparable, DifferAt, Differ}
 use Rattle.equiv_theory.specs.RowLaws.{are_true, written_true, true_both, both_true, true_first, first_true, none_true, seen_by, is_other}
-use Rattle.equiv_theory.specs.GateLaws.{gates_true, gates_made, values_true, values_hold, sinks_true, SinksTell, sinks_made}
+use Rattle.equiv_theory.specs.GateLaws.{gates_true, gates_made, values_true, values_hold, sinks_true, AreSinkDifferences, sinks_made}
 use Rattle.equiv_theory.specs.FormulaLaws.{variable_at-source, variable_at-gate, miter_positive}
 
 -- ---- sinks
@@ -38,7 +38,7 @@ sink_there n i low = slice_get-get_or n.sinks i Zero low
 -- ---- a model of the miter shows a difference
 
 -- some sink's variable is true
-record IsTold (v : Assignment) (d count : ℕ) : Type 0 where
+record HasTrueIn (v : Assignment) (d count : ℕ) : Type 0 where
   at : ℕ
   below : at < count
   is : v (d + at) ≡ true
@@ -47,9 +47,9 @@ var_true : (v : Assignment) (x : ℕ) → raw_value v (Var x true) ≡ v x
 unfolding raw_value same
 var_true v x = refl
 
-some_told : (v : Assignment) (d count : ℕ) → raws_bit v (some_row d count) ≡ true → IsTold v d count
+some_true : (v : Assignment) (d count : ℕ) → raws_bit v (some_row d count) ≡ true → HasTrueIn v d count
 unfolding some_row
-some_told v d count is =
+some_true v d count is =
     let found = any_get (λ x. raw_value v (Var x true)) (range_with_len d count) (sym (raws_bit-map v (λ x. Var x true) (range_with_len d count)) ∙ is) in
     let inside = range_inside d count found.element found.inside in
     let e : d + (found.element - d) ≡ found.element = omega (arith, inside.0) in
@@ -79,12 +79,17 @@ made_of v first second parts =
 miter_true : (v : Assignment) (first second : Net) → AreComparable first second → Satisfies v (miter first second) → AreParts v first second
 unfolding miter
 miter_true v first second are satisfied =
-    parts_of v first second (sym (written_true v (miter_rows first second) (miter_positive first second are)) ∙ holds_satisfied v (record { vars = variables first second; clauses = flat_map written (miter_rows first second) }) satisfied)
+    parts_of v first second (sym (written_true v (miter_rows first second) (miter_positive first second are))
+    ∙ holds_satisfied v (record {
+      vars = variables first second;
+      clauses = flat_map written (miter_rows first second);
+    }) satisfied)
 
 true_miter : (v : Assignment) (first second : Net) → AreComparable first second → AreParts v first second → Satisfies v (miter first second)
 unfolding miter
 true_miter v first second are parts =
-    satisfied_holds v (record { vars = variables first second; clauses = flat_map written (miter_rows first second) }) (written_true v (miter_rows first second) (miter_positive first second are) ∙ made_of v first second parts)
+    satisfied_holds v (record { vars = variables first second; clauses = flat_map written (miter_rows first second) })
+    (written_true v (miter_rows first second) (miter_positive first second are) ∙ made_of v first second parts)
 
 -- the value of a sink, from the variables
 seen_sink : (n : Net) (given bits : ℕ → Bool) (i : ℕ) (u : Sig) → IsNet n → ((p : ℕ) → p < end_of n → value n given p ≡ bits p) → slice_get n.sinks i ≡ Some u → sink_bit n given i ≡ sig_value bits u
@@ -95,22 +100,30 @@ seen_sink n given bits i u is agree at =
 pub satisfied_differ : (first second : Net) (v : Assignment) → AreComparable first second → Satisfies v (miter first second) → (i : ℕ) × DifferAt first second v i
 satisfied_differ first second v are satisfied =
     let parts = miter_true v first second are satisfied in
-    let told = some_told v (first_difference first second) (length first.sinks) parts.some in
-    let here : slice_get first.sinks told.at ≡ Some (sink_at first told.at) = sink_there first told.at told.below in
-    let there : slice_get second.sinks told.at ≡ Some (sink_at second told.at) = sink_there second told.at (omega (arith, told.below, are.sinks)) in
-    let ones = values_true first v (seen_by v (first_variable first)) are.first_net (λ p low. ap v (variable_at-source first.sources 0 p low)) (gates_true v (first_variable first) (first.sources + 1) first.gates parts.ones) in
-    let twos = values_true second v (seen_by v (second_variable first second)) are.second_net (λ p low. ap v (variable_at-source second.sources (length first.gates) p low)) (gates_true v (second_variable first second) (second.sources + 1) second.gates parts.twos) in
-    let one = seen_sink first v (seen_by v (first_variable first)) told.at (sink_at first told.at) are.first_net ones here in
-    let two = seen_sink second v (seen_by v (second_variable first second)) told.at (sink_at second told.at) are.second_net twos there in
-    let apart = sinks_true v (first_variable first) (second_variable first second) (first_difference first second) first.sinks second.sinks parts.sinks told.at (sink_at first told.at) (sink_at second told.at) here there told.is in
-    (told.at, record { below = told.below; differ = λ same. apart (sym one ∙ same ∙ two) })
+    let where_true = some_true v (first_difference first second) (length first.sinks) parts.some in
+    let here : slice_get first.sinks where_true.at ≡ Some (sink_at first where_true.at) = sink_there first where_true.at where_true.below in
+    let there : slice_get second.sinks where_true.at ≡ Some (sink_at second where_true.at) = sink_there second where_true.at (omega (arith, where_true.below, are.sinks)) in
+    let ones = values_true first v (seen_by v (first_variable first)) are.first_net (λ p low.
+    ap v (variable_at-source first.sources 0 p low))
+    (gates_true v (first_variable first) (first.sources + 1) first.gates parts.ones) in
+    let twos = values_true second v (seen_by v (second_variable first second)) are.second_net (λ p low.
+    ap v (variable_at-source second.sources (length first.gates) p low))
+    (gates_true v (second_variable first second) (second.sources + 1) second.gates parts.twos) in
+    let one = seen_sink first v (seen_by v (first_variable first)) where_true.at (sink_at first where_true.at) are.first_net ones here in
+    let two = seen_sink second v (seen_by v (second_variable first second)) where_true.at (sink_at second where_true.at) are.second_net twos there in
+    let apart = sinks_true v (first_variable first) (second_variable first second)
+    (first_difference first second) first.sinks second.sinks parts.sinks where_true.at (sink_at first where_true.at)
+    (sink_at second where_true.at) here there where_true.is in
+    (where_true.at, record { below = where_true.below; differ = λ same. apart (sym one ∙ same ∙ two) })
 
 -- ---- a difference gives a model
 
 -- the values of the nodes of both nets, and which sinks differ
 unfoldable pub assigned : Net → Net → (ℕ → Bool) → Assignment
 assigned first second given x =
-    if nat_lt x (end_of first) then value first given x else (if nat_lt x (first_difference first second) then value second given (x - length first.gates) else is_other (sink_bit first given (x - first_difference first second)) (sink_bit second given (x - first_difference first second)))
+    if nat_lt x (end_of first) then value first given x else (if nat_lt x (first_difference first second) then value
+    second given (x - length first.gates) else is_other (sink_bit first given (x - first_difference first second))
+    (sink_bit second given (x - first_difference first second)))
 
 assigned_first : (first second : Net) (given : ℕ → Bool) (x : ℕ) → x < end_of first → assigned first second given x ≡ value first given x
 unfolding assigned
@@ -133,7 +146,8 @@ seen_first first second given p low =
     (λ (small : p ≤ first.sources). ap (assigned first second given) (variable_at-source first.sources 0 p small) ∙ assigned_first first second given p low)
     (cases_lt first.sources p)
 
-seen_second : (first second : Net) (given : ℕ → Bool) (p : ℕ) → first.sources ≡ second.sources → p < end_of second → seen_by (assigned first second given) (second_variable first second) p ≡ value second given p
+seen_second : (first second : Net) (given : ℕ → Bool) (p : ℕ) → first.sources ≡ second.sources → p < end_of second →
+    seen_by (assigned first second given) (second_variable first second) p ≡ value second given p
 seen_second first second given p sources low =
     ⊎_elim
     (λ (high : second.sources < p).
@@ -159,8 +173,11 @@ unfolding some_row
 differ_satisfied first second given i are at = true_miter v first second are record {
   ones = gates_made v (first_variable first) (first.sources + 1) first.gates (values_hold first given (seen_by v (first_variable first)) are.first_net ones);
   twos = gates_made v (second_variable first second) (second.sources + 1) second.gates (values_hold second given (seen_by v (second_variable first second)) are.second_net twos);
-  sinks = sinks_made v (first_variable first) (second_variable first second) d first.sinks second.sinks tell;
-  some = raws_bit-map v (λ x. Var x true) (range_with_len d (length first.sinks)) ∙ any_make (λ x. raw_value v (Var x true)) (range_with_len d (length first.sinks)) (d + i) (range_contains d (length first.sinks) (d + i) (omega arith) (omega (arith, at.below))) (var_true v (d + i) ∙ assigned_sink first second given i ∙ other_true (sink_bit first given i) (sink_bit second given i) at.differ);
+  sinks = sinks_made v (first_variable first) (second_variable first second) d first.sinks second.sinks differences;
+  some = raws_bit-map v (λ x. Var x true) (range_with_len d (length first.sinks))
+      ∙ any_make (λ x. raw_value v (Var x true)) (range_with_len d (length first.sinks)) (d + i)
+      (range_contains d (length first.sinks) (d + i) (omega arith) (omega (arith, at.below))) (var_true v (d + i)
+      ∙ assigned_sink first second given i ∙ other_true (sink_bit first given i) (sink_bit second given i) at.differ);
 } where
   v : Assignment
   v = assigned first second given
@@ -174,11 +191,13 @@ differ_satisfied first second given i are at = true_miter v first second are rec
   twos : (p : ℕ) → p < end_of second → seen_by v (second_variable first second) p ≡ value second given p
   twos p low = seen_second first second given p are.sources low
 
-  tell : SinksTell v (seen_by v (first_variable first)) (seen_by v (second_variable first second)) d first.sinks second.sinks
-  tell j u w here there =
+  differences : AreSinkDifferences v (seen_by v (first_variable first)) (seen_by v (second_variable first second)) d first.sinks second.sinks
+  differences j u w here there =
       assigned_sink first second given j
       ∙ ap (λ (x : Bool). is_other x (sink_bit second given j)) (seen_sink first given (seen_by v (first_variable first)) j u are.first_net (λ p low. sym (ones p low)) here)
-      ∙ ap (λ (y : Bool). is_other (sig_value (seen_by v (first_variable first)) u) y) (seen_sink second given (seen_by v (second_variable first second)) j w are.second_net (λ p low. sym (twos p low)) there)
+      ∙ ap (λ (y : Bool). is_other (sig_value (seen_by v (first_variable first)) u) y)
+      (seen_sink second given (seen_by v (second_variable first second)) j w are.second_net (λ p low.
+      sym (twos p low)) there)
 
 -- ---- the law
 

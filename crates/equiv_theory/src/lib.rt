@@ -5,7 +5,7 @@
 //!
 //! The crate rests on `clause_core` for clauses as they are listed and written, and on `net_theory` for nets.
 //!
-//! - `specs/Miter.antt`: the variables and clauses. `specs/Difference.antt`: counterexamples, and which circuits
+//! - `specs/Miter.antt`: the variables and clauses. `specs/Counterexample.antt`: counterexamples, and which circuits
 //!   can be compared.
 //! - `specs/MiterLaws.antt`, on `RowLaws`, `GateLaws` and `FormulaLaws`: what the formula means.
 //!   `specs/CircuitLaws.antt`: what that means for circuits.

@@ -12,33 +12,33 @@ IsFence levels = All (λ q. 1 ≤ q) levels
 -- step reads two places.
 -- Example: 2, 1 is listed for one output, and 3, 1 isn't, since the one step of the second level
 -- reads only two places.
-abbrev pub IsListed : ℕ → List ℕ → Type 0
-IsListed m [] = ⊤
-IsListed m (q ∷ qs) = (q ≤ sum qs + m) × IsListed m qs
+abbrev pub IsListedFence : ℕ → List ℕ → Type 0
+IsListedFence m [] = ⊤
+IsListedFence m (q ∷ qs) = (q ≤ sum qs + m) × IsListedFence m qs
 
 -- a fence of r steps that is listed for m outputs
 pub record IsFenceOf (r m : ℕ) (fence : List ℕ) : Type 0 where
   pub filled : IsFence fence
   pub whole : sum fence ≡ r
-  pub listed : IsListed m fence
+  pub listed : IsListedFence m fence
 
 -- lexicographic order: the first number that differs is smaller, or the list is a prefix of the
 -- other
-abbrev pub IsBefore : List ℕ → List ℕ → Type 0
-IsBefore xs [] = ⊥
-IsBefore [] (y ∷ ys) = ⊤
-IsBefore (x ∷ xs) (y ∷ ys) = (x < y) ⊎ ((x ≡ y) × IsBefore xs ys)
+abbrev pub IsLexBefore : List ℕ → List ℕ → Type 0
+IsLexBefore xs [] = ⊥
+IsLexBefore [] (y ∷ ys) = ⊤
+IsLexBefore (x ∷ xs) (y ∷ ys) = (x < y) ⊎ ((x ≡ y) × IsLexBefore xs ys)
 
 -- each list comes before all later ones
-abbrev pub IsRising : List (List ℕ) → Type 0
-IsRising [] = ⊤
-IsRising (f ∷ fences) = All (IsBefore f) fences × IsRising fences
+abbrev pub IsLexSorted : List (List ℕ) → Type 0
+IsLexSorted [] = ⊤
+IsLexSorted (f ∷ fences) = All (IsLexBefore f) fences × IsLexSorted fences
 
 -- these are exactly the listed fences of r steps, in lexicographic order
 pub record AreListed (r m : ℕ) (fences : List (List ℕ)) : Type 0 where
   pub only : All (IsFenceOf r m) fences
   pub all : (f : List ℕ) → IsFenceOf r m f → Contains fences f
-  pub order : IsRising fences
+  pub order : IsLexSorted fences
 
 -- ---- the same, computed as a list
 
@@ -60,11 +60,11 @@ fences_of_size zero = [] ∷ []
 fences_of_size (suc r) = filled_fences r
 
 -- whether a fence is listed for m outputs
-unfoldable pub is_listed : ℕ → List ℕ → Bool
-is_listed m [] = true
-is_listed m (q ∷ qs) = leb q (sum qs + m) && is_listed m qs
+unfoldable pub is_listed_fence : ℕ → List ℕ → Bool
+is_listed_fence m [] = true
+is_listed_fence m (q ∷ qs) = leb q (sum qs + m) && is_listed_fence m qs
 
 -- the listed fences of r steps, in lexicographic order
 -- Example: for one output the listed fences of three steps are 1 1 1 and 2 1.
 unfoldable pub listed_fences : ℕ → ℕ → List (List ℕ)
-listed_fences r m = filter (is_listed m) (fences_of_size r)
+listed_fences r m = filter (is_listed_fence m) (fences_of_size r)

@@ -1,7 +1,7 @@
 //! The fences into which the search of one size is split.
 ghost use Rattle.std.specs.Prelude.{◌≡◌, ◌≤◌, ◌-◌, ◌+◌, ◌++◌, ◌∷◌, [], leb, IfOk, OnOk};
 ghost use Rattle.fence_core.specs.Fence.{IsFence, AreListed, listed_fences};
-ghost use Rattle.fence_core.specs.ByFirst.{behind};
+ghost use Rattle.fence_core.specs.ByFirst.{stacked_on};
 
 use crate::Fence;
 use std::alloc::{AllocError, Global};
@@ -26,7 +26,7 @@ fn may_begin(left: u32, outputs: u32, first: u32) -> bool
 }
 
 /// Appends the listed fences of `left` steps, each on top of the levels `below`.
-#[tactic(auto, using(crate::proofs::Turns::turns))]
+#[tactic(auto, using(crate::proofs::Iterations::iterations))]
 fn push_fences(
     alloc: Global,
     fences: &mut Vec<Fence>,
@@ -36,7 +36,8 @@ fn push_fences(
 ) -> Result<(), AllocError>
     requires size { left ≤ 16 }
     requires filled { IsFence below.old.items }
-    ensures fences { OnOk result (fences.new.items ≡ fences.old.items ++ behind below.old.items (listed_fences left outputs)) }
+    ensures fences { OnOk result (fences.new.items ≡ fences.old.items ++
+        stacked_on below.old.items (listed_fences left outputs)) }
     ensures below { OnOk result (below.new.items ≡ below.old.items) }
 {
     if left == 0 {

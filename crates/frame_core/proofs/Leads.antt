@@ -6,11 +6,11 @@ use Rattle.frame_core.specs.declared.replies.Field.{Field}
 use Rattle.frame_core.specs.declared.replies.Field.TheVariants.{Nothing, Known, Count, Name}
 use Rattle.frame_core.specs.Views.{shown}
 
-pub shown_behind : (lead : Field) (fields : List Field) → shown (lead ∷ fields) ≡ shown (lead ∷ []) ++ shown fields
+pub shown_after : (lead : Field) (fields : List Field) → shown (lead ∷ fields) ≡ shown (lead ∷ []) ++ shown fields
 unfolding shown
-shown_behind Nothing fields = refl
-shown_behind (Known word) fields = refl
-shown_behind (Count number) fields = refl
-shown_behind (Name name) fields = refl
+shown_after Nothing fields = refl
+shown_after (Known word) fields = refl
+shown_after (Count number) fields = refl
+shown_after (Name name) fields = refl
 
-pub ruleset leading = (common_steps, shown_behind)
+pub ruleset leading = (common_steps, shown_after)

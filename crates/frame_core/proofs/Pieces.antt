@@ -1,18 +1,18 @@
 -- Texts that are written one after the other.
 use Rattle.std.proofs.Common.{◌≡◌, ℕ, List, [], ◌∷◌, ◌++◌, length, Option, Some, Result, Ok, Err, refl, sym, ap, subst, ◌∙◌, arith}
 use Rattle.std.specs.Prelude.{OnOk, OnErr, codes, decimal}
-use Rattle.port_io.specs.TextLaws.{appended-none, front_whole}
-use Rattle.port_io.specs.Bytes.{appended, Appends, AppendsFront}
+use Rattle.port_io.specs.TextLaws.{appended-none, prefix_whole}
+use Rattle.port_io.specs.Bytes.{appended, Appends, AppendsPrefix}
 use Rattle.port_io.specs.Faults.{Rose}
 use Rattle.port_io.specs.declared.writing.WriteFault.{WriteFault}
 use Rattle.frame_core.specs.declared.replies.Ended.{Ended}
 use Rattle.frame_core.specs.declared.replies.Field.{Field}
 use Rattle.frame_core.specs.declared.replies.Field.TheVariants.{Nothing, Known, Count, Name}
-use Rattle.frame_core.specs.Told as told
-use Rattle.frame_core.specs.Told.{fields_text, error_line}
+use Rattle.frame_core.specs.Reported as reported
+use Rattle.frame_core.specs.Reported.{fields_text, error_line}
 use Rattle.frame_core.specs.Run.{LineAfter}
 use Rattle.frame_core.specs.Views.{shown, parts_text, line_in}
-use Rattle.frame_core.specs.Outside.{Side, Writes}
+use Rattle.frame_core.specs.Outside.{PortState, Writes}
 use Rattle.frame_core.specs.PerformingLaws.{named_as}
 
 -- Without fields the text is empty.
@@ -25,13 +25,15 @@ parts-none (f ∷ fs) e = absurd (omega arith)
 pub all_of_none : (old : Option (List ℕ)) (fields : List Field) → length fields ≡ 0 → Appends old old (parts_text fields)
 all_of_none old fields e = sym (ap (λ (text : List ℕ). appended old text) (parts-none fields e) ∙ appended-none old)
 
-pub front_of_none : (old : Option (List ℕ)) (fields : List Field) → length fields ≡ 0 → AppendsFront old old (parts_text fields)
-front_of_none old fields e = front_whole old old (parts_text fields) (all_of_none old fields e)
+pub prefix_of_none : (old : Option (List ℕ)) (fields : List Field) → length fields ≡ 0 → AppendsPrefix old old (parts_text fields)
+prefix_of_none old fields e = prefix_whole old old (parts_text fields) (all_of_none old fields e)
 
 -- An attempt to write a text wrote a prefix of it, and all of it if no call failed.
-written : (old new : Side) (text : List ℕ) (result : Result Unit WriteFault) → AppendsFront old.bytes new.bytes text → OnOk result (Appends old.bytes new.bytes text) → OnErr result (Rose old.faults new.faults) → Writes old new text
-written old new text (Ok x) front all cause = record { front = front; whole = λ quiet. all }
-written old new text (Err e) front all cause = record { front = front; whole = λ quiet. absurd (quiet cause) }
+written : (old new : PortState) (text : List ℕ) (result : Result Unit WriteFault) →
+    AppendsPrefix old.bytes new.bytes text → OnOk result (Appends old.bytes new.bytes text) →
+    OnErr result (Rose old.faults new.faults) → Writes old new text
+written old new text (Ok x) prefix all cause = record { prefix = prefix; whole = λ faultless. all }
+written old new text (Err e) prefix all cause = record { prefix = prefix; whole = λ faultless. absurd (faultless cause) }
 
 -- The parts of a line are the text of its fields.
 parts_are : (fields : List Field) → parts_text fields ≡ fields_text (shown fields)
@@ -47,12 +49,15 @@ unfolding error_line
 line_is fields = ap (λ (xs : List ℕ). codes "error:" ++ (xs ++ codes "\n")) (parts_are fields)
 
 -- The same for an error line.
-pub told_line : (old new : Side) (fields : List Field) (result : Result Unit WriteFault) → AppendsFront old.bytes new.bytes (codes "error:" ++ (parts_text fields ++ codes "\n")) → OnOk result (Appends old.bytes new.bytes (codes "error:" ++ (parts_text fields ++ codes "\n"))) → OnErr result (Rose old.faults new.faults) → Writes old new (error_line (shown fields))
-told_line old new fields result front all cause =
-    subst (λ (t : List ℕ). Writes old new t) (line_is fields) (written old new (codes "error:" ++ (parts_text fields ++ codes "\n")) result front all cause)
+pub reported_line : (old new : PortState) (fields : List Field) (result : Result Unit WriteFault) →
+    AppendsPrefix old.bytes new.bytes (codes "error:" ++ (parts_text fields ++ codes "\n")) →
+    OnOk result (Appends old.bytes new.bytes (codes "error:" ++ (parts_text fields ++ codes "\n"))) →
+    OnErr result (Rose old.faults new.faults) → Writes old new (error_line (shown fields))
+reported_line old new fields result prefix all cause =
+    subst (λ (t : List ℕ). Writes old new t) (line_is fields) (written old new (codes "error:" ++ (parts_text fields ++ codes "\n")) result prefix all cause)
 
 -- The error line of a run is determined by how the run ended.
-pub told_as : (old new : Side) (e d : Ended) (a b : List told.Field) → e ≡ d → line_in d ≡ Some b → a ≡ b → Writes old new (error_line a) → LineAfter old new (line_in e)
-told_as old new e d a b is line same writes =
+pub reported_as : (old new : PortState) (e d : Ended) (a b : List reported.Field) → e ≡ d → line_in d ≡ Some b → a ≡ b → Writes old new (error_line a) → LineAfter old new (line_in e)
+reported_as old new e d a b is line same writes =
     subst (λ (x : Ended). LineAfter old new (line_in x)) (sym is)
-    (subst (λ (o : Option (List told.Field)). LineAfter old new o) (sym line) (named_as old new a b same writes))
+    (subst (λ (o : Option (List reported.Field)). LineAfter old new o) (sym line) (named_as old new a b same writes))

@@ -18,7 +18,10 @@ taking_none most old Holds holds = record { bytes = []; consumes = sym (prepende
 joined : (old now new : Option (List ℕ)) (bytes piece : List ℕ) → Consumes old now bytes → Consumes now new piece → Consumes old new (bytes ++ piece)
 joined old now new bytes piece first then = first ∙ ap (λ (left : Option (List ℕ)). prepended bytes left) then ∙ prepended-twice bytes piece new
 
-pub taking_more : (most room count : ℕ) (old now new : Option (List ℕ)) (piece : List ℕ) (Holds Next : List ℕ → Type 0) → Consumes now new piece → length piece ≡ count → count ≤ room → ((bytes : List ℕ) → Holds bytes → Next (bytes ++ piece)) → IsTaking most room old now Holds → IsTaking most (room - count) old new Next
+pub taking_more : (most room count : ℕ) (old now new : Option (List ℕ)) (piece : List ℕ) (Holds Next : List ℕ →
+    Type 0) → Consumes now new piece → length piece ≡ count → count ≤ room →
+    ((bytes : List ℕ) → Holds bytes → Next (bytes ++ piece)) → IsTaking most room old now Holds →
+    IsTaking most (room - count) old new Next
 taking_more most room count old now new piece Holds Next then long fits more taking = record {
   bytes = taking.bytes ++ piece;
   consumes = joined old now new taking.bytes piece taking.consumes then;
@@ -37,15 +40,17 @@ taking_all most room old now new Holds then end taking = record {
 }
 
 -- if there is more than there is room for, the input is too long
-pub taking_long : (most room : ℕ) (old now new : Option (List ℕ)) (piece input : List ℕ) (Holds : List ℕ → Type 0) → Consumes now new piece → room < length piece → IsTaking most room old now Holds → old ≡ Some input → most < length input
-taking_long most room old now new piece input Holds then beyond taking told =
-    let least = length_taken old new (taking.bytes ++ piece) input (joined old now new taking.bytes piece taking.consumes then) told in
+pub taking_long : (most room : ℕ) (old now new : Option (List ℕ)) (piece input : List ℕ) (Holds : List ℕ → Type 0) →
+    Consumes now new piece → room < length piece → IsTaking most room old now Holds → old ≡ Some input →
+    most < length input
+taking_long most room old now new piece input Holds then beyond taking reported =
+    let least = length_taken old new (taking.bytes ++ piece) input (joined old now new taking.bytes piece taking.consumes then) reported in
     let count = length-append taking.bytes piece in
     omega (arith, count, least, taking.room_is, beyond)
 
 -- what was consumed is what the source held, and it was read to its end
 pub taken_whole : (most : ℕ) (old new : Option (List ℕ)) (Holds : List ℕ → Type 0) → (taken : WereTaken most old new Holds) → IsWhole old taken.bytes
-taken_whole most old new Holds taken = λ input told. all_taken old new taken.bytes input taken.consumes taken.end told
+taken_whole most old new Holds taken = λ input reported. all_taken old new taken.bytes input taken.consumes taken.end reported
 
 pub taken_to_end : (most : ℕ) (old new : Option (List ℕ)) (Holds : List ℕ → Type 0) → WereTaken most old new Holds → (input : List ℕ) → old ≡ Some input → new ≡ Some []
-taken_to_end most old new Holds taken = λ input told. none_left old new taken.bytes input taken.consumes taken.end told
+taken_to_end most old new Holds taken = λ input reported. none_left old new taken.bytes input taken.consumes taken.end reported

@@ -7,53 +7,57 @@ use Rattle.port_io.specs.Faults.{Rose}
 use Rattle.port_io.specs.CountLaws.{rose_later}
 use Rattle.frame_core.specs.declared.status.Status.{Status}
 use Rattle.frame_core.specs.declared.status.Status.TheVariants as statuses
-use Rattle.frame_core.specs.Outside.{Side, IsQuiet, Writes}
-use Rattle.frame_core.specs.Told.{Reply, Refusal, error_line, read_fault, write_fault, too_long, memory, too_long_refusal, read_fault_refusal, memory_refusal}
-use Rattle.frame_core.specs.Task.{Task, IsAnswerFront, IsBegunFront, MayStand, Tells, Refuses, HasNoReport, IsBeyond, IsAnswerable, IsRefusalStatus, IsTask}
-use Rattle.frame_core.specs.Run.{Outcome, ReadFault, TooLong, Memory, Answered, CutShort, Starved, ReportCut, NoAnswer, status_of, Run, IsRun, IsInput, HasInput, SourceAfter, Reports, ReportsFront}
+use Rattle.frame_core.specs.Outside.{PortState, IsFaultless, Writes}
+use Rattle.frame_core.specs.Reported.{Reply, Refusal, error_line, read_fault, write_fault, too_long, memory, too_long_refusal, read_fault_refusal, memory_refusal}
+use Rattle.frame_core.specs.Task.{Task, IsAnswerPrefix, IsBegunPrefix, MayBeLeft, HasReply, Refuses, HasNoReport, IsBeyond, IsAnswerable, IsRefusalStatus, IsTask}
+use Rattle.frame_core.specs.Run.{Outcome, ReadFault, TooLong, Memory, Answered, Truncated, OutOfMemoryMidway}
+use Rattle.frame_core.specs.Run.{ReportTruncated, NoAnswer, status_of, Run, IsRun, IsInput, HasInput, SourceAfter}
+use Rattle.frame_core.specs.Run.{Reports, ReportsPrefix}
 use Rattle.frame_core.specs.CallLaws.{read_failed, write_failed, read_to_end, unread, untouched}
-use Rattle.frame_core.specs.Promise.{InputHeld, OutputHeld, AllSteady, Stands, TellsError, Replies, Faults, ReplyCut, ReportCut as CutReport, ReplyStarved, OfInput, IsTooLong, CommandPromise}
+use Rattle.frame_core.specs.Promise.{InputHeld, OutputHeld, AllSteady, Stands, ReportsError, Replies, Faults}
+use Rattle.frame_core.specs.Promise.{ReplyTruncated, ReportTruncated as TruncatedReport, ReplyOutOfMemory, OfInput}
+use Rattle.frame_core.specs.Promise.{IsTooLong, CommandPromise}
 
 -- ---- the input
 
 -- the bytes that were judged are the input
 pub input_is : (reads : Option ℕ) (left : Option (List ℕ)) (bytes input : List ℕ) → IsInput reads left bytes → HasInput reads left input → bytes ≡ input
-input_is None left bytes input are told = are ∙ sym told
-input_is (Some most) left bytes input are told = are input told
+input_is None left bytes input are reported = are ∙ sym reported
+input_is (Some most) left bytes input are reported = are input reported
 
 -- what holds for them holds for the input
 pub of_input : (task : Task) (r : Run) (Holds : List ℕ → Type 0) (input : List ℕ) → OfInput task r Holds → HasInput task.reads r.source.bytes input → Holds input
-of_input task r Holds input of told = subst Holds (input_is task.reads r.source.bytes of.bytes input of.are told) of.holds
+of_input task r Holds input of reported = subst Holds (input_is task.reads r.source.bytes of.bytes input of.are reported) of.holds
 
 -- ---- each outcome
 
 -- what was written to the notes if no report was
-line_alone : (old between new : Side) (text : List ℕ) → between ≡ old → Writes between new text → Writes old new text
-line_alone old between new text same writes = subst (λ (s : Side). Writes s new text) same writes
+line_alone : (old between new : PortState) (text : List ℕ) → between ≡ old → Writes between new text → Writes old new text
+line_alone old between new text same writes = subst (λ (s : PortState). Writes s new text) same writes
 
 -- the whole reply was written if the input has an answer
 replies : (task : Task) (r : Run) (reply : Reply) → IsRun task r (Answered reply) → OfInput task r (Replies task r)
 replies task r reply run =
-    let tells : Tells task run.bytes reply = run.judged.1 in
+    let replied : HasReply task run.bytes reply = run.judged.1 in
     let here : Stands r reply = record {
       status_is = run.status_is;
       on_out = run.on_out.0;
-      on_note = subst (λ (s : Side). Reports r.note s reply.report) (sym run.on_note.line) run.on_note.report.0;
-      out_quiet = run.on_out.1;
-      note_quiet = subst (λ (s : Side). IsQuiet r.note s) (sym run.on_note.line) run.on_note.report.1;
+      on_note = subst (λ (s : PortState). Reports r.note s reply.report) (sym run.on_note.line) run.on_note.report.0;
+      out_faultless = run.on_out.1;
+      note_faultless = subst (λ (s : PortState). IsFaultless r.note s) (sym run.on_note.line) run.on_note.report.1;
     } in
     record {
       bytes = run.bytes;
       are = run.judged.0;
-      holds = record { answer = tells.answer; has = tells.has; stands = subst (λ (x : Reply). Stands r x) tells.is here };
+      holds = record { answer = replied.answer; has = replied.has; stands = subst (λ (x : Reply). Stands r x) replied.is here };
     }
 
-reply_cut : (task : Task) (r : Run) → IsRun task r CutShort → OfInput task r (ReplyCut task r)
-reply_cut task r run = record {
+reply_truncated : (task : Task) (r : Run) → IsRun task r Truncated → OfInput task r (ReplyTruncated task r)
+reply_truncated task r run = record {
   bytes = run.bytes;
   are = run.judged;
   holds = record {
-    front = run.on_out.0.front;
+    prefix = run.on_out.0.prefix;
     leaves = run.on_out.0.leaves;
     on_out = run.on_out.0.on_out;
     rose = run.on_out.1;
@@ -61,48 +65,53 @@ reply_cut task r run = record {
   };
 }
 
-starved : (task : Task) (r : Run) → IsRun task r Starved → OfInput task r (ReplyStarved task r)
-starved task r run = record {
+out_of_memory : (task : Task) (r : Run) → IsRun task r OutOfMemoryMidway → OfInput task r (ReplyOutOfMemory task r)
+out_of_memory task r run = record {
   bytes = run.bytes;
   are = run.judged.0;
   holds = record {
     in_pieces = run.judged.1;
-    front = run.on_out.0.front;
+    prefix = run.on_out.0.prefix;
     leaves = run.on_out.0.leaves;
     on_out = run.on_out.0.on_out;
-    out_quiet = run.on_out.1;
+    out_faultless = run.on_out.1;
     on_note = line_alone r.note run.on_note.between r.note' (error_line memory) run.on_note.report run.on_note.line;
   };
 }
 
 -- if a report is truncated, the notes failed
-report_rose : (old between new : Side) (report : Option (List ℕ)) → old.faults ≤ between.faults → ReportsFront old between report → between.faults ≤ new.faults → Rose old.faults new.faults
-report_rose old between new None first front then = absurd front
-report_rose old between new (Some text) first front then = rose_later old.faults between.faults new.faults first front.1 then
+report_rose : (old between new : PortState) (report : Option (List ℕ)) → old.faults ≤ between.faults → ReportsPrefix old between report → between.faults ≤ new.faults → Rose old.faults new.faults
+report_rose old between new None first prefix then = absurd prefix
+report_rose old between new (Some text) first prefix then = rose_later old.faults between.faults new.faults first prefix.1 then
 
-report_cut : (task : Task) (r : Run) (reply : Reply) → IsRun task r (ReportCut reply) → OfInput task r (CutReport task r)
-report_cut task r reply run =
-    let tells : Tells task run.bytes reply = run.judged.1 in
+report_truncated : (task : Task) (r : Run) (reply : Reply) → IsRun task r (ReportTruncated reply) → OfInput task r (TruncatedReport task r)
+report_truncated task r reply run =
+    let replied : HasReply task run.bytes reply = run.judged.1 in
     record {
       bytes = run.bytes;
       are = run.judged.0;
       holds = record {
-        answer = tells.answer;
-        has = tells.has;
+        answer = replied.answer;
+        has = replied.has;
         status_is = run.status_is;
-        on_out = subst (λ (x : Reply). Appends r.out.bytes r.out'.bytes x.text) tells.is run.on_out.0;
-        out_quiet = run.on_out.1;
+        on_out = subst (λ (x : Reply). Appends r.out.bytes r.out'.bytes x.text) replied.is run.on_out.0;
+        out_faultless = run.on_out.1;
         rose = report_rose r.note run.on_note.between r.note' reply.report run.on_note.first run.on_note.report run.on_note.then;
         between = run.on_note.between;
-        front = subst (λ (x : Reply). ReportsFront r.note run.on_note.between x.report) tells.is run.on_note.report;
+        prefix = subst (λ (x : Reply). ReportsPrefix r.note run.on_note.between x.report) replied.is run.on_note.report;
         line = run.on_note.line;
         first = run.on_note.first;
         then = run.on_note.then;
       };
     }
 
-tells_error : (task : Task) (r : Run) (refusal : Refusal) → IsRun task r (NoAnswer refusal) → TellsError r refusal
-tells_error task r refusal run = record { status_is = run.status_is; on_out = run.on_out; on_note = line_alone r.note run.on_note.between r.note' (error_line refusal.named) run.on_note.report run.on_note.line }
+reports_error : (task : Task) (r : Run) (refusal : Refusal) → IsRun task r (NoAnswer refusal) → ReportsError r refusal
+reports_error task r refusal run = record {
+  status_is = run.status_is;
+  on_out = run.on_out;
+  on_note = line_alone r.note run.on_note.between r.note' (error_line refusal.named) run.on_note.report
+      run.on_note.line;
+}
 
 faults : (task : Task) (r : Run) (refusal : Refusal) → IsRun task r (NoAnswer refusal) → OfInput task r (Faults task r)
 faults task r refusal run =
@@ -110,90 +119,109 @@ faults task r refusal run =
     record {
       bytes = run.bytes;
       are = run.judged.0;
-      holds = record { fault = refuses.fault; meets = refuses.meets; told = subst (λ (x : Refusal). TellsError r x) refuses.is (tells_error task r refusal run) };
+      holds = record { fault = refuses.fault; meets = refuses.meets; reported = subst (λ (x : Refusal). ReportsError r x) refuses.is (reports_error task r refusal run) };
     }
 
-long_told : (task : Task) (r : Run) → IsRun task r TooLong → TellsError r too_long_refusal
-long_told task r run = record { status_is = run.status_is; on_out = run.on_out; on_note = line_alone r.note run.on_note.between r.note' (error_line too_long) run.on_note.report run.on_note.line }
+long_reported : (task : Task) (r : Run) → IsRun task r TooLong → ReportsError r too_long_refusal
+long_reported task r run = record { status_is = run.status_is; on_out = run.on_out; on_note = line_alone r.note run.on_note.between r.note' (error_line too_long) run.on_note.report run.on_note.line }
 
-fault_told : (task : Task) (r : Run) → IsRun task r ReadFault → TellsError r read_fault_refusal
-fault_told task r run = record { status_is = run.status_is; on_out = run.on_out; on_note = line_alone r.note run.on_note.between r.note' (error_line read_fault) run.on_note.report run.on_note.line }
+fault_reported : (task : Task) (r : Run) → IsRun task r ReadFault → ReportsError r read_fault_refusal
+fault_reported task r run = record {
+  status_is = run.status_is;
+  on_out = run.on_out;
+  on_note = line_alone r.note run.on_note.between r.note' (error_line read_fault) run.on_note.report run.on_note.line;
+}
 
-memory_told : (task : Task) (r : Run) → IsRun task r Memory → TellsError r memory_refusal
-memory_told task r run = record { status_is = run.status_is; on_out = run.on_out; on_note = line_alone r.note run.on_note.between r.note' (error_line memory) run.on_note.report run.on_note.line }
+memory_reported : (task : Task) (r : Run) → IsRun task r Memory → ReportsError r memory_refusal
+memory_reported task r run = record { status_is = run.status_is; on_out = run.on_out; on_note = line_alone r.note run.on_note.between r.note' (error_line memory) run.on_note.report run.on_note.line }
 
 -- a read fault is a failed call of the source
-source_rose : (reads : Option ℕ) (old new : Side) → SourceAfter reads old new ReadFault → Rose old.faults new.faults
+source_rose : (reads : Option ℕ) (old new : PortState) → SourceAfter reads old new ReadFault → Rose old.faults new.faults
 source_rose None old new after = absurd after
 source_rose (Some most) old new after = after
 
 -- ---- what input gets
 
-answered : (task : Task) (r : Run) (o : Outcome) (input : List ℕ) → IsRun task r o → HasInput task.reads r.source.bytes input → IsAnswerable task input → OutputHeld r → Replies task r input ⊎ CutReport task r input
-answered task r ReadFault input run told may held = absurd (held.input.source (source_rose task.reads r.source r.source' run.on_source))
-answered task r TooLong input run told may held = absurd (may.within (run.judged input told))
-answered task r Memory input run told may held = absurd (held.input.memory run.status_is)
-answered task r (Answered reply) input run told may held = inl (of_input task r (Replies task r) input (replies task r reply run) told)
-answered task r CutShort input run told may held = absurd (held.out run.on_out.1)
-answered task r Starved input run told may held = absurd (held.input.memory run.status_is)
-answered task r (ReportCut reply) input run told may held = inr (of_input task r (CutReport task r) input (report_cut task r reply run) told)
-answered task r (NoAnswer refusal) input run told may held =
-    let f : Faults task r input = of_input task r (Faults task r) input (faults task r refusal run) told in
+answered : (task : Task) (r : Run) (o : Outcome) (input : List ℕ) → IsRun task r o →
+    HasInput task.reads r.source.bytes input → IsAnswerable task input → OutputHeld r → Replies task r input ⊎
+    TruncatedReport task r input
+answered task r ReadFault input run reported may held = absurd (held.input.source (source_rose task.reads r.source r.source' run.on_source))
+answered task r TooLong input run reported may held = absurd (may.within (run.judged input reported))
+answered task r Memory input run reported may held = absurd (held.input.memory run.status_is)
+answered task r (Answered reply) input run reported may held = inl (of_input task r (Replies task r) input (replies task r reply run) reported)
+answered task r Truncated input run reported may held = absurd (held.out run.on_out.1)
+answered task r OutOfMemoryMidway input run reported may held = absurd (held.input.memory run.status_is)
+answered task r (ReportTruncated reply) input run reported may held = inr (of_input task r (TruncatedReport task r) input (report_truncated task r reply run) reported)
+answered task r (NoAnswer refusal) input run reported may held =
+    let f : Faults task r input = of_input task r (Faults task r) input (faults task r refusal run) reported in
     absurd (may.sound f.fault f.meets)
 
 complete : (task : Task) (r : Run) (o : Outcome) (input : List ℕ) → IsRun task r o → HasInput task.reads r.source.bytes input → IsAnswerable task input → AllSteady r → Replies task r input
-complete task r o input run told may steady =
+complete task r o input run reported may steady =
     ⊎_elim
     (λ (got : Replies task r input). got)
-    (λ (cut : CutReport task r input). absurd (steady.note cut.rose))
-    (answered task r o input run told may steady.output)
+    (λ (truncated : TruncatedReport task r input). absurd (steady.note truncated.rose))
+    (answered task r o input run reported may steady.output)
 
 -- an answer of the bytes that were judged is an answer of the input
-has_answer : {A : Type 0} (task : Task) (r : Run) (bytes input : List ℕ) (reply : Reply) → IsInput task.reads r.source.bytes bytes → HasInput task.reads r.source.bytes input → Tells task bytes reply → ((answer : task.Answer) → task.Has input answer → ⊥) → A
-has_answer task r bytes input reply are told tells none =
-    absurd (none tells.answer (subst (λ (bs : List ℕ). task.Has bs tells.answer) (input_is task.reads r.source.bytes bytes input are told) tells.has))
+has_answer : {A : Type 0} (task : Task) (r : Run) (bytes input : List ℕ) (reply : Reply) →
+    IsInput task.reads r.source.bytes bytes → HasInput task.reads r.source.bytes input → HasReply task bytes reply →
+    ((answer : task.Answer) → task.Has input answer → ⊥) → A
+has_answer task r bytes input reply are reported replied none =
+    absurd (none replied.answer (subst (λ (bs : List ℕ). task.Has bs replied.answer) (input_is task.reads r.source.bytes bytes input are reported) replied.has))
 
 -- a truncated text is never that of an input with a fault, or of one that is too long
-no_fault_stands : {A : Type 0} (task : Task) (input front : List ℕ) (fault : task.Fault) → IsTask task → MayStand task input front → task.Meets input fault → A
-no_fault_stands task input front fault is stands meets =
+no_fault_stands : {A : Type 0} (task : Task) (input prefix : List ℕ) (fault : task.Fault) → IsTask task → MayBeLeft task input prefix → task.Meets input fault → A
+no_fault_stands task input prefix fault is stands meets =
     ⊎_elim
-    (λ (of : IsAnswerFront task input front). absurd (is.apart input of.answer fault of.has meets))
-    (λ (of : IsBegunFront task input front). absurd (is.begins_apart input of.text fault of.begins meets))
+    (λ (of : IsAnswerPrefix task input prefix). absurd (is.apart input of.answer fault of.has meets))
+    (λ (of : IsBegunPrefix task input prefix). absurd (is.begins_apart input of.text fault of.begins meets))
     stands
 
-none_beyond_stands : {A : Type 0} (task : Task) (input front : List ℕ) → IsTask task → MayStand task input front → IsBeyond task.reads input → A
-none_beyond_stands task input front is stands long =
+none_beyond_stands : {A : Type 0} (task : Task) (input prefix : List ℕ) → IsTask task → MayBeLeft task input prefix → IsBeyond task.reads input → A
+none_beyond_stands task input prefix is stands long =
     ⊎_elim
-    (λ (of : IsAnswerFront task input front). absurd (is.answer_within input of.answer of.has long))
-    (λ (of : IsBegunFront task input front). absurd (is.begins_within input of.text of.begins long))
+    (λ (of : IsAnswerPrefix task input prefix). absurd (is.answer_within input of.answer of.has long))
+    (λ (of : IsBegunPrefix task input prefix). absurd (is.begins_within input of.text of.begins long))
     stands
 
-refused : (task : Task) (r : Run) (o : Outcome) (input : List ℕ) (fault : task.Fault) → IsTask task → IsRun task r o → HasInput task.reads r.source.bytes input → task.Meets input fault → InputHeld r → TellsError r (task.refusal fault)
-refused task r ReadFault input fault is run told meets held = absurd (held.source (source_rose task.reads r.source r.source' run.on_source))
-refused task r TooLong input fault is run told meets held = absurd (is.fault_within input fault meets (run.judged input told))
-refused task r Memory input fault is run told meets held = absurd (held.memory run.status_is)
-refused task r (Answered reply) input fault is run told meets held = has_answer task r run.bytes input reply run.judged.0 told run.judged.1 (λ answer has. is.apart input answer fault has meets)
-refused task r CutShort input fault is run told meets held =
-    let cut : ReplyCut task r input = of_input task r (ReplyCut task r) input (reply_cut task r run) told in
-    no_fault_stands task input cut.front fault is cut.leaves meets
-refused task r Starved input fault is run told meets held = absurd (held.memory run.status_is)
-refused task r (ReportCut reply) input fault is run told meets held = has_answer task r run.bytes input reply run.judged.0 told run.judged.1 (λ answer has. is.apart input answer fault has meets)
-refused task r (NoAnswer refusal) input fault is run told meets held =
-    let f : Faults task r input = of_input task r (Faults task r) input (faults task r refusal run) told in
-    subst (λ (x : Refusal). TellsError r x) (is.one input f.fault fault f.meets meets) f.told
+refused : (task : Task) (r : Run) (o : Outcome) (input : List ℕ) (fault : task.Fault) → IsTask task → IsRun task r o →
+    HasInput task.reads r.source.bytes input → task.Meets input fault → InputHeld r →
+    ReportsError r (task.refusal fault)
+refused task r ReadFault input fault is run reported meets held = absurd (held.source (source_rose task.reads r.source r.source' run.on_source))
+refused task r TooLong input fault is run reported meets held = absurd (is.fault_within input fault meets (run.judged input reported))
+refused task r Memory input fault is run reported meets held = absurd (held.memory run.status_is)
+refused task r (Answered reply) input fault is run reported meets held =
+    has_answer task r run.bytes input reply run.judged.0 reported run.judged.1 (λ answer has.
+    is.apart input answer fault has meets)
+refused task r Truncated input fault is run reported meets held =
+    let truncated : ReplyTruncated task r input = of_input task r (ReplyTruncated task r) input (reply_truncated task r run) reported in
+    no_fault_stands task input truncated.prefix fault is truncated.leaves meets
+refused task r OutOfMemoryMidway input fault is run reported meets held = absurd (held.memory run.status_is)
+refused task r (ReportTruncated reply) input fault is run reported meets held =
+    has_answer task r run.bytes input reply run.judged.0 reported run.judged.1 (λ answer has.
+    is.apart input answer fault has meets)
+refused task r (NoAnswer refusal) input fault is run reported meets held =
+    let f : Faults task r input = of_input task r (Faults task r) input (faults task r refusal run) reported in
+    subst (λ (x : Refusal). ReportsError r x) (is.one input f.fault fault f.meets meets) f.reported
 
-too_long_told : (task : Task) (r : Run) (o : Outcome) (input : List ℕ) → IsTask task → IsRun task r o → HasInput task.reads r.source.bytes input → IsBeyond task.reads input → InputHeld r → TellsError r too_long_refusal
-too_long_told task r ReadFault input is run told long held = absurd (held.source (source_rose task.reads r.source r.source' run.on_source))
-too_long_told task r TooLong input is run told long held = long_told task r run
-too_long_told task r Memory input is run told long held = absurd (held.memory run.status_is)
-too_long_told task r (Answered reply) input is run told long held = has_answer task r run.bytes input reply run.judged.0 told run.judged.1 (λ answer has. is.answer_within input answer has long)
-too_long_told task r CutShort input is run told long held =
-    let cut : ReplyCut task r input = of_input task r (ReplyCut task r) input (reply_cut task r run) told in
-    none_beyond_stands task input cut.front is cut.leaves long
-too_long_told task r Starved input is run told long held = absurd (held.memory run.status_is)
-too_long_told task r (ReportCut reply) input is run told long held = has_answer task r run.bytes input reply run.judged.0 told run.judged.1 (λ answer has. is.answer_within input answer has long)
-too_long_told task r (NoAnswer refusal) input is run told long held =
-    let f : Faults task r input = of_input task r (Faults task r) input (faults task r refusal run) told in
+too_long_reported : (task : Task) (r : Run) (o : Outcome) (input : List ℕ) → IsTask task → IsRun task r o →
+    HasInput task.reads r.source.bytes input → IsBeyond task.reads input → InputHeld r → ReportsError r too_long_refusal
+too_long_reported task r ReadFault input is run reported long held = absurd (held.source (source_rose task.reads r.source r.source' run.on_source))
+too_long_reported task r TooLong input is run reported long held = long_reported task r run
+too_long_reported task r Memory input is run reported long held = absurd (held.memory run.status_is)
+too_long_reported task r (Answered reply) input is run reported long held =
+    has_answer task r run.bytes input reply run.judged.0 reported run.judged.1 (λ answer has.
+    is.answer_within input answer has long)
+too_long_reported task r Truncated input is run reported long held =
+    let truncated : ReplyTruncated task r input = of_input task r (ReplyTruncated task r) input (reply_truncated task r run) reported in
+    none_beyond_stands task input truncated.prefix is truncated.leaves long
+too_long_reported task r OutOfMemoryMidway input is run reported long held = absurd (held.memory run.status_is)
+too_long_reported task r (ReportTruncated reply) input is run reported long held =
+    has_answer task r run.bytes input reply run.judged.0 reported run.judged.1 (λ answer has.
+    is.answer_within input answer has long)
+too_long_reported task r (NoAnswer refusal) input is run reported long held =
+    let f : Faults task r input = of_input task r (Faults task r) input (faults task r refusal run) reported in
     absurd (is.fault_within input f.fault f.meets long)
 
 -- ---- what a status says
@@ -203,19 +231,29 @@ apart : {A : Type 0} (task : Task) (r : Run) (o : Outcome) (s : Status) → IsRu
 apart task r o s run is other = absurd (other (sym run.status_is ∙ is))
 
 -- nor does a reply or a refusal
-no_reply : {A : Type 0} (task : Task) (r : Run) (reply : Reply) (s : Status) → IsTask task → IsRun task r (Answered reply) → r.status ≡ s → (statuses.Done ≡ s → ⊥) → (statuses.Undecided ≡ s → ⊥) → (statuses.Refused ≡ s → ⊥) → A
+no_reply : {A : Type 0} (task : Task) (r : Run) (reply : Reply) (s : Status) → IsTask task →
+    IsRun task r (Answered reply) → r.status ≡ s → (statuses.Done ≡ s → ⊥) → (statuses.Undecided ≡ s → ⊥) →
+    (statuses.Refused ≡ s → ⊥) → A
 no_reply task r reply s is_task run is a b c =
-    let tells : Tells task run.bytes reply = run.judged.1 in
-    let has : (task.reply tells.answer).status ≡ s = sym (ap (λ (x : Reply). x.status) tells.is) ∙ sym run.status_is ∙ is in
-    absurd (⊎_elim (λ (e : (task.reply tells.answer).status ≡ statuses.Done). a (sym e ∙ has)) (λ rest. ⊎_elim (λ (e : (task.reply tells.answer).status ≡ statuses.Undecided). b (sym e ∙ has)) (λ (e : (task.reply tells.answer).status ≡ statuses.Refused). c (sym e ∙ has)) rest) (is_task.replies tells.answer))
+    let replied : HasReply task run.bytes reply = run.judged.1 in
+    let has : (task.reply replied.answer).status ≡ s = sym (ap (λ (x : Reply). x.status) replied.is) ∙ sym run.status_is ∙ is in
+    absurd (⊎_elim (λ (e : (task.reply replied.answer).status ≡ statuses.Done). a (sym e ∙ has)) (λ rest.
+    ⊎_elim (λ (e : (task.reply replied.answer).status ≡ statuses.Undecided). b (sym e ∙ has))
+    (λ (e : (task.reply replied.answer).status ≡ statuses.Refused). c (sym e ∙ has)) rest)
+    (is_task.replies replied.answer))
 
-no_refusal : {A : Type 0} (task : Task) (r : Run) (refusal : Refusal) (s : Status) → IsTask task → IsRun task r (NoAnswer refusal) → r.status ≡ s → (statuses.Malformed ≡ s → ⊥) → (statuses.Limit ≡ s → ⊥) → (statuses.Refused ≡ s → ⊥) → (statuses.Memory ≡ s → ⊥) → A
+no_refusal : {A : Type 0} (task : Task) (r : Run) (refusal : Refusal) (s : Status) → IsTask task →
+    IsRun task r (NoAnswer refusal) → r.status ≡ s → (statuses.Malformed ≡ s → ⊥) → (statuses.Limit ≡ s → ⊥) →
+    (statuses.Refused ≡ s → ⊥) → (statuses.Memory ≡ s → ⊥) → A
 no_refusal task r refusal s is_task run is a b c d =
     let refuses : Refuses task run.bytes refusal = run.judged.1 in
-    let told : Refusal = task.refusal refuses.fault in
-    let has : told.status ≡ s = sym (ap (λ (x : Refusal). x.status) refuses.is) ∙ sym run.status_is ∙ is in
-    let of_status : IsRefusalStatus told.status → ⊥ = λ status. ⊎_elim (λ (e : told.status ≡ statuses.Malformed). a (sym e ∙ has)) (λ rest. ⊎_elim (λ (e : told.status ≡ statuses.Limit). b (sym e ∙ has)) (λ (e : told.status ≡ statuses.Refused). c (sym e ∙ has)) rest) status in
-    let of_memory : told ≡ memory_refusal → ⊥ = λ same. d (sym (ap (λ (x : Refusal). x.status) same) ∙ has) in
+    let reported : Refusal = task.refusal refuses.fault in
+    let has : reported.status ≡ s = sym (ap (λ (x : Refusal). x.status) refuses.is) ∙ sym run.status_is ∙ is in
+    let of_status : IsRefusalStatus reported.status → ⊥ =
+    λ status. ⊎_elim (λ (e : reported.status ≡ statuses.Malformed). a (sym e ∙ has)) (λ rest.
+    ⊎_elim (λ (e : reported.status ≡ statuses.Limit). b (sym e ∙ has))
+    (λ (e : reported.status ≡ statuses.Refused). c (sym e ∙ has)) rest) status in
+    let of_memory : reported ≡ memory_refusal → ⊥ = λ same. d (sym (ap (λ (x : Refusal). x.status) same) ∙ has) in
     absurd (⊎_elim of_status of_memory (is_task.refusals run.bytes refuses.fault refuses.meets))
 
 done_only : (task : Task) (r : Run) (o : Outcome) → IsTask task → IsRun task r o → r.status ≡ statuses.Done → OfInput task r (Replies task r)
@@ -223,9 +261,9 @@ done_only task r ReadFault is_task run is = apart task r ReadFault statuses.Done
 done_only task r TooLong is_task run is = apart task r TooLong statuses.Done run is (λ e. cc)
 done_only task r Memory is_task run is = apart task r Memory statuses.Done run is (λ e. cc)
 done_only task r (Answered reply) is_task run is = replies task r reply run
-done_only task r CutShort is_task run is = apart task r CutShort statuses.Done run is (λ e. cc)
-done_only task r Starved is_task run is = apart task r Starved statuses.Done run is (λ e. cc)
-done_only task r (ReportCut reply) is_task run is = apart task r (ReportCut reply) statuses.Done run is (λ e. cc)
+done_only task r Truncated is_task run is = apart task r Truncated statuses.Done run is (λ e. cc)
+done_only task r OutOfMemoryMidway is_task run is = apart task r OutOfMemoryMidway statuses.Done run is (λ e. cc)
+done_only task r (ReportTruncated reply) is_task run is = apart task r (ReportTruncated reply) statuses.Done run is (λ e. cc)
 done_only task r (NoAnswer refusal) is_task run is = no_refusal task r refusal statuses.Done is_task run is (λ e. cc) (λ e. cc) (λ e. cc) (λ e. cc)
 
 undecided_only : (task : Task) (r : Run) (o : Outcome) → IsTask task → IsRun task r o → r.status ≡ statuses.Undecided → OfInput task r (Replies task r)
@@ -233,9 +271,9 @@ undecided_only task r ReadFault is_task run is = apart task r ReadFault statuses
 undecided_only task r TooLong is_task run is = apart task r TooLong statuses.Undecided run is (λ e. cc)
 undecided_only task r Memory is_task run is = apart task r Memory statuses.Undecided run is (λ e. cc)
 undecided_only task r (Answered reply) is_task run is = replies task r reply run
-undecided_only task r CutShort is_task run is = apart task r CutShort statuses.Undecided run is (λ e. cc)
-undecided_only task r Starved is_task run is = apart task r Starved statuses.Undecided run is (λ e. cc)
-undecided_only task r (ReportCut reply) is_task run is = apart task r (ReportCut reply) statuses.Undecided run is (λ e. cc)
+undecided_only task r Truncated is_task run is = apart task r Truncated statuses.Undecided run is (λ e. cc)
+undecided_only task r OutOfMemoryMidway is_task run is = apart task r OutOfMemoryMidway statuses.Undecided run is (λ e. cc)
+undecided_only task r (ReportTruncated reply) is_task run is = apart task r (ReportTruncated reply) statuses.Undecided run is (λ e. cc)
 undecided_only task r (NoAnswer refusal) is_task run is = no_refusal task r refusal statuses.Undecided is_task run is (λ e. cc) (λ e. cc) (λ e. cc) (λ e. cc)
 
 either_left : (task : Task) (r : Run) (P Q : List ℕ → Type 0) → OfInput task r P → OfInput task r (λ input. P input ⊎ Q input)
@@ -249,9 +287,9 @@ refused_only task r ReadFault is_task run is = apart task r ReadFault statuses.R
 refused_only task r TooLong is_task run is = apart task r TooLong statuses.Refused run is (λ e. cc)
 refused_only task r Memory is_task run is = apart task r Memory statuses.Refused run is (λ e. cc)
 refused_only task r (Answered reply) is_task run is = either_left task r (Replies task r) (Faults task r) (replies task r reply run)
-refused_only task r CutShort is_task run is = apart task r CutShort statuses.Refused run is (λ e. cc)
-refused_only task r Starved is_task run is = apart task r Starved statuses.Refused run is (λ e. cc)
-refused_only task r (ReportCut reply) is_task run is = apart task r (ReportCut reply) statuses.Refused run is (λ e. cc)
+refused_only task r Truncated is_task run is = apart task r Truncated statuses.Refused run is (λ e. cc)
+refused_only task r OutOfMemoryMidway is_task run is = apart task r OutOfMemoryMidway statuses.Refused run is (λ e. cc)
+refused_only task r (ReportTruncated reply) is_task run is = apart task r (ReportTruncated reply) statuses.Refused run is (λ e. cc)
 refused_only task r (NoAnswer refusal) is_task run is = either_right task r (Replies task r) (Faults task r) (faults task r refusal run)
 
 malformed_only : (task : Task) (r : Run) (o : Outcome) → IsTask task → IsRun task r o → r.status ≡ statuses.Malformed → OfInput task r (Faults task r)
@@ -259,86 +297,91 @@ malformed_only task r ReadFault is_task run is = apart task r ReadFault statuses
 malformed_only task r TooLong is_task run is = apart task r TooLong statuses.Malformed run is (λ e. cc)
 malformed_only task r Memory is_task run is = apart task r Memory statuses.Malformed run is (λ e. cc)
 malformed_only task r (Answered reply) is_task run is = no_reply task r reply statuses.Malformed is_task run is (λ e. cc) (λ e. cc) (λ e. cc)
-malformed_only task r CutShort is_task run is = apart task r CutShort statuses.Malformed run is (λ e. cc)
-malformed_only task r Starved is_task run is = apart task r Starved statuses.Malformed run is (λ e. cc)
-malformed_only task r (ReportCut reply) is_task run is = apart task r (ReportCut reply) statuses.Malformed run is (λ e. cc)
+malformed_only task r Truncated is_task run is = apart task r Truncated statuses.Malformed run is (λ e. cc)
+malformed_only task r OutOfMemoryMidway is_task run is = apart task r OutOfMemoryMidway statuses.Malformed run is (λ e. cc)
+malformed_only task r (ReportTruncated reply) is_task run is = apart task r (ReportTruncated reply) statuses.Malformed run is (λ e. cc)
 malformed_only task r (NoAnswer refusal) is_task run is = faults task r refusal run
 
 limit_only : (task : Task) (r : Run) (o : Outcome) → IsTask task → IsRun task r o → r.status ≡ statuses.Limit → OfInput task r (Faults task r) ⊎ IsTooLong task r
 limit_only task r ReadFault is_task run is = apart task r ReadFault statuses.Limit run is (λ e. cc)
-limit_only task r TooLong is_task run is = inr (record { beyond = run.judged; told = long_told task r run })
+limit_only task r TooLong is_task run is = inr (record { beyond = run.judged; reported = long_reported task r run })
 limit_only task r Memory is_task run is = apart task r Memory statuses.Limit run is (λ e. cc)
 limit_only task r (Answered reply) is_task run is = no_reply task r reply statuses.Limit is_task run is (λ e. cc) (λ e. cc) (λ e. cc)
-limit_only task r CutShort is_task run is = apart task r CutShort statuses.Limit run is (λ e. cc)
-limit_only task r Starved is_task run is = apart task r Starved statuses.Limit run is (λ e. cc)
-limit_only task r (ReportCut reply) is_task run is = apart task r (ReportCut reply) statuses.Limit run is (λ e. cc)
+limit_only task r Truncated is_task run is = apart task r Truncated statuses.Limit run is (λ e. cc)
+limit_only task r OutOfMemoryMidway is_task run is = apart task r OutOfMemoryMidway statuses.Limit run is (λ e. cc)
+limit_only task r (ReportTruncated reply) is_task run is = apart task r (ReportTruncated reply) statuses.Limit run is (λ e. cc)
 limit_only task r (NoAnswer refusal) is_task run is = inl (faults task r refusal run)
 
-write_fault_only : (task : Task) (r : Run) (o : Outcome) → IsTask task → IsRun task r o → r.status ≡ statuses.WriteFault → OfInput task r (λ input. ReplyCut task r input ⊎ CutReport task r input)
+write_fault_only : (task : Task) (r : Run) (o : Outcome) → IsTask task → IsRun task r o →
+    r.status ≡ statuses.WriteFault → OfInput task r (λ input. ReplyTruncated task r input ⊎
+    TruncatedReport task r input)
 write_fault_only task r ReadFault is_task run is = apart task r ReadFault statuses.WriteFault run is (λ e. cc)
 write_fault_only task r TooLong is_task run is = apart task r TooLong statuses.WriteFault run is (λ e. cc)
 write_fault_only task r Memory is_task run is = apart task r Memory statuses.WriteFault run is (λ e. cc)
 write_fault_only task r (Answered reply) is_task run is = no_reply task r reply statuses.WriteFault is_task run is (λ e. cc) (λ e. cc) (λ e. cc)
-write_fault_only task r CutShort is_task run is = either_left task r (ReplyCut task r) (CutReport task r) (reply_cut task r run)
-write_fault_only task r Starved is_task run is = apart task r Starved statuses.WriteFault run is (λ e. cc)
-write_fault_only task r (ReportCut reply) is_task run is = either_right task r (ReplyCut task r) (CutReport task r) (report_cut task r reply run)
+write_fault_only task r Truncated is_task run is = either_left task r (ReplyTruncated task r) (TruncatedReport task r) (reply_truncated task r run)
+write_fault_only task r OutOfMemoryMidway is_task run is = apart task r OutOfMemoryMidway statuses.WriteFault run is (λ e. cc)
+write_fault_only task r (ReportTruncated reply) is_task run is = either_right task r (ReplyTruncated task r) (TruncatedReport task r) (report_truncated task r reply run)
 write_fault_only task r (NoAnswer refusal) is_task run is = no_refusal task r refusal statuses.WriteFault is_task run is (λ e. cc) (λ e. cc) (λ e. cc) (λ e. cc)
 
 write_rose : (task : Task) (r : Run) (o : Outcome) → IsTask task → IsRun task r o → r.status ≡ statuses.WriteFault → Rose r.out.faults r.out'.faults ⊎ Rose r.note.faults r.note'.faults
 write_rose task r o is_task run is =
-    let of : OfInput task r (λ input. ReplyCut task r input ⊎ CutReport task r input) = write_fault_only task r o is_task run is in
+    let of : OfInput task r (λ input. ReplyTruncated task r input ⊎ TruncatedReport task r input) = write_fault_only task r o is_task run is in
     ⊎_elim
-    (λ (cut : ReplyCut task r of.bytes). inl cut.rose)
-    (λ (cut : CutReport task r of.bytes). inr cut.rose)
+    (λ (truncated : ReplyTruncated task r of.bytes). inl truncated.rose)
+    (λ (truncated : TruncatedReport task r of.bytes). inr truncated.rose)
     of.holds
 
 -- without a report a write fault is a failed call of the output
-cut_rose : (task : Task) (r : Run) (input : List ℕ) → HasNoReport task → ReplyCut task r input ⊎ CutReport task r input → Rose r.out.faults r.out'.faults
-cut_rose task r input none cut =
+truncated_rose : (task : Task) (r : Run) (input : List ℕ) → HasNoReport task → ReplyTruncated task r input ⊎ TruncatedReport task r input → Rose r.out.faults r.out'.faults
+truncated_rose task r input none truncated =
     ⊎_elim
-    (λ (c : ReplyCut task r input). c.rose)
-    (λ (c : CutReport task r input). absurd (subst (λ (report : Option (List ℕ)). ReportsFront r.note c.between report) (none c.answer) c.front))
-    cut
+    (λ (c : ReplyTruncated task r input). c.rose)
+    (λ (c : TruncatedReport task r input). absurd (subst (λ (report : Option (List ℕ)). ReportsPrefix r.note c.between report) (none c.answer) c.prefix))
+    truncated
 
 out_rose : (task : Task) (r : Run) (o : Outcome) → IsTask task → IsRun task r o → HasNoReport task → r.status ≡ statuses.WriteFault → Rose r.out.faults r.out'.faults
 out_rose task r o is_task run none is =
-    let of : OfInput task r (λ input. ReplyCut task r input ⊎ CutReport task r input) = write_fault_only task r o is_task run is in
-    cut_rose task r of.bytes none of.holds
+    let of : OfInput task r (λ input. ReplyTruncated task r input ⊎ TruncatedReport task r input) = write_fault_only task r o is_task run is in
+    truncated_rose task r of.bytes none of.holds
 
-read_fault_only : (task : Task) (r : Run) (o : Outcome) → IsTask task → IsRun task r o → r.status ≡ statuses.ReadFault → Rose r.source.faults r.source'.faults × TellsError r read_fault_refusal
-read_fault_only task r ReadFault is_task run is = (source_rose task.reads r.source r.source' run.on_source, fault_told task r run)
+read_fault_only : (task : Task) (r : Run) (o : Outcome) → IsTask task → IsRun task r o → r.status ≡ statuses.ReadFault → Rose r.source.faults r.source'.faults × ReportsError r read_fault_refusal
+read_fault_only task r ReadFault is_task run is = (source_rose task.reads r.source r.source' run.on_source, fault_reported task r run)
 read_fault_only task r TooLong is_task run is = apart task r TooLong statuses.ReadFault run is (λ e. cc)
 read_fault_only task r Memory is_task run is = apart task r Memory statuses.ReadFault run is (λ e. cc)
 read_fault_only task r (Answered reply) is_task run is = no_reply task r reply statuses.ReadFault is_task run is (λ e. cc) (λ e. cc) (λ e. cc)
-read_fault_only task r CutShort is_task run is = apart task r CutShort statuses.ReadFault run is (λ e. cc)
-read_fault_only task r Starved is_task run is = apart task r Starved statuses.ReadFault run is (λ e. cc)
-read_fault_only task r (ReportCut reply) is_task run is = apart task r (ReportCut reply) statuses.ReadFault run is (λ e. cc)
+read_fault_only task r Truncated is_task run is = apart task r Truncated statuses.ReadFault run is (λ e. cc)
+read_fault_only task r OutOfMemoryMidway is_task run is = apart task r OutOfMemoryMidway statuses.ReadFault run is (λ e. cc)
+read_fault_only task r (ReportTruncated reply) is_task run is = apart task r (ReportTruncated reply) statuses.ReadFault run is (λ e. cc)
 read_fault_only task r (NoAnswer refusal) is_task run is = no_refusal task r refusal statuses.ReadFault is_task run is (λ e. cc) (λ e. cc) (λ e. cc) (λ e. cc)
 
 -- a refusal with the status of memory is the one for running out of memory
-memory_refused : (task : Task) (r : Run) (refusal : Refusal) → IsTask task → IsRun task r (NoAnswer refusal) → r.status ≡ statuses.Memory → TellsError r memory_refusal
+memory_refused : (task : Task) (r : Run) (refusal : Refusal) → IsTask task → IsRun task r (NoAnswer refusal) → r.status ≡ statuses.Memory → ReportsError r memory_refusal
 memory_refused task r refusal is_task run is =
     let refuses : Refuses task run.bytes refusal = run.judged.1 in
-    let told : Refusal = task.refusal refuses.fault in
-    let here : TellsError r told = subst (λ (x : Refusal). TellsError r x) refuses.is (tells_error task r refusal run) in
-    let has : told.status ≡ statuses.Memory = sym here.status_is ∙ is in
-    let apart_from : IsRefusalStatus told.status → ⊥ = λ status. ⊎_elim (λ (e : told.status ≡ statuses.Malformed). other (sym e ∙ has) (λ x. cc)) (λ rest. ⊎_elim (λ (e : told.status ≡ statuses.Limit). other (sym e ∙ has) (λ x. cc)) (λ (e : told.status ≡ statuses.Refused). other (sym e ∙ has) (λ x. cc)) rest) status in
+    let reported : Refusal = task.refusal refuses.fault in
+    let here : ReportsError r reported = subst (λ (x : Refusal). ReportsError r x) refuses.is (reports_error task r refusal run) in
+    let has : reported.status ≡ statuses.Memory = sym here.status_is ∙ is in
+    let apart_from : IsRefusalStatus reported.status → ⊥ =
+    λ status. ⊎_elim (λ (e : reported.status ≡ statuses.Malformed). other (sym e ∙ has) (λ x. cc)) (λ rest.
+    ⊎_elim (λ (e : reported.status ≡ statuses.Limit). other (sym e ∙ has) (λ x. cc))
+    (λ (e : reported.status ≡ statuses.Refused). other (sym e ∙ has) (λ x. cc)) rest) status in
     ⊎_elim
-    (λ (status : IsRefusalStatus told.status). absurd (apart_from status))
-    (λ (same : told ≡ memory_refusal). subst (λ (x : Refusal). TellsError r x) same here)
+    (λ (status : IsRefusalStatus reported.status). absurd (apart_from status))
+    (λ (same : reported ≡ memory_refusal). subst (λ (x : Refusal). ReportsError r x) same here)
     (is_task.refusals run.bytes refuses.fault refuses.meets)
   where
     other : {s t : Status} → s ≡ t → (s ≡ t → ⊥) → ⊥
     other is isnt = isnt is
 
-memory_only : (task : Task) (r : Run) (o : Outcome) → IsTask task → IsRun task r o → r.status ≡ statuses.Memory → TellsError r memory_refusal ⊎ OfInput task r (ReplyStarved task r)
+memory_only : (task : Task) (r : Run) (o : Outcome) → IsTask task → IsRun task r o → r.status ≡ statuses.Memory → ReportsError r memory_refusal ⊎ OfInput task r (ReplyOutOfMemory task r)
 memory_only task r ReadFault is_task run is = apart task r ReadFault statuses.Memory run is (λ e. cc)
 memory_only task r TooLong is_task run is = apart task r TooLong statuses.Memory run is (λ e. cc)
-memory_only task r Memory is_task run is = inl (memory_told task r run)
+memory_only task r Memory is_task run is = inl (memory_reported task r run)
 memory_only task r (Answered reply) is_task run is = no_reply task r reply statuses.Memory is_task run is (λ e. cc) (λ e. cc) (λ e. cc)
-memory_only task r CutShort is_task run is = apart task r CutShort statuses.Memory run is (λ e. cc)
-memory_only task r Starved is_task run is = inr (starved task r run)
-memory_only task r (ReportCut reply) is_task run is = apart task r (ReportCut reply) statuses.Memory run is (λ e. cc)
+memory_only task r Truncated is_task run is = apart task r Truncated statuses.Memory run is (λ e. cc)
+memory_only task r OutOfMemoryMidway is_task run is = inr (out_of_memory task r run)
+memory_only task r (ReportTruncated reply) is_task run is = apart task r (ReportTruncated reply) statuses.Memory run is (λ e. cc)
 memory_only task r (NoAnswer refusal) is_task run is = inl (memory_refused task r refusal is_task run is)
 
 -- no command ends with the status of a usage error
@@ -347,15 +390,15 @@ not_usage task r ReadFault is_task run is = apart task r ReadFault statuses.Usag
 not_usage task r TooLong is_task run is = apart task r TooLong statuses.Usage run is (λ e. cc)
 not_usage task r Memory is_task run is = apart task r Memory statuses.Usage run is (λ e. cc)
 not_usage task r (Answered reply) is_task run is = no_reply task r reply statuses.Usage is_task run is (λ e. cc) (λ e. cc) (λ e. cc)
-not_usage task r CutShort is_task run is = apart task r CutShort statuses.Usage run is (λ e. cc)
-not_usage task r Starved is_task run is = apart task r Starved statuses.Usage run is (λ e. cc)
-not_usage task r (ReportCut reply) is_task run is = apart task r (ReportCut reply) statuses.Usage run is (λ e. cc)
+not_usage task r Truncated is_task run is = apart task r Truncated statuses.Usage run is (λ e. cc)
+not_usage task r OutOfMemoryMidway is_task run is = apart task r OutOfMemoryMidway statuses.Usage run is (λ e. cc)
+not_usage task r (ReportTruncated reply) is_task run is = apart task r (ReportTruncated reply) statuses.Usage run is (λ e. cc)
 not_usage task r (NoAnswer refusal) is_task run is = no_refusal task r refusal statuses.Usage is_task run is (λ e. cc) (λ e. cc) (λ e. cc) (λ e. cc)
 
 -- ---- the source
 
 -- if the source isn't read, it has no failed call
-no_fault : (reads : Option ℕ) (old new : Side) → reads ≡ None → SourceAfter reads old new ReadFault → ⊥
+no_fault : (reads : Option ℕ) (old new : PortState) → reads ≡ None → SourceAfter reads old new ReadFault → ⊥
 no_fault None old new none after = after
 no_fault (Some most) old new none after = absurd cc
 
@@ -364,30 +407,36 @@ never_read task r ReadFault is_task run reads is = no_fault task.reads r.source 
 never_read task r TooLong is_task run reads is = apart task r TooLong statuses.ReadFault run is (λ e. cc)
 never_read task r Memory is_task run reads is = apart task r Memory statuses.ReadFault run is (λ e. cc)
 never_read task r (Answered reply) is_task run reads is = no_reply task r reply statuses.ReadFault is_task run is (λ e. cc) (λ e. cc) (λ e. cc)
-never_read task r CutShort is_task run reads is = apart task r CutShort statuses.ReadFault run is (λ e. cc)
-never_read task r Starved is_task run reads is = apart task r Starved statuses.ReadFault run is (λ e. cc)
-never_read task r (ReportCut reply) is_task run reads is = apart task r (ReportCut reply) statuses.ReadFault run is (λ e. cc)
+never_read task r Truncated is_task run reads is = apart task r Truncated statuses.ReadFault run is (λ e. cc)
+never_read task r OutOfMemoryMidway is_task run reads is = apart task r OutOfMemoryMidway statuses.ReadFault run is (λ e. cc)
+never_read task r (ReportTruncated reply) is_task run reads is = apart task r (ReportTruncated reply) statuses.ReadFault run is (λ e. cc)
 never_read task r (NoAnswer refusal) is_task run reads is = no_refusal task r refusal statuses.ReadFault is_task run is (λ e. cc) (λ e. cc) (λ e. cc) (λ e. cc)
 
 -- ---- the output
 
-not_done : {A : Type 0} (task : Task) (r : Run) (reply : Reply) → IsTask task → IsRun task r (Answered reply) → r.status ≢ statuses.Done → r.status ≢ statuses.Undecided → r.status ≢ statuses.Refused → A
+not_done : {A : Type 0} (task : Task) (r : Run) (reply : Reply) → IsTask task → IsRun task r (Answered reply) →
+    r.status ≢ statuses.Done → r.status ≢ statuses.Undecided → r.status ≢ statuses.Refused → A
 not_done task r reply is_task run a b c =
-    let tells : Tells task run.bytes reply = run.judged.1 in
-    let has : r.status ≡ (task.reply tells.answer).status = run.status_is ∙ ap (λ (x : Reply). x.status) tells.is in
-    absurd (⊎_elim (λ (e : (task.reply tells.answer).status ≡ statuses.Done). a (has ∙ e)) (λ rest. ⊎_elim (λ (e : (task.reply tells.answer).status ≡ statuses.Undecided). b (has ∙ e)) (λ (e : (task.reply tells.answer).status ≡ statuses.Refused). c (has ∙ e)) rest) (is_task.replies tells.answer))
+    let replied : HasReply task run.bytes reply = run.judged.1 in
+    let has : r.status ≡ (task.reply replied.answer).status = run.status_is ∙ ap (λ (x : Reply). x.status) replied.is in
+    absurd (⊎_elim (λ (e : (task.reply replied.answer).status ≡ statuses.Done). a (has ∙ e)) (λ rest.
+    ⊎_elim (λ (e : (task.reply replied.answer).status ≡ statuses.Undecided). b (has ∙ e))
+    (λ (e : (task.reply replied.answer).status ≡ statuses.Refused). c (has ∙ e)) rest)
+    (is_task.replies replied.answer))
 
 both : {A : Type 0} (b : Bool) → b ≡ true → b ≡ false → A
 both b is isnt = absurd cc
 
-unchanged : (task : Task) (r : Run) (o : Outcome) → IsTask task → IsRun task r o → r.status ≢ statuses.Done → r.status ≢ statuses.Undecided → r.status ≢ statuses.Refused → r.status ≢ statuses.WriteFault → (r.status ≡ statuses.Memory → task.in_pieces ≡ false) → r.out' ≡ r.out
+unchanged : (task : Task) (r : Run) (o : Outcome) → IsTask task → IsRun task r o → r.status ≢ statuses.Done →
+    r.status ≢ statuses.Undecided → r.status ≢ statuses.Refused → r.status ≢ statuses.WriteFault →
+    (r.status ≡ statuses.Memory → task.in_pieces ≡ false) → r.out' ≡ r.out
 unchanged task r ReadFault is_task run a b c d whole = run.on_out
 unchanged task r TooLong is_task run a b c d whole = run.on_out
 unchanged task r Memory is_task run a b c d whole = run.on_out
 unchanged task r (Answered reply) is_task run a b c d whole = not_done task r reply is_task run a b c
-unchanged task r CutShort is_task run a b c d whole = absurd (d run.status_is)
-unchanged task r Starved is_task run a b c d whole = both task.in_pieces run.judged.1 (whole run.status_is)
-unchanged task r (ReportCut reply) is_task run a b c d whole = absurd (d run.status_is)
+unchanged task r Truncated is_task run a b c d whole = absurd (d run.status_is)
+unchanged task r OutOfMemoryMidway is_task run a b c d whole = both task.in_pieces run.judged.1 (whole run.status_is)
+unchanged task r (ReportTruncated reply) is_task run a b c d whole = absurd (d run.status_is)
 unchanged task r (NoAnswer refusal) is_task run a b c d whole = run.on_out
 
 -- ---- the promise
@@ -395,10 +444,10 @@ unchanged task r (NoAnswer refusal) is_task run a b c d whole = run.on_out
 -- A run with an outcome keeps the whole promise.
 pub promised : (task : Task) (r : Run) (o : Outcome) → IsTask task → IsRun task r o → CommandPromise task r
 promised task r o is_task run = record {
-  complete = λ input told may steady. complete task r o input run told may steady;
-  answered = λ input told may held. answered task r o input run told may held;
-  refused = λ input fault told meets held. refused task r o input fault is_task run told meets held;
-  too_long = λ input told long held. too_long_told task r o input is_task run told long held;
+  complete = λ input reported may steady. complete task r o input run reported may steady;
+  answered = λ input reported may held. answered task r o input run reported may held;
+  refused = λ input fault reported meets held. refused task r o input fault is_task run reported meets held;
+  too_long = λ input reported long held. too_long_reported task r o input is_task run reported long held;
   done_only = λ is. done_only task r o is_task run is;
   undecided_only = λ is. undecided_only task r o is_task run is;
   refused_only = λ is. refused_only task r o is_task run is;
@@ -412,8 +461,8 @@ promised task r o is_task run = record {
   write_failed = λ more. write_failed task r o run more;
   memory_only = λ is. memory_only task r o is_task run is;
   unchanged = λ a b c d whole. unchanged task r o is_task run a b c d whole;
-  read_to_end = λ most input reads told a b c. read_to_end task r o most input run reads told a b c;
-  unread = λ most input reads told left. unread task r o most input run reads told left;
+  read_to_end = λ most input reads reported a b c. read_to_end task r o most input run reads reported a b c;
+  unread = λ most input reads reported left. unread task r o most input run reads reported left;
   untouched = λ reads. untouched task r o run reads;
   never_read = λ reads is. never_read task r o is_task run reads is;
 }

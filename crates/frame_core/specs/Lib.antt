@@ -12,5 +12,5 @@ pub mod Statuses
 pub mod Streaming
 pub mod Task
 pub mod TaskLaws
-pub mod Told
+pub mod Reported
 pub mod Views

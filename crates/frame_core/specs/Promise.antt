@@ -3,15 +3,15 @@ use Rattle.std.specs.Prelude.{◌≡◌, ◌≢◌, ℕ, ◌<◌, ◌≤◌, ◌
 use Rattle.port_io.specs.Bytes.{Appends}
 use Rattle.port_io.specs.Faults.{Rose}
 use Rattle.frame_core.specs.declared.status.Status.TheVariants.{Done, Malformed, Limit, Undecided, ReadFault, WriteFault, Memory, Refused}
-use Rattle.frame_core.specs.Outside.{Side, IsQuiet, Writes}
-use Rattle.frame_core.specs.Told.{Reply, Refusal, error_line, write_fault, memory, too_long_refusal, read_fault_refusal, memory_refusal}
-use Rattle.frame_core.specs.Task.{Task, MayStand, HasNoReport, IsBeyond, IsAnswerable}
-use Rattle.frame_core.specs.Run.{Run, IsInput, HasInput, Reports, ReportsFront}
+use Rattle.frame_core.specs.Outside.{PortState, IsFaultless, Writes}
+use Rattle.frame_core.specs.Reported.{Reply, Refusal, error_line, write_fault, memory, too_long_refusal, read_fault_refusal, memory_refusal}
+use Rattle.frame_core.specs.Task.{Task, MayBeLeft, HasNoReport, IsBeyond, IsAnswerable}
+use Rattle.frame_core.specs.Run.{Run, IsInput, HasInput, Reports, ReportsPrefix}
 
 -- ---- what didn't fail
 
 -- No call on it failed.
-abbrev pub IsSteady : Side → Side → Type 0
+abbrev pub IsSteady : PortState → PortState → Type 0
 IsSteady old new = Rose old.faults new.faults → ⊥
 
 -- No call of the source failed, and memory didn't run out.
@@ -36,11 +36,11 @@ pub record Stands (r : Run) (reply : Reply) : Type 0 where
   pub status_is : r.status ≡ reply.status
   pub on_out : Appends r.out.bytes r.out'.bytes reply.text
   pub on_note : Reports r.note r.note' reply.report
-  pub out_quiet : IsQuiet r.out r.out'
-  pub note_quiet : IsQuiet r.note r.note'
+  pub out_faultless : IsFaultless r.out r.out'
+  pub note_faultless : IsFaultless r.note r.note'
 
 -- The output is as before, and the error is reported.
-pub record TellsError (r : Run) (refusal : Refusal) : Type 0 where
+pub record ReportsError (r : Run) (refusal : Refusal) : Type 0 where
   pub status_is : r.status ≡ refusal.status
   pub on_out : r.out' ≡ r.out
   pub on_note : Writes r.note r.note' (error_line refusal.named)
@@ -55,38 +55,38 @@ pub record Replies (task : Task) (r : Run) (input : List ℕ) : Type 0 where
 pub record Faults (task : Task) (r : Run) (input : List ℕ) : Type 0 where
   pub fault : task.Fault
   pub meets : task.Meets input fault
-  pub told : TellsError r (task.refusal fault)
+  pub reported : ReportsError r (task.refusal fault)
 
 -- The output failed while the text of an answer was written: a prefix of it is there, and the failure is reported.
-pub record ReplyCut (task : Task) (r : Run) (input : List ℕ) : Type 0 where
-  pub front : List ℕ
-  pub leaves : MayStand task input front
-  pub on_out : Appends r.out.bytes r.out'.bytes front
+pub record ReplyTruncated (task : Task) (r : Run) (input : List ℕ) : Type 0 where
+  pub prefix : List ℕ
+  pub leaves : MayBeLeft task input prefix
+  pub on_out : Appends r.out.bytes r.out'.bytes prefix
   pub rose : Rose r.out.faults r.out'.faults
   pub on_note : Writes r.note r.note' (error_line write_fault)
 
 -- The notes failed while the report of an answer was written: its whole text is on the output, a prefix of the
 -- report is on the notes, and then the failure is reported.
-pub record ReportCut (task : Task) (r : Run) (input : List ℕ) : Type 0 where
+pub record ReportTruncated (task : Task) (r : Run) (input : List ℕ) : Type 0 where
   pub answer : task.Answer
   pub has : task.Has input answer
   pub status_is : r.status ≡ WriteFault
   pub on_out : Appends r.out.bytes r.out'.bytes (task.reply answer).text
-  pub out_quiet : IsQuiet r.out r.out'
+  pub out_faultless : IsFaultless r.out r.out'
   pub rose : Rose r.note.faults r.note'.faults
-  pub between : Side
-  pub front : ReportsFront r.note between (task.reply answer).report
+  pub between : PortState
+  pub prefix : ReportsPrefix r.note between (task.reply answer).report
   pub line : Writes between r.note' (error_line write_fault)
   pub first : r.note.faults ≤ between.faults
   pub then : between.faults ≤ r.note'.faults
 
 -- Memory ran out while the text of an answer was written in pieces: a prefix of it is there, and this is reported.
-pub record ReplyStarved (task : Task) (r : Run) (input : List ℕ) : Type 0 where
+pub record ReplyOutOfMemory (task : Task) (r : Run) (input : List ℕ) : Type 0 where
   pub in_pieces : task.in_pieces ≡ true
-  pub front : List ℕ
-  pub leaves : MayStand task input front
-  pub on_out : Appends r.out.bytes r.out'.bytes front
-  pub out_quiet : IsQuiet r.out r.out'
+  pub prefix : List ℕ
+  pub leaves : MayBeLeft task input prefix
+  pub on_out : Appends r.out.bytes r.out'.bytes prefix
+  pub out_faultless : IsFaultless r.out r.out'
   pub on_note : Writes r.note r.note' (error_line memory)
 
 -- `Holds` holds for the bytes that the command judged: all bytes of the source, if they are known.
@@ -98,7 +98,7 @@ pub record OfInput (task : Task) (r : Run) (Holds : List ℕ → Type 0) : Type 
 -- The input is longer than the command reads, and this is reported.
 pub record IsTooLong (task : Task) (r : Run) : Type 0 where
   pub beyond : (input : List ℕ) → HasInput task.reads r.source.bytes input → IsBeyond task.reads input
-  pub told : TellsError r too_long_refusal
+  pub reported : ReportsError r too_long_refusal
 
 -- ---- the promise
 
@@ -115,28 +115,28 @@ pub record CommandPromise (task : Task) (r : Run) : Type 0 where
       → HasInput task.reads r.source.bytes input
       → IsAnswerable task input
       → OutputHeld r
-      → Replies task r input ⊎ ReportCut task r input
+      → Replies task r input ⊎ ReportTruncated task r input
   -- The fault of an input is reported, and so is an input that is too long.
   pub refused : (input : List ℕ) (fault : task.Fault)
       → HasInput task.reads r.source.bytes input
       → task.Meets input fault
       → InputHeld r
-      → TellsError r (task.refusal fault)
+      → ReportsError r (task.refusal fault)
   pub too_long : (input : List ℕ)
       → HasInput task.reads r.source.bytes input
       → IsBeyond task.reads input
       → InputHeld r
-      → TellsError r too_long_refusal
+      → ReportsError r too_long_refusal
   -- Each status has its own cause.
   pub done_only : r.status ≡ Done → OfInput task r (Replies task r)
   pub undecided_only : r.status ≡ Undecided → OfInput task r (Replies task r)
   pub refused_only : r.status ≡ Refused → OfInput task r (λ input. Replies task r input ⊎ Faults task r input)
   pub malformed_only : r.status ≡ Malformed → OfInput task r (Faults task r)
   pub limit_only : r.status ≡ Limit → OfInput task r (Faults task r) ⊎ IsTooLong task r
-  pub read_fault_only : r.status ≡ ReadFault → Rose r.source.faults r.source'.faults × TellsError r read_fault_refusal
-  pub write_fault_only : r.status ≡ WriteFault → OfInput task r (λ input. ReplyCut task r input ⊎ ReportCut task r input)
+  pub read_fault_only : r.status ≡ ReadFault → Rose r.source.faults r.source'.faults × ReportsError r read_fault_refusal
+  pub write_fault_only : r.status ≡ WriteFault → OfInput task r (λ input. ReplyTruncated task r input ⊎ ReportTruncated task r input)
   pub write_rose : r.status ≡ WriteFault → Rose r.out.faults r.out'.faults ⊎ Rose r.note.faults r.note'.faults
-  pub memory_only : r.status ≡ Memory → TellsError r memory_refusal ⊎ OfInput task r (ReplyStarved task r)
+  pub memory_only : r.status ≡ Memory → ReportsError r memory_refusal ⊎ OfInput task r (ReplyOutOfMemory task r)
   -- If a call of the source or of the output failed, that is reported and nothing else. A call of the notes that
   -- fails in a report is reported too, since the reply isn't whole without its report.
   pub read_failed : r.source.faults < r.source'.faults → r.status ≡ ReadFault

@@ -2,7 +2,7 @@
 use Rattle.std.specs.Prelude.{◌≡◌, ℕ, ◌<◌, ◌≤◌, ◌⊎◌, ◌++◌, Bool, true, false, List, [], length, Option, Some, None}
 use Rattle.frame_core.specs.declared.status.Status.{Status}
 use Rattle.frame_core.specs.declared.status.Status.TheVariants.{Done, Malformed, Limit, Undecided, Refused}
-use Rattle.frame_core.specs.Told.{Reply, Refusal, memory_refusal}
+use Rattle.frame_core.specs.Reported.{Reply, Refusal, memory_refusal}
 
 pub record Task : Type 1 where
   -- the most bytes that it reads; None if it never calls its source
@@ -22,25 +22,25 @@ pub record Task : Type 1 where
   pub Begins : List ℕ → List ℕ → Type 0
 
 -- The first list is a prefix of `text`.
-pub record IsFront (front text : List ℕ) : Type 0 where
+pub record IsPrefix (prefix text : List ℕ) : Type 0 where
   pub rest : List ℕ
-  pub is : text ≡ front ++ rest
+  pub is : text ≡ prefix ++ rest
 
 -- It is a prefix of the text of an answer that the input has.
-pub record IsAnswerFront (task : Task) (bytes front : List ℕ) : Type 0 where
+pub record IsAnswerPrefix (task : Task) (bytes prefix : List ℕ) : Type 0 where
   pub answer : task.Answer
   pub has : task.Has bytes answer
-  pub is_front : IsFront front (task.reply answer).text
+  pub is_prefix : IsPrefix prefix (task.reply answer).text
 
 -- It is a prefix of a text that may be written before the answer is known.
-pub record IsBegunFront (task : Task) (bytes front : List ℕ) : Type 0 where
+pub record IsBegunPrefix (task : Task) (bytes prefix : List ℕ) : Type 0 where
   pub text : List ℕ
   pub begins : task.Begins bytes text
-  pub is_front : IsFront front text
+  pub is_prefix : IsPrefix prefix text
 
 -- The truncated texts that are allowed on the output.
-abbrev pub MayStand : Task → List ℕ → List ℕ → Type 0
-MayStand task bytes front = IsAnswerFront task bytes front ⊎ IsBegunFront task bytes front
+abbrev pub MayBeLeft : Task → List ℕ → List ℕ → Type 0
+MayBeLeft task bytes prefix = IsAnswerPrefix task bytes prefix ⊎ IsBegunPrefix task bytes prefix
 
 -- no text is written before the answer is known
 abbrev pub begins_none : List ℕ → List ℕ → Type 0
@@ -61,7 +61,8 @@ at_once most Answer Has reply Fault Meets refusal = record {
 }
 
 -- A command whose text is written in pieces, maybe some before its answer is known.
-abbrev pub in_pieces : Option ℕ → (Answer : Type 0) → (List ℕ → Answer → Type 0) → (Answer → Reply) → (Fault : Type 0) → (List ℕ → Fault → Type 0) → (Fault → Refusal) → (List ℕ → List ℕ → Type 0) → Task
+abbrev pub in_pieces : Option ℕ → (Answer : Type 0) → (List ℕ → Answer → Type 0) → (Answer → Reply) →
+    (Fault : Type 0) → (List ℕ → Fault → Type 0) → (Fault → Refusal) → (List ℕ → List ℕ → Type 0) → Task
 in_pieces reads Answer Has reply Fault Meets refusal Begins = record {
   reads = reads;
   Answer = Answer;
@@ -89,7 +90,7 @@ from_nothing Answer Is reply = record {
 }
 
 -- The input has an answer whose reply is this one.
-pub record Tells (task : Task) (bytes : List ℕ) (reply : Reply) : Type 0 where
+pub record HasReply (task : Task) (bytes : List ℕ) (reply : Reply) : Type 0 where
   pub answer : task.Answer
   pub has : task.Has bytes answer
   pub is : reply ≡ task.reply answer

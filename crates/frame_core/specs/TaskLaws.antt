@@ -1,7 +1,7 @@
 -- Lemmas that tasks are well formed.
 use Rattle.std.specs.Prelude.{◌≡◌, ℕ, ◌<◌, ◌≤◌, ◌⊎◌, List, length, Option}
 use Rattle.std.proofs.Common.{arith}
-use Rattle.frame_core.specs.Told.{Reply, Refusal, memory_refusal}
+use Rattle.frame_core.specs.Reported.{Reply, Refusal, memory_refusal}
 use Rattle.frame_core.specs.Task.{at_once, in_pieces, from_nothing, IsBeyond, IsAnswerStatus, IsRefusalStatus, IsTask}
 
 not_beyond : (most : ℕ) (bytes : List ℕ) → length bytes ≤ most → most < length bytes → ⊥
@@ -28,7 +28,9 @@ at_once_task most Answer Has reply Fault Meets refusal replies refusals apart on
 }
 
 -- a task whose text is written in pieces
-pub in_pieces_task : (reads : Option ℕ) (Answer : Type 0) (Has : List ℕ → Answer → Type 0) (reply : Answer → Reply) (Fault : Type 0) (Meets : List ℕ → Fault → Type 0) (refusal : Fault → Refusal) (Begins : List ℕ → List ℕ → Type 0)
+pub in_pieces_task : (reads : Option ℕ) (Answer : Type 0) (Has : List ℕ → Answer → Type 0) (reply : Answer →
+    Reply) (Fault : Type 0) (Meets : List ℕ → Fault → Type 0) (refusal : Fault → Refusal) (Begins : List ℕ → List ℕ →
+    Type 0)
     → ((answer : Answer) → IsAnswerStatus (reply answer).status)
     → ((bytes : List ℕ) (fault : Fault) → Meets bytes fault → IsRefusalStatus (refusal fault).status ⊎ (refusal fault ≡ memory_refusal))
     → ((bytes : List ℕ) (answer : Answer) (fault : Fault) → Has bytes answer → Meets bytes fault → ⊥)

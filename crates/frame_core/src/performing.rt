@@ -6,7 +6,7 @@ ghost use Rattle.frame_core.specs.Performing.{Answers, Performs};
 ghost use Rattle.frame_core.specs.Performed.{IsPerformed};
 
 use crate::replies::Ended;
-use crate::reporting::tell;
+use crate::reporting::report_end;
 use crate::status::Status;
 use crate::streaming::{Collecting, StreamJob, read_pieces};
 use port_io::{ReadError, Sink, Source};
@@ -84,7 +84,7 @@ pub fn perform_stream<J: StreamJob, S: Source, O: Sink, N: Sink>(
         result }
 {
     let ended = attempt(alloc, job, source, out, note);
-    tell(note, &ended);
+    report_end(note, &ended);
     ended.status()
 }
 

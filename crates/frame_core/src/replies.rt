@@ -1,6 +1,6 @@
 //! Replies and refusals of commands, and how a run ended.
 ghost use Rattle.std.specs.Prelude.{◌≡◌, ◌++◌, ◌∷◌, []};
-ghost use Rattle.frame_core.specs.Told.{Word, plain as plain_of, at as at_of};
+ghost use Rattle.frame_core.specs.Reported.{Word, plain as plain_of, at as at_of};
 ghost use Rattle.frame_core.specs.Views.{shown, line_value, report_text, status_in};
 
 use crate::status::Status;
@@ -65,7 +65,7 @@ impl ErrorLine {
 
     /// A variant with at most three fields, after the word `lead` unless that is `Nothing`.
     #[tactic(auto, unfolding(crate::specs::Views::shown), using(crate::proofs::Leads::leading))]
-    pub fn behind(
+    pub fn following(
         lead: Field,
         name: &'static [u8],
         first: Field,
@@ -93,7 +93,7 @@ pub struct Report {
 
 impl Report {
     /// A report of one part. It allocates nothing.
-    #[tactic(auto, unfolding(crate::specs::Told::joined))]
+    #[tactic(auto, unfolding(crate::specs::Reported::joined))]
     pub fn whole(text: Vec<u8>) -> Report
         ensures { report_text result ≡ text.items }
     {
@@ -147,11 +147,11 @@ pub enum Ended {
     /// A reply with this status was written whole.
     Answered(Status),
     /// The output failed while the reply's text was written: the text is truncated.
-    CutShort,
+    Truncated,
     /// Out of memory while the reply's text was written in pieces: the text is truncated.
-    Starved,
+    OutOfMemoryMidway,
     /// The notes failed while the reply's report was written: the report is truncated.
-    ReportCut,
+    ReportTruncated,
     /// The input has no answer.
     NoAnswer(Refusal),
 }
@@ -164,9 +164,9 @@ impl Ended {
         match self {
             Ended::ReadFault => Status::ReadFault,
             Ended::TooLong => Status::Limit,
-            Ended::Memory | Ended::Starved => Status::Memory,
+            Ended::Memory | Ended::OutOfMemoryMidway => Status::Memory,
             Ended::Answered(status) => *status,
-            Ended::CutShort | Ended::ReportCut => Status::WriteFault,
+            Ended::Truncated | Ended::ReportTruncated => Status::WriteFault,
             Ended::NoAnswer(refusal) => refusal.status,
         }
     }

@@ -1,9 +1,9 @@
 //! The texts of the notes: a report, and the error line.
 ghost use Rattle.std.specs.Prelude.{◌≡◌, ◌≤◌, ◌++◌, OnOk, OnErr};
-ghost use Rattle.port_io.specs.Bytes.{Appends, AppendsFront};
+ghost use Rattle.port_io.specs.Bytes.{Appends, AppendsPrefix};
 ghost use Rattle.port_io.specs.Faults.{Rose};
-ghost use Rattle.frame_core.specs.Told.{joined, error_line};
-ghost use Rattle.frame_core.specs.Outside.{side, Writes};
+ghost use Rattle.frame_core.specs.Reported.{joined, error_line};
+ghost use Rattle.frame_core.specs.Outside.{port_state, Writes};
 ghost use Rattle.frame_core.specs.Run.{LineAfter};
 ghost use Rattle.frame_core.specs.Views.{part_text, parts_text, texts_of, report_text, line_value, line_in};
 
@@ -15,7 +15,7 @@ use port_io::{Sink, WriteFault, write_all};
 #[tactic(auto, using(port_io::specs::TextLaws::texts, port_io::specs::CountLaws::counts))]
 fn write_two<N: Sink>(note: &mut N, first: &[u8], second: &[u8]) -> Result<(), WriteFault>
     ensures all { OnOk result (Appends (N.written note.old) (N.written note.new) (first.now ++ second.now)) }
-    ensures front { AppendsFront (N.written note.old) (N.written note.new) (first.now ++ second.now) }
+    ensures prefix { AppendsPrefix (N.written note.old) (N.written note.new) (first.now ++ second.now) }
     ensures only_if_rose { OnErr result (Rose (N.faults note.old) (N.faults note.new)) }
     ensures never_falls { N.faults note.old ≤ N.faults note.new }
 {
@@ -26,7 +26,7 @@ fn write_two<N: Sink>(note: &mut N, first: &[u8], second: &[u8]) -> Result<(), W
 /// Writes a blank and a field; nothing for `Nothing`.
 fn write_field<N: Sink>(note: &mut N, field: &Field) -> Result<(), WriteFault>
     ensures all { OnOk result (Appends (N.written note.old) (N.written note.new) (part_text field.now)) }
-    ensures front { AppendsFront (N.written note.old) (N.written note.new) (part_text field.now) }
+    ensures prefix { AppendsPrefix (N.written note.old) (N.written note.new) (part_text field.now) }
     ensures only_if_rose { OnErr result (Rose (N.faults note.old) (N.faults note.new)) }
     ensures never_falls { N.faults note.old ≤ N.faults note.new }
 {
@@ -45,7 +45,7 @@ fn write_field<N: Sink>(note: &mut N, field: &Field) -> Result<(), WriteFault>
 #[tactic(auto, unfolding(crate::specs::Views::parts_text), using(port_io::specs::TextLaws::texts, port_io::specs::CountLaws::counts))]
 fn write_fields<N: Sink>(note: &mut N, fields: &[Field]) -> Result<(), WriteFault>
     ensures all { OnOk result (Appends (N.written note.old) (N.written note.new) (parts_text fields.now)) }
-    ensures front { AppendsFront (N.written note.old) (N.written note.new) (parts_text fields.now) }
+    ensures prefix { AppendsPrefix (N.written note.old) (N.written note.new) (parts_text fields.now) }
     ensures only_if_rose { OnErr result (Rose (N.faults note.old) (N.faults note.new)) }
     ensures never_falls { N.faults note.old ≤ N.faults note.new }
 {
@@ -60,7 +60,7 @@ fn write_fields<N: Sink>(note: &mut N, fields: &[Field]) -> Result<(), WriteFaul
 #[tactic(auto, using(port_io::specs::TextLaws::texts, port_io::specs::CountLaws::counts))]
 fn write_ended<N: Sink>(note: &mut N, fields: &[Field], end: &[u8]) -> Result<(), WriteFault>
     ensures all { OnOk result (Appends (N.written note.old) (N.written note.new) (parts_text fields.now ++ end.now)) }
-    ensures front { AppendsFront (N.written note.old) (N.written note.new) (parts_text fields.now ++ end.now) }
+    ensures prefix { AppendsPrefix (N.written note.old) (N.written note.new) (parts_text fields.now ++ end.now) }
     ensures only_if_rose { OnErr result (Rose (N.faults note.old) (N.faults note.new)) }
     ensures never_falls { N.faults note.old ≤ N.faults note.new }
 {
@@ -76,8 +76,10 @@ fn write_line<N: Sink>(
     fields: &[Field],
     end: &[u8],
 ) -> Result<(), WriteFault>
-    ensures all { OnOk result (Appends (N.written note.old) (N.written note.new) (start.now ++ (parts_text fields.now ++ end.now))) }
-    ensures front { AppendsFront (N.written note.old) (N.written note.new) (start.now ++ (parts_text fields.now ++ end.now)) }
+    ensures all { OnOk result (Appends (N.written note.old) (N.written note.new) (start.now ++
+        (parts_text fields.now ++ end.now))) }
+    ensures prefix { AppendsPrefix (N.written note.old) (N.written note.new) (start.now ++
+        (parts_text fields.now ++ end.now)) }
     ensures only_if_rose { OnErr result (Rose (N.faults note.old) (N.faults note.new)) }
     ensures never_falls { N.faults note.old ≤ N.faults note.new }
 {
@@ -89,8 +91,8 @@ fn write_line<N: Sink>(
 #[tactic(auto, using(crate::specs::PiecesLaws::texts_left))]
 fn write_parts<N: Sink>(note: &mut N, parts: &[Vec<u8>]) -> Result<(), WriteFault>
     ensures all { OnOk result (Appends (N.written note.old) (N.written note.new) (joined (texts_of parts.now))) }
-    ensures front { AppendsFront (N.written note.old) (N.written note.new) (joined (texts_of parts.now)) }
-    ensures quiet { OnOk result (N.faults note.new ≡ N.faults note.old) }
+    ensures prefix { AppendsPrefix (N.written note.old) (N.written note.new) (joined (texts_of parts.now)) }
+    ensures faultless { OnOk result (N.faults note.new ≡ N.faults note.old) }
     ensures only_if_rose { OnErr result (Rose (N.faults note.old) (N.faults note.new)) }
     ensures never_falls { N.faults note.old ≤ N.faults note.new }
 {
@@ -105,9 +107,10 @@ fn write_parts<N: Sink>(note: &mut N, parts: &[Vec<u8>]) -> Result<(), WriteFaul
 /// Writes texts, and a last one after them.
 #[tactic(auto, using(port_io::specs::TextLaws::texts, port_io::specs::CountLaws::counts))]
 fn write_to_last<N: Sink>(note: &mut N, parts: &[Vec<u8>], last: &[u8]) -> Result<(), WriteFault>
-    ensures all { OnOk result (Appends (N.written note.old) (N.written note.new) (joined (texts_of parts.now) ++ last.now)) }
-    ensures front { AppendsFront (N.written note.old) (N.written note.new) (joined (texts_of parts.now) ++ last.now) }
-    ensures quiet { OnOk result (N.faults note.new ≡ N.faults note.old) }
+    ensures all { OnOk result (Appends (N.written note.old) (N.written note.new) (joined (texts_of parts.now) ++
+        last.now)) }
+    ensures prefix { AppendsPrefix (N.written note.old) (N.written note.new) (joined (texts_of parts.now) ++ last.now) }
+    ensures faultless { OnOk result (N.faults note.new ≡ N.faults note.old) }
     ensures only_if_rose { OnErr result (Rose (N.faults note.old) (N.faults note.new)) }
     ensures never_falls { N.faults note.old ≤ N.faults note.new }
 {
@@ -119,8 +122,8 @@ fn write_to_last<N: Sink>(note: &mut N, parts: &[Vec<u8>], last: &[u8]) -> Resul
 #[tactic(auto, using(port_io::specs::TextLaws::texts, port_io::specs::CountLaws::counts))]
 pub(crate) fn write_report<N: Sink>(note: &mut N, report: &Report) -> Result<(), WriteFault>
     ensures all { OnOk result (Appends (N.written note.old) (N.written note.new) (report_text report.now)) }
-    ensures front { AppendsFront (N.written note.old) (N.written note.new) (report_text report.now) }
-    ensures quiet { OnOk result (N.faults note.new ≡ N.faults note.old) }
+    ensures prefix { AppendsPrefix (N.written note.old) (N.written note.new) (report_text report.now) }
+    ensures faultless { OnOk result (N.faults note.new ≡ N.faults note.old) }
     ensures only_if_rose { OnErr result (Rose (N.faults note.old) (N.faults note.new)) }
     ensures never_falls { N.faults note.old ≤ N.faults note.new }
 {
@@ -130,27 +133,29 @@ pub(crate) fn write_report<N: Sink>(note: &mut N, report: &Report) -> Result<(),
 
 /// Writes an error line. It allocates nothing, so it can report that memory ran out. If writing it fails, that is
 /// ignored: the status of the run is already decided.
-pub fn tell_error<N: Sink>(note: &mut N, line: &ErrorLine)
-    ensures line { Writes (side N.written N.faults note.old) (side N.written N.faults note.new) (error_line (line_value line.now)) }
+pub fn report_error<N: Sink>(note: &mut N, line: &ErrorLine)
+    ensures line { Writes (port_state N.written N.faults note.old) (port_state N.written N.faults note.new)
+        (error_line (line_value line.now)) }
     ensures never_falls { N.faults note.old ≤ N.faults note.new }
 {
     let _ = write_line(note, b"error:", &line.fields, b"\n");
 }
 
 /// Writes the error line of a run, if it has one.
-#[tactic(auto, unfolding(crate::specs::Told::too_long, crate::specs::Told::memory))]
-pub(crate) fn tell<N: Sink>(note: &mut N, ended: &Ended)
-    ensures line { LineAfter (side N.written N.faults note.old) (side N.written N.faults note.new) (line_in ended.now) }
+#[tactic(auto, unfolding(crate::specs::Reported::too_long, crate::specs::Reported::memory))]
+pub(crate) fn report_end<N: Sink>(note: &mut N, ended: &Ended)
+    ensures line { LineAfter (port_state N.written N.faults note.old) (port_state N.written N.faults note.new)
+        (line_in ended.now) }
     ensures never_falls { N.faults note.old ≤ N.faults note.new }
 {
     match ended {
-        Ended::ReadFault => tell_error(note, &ErrorLine::plain(b"ReadFault")),
-        Ended::TooLong => tell_error(note, &ErrorLine::plain(b"TooLong")),
-        Ended::Memory => tell_error(note, &ErrorLine::plain(b"Memory")),
+        Ended::ReadFault => report_error(note, &ErrorLine::plain(b"ReadFault")),
+        Ended::TooLong => report_error(note, &ErrorLine::plain(b"TooLong")),
+        Ended::Memory => report_error(note, &ErrorLine::plain(b"Memory")),
         Ended::Answered(_) => {}
-        Ended::Starved => tell_error(note, &ErrorLine::plain(b"Memory")),
-        Ended::CutShort => tell_error(note, &ErrorLine::plain(b"WriteFault")),
-        Ended::ReportCut => tell_error(note, &ErrorLine::plain(b"WriteFault")),
-        Ended::NoAnswer(refusal) => tell_error(note, &refusal.line),
+        Ended::OutOfMemoryMidway => report_error(note, &ErrorLine::plain(b"Memory")),
+        Ended::Truncated => report_error(note, &ErrorLine::plain(b"WriteFault")),
+        Ended::ReportTruncated => report_error(note, &ErrorLine::plain(b"WriteFault")),
+        Ended::NoAnswer(refusal) => report_error(note, &refusal.line),
     }
 }

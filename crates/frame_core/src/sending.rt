@@ -14,24 +14,24 @@ fn send<O: Sink, N: Sink>(out: &mut O, note: &mut N, reply: &Reply) -> Ended
         (before_after N.written N.faults note.old note.new) }
 {
     if let Err(WriteFault::WriteFault) = write_all(out, &reply.text) {
-        return Ended::CutShort;
+        return Ended::Truncated;
     }
     let Some(report) = &reply.report else {
         return Ended::Answered(reply.status);
     };
     match write_report(note, report) {
         Ok(()) => Ended::Answered(reply.status),
-        Err(WriteFault::WriteFault) => Ended::ReportCut,
+        Err(WriteFault::WriteFault) => Ended::ReportTruncated,
     }
 }
 
 /// Ends a command with its reply: writes it, or writes nothing if there is none.
-pub fn finish<O: Sink, N: Sink>(told: Result<Reply, Stop>, out: &mut O, note: &mut N) -> Ended
-    ensures { Finishes told result
+pub fn finish<O: Sink, N: Sink>(reported: Result<Reply, Stop>, out: &mut O, note: &mut N) -> Ended
+    ensures { Finishes reported result
         (before_after O.written O.faults out.old out.new)
         (before_after N.written N.faults note.old note.new) }
 {
-    match told {
+    match reported {
         Ok(reply) => send(out, note, &reply),
         Err(Stop::NoMemory) => Ended::Memory,
         Err(Stop::NoAnswer(refusal)) => Ended::NoAnswer(refusal),

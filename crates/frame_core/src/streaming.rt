@@ -122,14 +122,15 @@ pub(crate) fn read_pieces<J: StreamJob, S: Source>(
 ) -> Result<J::Kept, ReadError>
     requires ready { J.ready job.now }
     requires most { Some most ≡ (J.task job.now).reads }
-    ensures taken { IfOk result (λ kept. WereTaken most (S.left source.old) (S.left source.new) (λ bytes. J.holds job.now kept bytes)) }
+    ensures taken { IfOk result (λ kept. WereTaken most (S.left source.old) (S.left source.new) (λ bytes.
+        J.holds job.now kept bytes)) }
     ensures whole { IfOk result (λ kept. J.whole job.now kept) }
     ensures count { IfOk result (λ kept. IsCount (J.task job.now).reads (J.count job.now kept)) }
     ensures too_long { (input : List ℕ) → S.left source.old ≡ Some input →
         IsErrOf result ReadError.TooLong → most < length input }
     ensures only_if_rose { IsErrOf result ReadError.ReadFault →
         Rose (S.faults source.old) (S.faults source.new) }
-    ensures quiet { (IsErrOf result ReadError.ReadFault → ⊥) → S.faults source.new ≡ S.faults source.old }
+    ensures faultless { (IsErrOf result ReadError.ReadFault → ⊥) → S.faults source.new ≡ S.faults source.old }
 {
     let mut kept = job.begin(alloc);
     let mut room = most;

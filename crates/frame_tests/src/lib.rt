@@ -8,7 +8,7 @@ mod laws;
 mod lines;
 
 pub use greeting::Greeting;
-pub use laws::{cut_lines_are_fronts, small_commands_are_tasks};
+pub use laws::{small_tasks_are_well_formed, truncated_lines_are_prefixes};
 pub use lines::Lines;
 
 #[cfg(test)]

@@ -1,6 +1,6 @@
 //! A command whose text is written in pieces.
 ghost use Rattle.std.specs.Prelude.{◌≡◌, IfOk};
-ghost use Rattle.frame_core.specs.Outside.{side};
+ghost use Rattle.frame_core.specs.Outside.{port_state};
 ghost use Rattle.frame_tests.specs.Small.{line_of as line_text, lines_task, WritesLines};
 
 use frame_core::{Ended, Job, Status};
@@ -24,15 +24,16 @@ fn line_of(alloc: Global, byte: u8) -> Result<Vec<u8>, AllocError>
 /// Writes each byte on a line.
 #[tactic(auto, using(frame_core::specs::PiecesLaws::texts_left))]
 fn write_lines<O: Sink>(alloc: Global, bytes: &[u8], out: &mut O) -> Ended
-    ensures { WritesLines bytes.now result (side O.written O.faults out.old) (side O.written O.faults out.new) }
+    ensures { WritesLines bytes.now result (port_state O.written O.faults out.old)
+        (port_state O.written O.faults out.new) }
 {
     let mut left = bytes;
     while let Some((byte, rest)) = left.split_first() {
         let Ok(line) = line_of(alloc, *byte) else {
-            return Ended::Starved;
+            return Ended::OutOfMemoryMidway;
         };
         if let Err(WriteFault::WriteFault) = write_all(out, &line) {
-            return Ended::CutShort;
+            return Ended::Truncated;
         }
         left = rest;
     }

@@ -60,8 +60,8 @@ fn is_run(alloc: Global, greets: bool, run: &Run) -> bool {
     let Ok(mut ports) = ports(alloc, run) else {
         return false;
     };
-    let told = performed(alloc, greets, &mut ports) == run.2 && ports.source.faults() == run.3;
-    told && ports.out.written() == run.4 && ports.note.written() == run.5
+    let reported = performed(alloc, greets, &mut ports) == run.2 && ports.source.faults() == run.3;
+    reported && ports.out.written() == run.4 && ports.note.written() == run.5
 }
 
 /// Runs of the lines.

@@ -94,7 +94,8 @@ names_in k known (l ∷ ls) before knows all n there =
     (λ rest. names_in k known ls before knows p.1 n rest)
     (has_cases (name_of k l) (names_of k ls) n there)
 
-known_by : (k o : ℕ) (known : List ℕ) (before : List Name) (l : ℕ) (b : Bool) → (l == o) ≡ b → Knows k known before → (l == o || is_known known l) ≡ true → has (before ++ name_of k o ∷ []) (name_of k l) ≡ true
+known_by : (k o : ℕ) (known : List ℕ) (before : List Name) (l : ℕ) (b : Bool) → (l == o) ≡ b → Knows k known before →
+    (l == o || is_known known l) ≡ true → has (before ++ name_of k o ∷ []) (name_of k l) ≡ true
 known_by k o known before l true is knows e =
     subst (λ (m : ℕ). has (before ++ name_of k o ∷ []) (name_of k m) ≡ true) (sym (eqb-true l o is)) (has_right before (name_of k o ∷ []) (name_of k o) (has_first (name_of k o) []))
 known_by k o known before l false is knows e =
@@ -111,7 +112,9 @@ pub record Layered (k : ℕ) (before : List Name) (ts : List Table) : Type 0 whe
   pub layers : AreLayered before ts
   pub older : All (IsOlder (suc k) 112) (before ++ map table_output ts)
 
-pub rows_layered : (k : ℕ) (before : List Name) (known : List ℕ) (least : ℕ) (rs : List Row) → k < 2 ^ 64 → 112 ≤ least → are_rows known least rs ≡ true → All (IsOlder k least) before → Knows k known before → Layered k before (map (row_table k) rs)
+pub rows_layered : (k : ℕ) (before : List Name) (known : List ℕ) (least : ℕ) (rs : List Row) → k < 2 ^ 64 →
+    112 ≤ least → are_rows known least rs ≡ true → All (IsOlder k least) before → Knows k known before →
+    Layered k before (map (row_table k) rs)
 rows_layered k before known least [] low from are older knows = record {
   layers = tt;
   older = subst (λ (ns : List Name). All (IsOlder (suc k) 112) ns) (sym (append-nil before)) (all_later (IsOlder k least) (IsOlder (suc k) 112) (next k least) before older);
@@ -121,7 +124,9 @@ rows_layered k before known least (r ∷ rs) low from are older knows =
     let q = and_parts (all_known known r.inputs) (nat_le least r.output) p.0 in
     let up : least ≤ r.output = leb-true least r.output q.1 in
     let name = name_of k r.output in
-    let rest = rows_layered k (before ++ name ∷ []) (r.output ∷ known) (suc r.output) rs low (omega (arith, from, up)) p.1 (pushed k r.output least before low up older) (knows_more k r.output known before knows) in
+    let rest = rows_layered k (before ++ name ∷ []) (r.output ∷ known) (suc r.output) rs low
+    (omega (arith, from, up)) p.1 (pushed k r.output least before low up older)
+    (knows_more k r.output known before knows) in
     let layer : IsLayer before (row_table k r) = record {
       fresh = fresh_is k r.output before low (omega (arith, from, up)) (all_later (IsOlder k least) (IsOlder k r.output) (later k least r.output up) before older);
       inputs = names_in k known r.inputs before knows q.0;

@@ -13,7 +13,8 @@ use Rattle.gen_core.proofs.Inputs.{of_inputs}
 use Rattle.gen_core.proofs.Tables.{IsShort, names_short, IsTiny, tables_tiny, block_few}
 
 inputs_short : (n : ℕ) → n ≤ 2 ^ 64 → All IsShort (of_blocks block_inputs n)
-inputs_short n low = of_all IsShort block_inputs n (λ k below. of_inputs (λ (ns : List Name). All IsShort ns) k (names_short k (codes "ab") (omega (arith, low, below))) (names_short k (codes "abc") (omega (arith, low, below))))
+inputs_short n low = of_all IsShort block_inputs n (λ k below. of_inputs (λ (ns : List Name). All IsShort ns) k
+    (names_short k (codes "ab") (omega (arith, low, below))) (names_short k (codes "abc") (omega (arith, low, below))))
 
 outputs_short : (n : ℕ) → n ≤ 2 ^ 64 → All IsShort (of_blocks block_outputs n)
 outputs_short n low = of_all IsShort block_outputs n (λ k below. names_short k (codes "y") (omega (arith, low, below)))
@@ -26,7 +27,9 @@ outputs_few k = omega arith
 
 -- ---- lines of names
 
-rest_more : (keyword : List ℕ) (count : ℕ) (n : Name) (ns : List Name) → length keyword ≤ 8 → IsShort n → ((c : ℕ) → length (rest_text keyword c ns) ≤ 1 + length ns * 31) → length (rest_text keyword count (n ∷ ns)) ≤ 1 + (length ns * 31 + 31)
+rest_more : (keyword : List ℕ) (count : ℕ) (n : Name) (ns : List Name) → length keyword ≤ 8 → IsShort n →
+    ((c : ℕ) → length (rest_text keyword c ns) ≤ 1 + length ns * 31) →
+    length (rest_text keyword count (n ∷ ns)) ≤ 1 + (length ns * 31 + 31)
 unfolding rest_text
 rest_more keyword count n ns word short rest =
     cond_both (count == 16) (10 ∷ (keyword ++ word_text n ++ rest_text keyword 1 ns)) (word_text n ++ rest_text keyword (count + 1) ns) (λ (text : List ℕ). length text ≤ 1 + (length ns * 31 + 31))
@@ -78,7 +81,12 @@ table_short t is =
 
 -- ---- the whole text
 
-short_text : (inputs outputs : List Name) (ts : List Table) (n : ℕ) → n ≤ 10000 → length inputs ≤ n * 3 → length outputs ≤ n * 1 → length ts ≤ n * 4 → length (list_text (codes ".inputs") inputs) ≤ 9 + length inputs * 31 → length (list_text (codes ".outputs") outputs) ≤ 9 + length outputs * 31 → length (flat_map table_text ts) ≤ length ts * 100 → length (model_text (codes "gen") ++ list_text (codes ".inputs") inputs ++ list_text (codes ".outputs") outputs ++ [] ++ [] ++ flat_map table_text ts ++ codes ".end\n") ≤ 16777216
+short_text : (inputs outputs : List Name) (ts : List Table) (n : ℕ) → n ≤ 10000 → length inputs ≤ n * 3 →
+    length outputs ≤ n * 1 → length ts ≤ n * 4 → length (list_text (codes ".inputs") inputs) ≤ 9 + length inputs * 31 →
+    length (list_text (codes ".outputs") outputs) ≤ 9 + length outputs * 31 →
+    length (flat_map table_text ts) ≤ length ts * 100 →
+    length (model_text (codes "gen") ++ list_text (codes ".inputs") inputs ++ list_text (codes ".outputs") outputs ++
+    [] ++ [] ++ flat_map table_text ts ++ codes ".end\n") ≤ 16777216
 short_text inputs outputs ts n few i o t a b c =
     let first = model_text (codes "gen") in
     let second = list_text (codes ".inputs") inputs in

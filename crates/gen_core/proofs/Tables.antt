@@ -1,6 +1,8 @@
 -- The tables of blocks are given by cubes, are in topological order after the inputs, and cost at most one gate
 -- each.
-use Rattle.std.specs.Prelude.{◌≡◌, ℕ, zero, suc, ◌%◌, ◌^◌, ◌≤◌, ◌<◌, Bool, true, false, ◌&&◌, ◌||◌, ◌==◌, nat_le, List, [], ◌∷◌, ◌++◌, length, map, All, Option, Some, None, option_to_list, codes, if◌then◌else◌, sum_by, refl}
+use Rattle.std.specs.Prelude.{◌≡◌, ℕ, zero, suc, ◌%◌, ◌^◌, ◌≤◌, ◌<◌, Bool, true, false, ◌&&◌, ◌||◌, ◌==◌, nat_le, List}
+use Rattle.std.specs.Prelude.{[], ◌∷◌, ◌++◌, length, map, All, Option, Some, None, option_to_list, codes, if◌then◌else◌}
+use Rattle.std.specs.Prelude.{sum_by, refl}
 use Rattle.std.proofs.Common.{arith, sym, ◌∙◌, ap, subst, append_assoc, append-nil}
 use Rattle.std.proofs.lemmas.Bool.{cond_both, both_ways, and_parts, leb-true, eqb-true}
 use Rattle.std.proofs.lemmas.List.{map-append}
@@ -41,13 +43,17 @@ of_kind P k x c h =
 
 -- ---- layers
 
-known_first : (k o : ℕ) (ls : List ℕ) (before : List Name) (l : ℕ) (b : Bool) → (l == o) ≡ b → has before (name_of k o) ≡ true → Knows k ls before → (l == o || is_known ls l) ≡ true → has before (name_of k l) ≡ true
+known_first : (k o : ℕ) (ls : List ℕ) (before : List Name) (l : ℕ) (b : Bool) → (l == o) ≡ b →
+    has before (name_of k o) ≡ true → Knows k ls before → (l == o || is_known ls l) ≡ true →
+    has before (name_of k l) ≡ true
 known_first k o ls before l true is first rest e = subst (λ (m : ℕ). has before (name_of k m) ≡ true) (sym (eqb-true l o is)) first
 known_first k o ls before l false is first rest e = rest l (sym (ap (λ (b : Bool). b || is_known ls l) is) ∙ e)
 
 knows_names : (k : ℕ) (ls : List ℕ) (before : List Name) → ((m : Name) → has (names_of k ls) m ≡ true → has before m ≡ true) → Knows k ls before
 knows_names k [] before here l e = absurd cc
-knows_names k (o ∷ ls) before here l e = known_first k o ls before l (l == o) refl (here (name_of k o) (has_first (name_of k o) (names_of k ls))) (knows_names k ls before (λ m there. here m (has_later (name_of k o) (names_of k ls) m there))) e
+knows_names k (o ∷ ls) before here l e = known_first k o ls before l (l == o) refl
+    (here (name_of k o) (has_first (name_of k o) (names_of k ls)))
+    (knows_names k ls before (λ m there. here m (has_later (name_of k o) (names_of k ls) m there))) e
 
 two_inputs : (k : ℕ) (m : Name) → (k % 3 == 0) ≡ true → has (names_of k (codes "ab")) m ≡ true → has (block_inputs k) m ≡ true
 two_inputs k m e there = cond_both (k % 3 == 0) (names_of k (codes "ab")) (names_of k (codes "abc")) (λ (ns : List Name). has ns m ≡ true) (λ is. there) (λ no. absurd (both_ways (k % 3 == 0) no e))
@@ -76,18 +82,24 @@ all_layered n zero low up = record {
 }
 all_layered n (suc k) low up =
     let inputs = of_blocks block_inputs n in
-    let front = of_blocks block_tables k in
+    let prefix = of_blocks block_tables k in
     let rest = all_layered n k low (omega (arith, up)) in
-    let before = inputs ++ map table_output front in
-    let here = kind_layered k before (omega (arith, low, up)) rest.older (λ m there. has_left inputs (map table_output front) m (of_has_name block_inputs n k m (omega (arith, up)) there)) in
+    let before = inputs ++ map table_output prefix in
+    let here = kind_layered k before (omega (arith, low, up)) rest.older (λ m there. has_left inputs (map table_output prefix) m (of_has_name block_inputs n k m (omega (arith, up)) there)) in
     record {
-      layers = layered_append inputs front (block_tables k) rest.layers here.layers;
-      older = subst (λ (ns : List Name). All (IsOlder (suc k) 112) ns) (append_assoc inputs (map table_output front) (map table_output (block_tables k)) ∙ ap (λ (ns : List Name). inputs ++ ns) (sym (map-append table_output front (block_tables k)))) here.older;
+      layers = layered_append inputs prefix (block_tables k) rest.layers here.layers;
+      older = subst (λ (ns : List Name). All (IsOlder (suc k) 112) ns)
+          (append_assoc inputs (map table_output prefix) (map table_output (block_tables k))
+          ∙ ap (λ (ns : List Name). inputs ++ ns) (sym (map-append table_output prefix (block_tables k)))) here.older;
     }
 
 -- ---- tables
 
-table_is : (k : ℕ) (ls : List ℕ) (o : ℕ) (first : List ℕ) (second : Option (List ℕ)) → k < 2 ^ 64 → are_letters ls ≡ true → are_letters (o ∷ []) ≡ true → length (names_of k ls) ≡ length ls → length ls ≤ 2 → length (first ∷ option_to_list second) ≤ 2 → All (λ (cube : List ℕ). is_cube (length ls) cube ≡ true) (first ∷ option_to_list second) → IsSpelledTable (table_of k ls o first second)
+table_is : (k : ℕ) (ls : List ℕ) (o : ℕ) (first : List ℕ) (second : Option (List ℕ)) → k < 2 ^ 64 →
+    are_letters ls ≡ true → are_letters (o ∷ []) ≡ true → length (names_of k ls) ≡ length ls → length ls ≤ 2 →
+    length (first ∷ option_to_list second) ≤ 2 →
+    All (λ (cube : List ℕ). is_cube (length ls) cube ≡ true) (first ∷ option_to_list second) →
+    IsSpelledTable (table_of k ls o first second)
 table_is k ls o first second low letters output width narrow few cubes = record {
   table = record {
     inputs = names_are k ls low letters;
@@ -110,11 +122,18 @@ one_cube width a e = All-cons (λ (cube : List ℕ). is_cube width cube ≡ true
 two_cubes : (width : ℕ) (a b : List ℕ) → is_cube width a ≡ true → is_cube width b ≡ true → AreCubes width (a ∷ b ∷ [])
 two_cubes width a b e f = All-cons (λ (cube : List ℕ). is_cube width cube ≡ true) a (b ∷ []) e (one_cube width b f)
 
-one_row : (k : ℕ) (ls : List ℕ) (o : ℕ) (cube : List ℕ) → k < 2 ^ 64 → are_letters ls ≡ true → are_letters (o ∷ []) ≡ true → length (names_of k ls) ≡ length ls → nat_le (length ls) 2 ≡ true → is_cube (length ls) cube ≡ true → IsSpelledTable (table_of k ls o cube None)
+one_row : (k : ℕ) (ls : List ℕ) (o : ℕ) (cube : List ℕ) → k < 2 ^ 64 → are_letters ls ≡ true →
+    are_letters (o ∷ []) ≡ true → length (names_of k ls) ≡ length ls → nat_le (length ls) 2 ≡ true →
+    is_cube (length ls) cube ≡ true → IsSpelledTable (table_of k ls o cube None)
 one_row k ls o cube low letters output width narrow good = table_is k ls o cube None low letters output width (leb-true (length ls) 2 narrow) (omega arith) (one_cube (length ls) cube good)
 
-both_rows : (k : ℕ) (ls : List ℕ) (o : ℕ) (cube other : List ℕ) → k < 2 ^ 64 → are_letters ls ≡ true → are_letters (o ∷ []) ≡ true → length (names_of k ls) ≡ length ls → nat_le (length ls) 2 ≡ true → is_cube (length ls) cube ≡ true → is_cube (length ls) other ≡ true → IsSpelledTable (table_of k ls o cube (Some other))
-both_rows k ls o cube other low letters output width narrow good fine = table_is k ls o cube (Some other) low letters output width (leb-true (length ls) 2 narrow) (omega arith) (two_cubes (length ls) cube other good fine)
+both_rows : (k : ℕ) (ls : List ℕ) (o : ℕ) (cube other : List ℕ) → k < 2 ^ 64 → are_letters ls ≡ true →
+    are_letters (o ∷ []) ≡ true → length (names_of k ls) ≡ length ls → nat_le (length ls) 2 ≡ true →
+    is_cube (length ls) cube ≡ true → is_cube (length ls) other ≡ true →
+    IsSpelledTable (table_of k ls o cube (Some other))
+both_rows k ls o cube other low letters output width narrow good fine =
+    table_is k ls o cube (Some other) low letters output width (leb-true (length ls) 2 narrow) (omega arith)
+    (two_cubes (length ls) cube other good fine)
 
 tables_three : (x y z : Table) → IsSpelledTable x → IsSpelledTable y → IsSpelledTable z → All IsSpelledTable (x ∷ y ∷ z ∷ [])
 tables_three x y z a b c = All-cons IsSpelledTable x (y ∷ z ∷ []) a (All-cons IsSpelledTable y (z ∷ []) b (All-cons IsSpelledTable z [] c (All-nil IsSpelledTable)))
@@ -125,9 +144,16 @@ tables_four w x y z a b c d = All-cons IsSpelledTable w (x ∷ y ∷ z ∷ []) a
 block_spelled : (k : ℕ) → k < 2 ^ 64 → All IsSpelledTable (block_tables k)
 block_spelled k low =
     of_kind (λ (ts : List Table). All IsSpelledTable ts) k
-    (λ e. tables_three _ _ _ (one_row k (codes "ab") 112 (codes "10") low refl refl refl refl refl) (one_row k (codes "ab") 113 (codes "01") low refl refl refl refl refl) (both_rows k (codes "pq") 121 (codes "1-") (codes "-1") low refl refl refl refl refl refl))
-    (λ e. tables_three _ _ _ (one_row k (codes "ab") 112 (codes "11") low refl refl refl refl refl) (one_row k (codes "ac") 113 (codes "11") low refl refl refl refl refl) (one_row k (codes "pq") 121 (codes "11") low refl refl refl refl refl))
-    (λ e. tables_four _ _ _ _ (one_row k (codes "a") 112 (codes "0") low refl refl refl refl refl) (one_row k (codes "ab") 113 (codes "11") low refl refl refl refl refl) (one_row k (codes "pc") 114 (codes "11") low refl refl refl refl refl) (both_rows k (codes "qr") 121 (codes "1-") (codes "-1") low refl refl refl refl refl refl))
+    (λ e. tables_three _ _ _ (one_row k (codes "ab") 112 (codes "10") low refl refl refl refl refl)
+    (one_row k (codes "ab") 113 (codes "01") low refl refl refl refl refl)
+    (both_rows k (codes "pq") 121 (codes "1-") (codes "-1") low refl refl refl refl refl refl))
+    (λ e. tables_three _ _ _ (one_row k (codes "ab") 112 (codes "11") low refl refl refl refl refl)
+    (one_row k (codes "ac") 113 (codes "11") low refl refl refl refl refl)
+    (one_row k (codes "pq") 121 (codes "11") low refl refl refl refl refl))
+    (λ e. tables_four _ _ _ _ (one_row k (codes "a") 112 (codes "0") low refl refl refl refl refl)
+    (one_row k (codes "ab") 113 (codes "11") low refl refl refl refl refl)
+    (one_row k (codes "pc") 114 (codes "11") low refl refl refl refl refl)
+    (both_rows k (codes "qr") 121 (codes "1-") (codes "-1") low refl refl refl refl refl refl))
 
 pub all_spelled : (n : ℕ) → n ≤ 2 ^ 64 → All IsSpelledTable (of_blocks block_tables n)
 all_spelled n low = of_all IsSpelledTable block_tables n (λ k below. block_spelled k (omega (arith, low, below)))
@@ -163,7 +189,9 @@ cubes_tiny (c ∷ cs) e =
     let p = and_parts (nat_le (length c) 2) (all_tiny cs) e in
     All-cons (λ (cube : List ℕ). length cube ≤ 2) c cs (leb-true (length c) 2 p.0) (cubes_tiny cs p.1)
 
-tiny : (k : ℕ) (ls : List ℕ) (o : ℕ) (first : List ℕ) (second : Option (List ℕ)) → k < 2 ^ 64 → nat_le (length (names_of k ls)) 2 ≡ true → nat_le (length (first ∷ option_to_list second)) 2 ≡ true → all_tiny (first ∷ option_to_list second) ≡ true → IsTiny (table_of k ls o first second)
+tiny : (k : ℕ) (ls : List ℕ) (o : ℕ) (first : List ℕ) (second : Option (List ℕ)) → k < 2 ^ 64 →
+    nat_le (length (names_of k ls)) 2 ≡ true → nat_le (length (first ∷ option_to_list second)) 2 ≡ true →
+    all_tiny (first ∷ option_to_list second) ≡ true → IsTiny (table_of k ls o first second)
 tiny k ls o first second low narrow few cubes = record {
   inputs = names_short k ls low;
   narrow = leb-true (length (names_of k ls)) 2 narrow;
@@ -181,9 +209,16 @@ tiny_four w x y z a b c d = All-cons IsTiny w (x ∷ y ∷ z ∷ []) a (tiny_thr
 block_tiny : (k : ℕ) → k < 2 ^ 64 → All IsTiny (block_tables k)
 block_tiny k low =
     of_kind (λ (ts : List Table). All IsTiny ts) k
-    (λ e. tiny_three _ _ _ (tiny k (codes "ab") 112 (codes "10") None low refl refl refl) (tiny k (codes "ab") 113 (codes "01") None low refl refl refl) (tiny k (codes "pq") 121 (codes "1-") (Some (codes "-1")) low refl refl refl))
-    (λ e. tiny_three _ _ _ (tiny k (codes "ab") 112 (codes "11") None low refl refl refl) (tiny k (codes "ac") 113 (codes "11") None low refl refl refl) (tiny k (codes "pq") 121 (codes "11") None low refl refl refl))
-    (λ e. tiny_four _ _ _ _ (tiny k (codes "a") 112 (codes "0") None low refl refl refl) (tiny k (codes "ab") 113 (codes "11") None low refl refl refl) (tiny k (codes "pc") 114 (codes "11") None low refl refl refl) (tiny k (codes "qr") 121 (codes "1-") (Some (codes "-1")) low refl refl refl))
+    (λ e. tiny_three _ _ _ (tiny k (codes "ab") 112 (codes "10") None low refl refl refl)
+    (tiny k (codes "ab") 113 (codes "01") None low refl refl refl)
+    (tiny k (codes "pq") 121 (codes "1-") (Some (codes "-1")) low refl refl refl))
+    (λ e. tiny_three _ _ _ (tiny k (codes "ab") 112 (codes "11") None low refl refl refl)
+    (tiny k (codes "ac") 113 (codes "11") None low refl refl refl)
+    (tiny k (codes "pq") 121 (codes "11") None low refl refl refl))
+    (λ e. tiny_four _ _ _ _ (tiny k (codes "a") 112 (codes "0") None low refl refl refl)
+    (tiny k (codes "ab") 113 (codes "11") None low refl refl refl)
+    (tiny k (codes "pc") 114 (codes "11") None low refl refl refl)
+    (tiny k (codes "qr") 121 (codes "1-") (Some (codes "-1")) low refl refl refl))
 
 pub tables_tiny : (n : ℕ) → n ≤ 2 ^ 64 → All IsTiny (of_blocks block_tables n)
 tables_tiny n low = of_all IsTiny block_tables n (λ k below. block_tiny k (omega (arith, low, below)))

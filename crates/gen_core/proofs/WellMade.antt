@@ -7,11 +7,11 @@ use Rattle.net_theory.specs.Document.{Name, IsName, is_name, has, are_distinct, 
 use Rattle.net_theory.specs.NameLaws.{has_none, has_cases, has_right, has_either, has_all}
 use Rattle.net_theory.specs.WellFormed.{IsTable, IsLatchLine, IsFreeOf, IsWellFormed}
 use Rattle.net_theory.specs.Cost.{cost}
-use Rattle.net_document.specs.Listed.{AreFree}
+use Rattle.net_document.specs.Listed.{AreControlsFree}
 use Rattle.net_document.specs.Format.{IsReadBack, IsNetlist}
 use Rattle.blif_core.specs.Spelling.{spelled}
 use Rattle.blif_core.specs.Blif.{blif_format}
-use Rattle.blif_laws.specs.Spelled.{IsSpelledTable, IsSpelled}
+use Rattle.blif_laws.specs.Spelled.{IsSpelledTable, IsBlifSpelling}
 use Rattle.blif_laws.specs.Layers.{AreLayered, layered_distinct, layered_inputs, layered_acyclic}
 use Rattle.gen_core.specs.Generated.{name_of, block_inputs, block_outputs, block_tables, of_blocks, generated, generated_text}
 use Rattle.gen_core.proofs.BlockLaws.{of_all, of_length, of_has, of_found}
@@ -81,7 +81,7 @@ cost_low : (n : ℕ) → n ≤ 10000 → cost (generated n) ≤ 100000
 unfolding cost generated
 cost_low n few = omega (arith, tables_cheap (tables_of n) (all_narrow n (omega (arith, few))), of_length block_tables 4 n block_few, few)
 
-spelled_is : (n : ℕ) → n < 2 ^ 64 → IsSpelled (generated n)
+spelled_is : (n : ℕ) → n < 2 ^ 64 → IsBlifSpelling (generated n)
 unfolding generated
 spelled_is n low = record {
   model = gen_is;
@@ -95,7 +95,7 @@ spelled_is n low = record {
 all_tables : (ts : List Table) → All IsSpelledTable ts → All IsTable ts
 all_tables ts all = λ i d low. (all i d low).table
 
-free_is : (n : ℕ) → AreFree (generated n)
+free_is : (n : ℕ) → AreControlsFree (generated n)
 unfolding generated
 free_is n = All-nil (λ (l : LatchLine). IsFreeOf (map table_output (tables_of n)) l.latch.control)
 
@@ -117,7 +117,7 @@ well_is n few =
       acyclic = layered_acyclic (generated n) (sources_differ n low) (layers n low);
     }
 
-pub is_netlist : ((d : Document) → IsSpelled d → AreFree d → IsReadBack blif_format (spelled d) d) → (n : ℕ) → n ≤ 10000 → IsNetlist blif_format (generated_text n)
+pub is_netlist : ((d : Document) → IsBlifSpelling d → AreControlsFree d → IsReadBack blif_format (spelled d) d) → (n : ℕ) → n ≤ 10000 → IsNetlist blif_format (generated_text n)
 is_netlist read n few =
     let back = read (generated n) (spelled_is n (omega (arith, few))) (free_is n) in
     record { listed = back.listed; said = back.said; well = subst IsWellFormed (sym back.document) (well_is n few) }

@@ -13,7 +13,11 @@ names_of block letters = map (name_of block) letters
 
 -- a table by the letters of its inputs and its output, with one cube or two of the on-set
 abbrev pub table_of : ℕ → List ℕ → ℕ → List ℕ → Option (List ℕ) → Table
-table_of block inputs output first second = record { inputs = names_of block inputs; output = name_of block output; cover = record { width = length inputs; cubes = first ∷ option_to_list second; on = true; parity = false } }
+table_of block inputs output first second = record {
+  inputs = names_of block inputs;
+  output = name_of block output;
+  cover = record { width = length inputs; cubes = first ∷ option_to_list second; on = true; parity = false };
+}
 
 -- y is XOR of a and b, from `a and not b` and `b and not a`.
 abbrev pub exclusive : ℕ → List Table
@@ -25,7 +29,9 @@ conjunction block = table_of block (codes "ab") 112 (codes "11") None ∷ table_
 
 -- y is b where a is 1, else c: a multiplexer.
 abbrev pub choice : ℕ → List Table
-choice block = table_of block (codes "a") 112 (codes "0") None ∷ table_of block (codes "ab") 113 (codes "11") None ∷ table_of block (codes "pc") 114 (codes "11") None ∷ table_of block (codes "qr") 121 (codes "1-") (Some (codes "-1")) ∷ []
+choice block = table_of block (codes "a") 112 (codes "0") None ∷ table_of block (codes "ab") 113
+    (codes "11") None ∷ table_of block (codes "pc") 114 (codes "11") None ∷ table_of block (codes "qr") 121
+    (codes "1-") (Some (codes "-1")) ∷ []
 
 abbrev pub block_inputs : ℕ → List Name
 block_inputs block = if block % 3 == 0 then names_of block (codes "ab") else names_of block (codes "abc")

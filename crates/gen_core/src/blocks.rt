@@ -2,7 +2,9 @@
 
 ghost use Rattle.std.specs.Prelude.{◌≡◌, ◌<◌, ◌^◌, [], ◌∷◌, ◌++◌, IfOk, OnOk, length, option_to_list};
 ghost use Rattle.std.specs.Option.{option_copied};
-ghost use Rattle.gen_core.specs.Generated.{name_of as name_of_letter, names_of as names_of_letters, table_of as table_of_letters, exclusive, conjunction, choice, block_inputs, block_tables};
+ghost use Rattle.gen_core.specs.Generated.{name_of as name_of_letter, names_of as names_of_letters};
+ghost use Rattle.gen_core.specs.Generated.{table_of as table_of_letters, exclusive, conjunction, choice, block_inputs};
+ghost use Rattle.gen_core.specs.Generated.{block_tables};
 
 use net_document::{Body, Cover, Cube, Name, Table};
 use std::alloc::{AllocError, Global};
@@ -87,7 +89,8 @@ fn add_table(
     second: Option<&[u8]>,
 ) -> Result<(), AllocError>
     requires { length inputs.now < 2 ^ 32 }
-    ensures { OnOk result (tables.new.items ≡ tables.old.items ++ table_of_letters block inputs.now output first.now (option_copied second.entry) ∷ []) }
+    ensures { OnOk result (tables.new.items ≡ tables.old.items ++
+        table_of_letters block inputs.now output first.now (option_copied second.entry) ∷ []) }
 {
     let table = table_of(*tables.allocator(), block, inputs, output, first, second)?;
     tables.push(table)?;

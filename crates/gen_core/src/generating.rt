@@ -1,7 +1,8 @@
 //! The netlist of any number of blocks.
 
 ghost use Rattle.std.specs.Prelude.{◌≡◌, ◌++◌, IfOk, OnOk, OnErr};
-ghost use Rattle.gen_core.specs.Generated.{block_inputs, block_outputs, block_tables, of_blocks, generated, generated_text};
+ghost use Rattle.gen_core.specs.Generated.{block_inputs, block_outputs, block_tables, of_blocks, generated};
+ghost use Rattle.gen_core.specs.Generated.{generated_text};
 
 use crate::blocks::{append_names, inputs_of, name_of, push_tables};
 use blif_core::write_document;

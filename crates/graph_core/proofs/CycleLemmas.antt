@@ -6,27 +6,29 @@ use Rattle.std.proofs.lemmas.Grind.{common_steps}
 use Rattle.std.proofs.lemmas.Bool.{cond_both, or_cases, eqb-true, eq-eqb, or_left, or_right}
 use Rattle.std.proofs.lemmas.Map.Steps.{length-le_from_distinct_below}
 use Rattle.std.proofs.lemmas.Option.{slice_get-get_or, slice_get_within}
-use Rattle.graph_core.specs.Visit.{Graph, reads_of, has_ended}
-use Rattle.graph_core.specs.VisitLaws.{LeadsTo, at_once, by_way_of, IsClosed, ended_left, ended_last, ended_cases}
-use Rattle.graph_core.specs.Cycles.{Fall, added, AreLedTo}
+use Rattle.graph_core.specs.Visit.{Graph, fanins_of, has_ended}
+use Rattle.graph_core.specs.VisitLaws.{HasPath, at_once, by_way_of, IsClosedGraph, ended_left, ended_last, ended_cases}
+use Rattle.graph_core.specs.Cycles.{NeverRises, added, AreReached}
 
-leads_fall : (g : Graph) (numbers : List ℕ) (t u : ℕ) → Fall g numbers → LeadsTo g t u → slice_index numbers u ≤ slice_index numbers t
-leads_fall g numbers _ _ fall (at_once t u r) = fall.within t u r
-leads_fall g numbers _ _ fall (by_way_of t u v r more) = omega (arith, leads_fall g numbers u v fall more, fall.within t u r)
+leads_fall : (g : Graph) (numbers : List ℕ) (t u : ℕ) → NeverRises g numbers → HasPath g t u → slice_index numbers u ≤ slice_index numbers t
+leads_fall g numbers _ _ never_rises (at_once t u r) = never_rises.within t u r
+leads_fall g numbers _ _ never_rises (by_way_of t u v r more) = omega (arith, leads_fall g numbers u v never_rises more, never_rises.within t u r)
 
 -- an element of a list is at the same index of the list with more appended
-at_front : {A : Type 0} (xs ys : List A) (i : ℕ) (x : A) → slice_get xs i ≡ Some x → slice_get (xs ++ ys) i ≡ Some x
-at_front [] ys i x e = absurd cc
-at_front (z ∷ xs) ys zero x e = e
-at_front (z ∷ xs) ys (suc i) x e = at_front xs ys i x e
+at_prefix : {A : Type 0} (xs ys : List A) (i : ℕ) (x : A) → slice_get xs i ≡ Some x → slice_get (xs ++ ys) i ≡ Some x
+at_prefix [] ys i x e = absurd cc
+at_prefix (z ∷ xs) ys zero x e = e
+at_prefix (z ∷ xs) ys (suc i) x e = at_prefix xs ys i x e
 
 -- A node whose fanins all have smaller numbers reaches only nodes with smaller numbers.
-leads_below : (g : Graph) (numbers : List ℕ) (t v : ℕ) → Fall g numbers → ((u : ℕ) → has_ended (reads_of g t) u ≡ true → slice_index numbers u < slice_index numbers t) → LeadsTo g t v → slice_index numbers v < slice_index numbers t
-leads_below g numbers _ _ fall below (at_once t u r) = below u r
-leads_below g numbers _ _ fall below (by_way_of t u v r more) = omega (arith, leads_fall g numbers u v fall more, below u r)
+leads_below : (g : Graph) (numbers : List ℕ) (t v : ℕ) → NeverRises g numbers →
+    ((u : ℕ) → has_ended (fanins_of g t) u ≡ true → slice_index numbers u < slice_index numbers t) → HasPath g t v →
+    slice_index numbers v < slice_index numbers t
+leads_below g numbers _ _ never_rises below (at_once t u r) = below u r
+leads_below g numbers _ _ never_rises below (by_way_of t u v r more) = omega (arith, leads_fall g numbers u v never_rises more, below u r)
 
-pub apart : (g : Graph) (numbers : List ℕ) (t : ℕ) → Fall g numbers → ((u : ℕ) → has_ended (reads_of g t) u ≡ true → slice_index numbers u < slice_index numbers t) → LeadsTo g t t → ⊥
-apart g numbers t fall below leads = omega (arith, leads_below g numbers t t fall below leads)
+pub apart : (g : Graph) (numbers : List ℕ) (t : ℕ) → NeverRises g numbers → ((u : ℕ) → has_ended (fanins_of g t) u ≡ true → slice_index numbers u < slice_index numbers t) → HasPath g t t → ⊥
+apart g numbers t never_rises below leads = omega (arith, leads_below g numbers t t never_rises below leads)
 
 -- ---- adding nodes
 
@@ -66,22 +68,22 @@ added_at seen [] k t e = e
 added_at seen (u ∷ ts) k t e =
     cond_both (has_ended seen u) seen (seen ++ u ∷ []) (λ (s : List ℕ). slice_get (added s ts) k ≡ Some t)
     (λ was. added_at seen ts k t e)
-    (λ fresh. added_at (seen ++ u ∷ []) ts k t (at_front seen (u ∷ []) k t e))
+    (λ fresh. added_at (seen ++ u ∷ []) ts k t (at_prefix seen (u ∷ []) k t e))
 
 -- ---- all nodes that a node reaches
 
 -- The loop invariant: `set` has only nodes that `node` reaches, and all fanins of its first `at` elements.
 pub record Reaches (g : Graph) (node at : ℕ) (set : List ℕ) : Type 0 where
   pub low : at ≤ length set
-  pub leads : (u : ℕ) → has_ended set u ≡ true → LeadsTo g node u
-  pub first : (u : ℕ) → has_ended (reads_of g node) u ≡ true → has_ended set u ≡ true
-  pub closed : (k t u : ℕ) → k < at → slice_get set k ≡ Some t → has_ended (reads_of g t) u ≡ true → has_ended set u ≡ true
+  pub leads : (u : ℕ) → has_ended set u ≡ true → HasPath g node u
+  pub first : (u : ℕ) → has_ended (fanins_of g node) u ≡ true → has_ended set u ≡ true
+  pub closed : (k t u : ℕ) → k < at → slice_get set k ≡ Some t → has_ended (fanins_of g t) u ≡ true → has_ended set u ≡ true
 
-pub reaches_start : (g : Graph) (node : ℕ) → Reaches g node 0 (added [] (reads_of g node))
+pub reaches_start : (g : Graph) (node : ℕ) → Reaches g node 0 (added [] (fanins_of g node))
 reaches_start g node = record {
   low = omega arith;
-  leads = added_from (LeadsTo g node) [] (reads_of g node) (λ u h. absurd cc) (λ u h. at_once node u h);
-  first = λ u h. added_has [] (reads_of g node) u h;
+  leads = added_from (HasPath g node) [] (fanins_of g node) (λ u h. absurd cc) (λ u h. at_once node u h);
+  first = λ u h. added_has [] (fanins_of g node) u h;
   closed = λ k t u low at h. absurd (omega (arith, low));
 }
 
@@ -106,7 +108,7 @@ among [] k t e = absurd cc
 among (x ∷ set) zero t e = or_left (nat_eq t x) (has_ended set t) (eq-eqb t x (sym (same_some x t e)))
 among (x ∷ set) (suc k) t e = or_right (nat_eq t x) (has_ended set t) (among set k t e)
 
-leads_on : (g : Graph) (t u v : ℕ) → LeadsTo g t u → has_ended (reads_of g u) v ≡ true → LeadsTo g t v
+leads_on : (g : Graph) (t u v : ℕ) → HasPath g t u → has_ended (fanins_of g u) v ≡ true → HasPath g t v
 leads_on g _ _ v (at_once t u r) h = by_way_of t u v r (at_once u v h)
 leads_on g _ _ v (by_way_of t w u r more) h = by_way_of t w v r (leads_on g w u v more h)
 
@@ -116,16 +118,16 @@ below_cases zero (suc at) low = inl (omega arith)
 below_cases (suc k) zero low = absurd (omega (arith, low))
 below_cases (suc k) (suc at) low = ⊎_elim (λ l. inl (omega (arith, l))) (λ e. inr (ap suc e)) (below_cases k at (omega (arith, low)))
 
-pub reaches_next : (g : Graph) (node at t : ℕ) (set : List ℕ) → Reaches g node at set → slice_get set at ≡ Some t → Reaches g node (at + 1) (added set (reads_of g t))
+pub reaches_next : (g : Graph) (node at t : ℕ) (set : List ℕ) → Reaches g node at set → slice_get set at ≡ Some t → Reaches g node (at + 1) (added set (fanins_of g t))
 reaches_next g node at t set r here = record {
-  low = omega (arith, longer set (reads_of g t), slice_get_within set at t here);
-  leads = added_from (LeadsTo g node) set (reads_of g t) r.leads (λ u h. leads_on g node t u (r.leads t (among set at t here)) h);
-  first = λ u h. added_keeps set (reads_of g t) u (r.first u h);
+  low = omega (arith, longer set (fanins_of g t), slice_get_within set at t here);
+  leads = added_from (HasPath g node) set (fanins_of g t) r.leads (λ u h. leads_on g node t u (r.leads t (among set at t here)) h);
+  first = λ u h. added_keeps set (fanins_of g t) u (r.first u h);
   closed = λ k v u below e h.
-      let was : slice_get set k ≡ Some v = place_stays set (reads_of g t) k v (omega (arith, below, slice_get_within set at t here)) e in
+      let was : slice_get set k ≡ Some v = place_stays set (fanins_of g t) k v (omega (arith, below, slice_get_within set at t here)) e in
       ⊎_elim
-      (λ (l : k < at). added_keeps set (reads_of g t) u (r.closed k v u l was h))
-      (λ (same : k ≡ at). added_has set (reads_of g t) u (subst (λ (x : ℕ). has_ended (reads_of g x) u ≡ true) (same_some v t (sym was ∙ ap (slice_get set) same ∙ here)) h))
+      (λ (l : k < at). added_keeps set (fanins_of g t) u (r.closed k v u l was h))
+      (λ (same : k ≡ at). added_has set (fanins_of g t) u (subst (λ (x : ℕ). has_ended (fanins_of g x) u ≡ true) (same_some v t (sym was ∙ ap (slice_get set) same ∙ here)) h))
       (below_cases k at below);
 }
 
@@ -138,25 +140,31 @@ place_of (x ∷ set) t h =
     (λ later. let p : (k : ℕ) × ((k < length set) × (slice_get set k ≡ Some t)) = place_of set t later in (suc p.0, (omega (arith, p.1.0), p.1.1)))
     (or_cases (nat_eq t x) (has_ended set t) h)
 
-keeps_in : (g : Graph) (set : List ℕ) (t u : ℕ) → ((v w : ℕ) → has_ended set v ≡ true → has_ended (reads_of g v) w ≡ true → has_ended set w ≡ true) → ((w : ℕ) → has_ended (reads_of g t) w ≡ true → has_ended set w ≡ true) → LeadsTo g t u → has_ended set u ≡ true
+keeps_in : (g : Graph) (set : List ℕ) (t u : ℕ) →
+    ((v w : ℕ) → has_ended set v ≡ true → has_ended (fanins_of g v) w ≡ true → has_ended set w ≡ true) →
+    ((w : ℕ) → has_ended (fanins_of g t) w ≡ true → has_ended set w ≡ true) → HasPath g t u → has_ended set u ≡ true
 keeps_in g set _ _ closed first (at_once t u r) = first u r
 keeps_in g set _ _ closed first (by_way_of t u v r more) = keeps_in g set u v closed (λ w h. closed u w (first u r) h) more
 
-pub reaches_end : (g : Graph) (node at : ℕ) (set : List ℕ) → Reaches g node at set → length set ≤ at → AreLedTo g node set
+pub reaches_end : (g : Graph) (node at : ℕ) (set : List ℕ) → Reaches g node at set → length set ≤ at → AreReached g node set
 reaches_end g node at set r high = record {
   leads = r.leads;
-  all = λ u leads. keeps_in g set node u (λ v w h reads. let p : (k : ℕ) × ((k < length set) × (slice_get set k ≡ Some v)) = place_of set v h in r.closed p.0 v w (omega (arith, p.1.0, high)) p.1.1 reads) r.first leads;
+  all = λ u leads. keeps_in g set node u (λ v w h reads. let p : (k : ℕ) ×
+      ((k < length set) × (slice_get set k ≡ Some v)) =
+      place_of set v h in r.closed p.0 v w (omega (arith, p.1.0, high)) p.1.1 reads) r.first leads;
 }
 
 -- ---- the number of nodes
 
-last_read : (g : Graph) (t u : ℕ) → LeadsTo g t u → (v : ℕ) × (has_ended (reads_of g v) u ≡ true)
+last_read : (g : Graph) (t u : ℕ) → HasPath g t u → (v : ℕ) × (has_ended (fanins_of g v) u ≡ true)
 last_read g _ _ (at_once t u r) = (t, r)
 last_read g _ _ (by_way_of t u v r more) = last_read g u v more
 
 -- reached nodes are nodes of the graph
-pub reached_few : (g : Graph) (node at : ℕ) (set : List ℕ) → IsClosed g (length g) → IsDistinct eqb set → Reaches g node at set → length set ≤ length g
-reached_few g node at set closed distinct r = length-le_from_distinct_below set (length g) distinct (λ q h. let last : (v : ℕ) × (has_ended (reads_of g v) q ≡ true) = last_read g node q (r.leads q h) in closed last.0 q last.1)
+pub reached_few : (g : Graph) (node at : ℕ) (set : List ℕ) → IsClosedGraph g (length g) → IsDistinct eqb set → Reaches g node at set → length set ≤ length g
+reached_few g node at set closed distinct r = length-le_from_distinct_below set (length g) distinct
+    (λ q h. let last : (v : ℕ) × (has_ended (fanins_of g v) q ≡ true) = last_read g node q (r.leads q h) in
+    closed last.0 q last.1)
 
 pub ruleset searches = (common_steps, reaches_start, reaches_next, reaches_end)
 
@@ -164,19 +172,19 @@ pub ruleset searches = (common_steps, reaches_start, reaches_next, reaches_end)
 
 -- no node below `node` is on a cycle
 pub record AreApart (g : Graph) (node : ℕ) : Type 0 where
-  pub apart : (u : ℕ) → u < node → LeadsTo g u u → ⊥
+  pub apart : (u : ℕ) → u < node → HasPath g u u → ⊥
 
 pub apart_start : (g : Graph) → AreApart g 0
 apart_start g = record { apart = λ u low leads. omega (arith, low) }
 
-pub apart_next : (g : Graph) (node : ℕ) → AreApart g node → (LeadsTo g node node → ⊥) → AreApart g (node + 1)
+pub apart_next : (g : Graph) (node : ℕ) → AreApart g node → (HasPath g node node → ⊥) → AreApart g (node + 1)
 apart_next g node are not_here = record {
-  apart = λ u low leads. ⊎_elim (λ l. are.apart u l leads) (λ e. not_here (subst (λ (x : ℕ). LeadsTo g x x) e leads)) (below_cases u node low);
+  apart = λ u low leads. ⊎_elim (λ l. are.apart u l leads) (λ e. not_here (subst (λ (x : ℕ). HasPath g x x) e leads)) (below_cases u node low);
 }
 
-pub apart_end : (g : Graph) (node : ℕ) → IsClosed g (length g) → length g ≤ node → AreApart g node → (u : ℕ) → LeadsTo g u u → ⊥
+pub apart_end : (g : Graph) (node : ℕ) → IsClosedGraph g (length g) → length g ≤ node → AreApart g node → (u : ℕ) → HasPath g u u → ⊥
 apart_end g node closed high are u leads =
-    let last : (v : ℕ) × (has_ended (reads_of g v) u ≡ true) = last_read g u u leads in
+    let last : (v : ℕ) × (has_ended (fanins_of g v) u ≡ true) = last_read g u u leads in
     are.apart u (omega (arith, closed last.0 u last.1, high)) leads
 
 pub ruleset firsts = (common_steps, apart_start, apart_next, apart_end)

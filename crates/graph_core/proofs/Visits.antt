@@ -5,8 +5,8 @@ use Rattle.std.specs.List.{range_with_len}
 use Rattle.std.proofs.lemmas.Grind.{common_steps}
 use Rattle.std.proofs.lemmas.Bool.{cond-true, cond-false}
 use Rattle.std.proofs.lemmas.List.Sums.{sum_by-cons, sum_by-append}
-use Rattle.graph_core.specs.Visit.{Graph, reads_of, has_ended, each, put_last, visit, order_of}
-use Rattle.graph_core.specs.Frames.{Entered, ended, all_ended, turns, frame_turns, all_turns}
+use Rattle.graph_core.specs.Visit.{Graph, fanins_of, has_ended, each, put_last, visit, order_of}
+use Rattle.graph_core.specs.Frames.{Entered, ended, all_ended, most_steps, frame_steps, all_steps}
 
 -- ---- one node
 
@@ -23,12 +23,13 @@ visit_deep g zero order t e none = cond-false (has_ended order t) (Some order) N
 visit_deep g (suc depth) order t e none = absurd (omega arith)
 
 -- an entered node
-pub visit_new : (g : Graph) (depth : ℕ) (order : List ℕ) (t : ℕ) → has_ended order t ≡ false → depth ≢ 0 → visit g depth order t ≡ ended g (record { node = t; left = reads_of g t; depth = depth - 1 }) (Some order)
+pub visit_new : (g : Graph) (depth : ℕ) (order : List ℕ) (t : ℕ) → has_ended order t ≡ false → depth ≢ 0 →
+    visit g depth order t ≡ ended g (record { node = t; left = fanins_of g t; depth = depth - 1 }) (Some order)
 unfolding visit ended
 visit_new g zero order t e some = absurd (some refl)
 visit_new g (suc depth) order t e some =
     let same : depth ≡ suc depth - 1 = omega arith in
-    cond-false (has_ended order t) (Some order) _ e ∙ ap (λ (d : ℕ). put_last t (each (visit g d) (Some order) (reads_of g t))) same
+    cond-false (has_ended order t) (Some order) _ e ∙ ap (λ (d : ℕ). put_last t (each (visit g d) (Some order) (fanins_of g t))) same
 
 -- ---- several
 
@@ -62,35 +63,39 @@ ended-last g node depth [] order e = refl
 ended-last g node depth (t ∷ left) order e = absurd (omega arith)
 
 -- the next fanin
-pub ended-next : (g : Graph) (node depth next : ℕ) (left rest order : List ℕ) → left ≡ next ∷ rest → ended g (record { node = node; left = left; depth = depth }) (Some order) ≡ ended g (record { node = node; left = rest; depth = depth }) (visit g depth order next)
+pub ended-next : (g : Graph) (node depth next : ℕ) (left rest order : List ℕ) → left ≡ next ∷ rest →
+    ended g (record { node = node; left = left; depth = depth }) (Some order) ≡
+    ended g (record { node = node; left = rest; depth = depth }) (visit g depth order next)
 unfolding ended each
 ended-next g node depth next left rest order e = ap (λ (xs : List ℕ). put_last node (each (visit g depth) (Some order) xs)) e
 
 -- ---- counting steps
 
-pub all_turns-push : (g : Graph) (fs : List Entered) (f : Entered) → all_turns g (fs ++ f ∷ []) ≡ all_turns g fs + frame_turns g f
-unfolding all_turns
-all_turns-push g fs f = omega (arith, sum_by-append (frame_turns g) fs (f ∷ []))
+pub all_steps-push : (g : Graph) (fs : List Entered) (f : Entered) → all_steps g (fs ++ f ∷ []) ≡ all_steps g fs + frame_steps g f
+unfolding all_steps
+all_steps-push g fs f = omega (arith, sum_by-append (frame_steps g) fs (f ∷ []))
 
-pub turns-some : (g : Graph) (depth t : ℕ) → 0 < turns g depth t
-unfolding turns
-turns-some g zero t = omega arith
-turns-some g (suc depth) t = omega arith
+pub most_steps-some : (g : Graph) (depth t : ℕ) → 0 < most_steps g depth t
+unfolding most_steps
+most_steps-some g zero t = omega arith
+most_steps-some g (suc depth) t = omega arith
 
-pub turns-new : (g : Graph) (depth t : ℕ) → depth ≢ 0 → frame_turns g (record { node = t; left = reads_of g t; depth = depth - 1 }) < turns g depth t
-unfolding turns frame_turns
-turns-new g zero t some = absurd (some refl)
-turns-new g (suc depth) t some =
+pub most_steps-new : (g : Graph) (depth t : ℕ) → depth ≢ 0 → frame_steps g (record { node = t; left = fanins_of g t; depth = depth - 1 }) < most_steps g depth t
+unfolding most_steps frame_steps
+most_steps-new g zero t some = absurd (some refl)
+most_steps-new g (suc depth) t some =
     let same : suc depth - 1 ≡ depth = omega arith in
-    subst (λ (d : ℕ). 1 + sum_by (turns g d) (reads_of g t) < 2 + sum_by (turns g depth) (reads_of g t)) (sym same) (omega arith)
+    subst (λ (d : ℕ). 1 + sum_by (most_steps g d) (fanins_of g t) < 2 + sum_by (most_steps g depth) (fanins_of g t)) (sym same) (omega arith)
 
-pub frame_turns-next : (g : Graph) (node depth next : ℕ) (left rest : List ℕ) → left ≡ next ∷ rest → frame_turns g (record { node = node; left = left; depth = depth }) ≡ turns g depth next + frame_turns g (record { node = node; left = rest; depth = depth })
-unfolding frame_turns
-frame_turns-next g node depth next left rest e = omega (arith, ap (sum_by (turns g depth)) e, sum_by-cons (turns g depth) next rest)
+pub frame_steps-next : (g : Graph) (node depth next : ℕ) (left rest : List ℕ) → left ≡ next ∷ rest →
+    frame_steps g (record { node = node; left = left; depth = depth }) ≡
+    most_steps g depth next + frame_steps g (record { node = node; left = rest; depth = depth })
+unfolding frame_steps
+frame_steps-next g node depth next left rest e = omega (arith, ap (sum_by (most_steps g depth)) e, sum_by-cons (most_steps g depth) next rest)
 
-pub frame_turns-some : (g : Graph) (f : Entered) → 0 < frame_turns g f
-unfolding frame_turns
-frame_turns-some g f = omega arith
+pub frame_steps-some : (g : Graph) (f : Entered) → 0 < frame_steps g f
+unfolding frame_steps
+frame_steps-some g f = omega arith
 
 -- ---- the frame on top of the stack
 
@@ -98,7 +103,9 @@ abbrev pub entered : ℕ → List ℕ → ℕ → Entered
 entered node left depth = record { node = node; left = left; depth = depth }
 
 -- its next fanin is visited
-pub last_next : (g : Graph) (stack fs : List Entered) (node depth next : ℕ) (left rest order : List ℕ) → stack ≡ fs ++ entered node left depth ∷ [] → left ≡ next ∷ rest → all_ended g stack (Some order) ≡ all_ended g (fs ++ entered node rest depth ∷ []) (visit g depth order next)
+pub last_next : (g : Graph) (stack fs : List Entered) (node depth next : ℕ) (left rest order : List ℕ) → stack ≡ fs ++
+    entered node left depth ∷ [] → left ≡ next ∷ rest → all_ended g stack (Some order) ≡ all_ended g (fs ++
+    entered node rest depth ∷ []) (visit g depth order next)
 last_next g stack fs node depth next left rest order e l =
     ap (λ (xs : List Entered). all_ended g xs (Some order)) e
     ∙ all_ended-push g fs (entered node left depth) (Some order)
@@ -106,34 +113,69 @@ last_next g stack fs node depth next left rest order e l =
     ∙ sym (all_ended-push g fs (entered node rest depth) (visit g depth order next))
 
 -- its next fanin is already finished
-pub last_seen : (g : Graph) (stack fs : List Entered) (node depth next : ℕ) (left rest order : List ℕ) → stack ≡ fs ++ entered node left depth ∷ [] → left ≡ next ∷ rest → has_ended order next ≡ true → all_ended g (fs ++ entered node rest depth ∷ []) (Some order) ≡ all_ended g stack (Some order)
+pub last_seen : (g : Graph) (stack fs : List Entered) (node depth next : ℕ) (left rest order : List ℕ) → stack ≡ fs ++
+    entered node left depth ∷ [] → left ≡ next ∷ rest → has_ended order next ≡ true →
+    all_ended g (fs ++ entered node rest depth ∷ []) (Some order) ≡ all_ended g stack (Some order)
 last_seen g stack fs node depth next left rest order e l seen =
     sym (last_next g stack fs node depth next left rest order e l ∙ ap (all_ended g (fs ++ entered node rest depth ∷ [])) (visit_seen g depth order next seen))
 
 -- its next fanin isn't entered, since the depth is used up
-pub last_deep : (g : Graph) (stack fs : List Entered) (node depth next : ℕ) (left rest order : List ℕ) → stack ≡ fs ++ entered node left depth ∷ [] → left ≡ next ∷ rest → has_ended order next ≡ false → depth ≡ 0 → None ≡ all_ended g stack (Some order)
+pub last_deep : (g : Graph) (stack fs : List Entered) (node depth next : ℕ) (left rest order : List ℕ) → stack ≡ fs ++
+    entered node left depth ∷ [] → left ≡ next ∷ rest → has_ended order next ≡ false → depth ≡ 0 →
+    None ≡ all_ended g stack (Some order)
 last_deep g stack fs node depth next left rest order e l new none =
-    sym (last_next g stack fs node depth next left rest order e l ∙ ap (all_ended g (fs ++ entered node rest depth ∷ [])) (visit_deep g depth order next new none) ∙ all_ended-none g (fs ++ entered node rest depth ∷ []))
+    sym (last_next g stack fs node depth next left rest order e l
+    ∙ ap (all_ended g (fs ++ entered node rest depth ∷ [])) (visit_deep g depth order next new none)
+    ∙ all_ended-none g (fs ++ entered node rest depth ∷ []))
 
 -- its next fanin is entered
-pub last_new : (g : Graph) (stack fs : List Entered) (node depth next : ℕ) (left rest order : List ℕ) → stack ≡ fs ++ entered node left depth ∷ [] → left ≡ next ∷ rest → has_ended order next ≡ false → depth ≢ 0 → all_ended g ((fs ++ entered node rest depth ∷ []) ++ entered next (reads_of g next) (depth - 1) ∷ []) (Some order) ≡ all_ended g stack (Some order)
+pub last_new : (g : Graph) (stack fs : List Entered) (node depth next : ℕ) (left rest order : List ℕ) → stack ≡ fs ++
+    entered node left depth ∷ [] → left ≡ next ∷ rest → has_ended order next ≡ false → depth ≢ 0 →
+    all_ended g ((fs ++ entered node rest depth ∷ []) ++ entered next (fanins_of g next) (depth - 1) ∷ [])
+    (Some order) ≡ all_ended g stack (Some order)
 last_new g stack fs node depth next left rest order e l new some =
-    all_ended-push g (fs ++ entered node rest depth ∷ []) (entered next (reads_of g next) (depth - 1)) (Some order)
+    all_ended-push g (fs ++ entered node rest depth ∷ []) (entered next (fanins_of g next) (depth - 1)) (Some order)
     ∙ sym (last_next g stack fs node depth next left rest order e l ∙ ap (all_ended g (fs ++ entered node rest depth ∷ [])) (visit_new g depth order next new some))
 
 -- the number of remaining steps decreases
-pub last_turns : (g : Graph) (stack fs : List Entered) (node depth next : ℕ) (left rest : List ℕ) → stack ≡ fs ++ entered node left depth ∷ [] → left ≡ next ∷ rest → all_turns g (fs ++ entered node rest depth ∷ []) < all_turns g stack
-last_turns g stack fs node depth next left rest e l =
-    omega (arith, ap (all_turns g) e, all_turns-push g fs (entered node left depth), all_turns-push g fs (entered node rest depth), frame_turns-next g node depth next left rest l, turns-some g depth next)
+pub last_steps : (g : Graph) (stack fs : List Entered) (node depth next : ℕ) (left rest : List ℕ) → stack ≡ fs ++
+    entered node left depth ∷ [] → left ≡ next ∷ rest →
+    all_steps g (fs ++ entered node rest depth ∷ []) < all_steps g stack
+last_steps g stack fs node depth next left rest e l =
+    omega (
+      arith,
+      ap (all_steps g) e,
+      all_steps-push g fs (entered node left depth),
+      all_steps-push g fs (entered node rest depth),
+      frame_steps-next g node depth next left rest l,
+      most_steps-some g depth next,
+    )
 
-pub ruleset visits = (common_steps, visit_seen, visit_deep, visit_new, all_ended-push, all_ended-nothing, all_ended-none, ended-last, ended-next, all_turns-push, turns-some, turns-new, frame_turns-next, frame_turns-some)
+pub ruleset visits = (
+  common_steps,
+  visit_seen,
+  visit_deep,
+  visit_new,
+  all_ended-push,
+  all_ended-nothing,
+  all_ended-none,
+  ended-last,
+  ended-next,
+  all_steps-push,
+  most_steps-some,
+  most_steps-new,
+  frame_steps-next,
+  frame_steps-some,
+)
 
 -- ---- all nodes
 
 shorter : (node n : ℕ) → node < n → n - node ≡ suc (n - (node + 1))
 shorter node n low = omega arith
 
-each-next : (g : Graph) (n node : ℕ) (order : List ℕ) → node < n → each (visit g n) (Some order) (range_with_len node (n - node)) ≡ each (visit g n) (visit g n order node) (range_with_len (node + 1) (n - (node + 1)))
+each-next : (g : Graph) (n node : ℕ) (order : List ℕ) → node < n →
+    each (visit g n) (Some order) (range_with_len node (n - node)) ≡
+    each (visit g n) (visit g n order node) (range_with_len (node + 1) (n - (node + 1)))
 unfolding each
 each-next g n node order low = ap (λ k. each (visit g n) (Some order) (range_with_len node k)) (shorter node n low)
 
@@ -156,7 +198,9 @@ order_next g node old new low e = ap (λ o. each (visit g (length g)) o (range_w
 -- a visit failed
 pub order_fails : (g : Graph) (node : ℕ) (old : List ℕ) → node < length g → None ≡ visit g (length g) old node → None ≡ order_from g node old
 order_fails g node old low e =
-    sym (each-next g (length g) node old low ∙ ap (λ o. each (visit g (length g)) o (range_with_len (node + 1) (length g - (node + 1)))) (sym e) ∙ each-none (visit g (length g)) (range_with_len (node + 1) (length g - (node + 1))))
+    sym (each-next g (length g) node old low ∙ ap (λ o.
+    each (visit g (length g)) o (range_with_len (node + 1) (length g - (node + 1)))) (sym e)
+    ∙ each-none (visit g (length g)) (range_with_len (node + 1) (length g - (node + 1))))
 
 pub order_end : (g : Graph) (node : ℕ) (order : List ℕ) → length g ≤ node → Some order ≡ order_from g node order
 order_end g node order high = sym (each-end g (length g) node order high)

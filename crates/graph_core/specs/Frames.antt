@@ -1,6 +1,6 @@
 -- The stack of a depth-first search: nodes that were entered and aren't finished.
 use Rattle.std.specs.Prelude.{ℕ, ◌+◌, zero, suc, Bool, true, false, List, [], ◌∷◌, Option, Some, None, sum_by}
-use Rattle.graph_core.specs.Visit.{Graph, reads_of, each, put_last, visit}
+use Rattle.graph_core.specs.Visit.{Graph, fanins_of, each, put_last, visit}
 
 pub record Entered : Type 0 where
   pub node : ℕ
@@ -8,9 +8,9 @@ pub record Entered : Type 0 where
   pub depth : ℕ
 
 -- the result of a visit: the order if it succeeded, else none
-abbrev pub told : Bool → List ℕ → Option (List ℕ)
-told true order = Some order
-told false order = None
+abbrev pub reported : Bool → List ℕ → Option (List ℕ)
+reported true order = Some order
+reported false order = None
 
 -- the rest of a frame's visit: visit its remaining fanins, then finish its node
 unfoldable pub ended : Graph → Entered → Option (List ℕ) → Option (List ℕ)
@@ -22,12 +22,12 @@ all_ended g [] order = order
 all_ended g (f ∷ fs) order = ended g f (all_ended g fs order)
 
 -- an upper bound on the steps of a visit
-unfoldable pub turns : Graph → ℕ → ℕ → ℕ
-turns g zero t = 1
-turns g (suc depth) t = 2 + sum_by (turns g depth) (reads_of g t)
+unfoldable pub most_steps : Graph → ℕ → ℕ → ℕ
+most_steps g zero t = 1
+most_steps g (suc depth) t = 2 + sum_by (most_steps g depth) (fanins_of g t)
 
-unfoldable pub frame_turns : Graph → Entered → ℕ
-frame_turns g f = 1 + sum_by (turns g f.depth) f.left
+unfoldable pub frame_steps : Graph → Entered → ℕ
+frame_steps g f = 1 + sum_by (most_steps g f.depth) f.left
 
-unfoldable pub all_turns : Graph → List Entered → ℕ
-all_turns g fs = sum_by (frame_turns g) fs
+unfoldable pub all_steps : Graph → List Entered → ℕ
+all_steps g fs = sum_by (frame_steps g) fs

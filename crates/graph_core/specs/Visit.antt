@@ -6,8 +6,8 @@ use Rattle.std.specs.List.{list_any, range_with_len, slice_index_or}
 abbrev pub Graph : Type 0
 Graph = List (List ℕ)
 
-abbrev pub reads_of : Graph → ℕ → List ℕ
-reads_of g t = slice_index_or g t []
+abbrev pub fanins_of : Graph → ℕ → List ℕ
+fanins_of g t = slice_index_or g t []
 
 -- whether a node is finished: it is in the order so far
 abbrev pub has_ended : List ℕ → ℕ → Bool
@@ -27,7 +27,7 @@ put_last t (Some order) = Some (if has_ended order t then order else order ++ t 
 -- a path of more than `depth` nodes; if `depth` is the number of nodes, that is a cycle.
 unfoldable pub visit : Graph → ℕ → List ℕ → ℕ → Option (List ℕ)
 visit g zero order t = if has_ended order t then Some order else None
-visit g (suc depth) order t = if has_ended order t then Some order else put_last t (each (visit g depth) (Some order) (reads_of g t))
+visit g (suc depth) order t = if has_ended order t then Some order else put_last t (each (visit g depth) (Some order) (fanins_of g t))
 
 -- visits all nodes, in their order
 -- Example: where node 0 reads node 2 and then node 1, and these read nothing, it is 2, 1, 0.

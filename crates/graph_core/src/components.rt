@@ -2,7 +2,7 @@
 //! another component has a smaller number, and nodes on a cycle have the same number. Nothing is proved about
 //! the numbers; `cycles.rt` checks them.
 
-use crate::visiting::{Reads, reads_of};
+use crate::visiting::{Fanins, fanins_of};
 use std::alloc::{AllocError, Global};
 
 /// A node on the stack of the search, and the index of its next fanin.
@@ -102,14 +102,14 @@ impl Search {
     }
 
     /// One step of the call on top of the stack. Returns false if the stack is empty.
-    fn step(&mut self, graph: &[Reads]) -> Result<bool, AllocError> {
+    fn step(&mut self, graph: &[Fanins]) -> Result<bool, AllocError> {
         let Some(call) = self.calls.pop() else {
             return Ok(false);
         };
         if call.at == 0 {
             self.enter(call.node)?;
         }
-        match reads_of(graph, call.node).get(call.at) {
+        match fanins_of(graph, call.node).get(call.at) {
             Some(read) => self.look(call, *read)?,
             None => self.leave(call.node),
         }
@@ -117,7 +117,7 @@ impl Search {
     }
 
     /// Searches from `root`, which wasn't visited yet.
-    fn search(&mut self, graph: &[Reads], root: u32) -> Result<(), AllocError> {
+    fn search(&mut self, graph: &[Fanins], root: u32) -> Result<(), AllocError> {
         self.calls.push(Call { node: root, at: 0 })?;
         for _ in 0..u64::MAX {
             if !self.step(graph)? {
@@ -129,7 +129,7 @@ impl Search {
 }
 
 /// The component number of each node.
-pub fn component_numbers(alloc: Global, graph: &[Reads]) -> Result<Vec<u32>, AllocError> {
+pub fn component_numbers(alloc: Global, graph: &[Fanins]) -> Result<Vec<u32>, AllocError> {
     let mut search = Search::new(alloc, graph.len())?;
     for root in 0..u32::try_from(graph.len()).unwrap_or(0) {
         if cell(&search.indices, root) == 0 {

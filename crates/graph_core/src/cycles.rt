@@ -2,14 +2,15 @@
 //! Then a node whose fanins all have smaller numbers is on no cycle; any other node is decided by a search of
 //! all nodes that it reaches.
 
-ghost use Rattle.std.specs.Prelude.{◌≡◌, ℕ, ◌+◌, ◌≤◌, ◌<◌, ◌^◌, ◌↔◌, true, length, IsTrue, IfNone, OnOk, IfOk, slice_index, slice_get, nat_eq};
+ghost use Rattle.std.specs.Prelude.{◌≡◌, ℕ, ◌+◌, ◌≤◌, ◌<◌, ◌^◌, ◌↔◌, true, length, IsTrue, IfNone, OnOk, IfOk};
+ghost use Rattle.std.specs.Prelude.{slice_index, slice_get, nat_eq};
 ghost use Rattle.std.specs.List.{IsDistinct};
 ghost use Rattle.graph_core.specs.Visit.{has_ended};
-ghost use Rattle.graph_core.specs.VisitLaws.{IsClosed, LeadsTo};
-ghost use Rattle.graph_core.specs.Cycles.{added, Fall, IsFirstLeading, AreLedTo};
+ghost use Rattle.graph_core.specs.VisitLaws.{IsClosedGraph, HasPath};
+ghost use Rattle.graph_core.specs.Cycles.{added, NeverRises, IsFirstCyclicNode, AreReached};
 
 use crate::components::component_numbers;
-use crate::visiting::{Reads, reads_of};
+use crate::visiting::{Fanins, fanins_of};
 use indexmap::IndexSet;
 use std::alloc::{AllocError, Global};
 
@@ -49,12 +50,12 @@ fn number_of(numbers: &[u32], node: u32) -> u32
 }
 
 /// Whether no node has a smaller number than one of its fanins.
-fn fall(graph: &[Reads], numbers: &[u32]) -> bool
+fn never_rises(graph: &[Fanins], numbers: &[u32]) -> bool
     requires { length graph.now < 2 ^ 32 }
-    ensures { IsTrue result → Fall graph.now numbers.now }
+    ensures { IsTrue result → NeverRises graph.now numbers.now }
 {
     for node in 0..graph.len() as u32 {
-        if !are_within(numbers, reads_of(graph, node), number_of(numbers, node)) {
+        if !are_within(numbers, fanins_of(graph, node), number_of(numbers, node)) {
             return false;
         }
     }
@@ -62,11 +63,11 @@ fn fall(graph: &[Reads], numbers: &[u32]) -> bool
 }
 
 /// Whether all fanins of `node` have smaller numbers, so that it is on no cycle.
-fn is_apart(graph: &[Reads], numbers: &[u32], node: u32) -> bool
-    requires { Fall graph.now numbers.now }
-    ensures { IsTrue result → LeadsTo graph.now node node → ⊥ }
+fn is_apart(graph: &[Fanins], numbers: &[u32], node: u32) -> bool
+    requires { NeverRises graph.now numbers.now }
+    ensures { IsTrue result → HasPath graph.now node node → ⊥ }
 {
-    are_below(numbers, reads_of(graph, node), number_of(numbers, node))
+    are_below(numbers, fanins_of(graph, node), number_of(numbers, node))
 }
 
 /// Adds `nodes` to `set`, each once.
@@ -98,24 +99,24 @@ fn node_at(set: &IndexSet<u32>, at: usize) -> Option<u32>
 
 /// All nodes that `node` reaches, by one or more edges.
 #[tactic(auto, using(crate::proofs::CycleLemmas::searches))]
-fn reached(alloc: Global, graph: &[Reads], node: u32) -> Result<IndexSet<u32>, AllocError>
-    requires { IsClosed graph.now (length graph.now) }
-    ensures { IfOk result (λ set. AreLedTo graph.now node set.keys) }
+fn reached(alloc: Global, graph: &[Fanins], node: u32) -> Result<IndexSet<u32>, AllocError>
+    requires { IsClosedGraph graph.now (length graph.now) }
+    ensures { IfOk result (λ set. AreReached graph.now node set.keys) }
 {
     let mut set = IndexSet::new(alloc);
-    add_all(&mut set, reads_of(graph, node))?;
+    add_all(&mut set, fanins_of(graph, node))?;
     let mut at: usize = 0;
     while let Some(next) = node_at(&set, at) {
-        add_all(&mut set, reads_of(graph, next))?;
+        add_all(&mut set, fanins_of(graph, next))?;
         at += 1;
     }
     Ok(set)
 }
 
 /// Whether `node` reaches itself, by a search.
-fn leads_back(alloc: Global, graph: &[Reads], node: u32) -> Result<bool, AllocError>
-    requires { IsClosed graph.now (length graph.now) }
-    ensures { IfOk result (λ answer. IsTrue answer ↔ LeadsTo graph.now node node) }
+fn reaches_itself(alloc: Global, graph: &[Fanins], node: u32) -> Result<bool, AllocError>
+    requires { IsClosedGraph graph.now (length graph.now) }
+    ensures { IfOk result (λ answer. IsTrue answer ↔ HasPath graph.now node node) }
 {
     let set = reached(alloc, graph, node)?;
     Ok(set.contains(&node))
@@ -123,18 +124,18 @@ fn leads_back(alloc: Global, graph: &[Reads], node: u32) -> Result<bool, AllocEr
 
 /// The first node (of the least index) that is on a cycle; None if the graph is acyclic.
 #[tactic(auto, using(crate::proofs::CycleLemmas::firsts))]
-pub fn first_cyclic(alloc: Global, graph: &[Reads]) -> Result<Option<u32>, AllocError>
+pub fn first_cyclic(alloc: Global, graph: &[Fanins]) -> Result<Option<u32>, AllocError>
     requires small { length graph.now < 2 ^ 32 }
-    requires closed { IsClosed graph.now (length graph.now) }
-    ensures { IfOk result (λ first. IsFirstLeading graph.now first) }
+    requires closed { IsClosedGraph graph.now (length graph.now) }
+    ensures { IfOk result (λ first. IsFirstCyclicNode graph.now first) }
 {
     let numbers = component_numbers(alloc, graph)?;
-    let are_numbers_good = fall(graph, &numbers);
+    let are_numbers_good = never_rises(graph, &numbers);
     for node in 0..graph.len() as u32 {
         if are_numbers_good && is_apart(graph, &numbers, node) {
             continue;
         }
-        if leads_back(alloc, graph, node)? {
+        if reaches_itself(alloc, graph, node)? {
             return Ok(Some(node));
         }
     }

@@ -17,4 +17,4 @@ mod cycles;
 mod visiting;
 
 pub use cycles::first_cyclic;
-pub use visiting::{Reads, visit_all};
+pub use visiting::{Fanins, visit_all};

@@ -4,7 +4,7 @@
 ghost use Rattle.std.specs.Prelude.{◌≡◌, ℕ, ◌<◌, ◌^◌, [], length, slice_index_or, Some, None, Option, IfOk};
 ghost use Rattle.std.specs.Option.{option_map};
 ghost use Rattle.graph_core.specs.Visit.{visit, order_of};
-ghost use Rattle.graph_core.specs.Frames.{told};
+ghost use Rattle.graph_core.specs.Frames.{reported};
 
 use indexmap::IndexSet;
 use std::alloc::{AllocError, Global};
@@ -12,9 +12,9 @@ use std::marker::Model;
 
 /// The fanins of a node: the nodes that it reads, in the order of its inputs.
 #[derive(Drop)]
-pub struct Reads(Vec<u32>);
+pub struct Fanins(Vec<u32>);
 
-impl Model for Reads {
+impl Model for Fanins {
     ghost use Rattle.std.specs.Prelude.{List, ℕ};
 
     ghost Value = { List ℕ };
@@ -22,12 +22,12 @@ impl Model for Reads {
     ghost view = { λ r. r.0.items };
 }
 
-impl Reads {
+impl Fanins {
     /// The list of these fanins.
-    pub fn new(nodes: Vec<u32>) -> Reads
+    pub fn new(nodes: Vec<u32>) -> Fanins
         ensures { result ≡ nodes.items }
     {
-        Reads(nodes)
+        Fanins(nodes)
     }
 
     /// The fanins.
@@ -39,7 +39,7 @@ impl Reads {
 }
 
 /// The fanins of `node`; none if the graph has no such node.
-pub fn reads_of(graph: &[Reads], node: u32) -> &[u32]
+pub fn fanins_of(graph: &[Fanins], node: u32) -> &[u32]
     ensures { result.now ≡ slice_index_or graph.now node [] }
 {
     if (node as usize) < graph.len() {
@@ -70,12 +70,12 @@ impl<'a> Model for Frame<'a> {
 #[tactic(auto, using(crate::proofs::Visits::visits))]
 fn visit_from(
     alloc: Global,
-    graph: &[Reads],
+    graph: &[Fanins],
     depth: usize,
     order: &mut IndexSet<u32>,
     node: u32,
 ) -> Result<bool, AllocError>
-    ensures { IfOk result (λ is_done. told is_done order.new.keys ≡ visit graph.now depth order.old.keys node) }
+    ensures { IfOk result (λ is_done. reported is_done order.new.keys ≡ visit graph.now depth order.old.keys node) }
 {
     if order.contains(&node) {
         return Ok(true);
@@ -86,7 +86,7 @@ fn visit_from(
     let mut stack = Vec::new(alloc);
     stack.push(Frame {
         node,
-        left: reads_of(graph, node),
+        left: fanins_of(graph, node),
         depth: depth - 1,
     })?;
     while let Some(frame) = stack.pop() {
@@ -108,7 +108,7 @@ fn visit_from(
         }
         stack.push(Frame {
             node: *next,
-            left: reads_of(graph, *next),
+            left: fanins_of(graph, *next),
             depth: depth - 1,
         })?;
     }
@@ -125,7 +125,7 @@ fn in_order(alloc: Global, set: &IndexSet<u32>) -> Result<Vec<u32>, AllocError>
 /// A topological order of all nodes, each after its fanins: the postorder of a depth-first search that starts from
 /// the nodes in order. None if some node is on a cycle.
 #[tactic(auto, using(crate::proofs::Visits::orders))]
-pub fn visit_all(alloc: Global, graph: &[Reads]) -> Result<Option<Vec<u32>>, AllocError>
+pub fn visit_all(alloc: Global, graph: &[Fanins]) -> Result<Option<Vec<u32>>, AllocError>
     requires { length graph.now < 2 ^ 32 }
     ensures { IfOk result (λ order. option_map (λ nodes. nodes.items) order ≡ order_of graph.now) }
 {

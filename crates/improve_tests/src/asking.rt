@@ -12,15 +12,15 @@ use std::alloc::Global;
 fn settings(cap: u32, rounds: u32, conflicts: u32, observe: bool) -> ImproveSettings
     ensures { IsInRange result }
 {
-    let usual = ImproveSettings::usual();
+    let defaults = ImproveSettings::defaults();
     ImproveSettings {
-        basis: usual.basis,
-        method: usual.method,
+        basis: defaults.basis,
+        method: defaults.method,
         cap: cap.min(8),
         rounds: rounds.clamp(1, 1000),
         conflicts: conflicts.clamp(1, 100_000),
         observe,
-        effort: usual.effort,
+        effort: defaults.effort,
     }
 }
 
@@ -29,15 +29,15 @@ fn gates_alone() -> ImproveSettings
     ensures range { IsInRange result }
     ensures fits { FitsFormat bench_format result }
 {
-    let usual = ImproveSettings::usual();
+    let defaults = ImproveSettings::defaults();
     ImproveSettings {
         basis: Basis::new(17_346),
-        method: usual.method,
-        cap: usual.cap,
-        rounds: usual.rounds,
-        conflicts: usual.conflicts,
-        observe: usual.observe,
-        effort: usual.effort,
+        method: defaults.method,
+        cap: defaults.cap,
+        rounds: defaults.rounds,
+        conflicts: defaults.conflicts,
+        observe: defaults.observe,
+        effort: defaults.effort,
     }
 }
 

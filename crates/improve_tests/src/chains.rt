@@ -2,15 +2,15 @@
 
 ghost use Rattle.std.specs.Prelude.{◌≤◌, length, IfOk, IfSome, IsTrue};
 ghost use Rattle.window_theory.specs.Window.{Belongs};
-ghost use Rattle.window_theory.specs.Splice.{Fits};
+ghost use Rattle.window_theory.specs.Substituted.{Fits};
 ghost use Rattle.subst_core.specs.Substitution.{Meets};
 
 use crate::nets::{Plan, is_planned, planned};
 use crate::windows::alone;
 use chain_core::{Chain, first_difference, read_chain};
-use net_core::{Net, Sig, drop_dead};
+use net_core::{Net, Sig, remove_dangling};
 use std::alloc::{AllocError, Global};
-use subst_core::{WindowLists, splice, substitute};
+use subst_core::{WindowLists, rebuild_substituted, substitute};
 use window_core::{Window, spec_of};
 
 /// A window, and a chain for it.
@@ -56,7 +56,7 @@ struct Row {
 }
 
 /// Whether the substitution leaves the net `left`.
-fn is_spliced(alloc: Global, net: &Net, pair: &Pair, left: &Plan) -> bool
+fn is_rebuilt(alloc: Global, net: &Net, pair: &Pair, left: &Plan) -> bool
     requires belongs { Belongs net.now pair.now.window }
     requires fits { Fits pair.now.window pair.now.chain }
     requires few { length pair.now.chain.steps ≤ length pair.now.window.gates }
@@ -68,7 +68,7 @@ fn is_spliced(alloc: Global, net: &Net, pair: &Pair, left: &Plan) -> bool
         inputs: pair.window.inputs(),
         outputs: pair.window.outputs(),
     };
-    match splice(alloc, net, &lists, &pair.chain) {
+    match rebuild_substituted(alloc, net, &lists, &pair.chain) {
         Ok(new) => is_planned(&new, left),
         Err(_) => false,
     }
@@ -106,7 +106,7 @@ fn is_substituted(alloc: Global, net: &Net, pair: &Pair, left: &Plan, live: &Pla
     if !is_planned(&all, left) {
         return false;
     }
-    match drop_dead(alloc, &all) {
+    match remove_dangling(alloc, &all) {
         Ok(new) => is_planned(&new, live),
         Err(_) => false,
     }
@@ -120,7 +120,7 @@ fn leaves(alloc: Global, net: &Net, pair: &Pair, row: &Row) -> bool
 {
     match row.live {
         Some(live) => is_substituted(alloc, net, pair, row.left, live),
-        None => is_spliced(alloc, net, pair, row.left),
+        None => is_rebuilt(alloc, net, pair, row.left),
     }
 }
 
@@ -139,17 +139,17 @@ fn is_left(alloc: Global, row: &Row) -> bool {
 const TWO: Plan = Plan {
     sources: 2,
     gates: &[
-        (14, Sig::Place(1), Sig::Place(2)),
-        (14, Sig::Place(3), Sig::Place(3)),
+        (14, Sig::Node(1), Sig::Node(2)),
+        (14, Sig::Node(3), Sig::Node(3)),
     ],
-    sinks: &[Sig::Place(4)],
+    sinks: &[Sig::Node(4)],
 };
 
 /// AND of two inputs by one gate.
 const AND: Plan = Plan {
     sources: 2,
-    gates: &[(1, Sig::Place(1), Sig::Place(2))],
-    sinks: &[Sig::Place(3)],
+    gates: &[(1, Sig::Node(1), Sig::Node(2))],
+    sinks: &[Sig::Node(3)],
 };
 
 /// Three gates over two sources; the first has a gate and a sink as fanouts, and a sink is a
@@ -157,87 +157,87 @@ const AND: Plan = Plan {
 const THREE: Plan = Plan {
     sources: 2,
     gates: &[
-        (1, Sig::Place(1), Sig::Place(2)),
-        (7, Sig::Place(1), Sig::Place(3)),
-        (6, Sig::Place(1), Sig::Place(2)),
+        (1, Sig::Node(1), Sig::Node(2)),
+        (7, Sig::Node(1), Sig::Node(3)),
+        (6, Sig::Node(1), Sig::Node(2)),
     ],
-    sinks: &[Sig::Place(4), Sig::Place(5), Sig::Place(3), Sig::Place(2)],
+    sinks: &[Sig::Node(4), Sig::Node(5), Sig::Node(3), Sig::Node(2)],
 };
 
 /// The remaining ones where a source replaces the first.
 const THREE_LEFT: Plan = Plan {
     sources: 2,
     gates: &[
-        (7, Sig::Place(1), Sig::Place(1)),
-        (6, Sig::Place(1), Sig::Place(2)),
+        (7, Sig::Node(1), Sig::Node(1)),
+        (6, Sig::Node(1), Sig::Node(2)),
     ],
-    sinks: &[Sig::Place(3), Sig::Place(4), Sig::Place(1), Sig::Place(2)],
+    sinks: &[Sig::Node(3), Sig::Node(4), Sig::Node(1), Sig::Node(2)],
 };
 
 /// A gate over constants alone, read by two sinks.
 const CONSTANT: Plan = Plan {
     sources: 1,
     gates: &[(1, Sig::One, Sig::Zero)],
-    sinks: &[Sig::Place(2), Sig::Place(1), Sig::One, Sig::Place(2)],
+    sinks: &[Sig::Node(2), Sig::Node(1), Sig::One, Sig::Node(2)],
 };
 
 /// The same without the gate.
 const NO_GATE: Plan = Plan {
     sources: 1,
     gates: &[],
-    sinks: &[Sig::Zero, Sig::Place(1), Sig::One, Sig::Zero],
+    sinks: &[Sig::Zero, Sig::Node(1), Sig::One, Sig::Zero],
 };
 
 /// The first gate is a fanin of the window of the third, and neither the second nor the last is.
 const AROUND: Plan = Plan {
     sources: 2,
     gates: &[
-        (6, Sig::Place(1), Sig::Place(2)),
-        (9, Sig::Place(1), Sig::Place(2)),
-        (1, Sig::Place(2), Sig::Place(3)),
-        (7, Sig::Place(4), Sig::Place(5)),
+        (6, Sig::Node(1), Sig::Node(2)),
+        (9, Sig::Node(1), Sig::Node(2)),
+        (1, Sig::Node(2), Sig::Node(3)),
+        (7, Sig::Node(4), Sig::Node(5)),
     ],
-    sinks: &[Sig::Place(6), Sig::Place(6), Sig::Place(4)],
+    sinks: &[Sig::Node(6), Sig::Node(6), Sig::Node(4)],
 };
 
 /// The same with another gate in place of the third.
 const AROUND_LEFT: Plan = Plan {
     sources: 2,
     gates: &[
-        (6, Sig::Place(1), Sig::Place(2)),
-        (4, Sig::Place(3), Sig::Place(2)),
-        (9, Sig::Place(1), Sig::Place(2)),
-        (7, Sig::Place(5), Sig::Place(4)),
+        (6, Sig::Node(1), Sig::Node(2)),
+        (4, Sig::Node(3), Sig::Node(2)),
+        (9, Sig::Node(1), Sig::Node(2)),
+        (7, Sig::Node(5), Sig::Node(4)),
     ],
-    sinks: &[Sig::Place(6), Sig::Place(6), Sig::Place(5)],
+    sinks: &[Sig::Node(6), Sig::Node(6), Sig::Node(5)],
 };
 
 /// AND by two gates, and a dangling gate.
-const DEAD: Plan = Plan {
+const DANGLING: Plan = Plan {
     sources: 2,
     gates: &[
-        (14, Sig::Place(1), Sig::Place(2)),
-        (14, Sig::Place(3), Sig::Place(3)),
-        (6, Sig::Place(1), Sig::Place(2)),
+        (14, Sig::Node(1), Sig::Node(2)),
+        (14, Sig::Node(3), Sig::Node(3)),
+        (6, Sig::Node(1), Sig::Node(2)),
     ],
-    sinks: &[Sig::Place(4), Sig::Place(2)],
+    sinks: &[Sig::Node(4), Sig::Node(2)],
 };
 
 /// AND by one gate, and the dangling gate.
-const DEAD_LEFT: Plan = Plan {
+const DANGLING_LEFT: Plan = Plan {
     sources: 2,
     gates: &[
-        (1, Sig::Place(1), Sig::Place(2)),
-        (6, Sig::Place(1), Sig::Place(2)),
+        (1, Sig::Node(1), Sig::Node(2)),
+        (6, Sig::Node(1), Sig::Node(2)),
     ],
-    sinks: &[Sig::Place(3), Sig::Place(2)],
+    sinks: &[Sig::Node(3), Sig::Node(2)],
 };
 
 /// AND by one gate alone.
 const LIVE: Plan = Plan {
     sources: 2,
-    gates: &[(1, Sig::Place(1), Sig::Place(2))],
-    sinks: &[Sig::Place(3), Sig::Place(2)],
+    gates: &[(1, Sig::Node(1), Sig::Node(2))],
+    sinks: &[Sig::Node(3), Sig::Node(2)],
 };
 
 /// Nets, windows and chains, and the nets after substitution.
@@ -280,11 +280,11 @@ const ROWS: &[Row] = &[
     },
     // a chain that implements the window may leave dangling gates
     Row {
-        plan: &DEAD,
+        plan: &DANGLING,
         root: 4,
         count: 2,
         block: b"chain 1\nx3 x1 x2 0001\nout x3\n",
-        left: &DEAD_LEFT,
+        left: &DANGLING_LEFT,
         live: Some(&LIVE),
     },
 ];

@@ -10,10 +10,10 @@ const IDLE: Asked = Asked::Blif(0, 1000, 100_000, false);
 /// The word of a document's fault, and the name in it.
 fn named(error: &NetError) -> (&'static str, &[u8]) {
     match error {
-        NetError::DrivenTwice(told) => ("DrivenTwice", told.get()),
-        NetError::Undriven(told) => ("Undriven", told.get()),
-        NetError::Cycle(told) => ("Cycle", told.get()),
-        NetError::NotSupported(_, told) => ("NotSupported", told.get()),
+        NetError::DrivenTwice(reported) => ("DrivenTwice", reported.get()),
+        NetError::Undriven(reported) => ("Undriven", reported.get()),
+        NetError::Cycle(reported) => ("Cycle", reported.get()),
+        NetError::NotSupported(_, reported) => ("NotSupported", reported.get()),
         _ => ("another", b""),
     }
 }
@@ -23,8 +23,8 @@ fn is_refused(alloc: Global, bytes: &[u8], word: &str, name: &[u8]) -> bool {
     match refused(alloc, bytes, IDLE) {
         None => false,
         Some(error) => {
-            let (told, at) = named(&error);
-            let same = told == word && at == name;
+            let (reported, at) = named(&error);
+            let same = reported == word && at == name;
             drop(error);
             same
         }

@@ -1,8 +1,8 @@
 //! Functional hashing: gates with the same value under every assignment become one.
 
 use crate::nets::{Plan, is_planned, planned};
-use merge_core::merge_equal;
-use net_core::Sig::{One, Place, Zero};
+use merge_core::functional_reduction;
+use net_core::Sig::{Node, One, Zero};
 use std::alloc::Global;
 
 /// A net, and the net after merging.
@@ -18,22 +18,22 @@ const ROWS: &[Row] = &[
         net: Plan {
             sources: 2,
             gates: &[
-                (12, Place(1), Zero),
-                (12, Place(2), Zero),
-                (1, Place(1), Place(2)),
-                (8, Place(3), Place(4)),
-                (6, Place(5), Place(6)),
+                (12, Node(1), Zero),
+                (12, Node(2), Zero),
+                (1, Node(1), Node(2)),
+                (8, Node(3), Node(4)),
+                (6, Node(5), Node(6)),
             ],
-            sinks: &[Place(6), Place(7), Place(4), Place(1)],
+            sinks: &[Node(6), Node(7), Node(4), Node(1)],
         },
         left: Plan {
             sources: 2,
             gates: &[
-                (12, Place(1), Zero),
-                (12, Place(2), Zero),
-                (1, Place(1), Place(2)),
+                (12, Node(1), Zero),
+                (12, Node(2), Zero),
+                (1, Node(1), Node(2)),
             ],
-            sinks: &[Place(5), Zero, Place(4), Place(1)],
+            sinks: &[Node(5), Zero, Node(4), Node(1)],
         },
     },
     // NOT of NOT is the source, and XNOR of a node with itself is 1
@@ -41,25 +41,25 @@ const ROWS: &[Row] = &[
         net: Plan {
             sources: 1,
             gates: &[
-                (12, Place(1), Zero),
-                (12, Place(2), Zero),
-                (9, Place(3), Place(3)),
-                (1, Place(3), Place(4)),
+                (12, Node(1), Zero),
+                (12, Node(2), Zero),
+                (9, Node(3), Node(3)),
+                (1, Node(3), Node(4)),
             ],
-            sinks: &[Place(5), Place(4), Place(2)],
+            sinks: &[Node(5), Node(4), Node(2)],
         },
         left: Plan {
             sources: 1,
-            gates: &[(12, Place(1), Zero)],
-            sinks: &[Place(1), One, Place(2)],
+            gates: &[(12, Node(1), Zero)],
+            sinks: &[Node(1), One, Node(2)],
         },
     },
     // no source: constants alone
     Row {
         net: Plan {
             sources: 0,
-            gates: &[(7, Zero, One), (1, Place(1), One)],
-            sinks: &[Place(2)],
+            gates: &[(7, Zero, One), (1, Node(1), One)],
+            sinks: &[Node(2)],
         },
         left: Plan {
             sources: 0,
@@ -72,34 +72,34 @@ const ROWS: &[Row] = &[
         net: Plan {
             sources: 7,
             gates: &[
-                (1, Place(1), Place(7)),
-                (1, Place(7), Place(1)),
-                (7, Place(1), Place(7)),
-                (6, Place(9), Place(2)),
+                (1, Node(1), Node(7)),
+                (1, Node(7), Node(1)),
+                (7, Node(1), Node(7)),
+                (6, Node(9), Node(2)),
             ],
-            sinks: &[Place(11), Place(10)],
+            sinks: &[Node(11), Node(10)],
         },
         left: Plan {
             sources: 7,
             gates: &[
-                (1, Place(1), Place(7)),
-                (7, Place(1), Place(7)),
-                (6, Place(8), Place(2)),
+                (1, Node(1), Node(7)),
+                (7, Node(1), Node(7)),
+                (6, Node(8), Node(2)),
             ],
-            sinks: &[Place(10), Place(9)],
+            sinks: &[Node(10), Node(9)],
         },
     },
     // 13 sources: the net stays as it is
     Row {
         net: Plan {
             sources: 13,
-            gates: &[(1, Place(1), Place(2)), (1, Place(2), Place(1))],
-            sinks: &[Place(14), Place(15)],
+            gates: &[(1, Node(1), Node(2)), (1, Node(2), Node(1))],
+            sinks: &[Node(14), Node(15)],
         },
         left: Plan {
             sources: 13,
-            gates: &[(1, Place(1), Place(2)), (1, Place(2), Place(1))],
-            sinks: &[Place(14), Place(15)],
+            gates: &[(1, Node(1), Node(2)), (1, Node(2), Node(1))],
+            sinks: &[Node(14), Node(15)],
         },
     },
 ];
@@ -109,7 +109,7 @@ fn is_left(alloc: Global, row: &Row) -> bool {
     let Some(net) = planned(alloc, &row.net) else {
         return false;
     };
-    match merge_equal(alloc, &net) {
+    match functional_reduction(alloc, &net) {
         Ok(left) => is_planned(&left, &row.left),
         Err(_) => false,
     }

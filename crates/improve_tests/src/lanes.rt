@@ -2,18 +2,18 @@
 //! pseudorandom cones, compared with a plain program that evaluates one assignment after the other.
 
 ghost use Rattle.std.specs.Prelude.{IsTrue, All};
-ghost use Rattle.lane_sim.specs.Cone.{IsSigAmong, places};
+ghost use Rattle.lane_sim.specs.Cone.{IsSigAmong, nodes};
 
+use crate::fanin_cones::bit_of;
 use crate::nets::gate;
 use crate::plain::{has, only};
-use crate::surrounds::bit_of;
 use lane_sim::{Cone, cone_words, lanes_of, patterns};
 use net_core::{Gate, Sig};
 use std::alloc::{AllocError, Global};
 
 /// Whether all signals are constants or nodes of `cone`.
 fn are_among(cone: &Cone, signals: &[Sig]) -> bool
-    ensures { IsTrue result → All (IsSigAmong (places cone.now)) signals.now }
+    ensures { IsTrue result → All (IsSigAmong (nodes cone.now)) signals.now }
 {
     signals.iter().all(|sig| cone.has(*sig))
 }
@@ -24,8 +24,8 @@ type Step = (u32, u8, Sig, Sig);
 /// The gates of `steps`.
 fn gates_of(alloc: Global, steps: &[Step]) -> Result<Vec<(u32, Gate)>, AllocError> {
     let mut gates = Vec::new(alloc);
-    for &(place, op, a, b) in steps {
-        gates.push((place, gate(op, a, b)))?;
+    for &(node, op, a, b) in steps {
+        gates.push((node, gate(op, a, b)))?;
     }
     Ok(gates)
 }
@@ -54,27 +54,27 @@ fn shows(alloc: Global, cone: &Cone, signals: &[Sig], mask: u64) -> bool {
 
 /// The AND of twelve leaves, by a chain of gates.
 const TWELVE: &[Step] = &[
-    (13, 1, Sig::Place(1), Sig::Place(2)),
-    (14, 1, Sig::Place(13), Sig::Place(3)),
-    (15, 1, Sig::Place(14), Sig::Place(4)),
-    (16, 1, Sig::Place(15), Sig::Place(5)),
-    (17, 1, Sig::Place(16), Sig::Place(6)),
-    (18, 1, Sig::Place(17), Sig::Place(7)),
-    (19, 1, Sig::Place(18), Sig::Place(8)),
-    (20, 1, Sig::Place(19), Sig::Place(9)),
-    (21, 1, Sig::Place(20), Sig::Place(10)),
-    (22, 1, Sig::Place(21), Sig::Place(11)),
-    (23, 1, Sig::Place(22), Sig::Place(12)),
+    (13, 1, Sig::Node(1), Sig::Node(2)),
+    (14, 1, Sig::Node(13), Sig::Node(3)),
+    (15, 1, Sig::Node(14), Sig::Node(4)),
+    (16, 1, Sig::Node(15), Sig::Node(5)),
+    (17, 1, Sig::Node(16), Sig::Node(6)),
+    (18, 1, Sig::Node(17), Sig::Node(7)),
+    (19, 1, Sig::Node(18), Sig::Node(8)),
+    (20, 1, Sig::Node(19), Sig::Node(9)),
+    (21, 1, Sig::Node(20), Sig::Node(10)),
+    (22, 1, Sig::Node(21), Sig::Node(11)),
+    (23, 1, Sig::Node(22), Sig::Node(12)),
 ];
 
 /// The AND of seven leaves.
 const SEVEN: &[Step] = &[
-    (8, 1, Sig::Place(1), Sig::Place(2)),
-    (9, 1, Sig::Place(8), Sig::Place(3)),
-    (10, 1, Sig::Place(9), Sig::Place(4)),
-    (11, 1, Sig::Place(10), Sig::Place(5)),
-    (12, 1, Sig::Place(11), Sig::Place(6)),
-    (13, 1, Sig::Place(12), Sig::Place(7)),
+    (8, 1, Sig::Node(1), Sig::Node(2)),
+    (9, 1, Sig::Node(8), Sig::Node(3)),
+    (10, 1, Sig::Node(9), Sig::Node(4)),
+    (11, 1, Sig::Node(10), Sig::Node(5)),
+    (12, 1, Sig::Node(11), Sig::Node(6)),
+    (13, 1, Sig::Node(12), Sig::Node(7)),
 ];
 
 /// Leaves, steps, signals, and the mask of the patterns that the signals take: constants and leaves, and the
@@ -82,14 +82,14 @@ const SEVEN: &[Step] = &[
 const SHOWN: &[(&[u32], &[Step], &[Sig], u64)] = &[
     (&[], &[], &[Sig::One], 2),
     (&[], &[], &[], 1),
-    (&[1, 2, 3], &[], &[Sig::Place(1), Sig::Place(3)], 15),
+    (&[1, 2, 3], &[], &[Sig::Node(1), Sig::Node(3)], 15),
     // nodes after the first word of a set
-    (&[63, 64, 97], &[], &[Sig::Place(64), Sig::Place(97)], 15),
-    (&[1, 2, 3, 4, 5, 6, 7], SEVEN, &[Sig::Place(13)], 3),
+    (&[63, 64, 97], &[], &[Sig::Node(64), Sig::Node(97)], 15),
+    (&[1, 2, 3, 4, 5, 6, 7], SEVEN, &[Sig::Node(13)], 3),
     (
         &[1, 2, 3, 4, 5, 6, 7, 8, 9, 10, 11, 12],
         TWELVE,
-        &[Sig::Place(23)],
+        &[Sig::Node(23)],
         3,
     ),
 ];
@@ -128,9 +128,9 @@ fn leaf_ones(leaves: &[u32], row: u32) -> u64 {
 /// The nodes of `cone` that are 1 under the assignment `row`.
 fn ones_of(cone: &Cone, row: u32) -> u64 {
     let mut ones = leaf_ones(cone.leaves(), row);
-    for (place, gate) in cone.gates() {
+    for (node, gate) in cone.gates() {
         if gate.op.apply(bit_of(ones, gate.a), bit_of(ones, gate.b)) {
-            ones |= only(*place);
+            ones |= only(*node);
         }
     }
     ones
@@ -143,7 +143,7 @@ fn are_digits(lanes: &[u64], width: usize, row: u32, ones: u64, count: u32) -> b
         let Some(word) = lanes.get(start) else {
             return false;
         };
-        if has(*word, row % 64) != has(ones, place_of(index)) {
+        if has(*word, row % 64) != has(ones, node_of(index)) {
             return false;
         }
         start = start.saturating_add(width);
@@ -170,7 +170,7 @@ fn next(state: &mut u32) -> u32 {
 }
 
 /// A node for each number below 61, not in ascending order.
-fn place_of(index: u32) -> u32 {
+fn node_of(index: u32) -> u32 {
     index.wrapping_mul(35) % 61
 }
 
@@ -181,7 +181,7 @@ fn any_signal(state: &mut u32, count: u32) -> Sig {
         0 => Sig::Zero,
         1 => Sig::One,
         _ if count == 0 => Sig::One,
-        _ => Sig::Place(place_of(number % count)),
+        _ => Sig::Node(node_of(number % count)),
     }
 }
 
@@ -189,7 +189,7 @@ fn any_signal(state: &mut u32, count: u32) -> Sig {
 fn some_leaves(alloc: Global, count: u32) -> Result<Vec<u32>, AllocError> {
     let mut leaves = Vec::new(alloc);
     for index in 0..count {
-        leaves.push(place_of(index))?;
+        leaves.push(node_of(index))?;
     }
     Ok(leaves)
 }
@@ -207,7 +207,7 @@ fn any_gates(
         let op = (next(state) % 16) as u8;
         let a = any_signal(state, index);
         let b = any_signal(state, index);
-        gates.push((place_of(index), gate(op, a, b)))?;
+        gates.push((node_of(index), gate(op, a, b)))?;
     }
     Ok(gates)
 }

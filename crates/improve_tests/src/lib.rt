@@ -12,6 +12,8 @@ mod dropping;
 #[cfg(test)]
 mod equal;
 #[cfg(test)]
+mod fanin_cones;
+#[cfg(test)]
 mod judging;
 #[cfg(test)]
 mod lanes;
@@ -27,8 +29,6 @@ mod shrinking;
 mod small;
 #[cfg(test)]
 mod specifications;
-#[cfg(test)]
-mod surrounds;
 #[cfg(test)]
 mod walking;
 #[cfg(test)]

@@ -22,23 +22,23 @@ pub fn gate(op: u8, a: Sig, b: Sig) -> Gate {
     }
 }
 
-/// Whether a signal is a constant or a node below `place`.
-fn is_below(place: u32, sig: Sig) -> bool
-    ensures { IsTrue result → IsSigBelow place sig }
+/// Whether a signal is a constant or a node below `node`.
+fn is_below(node: u32, sig: Sig) -> bool
+    ensures { IsTrue result → IsSigBelow node sig }
 {
     match sig {
-        Sig::Place(p) => 1 <= p && p < place,
+        Sig::Node(p) => 1 <= p && p < node,
         _ => true,
     }
 }
 
-/// Whether the operands of a gate are below `place`.
-fn is_gate_at(place: u32, gate: &Gate) -> bool
-    ensures { IsTrue result → IsGateAt place gate.now }
+/// Whether the operands of a gate are below `node`.
+fn is_gate_at(node: u32, gate: &Gate) -> bool
+    ensures { IsTrue result → IsGateAt node gate.now }
 {
     // for the prover: brings the operator's invariant into the proof
     let _word = gate.op.get();
-    is_below(place, gate.a) && is_below(place, gate.b)
+    is_below(node, gate.a) && is_below(node, gate.b)
 }
 
 /// Whether each gate's operands are below the gate.
@@ -56,11 +56,11 @@ fn are_gates(sources: u32, gates: &[Gate]) -> bool
     true
 }
 
-/// Whether all sinks are constants or nodes below `place`.
-fn are_sinks(place: u32, sinks: &[Sig]) -> bool
-    ensures { IsTrue result → All (IsSigBelow place) sinks.now }
+/// Whether all sinks are constants or nodes below `node`.
+fn are_sinks(node: u32, sinks: &[Sig]) -> bool
+    ensures { IsTrue result → All (IsSigBelow node) sinks.now }
 {
-    sinks.iter().all(|sink| is_below(place, *sink))
+    sinks.iter().all(|sink| is_below(node, *sink))
 }
 
 /// The net with the given gates and sinks, if they make one.

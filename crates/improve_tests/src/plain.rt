@@ -6,13 +6,13 @@ ghost use Rattle.net_theory.specs.Net.{end_of as end_of_net};
 
 use net_core::{Gate, Net, Sig};
 
-/// The gate at `place`, if there is one.
-pub fn gate_of(net: &Net, place: u32) -> Option<&Gate> {
+/// The gate at `node`, if there is one.
+pub fn gate_of(net: &Net, node: u32) -> Option<&Gate> {
     let first = net.sources() + 1;
-    if place < first {
+    if node < first {
         return None;
     }
-    net.gates().get((place - first) as usize)
+    net.gates().get((node - first) as usize)
 }
 
 /// The first number after the nodes.
@@ -23,26 +23,26 @@ pub fn end_of(net: &Net) -> u32
     sources + 1 + net.gates().len() as u32
 }
 
-/// The set with `place` alone.
-pub fn only(place: u32) -> u64 {
-    1u64 << (place % 64)
+/// The set with `node` alone.
+pub fn only(node: u32) -> u64 {
+    1u64 << (node % 64)
 }
 
-/// Whether `place` is in `places`.
-pub fn has(places: u64, place: u32) -> bool {
-    (places >> (place % 64)) & 1 == 1
+/// Whether `node` is in `nodes`.
+pub fn has(nodes: u64, node: u32) -> bool {
+    (nodes >> (node % 64)) & 1 == 1
 }
 
 /// The greatest node of a set; 0 if it is empty.
-pub fn greatest(places: u64) -> u32 {
-    63u32.saturating_sub(places.leading_zeros())
+pub fn greatest(nodes: u64) -> u32 {
+    63u32.saturating_sub(nodes.leading_zeros())
 }
 
-/// Whether `list` has the elements of `places`, ascending.
-pub fn are(list: &[u32], places: u64) -> bool {
-    let mut left = places;
-    for place in list {
-        if left == 0 || left.trailing_zeros() != *place {
+/// Whether `list` has the elements of `nodes`, ascending.
+pub fn are(list: &[u32], nodes: u64) -> bool {
+    let mut left = nodes;
+    for node in list {
+        if left == 0 || left.trailing_zeros() != *node {
             return false;
         }
         left &= left.wrapping_sub(1);
@@ -51,17 +51,17 @@ pub fn are(list: &[u32], places: u64) -> bool {
 }
 
 /// The set with the node of a signal; empty for a constant.
-fn place_of(sig: Sig) -> u64 {
+fn node_of(sig: Sig) -> u64 {
     match sig {
-        Sig::Place(place) => only(place),
+        Sig::Node(node) => only(node),
         _ => 0,
     }
 }
 
-/// The fanins of the gate at `place`.
-pub fn operands(net: &Net, place: u32) -> u64 {
-    match gate_of(net, place) {
-        Some(gate) => place_of(gate.a) | place_of(gate.b),
+/// The fanins of the gate at `node`.
+pub fn operands(net: &Net, node: u32) -> u64 {
+    match gate_of(net, node) {
+        Some(gate) => node_of(gate.a) | node_of(gate.b),
         None => 0,
     }
 }
@@ -69,8 +69,8 @@ pub fn operands(net: &Net, place: u32) -> u64 {
 /// The gates of a net.
 pub fn gates_of(net: &Net) -> u64 {
     let mut gates = 0;
-    for place in net.sources() + 1..end_of(net) {
-        gates |= only(place);
+    for node in net.sources() + 1..end_of(net) {
+        gates |= only(node);
     }
     gates
 }
@@ -78,9 +78,9 @@ pub fn gates_of(net: &Net) -> u64 {
 /// The fanins of `gates`.
 fn read_by(net: &Net, gates: u64) -> u64 {
     let mut read = 0;
-    for place in 0..end_of(net) {
-        if has(gates, place) {
-            read |= operands(net, place);
+    for node in 0..end_of(net) {
+        if has(gates, node) {
+            read |= operands(net, node);
         }
     }
     read
@@ -111,7 +111,7 @@ pub fn inputs(net: &Net, gates: u64) -> u64 {
 pub fn outputs(net: &Net, gates: u64) -> u64 {
     let mut seen = read_by(net, gates_of(net) & !gates);
     for sink in net.sinks() {
-        seen |= place_of(*sink);
+        seen |= node_of(*sink);
     }
     seen & gates
 }

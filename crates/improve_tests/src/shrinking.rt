@@ -124,9 +124,9 @@ fn is_undecided(alloc: Global) -> bool {
     let Some(six) = improved(alloc, ADDERS, Asked::Blif(6, 1000, 1, false)) else {
         return false;
     };
-    let front = six.report.starts_with(b"gates 10 -> 10\nundecided ");
+    let prefix = six.report.starts_with(b"gates 10 -> 10\nundecided ");
     let none = five.report.as_slice() == b"gates 10 -> 10\nsettled\n".as_slice();
-    none && front && six.report.ends_with(b"\nsettled\n")
+    none && prefix && six.report.ends_with(b"\nsettled\n")
 }
 
 #[test]

@@ -3,10 +3,10 @@
 
 ghost use Rattle.window_theory.specs.Window.{Belongs};
 
+use crate::fanin_cones::{are_words, care_rows};
 use crate::nets::{Plan, gate, net_of, planned};
 use crate::observed::is_seen_plainly;
 use crate::plain::{are, end_of, greatest, inputs, only, outputs, sharing, taken};
-use crate::surrounds::{are_words, care_rows};
 use crate::windows::{alone, partners_at, together};
 use net_core::{Gate, Net, Sig};
 use std::alloc::{AllocError, Global};
@@ -18,16 +18,16 @@ fn next(state: &mut u32) -> u32 {
     *state >> 8
 }
 
-/// A constant or a node below `place`.
-fn any_signal(state: &mut u32, place: u32) -> Sig {
-    if place == 0 {
+/// A constant or a node below `node`.
+fn any_signal(state: &mut u32, node: u32) -> Sig {
+    if node == 0 {
         return Sig::Zero;
     }
-    let number = next(state) % place;
+    let number = next(state) % node;
     if number == 0 {
         Sig::One
     } else {
-        Sig::Place(number)
+        Sig::Node(number)
     }
 }
 
@@ -41,19 +41,19 @@ fn any_gates(
     let mut gates = Vec::new(alloc);
     for i in 0..count {
         let op = (next(state) % 16) as u8;
-        let place = sources.wrapping_add(1).wrapping_add(i);
-        let a = any_signal(state, place);
-        let b = any_signal(state, place);
+        let node = sources.wrapping_add(1).wrapping_add(i);
+        let a = any_signal(state, node);
+        let b = any_signal(state, node);
         gates.push(gate(op, a, b))?;
     }
     Ok(gates)
 }
 
-/// Three sinks below `place`.
-fn any_sinks(alloc: Global, state: &mut u32, place: u32) -> Result<Vec<Sig>, AllocError> {
+/// Three sinks below `node`.
+fn any_sinks(alloc: Global, state: &mut u32, node: u32) -> Result<Vec<Sig>, AllocError> {
     let mut sinks = Vec::new(alloc);
     for _sink in 0..3u32 {
-        sinks.push(any_signal(state, place))?;
+        sinks.push(any_signal(state, node))?;
     }
     Ok(sinks)
 }
@@ -79,8 +79,8 @@ fn make_window(net: &Net, gates: u64, partner: u64) -> bool {
 
 /// Whether a window has the gates `gates`, their inputs and their outputs.
 fn has_gates(net: &Net, window: &Window, gates: u64) -> bool {
-    let places = are(window.gates(), gates) && are(window.inputs(), inputs(net, gates));
-    places && are(window.outputs(), outputs(net, gates))
+    let nodes = are(window.gates(), gates) && are(window.inputs(), inputs(net, gates));
+    nodes && are(window.outputs(), outputs(net, gates))
 }
 
 /// Whether the window of `gates` has the specification of the plain program.
@@ -189,24 +189,24 @@ fn small_nets_have_the_windows_of_the_plain_program(rt: HostRuntime) {
 const EIGHT: Plan = Plan {
     sources: 2,
     gates: &[
-        (1, Sig::Place(1), Sig::Place(2)),
-        (4, Sig::Place(3), Sig::Place(1)),
-        (5, Sig::Place(4), Sig::Place(2)),
-        (6, Sig::Place(5), Sig::Place(1)),
-        (7, Sig::Place(6), Sig::Place(2)),
-        (8, Sig::Place(7), Sig::Place(1)),
-        (9, Sig::Place(8), Sig::Place(2)),
-        (10, Sig::Place(9), Sig::Place(1)),
+        (1, Sig::Node(1), Sig::Node(2)),
+        (4, Sig::Node(3), Sig::Node(1)),
+        (5, Sig::Node(4), Sig::Node(2)),
+        (6, Sig::Node(5), Sig::Node(1)),
+        (7, Sig::Node(6), Sig::Node(2)),
+        (8, Sig::Node(7), Sig::Node(1)),
+        (9, Sig::Node(8), Sig::Node(2)),
+        (10, Sig::Node(9), Sig::Node(1)),
     ],
     sinks: &[
-        Sig::Place(3),
-        Sig::Place(4),
-        Sig::Place(5),
-        Sig::Place(6),
-        Sig::Place(7),
-        Sig::Place(8),
-        Sig::Place(9),
-        Sig::Place(10),
+        Sig::Node(3),
+        Sig::Node(4),
+        Sig::Node(5),
+        Sig::Node(6),
+        Sig::Node(7),
+        Sig::Node(8),
+        Sig::Node(9),
+        Sig::Node(10),
     ],
 };
 

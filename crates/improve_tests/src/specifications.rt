@@ -4,9 +4,9 @@
 ghost use Rattle.std.specs.Prelude.{◌≤◌};
 ghost use Rattle.window_theory.specs.Window.{Belongs};
 
+use crate::fanin_cones::leaves;
 use crate::nets::{Plan, gate, net_of, planned};
 use crate::plain::only;
-use crate::surrounds::leaves;
 use crate::windows::alone;
 use net_core::{Gate, Net, Sig};
 use observe_core::observed_spec;
@@ -62,11 +62,11 @@ fn has_words(
 const HALVES: Plan = Plan {
     sources: 2,
     gates: &[
-        (1, Sig::Place(1), Sig::Place(2)),
-        (7, Sig::Place(1), Sig::Place(2)),
-        (6, Sig::Place(3), Sig::Place(4)),
+        (1, Sig::Node(1), Sig::Node(2)),
+        (7, Sig::Node(1), Sig::Node(2)),
+        (6, Sig::Node(3), Sig::Node(4)),
     ],
-    sinks: &[Sig::Place(5)],
+    sinks: &[Sig::Node(5)],
 };
 
 /// Gates on constants alone: 0, 1, and the XOR of both.
@@ -74,30 +74,30 @@ const CONSTANTS: Plan = Plan {
     sources: 1,
     gates: &[
         (1, Sig::One, Sig::Zero),
-        (7, Sig::Place(2), Sig::One),
-        (6, Sig::Place(2), Sig::Place(3)),
+        (7, Sig::Node(2), Sig::One),
+        (6, Sig::Node(2), Sig::Node(3)),
     ],
-    sinks: &[Sig::Place(4)],
+    sinks: &[Sig::Node(4)],
 };
 
 /// XNOR of two sources; AND with the first source is its fanout.
 const HIDDEN: Plan = Plan {
     sources: 2,
     gates: &[
-        (9, Sig::Place(1), Sig::Place(2)),
-        (1, Sig::Place(3), Sig::Place(1)),
+        (9, Sig::Node(1), Sig::Node(2)),
+        (1, Sig::Node(3), Sig::Node(1)),
     ],
-    sinks: &[Sig::Place(4)],
+    sinks: &[Sig::Node(4)],
 };
 
 /// The same, where XNOR is a sink too.
-const BARE: Plan = Plan {
+const DIRECTLY_OBSERVABLE: Plan = Plan {
     sources: 2,
     gates: &[
-        (9, Sig::Place(1), Sig::Place(2)),
-        (1, Sig::Place(3), Sig::Place(1)),
+        (9, Sig::Node(1), Sig::Node(2)),
+        (1, Sig::Node(3), Sig::Node(1)),
     ],
-    sinks: &[Sig::Place(4), Sig::Place(3)],
+    sinks: &[Sig::Node(4), Sig::Node(3)],
 };
 
 /// Nets, roots, counts, whether with observability don't-cares, the values, and the care rows.
@@ -113,7 +113,7 @@ const WORDS: &[(&Plan, u32, u32, bool, u64, u64)] = &[
     // the first source is 1 on the rows 2 and 3, counted from 0; where XNOR is a sink itself all
     // rows are observed
     (&HIDDEN, 3, 1, true, 0b1000, 0b1100),
-    (&BARE, 3, 1, true, 0b1001, 0b1111),
+    (&DIRECTLY_OBSERVABLE, 3, 1, true, 0b1001, 0b1111),
 ];
 
 /// Whether the window in the net of `plan` has these words.
@@ -133,7 +133,7 @@ fn has_planned_words(
 }
 
 #[test]
-fn rows_that_never_happen_or_are_not_seen_are_free(rt: HostRuntime) {
+fn dont_care_rows_are_free(rt: HostRuntime) {
     for &(plan, root, count, observed, on, care) in WORDS {
         let well = has_planned_words(rt.alloc(), plan, root, count, observed, on, care);
         assert!(rt; well, "{root}");
@@ -146,15 +146,15 @@ fn gate_in_row(sources: u32, index: u32) -> Gate
     requires index { index ≤ sources }
 {
     if index == 0 {
-        return gate(7, Sig::Place(1), Sig::Place(2));
+        return gate(7, Sig::Node(1), Sig::Node(2));
     }
     if index == 1 {
-        return gate(1, Sig::Place(1), Sig::Place(2));
+        return gate(1, Sig::Node(1), Sig::Node(2));
     }
     if index == sources {
-        return gate(6, Sig::Place(sources + 1), Sig::Place(2 * sources));
+        return gate(6, Sig::Node(sources + 1), Sig::Node(2 * sources));
     }
-    gate(1, Sig::Place(sources + index), Sig::Place(index + 1))
+    gate(1, Sig::Node(sources + index), Sig::Node(index + 1))
 }
 
 /// The OR of the first two of `sources` sources, the AND of all of them by a chain of gates, and
@@ -176,7 +176,7 @@ fn net_of_ands(alloc: Global, sources: u32) -> Option<Net>
     let Ok(gates) = row_of_ands(alloc, sources) else {
         return None;
     };
-    match Vec::from_slice(alloc, &[Sig::Place(2 * sources + 1)]) {
+    match Vec::from_slice(alloc, &[Sig::Node(2 * sources + 1)]) {
         Ok(sinks) => net_of(sources, gates, sinks),
         Err(_) => None,
     }
@@ -206,7 +206,7 @@ const ROWS: &[(u32, u32, u64, u64)] = &[
 ];
 
 #[test]
-fn a_surround_has_no_more_than_twelve_leaves(rt: HostRuntime) {
+fn a_fanin_cone_has_no_more_than_twelve_leaves(rt: HostRuntime) {
     for &(sources, count, on, care) in ROWS {
         assert!(rt; has_row(rt.alloc(), sources, count, on, care), "{sources}");
     }

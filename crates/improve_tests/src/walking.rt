@@ -28,7 +28,7 @@ fn gates_left(alloc: Global, bytes: &[u8], rounds: u32) -> Option<usize> {
     let Ok(circuit) = read_blif(alloc, bytes) else {
         return None;
     };
-    let settings = ImproveSettings::usual();
+    let settings = ImproveSettings::defaults();
     match walked(alloc, &circuit.net, &settings, rounds) {
         Ok(Some(net)) => Some(net.gates().len()),
         Ok(None) => None,

@@ -10,11 +10,11 @@ use net_core::{Net, Sig};
 use std::alloc::{AllocError, Global};
 use window_core::{Window, partners, window};
 
-/// Whether a gate is at `place`.
-fn is_gate(net: &Net, place: u32) -> bool
-    ensures { IsTrue result → IsGate net.now place }
+/// Whether a gate is at `node`.
+fn is_gate(net: &Net, node: u32) -> bool
+    ensures { IsTrue result → IsGate net.now node }
 {
-    net.sources() < place && place < end_of(net)
+    net.sources() < node && node < end_of(net)
 }
 
 /// The window of `root` alone with `count` gates.
@@ -62,28 +62,28 @@ pub fn partners_at(alloc: Global, net: &Net, root: u32) -> Result<Vec<u32>, Allo
 const TWINS: Plan = Plan {
     sources: 2,
     gates: &[
-        (1, Sig::Place(1), Sig::Place(2)),
-        (1, Sig::Place(1), Sig::Place(2)),
+        (1, Sig::Node(1), Sig::Node(2)),
+        (1, Sig::Node(1), Sig::Node(2)),
     ],
-    sinks: &[Sig::Place(3), Sig::Place(4)],
+    sinks: &[Sig::Node(3), Sig::Node(4)],
 };
 
 /// Ten gates with the first source as a fanin; it is both fanins of the fourth.
 const TEN: Plan = Plan {
     sources: 2,
     gates: &[
-        (1, Sig::Place(1), Sig::Place(2)),
-        (1, Sig::Place(1), Sig::Place(2)),
-        (1, Sig::Place(1), Sig::Place(2)),
-        (1, Sig::Place(1), Sig::Place(1)),
-        (1, Sig::Place(1), Sig::Place(2)),
-        (1, Sig::Place(1), Sig::Place(2)),
-        (1, Sig::Place(1), Sig::Place(2)),
-        (1, Sig::Place(1), Sig::Place(2)),
-        (1, Sig::Place(1), Sig::Place(2)),
-        (1, Sig::Place(1), Sig::Place(2)),
+        (1, Sig::Node(1), Sig::Node(2)),
+        (1, Sig::Node(1), Sig::Node(2)),
+        (1, Sig::Node(1), Sig::Node(2)),
+        (1, Sig::Node(1), Sig::Node(1)),
+        (1, Sig::Node(1), Sig::Node(2)),
+        (1, Sig::Node(1), Sig::Node(2)),
+        (1, Sig::Node(1), Sig::Node(2)),
+        (1, Sig::Node(1), Sig::Node(2)),
+        (1, Sig::Node(1), Sig::Node(2)),
+        (1, Sig::Node(1), Sig::Node(2)),
     ],
-    sinks: &[Sig::Place(12)],
+    sinks: &[Sig::Node(12)],
 };
 
 /// Nets, roots and their partners, of which there are at most eight.
@@ -117,14 +117,14 @@ fn gates_side_by_side_are_partners(rt: HostRuntime) {
 const ROW: Plan = Plan {
     sources: 7,
     gates: &[
-        (1, Sig::Place(1), Sig::Place(2)),
-        (1, Sig::Place(8), Sig::Place(3)),
-        (1, Sig::Place(9), Sig::Place(4)),
-        (1, Sig::Place(10), Sig::Place(5)),
-        (1, Sig::Place(11), Sig::Place(6)),
-        (1, Sig::Place(12), Sig::Place(7)),
+        (1, Sig::Node(1), Sig::Node(2)),
+        (1, Sig::Node(8), Sig::Node(3)),
+        (1, Sig::Node(9), Sig::Node(4)),
+        (1, Sig::Node(10), Sig::Node(5)),
+        (1, Sig::Node(11), Sig::Node(6)),
+        (1, Sig::Node(12), Sig::Node(7)),
     ],
-    sinks: &[Sig::Place(13)],
+    sinks: &[Sig::Node(13)],
 };
 
 /// The window of `root` with `count` gates in the net of `plan`, with its first partner or alone:
@@ -189,8 +189,8 @@ fn window_of(alloc: Global, net: &Net, found: &Found) -> Result<Option<Window>, 
 
 /// Whether a window has the parts of `found`.
 fn has_parts(window: &Window, found: &Found) -> bool {
-    let places = window.gates() == found.gates && window.inputs() == found.inputs;
-    places && window.outputs() == found.outputs
+    let nodes = window.gates() == found.gates && window.inputs() == found.inputs;
+    nodes && window.outputs() == found.outputs
 }
 
 /// Whether `net` has the window of `found`, or none.

@@ -2,24 +2,24 @@
 use Rattle.std.specs.Prelude.{◌≡◌, ◌+◌, ◌≤◌, Bool, true, false, List, [], length, All}
 use Rattle.op_basis.specs.Basis.{members}
 use Rattle.net_theory.specs.Net.{Net}
-use Rattle.net_theory.specs.Answers.{IsPruned}
-use Rattle.net_theory.specs.Dead.{dropped}
+use Rattle.net_theory.specs.Implements.{IsCleanedUp}
+use Rattle.net_theory.specs.Dangling.{cleanup}
 use Rattle.settings.specs.declared.improve.ImproveSettings.{ImproveSettings}
 use Rattle.improve_theory.specs.Settled.{IsSettled}
-use Rattle.improve_theory.specs.Undecided.{Undecided, visits, IsUndecided}
-use Rattle.improve_theory.specs.Leading.{Leads}
-use Rattle.improve_theory.specs.Visits.{IsRising}
+use Rattle.improve_theory.specs.Undecided.{Undecided, candidates, IsUndecided}
+use Rattle.improve_theory.specs.Leading.{IsReplacement}
+use Rattle.improve_theory.specs.Candidates.{AreInOrder}
 use Rattle.net_theory.specs.Operators.{HasOperatorsWithin}
 
 -- m is the result of resynthesis of n, or of a net that may replace n. If it is settled, no window up to the
 -- cap has a shorter chain for its local specification, but for those that are named, each once and in the
 -- order of candidates, and each of these is undecided by a certificate. Otherwise at least as many gates have
 -- gone as there were rounds, and none is named.
-pub record Sweeps (s : ImproveSettings) (n m : Net) (settled : Bool) (undecided : List Undecided) : Type 0 where
-  pub leads : Leads (members s.basis) n m
-  pub settled_is : settled ≡ true → IsSettled s m (visits undecided)
+pub record IsResynthesisOf (s : ImproveSettings) (n m : Net) (settled : Bool) (undecided : List Undecided) : Type 0 where
+  pub replaces : IsReplacement (members s.basis) n m
+  pub settled_is : settled ≡ true → IsSettled s m (candidates undecided)
   pub undecided_are : All (IsUndecided m s) undecided
-  pub rising : IsRising (visits undecided)
+  pub rising : AreInOrder (candidates undecided)
   pub stopped : settled ≡ false → length m.gates + s.rounds ≤ length n.gates
   pub none_named : settled ≡ false → undecided ≡ []
 
@@ -28,12 +28,12 @@ pub record Sweeps (s : ImproveSettings) (n m : Net) (settled : Bool) (undecided 
 -- cap has a shorter chain for its local specification, but for those that are named, each once and in the
 -- order of candidates, and each of these is undecided by a certificate. Otherwise at least as many gates have
 -- gone besides dangling ones as there were rounds, and none is named. With the cap 0 only dangling gates go.
-pub record Leaves (s : ImproveSettings) (n m : Net) (settled : Bool) (undecided : List Undecided) : Type 0 where
-  pub pruned : IsPruned n m
+pub record IsImprovementBy (s : ImproveSettings) (n m : Net) (settled : Bool) (undecided : List Undecided) : Type 0 where
+  pub cleaned_up : IsCleanedUp n m
   pub operators : HasOperatorsWithin (members s.basis) n m
-  pub settled_is : settled ≡ true → IsSettled s m (visits undecided)
+  pub settled_is : settled ≡ true → IsSettled s m (candidates undecided)
   pub undecided_are : All (IsUndecided m s) undecided
-  pub rising : IsRising (visits undecided)
-  pub stopped : settled ≡ false → length m.gates + s.rounds ≤ length (dropped n).gates
+  pub rising : AreInOrder (candidates undecided)
+  pub stopped : settled ≡ false → length m.gates + s.rounds ≤ length (cleanup n).gates
   pub none_named : settled ≡ false → undecided ≡ []
-  pub untouched : s.cap ≡ 0 → (m ≡ dropped n) × (settled ≡ true)
+  pub untouched : s.cap ≡ 0 → (m ≡ cleanup n) × (settled ≡ true)

@@ -2,8 +2,8 @@ pub use Rattle.net_theory.specs.Net
 pub use Rattle.window_theory.specs.Window
 pub mod Leading
 pub mod LeadingLaws
-pub mod Asked
+pub mod LocalSpecification
 pub mod Settled
 pub mod Undecided
-pub mod Visits
+pub mod Candidates
 pub mod Improvement

@@ -1,13 +1,13 @@
 //! Windows that stayed undecided.
-use crate::visit::Visit;
-use cert_theory::Bundle;
+use crate::candidate::Candidate;
+use cert_theory::Certificate;
 use std::marker::Model;
 
 /// A window that stayed undecided, and the certificate of its search.
 #[derive(Drop)]
 pub struct Undecided {
-    pub visit: Visit,
-    pub search: Bundle,
+    pub candidate: Candidate,
+    pub search: Certificate,
 }
 
 impl Model for Undecided {
@@ -15,5 +15,5 @@ impl Model for Undecided {
 
     ghost Value = { theory.Undecided };
 
-    ghost view = { λ u. record { visit = u.visit; search = u.search } };
+    ghost view = { λ u. record { candidate = u.candidate; search = u.search } };
 }

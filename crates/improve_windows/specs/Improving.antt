@@ -2,7 +2,7 @@
 -- a shorter chain but for those that are named.
 use Rattle.std.specs.Prelude.{◌≡◌, ℕ, ◌≤◌, Bool, true, List, length, Ok, Some}
 use Rattle.op_basis.specs.Basis.{members}
-use Rattle.net_theory.specs.Behaviour.{Same}
+use Rattle.net_theory.specs.Behaviour.{IsEquivalent}
 use Rattle.net_theory.specs.Cost.{cost}
 use Rattle.net_theory.specs.Net.{Net}
 use Rattle.net_theory.specs.NetOf.{net_of}
@@ -11,10 +11,10 @@ use Rattle.net_theory.specs.Circuit.{Circuit, IsProper, Describes}
 use Rattle.net_theory.specs.WellFormed.{IsWellFormed}
 use Rattle.net_document.specs.Listed.{Listed}
 use Rattle.net_document.specs.Format.{Format}
-use Rattle.net_document.specs.Alike.{AreAlike}
+use Rattle.net_document.specs.Equivalence.{AreEquivalentCircuits}
 use Rattle.settings.specs.declared.improve.ImproveSettings.{ImproveSettings}
 use Rattle.improve_theory.specs.Undecided.{Undecided}
-use Rattle.improve_theory.specs.Improvement.{Leaves}
+use Rattle.improve_theory.specs.Improvement.{IsImprovementBy}
 use Rattle.improve_windows.specs.Report.{report_text}
 
 -- Gates in this format may have each operator of the basis.
@@ -29,8 +29,8 @@ FitsFormat f s = (op : ℕ) → members s.basis op ≡ true → f.operators op �
 pub record IsBetter (f : Format) (s : ImproveSettings) (c k : Circuit) (before after : ℕ) (settled : Bool) (undecided : List Undecided) : Type 0 where
   pub proper : IsProper k
   pub model : c.model ≡ k.model
-  pub alike : AreAlike c k
-  pub left : Leaves s c.net k.net settled undecided
+  pub equivalent : AreEquivalentCircuits c k
+  pub left : IsImprovementBy s c.net k.net settled undecided
   pub before_is : before ≡ length c.net.gates
   pub after_is : after ≡ cost (f.written k)
   pub fewer : after ≤ before
@@ -52,11 +52,11 @@ pub record IsImproved (f : Format) (s : ImproveSettings) (bytes text : List ℕ)
   pub spelled : text ≡ f.text circuit
   pub first : Net
   pub first_is : net_of read.document ≡ Some first
-  pub left : Leaves s first circuit.net settled undecided
+  pub left : IsImprovementBy s first circuit.net settled undecided
   pub again : Listed
   pub said_again : f.listed text ≡ Ok again
   pub well_again : IsWellFormed again.document
-  pub same : Same read.document again.document
+  pub same : IsEquivalent read.document again.document
   pub before_is : before ≡ cost read.document
   pub after_is : after ≡ cost again.document
   pub fewer : after ≤ before
@@ -69,4 +69,4 @@ pub record IsReported (f : Format) (s : ImproveSettings) (bytes text report : Li
   pub settled : Bool
   pub undecided : List Undecided
   pub improved : IsImproved f s bytes text circuit before after settled undecided
-  pub told : report ≡ report_text (gate_names circuit) circuit.net.sources before after settled undecided
+  pub all_reported : report ≡ report_text (gate_names circuit) circuit.net.sources before after settled undecided

@@ -2,7 +2,7 @@
 use Rattle.std.specs.Prelude.{ℕ, ◌+◌, ◌-◌, Bool, true, false, List, [], ◌∷◌, ◌++◌, slice_get, Option, None, Some, codes, decimal}
 use Rattle.std.specs.List.{flat_map}
 use Rattle.net_theory.specs.Document.{Name}
-use Rattle.cert_theory.specs.Spelling.{bundle_text}
+use Rattle.cert_theory.specs.Spelling.{cert_text}
 use Rattle.improve_theory.specs.Undecided.{Undecided}
 
 abbrev pub or_nothing : Option Name → Name
@@ -11,7 +11,7 @@ or_nothing (Some name) = name
 
 -- The name of a gate, by the names of a net's gates and the number of its sources.
 unfoldable pub name_at : List Name → ℕ → ℕ → Name
-name_at names sources place = or_nothing (slice_get names (place - (sources + 1)))
+name_at names sources node = or_nothing (slice_get names (node - (sources + 1)))
 
 -- a blank and the partner's name, if there is a partner
 unfoldable pub partner_text : List Name → ℕ → Option ℕ → List ℕ
@@ -22,7 +22,7 @@ partner_text names sources (Some partner) = 32 ∷ name_at names sources partner
 -- Example: `undecided y 4`, or `undecided y g1 4` where the gate g1 is its partner.
 unfoldable pub window_text : List Name → ℕ → Undecided → List ℕ
 window_text names sources u =
-    codes "undecided " ++ name_at names sources u.visit.root ++ partner_text names sources u.visit.partner ++ codes " " ++ decimal u.visit.count ++ codes "\n" ++ bundle_text u.search
+    codes "undecided " ++ name_at names sources u.candidate.root ++ partner_text names sources u.candidate.partner ++ codes " " ++ decimal u.candidate.count ++ codes "\n" ++ cert_text u.search
 
 unfoldable pub last_line : Bool → List ℕ
 last_line true = codes "settled\n"

@@ -2,12 +2,12 @@
 ghost use Rattle.std.specs.Prelude.{◌≡◌, All, IfOk};
 ghost use Rattle.net_theory.specs.Circuit.{IsProper};
 ghost use Rattle.net_theory.specs.Cost.{cost};
-ghost use Rattle.net_core.specs.Names.{HasRoom};
+ghost use Rattle.net_core.specs.Names.{HasRoomForNames};
 ghost use Rattle.blif_core.specs.Written.{written as written_of};
 ghost use Rattle.blif_core.specs.Spelling.{HasInit};
 ghost use Rattle.blif_core.specs.Blif.{blif_format};
 ghost use Rattle.settings.specs.Improve.{IsInRange};
-ghost use Rattle.improve_theory.specs.Improvement.{Leaves};
+ghost use Rattle.improve_theory.specs.Improvement.{IsImprovementBy};
 ghost use Rattle.improve_windows.specs.Improving.{IsBetter};
 
 use crate::costing::{CostedDocument, costed};
@@ -56,7 +56,8 @@ fn left_of<S: Solver>(
 ) -> Result<Left, AllocError>
     requires { IsInRange settings }
     ensures circuit { IfOk result (λ left. left.circuit ≡ record circuit { net = left.circuit.net }) }
-    ensures left { IfOk result (λ left. Leaves settings circuit.net left.circuit.net left.settled left.undecided.items) }
+    ensures left { IfOk result (λ left. IsImprovementBy settings circuit.net left.circuit.net left.settled
+        left.undecided.items) }
 {
     let Circuit {
         model,
@@ -100,7 +101,7 @@ pub(crate) fn improve_written<S: Solver>(
     ensures circuit { IfOk result (λ w. w.improved.circuit ≡ record circuit { net = w.improved.circuit.net }) }
     ensures document { IfOk result (λ w. w.document ≡ written_of w.improved.circuit) }
     ensures inits { IfOk result (λ w. All HasInit w.document.latches) }
-    ensures room { IfOk result (λ w. HasRoom w.improved.circuit) }
+    ensures room { IfOk result (λ w. HasRoomForNames w.improved.circuit) }
 {
     let before = circuit.net.gates().len() as u32;
     let Left {
@@ -128,7 +129,8 @@ pub fn improve_circuit<S: Solver>(
 ) -> Result<Improved, AllocError>
     requires proper { IsProper circuit }
     requires range { IsInRange settings }
-    ensures { IfOk result (λ i. IsBetter blif_format settings circuit i.circuit i.before i.after i.settled i.undecided.items) }
+    ensures { IfOk result (λ i. IsBetter blif_format settings circuit i.circuit i.before i.after i.settled
+        i.undecided.items) }
 {
     let Written {
         improved,

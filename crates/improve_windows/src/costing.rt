@@ -3,7 +3,7 @@ ghost use Rattle.std.specs.Prelude.{◌≡◌, ◌≤◌, ◌<◌, ◌^◌, leng
 ghost use Rattle.net_theory.specs.WellFormed.{IsTable};
 ghost use Rattle.net_theory.specs.Circuit.{IsProper};
 ghost use Rattle.net_theory.specs.Cost.{cost};
-ghost use Rattle.net_core.specs.Names.{HasRoom};
+ghost use Rattle.net_core.specs.Names.{HasRoomForNames};
 ghost use Rattle.blif_core.specs.Written.{written as written_of};
 
 use blif_core::{Circuit, document_of};
@@ -36,7 +36,7 @@ pub(crate) fn costed(alloc: Global, circuit: &Circuit) -> Result<CostedDocument,
     ensures document { IfOk result (λ w. w.document ≡ written_of circuit.now) }
     ensures cost { IfOk result (λ w. w.cost ≡ cost (written_of circuit.now)) }
     ensures cheap { IfOk result (λ w. w.cost ≤ length circuit.now.net.gates) }
-    ensures room { IfOk result (λ _. HasRoom circuit.now) }
+    ensures room { IfOk result (λ _. HasRoomForNames circuit.now) }
 {
     blif_is_a_format();
     let document = document_of(alloc, circuit)?;

@@ -24,7 +24,7 @@ mod texts;
 
 pub use blif_core::{Circuit, NetError};
 pub use circuits::{Improved, improve_circuit};
-pub use improve_theory::{Undecided, Visit};
+pub use improve_theory::{Candidate, Undecided};
 pub use passes::{ImprovedNet, improve_net};
 pub use settings::ImproveSettings;
 pub use texts::{ImprovedText, improve_bench, improve_blif};

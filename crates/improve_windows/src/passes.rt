@@ -2,20 +2,20 @@
 //! listed windows.
 ghost use Rattle.std.specs.Prelude.{◌≤◌, IfOk, IfSome};
 ghost use Rattle.op_basis.specs.Basis.{members};
-ghost use Rattle.net_theory.specs.Answers.{IsPruned};
+ghost use Rattle.net_theory.specs.Implements.{IsCleanedUp};
 ghost use Rattle.settings.specs.Improve.{IsInRange};
-ghost use Rattle.improve_theory.specs.Leading.{Leads};
-ghost use Rattle.improve_theory.specs.Improvement.{Sweeps, Leaves};
+ghost use Rattle.improve_theory.specs.Leading.{IsReplacement};
+ghost use Rattle.improve_theory.specs.Improvement.{IsResynthesisOf, IsImprovementBy};
 
 use improve_theory::Undecided;
-use net_core::{Net, drop_dead};
+use net_core::{Net, remove_dangling};
 use restructure::restructured;
-use resyn_core::{Swept, sweep};
+use resyn_core::{Resynthesized, resynthesize};
 use sat_solve::Solver;
 use settings::ImproveSettings;
 use std::alloc::{AllocError, Global};
 use walk_core::walked;
-use window_trial::{WindowTrial, many_merged};
+use window_trial::{WindowAttempts, many_merged};
 
 /// A net of fewer gates isn't moved, unless `effort` asks for rounds of moves: its few windows cover it.
 const LEAST_MOVED: usize = 6;
@@ -45,19 +45,19 @@ pub struct ImprovedNet {
 /// Resynthesizes a net, until no window up to the cap has a shorter chain, or `settings.rounds` rounds have
 /// changed something.
 #[tactic(auto, using(crate::specs::ImprovementLaws::improving))]
-fn swept<S: Solver>(
+fn resynthesized<S: Solver>(
     alloc: Global,
     net: Net,
     settings: &ImproveSettings,
 ) -> Result<ImprovedNet, AllocError>
     requires range { IsInRange settings.now }
     requires cap { 1 ≤ settings.now.cap }
-    ensures { IfOk result (λ left. Sweeps settings.now net left.net left.settled left.undecided.items) }
+    ensures { IfOk result (λ left. IsResynthesisOf settings.now net left.net left.settled left.undecided.items) }
 {
-    let mut trial = WindowTrial::<S>::new(alloc, net, *settings)?;
-    let Swept { settled, undecided } = sweep(alloc, &mut trial)?;
+    let mut attempts = WindowAttempts::<S>::new(alloc, net, *settings)?;
+    let Resynthesized { settled, undecided } = resynthesize(alloc, &mut attempts)?;
     Ok(ImprovedNet {
-        net: trial.into_net(),
+        net: attempts.into_net(),
         settled,
         undecided,
     })
@@ -97,7 +97,7 @@ fn moved<S: Solver>(
     settings: &ImproveSettings,
     rounds: u32,
 ) -> Result<Option<Net>, AllocError>
-    ensures { IfOk result (λ found. IfSome found (Leads (members settings.now.basis) net.now)) }
+    ensures { IfOk result (λ found. IfSome found (IsReplacement (members settings.now.basis) net.now)) }
 {
     if !is_moved(net, settings.effort) {
         return Ok(None);
@@ -117,7 +117,7 @@ fn walked_over(
     settings: &ImproveSettings,
     rounds: u32,
 ) -> Result<Option<Net>, AllocError>
-    ensures { IfOk result (λ found. IfSome found (Leads (members settings.now.basis) net.now)) }
+    ensures { IfOk result (λ found. IfSome found (IsReplacement (members settings.now.basis) net.now)) }
 {
     if !is_moved(net, settings.effort) {
         return Ok(None);
@@ -134,7 +134,7 @@ fn begun<S: Solver>(
     settings: &ImproveSettings,
     rounds: u32,
 ) -> Result<Net, AllocError>
-    ensures { IfOk result (Leads (members settings.now.basis) net) }
+    ensures { IfOk result (IsReplacement (members settings.now.basis) net) }
 {
     let found = moved::<S>(alloc, &net, settings, rounds)?;
     let best = found.unwrap_or(net);
@@ -152,19 +152,19 @@ fn improved<S: Solver>(
 ) -> Result<ImprovedNet, AllocError>
     requires range { IsInRange settings.now }
     requires cap { 1 ≤ settings.now.cap }
-    requires itself { IsPruned net net }
-    ensures { IfOk result (λ left. Sweeps settings.now net left.net left.settled left.undecided.items) }
+    requires itself { IsCleanedUp net net }
+    ensures { IfOk result (λ left. IsResynthesisOf settings.now net left.net left.settled left.undecided.items) }
 {
     let net = many_merged(alloc, net, settings.cap)?;
     let before = net.gates().len();
     let rounds = rounds_of(&net, settings.effort);
     let best = begun::<S>(alloc, net, settings, rounds)?;
-    let mut left = swept::<S>(alloc, best, settings)?;
+    let mut left = resynthesized::<S>(alloc, best, settings)?;
     let turns = turns_of(&left.net, before, rounds);
     for _turn in 0..turns {
         match moved::<S>(alloc, &left.net, settings, 0)? {
             None => break,
-            Some(smaller) => left = swept::<S>(alloc, smaller, settings)?,
+            Some(smaller) => left = resynthesized::<S>(alloc, smaller, settings)?,
         }
     }
     Ok(left)
@@ -179,11 +179,11 @@ pub fn improve_net<S: Solver>(
     settings: ImproveSettings,
 ) -> Result<ImprovedNet, AllocError>
     requires { IsInRange settings }
-    ensures { IfOk result (λ left. Leaves settings net.now left.net left.settled left.undecided.items) }
+    ensures { IfOk result (λ left. IsImprovementBy settings net.now left.net left.settled left.undecided.items) }
 {
     // for the prover: brings the net's invariant into the proof
     let _gates = net.gates();
-    let tidy = drop_dead(alloc, net)?;
+    let tidy = remove_dangling(alloc, net)?;
     if settings.cap == 0 {
         return Ok(ImprovedNet {
             net: tidy,

@@ -5,7 +5,7 @@ ghost use Rattle.std.specs.List.{flat_map};
 ghost use Rattle.improve_windows.specs.Report.{name_at, partner_text, window_text, first_line, last_line, report_text};
 ghost use Rattle.improve_windows.specs.ReportLaws.{CanBeWritten};
 
-use cert_text::write_bundle;
+use cert_text::write_certificate;
 use improve_theory::Undecided;
 use net_core::Name;
 use std::alloc::{AllocError, Global};
@@ -17,11 +17,11 @@ fn push_name(
     report: &mut Vec<u8>,
     names: &[Name],
     sources: u32,
-    place: u32,
+    node: u32,
 ) -> Result<(), AllocError>
-    ensures { OnOk result (report.new.items ≡ report.old.items ++ name_at names.now sources place) }
+    ensures { OnOk result (report.new.items ≡ report.old.items ++ name_at names.now sources node) }
 {
-    let index = (place as usize).saturating_sub(sources as usize + 1);
+    let index = (node as usize).saturating_sub(sources as usize + 1);
     match names.get(index) {
         None => Ok(()),
         Some(name) => {
@@ -63,12 +63,12 @@ fn push_window(
     ensures { OnOk result (report.new.items ≡ report.old.items ++ window_text names.now sources undecided.now) }
 {
     report.extend_from_slice(b"undecided ")?;
-    push_name(report, names, sources, undecided.visit.root)?;
-    push_partner(report, names, sources, undecided.visit.partner)?;
+    push_name(report, names, sources, undecided.candidate.root)?;
+    push_partner(report, names, sources, undecided.candidate.partner)?;
     report.extend_from_slice(b" ")?;
-    push_number(report, undecided.visit.count)?;
+    push_number(report, undecided.candidate.count)?;
     report.extend_from_slice(b"\n")?;
-    write_bundle(&undecided.search, report)?;
+    write_certificate(&undecided.search, report)?;
     Ok(())
 }
 
@@ -81,7 +81,8 @@ fn push_windows(
     undecided: &[Undecided],
 ) -> Result<(), AllocError>
     requires { All CanBeWritten undecided.now }
-    ensures { OnOk result (report.new.items ≡ report.old.items ++ flat_map (window_text names.now sources) undecided.now) }
+    ensures { OnOk result (report.new.items ≡ report.old.items ++
+        flat_map (window_text names.now sources) undecided.now) }
 {
     let mut left = undecided;
     while let Some((window, rest)) = left.split_first() {

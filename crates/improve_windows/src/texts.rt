@@ -35,7 +35,7 @@ pub struct ImprovedText {
 }
 
 /// The report of an improved circuit.
-fn told(alloc: Global, improved: &Improved) -> Result<Vec<u8>, AllocError>
+fn all_reported(alloc: Global, improved: &Improved) -> Result<Vec<u8>, AllocError>
     requires proper { IsProper improved.now.circuit }
     requires undecided { All CanBeWritten improved.now.undecided.items }
     ensures { IfOk result (λ report. report.items ≡
@@ -99,7 +99,7 @@ pub fn improve_blif<S: Solver>(
     let circuit = read_blif(alloc, bytes)?;
     let Written { improved, document } = improve_written::<S>(alloc, circuit, settings)?;
     let text = text_of(alloc, &document)?;
-    let report = told(alloc, &improved)?;
+    let report = all_reported(alloc, &improved)?;
     Ok(ImprovedText { text, report })
 }
 
@@ -127,6 +127,6 @@ pub fn improve_bench<S: Solver>(
     let circuit = read_bench(alloc, bytes)?;
     let Written { improved, document } = improve_written::<S>(alloc, circuit, settings)?;
     let text = gates_of(alloc, &improved.circuit, &document)?;
-    let report = told(alloc, &improved)?;
+    let report = all_reported(alloc, &improved)?;
     Ok(ImprovedText { text, report })
 }

@@ -8,7 +8,9 @@ use Rattle.lane_sim.specs.declared.rows.Operand.TheVariants.{Zero, One, Row}
 
 -- an operator on two vectors of four words, with its masks on each of the four
 unfoldable pub combined_four : Masks → List ℕ → List ℕ → List ℕ
-combined_four m a b = zip2 bit_xor (zip2 bit_xor (zip2 bit_xor (replicate 4 m.none) (zip2 bit_and (replicate 4 m.first) a)) (zip2 bit_and (replicate 4 m.second) b)) (zip2 bit_and (replicate 4 m.both) (zip2 bit_and a b))
+combined_four m a b = zip2 bit_xor (zip2 bit_xor
+    (zip2 bit_xor (replicate 4 m.none) (zip2 bit_and (replicate 4 m.first) a)) (zip2 bit_and (replicate 4 m.second) b))
+    (zip2 bit_and (replicate 4 m.both) (zip2 bit_and a b))
 
 -- ---- operands
 

@@ -3,29 +3,29 @@ use Rattle.std.specs.Prelude.{◌≡◌, ℕ, ◌≤◌, Bool, false, ◌==◌, 
 use Rattle.chain_theory.specs.Operator.{digit}
 use Rattle.chain_theory.specs.Value.{extended}
 use Rattle.net_theory.specs.declared.data.Sig.{Sig}
-use Rattle.net_theory.specs.declared.data.Sig.TheVariants.{Zero, One, Place}
+use Rattle.net_theory.specs.declared.data.Sig.TheVariants.{Zero, One, Node}
 use Rattle.net_theory.specs.declared.data.Gate.{Gate}
 use Rattle.net_theory.specs.Net.{gate_value}
 
 -- Leaves are nodes, and each gate is paired with its node. Nodes need not be in ascending order.
--- Example: XOR of the nodes 4 and 9 at node 12 is leaves = 4, 9 and the one gate (12, 6 on `Place 4` and
--- `Place 9`).
+-- Example: XOR of the nodes 4 and 9 at node 12 is leaves = 4, 9 and the one gate (12, 6 on `Node 4` and
+-- `Node 9`).
 pub record Cone : Type 0 where
   pub leaves : List ℕ
   pub gates : List (ℕ × Gate)
 
-abbrev pub place_of : ℕ × Gate → ℕ
-place_of x = x.0
+abbrev pub node_of : ℕ × Gate → ℕ
+node_of x = x.0
 
 -- the nodes of a cone: the leaves, then the gates, in order
-abbrev pub places : Cone → List ℕ
-places c = c.leaves ++ map place_of c.gates
+abbrev pub nodes : Cone → List ℕ
+nodes c = c.leaves ++ map node_of c.gates
 
 -- the signal is a constant or a node among `ps`
 abbrev pub IsSigAmong : List ℕ → Sig → Type 0
 IsSigAmong ps Zero = Unit {0}
 IsSigAmong ps One = Unit {0}
-IsSigAmong ps (Place p) = (k : ℕ) × (slice_get ps k ≡ Some p)
+IsSigAmong ps (Node p) = (k : ℕ) × (slice_get ps k ≡ Some p)
 
 -- the nodes are distinct
 abbrev pub AreApart : List ℕ → Type 0
@@ -39,8 +39,8 @@ pub record IsGateOver (ps : List ℕ) (g : Gate) : Type 0 where
 -- At most 12 leaves; all nodes are distinct; the operands of each gate are constants, leaves or earlier gates.
 pub record IsCone (c : Cone) : Type 0 where
   pub few : length c.leaves ≤ 12
-  pub apart : AreApart (places c)
-  pub gates : (i : ℕ) (x : ℕ × Gate) → slice_get c.gates i ≡ Some x → IsGateOver (c.leaves ++ map place_of (take i c.gates)) x.1
+  pub apart : AreApart (nodes c)
+  pub gates : (i : ℕ) (x : ℕ × Gate) → slice_get c.gates i ≡ Some x → IsGateOver (c.leaves ++ map node_of (take i c.gates)) x.1
 
 -- ---- values
 

@@ -1,5 +1,7 @@
 -- Patterns in four words at a time.
-use Rattle.std.proofs.Common.{◌≡◌, ◌∙◌, ℕ, zero, suc, ◌+◌, ◌-◌, ◌*◌, ◌%◌, ◌^◌, ◌≤◌, ◌<◌, ◌≢◌, Bool, true, false, not, ◌&&◌, List, [], ◌∷◌, length, refl, ap, sym, subst, arith, w64, pow-add, ⊎_elim, true≢false}
+use Rattle.std.proofs.Common.{◌≡◌, ◌∙◌, ℕ, zero, suc, ◌+◌, ◌-◌, ◌*◌, ◌%◌, ◌^◌, ◌≤◌, ◌<◌, ◌≢◌, Bool, true, false, not}
+use Rattle.std.proofs.Common.{◌&&◌, List, [], ◌∷◌, length, refl, ap, sym, subst, arith, w64, pow-add, ⊎_elim}
+use Rattle.std.proofs.Common.{true≢false}
 use Rattle.std.specs.Prelude.{bit_and, bit_or, ◌==◌, if◌then◌else◌}
 use Rattle.std.specs.Int.{bit_not}
 use Rattle.std.proofs.lemmas.Bool.{cases_lt, cases_Bool, cond-true, cond-false}
@@ -53,7 +55,9 @@ each_and a b c d x y z w (suc zero) = refl
 each_and a b c d x y z w (suc (suc zero)) = refl
 each_and a b c d x y z w (suc (suc (suc l))) = refl
 
-each_and_not : (a b c d x y z w l : ℕ) → bit_and (four_of a b c d l) (bit_not w64 (four_of x y z w l)) ≡ four_of (bit_and a (bit_not w64 x)) (bit_and b (bit_not w64 y)) (bit_and c (bit_not w64 z)) (bit_and d (bit_not w64 w)) l
+each_and_not : (a b c d x y z w l : ℕ) → bit_and (four_of a b c d l) (bit_not w64 (four_of x y z w l)) ≡
+    four_of (bit_and a (bit_not w64 x)) (bit_and b (bit_not w64 y)) (bit_and c (bit_not w64 z))
+    (bit_and d (bit_not w64 w)) l
 each_and_not a b c d x y z w zero = refl
 each_and_not a b c d x y z w (suc zero) = refl
 each_and_not a b c d x y z w (suc (suc zero)) = refl
@@ -103,8 +107,12 @@ four_end at j a b c d some low zero_at =
     }
 
 -- splitting by a signal, which is the next bit of the pattern
-four_split : (n : ℕ) (at at' : ℕ → ℕ → ℕ) (j : ℕ) (masks words : ℕ → ℕ) (high low : ℕ) → n ≤ 5 → ((l : ℕ) → words l < 2 ^ 64) → ((l b : ℕ) → l < 4 → at' (j + l) b ≡ (if digit (words l) b then 2 ^ n else 0) + at (j + l) b)
-    → AreSeenFour n at j (λ l. bit_and (masks l) (words l)) high → AreSeenFour n at j (λ l. bit_and (masks l) (bit_not w64 (words l))) low → AreSeenFour (n + 1) at' j masks (bit_or (high * 2 ^ 2 ^ n % 2 ^ 64) low)
+four_split : (n : ℕ) (at at' : ℕ → ℕ → ℕ) (j : ℕ) (masks words : ℕ → ℕ) (high low : ℕ) → n ≤ 5 →
+    ((l : ℕ) → words l < 2 ^ 64) → ((l b : ℕ) → l < 4 →
+    at' (j + l) b ≡ (if digit (words l) b then 2 ^ n else 0) + at (j + l) b)
+    → AreSeenFour n at j (λ l. bit_and (masks l) (words l)) high →
+    AreSeenFour n at j (λ l. bit_and (masks l) (bit_not w64 (words l))) low →
+    AreSeenFour (n + 1) at' j masks (bit_or (high * 2 ^ 2 ^ n % 2 ^ 64) low)
 four_split n at at' j masks words high low few fits split is_high is_low =
     let step : ℕ = 2 ^ n in
     let small : step ≤ 32 = at_most_32 n few in
@@ -132,16 +140,19 @@ four_split n at at' j masks words high low few fits split is_high is_low =
           ⊎_elim
           (λ (on : digit (words l) b ≡ true).
           let h : digit high (at (j + l) b) ≡ true = is_high.all l b low_l low_b (digit_and (masks l) (words l) b ∙ and_true (digit (masks l) b) (digit (words l) b) e on) in
-          let place : at' (j + l) b ≡ step + at (j + l) b = split l b low_l ∙ ap (λ (x : ℕ). x + at (j + l) b) (cond-true (digit (words l) b) step 0 on) in
+          let node : at' (j + l) b ≡ step + at (j + l) b = split l b low_l ∙ ap (λ (x : ℕ). x + at (j + l) b) (cond-true (digit (words l) b) step 0 on) in
           let back : step + at (j + l) b - step ≡ at (j + l) b = omega arith in
-          ap (digit (high * 2 ^ step + low)) place
+          ap (digit (high * 2 ^ step + low)) node
           ∙ ap (λ (x : ℕ). x == 1) (bit_at_cat_high high step low (step + at (j + l) b) is_low.low (omega arith))
           ∙ ap (digit high) back
           ∙ h)
           (λ (off : digit (words l) b ≡ false).
-          let lower : digit low (at (j + l) b) ≡ true = is_low.all l b low_l low_b (digit_and (masks l) (bit_not w64 (words l)) b ∙ and_true (digit (masks l) b) (digit (bit_not w64 (words l)) b) e (digit_not (words l) b (fits l) low_b ∙ ap not off)) in
-          let place : at' (j + l) b ≡ at (j + l) b = split l b low_l ∙ ap (λ (x : ℕ). x + at (j + l) b) (cond-false (digit (words l) b) step 0 off) ∙ zero_plus (at (j + l) b) in
-          ap (digit (high * 2 ^ step + low)) place
+          let lower : digit low (at (j + l) b) ≡ true =
+          is_low.all l b low_l low_b (digit_and (masks l) (bit_not w64 (words l)) b
+          ∙ and_true (digit (masks l) b) (digit (bit_not w64 (words l)) b) e (digit_not (words l) b (fits l) low_b
+          ∙ ap not off)) in
+          let node : at' (j + l) b ≡ at (j + l) b = split l b low_l ∙ ap (λ (x : ℕ). x + at (j + l) b) (cond-false (digit (words l) b) step 0 off) ∙ zero_plus (at (j + l) b) in
+          ap (digit (high * 2 ^ step + low)) node
           ∙ ap (λ (x : ℕ). x == 1) (bit_at_cat_low high step low (at (j + l) b) (digit_below low step (at (j + l) b) is_low.low lower))
           ∙ lower)
           (cases_Bool (digit (words l) b));
@@ -166,12 +177,19 @@ pub four_first : (lanes : List ℕ) (os : List Operand) (o : Operand) (rest : Li
 four_first lanes os o rest j a b c d x y z w high low parts few ex ey ez ew fx fy fz fw is_high is_low =
     let count : length os ≡ length rest + 1 = ap length parts ∙ omega arith in
     let split : (l t : ℕ) → l < 4 → pattern_at lanes os (j + l) t ≡ (if digit (four_of x y z w l) t then 2 ^ length rest else 0) + pattern_at lanes rest (j + l) t =
-    λ l t low_l. at_one_more lanes os o rest (j + l) t parts ∙ ap (λ (k : ℕ). (if digit k t then 2 ^ length rest else 0) + pattern_at lanes rest (j + l) t) (sym (each_word (operand_word lanes o) j x y z w l ex ey ez ew low_l)) in
+    λ l t low_l. at_one_more lanes os o rest (j + l) t parts
+    ∙ ap (λ (k : ℕ). (if digit k t then 2 ^ length rest else 0) + pattern_at lanes rest (j + l) t)
+    (sym (each_word (operand_word lanes o) j x y z w l ex ey ez ew low_l)) in
     subst (λ (k : ℕ). AreSeenFour (length os) (pattern_at lanes os) j (four_of a b c d) (bit_or (high * 2 ^ k % 18446744073709551616) low)) (sym (step_is (length rest) (omega (arith, few, count))))
     (subst (λ (n : ℕ). AreSeenFour n (pattern_at lanes os) j (four_of a b c d) (bit_or (high * 2 ^ 2 ^ length rest % 18446744073709551616) low)) (sym count)
     (four_split (length rest) (pattern_at lanes rest) (pattern_at lanes os) j (four_of a b c d) (four_of x y z w) high low (omega (arith, few, count)) (λ l. each_fits x y z w l fx fy fz fw) split
-    (four_alike (length rest) (pattern_at lanes rest) j (four_of (bit_and a x) (bit_and b y) (bit_and c z) (bit_and d w)) (λ l. bit_and (four_of a b c d l) (four_of x y z w l)) high (λ l. sym (each_and a b c d x y z w l)) is_high)
-    (four_alike (length rest) (pattern_at lanes rest) j (four_of (bit_and a (bit_not w64 x)) (bit_and b (bit_not w64 y)) (bit_and c (bit_not w64 z)) (bit_and d (bit_not w64 w))) (λ l. bit_and (four_of a b c d l) (bit_not w64 (four_of x y z w l))) low (λ l. sym (each_and_not a b c d x y z w l)) is_low)))
+    (four_alike (length rest) (pattern_at lanes rest) j
+    (four_of (bit_and a x) (bit_and b y) (bit_and c z) (bit_and d w))
+    (λ l. bit_and (four_of a b c d l) (four_of x y z w l)) high (λ l. sym (each_and a b c d x y z w l)) is_high)
+    (four_alike (length rest) (pattern_at lanes rest) j
+    (four_of (bit_and a (bit_not w64 x)) (bit_and b (bit_not w64 y)) (bit_and c (bit_not w64 z))
+    (bit_and d (bit_not w64 w))) (λ l. bit_and (four_of a b c d l) (bit_not w64 (four_of x y z w l))) low
+    (λ l. sym (each_and_not a b c d x y z w l)) is_low)))
 
 empty : (os : List Operand) → length os ≡ 0 → os ≡ []
 empty [] e = refl
@@ -180,10 +198,17 @@ empty (o ∷ os) e = absurd (omega (arith, e))
 or_fits : (a b c d : ℕ) → a < 2 ^ 64 → b < 2 ^ 64 → c < 2 ^ 64 → d < 2 ^ 64 → bit_or (bit_or (bit_or a b) c) d < 2 ^ 64
 or_fits a b c d fa fb fc fd = or_lt 64 (bit_or (bit_or a b) c) d (or_lt 64 (bit_or a b) c (or_lt 64 a b fa fb) fc) fd
 
-pub four_nothing : (lanes : List ℕ) (os : List Operand) (j a b c d : ℕ) → length os ≡ 0 → bit_or (bit_or (bit_or a b) c) d ≢ 0 → a < 2 ^ 64 → b < 2 ^ 64 → c < 2 ^ 64 → d < 2 ^ 64 → AreSeenFour (length os) (pattern_at lanes os) j (four_of a b c d) 1
+pub four_nothing : (lanes : List ℕ) (os : List Operand) (j a b c d : ℕ) → length os ≡ 0 →
+    bit_or (bit_or (bit_or a b) c) d ≢ 0 → a < 2 ^ 64 → b < 2 ^ 64 → c < 2 ^ 64 → d < 2 ^ 64 →
+    AreSeenFour (length os) (pattern_at lanes os) j (four_of a b c d) 1
 four_nothing lanes os j a b c d none some fa fb fc fd =
-    subst (λ (n : ℕ). AreSeenFour n (pattern_at lanes os) j (four_of a b c d) 1) (sym none) (four_end (pattern_at lanes os) j a b c d some (or_fits a b c d fa fb fc fd) (λ k t. at_nothing lanes os k t (empty os none)))
+    subst (λ (n : ℕ). AreSeenFour n (pattern_at lanes os) j (four_of a b c d) 1) (sym none)
+    (four_end (pattern_at lanes os) j a b c d some (or_fits a b c d fa fb fc fd)
+    (λ k t. at_nothing lanes os k t (empty os none)))
 
 -- the words of an operand under one mask
-pub each_masked : (f : ℕ → ℕ) (mask j x y z w l : ℕ) → x ≡ f j → y ≡ f (j + 1) → z ≡ f (j + 2) → w ≡ f (j + 3) → l < 4 → four_of (bit_and mask x) (bit_and mask y) (bit_and mask z) (bit_and mask w) l ≡ bit_and mask (f (j + l))
-each_masked f mask j x y z w l ex ey ez ew low = each_word (λ (k : ℕ). bit_and mask (f k)) j (bit_and mask x) (bit_and mask y) (bit_and mask z) (bit_and mask w) l (ap (bit_and mask) ex) (ap (bit_and mask) ey) (ap (bit_and mask) ez) (ap (bit_and mask) ew) low
+pub each_masked : (f : ℕ → ℕ) (mask j x y z w l : ℕ) → x ≡ f j → y ≡ f (j + 1) → z ≡ f (j + 2) → w ≡ f (j + 3) →
+    l < 4 → four_of (bit_and mask x) (bit_and mask y) (bit_and mask z) (bit_and mask w) l ≡ bit_and mask (f (j + l))
+each_masked f mask j x y z w l ex ey ez ew low =
+    each_word (λ (k : ℕ). bit_and mask (f k)) j (bit_and mask x) (bit_and mask y) (bit_and mask z) (bit_and mask w) l
+    (ap (bit_and mask) ex) (ap (bit_and mask) ey) (ap (bit_and mask) ez) (ap (bit_and mask) ew) low

@@ -1,5 +1,8 @@
 -- The rows appended by the simulation hold the values of the cone.
-use Rattle.std.proofs.Common.{◌≡◌, ◌∙◌, ℕ, zero, suc, ◌+◌, ◌-◌, ◌*◌, ◌^◌, replicate, take_all, take_at, ◌≤◌, ◌<◌, ◌≢◌, Bool, true, false, List, [], ◌∷◌, ◌++◌, length, map, take, Some, refl, ap, sym, subst, arith, get_or, length-append, append_assoc, append-nil, ⊎_elim, inl, inr, add-mul, one-mul, suc-mul, mul_comm, mul-le-mul_right, ◌⊎◌, ◌||◌, eq-eqb}
+use Rattle.std.proofs.Common.{◌≡◌, ◌∙◌, ℕ, zero, suc, ◌+◌, ◌-◌, ◌*◌, ◌^◌, replicate, take_all, take_at, ◌≤◌, ◌<◌, ◌≢◌}
+use Rattle.std.proofs.Common.{Bool, true, false, List, [], ◌∷◌, ◌++◌, length, map, take, Some, refl, ap, sym, subst}
+use Rattle.std.proofs.Common.{arith, get_or, length-append, append_assoc, append-nil, ⊎_elim, inl, inr, add-mul}
+use Rattle.std.proofs.Common.{one-mul, suc-mul, mul_comm, mul-le-mul_right, ◌⊎◌, ◌||◌, eq-eqb}
 use Rattle.std.specs.Prelude.{slice_get, if◌then◌else◌, ◌==◌, nat_eq}
 use Rattle.std.specs.List.{list_any}
 use Rattle.std.proofs.lemmas.Bool.{cond-true, cond-false, ne_eqb}
@@ -17,8 +20,8 @@ use Rattle.lane_sim.specs.declared.rows.Operand.{Operand}
 use Rattle.lane_sim.specs.declared.rows.Operand.TheVariants as operands
 use Rattle.op_basis.specs.WordOperator.{masks_of, combined}
 use Rattle.lane_sim.specs.Combining.{operand_word, EndsBefore}
-use Rattle.lane_sim.specs.Cone.{Cone, IsCone, IsGateOver, AreApart, place_of, places, leaf_bits, gates_after, value_in}
-use Rattle.lane_sim.specs.Rows.{IsWritten, IsRow, IsPut, AreLanes, IsOperandOf, IsCombinedPut, IsGatePut, AreLeaves, AreGatesOf}
+use Rattle.lane_sim.specs.Cone.{Cone, IsCone, IsGateOver, AreApart, node_of, nodes, leaf_bits, gates_after, value_in}
+use Rattle.lane_sim.specs.Rows.{IsGateRowWritten, IsRowWritten, IsRowAppended, AreLanes, IsOperandOf, IsCombinedPut, IsGatePut, AreLeaves, AreGatesOf}
 use Rattle.lane_sim.specs.RowLaws.{row_put}
 use Rattle.op_basis.specs.WordOperatorLaws.{combined_bit, digit_spread}
 use Rattle.lane_sim.specs.Words.{Words, AreWords, width_of}
@@ -40,10 +43,10 @@ at_last (z ∷ xs) x y (suc k) e =
     (at_last xs x y k e)
 
 -- appending doesn't change the elements at earlier indices
-pub at_front : {A : Type 0} (xs ys : List A) (k : ℕ) (x : A) → slice_get xs k ≡ Some x → slice_get (xs ++ ys) k ≡ Some x
-at_front [] ys k x e = absurd cc
-at_front (z ∷ xs) ys zero x e = e
-at_front (z ∷ xs) ys (suc k) x e = at_front xs ys k x e
+pub at_prefix : {A : Type 0} (xs ys : List A) (k : ℕ) (x : A) → slice_get xs k ≡ Some x → slice_get (xs ++ ys) k ≡ Some x
+at_prefix [] ys k x e = absurd cc
+at_prefix (z ∷ xs) ys zero x e = e
+at_prefix (z ∷ xs) ys (suc k) x e = at_prefix xs ys k x e
 
 -- the first remaining element
 pub at_next : {A : Type 0} (xs : List A) (x : A) (ys : List A) → slice_get (xs ++ x ∷ ys) (length xs) ≡ Some x
@@ -53,9 +56,9 @@ at_next (z ∷ xs) x ys = at_next xs x ys
 -- the next node isn't among those before it
 pub is_new : (xs : List ℕ) (p : ℕ) (ys : List ℕ) → AreApart (xs ++ p ∷ ys) → (k q : ℕ) → slice_get xs k ≡ Some q → q ≢ p
 is_new xs p ys apart k q at same =
-    let here : slice_get (xs ++ p ∷ ys) k ≡ Some p = at_front xs (p ∷ ys) k q at ∙ ap Some same in
-    let place : k ≡ length xs = apart k (length xs) p here (at_next xs p ys) in
-    omega (arith, place, slice_get_within xs k q at)
+    let here : slice_get (xs ++ p ∷ ys) k ≡ Some p = at_prefix xs (p ∷ ys) k q at ∙ ap Some same in
+    let node : k ≡ length xs = apart k (length xs) p here (at_next xs p ys) in
+    omega (arith, node, slice_get_within xs k q at)
 
 pub not_among : (xs : List ℕ) (p : ℕ) → ((k q : ℕ) → slice_get xs k ≡ Some q → q ≢ p) → list_any (nat_eq p) xs ≡ false
 not_among [] p new = refl
@@ -66,7 +69,10 @@ not_among (x ∷ xs) p new =
 -- ---- one more row
 
 pub one_more : (ps : List ℕ) (p : ℕ) (bits bits' : ℕ → ℕ → Bool) (width rows : ℕ) (old new : List ℕ) → rows ≤ 64 * width → AreLanes ps bits width rows old → length new ≡ length old + width
-    → ((j b : ℕ) → j < width → b < 64 → 64 * j + b < rows → digit (get_or new (length old + j) 0) b ≡ bits' (64 * j + b) p) → ((k : ℕ) → k < length old → get_or new k 0 ≡ get_or old k 0) → ((row k q : ℕ) → slice_get ps k ≡ Some q → bits' row q ≡ bits row q)
+    → ((j b : ℕ) → j < width → b < 64 → 64 * j + b < rows →
+    digit (get_or new (length old + j) 0) b ≡ bits' (64 * j + b) p) →
+    ((k : ℕ) → k < length old → get_or new k 0 ≡ get_or old k 0) →
+    ((row k q : ℕ) → slice_get ps k ≡ Some q → bits' row q ≡ bits row q)
     → AreLanes (ps ++ p ∷ []) bits' width rows new
 one_more ps p bits bits' width rows old new wide are size here before same =
     let count : length (ps ++ p ∷ []) ≡ length ps + 1 = length-append ps (p ∷ []) in
@@ -79,8 +85,8 @@ one_more ps p bits bits' width rows old new wide are size here before same =
           let room : k * width + j < length old = subst (λ (n : ℕ). k * width + j < n) (sym are.size) (inside k j (length ps) width l.0 low_j) in
           ap (λ (w : ℕ). digit w b) (before (k * width + j) room) ∙ are.values k q j b l.1 low within ∙ sym (same (64 * j + b) k q l.1))
           (λ (r : (k ≡ length ps) × (q ≡ p)).
-          let place : k * width + j ≡ length old + j = ap (λ (n : ℕ). n * width + j) r.0 ∙ ap (λ (n : ℕ). n + j) (sym are.size) in
-          ap (λ (i : ℕ). digit (get_or new i 0) b) place ∙ here j b low_j low within ∙ ap (bits' (64 * j + b)) (sym r.1))
+          let node : k * width + j ≡ length old + j = ap (λ (n : ℕ). n * width + j) r.0 ∙ ap (λ (n : ℕ). n + j) (sym are.size) in
+          ap (λ (i : ℕ). digit (get_or new i 0) b) node ∙ here j b low_j low within ∙ ap (bits' (64 * j + b)) (sym r.1))
           (at_last ps p q k at);
     }
   where
@@ -112,14 +118,16 @@ leaves_none c width keys lanes no_keys no_lanes = record {
     nothing_times : (w : ℕ) → 0 * w ≡ length {A = ℕ} []
     nothing_times w = omega arith
 
-pub front_apart : (xs ys : List ℕ) → AreApart (xs ++ ys) → AreApart xs
-front_apart xs ys apart i j p a b = apart i j p (at_front xs ys i p a) (at_front xs ys j p b)
+pub prefix_apart : (xs ys : List ℕ) → AreApart (xs ++ ys) → AreApart xs
+prefix_apart xs ys apart i j p a b = apart i j p (at_prefix xs ys i p a) (at_prefix xs ys j p b)
 
 pub leaf_new : (c : Cone) (width : ℕ) (keys lanes : List ℕ) (p : ℕ) (rest : List ℕ) → IsCone c → AreLeaves c width keys lanes (p ∷ rest) → (k q : ℕ) → slice_get keys k ≡ Some q → q ≢ p
 leaf_new c width keys lanes p rest cone are =
-    is_new keys p rest (subst AreApart (sym are.parts) (front_apart c.leaves (map place_of c.gates) cone.apart))
+    is_new keys p rest (subst AreApart (sym are.parts) (prefix_apart c.leaves (map node_of c.gates) cone.apart))
 
-pub leaves_more : (c : Cone) (width : ℕ) (keys lanes : List ℕ) (p : ℕ) (rest new_lanes : List ℕ) → IsCone c → AreLeaves c width keys lanes (p ∷ rest) → IsPut (λ row. digit row (length rest)) width lanes new_lanes → AreLeaves c width (keys ++ p ∷ []) new_lanes rest
+pub leaves_more : (c : Cone) (width : ℕ) (keys lanes : List ℕ) (p : ℕ) (rest new_lanes : List ℕ) → IsCone c →
+    AreLeaves c width keys lanes (p ∷ rest) → IsRowAppended (λ row. digit row (length rest)) width lanes new_lanes →
+    AreLeaves c width (keys ++ p ∷ []) new_lanes rest
 leaves_more c width keys lanes p rest new_lanes cone are put =
     let right : (row : ℕ) → leaf_bits c.leaves row p ≡ digit row (length rest) =
     λ row. ap (λ (qs : List ℕ). leaf_bits qs row p) (sym are.parts) ∙ leaf_next keys p rest row (leaf_new c width keys lanes p rest cone are) in
@@ -139,16 +147,18 @@ gates_push bits [] x = refl
 gates_push bits (y ∷ ys) x = gates_push (extended bits y.0 (gate_value bits y.1)) ys x
 
 -- a word of an operand
-pub operand_bit : (ps : List ℕ) (bits : ℕ → ℕ → Bool) (width rows : ℕ) (lanes : List ℕ) (s : Sig) (o : Operand) (j b : ℕ) → AreLanes ps bits width rows lanes → IsOperandOf ps width s o → b < 64 → 64 * j + b < rows → digit (operand_word lanes o j) b ≡ sig_value (bits (64 * j + b)) s
+pub operand_bit : (ps : List ℕ) (bits : ℕ → ℕ → Bool) (width rows : ℕ) (lanes : List ℕ) (s : Sig) (o : Operand)
+    (j b : ℕ) → AreLanes ps bits width rows lanes → IsOperandOf ps width s o → b < 64 → 64 * j + b < rows →
+    digit (operand_word lanes o j) b ≡ sig_value (bits (64 * j + b)) s
 operand_bit ps bits width rows lanes sigs.Zero o j b are is low within = ap (λ (x : Operand). digit (operand_word lanes x j) b) is ∙ digit_spread false b low
 operand_bit ps bits width rows lanes sigs.One o j b are is low within = ap (λ (x : Operand). digit (operand_word lanes x j) b) is ∙ digit_spread true b low
-operand_bit ps bits width rows lanes (sigs.Place p) o j b are is low within = ap (λ (x : Operand). digit (operand_word lanes x j) b) is.2 ∙ are.values is.0 p j b is.1 low within
+operand_bit ps bits width rows lanes (sigs.Node p) o j b are is low within = ap (λ (x : Operand). digit (operand_word lanes x j) b) is.2 ∙ are.values is.0 p j b is.1 low within
 
 -- an operand's row lies within the rows
 pub operand_ends : (ps : List ℕ) (width end : ℕ) (s : Sig) (o : Operand) → IsOperandOf ps width s o → length ps * width ≤ end → EndsBefore end width o
 operand_ends ps width end sigs.Zero o is room = subst (EndsBefore end width) (sym is) tt
 operand_ends ps width end sigs.One o is room = subst (EndsBefore end width) (sym is) tt
-operand_ends ps width end (sigs.Place p) o is room =
+operand_ends ps width end (sigs.Node p) o is room =
     subst (EndsBefore end width) (sym is.2) (omega (arith, room, row_ends is.0 (length ps) width (slice_get_within ps is.0 p is.1)))
   where
     mul-le : (k n w : ℕ) → k ≤ n → k * w ≤ n * w
@@ -171,7 +181,9 @@ resized_word old more end count operands.One j ends e low = refl
 resized_word old more end count (operands.Row s) j ends e low = get_or_append_left old more 0 (s + j) (omega (arith, ends, e))
 
 -- writing into appended words is appending the written row
-combined_put : (op width : ℕ) (old more new : List ℕ) (a b : Operand) → length more ≡ width → EndsBefore (length old) width a → EndsBefore (length old) width b → IsWritten (masks_of op) a b (length old) width (old ++ more) new → IsCombinedPut op a b width old new
+combined_put : (op width : ℕ) (old more new : List ℕ) (a b : Operand) → length more ≡ width →
+    EndsBefore (length old) width a → EndsBefore (length old) width b →
+    IsGateRowWritten (masks_of op) a b (length old) width (old ++ more) new → IsCombinedPut op a b width old new
 combined_put op width old more new a b long ends_a ends_b is =
     record {
       size = is.size ∙ length-append old more ∙ ap (λ (n : ℕ). length old + n) long;
@@ -183,7 +195,8 @@ combined_put op width old more new a b long ends_a ends_b is =
     }
 
 -- the operator applied to the operands' rows gives the gate's row
-pub gate_put : (ps : List ℕ) (g : Gate) (width : ℕ) (old new : List ℕ) (a b : Operand) → IsOperandOf ps width g.a a → IsOperandOf ps width g.b b → IsCombinedPut g.op a b width old new → IsGatePut ps g width old new
+pub gate_put : (ps : List ℕ) (g : Gate) (width : ℕ) (old new : List ℕ) (a b : Operand) → IsOperandOf ps width g.a a →
+    IsOperandOf ps width g.b b → IsCombinedPut g.op a b width old new → IsGatePut ps g width old new
 gate_put ps g width old new a b first second is =
     record {
       size = is.size;
@@ -202,21 +215,22 @@ gates_none c width keys lanes are =
     let all : keys ≡ c.leaves = sym (append-nil keys) ∙ are.parts in
     record { done = []; parts = refl; keys = all ∙ sym (append-nil c.leaves); lanes = are.lanes }
 
-map_parts : (xs ys : List (ℕ × Gate)) → map place_of (xs ++ ys) ≡ map place_of xs ++ map place_of ys
+map_parts : (xs ys : List (ℕ × Gate)) → map node_of (xs ++ ys) ≡ map node_of xs ++ map node_of ys
 map_parts [] ys = refl
 map_parts (x ∷ xs) ys = ap (λ (ps : List ℕ). x.0 ∷ ps) (map_parts xs ys)
 
 -- the nodes of a cone, split at the next gate
-pub places_next : (c : Cone) (width rows : ℕ) (keys lanes : List ℕ) (x : ℕ × Gate) (rest : List (ℕ × Gate)) → AreGatesOf c width rows keys lanes (x ∷ rest) → places c ≡ keys ++ (x.0 ∷ map place_of rest)
-places_next c width rows keys lanes x rest are =
-    ap (λ (gs : List (ℕ × Gate)). c.leaves ++ map place_of gs) (sym are.parts)
+pub nodes_next : (c : Cone) (width rows : ℕ) (keys lanes : List ℕ) (x : ℕ × Gate) (rest : List (ℕ × Gate)) → AreGatesOf c width rows keys lanes (x ∷ rest) → nodes c ≡ keys ++ (x.0 ∷ map node_of rest)
+nodes_next c width rows keys lanes x rest are =
+    ap (λ (gs : List (ℕ × Gate)). c.leaves ++ map node_of gs) (sym are.parts)
     ∙ ap (λ (ps : List ℕ). c.leaves ++ ps) (map_parts are.done (x ∷ rest))
-    ∙ sym (append_assoc c.leaves (map place_of are.done) (x.0 ∷ map place_of rest))
-    ∙ ap (λ (ps : List ℕ). ps ++ (x.0 ∷ map place_of rest)) (sym are.keys)
+    ∙ sym (append_assoc c.leaves (map node_of are.done) (x.0 ∷ map node_of rest))
+    ∙ ap (λ (ps : List ℕ). ps ++ (x.0 ∷ map node_of rest)) (sym are.keys)
 
-pub gate_new : (c : Cone) (width rows : ℕ) (keys lanes : List ℕ) (x : ℕ × Gate) (rest : List (ℕ × Gate)) → IsCone c → AreGatesOf c width rows keys lanes (x ∷ rest) → (k q : ℕ) → slice_get keys k ≡ Some q → q ≢ x.0
+pub gate_new : (c : Cone) (width rows : ℕ) (keys lanes : List ℕ) (x : ℕ × Gate) (rest : List (ℕ × Gate)) → IsCone c →
+    AreGatesOf c width rows keys lanes (x ∷ rest) → (k q : ℕ) → slice_get keys k ≡ Some q → q ≢ x.0
 gate_new c width rows keys lanes x rest cone are =
-    is_new keys x.0 (map place_of rest) (subst AreApart (places_next c width rows keys lanes x rest are) cone.apart)
+    is_new keys x.0 (map node_of rest) (subst AreApart (nodes_next c width rows keys lanes x rest are) cone.apart)
 
 take_parts : {A : Type 0} (xs ys : List A) → take (length xs) (xs ++ ys) ≡ xs
 take_parts [] ys = refl
@@ -226,9 +240,12 @@ pub gate_over : (c : Cone) (width rows : ℕ) (keys lanes : List ℕ) (x : ℕ �
 gate_over c width rows keys lanes x rest cone are =
     let at : slice_get c.gates (length are.done) ≡ Some x = ap (λ (gs : List (ℕ × Gate)). slice_get gs (length are.done)) (sym are.parts) ∙ at_next are.done x rest in
     let front : take (length are.done) c.gates ≡ are.done = ap (take (length are.done)) (sym are.parts) ∙ take_parts are.done (x ∷ rest) in
-    subst (λ (ps : List ℕ). IsGateOver ps x.1) (ap (λ (gs : List (ℕ × Gate)). c.leaves ++ map place_of gs) front ∙ sym are.keys) (cone.gates (length are.done) x at)
+    subst (λ (ps : List ℕ). IsGateOver ps x.1) (ap (λ (gs : List (ℕ × Gate)). c.leaves ++ map node_of gs) front ∙ sym are.keys) (cone.gates (length are.done) x at)
 
-pub gates_more : (c : Cone) (width rows : ℕ) (keys lanes : List ℕ) (x : ℕ × Gate) (rest : List (ℕ × Gate)) (new_lanes : List ℕ) → rows ≤ 64 * width → IsCone c → AreGatesOf c width rows keys lanes (x ∷ rest) → IsGatePut keys x.1 width lanes new_lanes → AreGatesOf c width rows (keys ++ x.0 ∷ []) new_lanes rest
+pub gates_more : (c : Cone) (width rows : ℕ) (keys lanes : List ℕ) (x : ℕ ×
+    Gate) (rest : List (ℕ × Gate)) (new_lanes : List ℕ) → rows ≤ 64 * width → IsCone c →
+    AreGatesOf c width rows keys lanes (x ∷ rest) → IsGatePut keys x.1 width lanes new_lanes →
+    AreGatesOf c width rows (keys ++ x.0 ∷ []) new_lanes rest
 gates_more c width rows keys lanes x rest new_lanes wide cone are put =
     let bits : ℕ → ℕ → Bool = λ row. gates_after (leaf_bits c.leaves row) are.done in
     let bits' : ℕ → ℕ → Bool = λ row. gates_after (leaf_bits c.leaves row) (are.done ++ x ∷ []) in
@@ -236,7 +253,7 @@ gates_more c width rows keys lanes x rest new_lanes wide cone are put =
     record {
       done = are.done ++ x ∷ [];
       parts = append_assoc are.done (x ∷ []) rest ∙ are.parts;
-      keys = ap (λ (ks : List ℕ). ks ++ x.0 ∷ []) are.keys ∙ append_assoc c.leaves (map place_of are.done) (x.0 ∷ []) ∙ ap (λ (ps : List ℕ). c.leaves ++ ps) (sym (map_parts are.done (x ∷ [])));
+      keys = ap (λ (ks : List ℕ). ks ++ x.0 ∷ []) are.keys ∙ append_assoc c.leaves (map node_of are.done) (x.0 ∷ []) ∙ ap (λ (ps : List ℕ). c.leaves ++ ps) (sym (map_parts are.done (x ∷ [])));
       lanes = one_more keys x.0 bits bits' width rows lanes new_lanes wide are.lanes put.size
           (λ j b low_j low within.
           put.here bits rows are.lanes j b low_j low within
@@ -245,13 +262,14 @@ gates_more c width rows keys lanes x rest new_lanes wide cone are put =
           (λ row k q at. ap (λ (f : ℕ → Bool). f q) (push row) ∙ cond-false (q == x.0) _ _ (ne_eqb q x.0 (gate_new c width rows keys lanes x rest cone are k q at)));
     }
 
-pub all_words : (c : Cone) (width rows : ℕ) (keys lanes : List ℕ) (w : Words) → AreGatesOf c width rows keys lanes [] → w.lanes ≡ lanes → w.rows ≡ 2 ^ length c.leaves → width ≡ width_of w.rows → w.rows ≤ rows → AreWords c w
+pub all_words : (c : Cone) (width rows : ℕ) (keys lanes : List ℕ) (w : Words) → AreGatesOf c width rows keys lanes [] →
+    w.lanes ≡ lanes → w.rows ≡ 2 ^ length c.leaves → width ≡ width_of w.rows → w.rows ≤ rows → AreWords c w
 all_words c width rows keys lanes w are lanes_are rows_are width_is enough =
     let done : are.done ≡ c.gates = sym (append-nil are.done) ∙ are.parts in
-    let keys_are : keys ≡ places c = are.keys ∙ ap (λ (gs : List (ℕ × Gate)). c.leaves ++ map place_of gs) done in
+    let keys_are : keys ≡ nodes c = are.keys ∙ ap (λ (gs : List (ℕ × Gate)). c.leaves ++ map node_of gs) done in
     record {
       rows = rows_are;
-      size = ap length lanes_are ∙ are.lanes.size ∙ ap (λ (ks : List ℕ). length ks * width) keys_are ∙ ap (λ (n : ℕ). length (places c) * n) width_is;
+      size = ap length lanes_are ∙ are.lanes.size ∙ ap (λ (ks : List ℕ). length ks * width) keys_are ∙ ap (λ (n : ℕ). length (nodes c) * n) width_is;
       values = λ k p j b at low within.
           ap (λ (ls : List ℕ). digit (get_or ls (k * width_of w.rows + j) 0) b) lanes_are
           ∙ ap (λ (n : ℕ). digit (get_or lanes (k * n + j) 0) b) (sym width_is)
@@ -260,7 +278,7 @@ all_words c width rows keys lanes w are lanes_are rows_are width_is enough =
     }
 
 -- the words are the lanes of all nodes
-pub words_are_lanes : (c : Cone) (w : Words) → AreWords c w → AreLanes (places c) (value_in c) (width_of w.rows) w.rows w.lanes
+pub words_are_lanes : (c : Cone) (w : Words) → AreWords c w → AreLanes (nodes c) (value_in c) (width_of w.rows) w.rows w.lanes
 words_are_lanes c w are = record { size = are.size; values = are.values }
 
 -- inserting a new node into the index appends it
@@ -268,7 +286,8 @@ pub with_new : (xs : List ℕ) (p : ℕ) → ((k q : ℕ) → slice_get xs k ≡
 with_new xs p new = cond-false (list_any (nat_eq p) xs) xs (xs ++ p ∷ []) (not_among xs p new)
 
 -- Writing a row into lanes that were extended by its width appends the row.
-filled : (old slice : List ℕ) (start width total : ℕ) → start ≡ length old → total ≡ start + width → slice ≡ take (start + width) old ++ replicate (start + width - start) 0 → slice ≡ old ++ replicate width 0
+filled : (old slice : List ℕ) (start width total : ℕ) → start ≡ length old → total ≡ start + width →
+    slice ≡ take (start + width) old ++ replicate (start + width - start) 0 → slice ≡ old ++ replicate width 0
 filled old slice start width total at whole is =
     let room : start + width - start ≡ width = omega arith in
     is ∙ ap (λ (xs : List ℕ). xs ++ replicate (start + width - start) 0) (take_all (start + width) old (omega (arith, at))) ∙ ap (λ (n : ℕ). old ++ replicate n 0) room
@@ -276,24 +295,26 @@ filled old slice start width total at whole is =
 viewed : (xs ys : List ℕ) (n : ℕ) → n ≡ length xs → take n (xs ++ ys) ≡ xs
 viewed xs ys n e = take_at xs ys n (sym e)
 
-pub row_code : (op : ℕ) (old slice new behind : List ℕ) (start width total : ℕ) (m : Masks) (a b : Operand) → start ≡ length old → total ≡ start + width → slice ≡ take (start + width) old ++ replicate (start + width - start) 0
-    → m ≡ masks_of op → EndsBefore (length old) width a → EndsBefore (length old) width b → IsWritten m a b start width slice new → IsCombinedPut op a b width old (take total (new ++ behind))
-row_code op old slice new behind start width total m a b at whole is masks first second written =
+pub row_code : (op : ℕ) (old slice new after : List ℕ) (start width total : ℕ) (m : Masks) (a b : Operand) →
+    start ≡ length old → total ≡ start + width → slice ≡ take (start + width) old ++ replicate (start + width - start) 0
+    → m ≡ masks_of op → EndsBefore (length old) width a → EndsBefore (length old) width b → IsGateRowWritten m a b start width slice new → IsCombinedPut op a b width old (take total (new ++ after))
+row_code op old slice new after start width total m a b at whole is masks first second written =
     let full : slice ≡ old ++ replicate width 0 = filled old slice start width total at whole is in
     let long : length (replicate {A = ℕ} width 0) ≡ width = length-replicate {A = ℕ} width 0 in
-    let moved : IsWritten (masks_of op) a b (length old) width (old ++ replicate width 0) new =
-    subst (λ (x : Masks). IsWritten x a b (length old) width (old ++ replicate width 0) new) masks
-    (subst (λ (k : ℕ). IsWritten m a b k width (old ++ replicate width 0) new) at
-    (subst (λ (xs : List ℕ). IsWritten m a b start width xs new) full written)) in
+    let moved : IsGateRowWritten (masks_of op) a b (length old) width (old ++ replicate width 0) new =
+    subst (λ (x : Masks). IsGateRowWritten x a b (length old) width (old ++ replicate width 0) new) masks
+    (subst (λ (k : ℕ). IsGateRowWritten m a b k width (old ++ replicate width 0) new) at
+    (subst (λ (xs : List ℕ). IsGateRowWritten m a b start width xs new) full written)) in
     let count : total ≡ length new = omega (arith, whole, at, moved.size, length-append old (replicate width 0), long) in
-    subst (λ (xs : List ℕ). IsCombinedPut op a b width old xs) (sym (viewed new behind total count)) (combined_put op width old (replicate width 0) new a b long first second moved)
+    subst (λ (xs : List ℕ). IsCombinedPut op a b width old xs) (sym (viewed new after total count)) (combined_put op width old (replicate width 0) new a b long first second moved)
 
-pub leaf_code : (right : ℕ → Bool) (old slice new behind : List ℕ) (start width total : ℕ) → start ≡ length old → total ≡ start + width → slice ≡ take (start + width) old ++ replicate (start + width - start) 0
-    → IsRow right start width slice new → IsPut right width old (take total (new ++ behind))
-leaf_code right old slice new behind start width total at whole is written =
+pub leaf_code : (right : ℕ → Bool) (old slice new after : List ℕ) (start width total : ℕ) → start ≡ length old →
+    total ≡ start + width → slice ≡ take (start + width) old ++ replicate (start + width - start) 0
+    → IsRowWritten right start width slice new → IsRowAppended right width old (take total (new ++ after))
+leaf_code right old slice new after start width total at whole is written =
     let full : slice ≡ old ++ replicate width 0 = filled old slice start width total at whole is in
     let long : length (replicate {A = ℕ} width 0) ≡ width = length-replicate {A = ℕ} width 0 in
-    let moved : IsRow right (length old) width (old ++ replicate width 0) new =
-    subst (λ (k : ℕ). IsRow right k width (old ++ replicate width 0) new) at (subst (λ (xs : List ℕ). IsRow right start width xs new) full written) in
+    let moved : IsRowWritten right (length old) width (old ++ replicate width 0) new =
+    subst (λ (k : ℕ). IsRowWritten right k width (old ++ replicate width 0) new) at (subst (λ (xs : List ℕ). IsRowWritten right start width xs new) full written) in
     let count : total ≡ length new = omega (arith, whole, at, moved.size, length-append old (replicate width 0), long) in
-    subst (λ (xs : List ℕ). IsPut right width old xs) (sym (viewed new behind total count)) (row_put right width old (replicate width 0) new long moved)
+    subst (λ (xs : List ℕ). IsRowAppended right width old xs) (sym (viewed new after total count)) (row_put right width old (replicate width 0) new long moved)

@@ -10,7 +10,7 @@ pub mod ConeLaws
 pub mod FourLaws
 pub mod LaneLaws
 pub mod PatternLaws
-pub mod PlaceLaws
+pub mod NodeLaws
 pub mod RowLaws
 pub mod Rows
 pub mod Seen

@@ -12,7 +12,7 @@ use Rattle.lane_sim.specs.declared.rows.Operand.TheVariants.{Zero, One, Row}
 use Rattle.op_basis.specs.WordOperator.{combined}
 use Rattle.lane_sim.specs.Combining.{operand_word, operand_four, EndsBefore, combined_four}
 use Rattle.chain_theory.specs.Operator.{digit}
-use Rattle.lane_sim.specs.Rows.{IsWritten, IsRow, IsPut}
+use Rattle.lane_sim.specs.Rows.{IsGateRowWritten, IsRowWritten, IsRowAppended}
 
 -- ---- four words
 
@@ -85,22 +85,26 @@ four_at : (xs : List ℕ) (o : Operand) (j k : ℕ) → k < 4 → get_or (operan
 four_at xs Zero j k low = get_or-replicate {A = ℕ} 4 k 0 0 low
 four_at xs One j k low = get_or-replicate {A = ℕ} 4 k 18446744073709551615 0 low
 four_at xs (Row s) j k low =
-    let place : s + j + k ≡ s + (j + k) = omega arith in
-    get_or-chunk (s + j) 4 xs k 0 low ∙ ap (λ (i : ℕ). get_or xs i 0) place
+    let node : s + j + k ≡ s + (j + k) = omega arith in
+    get_or-chunk (s + j) 4 xs k 0 low ∙ ap (λ (i : ℕ). get_or xs i 0) node
 
 -- writing a row doesn't change the words before it, so its operands keep theirs
-kept_word : (m : Masks) (a b : Operand) (start count : ℕ) (old new : List ℕ) (o : Operand) (j : ℕ) → IsWritten m a b start count old new → EndsBefore start (j + 1) o → operand_word new o j ≡ operand_word old o j
+kept_word : (m : Masks) (a b : Operand) (start count : ℕ) (old new : List ℕ) (o : Operand) (j : ℕ) →
+    IsGateRowWritten m a b start count old new → EndsBefore start (j + 1) o →
+    operand_word new o j ≡ operand_word old o j
 kept_word m a b start count old new Zero j is ends = refl
 kept_word m a b start count old new One j is ends = refl
 kept_word m a b start count old new (Row s) j is ends = is.before (s + j) (omega (arith, ends))
 
 -- ---- rows
 
-pub written_none : (m : Masks) (a b : Operand) (start : ℕ) (old : List ℕ) → IsWritten m a b start 0 old old
+pub written_none : (m : Masks) (a b : Operand) (start : ℕ) (old : List ℕ) → IsGateRowWritten m a b start 0 old old
 written_none m a b start old = record { size = refl; here = λ j low. absurd (omega arith); before = λ k low. refl }
 
-pub written_one : (m : Masks) (a b : Operand) (start j : ℕ) (old new : List ℕ) → IsWritten m a b start j old new → start + j < length old → EndsBefore start (j + 1) a → EndsBefore start (j + 1) b
-    → IsWritten m a b start (j + 1) old (set new (start + j) (combined m (operand_word new a j) (operand_word new b j)))
+pub written_one : (m : Masks) (a b : Operand) (start j : ℕ) (old new : List ℕ) →
+    IsGateRowWritten m a b start j old new → start + j < length old → EndsBefore start (j + 1) a →
+    EndsBefore start (j + 1) b
+    → IsGateRowWritten m a b start (j + 1) old (set new (start + j) (combined m (operand_word new a j) (operand_word new b j)))
 written_one m a b start j old new is room first second =
     let w : ℕ = combined m (operand_word new a j) (operand_word new b j) in
     let same : w ≡ combined m (operand_word old a j) (operand_word old b j) =
@@ -127,26 +131,30 @@ ends_later end end' count One more ends = tt
 ends_later end end' count (Row s) more ends = omega (arith, ends)
 
 -- one of the four written words
-four_here : (m : Masks) (a b : Operand) (start j k i : ℕ) (old new : List ℕ) → IsWritten m a b start j old new → length (operand_four new a j) ≡ 4 → length (operand_four new b j) ≡ 4 → length (combined_four m (operand_four new a j) (operand_four new b j)) ≡ 4
+four_here : (m : Masks) (a b : Operand) (start j k i : ℕ) (old new : List ℕ) → IsGateRowWritten m a b start j old new →
+    length (operand_four new a j) ≡ 4 → length (operand_four new b j) ≡ 4 →
+    length (combined_four m (operand_four new a j) (operand_four new b j)) ≡ 4
     → EndsBefore start (j + 4) a → EndsBefore start (j + 4) b → start + j + 4 ≤ length new → k < 4 → i ≡ j + k
     → get_or (put_chunk (start + j) new (combined_four m (operand_four new a j) (operand_four new b j))) (start + i) 0 ≡ combined m (operand_word old a i) (operand_word old b i)
 four_here m a b start j k i old new is la lb lw first second room low at =
     let fa : List ℕ = operand_four new a j in
     let fb : List ℕ = operand_four new b j in
     let ws : List ℕ = combined_four m fa fb in
-    let place : start + i ≡ start + j + k = omega (arith, at) in
+    let node : start + i ≡ start + j + k = omega (arith, at) in
     let a_is : get_or fa k 0 ≡ operand_word old a i =
     four_at new a j k low ∙ kept_word m a b start j old new a (j + k) is (ends_less start (j + 4) (j + k + 1) a (omega arith) first) ∙ ap (operand_word old a) (sym at) in
     let b_is : get_or fb k 0 ≡ operand_word old b i =
     four_at new b j k low ∙ kept_word m a b start j old new b (j + k) is (ends_less start (j + 4) (j + k + 1) b (omega arith) second) ∙ ap (operand_word old b) (sym at) in
-    ap (λ (x : ℕ). get_or (put_chunk (start + j) new ws) x 0) place
+    ap (λ (x : ℕ). get_or (put_chunk (start + j) new ws) x 0) node
     ∙ get_or-put_chunk_at (start + j) new ws k 0 (omega (arith, lw)) (omega (arith, lw))
     ∙ combined_four_at m fa fb k la lb low
     ∙ ap (λ (x : ℕ). combined m x (get_or fb k 0)) a_is
     ∙ ap (combined m (operand_word old a i)) b_is
 
-pub written_four : (m : Masks) (a b : Operand) (start j : ℕ) (old new : List ℕ) → IsWritten m a b start j old new → start + j + 4 ≤ length old → EndsBefore start (j + 4) a → EndsBefore start (j + 4) b
-    → IsWritten m a b start (j + 4) old (put_chunk (start + j) new (combined_four m (operand_four new a j) (operand_four new b j)))
+pub written_four : (m : Masks) (a b : Operand) (start j : ℕ) (old new : List ℕ) →
+    IsGateRowWritten m a b start j old new → start + j + 4 ≤ length old → EndsBefore start (j + 4) a →
+    EndsBefore start (j + 4) b
+    → IsGateRowWritten m a b start (j + 4) old (put_chunk (start + j) new (combined_four m (operand_four new a j) (operand_four new b j)))
 written_four m a b start j old new is room first second =
     let fa : List ℕ = operand_four new a j in
     let fb : List ℕ = operand_four new b j in
@@ -170,11 +178,13 @@ pub ruleset writing = (common_steps, written_none, written_one, written_four, en
 
 -- ---- rows with given bits
 
-pub row_none : (right : ℕ → Bool) (start : ℕ) (old : List ℕ) → IsRow right start 0 old old
+pub row_none : (right : ℕ → Bool) (start : ℕ) (old : List ℕ) → IsRowWritten right start 0 old old
 row_none right start old = record { size = refl; here = λ j b low_j low. absurd (omega arith); before = λ k low. refl }
 
-pub row_more : (right : ℕ → Bool) (start j w : ℕ) (old new : List ℕ) → IsRow right start j old new → start + j < length old → ((b : ℕ) → b < 64 → digit w b ≡ right (64 * j + b)) → IsRow right start (j + 1) old (set new (start + j) w)
-row_more right start j w old new is room told =
+pub row_more : (right : ℕ → Bool) (start j w : ℕ) (old new : List ℕ) → IsRowWritten right start j old new →
+    start + j < length old → ((b : ℕ) → b < 64 → digit w b ≡ right (64 * j + b)) →
+    IsRowWritten right start (j + 1) old (set new (start + j) w)
+row_more right start j w old new is room reported =
     record {
       size = length-set new (start + j) w ∙ is.size;
       here = λ i b low_i low.
@@ -184,13 +194,13 @@ row_more right start j w old new is room told =
           let here : i ≡ j = omega arith in
           ap (λ (x : ℕ). digit (get_or (set new (start + j) w) (start + x) 0) b) here
           ∙ ap (λ (x : ℕ). digit x b) (get_or-set_same new (start + j) w 0 (omega (arith, is.size)))
-          ∙ told b low
+          ∙ reported b low
           ∙ ap (λ (x : ℕ). right (64 * x + b)) (sym here))
           (cases_lt i j);
       before = λ k low. get_or-set_other new (start + j) k w 0 (λ e. omega (arith, e)) ∙ is.before k low;
     }
 
-pub row_put : (right : ℕ → Bool) (width : ℕ) (old more new : List ℕ) → length more ≡ width → IsRow right (length old) width (old ++ more) new → IsPut right width old new
+pub row_put : (right : ℕ → Bool) (width : ℕ) (old more new : List ℕ) → length more ≡ width → IsRowWritten right (length old) width (old ++ more) new → IsRowAppended right width old new
 row_put right width old more new long is =
     record {
       size = is.size ∙ length-append old more ∙ ap (λ (n : ℕ). length old + n) long;

@@ -10,22 +10,22 @@ use Rattle.lane_sim.specs.declared.rows.Operand.{Operand}
 use Rattle.lane_sim.specs.declared.rows.Operand.TheVariants as operands
 use Rattle.op_basis.specs.WordOperator.{masks_of, combined}
 use Rattle.lane_sim.specs.Combining.{operand_word}
-use Rattle.lane_sim.specs.Cone.{Cone, place_of, leaf_bits, gates_after}
+use Rattle.lane_sim.specs.Cone.{Cone, node_of, leaf_bits, gates_after}
 
 -- The first `count` words of a gate's row are written from index `start` on; the words before are unchanged.
-pub record IsWritten (m : Masks) (a b : Operand) (start count : ℕ) (old new : List ℕ) : Type 0 where
+pub record IsGateRowWritten (m : Masks) (a b : Operand) (start count : ℕ) (old new : List ℕ) : Type 0 where
   pub size : length new ≡ length old
   pub here : (j : ℕ) → j < count → slice_index_or new (start + j) 0 ≡ combined m (operand_word old a j) (operand_word old b j)
   pub before : (k : ℕ) → k < start → slice_index_or new k 0 ≡ slice_index_or old k 0
 
 -- The same for a row whose bit r is `right r`.
-pub record IsRow (right : ℕ → Bool) (start count : ℕ) (old new : List ℕ) : Type 0 where
+pub record IsRowWritten (right : ℕ → Bool) (start count : ℕ) (old new : List ℕ) : Type 0 where
   pub size : length new ≡ length old
   pub here : (j b : ℕ) → j < count → b < 64 → digit (slice_index_or new (start + j) 0) b ≡ right (64 * j + b)
   pub before : (k : ℕ) → k < start → slice_index_or new k 0 ≡ slice_index_or old k 0
 
 -- A row whose bit r is `right r` was appended.
-pub record IsPut (right : ℕ → Bool) (width : ℕ) (old new : List ℕ) : Type 0 where
+pub record IsRowAppended (right : ℕ → Bool) (width : ℕ) (old new : List ℕ) : Type 0 where
   pub size : length new ≡ length old + width
   pub here : (j b : ℕ) → j < width → b < 64 → digit (slice_index_or new (length old + j) 0) b ≡ right (64 * j + b)
   pub before : (k : ℕ) → k < length old → slice_index_or new k 0 ≡ slice_index_or old k 0
@@ -39,7 +39,7 @@ pub record AreLanes (ps : List ℕ) (bits : ℕ → ℕ → Bool) (width rows : 
 abbrev pub IsOperandOf : List ℕ → ℕ → Sig → Operand → Type 0
 IsOperandOf ps width sigs.Zero o = o ≡ operands.Zero
 IsOperandOf ps width sigs.One o = o ≡ operands.One
-IsOperandOf ps width (sigs.Place p) o = (k : ℕ) × (slice_get ps k ≡ Some p) × (o ≡ operands.Row (k * width))
+IsOperandOf ps width (sigs.Node p) o = (k : ℕ) × (slice_get ps k ≡ Some p) × (o ≡ operands.Row (k * width))
 
 -- The row of an operator applied to two operands was appended.
 pub record IsCombinedPut (op : ℕ) (a b : Operand) (width : ℕ) (old new : List ℕ) : Type 0 where
@@ -50,7 +50,8 @@ pub record IsCombinedPut (op : ℕ) (a b : Operand) (width : ℕ) (old new : Lis
 -- The row of a gate was appended to the rows of the nodes `ps`, for any values of these.
 pub record IsGatePut (ps : List ℕ) (g : Gate) (width : ℕ) (old new : List ℕ) : Type 0 where
   pub size : length new ≡ length old + width
-  pub here : (bits : ℕ → ℕ → Bool) (rows : ℕ) → AreLanes ps bits width rows old → (j b : ℕ) → j < width → b < 64 → 64 * j + b < rows → digit (slice_index_or new (length old + j) 0) b ≡ gate_value (bits (64 * j + b)) g
+  pub here : (bits : ℕ → ℕ → Bool) (rows : ℕ) → AreLanes ps bits width rows old → (j b : ℕ) → j < width → b < 64 →
+      64 * j + b < rows → digit (slice_index_or new (length old + j) 0) b ≡ gate_value (bits (64 * j + b)) g
   pub before : (k : ℕ) → k < length old → slice_index_or new k 0 ≡ slice_index_or old k 0
 
 -- All leaves but the remaining `left` have their rows.
@@ -62,5 +63,5 @@ pub record AreLeaves (c : Cone) (width : ℕ) (ks ls left : List ℕ) : Type 0 w
 pub record AreGatesOf (c : Cone) (width rows : ℕ) (ks ls : List ℕ) (left : List (ℕ × Gate)) : Type 0 where
   pub done : List (ℕ × Gate)
   pub parts : done ++ left ≡ c.gates
-  pub keys : ks ≡ c.leaves ++ map place_of done
+  pub keys : ks ≡ c.leaves ++ map node_of done
   pub lanes : AreLanes ks (λ row. gates_after (leaf_bits c.leaves row) done) width rows ls

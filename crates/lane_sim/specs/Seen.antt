@@ -32,7 +32,7 @@ pub record AreSeenFour (n : ℕ) (at : ℕ → ℕ → ℕ) (j : ℕ) (masks : �
   pub all : (l b : ℕ) → l < 4 → b < 64 → digit (masks l) b ≡ true → digit seen (at (j + l) b) ≡ true
 
 -- at least one assignment; if there are 64 or more, they fill whole words
-pub record AreRows (rows : ℕ) : Type 0 where
+pub record IsRowCount (rows : ℕ) : Type 0 where
   pub some : 1 ≤ rows
   pub whole : 64 ≤ rows → rows % 64 ≡ 0
 

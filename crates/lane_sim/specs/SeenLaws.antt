@@ -1,12 +1,14 @@
 -- Correctness of the search for patterns: a word is split by one signal after the other.
-use Rattle.std.proofs.Common.{◌≡◌, ◌∙◌, ℕ, zero, suc, ◌+◌, ◌-◌, ◌*◌, ◌%◌, ◌^◌, ◌≤◌, ◌<◌, ◌≢◌, Bool, true, false, not, ◌&&◌, refl, ap, sym, subst, arith, min, max, w64, pow_mono, pow_pos, pow-add, ⊎_elim, ◌⊎◌, inl, inr, true≢false}
+use Rattle.std.proofs.Common.{◌≡◌, ◌∙◌, ℕ, zero, suc, ◌+◌, ◌-◌, ◌*◌, ◌%◌, ◌^◌, ◌≤◌, ◌<◌, ◌≢◌, Bool, true, false, not}
+use Rattle.std.proofs.Common.{◌&&◌, refl, ap, sym, subst, arith, min, max, w64, pow_mono, pow_pos, pow-add, ⊎_elim, ◌⊎◌}
+use Rattle.std.proofs.Common.{inl, inr, true≢false}
 use Rattle.std.specs.Prelude.{bit_and, bit_or, ◌==◌, if◌then◌else◌}
 use Rattle.std.specs.Int.{bit_at, bit_not}
 use Rattle.std.proofs.lemmas.Bool.{cases_lt, cases_Bool, cond-true, cond-false}
 use Rattle.std.proofs.lemmas.Nat.{shl_whole, or_shifted, mul-add-lt}
 use Rattle.std.proofs.lemmas.Nat.Bits.{bit_at-suc, bit_at-zero, bit_at_or, bit_at_ones, bit_at-lt, bit_at_above, bit_at_cat_low, bit_at_cat_high, bit_at_not}
 use Rattle.chain_theory.specs.Operator.{digit}
-use Rattle.lane_sim.specs.Seen.{AreSeen, AreRows}
+use Rattle.lane_sim.specs.Seen.{AreSeen, IsRowCount}
 use Rattle.op_basis.specs.WordOperatorLaws.{digit_and}
 use Rattle.lane_sim.specs.WordLaws.{some_bit}
 use Rattle.lane_sim.specs.Words.{width_of}
@@ -123,16 +125,17 @@ seen_split n at at' mask word high low few fits split is_high is_low =
           ⊎_elim
           (λ (on : digit word b ≡ true).
           let h : digit high (at b) ≡ true = is_high.all b low_b (digit_and mask word b ∙ and_true (digit mask b) (digit word b) e on) in
-          let place : at' b ≡ step + at b = split b ∙ ap (λ (x : ℕ). x + at b) (cond-true (digit word b) step 0 on) in
+          let node : at' b ≡ step + at b = split b ∙ ap (λ (x : ℕ). x + at b) (cond-true (digit word b) step 0 on) in
           let back : step + at b - step ≡ at b = omega arith in
-          ap (digit (high * 2 ^ step + low)) place
+          ap (digit (high * 2 ^ step + low)) node
           ∙ ap (λ (x : ℕ). x == 1) (bit_at_cat_high high step low (step + at b) is_low.low (omega arith))
           ∙ ap (digit high) back
           ∙ h)
           (λ (off : digit word b ≡ false).
-          let l : digit low (at b) ≡ true = is_low.all b low_b (digit_and mask (bit_not w64 word) b ∙ and_true (digit mask b) (digit (bit_not w64 word) b) e (digit_not word b fits low_b ∙ ap not off)) in
-          let place : at' b ≡ at b = split b ∙ ap (λ (x : ℕ). x + at b) (cond-false (digit word b) step 0 off) ∙ zero_plus (at b) in
-          ap (digit (high * 2 ^ step + low)) place
+          let l : digit low (at b) ≡ true = is_low.all b low_b (digit_and mask (bit_not w64 word) b
+          ∙ and_true (digit mask b) (digit (bit_not w64 word) b) e (digit_not word b fits low_b ∙ ap not off)) in
+          let node : at' b ≡ at b = split b ∙ ap (λ (x : ℕ). x + at b) (cond-false (digit word b) step 0 off) ∙ zero_plus (at b) in
+          ap (digit (high * 2 ^ step + low)) node
           ∙ ap (λ (x : ℕ). x == 1) (bit_at_cat_low high step low (at b) (digit_below low step (at b) is_low.low l))
           ∙ l)
           (cases_Bool (digit word b));
@@ -150,7 +153,7 @@ seen_split n at at' mask word high low few fits split is_high is_low =
 -- ---- the mask of a word
 
 -- the mask of a word has a bit for each of its assignments
-pub mask_only : (rows count b : ℕ) → AreRows rows → count < width_of rows → b < 64 → digit (2 ^ min rows 64 - 1) b ≡ true → 64 * count + b < rows
+pub mask_only : (rows count b : ℕ) → IsRowCount rows → count < width_of rows → b < 64 → digit (2 ^ min rows 64 - 1) b ≡ true → 64 * count + b < rows
 mask_only rows count b are within low e =
     ⊎_elim
     (λ (less : rows < 64).

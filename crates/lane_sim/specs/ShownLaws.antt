@@ -6,7 +6,7 @@ use Rattle.std.proofs.lemmas.Nat.{one_shl}
 use Rattle.chain_theory.specs.Operator.{digit}
 use Rattle.net_theory.specs.declared.data.Sig.{Sig}
 use Rattle.lane_sim.specs.declared.rows.Operand.{Operand}
-use Rattle.lane_sim.specs.Cone.{Cone, places}
+use Rattle.lane_sim.specs.Cone.{Cone, nodes}
 use Rattle.lane_sim.specs.Combining.{operand_word}
 use Rattle.lane_sim.specs.PatternLaws.{at_nothing, at_one_more, used_end}
 use Rattle.lane_sim.specs.Seen.{pattern_at, AreSeen, AllEnd, AreOperands}
@@ -42,10 +42,15 @@ step_few n few = omega (arith, step_is n few, most n few) where
 
 -- ---- the whole
 
-pub ends_shown : (c : Cone) (w : Words) (signals : List Sig) (os used : List Operand) (lanes : List ℕ) (rows width : ℕ) → AreWords c w → rows ≡ w.rows → lanes ≡ w.lanes → width ≡ width_of rows → AreOperands (places c) width signals (length signals) os → length signals ≤ length os → used ≡ take (length signals) os
+pub ends_shown : (c : Cone) (w : Words) (signals : List Sig) (os used : List Operand) (lanes : List ℕ)
+    (rows width : ℕ) → AreWords c w → rows ≡ w.rows → lanes ≡ w.lanes → width ≡ width_of rows →
+    AreOperands (nodes c) width signals (length signals) os → length signals ≤ length os →
+    used ≡ take (length signals) os
     → AllEnd (length lanes) (width_of rows) used
 ends_shown c w signals os used lanes rows width words rows_is lanes_is width_is given room used_is =
-    let are : AreOperands (places c) (width_of w.rows) signals (length signals) os = subst (λ (n : ℕ). AreOperands (places c) n signals (length signals) os) (width_is ∙ ap (λ (r : ℕ). width_of r) rows_is) given in
+    let are : AreOperands (nodes c) (width_of w.rows) signals (length signals) os =
+    subst (λ (n : ℕ). AreOperands (nodes c) n signals (length signals) os) (width_is
+    ∙ ap (λ (r : ℕ). width_of r) rows_is) given in
     subst (λ (xs : List Operand). AllEnd (length lanes) (width_of rows) xs) (sym used_is)
     (subst (λ (ls : List ℕ). AllEnd (length ls) (width_of rows) (take (length signals) os)) (sym lanes_is)
     (subst (λ (r : ℕ). AllEnd (length w.lanes) (width_of r) (take (length signals) os)) (sym rows_is) (used_end c w signals os words are room)))

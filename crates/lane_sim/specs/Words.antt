@@ -3,7 +3,7 @@ use Rattle.std.specs.Prelude.{◌≡◌, ℕ, ◌+◌, ◌*◌, ◌/◌, ◌<◌
 use Rattle.chain_theory.specs.Operator.{digit}
 use Rattle.net_theory.specs.declared.data.Sig.{Sig}
 use Rattle.net_theory.specs.Net.{sig_value}
-use Rattle.lane_sim.specs.Cone.{Cone, places, value_in}
+use Rattle.lane_sim.specs.Cone.{Cone, nodes, value_in}
 
 -- The values of signals under `rows` assignments, in words of 64, one signal after the other.
 pub record Words : Type 0 where
@@ -19,8 +19,8 @@ width_of rows = (rows + 63) / 64
 -- Example: the leaves 4 and 9 with XOR at 12 have rows = 4, and the words end in 1100, 1010 and 0110.
 pub record AreWords (c : Cone) (w : Words) : Type 0 where
   pub rows : w.rows ≡ 2 ^ length c.leaves
-  pub size : length w.lanes ≡ length (places c) * width_of w.rows
-  pub values : (k p j b : ℕ) → slice_get (places c) k ≡ Some p → b < 64 → 64 * j + b < w.rows → digit (slice_index_or w.lanes (k * width_of w.rows + j) 0) b ≡ value_in c (64 * j + b) p
+  pub size : length w.lanes ≡ length (nodes c) * width_of w.rows
+  pub values : (k p j b : ℕ) → slice_get (nodes c) k ≡ Some p → b < 64 → 64 * j + b < w.rows → digit (slice_index_or w.lanes (k * width_of w.rows + j) 0) b ≡ value_in c (64 * j + b) p
 
 -- the number with the bits of a list, the first being the most significant
 -- Example: the bits 1, 1, 0 give 6.

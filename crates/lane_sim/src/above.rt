@@ -3,8 +3,8 @@
 //! with different values at its inputs.
 
 ghost use Rattle.std.specs.Prelude.{◌≡◌, ◌*◌, ◌≤◌, ◌^◌, [], ◌++◌, length, map, IfOk, OnOk};
-ghost use Rattle.lane_sim.specs.Above.{with_gates, HasWords, AreDone};
-ghost use Rattle.lane_sim.specs.Cone.{IsCone, AreApart, place_of, places as places_in};
+ghost use Rattle.lane_sim.specs.Above.{with_gates, BeginsWithWords, AreDone};
+ghost use Rattle.lane_sim.specs.Cone.{IsCone, AreApart, node_of, nodes as nodes_in};
 ghost use Rattle.lane_sim.specs.Words.{AreWords};
 
 use crate::cone::Cone;
@@ -21,7 +21,7 @@ const ROOM: usize = 32;
 /// The nodes of a cone and of gates above it, in the order of their rows.
 #[derive(Drop)]
 pub struct Index {
-    places: IndexSet<u32>,
+    nodes: IndexSet<u32>,
 }
 
 impl Model for Index {
@@ -29,30 +29,30 @@ impl Model for Index {
 
     ghost Value = { List ℕ };
 
-    ghost view = { λ i. i.places.keys };
+    ghost view = { λ i. i.nodes.keys };
 }
 
 /// Adds new nodes to the index.
-fn note(places: &mut IndexSet<u32>, more: &[u32]) -> Result<(), AllocError>
-    requires { AreApart (places.old.keys ++ more.now) }
-    ensures { OnOk result (places.new.keys ≡ places.old.keys ++ more.now) }
+fn note(nodes: &mut IndexSet<u32>, more: &[u32]) -> Result<(), AllocError>
+    requires { AreApart (nodes.old.keys ++ more.now) }
+    ensures { OnOk result (nodes.new.keys ≡ nodes.old.keys ++ more.now) }
 {
     let mut left = more;
-    while let Some((place, rest)) = left.split_first() {
-        places.insert(*place)?;
+    while let Some((node, rest)) = left.split_first() {
+        nodes.insert(*node)?;
         left = rest;
     }
     Ok(())
 }
 
 /// Adds the nodes of gates, which are new.
-fn note_gates(places: &mut IndexSet<u32>, gates: &[(u32, Gate)]) -> Result<(), AllocError>
-    requires { AreApart (places.old.keys ++ map place_of gates.now) }
-    ensures { OnOk result (places.new.keys ≡ places.old.keys ++ map place_of gates.now) }
+fn note_gates(nodes: &mut IndexSet<u32>, gates: &[(u32, Gate)]) -> Result<(), AllocError>
+    requires { AreApart (nodes.old.keys ++ map node_of gates.now) }
+    ensures { OnOk result (nodes.new.keys ≡ nodes.old.keys ++ map node_of gates.now) }
 {
     let mut left = gates;
     while let Some((first, rest)) = left.split_first() {
-        places.insert(first.0)?;
+        nodes.insert(first.0)?;
         left = rest;
     }
     Ok(())
@@ -60,14 +60,14 @@ fn note_gates(places: &mut IndexSet<u32>, gates: &[(u32, Gate)]) -> Result<(), A
 
 /// The index of a cone's nodes, followed by the nodes `above`.
 pub fn index_of(alloc: Global, cone: &Cone, above: &[u32]) -> Result<Index, AllocError>
-    requires { AreApart (places_in cone.now ++ above.now) }
-    ensures { IfOk result (λ index. index ≡ places_in cone.now ++ above.now) }
+    requires { AreApart (nodes_in cone.now ++ above.now) }
+    ensures { IfOk result (λ index. index ≡ nodes_in cone.now ++ above.now) }
 {
-    let mut places = IndexSet::with_capacity(alloc, ROOM)?;
-    note(&mut places, cone.leaves())?;
-    note_gates(&mut places, cone.gates())?;
-    note(&mut places, above)?;
-    Ok(Index { places })
+    let mut nodes = IndexSet::with_capacity(alloc, ROOM)?;
+    note(&mut nodes, cone.leaves())?;
+    note_gates(&mut nodes, cone.gates())?;
+    note(&mut nodes, above)?;
+    Ok(Index { nodes })
 }
 
 /// A copy of the words, with capacity for `more` further words.
@@ -85,7 +85,7 @@ pub fn copy_words(alloc: Global, words: &Words, more: usize) -> Result<Words, Al
 /// Appends the rows of gates to the rows of their fanins.
 fn simulate_rest(
     lanes: &mut Vec<u64>,
-    places: &IndexSet<u32>,
+    nodes: &IndexSet<u32>,
     width: usize,
     cone: &Cone,
     above: &[(u32, Gate)],
@@ -93,14 +93,14 @@ fn simulate_rest(
     requires width { width ≤ 64 }
     requires rows { 2 ^ length cone.now.leaves ≤ 64 * width }
     requires cone { IsCone (with_gates cone.now above.now) }
-    requires places { places.now.keys ≡ places_in (with_gates cone.now above.now) }
+    requires nodes { nodes.now.keys ≡ nodes_in (with_gates cone.now above.now) }
     requires base { AreDone (with_gates cone.now above.now) width lanes.old.items above.now }
     ensures { OnOk result (AreDone (with_gates cone.now above.now) width lanes.new.items []) }
 {
     let mut left = above;
     while let Some((first, rest)) = left.split_first() {
-        let a = operand(places, width, first.1.a);
-        let b = operand(places, width, first.1.b);
+        let a = operand(nodes, width, first.1.a);
+        let b = operand(nodes, width, first.1.b);
         push_row(lanes, width, first.1.op, a, b)?;
         left = rest;
     }
@@ -116,15 +116,15 @@ pub fn simulate_above(
     above: &[(u32, Gate)],
 ) -> Result<(), AllocError>
     requires cone { IsCone (with_gates cone.now above.now) }
-    requires index { index.now ≡ places_in (with_gates cone.now above.now) }
-    requires words { HasWords cone.now words.old }
+    requires index { index.now ≡ nodes_in (with_gates cone.now above.now) }
+    requires words { BeginsWithWords cone.now words.old }
     ensures words { OnOk result (AreWords (with_gates cone.now above.now) words.new) }
-    ensures below { OnOk result (HasWords cone.now words.new) }
+    ensures below { OnOk result (BeginsWithWords cone.now words.new) }
 {
     let _gates = cone.gates(); // for the prover: the cone's invariant
     let width = width_of(words.rows);
     let start = (cone.leaves().len() + cone.gates().len()) * width;
     words.lanes.truncate(start);
-    simulate_rest(&mut words.lanes, &index.places, width, cone, above)?;
+    simulate_rest(&mut words.lanes, &index.nodes, width, cone, above)?;
     Ok(())
 }

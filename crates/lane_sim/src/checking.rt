@@ -2,21 +2,21 @@
 //! nodes; cones are small enough that a hash table doesn't pay.
 
 ghost use Rattle.std.specs.Prelude.{IsTrue, IsFalse};
-ghost use Rattle.net_theory.specs.declared.data.Sig.TheVariants.{Place};
+ghost use Rattle.net_theory.specs.declared.data.Sig.TheVariants.{Node};
 ghost use Rattle.lane_sim.specs.Cone.{IsSigAmong};
-ghost use Rattle.lane_sim.specs.Checking.{placed, IsNext, AreNew, AreNext};
+ghost use Rattle.lane_sim.specs.Checking.{numbered, MayComeNext, AreDistinctLeaves, AreNext};
 
 use crate::showing::{gate_at, leaf_at};
 use net_theory::{Gate, Sig};
 
-/// Whether the node `place` is one of `leaves` or of `gates`.
-fn is_placed(leaves: &[u32], gates: &[(u32, Gate)], place: u32) -> bool
-    ensures yes { IsTrue result → IsSigAmong (placed leaves.now gates.now) (Place place) }
-    ensures no { IsFalse result → IsSigAmong (placed leaves.now gates.now) (Place place) → ⊥ }
+/// Whether the node `node` is one of `leaves` or of `gates`.
+fn is_numbered(leaves: &[u32], gates: &[(u32, Gate)], node: u32) -> bool
+    ensures yes { IsTrue result → IsSigAmong (numbered leaves.now gates.now) (Node node) }
+    ensures no { IsFalse result → IsSigAmong (numbered leaves.now gates.now) (Node node) → ⊥ }
 {
-    match leaf_at(leaves, place) {
+    match leaf_at(leaves, node) {
         Some(_) => true,
-        None => match gate_at(gates, place) {
+        None => match gate_at(gates, node) {
             Some(_) => true,
             None => false,
         },
@@ -25,23 +25,23 @@ fn is_placed(leaves: &[u32], gates: &[(u32, Gate)], place: u32) -> bool
 
 /// Whether `sig` is a constant or one of `leaves` or `gates`.
 pub fn is_known(leaves: &[u32], gates: &[(u32, Gate)], sig: Sig) -> bool
-    ensures yes { IsTrue result → IsSigAmong (placed leaves.now gates.now) sig }
-    ensures no { IsFalse result → IsSigAmong (placed leaves.now gates.now) sig → ⊥ }
+    ensures yes { IsTrue result → IsSigAmong (numbered leaves.now gates.now) sig }
+    ensures no { IsFalse result → IsSigAmong (numbered leaves.now gates.now) sig → ⊥ }
 {
     match sig {
         Sig::Zero => true,
         Sig::One => true,
-        Sig::Place(place) => is_placed(leaves, gates, place),
+        Sig::Node(node) => is_numbered(leaves, gates, node),
     }
 }
 
 /// Whether `gate` may follow `leaves` and `gates`: its node is new, and its operands are known.
 fn is_next(leaves: &[u32], gates: &[(u32, Gate)], gate: &(u32, Gate)) -> bool
-    ensures yes { IsTrue result → IsNext (placed leaves.now gates.now) gate.now }
-    ensures no { IsFalse result → IsNext (placed leaves.now gates.now) gate.now → ⊥ }
+    ensures yes { IsTrue result → MayComeNext (numbered leaves.now gates.now) gate.now }
+    ensures no { IsFalse result → MayComeNext (numbered leaves.now gates.now) gate.now → ⊥ }
 {
-    let (place, gate) = *gate;
-    if is_placed(leaves, gates, place) {
+    let (node, gate) = *gate;
+    if is_numbered(leaves, gates, node) {
         return false;
     }
     is_known(leaves, gates, gate.a) && is_known(leaves, gates, gate.b)
@@ -63,12 +63,12 @@ pub fn are_next(leaves: &[u32], gates: &[(u32, Gate)]) -> bool
 
 /// Whether the leaves are distinct.
 pub fn are_new(leaves: &[u32]) -> bool
-    ensures yes { IsTrue result → AreNew leaves.now }
-    ensures no { IsFalse result → AreNew leaves.now → ⊥ }
+    ensures yes { IsTrue result → AreDistinctLeaves leaves.now }
+    ensures no { IsFalse result → AreDistinctLeaves leaves.now → ⊥ }
 {
     for i in 0..leaves.len() {
         let (before, _) = leaves.split_at(i);
-        if is_placed(before, &[], leaves[i]) {
+        if is_numbered(before, &[], leaves[i]) {
             return false;
         }
     }

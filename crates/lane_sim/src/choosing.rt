@@ -5,8 +5,8 @@ ghost use Rattle.std.specs.Prelude.{◌*◌, ◌/◌, ◌%◌, ◌≤◌, ◌<�
 ghost use Rattle.chain_theory.specs.Operator.{digit};
 ghost use Rattle.lane_sim.specs.Chosen.{chosen_at, AreChosenBelow};
 ghost use Rattle.lane_sim.specs.Combining.{EndsBefore};
-ghost use Rattle.lane_sim.specs.Cone.{IsSigAmong, places};
-ghost use Rattle.lane_sim.specs.Seen.{pattern_at, AreRows, AllEnd};
+ghost use Rattle.lane_sim.specs.Cone.{IsSigAmong, nodes};
+ghost use Rattle.lane_sim.specs.Seen.{pattern_at, IsRowCount, AllEnd};
 ghost use Rattle.lane_sim.specs.Words.{AreWords, ArePatterns, ArePatternsOf, width_of as width_of_rows};
 
 use crate::cone::Cone;
@@ -28,10 +28,11 @@ fn seen_in_fours(
     chosen: Operand,
 ) -> u64
     requires few { length operands.now ≤ 6 }
-    requires rows { AreRows rows }
+    requires rows { IsRowCount rows }
     requires ends { AllEnd (length lanes.now) (width_of_rows rows) operands.now }
     requires end { EndsBefore (length words.now) (width_of_rows rows) chosen }
-    ensures { AreChosenBelow (length operands.now) (pattern_at lanes.now operands.now) (chosen_at words.now chosen) rows (width_of_rows rows / 4 * 4) result }
+    ensures { AreChosenBelow (length operands.now) (pattern_at lanes.now operands.now)
+        (chosen_at words.now chosen) rows (width_of_rows rows / 4 * 4) result }
 {
     let mut found = 0;
     for block in 0..width_of(rows) / 4 {
@@ -64,10 +65,11 @@ fn seen_chosen(
     chosen: Operand,
 ) -> u64
     requires few { length operands.now ≤ 6 }
-    requires rows { AreRows rows }
+    requires rows { IsRowCount rows }
     requires ends { AllEnd (length lanes.now) (width_of_rows rows) operands.now }
     requires end { EndsBefore (length words.now) (width_of_rows rows) chosen }
-    ensures { AreChosenBelow (length operands.now) (pattern_at lanes.now operands.now) (chosen_at words.now chosen) rows (width_of_rows rows) result }
+    ensures { AreChosenBelow (length operands.now) (pattern_at lanes.now operands.now)
+        (chosen_at words.now chosen) rows (width_of_rows rows) result }
 {
     let mut found = seen_in_fours(lanes, rows, operands, words, chosen);
     for j in width_of(rows) / 4 * 4..width_of(rows) {
@@ -81,7 +83,7 @@ fn seen_chosen(
 /// the bits of `t`, the first signal's being the most significant. At most 6 signals.
 pub fn patterns(words: &Words, cone: &Cone, signals: &[Sig]) -> u64
     requires few { length signals.now ≤ 6 }
-    requires known { All (IsSigAmong (places cone.now)) signals.now }
+    requires known { All (IsSigAmong (nodes cone.now)) signals.now }
     requires words { AreWords cone.now words.now }
     ensures { ArePatterns cone.now signals.now result }
 {
@@ -98,10 +100,11 @@ pub fn patterns(words: &Words, cone: &Cone, signals: &[Sig]) -> u64
 /// stands for the assignment `64 * j + b`.
 pub fn patterns_on(words: &Words, cone: &Cone, signals: &[Sig], chosen: &[u64]) -> u64
     requires few { length signals.now ≤ 6 }
-    requires known { All (IsSigAmong (places cone.now)) signals.now }
+    requires known { All (IsSigAmong (nodes cone.now)) signals.now }
     requires words { AreWords cone.now words.now }
     requires chosen { width_of_rows words.now.rows ≤ length chosen.now }
-    ensures { ArePatternsOf cone.now signals.now (λ row. digit (slice_index_or chosen.now (row / 64) 0) (row % 64)) result }
+    ensures { ArePatternsOf cone.now signals.now (λ row. digit (slice_index_or chosen.now (row / 64) 0) (row % 64))
+        result }
 {
     let lanes = lanes_of(words);
     let rows = rows_of(words);

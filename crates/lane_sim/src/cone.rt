@@ -2,7 +2,7 @@
 //! pass over the gates finds each operand simulated.
 
 ghost use Rattle.std.specs.Prelude.{◌≡◌, IsTrue, IsFalse, IfSome, IfNone};
-ghost use Rattle.lane_sim.specs.Cone.{IsCone, IsSigAmong, places};
+ghost use Rattle.lane_sim.specs.Cone.{IsCone, IsSigAmong, nodes};
 
 use crate::checking::{are_new, are_next, is_known};
 use net_theory::{Gate, Sig};
@@ -77,8 +77,8 @@ impl Cone {
 
     /// Whether a signal is a constant, a leaf or a gate of the cone.
     pub fn has(&self, sig: Sig) -> bool
-        ensures yes { IsTrue result → IsSigAmong (places self.now) sig }
-        ensures no { IsFalse result → IsSigAmong (places self.now) sig → ⊥ }
+        ensures yes { IsTrue result → IsSigAmong (nodes self.now) sig }
+        ensures no { IsFalse result → IsSigAmong (nodes self.now) sig → ⊥ }
     {
         is_known(&self.leaves, &self.gates, sig)
     }

@@ -3,7 +3,7 @@
 
 ghost use Rattle.std.specs.Prelude.{◌≡◌, ℕ, ◌+◌, ◌*◌, ◌≤◌, ◌<◌, [], length, OnOk};
 ghost use Rattle.chain_theory.specs.Operator.{digit};
-ghost use Rattle.lane_sim.specs.Rows.{IsRow, IsPut, AreLeaves};
+ghost use Rattle.lane_sim.specs.Rows.{IsRowWritten, IsRowAppended, AreLeaves};
 
 use crate::cone::Cone;
 use indexmap::IndexSet;
@@ -31,7 +31,7 @@ fn leaf_word(j: usize, k: usize) -> u64
 fn write_leaf(lanes: &mut [u64], start: usize, width: usize, k: usize)
     requires room { start + width ≡ length lanes.old }
     requires digit { k < 64 }
-    ensures { IsRow (λ row. digit row k) start width lanes.old lanes.new }
+    ensures { IsRowWritten (λ row. digit row k) start width lanes.old lanes.new }
 {
     for j in 0..width {
         lanes[start + j] = leaf_word(j, k);
@@ -43,7 +43,7 @@ fn write_leaf(lanes: &mut [u64], start: usize, width: usize, k: usize)
 fn push_leaf(lanes: &mut Vec<u64>, width: usize, k: usize) -> Result<(), AllocError>
     requires width { width ≤ 64 }
     requires digit { k < 64 }
-    ensures { OnOk result (IsPut (λ row. digit row k) width lanes.old.items lanes.new.items) }
+    ensures { OnOk result (IsRowAppended (λ row. digit row k) width lanes.old.items lanes.new.items) }
 {
     let start = lanes.len();
     lanes.resize(start + width, 0)?;
@@ -54,19 +54,19 @@ fn push_leaf(lanes: &mut Vec<u64>, width: usize, k: usize) -> Result<(), AllocEr
 /// Appends the rows of all leaves and adds their nodes to the index.
 pub fn simulate_leaves(
     lanes: &mut Vec<u64>,
-    places: &mut IndexSet<u32>,
+    nodes: &mut IndexSet<u32>,
     width: usize,
     cone: &Cone,
 ) -> Result<(), AllocError>
     requires width { width ≤ 64 }
     requires lanes { lanes.old.items ≡ [] }
-    requires places { places.old.keys ≡ [] }
-    ensures { OnOk result (AreLeaves cone.now width places.new.keys lanes.new.items []) }
+    requires nodes { nodes.old.keys ≡ [] }
+    ensures { OnOk result (AreLeaves cone.now width nodes.new.keys lanes.new.items []) }
 {
     let mut left = cone.leaves();
-    while let Some((place, rest)) = left.split_first() {
+    while let Some((node, rest)) = left.split_first() {
         push_leaf(lanes, width, rest.len())?;
-        places.insert(*place)?;
+        nodes.insert(*node)?;
         left = rest;
     }
     Ok(())

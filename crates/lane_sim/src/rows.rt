@@ -5,7 +5,7 @@ ghost use Rattle.std.specs.Prelude.{◌≡◌, ◌+◌, ◌≤◌, ◌<◌, ◌^
 ghost use Rattle.std.specs.Simd.Lanes.{put_chunk};
 ghost use Rattle.op_basis.specs.WordOperator.{combined};
 ghost use Rattle.lane_sim.specs.Combining.{operand_word, operand_four, EndsBefore, combined_four};
-ghost use Rattle.lane_sim.specs.Rows.{IsWritten};
+ghost use Rattle.lane_sim.specs.Rows.{IsGateRowWritten};
 
 use crate::combining::combine_four;
 use op_basis::{Masks, combine};
@@ -96,7 +96,8 @@ fn write_four(lanes: &mut [u64], masks: Masks, a: Operand, b: Operand, start: us
     requires room { start + j + 4 ≤ length lanes.old }
     requires first { EndsBefore start (j + 4) a }
     requires second { EndsBefore start (j + 4) b }
-    ensures { lanes.new ≡ put_chunk (start + j) lanes.old (combined_four masks (operand_four lanes.old a j) (operand_four lanes.old b j)) }
+    ensures { lanes.new ≡ put_chunk (start + j) lanes.old
+        (combined_four masks (operand_four lanes.old a j) (operand_four lanes.old b j)) }
 {
     let a = four(lanes, a, j);
     let b = four(lanes, b, j);
@@ -108,7 +109,8 @@ fn write_one(lanes: &mut [u64], masks: Masks, a: Operand, b: Operand, start: usi
     requires room { start + j < length lanes.old }
     requires first { EndsBefore start (j + 1) a }
     requires second { EndsBefore start (j + 1) b }
-    ensures { lanes.new ≡ slice_set lanes.old (start + j) (combined masks (operand_word lanes.old a j) (operand_word lanes.old b j)) }
+    ensures { lanes.new ≡ slice_set lanes.old (start + j)
+        (combined masks (operand_word lanes.old a j) (operand_word lanes.old b j)) }
 {
     let a = word(lanes, a, j);
     let b = word(lanes, b, j);
@@ -128,7 +130,7 @@ pub fn write_gate(
     requires room { start + width ≡ length lanes.old }
     requires first { EndsBefore start width a }
     requires second { EndsBefore start width b }
-    ensures { IsWritten masks a b start width lanes.old lanes.new }
+    ensures { IsGateRowWritten masks a b start width lanes.old lanes.new }
 {
     let mut j: usize = 0;
     while j + 4 <= width {

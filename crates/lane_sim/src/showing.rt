@@ -1,9 +1,10 @@
 //! The patterns of operands that occur under the assignments of one word, or of four words. The set of
 //! assignments is split by one operand after the other; a branch without assignments ends.
 
-ghost use Rattle.std.specs.Prelude.{◌≡◌, ℕ, ◌+◌, ◌-◌, ◌*◌, ◌≤◌, ◌<◌, ◌^◌, length, min, slice_get, slice_index_or, All, IfSome, IfNone};
+ghost use Rattle.std.specs.Prelude.{◌≡◌, ℕ, ◌+◌, ◌-◌, ◌*◌, ◌≤◌, ◌<◌, ◌^◌, length, min, slice_get, slice_index_or, All};
+ghost use Rattle.std.specs.Prelude.{IfSome, IfNone};
 ghost use Rattle.net_theory.specs.declared.data.Gate.{Gate as GateValue};
-ghost use Rattle.lane_sim.specs.Cone.{IsSigAmong, places, place_of};
+ghost use Rattle.lane_sim.specs.Cone.{IsSigAmong, nodes, node_of};
 ghost use Rattle.lane_sim.specs.Rows.{IsOperandOf};
 ghost use Rattle.lane_sim.specs.Seen.{pattern_at, four_of, AreSeen, AreSeenFour, AllEnd, AreOperands};
 
@@ -59,7 +60,8 @@ pub(crate) fn seen_four(
 ) -> u64
     requires few { length operands.now ≤ 6 }
     requires ends { AllEnd (length lanes.now) (j + 4) operands.now }
-    ensures { AreSeenFour (length operands.now) (pattern_at lanes.now operands.now) j (four_of first second third fourth) result }
+    ensures { AreSeenFour (length operands.now) (pattern_at lanes.now operands.now) j
+        (four_of first second third fourth) result }
 {
     if first | second | third | fourth == 0 {
         return 0;
@@ -91,12 +93,12 @@ pub(crate) fn seen_four(
 }
 
 /// The index of a node among the leaves.
-pub fn leaf_at(leaves: &[u32], place: u32) -> Option<usize>
-    ensures some { IfSome result (λ k. slice_get leaves.now k ≡ Some place) }
-    ensures none { IfNone result ((k d : ℕ) → k < length leaves.now → slice_index_or leaves.now k d ≡ place → ⊥) }
+pub fn leaf_at(leaves: &[u32], node: u32) -> Option<usize>
+    ensures some { IfSome result (λ k. slice_get leaves.now k ≡ Some node) }
+    ensures none { IfNone result ((k d : ℕ) → k < length leaves.now → slice_index_or leaves.now k d ≡ node → ⊥) }
 {
     for i in 0..leaves.len() {
-        if leaves[i] == place {
+        if leaves[i] == node {
             return Some(i);
         }
     }
@@ -104,12 +106,14 @@ pub fn leaf_at(leaves: &[u32], place: u32) -> Option<usize>
 }
 
 /// The index of the gate with a node.
-pub fn gate_at(gates: &[(u32, Gate)], place: u32) -> Option<usize>
-    ensures some { IfSome result (λ k. (k < length gates.now) × ((d : ℕ × GateValue) → place_of (slice_index_or gates.now k d) ≡ place)) }
-    ensures none { IfNone result ((k : ℕ) (d : ℕ × GateValue) → k < length gates.now → place_of (slice_index_or gates.now k d) ≡ place → ⊥) }
+pub fn gate_at(gates: &[(u32, Gate)], node: u32) -> Option<usize>
+    ensures some { IfSome result (λ k. (k < length gates.now) ×
+        ((d : ℕ × GateValue) → node_of (slice_index_or gates.now k d) ≡ node)) }
+    ensures none { IfNone result ((k : ℕ) (d : ℕ × GateValue) → k < length gates.now →
+        node_of (slice_index_or gates.now k d) ≡ node → ⊥) }
 {
     for i in 0..gates.len() {
-        if gates[i].0 == place {
+        if gates[i].0 == node {
             return Some(i);
         }
     }
@@ -118,20 +122,20 @@ pub fn gate_at(gates: &[(u32, Gate)], place: u32) -> Option<usize>
 
 /// The row of a cone's signal.
 pub(crate) fn operand_in(cone: &Cone, width: usize, sig: Sig) -> Operand
-    requires known { IsSigAmong (places cone.now) sig }
-    requires room { length (places cone.now) * width < 2 ^ 64 }
-    ensures { IsOperandOf (places cone.now) width sig result }
+    requires known { IsSigAmong (nodes cone.now) sig }
+    requires room { length (nodes cone.now) * width < 2 ^ 64 }
+    ensures { IsOperandOf (nodes cone.now) width sig result }
 {
-    let place = match sig {
+    let node = match sig {
         Sig::Zero => return Operand::Zero,
         Sig::One => return Operand::One,
-        Sig::Place(place) => place,
+        Sig::Node(node) => node,
     };
     let leaves = cone.leaves();
-    if let Some(k) = leaf_at(leaves, place) {
+    if let Some(k) = leaf_at(leaves, node) {
         return Operand::Row(k * width);
     }
-    match gate_at(cone.gates(), place) {
+    match gate_at(cone.gates(), node) {
         Some(k) => Operand::Row((leaves.len() + k) * width),
         None => Operand::Zero,
     }
@@ -140,9 +144,9 @@ pub(crate) fn operand_in(cone: &Cone, width: usize, sig: Sig) -> Operand
 /// Writes the operands of signals, in order.
 pub(crate) fn fill_operands(operands: &mut [Operand], cone: &Cone, width: usize, signals: &[Sig])
     requires count { length signals.now ≤ length operands.old }
-    requires known { All (IsSigAmong (places cone.now)) signals.now }
-    requires room { length (places cone.now) * width < 2 ^ 64 }
-    ensures each { AreOperands (places cone.now) width signals.now (length signals.now) operands.new }
+    requires known { All (IsSigAmong (nodes cone.now)) signals.now }
+    requires room { length (nodes cone.now) * width < 2 ^ 64 }
+    ensures each { AreOperands (nodes cone.now) width signals.now (length signals.now) operands.new }
     ensures count { length operands.new ≡ length operands.old }
 {
     for i in 0..signals.len() {

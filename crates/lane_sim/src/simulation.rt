@@ -21,21 +21,22 @@ use std::alloc::{AllocError, Global};
 const ROOM: usize = 32;
 
 /// The row after `k` others.
-fn row_behind(k: usize, width: usize) -> Operand
+fn row_after(k: usize, width: usize) -> Operand
     ensures { k * width < 2 ^ 64 → result ≡ operands.Row (k * width) }
 {
     Operand::Row(k.saturating_mul(width))
 }
 
 /// The row of a signal, found by the index of nodes. The index may have further nodes.
-pub(crate) fn operand(places: &IndexSet<u32>, width: usize, sig: Sig) -> Operand
-    ensures { (ps more : List ℕ) → places.now.keys ≡ ps ++ more → length ps * width < 2 ^ 64 → IsSigAmong ps sig → IsOperandOf ps width sig result }
+pub(crate) fn operand(nodes: &IndexSet<u32>, width: usize, sig: Sig) -> Operand
+    ensures { (ps more : List ℕ) → nodes.now.keys ≡ ps ++ more → length ps * width < 2 ^ 64 → IsSigAmong ps sig →
+        IsOperandOf ps width sig result }
 {
     match sig {
         Sig::Zero => Operand::Zero,
         Sig::One => Operand::One,
-        Sig::Place(place) => match places.get_index_of(&place) {
-            Some(k) => row_behind(k, width),
+        Sig::Node(node) => match nodes.get_index_of(&node) {
+            Some(k) => row_after(k, width),
             None => Operand::Zero,
         },
     }
@@ -63,17 +64,17 @@ pub(crate) fn push_row(
 /// Appends the row of a gate.
 fn push_gate(
     lanes: &mut Vec<u64>,
-    places: &IndexSet<u32>,
+    nodes: &IndexSet<u32>,
     width: usize,
     gate: Gate,
 ) -> Result<(), AllocError>
     requires width { width ≤ 64 }
-    requires size { vec_len lanes.old ≡ length places.now.keys * width }
-    requires known { IsGateOver places.now.keys gate }
-    ensures { OnOk result (IsGatePut places.now.keys gate width lanes.old.items lanes.new.items) }
+    requires size { vec_len lanes.old ≡ length nodes.now.keys * width }
+    requires known { IsGateOver nodes.now.keys gate }
+    ensures { OnOk result (IsGatePut nodes.now.keys gate width lanes.old.items lanes.new.items) }
 {
-    let a = operand(places, width, gate.a);
-    let b = operand(places, width, gate.b);
+    let a = operand(nodes, width, gate.a);
+    let b = operand(nodes, width, gate.b);
     push_row(lanes, width, gate.op, a, b)?;
     Ok(())
 }
@@ -81,18 +82,18 @@ fn push_gate(
 /// Appends the rows of all gates after those of the leaves.
 fn simulate_gates(
     lanes: &mut Vec<u64>,
-    places: &mut IndexSet<u32>,
+    nodes: &mut IndexSet<u32>,
     width: usize,
     cone: &Cone,
 ) -> Result<(), AllocError>
     requires width { width ≤ 64 }
-    requires leaves { AreLeaves cone.now width places.old.keys lanes.old.items [] }
-    ensures { OnOk result (AreGatesOf cone.now width (64 * width) places.new.keys lanes.new.items []) }
+    requires leaves { AreLeaves cone.now width nodes.old.keys lanes.old.items [] }
+    ensures { OnOk result (AreGatesOf cone.now width (64 * width) nodes.new.keys lanes.new.items []) }
 {
     let mut left = cone.gates();
     while let Some((first, rest)) = left.split_first() {
-        push_gate(lanes, places, width, first.1)?;
-        places.insert(first.0)?;
+        push_gate(lanes, nodes, width, first.1)?;
+        nodes.insert(first.0)?;
         left = rest;
     }
     Ok(())
@@ -107,8 +108,8 @@ pub fn cone_words(alloc: Global, cone: &Cone) -> Result<Words, AllocError>
     let rows = 1u32 << cone.leaves().len();
     let width = width_of(rows);
     let mut lanes = Vec::with_capacity(alloc, width.saturating_mul(ROOM))?;
-    let mut places = IndexSet::with_capacity(alloc, ROOM)?;
-    simulate_leaves(&mut lanes, &mut places, width, cone)?;
-    simulate_gates(&mut lanes, &mut places, width, cone)?;
+    let mut nodes = IndexSet::with_capacity(alloc, ROOM)?;
+    simulate_leaves(&mut lanes, &mut nodes, width, cone)?;
+    simulate_gates(&mut lanes, &mut nodes, width, cone)?;
     Ok(Words { lanes, rows })
 }

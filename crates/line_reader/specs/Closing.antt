@@ -1,7 +1,7 @@
 -- The state after all lines of a text.
 use Rattle.std.specs.Prelude.{ℕ, List, [], Result, Ok, Err}
 use Rattle.text_core.specs.Lines.{Line}
-use Rattle.line_reader.specs.Cuts.{IsPlace}
+use Rattle.line_reader.specs.Splits.{IsPlace}
 use Rattle.line_reader.specs.declared.reader.Closed.{Closed}
 
 -- The stage represents all lines, with none left, or the text is refused.

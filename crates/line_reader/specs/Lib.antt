@@ -1,6 +1,6 @@
 pub mod TextLines
 pub mod Closing
-pub mod Cuts
-pub mod CuttingLaws
+pub mod Splits
+pub mod SplittingLaws
 pub mod Reader
 pub mod Seen

@@ -1,7 +1,7 @@
 -- What a reader promises about the text that it was fed, wherever the pieces ended, in terms of its stage.
 use Rattle.std.specs.Prelude.{◌≡◌, ℕ, ◌+◌, ◌^◌, ◌<◌, ◌≤◌, List, ◌++◌, length, Result, Ok, Err}
 use Rattle.text_core.specs.Lines.{Line, lines_from, lines_of}
-use Rattle.line_reader.specs.Cuts.{IsCut}
+use Rattle.line_reader.specs.Splits.{IsSplit}
 
 -- the stage after the whole lines so far, the number of the next line, what was fed of that line, and how many
 -- bytes were fed in all
@@ -22,7 +22,7 @@ pub record IsReader {S : Type 0} (is_whole : S → ℕ → Type 0) (count : S �
 -- follows, its stage is the state after the whole lines of the text.
 pub record StandsFor {S : Type 0} (are_lines : S → ℕ → List Line → List Line → Type 0) (r : Reader S) (text : List ℕ) : Type 0 where
   pub fed_is : r.fed ≡ length text
-  pub cut : IsCut text r.number r.unfinished
+  pub split : IsSplit text r.number r.unfinished
   pub stands : (rest : List ℕ) → are_lines r.stage r.number (lines_from r.unfinished rest) (lines_of (text ++ rest))
 
 -- Whatever follows the text, it is refused with this fault.

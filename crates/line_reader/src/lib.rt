@@ -9,7 +9,7 @@
 //! a refusal holds for every text that begins with what was fed; and at the end the reader returns the result of
 //! the whole text.
 //!
-//! - `specs/Cuts.antt`: a text split into whole lines and an unfinished one.
+//! - `specs/Splits.antt`: a text split into whole lines and an unfinished one.
 //! - `specs/Reader.antt`: what a reader promises about the text that it was fed.
 //!
 //! ```text

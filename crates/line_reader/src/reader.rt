@@ -1,7 +1,7 @@
 //! The reader of a text that comes in pieces, which may end anywhere.
 ghost use Rattle.std.specs.Prelude.{◌≡◌, ◌+◌, ◌^◌, ◌<◌, ◌≤◌, List, ℕ, [], ◌∷◌, ◌++◌, true, length, IfOk};
 ghost use Rattle.text_core.specs.Lines.{Line, lines_of, last_line, line_bytes};
-ghost use Rattle.line_reader.specs.Cuts.{HasNoEnd, IsPlace, with_end};
+ghost use Rattle.line_reader.specs.Splits.{HasNoEnd, IsPlace, with_end};
 ghost use Rattle.line_reader.specs.Reader.{Judged, IsReader, StandsFor, HasRead};
 ghost use Rattle.line_reader.specs.Seen.{seen};
 ghost use Rattle.line_reader.specs.Closing.{HasClosed};
@@ -41,7 +41,8 @@ fn take_text<S: LineStage>(alloc: Global, stage: S, number: u32, text: &[u8]) ->
     requires room { S.held stage + length (with_end text.now) < 2 ^ 31 }
     ensures whole { IfOk result (λ s. S.whole s (number + 1)) }
     ensures held { IfOk result (λ s. S.held s ≤ S.held stage + length (with_end text.now)) }
-    ensures stands { (lines ls all : List Line) → HasNoEnd text.now → IsPlace number lines all → S.stands stage number lines all →
+    ensures stands { (lines ls all : List Line) → HasNoEnd text.now → IsPlace number lines all →
+        S.stands stage number lines all →
         lines ≡ record { text = text.now; ended = true } ∷ ls → Judged S.stands S.refuses result (number + 1) ls all }
 {
     let line = TextLine {
@@ -58,7 +59,8 @@ fn close<S: LineStage>(stage: S, number: u32, unfinished: &Vec<u8>) -> Result<Cl
     requires number { number + length unfinished.now.items ≤ 2 ^ 31 }
     requires room { S.held stage + length unfinished.now.items < 2 ^ 31 }
     ensures whole { IfOk result (λ closed. S.whole closed.stage closed.number) }
-    ensures stands { (all : List Line) → HasNoEnd unfinished.now.items → IsPlace number (last_line unfinished.now.items) all →
+    ensures stands { (all : List Line) → HasNoEnd unfinished.now.items →
+        IsPlace number (last_line unfinished.now.items) all →
         S.stands stage number (last_line unfinished.now.items) all → HasClosed S.stands S.refuses result all }
 {
     if unfinished.is_empty() {
@@ -80,7 +82,7 @@ fn close<S: LineStage>(stage: S, number: u32, unfinished: &Vec<u8>) -> Result<Cl
 
 impl<S: LineStage> PieceReader<S> {
     /// Nothing was fed yet. The reader itself allocates nothing; its stage may.
-    #[tactic(auto, using(crate::proofs::Cutting::readers))]
+    #[tactic(auto, using(crate::proofs::Splitting::readers))]
     pub fn new(alloc: Global) -> PieceReader<S>
         ensures whole { IsReader S.whole S.held (seen result) }
         ensures stands { StandsFor S.stands (seen result) [] }
@@ -99,7 +101,8 @@ impl<S: LineStage> PieceReader<S> {
         requires whole { IsReader S.whole S.held (seen self) }
         requires room { self.fed + length piece.now < 2 ^ 31 }
         ensures whole { IfOk result (λ reader. IsReader S.whole S.held (seen reader)) }
-        ensures read { (text : List ℕ) → StandsFor S.stands (seen self) text → HasRead seen S.stands S.refuses result (text ++ piece.now) }
+        ensures read { (text : List ℕ) → StandsFor S.stands (seen self) text →
+            HasRead seen S.stands S.refuses result (text ++ piece.now) }
         ensures fed { IfOk result (λ reader. reader.fed ≡ self.fed + length piece.now) }
     {
         let mut reader = self;
@@ -118,7 +121,8 @@ impl<S: LineStage> PieceReader<S> {
         ensures whole { IfOk result (λ reader. IsReader S.whole S.held (seen reader)) }
         ensures read { (before : List ℕ) → HasNoEnd text.now → StandsFor S.stands (seen self) before →
             HasRead seen S.stands S.refuses result (before ++ line_bytes (record { text = text.now; ended = ended })) }
-        ensures fed { IfOk result (λ reader. reader.fed ≡ self.fed + length (line_bytes (record { text = text.now; ended = ended }))) }
+        ensures fed { IfOk result (λ reader. reader.fed ≡
+            self.fed + length (line_bytes (record { text = text.now; ended = ended }))) }
     {
         if ended {
             return self.end_line(text);
@@ -188,7 +192,8 @@ impl<S: LineStage> PieceReader<S> {
     pub fn closed(self) -> Result<Closed<S>, S::Fault>
         requires { IsReader S.whole S.held (seen self) }
         ensures whole { IfOk result (λ closed. S.whole closed.stage closed.number) }
-        ensures stands { (text : List ℕ) → StandsFor S.stands (seen self) text → HasClosed S.stands S.refuses result (lines_of text) }
+        ensures stands { (text : List ℕ) → StandsFor S.stands (seen self) text →
+            HasClosed S.stands S.refuses result (lines_of text) }
     {
         let PieceReader {
             stage,

@@ -2,7 +2,7 @@
 ghost use Rattle.std.specs.Prelude.{◌≡◌, ℕ, ◌+◌, ◌^◌, ◌<◌, ◌≤◌, List, [], ◌∷◌, length, Result, Err, IfOk};
 ghost use Rattle.text_core.specs.Lines.{Line, lines_of, line_bytes};
 ghost use Rattle.line_reader.specs.TextLines.{line_of};
-ghost use Rattle.line_reader.specs.Cuts.{HasNoEnd, IsPlace};
+ghost use Rattle.line_reader.specs.Splits.{HasNoEnd, IsPlace};
 ghost use Rattle.line_reader.specs.Reader.{Judged};
 
 use crate::line::TextLine;
@@ -52,7 +52,8 @@ pub trait LineStage: Drop + Sized {
     /// The result of a text, after its last line; `number` is the one that a further line would have.
     fn end(self, alloc: Global, number: u32) -> Result<Self::End, Self::Fault>
         requires { whole self number }
-        ensures { (text : List ℕ) → IsPlace number [] (lines_of text) → stands self number [] (lines_of text) → gives result text };
+        ensures { (text : List ℕ) → IsPlace number [] (lines_of text) → stands self number [] (lines_of text) →
+            gives result text };
 
     /// The fault that memory ran out. It may come at any time.
     fn no_memory() -> Self::Fault

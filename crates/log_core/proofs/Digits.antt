@@ -1,5 +1,6 @@
 -- Decimal numbers, their digits two by two.
-use Rattle.std.proofs.Common.{◌≡◌, ℕ, zero, suc, ◌+◌, ◌-◌, ◌*◌, ◌/◌, ◌%◌, ◌^◌, ◌<◌, ◌≤◌, Bool, true, ◌&&◌, T, eqb, [], ◌∷◌, ◌++◌, get_or, refl, ap, ◌∙◌, inl, inr, arith, eq-zero-or-pos, eqb→eq, append_assoc}
+use Rattle.std.proofs.Common.{◌≡◌, ℕ, zero, suc, ◌+◌, ◌-◌, ◌*◌, ◌/◌, ◌%◌, ◌^◌, ◌<◌, ◌≤◌, Bool, true, ◌&&◌, T, eqb, []}
+use Rattle.std.proofs.Common.{◌∷◌, ◌++◌, get_or, refl, ap, ◌∙◌, inl, inr, arith, eq-zero-or-pos, eqb→eq, append_assoc}
 use Rattle.std.specs.Prelude.{decimal}
 use Rattle.std.proofs.lemmas.Fmt.{decimal_digit, decimal_step}
 use Rattle.std.proofs.lemmas.Grind.{common_steps}
@@ -38,18 +39,20 @@ two n low high = decimal_step n low (omega arith) ∙ ap (λ ds. ds ++ (48 + n %
 -- a longer number: all but its last two digits, and these
 pub more : (n : ℕ) → 100 ≤ n → n < 2 ^ 32 → decimal n ≡ decimal (n / 100) ++ (48 + n % 100 / 10) ∷ (48 + n % 100 % 10) ∷ []
 more n low high =
-    let front : n / 10 / 10 ≡ n / 100 = omega arith in
+    let prefix : n / 10 / 10 ≡ n / 100 = omega arith in
     let tens : n / 10 % 10 ≡ n % 100 / 10 = omega arith in
     let ones : n % 10 ≡ n % 100 % 10 = omega arith in
-    rw (decimal_step n (omega arith) (omega arith), decimal_step (n / 10) (omega arith) (omega arith), append_assoc, front, tens, ← ones)
+    rw (decimal_step n (omega arith) (omega arith), decimal_step (n / 10) (omega arith) (omega arith), append_assoc, prefix, tens, ← ones)
 
 -- one of five digits or more: all but its last four digits, and these
-pub halves-at : (n : ℕ) → 10000 ≤ n → n < 2 ^ 32 → decimal n ≡ (decimal (n / 10000) ++ (48 + n % 10000 / 100 / 10) ∷ (48 + n % 10000 / 100 % 10) ∷ []) ++ (48 + n % 10000 % 100 / 10) ∷ (48 + n % 10000 % 100 % 10) ∷ []
+pub halves-at : (n : ℕ) → 10000 ≤ n → n < 2 ^ 32 →
+    decimal n ≡ (decimal (n / 10000) ++ (48 + n % 10000 / 100 / 10) ∷ (48 + n % 10000 / 100 % 10) ∷ []) ++
+    (48 + n % 10000 % 100 / 10) ∷ (48 + n % 10000 % 100 % 10) ∷ []
 halves-at n low high =
-    let front : n / 100 / 100 ≡ n / 10000 = omega arith in
+    let prefix : n / 100 / 100 ≡ n / 10000 = omega arith in
     let middle : n / 100 % 100 ≡ n % 10000 / 100 = omega arith in
     let last : n % 100 ≡ n % 10000 % 100 = omega arith in
-    more n (omega arith) high ∙ rw (more (n / 100) (omega arith) (omega arith), front, middle, last) refl
+    more n (omega arith) high ∙ rw (more (n / 100) (omega arith) (omega arith), prefix, middle, last) refl
 
 pub ruleset pairs = (common_steps, tens-at, ones-at)
 

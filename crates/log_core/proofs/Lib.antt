@@ -1,7 +1,7 @@
 pub mod ReadNumbers
 pub mod ReadLists
 pub mod ReadRows
-pub mod Behind
+pub mod After
 pub mod Taken
 pub mod Shown
 pub mod Spelled

@@ -90,4 +90,10 @@ written-three n low top =
     let third : n / 16384 / 16384 ≡ 0 = omega arith in
     let fourth : n / 16384 / 128 ≡ 0 = omega arith in
     let whole : n / 16384 % 128 ≡ n / 16384 = omega arith in
-    rw (leading-none (n / 16384 / 16384) third, leading-none (n / 16384 / 128) fourth, leading-some (n / 16384) (λ none. absurd (omega (arith, none))), leading-some (n / 128) (λ none. absurd (omega (arith, none))), whole) refl
+    rw (
+      leading-none (n / 16384 / 16384) third,
+      leading-none (n / 16384 / 128) fourth,
+      leading-some (n / 16384) (λ none. absurd (omega (arith, none))),
+      leading-some (n / 128) (λ none. absurd (omega (arith, none))),
+      whole,
+    ) refl

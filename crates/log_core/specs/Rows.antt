@@ -29,8 +29,8 @@ sizes_of [] = 0
 sizes_of (h ∷ hs) = size_of h + sizes_of hs
 
 -- the lines take exactly the bytes of the array
-abbrev pub IsCut : List Head → List ℕ → Type 0
-IsCut heads bytes = sizes_of heads ≡ length bytes
+abbrev pub IsSplit : List Head → List ℕ → Type 0
+IsSplit heads bytes = sizes_of heads ≡ length bytes
 
 -- the old array is a prefix of the new one
 abbrev pub BeginsAs : List ℕ → List ℕ → Type 0

@@ -4,7 +4,7 @@
 ghost use Rattle.std.specs.Prelude.{◌≡◌, [], ◌∷◌, ◌++◌, length, take, OnOk, OnErr, IsOkAnd, IfOk, IfSome, IfNone};
 ghost use Rattle.sat_theory.specs.Line as theory;
 ghost use Rattle.lrat_text.specs.Values.{line_value};
-ghost use Rattle.log_core.specs.Rows.{lines_in, IsCut};
+ghost use Rattle.log_core.specs.Rows.{lines_in, IsSplit};
 
 use crate::head::Head;
 use crate::packing::{pack_addition, pack_deletion};
@@ -24,13 +24,13 @@ pub struct Log {
 impl Model for Log {
     ghost use Rattle.std.specs.Prelude.{List};
     ghost use Rattle.sat_theory.specs.Line as theory;
-    ghost use Rattle.log_core.specs.Rows.{lines_in, IsCut};
+    ghost use Rattle.log_core.specs.Rows.{lines_in, IsSplit};
 
     ghost Value = { List theory.Line };
 
     ghost view = { λ l. lines_in l.heads.items l.bytes.items };
 
-    ghost invariant = { λ l. IsCut l.heads.items l.bytes.items };
+    ghost invariant = { λ l. IsSplit l.heads.items l.bytes.items };
 }
 
 /// What is left of a log while it is read.
@@ -43,13 +43,13 @@ pub struct Lines<'a> {
 impl<'a> Model for Lines<'a> {
     ghost use Rattle.std.specs.Prelude.{List};
     ghost use Rattle.sat_theory.specs.Line as theory;
-    ghost use Rattle.log_core.specs.Rows.{lines_in, IsCut};
+    ghost use Rattle.log_core.specs.Rows.{lines_in, IsSplit};
 
     ghost Value = { List theory.Line };
 
     ghost view = { λ l. lines_in l.heads.now l.bytes.now };
 
-    ghost invariant = { λ l. IsCut l.heads.now l.bytes.now };
+    ghost invariant = { λ l. IsSplit l.heads.now l.bytes.now };
 }
 
 /// Appends the head of a packed line.
@@ -62,7 +62,7 @@ fn push_head(heads: &mut Vec<Head>, packed: Result<Head, AllocError>) -> Result<
 }
 
 /// As `push_head`; if memory runs out, the byte array is truncated to where the line began.
-fn push_or_cut(
+fn push_or_truncate(
     heads: &mut Vec<Head>,
     bytes: &mut Vec<u8>,
     start: usize,
@@ -71,7 +71,7 @@ fn push_or_cut(
     ensures ok { OnOk result (IsOkAnd packed (λ head. heads.new.items ≡ heads.old.items ++ head ∷ [])) }
     ensures kept { OnOk result (bytes.new.items ≡ bytes.old.items) }
     ensures err { OnErr result (heads.new.items ≡ heads.old.items) }
-    ensures cut { OnErr result (bytes.new.items ≡ take start bytes.old.items) }
+    ensures split { OnErr result (bytes.new.items ≡ take start bytes.old.items) }
 {
     let pushed = push_head(heads, packed);
     if pushed.is_err() {
@@ -107,7 +107,7 @@ impl Log {
     {
         let start = self.bytes.len();
         let packed = pack_addition(&mut self.bytes, id, lits, hints);
-        push_or_cut(&mut self.heads, &mut self.bytes, start, packed)?;
+        push_or_truncate(&mut self.heads, &mut self.bytes, start, packed)?;
         Ok(())
     }
 
@@ -118,14 +118,14 @@ impl Log {
     {
         let start = self.bytes.len();
         let packed = pack_deletion(&mut self.bytes, id, ids);
-        push_or_cut(&mut self.heads, &mut self.bytes, start, packed)?;
+        push_or_truncate(&mut self.heads, &mut self.bytes, start, packed)?;
         Ok(())
     }
 
     /// The heads of its lines, and the byte array that they divide.
     pub(crate) fn parts(&self) -> (&[Head], &[u8])
         ensures lines { lines_in result.0.now result.1.now ≡ self.now }
-        ensures cut { IsCut result.0.now result.1.now }
+        ensures split { IsSplit result.0.now result.1.now }
     {
         (&self.heads, &self.bytes)
     }
@@ -153,8 +153,8 @@ impl<'a> Lines<'a> {
         let Some((head, heads)) = self.heads.split_first() else {
             return Ok(None);
         };
-        let (front, back) = self.bytes.split_at(head.size());
-        let line = line_in(alloc, *head, front)?;
+        let (prefix, back) = self.bytes.split_at(head.size());
+        let line = line_in(alloc, *head, prefix)?;
         self.heads = heads;
         self.bytes = back;
         Ok(Some(line))

@@ -9,7 +9,7 @@ ghost use Rattle.log_core.specs.Numbers.{leading, far, written, numbers_from};
 pub(crate) const MOST_DIGITS: usize = 5;
 
 /// Appends the last digit of a number, with the continuation bit; nothing for 0.
-#[tactic(auto, using(crate::proofs::Behind::behind), unfolding(crate::specs::Numbers::leading))]
+#[tactic(auto, using(crate::proofs::After::after), unfolding(crate::specs::Numbers::leading))]
 fn put_leading(bytes: &mut Vec<u8>, number: u64)
     requires room { vec_len bytes.old < vec_capacity bytes.old }
     ensures items { bytes.new.items ≡ bytes.old.items ++ leading number }
@@ -23,7 +23,7 @@ fn put_leading(bytes: &mut Vec<u8>, number: u64)
 }
 
 /// Appends the last three digits of a number, all with the continuation bit. Few numbers need this.
-#[tactic(auto, using(crate::proofs::Behind::behind), unfolding(crate::specs::Numbers::far))]
+#[tactic(auto, using(crate::proofs::After::after), unfolding(crate::specs::Numbers::far))]
 fn put_far(bytes: &mut Vec<u8>, number: u64)
     requires room { vec_len bytes.old + 3 ≤ vec_capacity bytes.old }
     ensures items { bytes.new.items ≡ bytes.old.items ++ far number }
@@ -39,7 +39,7 @@ fn put_far(bytes: &mut Vec<u8>, number: u64)
 }
 
 /// Appends a number of any size.
-#[tactic(auto, using(crate::proofs::Behind::behind), unfolding(crate::specs::Numbers::written))]
+#[tactic(auto, using(crate::proofs::After::after), unfolding(crate::specs::Numbers::written))]
 fn put_long(bytes: &mut Vec<u8>, number: u64)
     requires room { vec_len bytes.old + 5 ≤ vec_capacity bytes.old }
     ensures items { bytes.new.items ≡ bytes.old.items ++ written number }
@@ -52,7 +52,7 @@ fn put_long(bytes: &mut Vec<u8>, number: u64)
 }
 
 /// Appends a number of two digits, as most are.
-#[tactic(auto, using(crate::proofs::Behind::numbers))]
+#[tactic(auto, using(crate::proofs::After::numbers))]
 fn put_two(bytes: &mut Vec<u8>, number: u64)
     requires low { 128 ≤ number }
     requires high { number < 16384 }
@@ -66,7 +66,7 @@ fn put_two(bytes: &mut Vec<u8>, number: u64)
 }
 
 /// Appends a number of three digits, as a third of the hints of a long log are.
-#[tactic(auto, using(crate::proofs::Behind::numbers))]
+#[tactic(auto, using(crate::proofs::After::numbers))]
 fn put_three(bytes: &mut Vec<u8>, number: u64)
     requires low { 16384 ≤ number }
     requires high { number < 2097152 }
@@ -83,7 +83,7 @@ fn put_three(bytes: &mut Vec<u8>, number: u64)
 /// Appends a number, for whose digits there is room. The first three tests suffice for nearly all numbers. It is
 /// meant to be inlined into its callers' loops, which hold the array by value.
 #[inline(always)]
-#[tactic(auto, using(crate::proofs::Behind::numbers))]
+#[tactic(auto, using(crate::proofs::After::numbers))]
 pub(crate) fn put_number(bytes: &mut Vec<u8>, number: u64)
     requires room { vec_len bytes.old + MOST_DIGITS ≤ vec_capacity bytes.old }
     ensures items { bytes.new.items ≡ bytes.old.items ++ written number }
@@ -147,19 +147,19 @@ pub(crate) fn next_number(bytes: &[u8]) -> Option<(u64, &[u8])>
     ensures some { IfSome result (λ x. numbers_from 0 bytes.now ≡ x.0 ∷ numbers_from 0 x.1.now) }
     ensures shorter { IfSome result (λ x. length x.1.now < length bytes.now) }
 {
-    let (first, behind_first) = bytes.split_first()?;
+    let (first, after_first) = bytes.split_first()?;
     if *first < 128 {
-        return Some((u64::from(*first), behind_first));
+        return Some((u64::from(*first), after_first));
     }
     let one = grown(0, *first);
-    let (second, behind_second) = behind_first.split_first()?;
+    let (second, after_second) = after_first.split_first()?;
     if *second < 128 {
-        return Some((one * 128 + u64::from(*second), behind_second));
+        return Some((one * 128 + u64::from(*second), after_second));
     }
     let two = grown(one, *second);
-    let (third, behind_third) = behind_second.split_first()?;
+    let (third, after_third) = after_second.split_first()?;
     if *third < 128 {
-        return Some((two * 128 + u64::from(*third), behind_third));
+        return Some((two * 128 + u64::from(*third), after_third));
     }
-    number_after(grown(two, *third), behind_third)
+    number_after(grown(two, *third), after_third)
 }

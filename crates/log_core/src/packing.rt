@@ -31,7 +31,7 @@ fn reserve(bytes: &mut Vec<u8>, numbers: usize) -> Result<(), AllocError>
 }
 
 /// Appends ids, each as the step from the one before. There is room for them.
-#[tactic(auto, using(crate::proofs::Behind::packed))]
+#[tactic(auto, using(crate::proofs::After::packed))]
 fn with_ids(mut row: Vec<u8>, ids: &[u32]) -> Vec<u8>
     requires room { vec_len row + MOST_DIGITS * length ids.now ≤ vec_capacity row }
     ensures { result.items ≡ row.items ++ ids_written 0 ids.now }
@@ -64,7 +64,7 @@ fn number_of(lit: Lit) -> u64
 }
 
 /// Appends literals. There is room for them.
-#[tactic(auto, using(crate::proofs::Behind::packed))]
+#[tactic(auto, using(crate::proofs::After::packed))]
 fn put_literals(bytes: &mut Vec<u8>, lits: &[Lit])
     requires room { vec_len bytes.old + MOST_DIGITS * length lits.now ≤ vec_capacity bytes.old }
     ensures items { bytes.new.items ≡ bytes.old.items ++ literals_written lits.now }
@@ -89,7 +89,7 @@ fn size(start: usize, end: usize) -> Result<u32, AllocError>
 }
 
 /// Appends the bytes of an addition, and returns its head.
-#[tactic(auto, using(crate::proofs::Behind::behind))]
+#[tactic(auto, using(crate::proofs::After::after))]
 pub(crate) fn pack_addition(
     bytes: &mut Vec<u8>,
     id: u32,
@@ -110,7 +110,7 @@ pub(crate) fn pack_addition(
 }
 
 /// Appends the bytes of a deletion, and returns its head.
-#[tactic(auto, using(crate::proofs::Behind::behind))]
+#[tactic(auto, using(crate::proofs::After::after))]
 pub(crate) fn pack_deletion(bytes: &mut Vec<u8>, id: u32, ids: &[u32]) -> Result<Head, AllocError>
     ensures packed { IfOk result (IsPacked bytes.old.items bytes.new.items (theory.Delete id ids.now)) }
     ensures begins { BeginsAs bytes.old.items bytes.new.items }

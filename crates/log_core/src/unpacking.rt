@@ -57,10 +57,10 @@ pub(crate) fn line_in(alloc: Global, head: Head, bytes: &[u8]) -> Result<Line, A
 {
     match head {
         Head::Add { id, lits, hints: _ } => {
-            let (front, back) = bytes.split_at(lits as usize);
+            let (prefix, back) = bytes.split_at(lits as usize);
             Ok(Line::Add {
                 id,
-                lits: literals_of(alloc, front)?,
+                lits: literals_of(alloc, prefix)?,
                 hints: ids_of(alloc, back)?,
             })
         }

@@ -7,7 +7,7 @@ ghost use Rattle.std.specs.List.{flat_map};
 ghost use Rattle.sat_theory.specs.Line as theory;
 ghost use Rattle.lrat_text.specs.Spelling.{id_item, literal_item, line_text};
 ghost use Rattle.log_core.specs.Lists.{ids_of, literals_of};
-ghost use Rattle.log_core.specs.Rows.{BeginsAs, IsCut, size_of, line_in, lines_in};
+ghost use Rattle.log_core.specs.Rows.{BeginsAs, IsSplit, size_of, line_in, lines_in};
 
 use crate::Log;
 use crate::head::Head;
@@ -144,15 +144,15 @@ fn put_line(out: &mut Vec<u8>, head: Head, bytes: &[u8])
 {
     match head {
         Head::Add { id, lits, .. } => {
-            let (front, back) = bytes.split_at(lits as usize);
-            put_addition(out, id, front, back);
+            let (prefix, back) = bytes.split_at(lits as usize);
+            put_addition(out, id, prefix, back);
         }
         Head::Delete { id, .. } => put_deletion(out, id, bytes),
     }
 }
 
 /// Reserves room for a line, and appends it.
-#[tactic(auto, using(crate::proofs::Behind::behind))]
+#[tactic(auto, using(crate::proofs::After::after))]
 fn push_line(out: &mut Vec<u8>, head: Head, bytes: &[u8]) -> Result<(), AllocError>
     requires { length bytes.now ≡ size_of head }
     ensures ok { OnOk result (out.new.items ≡ out.old.items ++ line_text (line_in head bytes.now)) }
@@ -166,15 +166,15 @@ fn push_line(out: &mut Vec<u8>, head: Head, bytes: &[u8]) -> Result<(), AllocErr
 /// Appends the lines of a byte array one after another. If memory runs out, some of them may have been appended.
 #[tactic(auto, using(crate::proofs::Spelled::lines))]
 fn push_lines(out: &mut Vec<u8>, heads: &[Head], bytes: &[u8]) -> Result<(), AllocError>
-    requires { IsCut heads.now bytes.now }
+    requires { IsSplit heads.now bytes.now }
     ensures ok { OnOk result (out.new.items ≡ out.old.items ++ flat_map line_text (lines_in heads.now bytes.now)) }
     ensures begins { BeginsAs out.old.items out.new.items }
 {
     let mut left = bytes;
     let mut heads_left = heads;
     while let Some((head, others)) = heads_left.split_first() {
-        let (front, back) = left.split_at(head.size());
-        push_line(out, *head, front)?;
+        let (prefix, back) = left.split_at(head.size());
+        push_line(out, *head, prefix)?;
         heads_left = others;
         left = back;
     }

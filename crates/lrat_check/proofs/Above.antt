@@ -14,8 +14,11 @@ pub none_above : (vars : ℕ) (lits : List ℤ) → first_above vars lits ≡ No
 none_above vars [] none = All-nil (λ (l : ℤ). variable l ≤ vars)
 none_above vars (l ∷ ls) none =
     ⊎_elim
-    (λ (above : nat_lt vars (variable l) ≡ true). let found : cond (nat_lt vars (variable l)) (Some (variable l)) (first_above vars ls) ≡ None = none in absurd (some_is_none (variable l) (rw above at found)))
-    (λ (within : nat_lt vars (variable l) ≡ false). let found : cond (nat_lt vars (variable l)) (Some (variable l)) (first_above vars ls) ≡ None = none in All-cons (λ (m : ℤ). variable m ≤ vars) l ls (ltb-false vars (variable l) within) (none_above vars ls (rw within at found)))
+    (λ (above : nat_lt vars (variable l) ≡ true). let found : cond (nat_lt vars (variable l)) (Some (variable l))
+    (first_above vars ls) ≡ None = none in absurd (some_is_none (variable l) (rw above at found)))
+    (λ (within : nat_lt vars (variable l) ≡ false). let found : cond (nat_lt vars (variable l)) (Some (variable l))
+    (first_above vars ls) ≡ None = none in All-cons (λ (m : ℤ). variable m ≤ vars) l ls
+    (ltb-false vars (variable l) within) (none_above vars ls (rw within at found)))
     (cases_Bool (nat_lt vars (variable l)))
 
 pub ruleset above = (common_steps, none_above)

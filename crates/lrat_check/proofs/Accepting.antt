@@ -1,5 +1,7 @@
 -- What the checker's result says about the line and the log.
-use Rattle.std.proofs.Common.{◌≡◌, zero, suc, ◌<◌, ◌||◌, ◌⊎◌, Bool, true, false, List, [], ◌∷◌, ◌++◌, length, Any, Option, None, Result, Ok, Err, OnOk, IsOkUnless, refl, sym, ap, ◌∙◌, subst, inl, inr, arith}
+use Rattle.std.proofs.Common.{◌≡◌, zero, suc, ◌<◌, ◌||◌, ◌⊎◌, Bool, true, false, List, [], ◌∷◌, ◌++◌, length, Any}
+use Rattle.std.proofs.Common.{Option, None, Result, Ok, Err, OnOk, IsOkUnless, refl, sym, ap, ◌∙◌, subst, inl, inr}
+use Rattle.std.proofs.Common.{arith}
 use Rattle.std.proofs.Math.Logic.{⊎_elim}
 use Rattle.std.proofs.lemmas.Bool.{or_cases}
 use Rattle.std.proofs.lemmas.List.Quantifiers.{Any-push}
@@ -46,8 +48,8 @@ is_adds : (line : Line) → AddsEmpty line → adds_empty line ≡ true
 is_adds (Add id lits hints) none = ap is_empty none
 is_adds (Delete id ids) none = absurd none
 
-any_front : {X : Type 0} (P : X → Type 0) (x : X) (xs : List X) → Any P xs → Any P (x ∷ xs)
-any_front P x xs (k, y, within, at, holds) = (suc k, y, omega (arith, within), at, holds)
+any_prefix : {X : Type 0} (P : X → Type 0) (x : X) (xs : List X) → Any P xs → Any P (x ∷ xs)
+any_prefix P x xs (k, y, within, at, holds) = (suc k, y, omega (arith, within), at, holds)
 
 any_first : {X : Type 0} (P : X → Type 0) (x : X) (xs : List X) → P x → Any P (x ∷ xs)
 any_first P x xs holds = (0, x, omega arith, refl, holds)
@@ -58,14 +60,14 @@ any_cases P x xs (suc k, y, within, at, holds) = inr (k, y, (let h : suc k < suc
 
 any_more : {X : Type 0} (P : X → Type 0) (xs : List X) (y : X) → Any P xs → Any P (xs ++ y ∷ [])
 any_more P [] y some = absurd (let within : some.0 < 0 = some.2 in omega arith)
-any_more P (x ∷ xs) y some = ⊎_elim (λ (first : P x). any_first P x (xs ++ y ∷ []) first) (λ (later : Any P xs). any_front P x (xs ++ y ∷ []) (any_more P xs y later)) (any_cases P x xs some)
+any_more P (x ∷ xs) y some = ⊎_elim (λ (first : P x). any_first P x (xs ++ y ∷ []) first) (λ (later : Any P xs). any_prefix P x (xs ++ y ∷ []) (any_more P xs y later)) (any_cases P x xs some)
 
 any_last : {X : Type 0} (P : X → Type 0) (xs : List X) (y : X) → Any P (xs ++ y ∷ []) → Any P xs ⊎ P y
 any_last P [] y some = ⊎_elim (λ (last : P y). inr last) (λ (none : Any P []). absurd (let within : none.0 < 0 = none.2 in omega arith)) (any_cases P y [] some)
 any_last P (x ∷ xs) y some =
     ⊎_elim
     (λ (first : P x). inl (any_first P x xs first))
-    (λ (later : Any P (xs ++ y ∷ [])). ⊎_elim (λ (front : Any P xs). inl (any_front P x xs front)) (λ (last : P y). inr last) (any_last P xs y later))
+    (λ (later : Any P (xs ++ y ∷ [])). ⊎_elim (λ (prefix : Any P xs). inl (any_prefix P x xs prefix)) (λ (last : P y). inr last) (any_last P xs y later))
     (any_cases P x (xs ++ y ∷ []) some)
 
 or_left : (a b : Bool) → a ≡ true → (a || b) ≡ true
@@ -76,7 +78,9 @@ or_right true b is = refl
 or_right false b is = is
 
 -- The lines accepted so far and this line are accepted.
-pub accepted_more : (f : Formula) (lines : List Line) (line : Line) (old new : Checked) → HasAccepted f lines old → IsLine line → Holds (state_of old) line → state_of new ≡ next (state_of old) line → new.refuted ≡ (old.refuted || adds_empty line) → HasAccepted f (lines ++ line ∷ []) new
+pub accepted_more : (f : Formula) (lines : List Line) (line : Line) (old new : Checked) → HasAccepted f lines old →
+    IsLine line → Holds (state_of old) line → state_of new ≡ next (state_of old) line →
+    new.refuted ≡ (old.refuted || adds_empty line) → HasAccepted f (lines ++ line ∷ []) new
 accepted_more f lines line old new before is_line holds next_is refuted_is = record {
   formula = before.formula;
   holds = EachLine-push IsStep (start f) lines line before.holds (record { is_line = is_line; holds = subst (λ (s : State). Holds s line) before.state holds });
@@ -92,10 +96,13 @@ accepted_more f lines line old new before is_line holds next_is refuted_is = rec
     back (inl there) = or_left old.refuted (adds_empty line) (before.refuted.1 (inl there))
     back (inr added) =
         ⊎_elim
-        (λ (front : Any AddsEmpty lines). or_left old.refuted (adds_empty line) (before.refuted.1 (inr front)))
+        (λ (prefix : Any AddsEmpty lines). or_left old.refuted (adds_empty line) (before.refuted.1 (inr prefix)))
         (λ (last : AddsEmpty line). or_right old.refuted (adds_empty line) (is_adds line last))
         (any_last AddsEmpty lines line added)
 
-pub accepted_on : (r : Result (Unit {0}) CheckError) (f : Formula) (lines : List Line) (line : Line) (old new : Checked) → HasAccepted f lines old → IsLine line → Judges r (line_fault (state_of old) line) → OnOk r (state_of new ≡ next (state_of old) line) → OnOk r (new.refuted ≡ (old.refuted || adds_empty line)) → OnOk r (HasAccepted f (lines ++ line ∷ []) new)
+pub accepted_on : (r : Result (Unit {0}) CheckError) (f : Formula) (lines : List Line) (line : Line)
+    (old new : Checked) → HasAccepted f lines old → IsLine line → Judges r (line_fault (state_of old) line) →
+    OnOk r (state_of new ≡ next (state_of old) line) → OnOk r (new.refuted ≡ (old.refuted || adds_empty line)) →
+    OnOk r (HasAccepted f (lines ++ line ∷ []) new)
 accepted_on (Ok done) f lines line old new before is_line judged next_is refuted_is = accepted_more f lines line old new before is_line (line_holds (state_of old) line judged) next_is refuted_is
 accepted_on (Err e) f lines line old new before is_line judged next_is refuted_is = tt

@@ -8,7 +8,7 @@ use Rattle.std.specs.HashMap.{HashMap, get}
 use Rattle.std.proofs.lemmas.Bool.Decides.{nat_tests}
 use Rattle.sat_theory.specs.State.{with_clause, without}
 use Rattle.lrat_check.specs.Live.{live_at}
-use Rattle.lrat_check.specs.Index.{Lists, IsIndexed}
+use Rattle.lrat_check.specs.OccurrenceIndex.{Lists, IsIndexed}
 
 tie_is : (q k : ℕ) → eq_by_cmp nat_cmp q k ≡ (q == k)
 tie_is q k = grind (arith, nat_tests)
@@ -29,18 +29,26 @@ or_false true = refl
 or_false false = refl
 
 -- a clause was inserted with an id
-pub live-insert : {S : Type 0} (old new : HashMap ℕ (List ℤ) S) (id : ℕ) (clause : List ℤ) → ((q : ℕ) → get nat_eq new q ≡ cond (nat_eq id q) (Some clause) (get nat_eq old q)) → live_at (map.from_entries new.entries) ≡ with_clause (live_at (map.from_entries old.entries)) id clause
+pub live-insert : {S : Type 0} (old new : HashMap ℕ (List ℤ) S) (id : ℕ) (clause : List ℤ) →
+    ((q : ℕ) → get nat_eq new q ≡ cond (nat_eq id q) (Some clause) (get nat_eq old q)) →
+    live_at (map.from_entries new.entries) ≡ with_clause (live_at (map.from_entries old.entries)) id clause
 live-insert old new id clause each = λ i k. at k i
   where
     at : (k : ℕ) → live_at (map.from_entries new.entries) k ≡ with_clause (live_at (map.from_entries old.entries)) id clause k
-    at k = live_get new k ∙ each k ∙ ap (λ (o : Option (List ℤ)). cond (id == k) (Some clause) o) (sym (live_get old k)) ∙ ap (λ (b : Bool). cond b (Some clause) (live_at (map.from_entries old.entries) k)) (turned id k)
+    at k = live_get new k ∙ each k ∙ ap (λ (o : Option (List ℤ)). cond (id == k) (Some clause) o)
+        (sym (live_get old k)) ∙ ap (λ (b : Bool). cond b (Some clause) (live_at (map.from_entries old.entries) k))
+        (turned id k)
 
 -- the clause with an id was removed
-pub live-remove : {S : Type 0} (old new : HashMap ℕ (List ℤ) S) (id : ℕ) → ((q : ℕ) → get nat_eq new q ≡ cond (nat_eq id q) None (get nat_eq old q)) → live_at (map.from_entries new.entries) ≡ without (live_at (map.from_entries old.entries)) (id ∷ [])
+pub live-remove : {S : Type 0} (old new : HashMap ℕ (List ℤ) S) (id : ℕ) →
+    ((q : ℕ) → get nat_eq new q ≡ cond (nat_eq id q) None (get nat_eq old q)) →
+    live_at (map.from_entries new.entries) ≡ without (live_at (map.from_entries old.entries)) (id ∷ [])
 live-remove old new id each = λ i k. at k i
   where
     at : (k : ℕ) → live_at (map.from_entries new.entries) k ≡ without (live_at (map.from_entries old.entries)) (id ∷ []) k
-    at k = live_get new k ∙ each k ∙ ap (λ (o : Option (List ℤ)). cond (id == k) None o) (sym (live_get old k)) ∙ ap (λ (b : Bool). cond b None (live_at (map.from_entries old.entries) k)) (turned id k ∙ sym (or_false (k == id)))
+    at k = live_get new k ∙ each k ∙ ap (λ (o : Option (List ℤ)). cond (id == k) None o) (sym (live_get old k))
+        ∙ ap (λ (b : Bool). cond b None (live_at (map.from_entries old.entries) k)) (turned id k
+        ∙ sym (or_false (k == id)))
 
 -- the index finds the same clauses for both maps
 pub indexed_view : {S : Type 0} (m : HashMap ℕ (List ℤ) S) (index : Lists) → IsIndexed (get nat_eq m) index → IsIndexed (live_at (map.from_entries m.entries)) index

@@ -1,5 +1,7 @@
 -- Slots that are filled with one literal after the other.
-use Rattle.std.proofs.Common.{◌≡◌, ℕ, ◌+◌, ◌%◌, ◌<◌, ◌≤◌, ◌⊎◌, get_or, take, ◌==◌, ◌++◌, ◌∷◌, [], ℤ, cond, List, length, Contains, replicate, slice_index_or, slice_set, refl, sym, ap, ◌∙◌, inl, inr, arith, subst, ◌↔◌, IsTrue}
+use Rattle.std.proofs.Common.{◌≡◌, ℕ, ◌+◌, ◌%◌, ◌<◌, ◌≤◌, ◌⊎◌, get_or, take, ◌==◌, ◌++◌, ◌∷◌, [], ℤ, cond, List, length}
+use Rattle.std.proofs.Common.{Contains, replicate, slice_index_or, slice_set, refl, sym, ap, ◌∙◌, inl, inr, arith}
+use Rattle.std.proofs.Common.{subst, ◌↔◌, IsTrue}
 use Rattle.std.proofs.Math.Logic.{⊎_elim}
 use Rattle.std.proofs.lemmas.Bool.{cases_eq, cases_lt, eqb-true, eq-eqb, ne_eqb}
 use Rattle.std.proofs.lemmas.Grind.{common_steps}
@@ -8,7 +10,7 @@ use Rattle.std.proofs.lemmas.List.{take_more}
 use Rattle.std.proofs.lemmas.List.Elements.{Contains-push, Contains-push_cases, Contains-append_left}
 use Rattle.cnf_core.specs.Codes.{code_of}
 use Rattle.cnf_core.specs.CodeLaws.{code_of-same}
-use Rattle.lrat_check.specs.Index.{HasLiteral}
+use Rattle.lrat_check.specs.OccurrenceIndex.{HasLiteral}
 use Rattle.lrat_check.specs.Slots.{slot_of, slot_at, with_slot, AreSlots}
 
 abbrev slot_in : List ℕ → ℕ → ℕ
@@ -51,7 +53,9 @@ filled slots lits l are = record {
       ⊎_elim
       (λ (same : slot_of m ≡ slot_of l).
       let old : slot_at slots m ≡ slot_at slots l = ap (λ (p : ℕ). slice_index_or slots p 0) same in
-      let some : slot_at slots l ≡ 0 → ⊥ = λ none. ⊎_elim (λ (own : slot_at slots m ≡ code_of m + 2). let e : 0 ≡ code_of m + 2 = sym none ∙ sym old ∙ own in omega (arith, e)) (λ (several : slot_at slots m ≡ 1). let e : 0 ≡ 1 = sym none ∙ sym old ∙ several in omega (arith, e)) (are.each m before) in
+      let some : slot_at slots l ≡ 0 → ⊥ = λ none. ⊎_elim (λ (own : slot_at slots m ≡ code_of m + 2). let e : 0 ≡
+      code_of m + 2 = sym none ∙ sym old ∙ own in omega (arith, e)) (λ (several : slot_at slots m ≡ 1). let e : 0 ≡
+      1 = sym none ∙ sym old ∙ several in omega (arith, e)) (are.each m before) in
       inr (now m same ∙ used_entry (slot_at slots l) (code_of l) some))
       (λ (apart : slot_of m ≡ slot_of l → ⊥). subst (λ (n : ℕ). (n ≡ code_of m + 2) ⊎ (n ≡ 1)) (sym (as_before m apart)) (are.each m before))
       (cases_eq (slot_of m) (slot_of l)))
@@ -88,7 +92,8 @@ filled slots lits l are = record {
     as_before m apart = set_other slots (slot_of l) (slot_of m) (cond (slot_at slots l == 0) (code_of l + 2) 1) within apart
 
 -- One literal further in a list, and the whole list.
-pub filled_more : (slots new : List ℕ) (lits : List ℤ) (i : ℕ) (l : ℤ) → i < length lits → l ≡ get_or lits i l → AreSlots slots (take i lits) → new ≡ with_slot slots l → AreSlots new (take (i + 1) lits)
+pub filled_more : (slots new : List ℕ) (lits : List ℤ) (i : ℕ) (l : ℤ) → i < length lits → l ≡ get_or lits i l →
+    AreSlots slots (take i lits) → new ≡ with_slot slots l → AreSlots new (take (i + 1) lits)
 filled_more slots new lits i l within at are is =
     let more : take (i + 1) lits ≡ take i lits ++ l ∷ [] = take_more lits i l within ∙ ap (λ (x : ℤ). take i lits ++ x ∷ []) (sym at) in
     subst (λ (ss : List ℕ). AreSlots ss (take (i + 1) lits)) (sym is) (subst (λ (ls : List ℤ). AreSlots (with_slot slots l) ls) (sym more) (filled slots (take i lits) l are))
@@ -99,11 +104,16 @@ filled_all slots lits i past are =
     subst (λ (ls : List ℤ). AreSlots slots ls) all are
 
 -- A slot that isn't shared decides membership.
-pub slot_tells : (slots : List ℕ) (lits : List ℤ) (l : ℤ) (code : ℕ) → AreSlots slots lits → code ≡ code_of l → (slice_index_or slots (code % 1024) 0 ≡ 1 → ⊥) → IsTrue (slice_index_or slots (code % 1024) 0 == (code + 2)) ↔ HasLiteral lits l
+pub slot_reports : (slots : List ℕ) (lits : List ℤ) (l : ℤ) (code : ℕ) → AreSlots slots lits → code ≡ code_of l →
+    (slice_index_or slots (code % 1024) 0 ≡ 1 → ⊥) →
+    IsTrue (slice_index_or slots (code % 1024) 0 == (code + 2)) ↔ HasLiteral lits l
 unfolding HasLiteral
-slot_tells slots lits l code are is one = (
+slot_reports slots lits l code are is one = (
   λ yes_. are.only l (subst (λ (k : ℕ). slice_index_or slots (k % 1024) 0 ≡ k + 2) is (eqb-true (slice_index_or slots (code % 1024) 0) (code + 2) yes_)),
-  λ there. eq-eqb (slice_index_or slots (code % 1024) 0) (code + 2) (subst (λ (k : ℕ). slice_index_or slots (k % 1024) 0 ≡ k + 2) (sym is) (⊎_elim (λ (own : slot_at slots l ≡ code_of l + 2). own) (λ (several : slot_at slots l ≡ 1). absurd (one (subst (λ (k : ℕ). slice_index_or slots (k % 1024) 0 ≡ 1) (sym is) several))) (are.each l there))),
+  λ there. eq-eqb (slice_index_or slots (code % 1024) 0) (code + 2)
+      (subst (λ (k : ℕ). slice_index_or slots (k % 1024) 0 ≡ k + 2) (sym is)
+      (⊎_elim (λ (own : slot_at slots l ≡ code_of l + 2). own) (λ (several : slot_at slots l ≡ 1).
+      absurd (one (subst (λ (k : ℕ). slice_index_or slots (k % 1024) 0 ≡ 1) (sym is) several))) (are.each l there))),
 )
 
 pub ruleset filling = (common_steps, none_filled, filled)

@@ -7,7 +7,7 @@ use Rattle.std.proofs.lemmas.List.Quantifiers.{Any-push}
 use Rattle.sat_theory.specs.State.{is_listed}
 use Rattle.cnf_core.specs.Codes.{code_of}
 use Rattle.lrat_check.specs.declared.index.Entry.{Entry}
-use Rattle.lrat_check.specs.Index.{with_entry, IsEntryOf, IsListed, IsFound, KeepsFound}
+use Rattle.lrat_check.specs.OccurrenceIndex.{with_entry, IsEntryOf, IsListed, IsFound, KeepsFound}
 
 -- an id that is appended is listed, and those before it still are
 listed_last : (ids : List ℕ) (id : ℕ) → is_listed (ids ++ id ∷ []) id ≡ true
@@ -22,9 +22,9 @@ or_either : (b c d : Bool) → (c ≡ true → d ≡ true) → (b || c) ≡ true
 or_either true c d onward is = refl
 or_either false c d onward is = onward is
 
-listed_front : (ids more : List ℕ) (id : ℕ) → is_listed ids id ≡ true → is_listed (ids ++ more) id ≡ true
-listed_front [] more id is = absurd (cc)
-listed_front (k ∷ ks) more id is = or_either (id == k) (is_listed ks id) (is_listed (ks ++ more) id) (listed_front ks more id) is
+listed_prefix : (ids more : List ℕ) (id : ℕ) → is_listed ids id ≡ true → is_listed (ids ++ more) id ≡ true
+listed_prefix [] more id is = absurd (cc)
+listed_prefix (k ∷ ks) more id is = or_either (id == k) (is_listed ks id) (is_listed (ks ++ more) id) (listed_prefix ks more id) is
 
 any_more : {X : Type 0} (P : X → Type 0) (xs : List X) (y : X) → Any P xs → Any P (xs ++ y ∷ [])
 any_more P xs y (k, x, within, at, holds) = (k, x, grind (arith, common_steps, within), grind (arith, common_steps, within, at), holds)
@@ -36,16 +36,24 @@ at_other : (heads : List (List Entry)) (place code : ℕ) (e : Entry) → place 
 at_other heads place code e within apart = grind (arith, common_steps)
 
 -- the lists by literals only grow
-grown : (heads : List (List Entry)) (place id code : ℕ) (clause : List ℤ) (e : Entry) → place < length heads → IsListed (slice_index_or heads code []) id clause → IsListed (slice_index_or (with_entry heads place e) code []) id clause
+grown : (heads : List (List Entry)) (place id code : ℕ) (clause : List ℤ) (e : Entry) → place < length heads →
+    IsListed (slice_index_or heads code []) id clause →
+    IsListed (slice_index_or (with_entry heads place e) code []) id clause
 unfolding IsListed
 grown heads place id code clause e within is =
     ⊎_elim
-    (λ (same : code ≡ place). subst (λ (es : List Entry). Any (IsEntryOf id clause) es) (sym (at_place heads place code e within same)) (any_more (IsEntryOf id clause) (slice_index_or heads code []) e is))
+    (λ (same : code ≡ place). subst (λ (es : List Entry). Any (IsEntryOf id clause) es)
+    (sym (at_place heads place code e within same))
+    (any_more (IsEntryOf id clause) (slice_index_or heads code []) e is))
     (λ (apart : code ≡ place → ⊥). subst (λ (es : List Entry). Any (IsEntryOf id clause) es) (sym (at_other heads place code e within apart)) is)
     (cases_eq code place)
 
 -- what was found is still found with one more entry in a literal's list
-pub kept_at_head : (heads : List (List Entry)) (others : List ℕ) (place : ℕ) (e : Entry) → place < length heads → KeepsFound (record { heads = heads; others = others }) (record { heads = with_entry heads place e; others = others })
+pub kept_at_head : (heads : List (List Entry)) (others : List ℕ) (place : ℕ) (e : Entry) → place < length heads →
+    KeepsFound (record { heads = heads; others = others }) (record {
+      heads = with_entry heads place e;
+      others = others;
+    })
 unfolding IsFound
 kept_at_head heads others place e within = record {
   each = λ k clause found.
@@ -62,12 +70,14 @@ kept_in_others heads others id = record {
   each = λ k clause found.
       ⊎_elim
       (λ (some : Any (λ (l : ℤ). IsListed (slice_index_or heads (code_of l) []) k clause) clause). inl some)
-      (λ (other : is_listed others k ≡ true). inr (listed_front others (id ∷ []) k other))
+      (λ (other : is_listed others k ≡ true). inr (listed_prefix others (id ∷ []) k other))
       found;
 }
 
 -- The clause whose entry was added is found.
-pub found_at_head : (heads : List (List Entry)) (others : List ℕ) (place id : ℕ) (other : ℤ) (clause : List ℤ) → place < length heads → Any (λ (l : ℤ). code_of l ≡ place) clause → Contains clause other → IsFound (record { heads = with_entry heads place (record { id = id; other = other }); others = others }) id clause
+pub found_at_head : (heads : List (List Entry)) (others : List ℕ) (place id : ℕ) (other : ℤ) (clause : List ℤ) →
+    place < length heads → Any (λ (l : ℤ). code_of l ≡ place) clause → Contains clause other →
+    IsFound (record { heads = with_entry heads place (record { id = id; other = other }); others = others }) id clause
 unfolding IsFound IsListed
 found_at_head heads others place id other clause within some its =
     let e : Entry = record { id = id; other = other } in

@@ -3,7 +3,7 @@ use Rattle.std.proofs.Common.{◌≡◌, ℤ, false, []}
 use Rattle.std.proofs.lemmas.Grind.{common_steps}
 use Rattle.sat_theory.specs.Holding.{among}
 use Rattle.sat_theory.specs.HoldingLaws.{among-push}
-use Rattle.lrat_check.specs.Marks.{Stamped, marked}
+use Rattle.lrat_check.specs.LiteralMarks.{Stamped, marked}
 
 -- an empty set is that of no literals
 pub marked-none : (m : Stamped) → ((l : ℤ) → marked m l ≡ false) → marked m ≡ among []

@@ -8,15 +8,19 @@ use Rattle.lrat_check.specs.Scan.{AreMany}
 
 -- a second literal outside: the scan stops with Many
 two_outside : (set : ℤ → Bool) (clause : List ℤ) (i : ℕ) (l m : ℤ) → outside set (take i clause) ≡ l ∷ [] → i < length clause → m ≡ get_or clause i m → set m ≡ false → AreMany (outside set clause)
-two_outside set clause i l m front within at out =
+two_outside set clause i l m prefix within at out =
     let rest : List ℤ = drop (suc i) clause in
     let split : take i clause ++ drop i clause ≡ clause = take-append-drop i clause in
     let next : drop i clause ≡ m ∷ rest = drop-cons clause i m within ∙ ap (λ (x : ℤ). x ∷ rest) (sym at) in
     let whole : clause ≡ take i clause ++ m ∷ rest = sym split ∙ ap (λ (xs : List ℤ). take i clause ++ xs) next in
     let last : outside set (m ∷ rest) ≡ m ∷ outside set rest = rw out refl in
-    let all : outside set clause ≡ l ∷ m ∷ outside set rest = ap (outside set) whole ∙ filter-append (λ x. not (set x)) (take i clause) (m ∷ rest) ∙ ap (λ (xs : List ℤ). xs ++ outside set (m ∷ rest)) front ∙ ap (λ (xs : List ℤ). l ∷ xs) last in
+    let all : outside set clause ≡ l ∷ m ∷ outside set rest =
+    ap (outside set) whole ∙ filter-append (λ x. not (set x)) (take i clause) (m ∷ rest)
+    ∙ ap (λ (xs : List ℤ). xs ++ outside set (m ∷ rest)) prefix ∙ ap (λ (xs : List ℤ). l ∷ xs) last in
     record { first = l; second = m; others = outside set rest; is = all }
 
-pub many_outside : (set : ℤ → Bool) (clause : List ℤ) (i : ℕ) (found : Option ℤ) (m : ℤ) → is_some found ≡ true → outside set (take i clause) ≡ option_to_list found → i < length clause → m ≡ get_or clause i m → set m ≡ false → AreMany (outside set clause)
-many_outside set clause i None m some front within at out = absurd (cc)
-many_outside set clause i (Some l) m some front within at out = two_outside set clause i l m front within at out
+pub many_outside : (set : ℤ → Bool) (clause : List ℤ) (i : ℕ) (found : Option ℤ) (m : ℤ) → is_some found ≡ true →
+    outside set (take i clause) ≡ option_to_list found → i < length clause → m ≡ get_or clause i m → set m ≡ false →
+    AreMany (outside set clause)
+many_outside set clause i None m some prefix within at out = absurd (cc)
+many_outside set clause i (Some l) m some prefix within at out = two_outside set clause i l m prefix within at out

@@ -8,7 +8,7 @@ use Rattle.std.proofs.lemmas.Grind.{common_steps}
 use Rattle.sat_theory.specs.Holding.{with_literal}
 use Rattle.cnf_core.specs.Codes.{code_of}
 use Rattle.cnf_core.specs.CodeLaws.{code_of-same}
-use Rattle.lrat_check.specs.Marks.{AreStamps, marked}
+use Rattle.lrat_check.specs.LiteralMarks.{AreStamps, marked}
 
 same_literal : (l m : ℤ) → l ≡ m → int_eq l m ≡ true
 same_literal l m e = (Decides-int_eq l m).1 e
@@ -16,7 +16,9 @@ same_literal l m e = (Decides-int_eq l m).1 e
 other_literal : (l m : ℤ) → (l ≡ m → ⊥) → int_eq l m ≡ false
 other_literal l m apart = grind (arith, Decides-int_eq l m)
 
-stamp_set : (stamps : List ℕ) (time : ℕ) (l m : ℤ) → code_of l < length stamps → (slice_index_or (slice_set stamps (code_of l) time) (code_of m) 0 == time) ≡ (int_eq m l || (slice_index_or stamps (code_of m) 0 == time))
+stamp_set : (stamps : List ℕ) (time : ℕ) (l m : ℤ) → code_of l < length stamps →
+    (slice_index_or (slice_set stamps (code_of l) time) (code_of m) 0 == time) ≡ (int_eq m l ||
+    (slice_index_or stamps (code_of m) 0 == time))
 stamp_set stamps time l m room =
     ⊎_elim
     (λ (same : code_of m ≡ code_of l). let e : int_eq m l ≡ true = same_literal m l (code_of-same m l same) in rw e (grind (arith, common_steps)))
@@ -24,7 +26,9 @@ stamp_set stamps time l m room =
     (cases_eq (code_of m) (code_of l))
 
 -- Setting the stamp of a literal adds it to the set.
-pub marked-set : (stamps : List ℕ) (time : ℕ) (l : ℤ) → code_of l < length stamps → marked (record { stamps = slice_set stamps (code_of l) time; time = time }) ≡ with_literal (marked (record { stamps = stamps; time = time })) l
+pub marked-set : (stamps : List ℕ) (time : ℕ) (l : ℤ) → code_of l < length stamps →
+    marked (record { stamps = slice_set stamps (code_of l) time; time = time }) ≡
+    with_literal (marked (record { stamps = stamps; time = time })) l
 unfolding marked
 marked-set stamps time l room = λ i m. stamp_set stamps time l m room i
 
@@ -33,7 +37,9 @@ pub marked-next : (stamps : List ℕ) (time : ℕ) (l : ℤ) → AreStamps (reco
 unfolding marked
 marked-next stamps time l are =
     ⊎_elim
-    (λ (within : code_of l < length stamps). let old : slice_index_or stamps (code_of l) 0 ≤ time = are.past (code_of l) 0 within in ne_eqb (slice_index_or stamps (code_of l) 0) (time + 1) (λ e. omega (arith, e, old)))
+    (λ (within : code_of l < length stamps). let old : slice_index_or stamps (code_of l) 0 ≤ time =
+    are.past (code_of l) 0 within in ne_eqb (slice_index_or stamps (code_of l) 0) (time + 1)
+    (λ e. omega (arith, e, old)))
     (λ (past : length stamps ≤ code_of l). let none : slice_index_or stamps (code_of l) 0 ≡ 0 = grind (arith, common_steps) in rw none (ne_eqb 0 (time + 1) (λ e. omega (arith, e))))
     (cases_lt (code_of l) (length stamps))
 

@@ -8,7 +8,7 @@ use Rattle.sat_theory.specs.State.{State, by_id, start}
 use Rattle.sat_theory.specs.Log.{after, EachLine, AddsEmpty, HasEmpty}
 use Rattle.sat_theory.specs.Soundness.{by_id-Contains}
 use Rattle.lrat_check.specs.Live.{Live, live_at}
-use Rattle.lrat_check.specs.Marks.{Stamped, HasRoom}
+use Rattle.lrat_check.specs.LiteralMarks.{Stamped, HasRoom}
 use Rattle.lrat_check.specs.Checked.{Checked, state_of, is_empty, HasAccepted}
 use Rattle.lrat_check.specs.Keeps.{IsChecker}
 
@@ -30,8 +30,8 @@ empty_is (l ∷ ls) yes_ = absurd (grind (arith, nat_tests))
 
 -- Before the first line the empty clause can only be in the formula.
 pub has_empty : (f : Formula) (b : Bool) → (b ≡ true) ↔ Contains f.clauses [] → (b ≡ true) ↔ HasEmpty f []
-has_empty f b told =
-    (λ yes_. inl (told.0 yes_), λ has. ⊎_elim told.1 (λ (none : Any AddsEmpty []). absurd (let within : none.0 < 0 = none.2 in omega arith)) has)
+has_empty f b error_in =
+    (λ yes_. inl (error_in.0 yes_), λ has. ⊎_elim error_in.1 (λ (none : Any AddsEmpty []). absurd (let within : none.0 < 0 = none.2 in omega arith)) has)
 
 -- A checker of a formula has accepted no line.
 pub accepted_none : (f : Formula) (c : Checked) → IsFormula f → state_of c ≡ start f → (c.refuted ≡ true) ↔ HasEmpty f [] → HasAccepted f [] c

@@ -1,12 +1,13 @@
 -- Lists from which entries and ids were removed.
-use Rattle.std.proofs.Common.{◌≡◌, ℕ, ◌<◌, ◌==◌, ◌||◌, ℤ, Bool, true, false, List, [], ◌∷◌, length, filter, Any, Option, slice_index_or, slice_set, zero, suc, refl, sym, ap, subst, inl, inr, ◌∙◌, ◌⊎◌, arith}
+use Rattle.std.proofs.Common.{◌≡◌, ℕ, ◌<◌, ◌==◌, ◌||◌, ℤ, Bool, true, false, List, [], ◌∷◌, length, filter, Any, Option}
+use Rattle.std.proofs.Common.{slice_index_or, slice_set, zero, suc, refl, sym, ap, subst, inl, inr, ◌∙◌, ◌⊎◌, arith}
 use Rattle.std.proofs.Math.Logic.{⊎_elim}
 use Rattle.std.proofs.lemmas.Bool.{cases_Bool, cases_eq, or_cases, eqb-true, ne_eqb}
 use Rattle.std.proofs.lemmas.Grind.{common_steps}
 use Rattle.sat_theory.specs.State.{is_listed}
 use Rattle.cnf_core.specs.Codes.{code_of}
 use Rattle.lrat_check.specs.declared.index.Entry.{Entry}
-use Rattle.lrat_check.specs.Index.{Lists, is_live, has_other_id, IsEntryOf, IsListed, IsFound, KeepsLive, DropsEntries}
+use Rattle.lrat_check.specs.OccurrenceIndex.{Lists, is_live, has_other_id, IsEntryOf, IsListed, IsFound, KeepsLive, DropsEntries}
 
 or_left : (b c : Bool) → b ≡ true → (b || c) ≡ true
 or_left b c is = rw is refl
@@ -23,7 +24,10 @@ listed_kept : (p : ℕ → Bool) (ids : List ℕ) (id : ℕ) → p id ≡ true �
 listed_kept p [] id passes is = is
 listed_kept p (k ∷ ks) id passes is =
     ⊎_elim
-    (λ (keeps : p k ≡ true). rw keeps (⊎_elim (λ (same : (id == k) ≡ true). or_left (id == k) (is_listed (filter p ks) id) same) (λ (later : is_listed ks id ≡ true). or_right (id == k) (is_listed (filter p ks) id) (listed_kept p ks id passes later)) (or_cases (id == k) (is_listed ks id) is)))
+    (λ (keeps : p k ≡ true). rw keeps (⊎_elim (λ (same : (id == k) ≡ true).
+    or_left (id == k) (is_listed (filter p ks) id) same) (λ (later : is_listed ks id ≡ true).
+    or_right (id == k) (is_listed (filter p ks) id) (listed_kept p ks id passes later))
+    (or_cases (id == k) (is_listed ks id) is)))
     (λ (goes : p k ≡ false).
     rw goes
     (⊎_elim
@@ -33,8 +37,8 @@ listed_kept p (k ∷ ks) id passes is =
     (cases_Bool (p k))
 
 -- an element that passes a test stays
-any_front : {X : Type 0} (P : X → Type 0) (x : X) (xs : List X) → Any P xs → Any P (x ∷ xs)
-any_front P x xs (k, y, within, at, holds) = (suc k, y, omega (arith, within), at, holds)
+any_prefix : {X : Type 0} (P : X → Type 0) (x : X) (xs : List X) → Any P xs → Any P (x ∷ xs)
+any_prefix P x xs (k, y, within, at, holds) = (suc k, y, omega (arith, within), at, holds)
 
 any_first : {X : Type 0} (P : X → Type 0) (x : X) (xs : List X) → P x → Any P (x ∷ xs)
 any_first P x xs holds = (0, x, omega arith, refl, holds)
@@ -51,7 +55,7 @@ any_kept P p (x ∷ xs) passes some =
     rw keeps
     (⊎_elim
     (λ (first : P x). any_first P x (filter p xs) first)
-    (λ (later : Any P xs). any_front P x (filter p xs) (any_kept P p xs passes later))
+    (λ (later : Any P xs). any_prefix P x (filter p xs) (any_kept P p xs passes later))
     (any_cases P x xs some)))
     (λ (goes : p x ≡ false).
     rw goes
@@ -76,16 +80,21 @@ dropped_none gone lists = record { each = λ place id clause apart is. is; whole
 at_same : (lists : List (List Entry)) (at place : ℕ) (entries : List Entry) → at < length lists → place ≡ at → slice_index_or (slice_set lists at entries) place [] ≡ entries
 at_same lists at place entries within same = rw same (grind (arith, common_steps))
 
-at_other : (lists : List (List Entry)) (at place : ℕ) (entries : List Entry) → at < length lists → (place ≡ at → ⊥) → slice_index_or (slice_set lists at entries) place [] ≡ slice_index_or lists place []
+at_other : (lists : List (List Entry)) (at place : ℕ) (entries : List Entry) → at < length lists → (place ≡ at → ⊥) →
+    slice_index_or (slice_set lists at entries) place [] ≡ slice_index_or lists place []
 at_other lists at place entries within apart = grind (arith, common_steps)
 
-pub dropped_one : (gone : ℕ) (first lists : List (List Entry)) (at : ℕ) → DropsEntries gone first lists → at < length lists → DropsEntries gone first (slice_set lists at (filter (has_other_id gone) (slice_index_or lists at [])))
+pub dropped_one : (gone : ℕ) (first lists : List (List Entry)) (at : ℕ) → DropsEntries gone first lists →
+    at < length lists → DropsEntries gone first (slice_set lists at
+    (filter (has_other_id gone) (slice_index_or lists at [])))
 dropped_one gone first lists at before within = record {
   each = λ place id clause apart is.
       let was : IsListed (slice_index_or lists place []) id clause = before.each place id clause apart is in
       ⊎_elim
       (λ (same : place ≡ at).
-      let kept : IsListed (filter (has_other_id gone) (slice_index_or lists at [])) id clause = entry_kept gone id clause (slice_index_or lists at []) apart (subst (λ (k : ℕ). IsListed (slice_index_or lists k []) id clause) same was) in
+      let kept : IsListed (filter (has_other_id gone) (slice_index_or lists at [])) id clause =
+      entry_kept gone id clause (slice_index_or lists at []) apart
+      (subst (λ (k : ℕ). IsListed (slice_index_or lists k []) id clause) same was) in
       subst (λ (es : List Entry). IsListed es id clause) (sym (at_same lists at place (filter (has_other_id gone) (slice_index_or lists at [])) within same)) kept)
       (λ (other : place ≡ at → ⊥). subst (λ (es : List Entry). IsListed es id clause) (sym (at_other lists at place (filter (has_other_id gone) (slice_index_or lists at [])) within other)) was)
       (cases_eq place at);
@@ -99,23 +108,39 @@ alive_apart live gone id dead alive same = not_both (is_live live gone) (ap (is_
 abbrev pub lists_of : List (List Entry) → List ℕ → Lists
 lists_of heads others = record { heads = heads; others = others }
 
-pub kept_dropped : (live : ℕ → Option (List ℤ)) (gone : ℕ) (heads dropped : List (List Entry)) (others : List ℕ) → is_live live gone ≡ false → DropsEntries gone heads dropped → KeepsLive live (lists_of heads others) (lists_of dropped others)
+pub kept_dropped : (live : ℕ → Option (List ℤ)) (gone : ℕ) (heads dropped : List (List Entry)) (others : List ℕ) →
+    is_live live gone ≡ false → DropsEntries gone heads dropped →
+    KeepsLive live (lists_of heads others) (lists_of dropped others)
 unfolding IsFound
 kept_dropped live gone heads dropped others dead drops = record {
   each = λ id clause alive found.
       ⊎_elim
-      (λ (some : Any (λ (l : ℤ). IsListed (slice_index_or heads (code_of l) []) id clause) clause). inl (some.0, some.1, some.2, some.3, drops.each (code_of some.1) id clause (alive_apart live gone id dead alive) some.4))
+      (λ (some : Any (λ (l : ℤ). IsListed (slice_index_or heads (code_of l) []) id clause) clause). inl (
+        some.0,
+        some.1,
+        some.2,
+        some.3,
+        drops.each (code_of some.1) id clause (alive_apart live gone id dead alive) some.4,
+      ))
       (λ (other : is_listed others id ≡ true). inr other)
       found;
 }
 
 -- They are still found after removed ids were deleted from the others.
-pub kept_swept : (live : ℕ → Option (List ℤ)) (gone : ℕ) (heads dropped : List (List Entry)) (others : List ℕ) → is_live live gone ≡ false → DropsEntries gone heads dropped → KeepsLive live (lists_of heads others) (lists_of dropped (filter (is_live live) others))
+pub kept_swept : (live : ℕ → Option (List ℤ)) (gone : ℕ) (heads dropped : List (List Entry)) (others : List ℕ) →
+    is_live live gone ≡ false → DropsEntries gone heads dropped →
+    KeepsLive live (lists_of heads others) (lists_of dropped (filter (is_live live) others))
 unfolding IsFound
 kept_swept live gone heads dropped others dead drops = record {
   each = λ id clause alive found.
       ⊎_elim
-      (λ (some : Any (λ (l : ℤ). IsListed (slice_index_or heads (code_of l) []) id clause) clause). inl (some.0, some.1, some.2, some.3, drops.each (code_of some.1) id clause (alive_apart live gone id dead alive) some.4))
+      (λ (some : Any (λ (l : ℤ). IsListed (slice_index_or heads (code_of l) []) id clause) clause). inl (
+        some.0,
+        some.1,
+        some.2,
+        some.3,
+        drops.each (code_of some.1) id clause (alive_apart live gone id dead alive) some.4,
+      ))
       (λ (other : is_listed others id ≡ true). inr (listed_kept (is_live live) others id alive other))
       found;
 }

@@ -1,5 +1,7 @@
 -- A line has no fault if and only if it holds.
-use Rattle.std.specs.Prelude.{◌≡◌, ◌≢◌, ℕ, zero, suc, ◌<◌, ◌≤◌, ◌⊎◌, ◌==◌, ◌||◌, ℤ, Bool, true, false, cond, nat_le, nat_lt, List, [], ◌∷◌, length, Contains, All, AllPairs, IsSome, is_none, Option, Some, None, refl, get_or}
+use Rattle.std.specs.Prelude.{◌≡◌, ◌≢◌, ℕ, zero, suc, ◌<◌, ◌≤◌, ◌⊎◌, ◌==◌, ◌||◌, ℤ, Bool, true, false, cond, nat_le}
+use Rattle.std.specs.Prelude.{nat_lt, List, [], ◌∷◌, length, Contains, All, AllPairs, IsSome, is_none, Option, Some}
+use Rattle.std.specs.Prelude.{None, refl, get_or}
 use Rattle.std.proofs.Common.{ap, sym, ◌∙◌, arith, inl, inr}
 use Rattle.std.proofs.Math.Logic.{⊎_elim}
 use Rattle.std.proofs.lemmas.Bool.{cases_Bool, eq-eqb, ne_eqb, ltb-false, le-ltb, leb-false, lt-leb}
@@ -55,7 +57,12 @@ unit_outside set (x ∷ xs) l one =
     let same : x ≡ l = cc in
     let none : outside set xs ≡ [] = cc in
     let first : Contains (x ∷ xs) l = (0, omega arith, same) in
-    let r : IsUnitOutside set (x ∷ xs) l = record { there = first; outside = ap set (sym same) ∙ out; others = All-cons (IsOther set l) x xs (inl same) (all_others set l xs (none_outside set xs none)) } in r)
+    let r : IsUnitOutside set (x ∷ xs) l = record {
+      there = first;
+      outside = ap set (sym same) ∙ out;
+      others = All-cons (IsOther set l) x xs (inl same) (all_others set l xs (none_outside set xs none));
+    } in
+    r)
     (cases_Bool (set x))
 
 abbrev AreDifferent : List ℤ → Type 0
@@ -107,11 +114,14 @@ no_fault set hint hs next clause (l ∷ []) is none = record { cases = inr (l, u
 no_fault set hint hs next clause (l ∷ m ∷ ls) is none = absurd cc
 
 -- the clause of a hint
-named : (hint : ℕ) (hs : List ℕ) (set : ℤ → Bool) (next : Next) (found : Option (List ℤ)) → fault_in hint hs set next found ≡ None → (clause : List ℤ) × (found ≡ Some clause) × NoFault set hint hs next clause
+named : (hint : ℕ) (hs : List ℕ) (set : ℤ → Bool) (next : Next) (found : Option (List ℤ)) →
+    fault_in hint hs set next found ≡ None → (clause : List ℤ) × (found ≡ Some clause) × NoFault set hint hs next clause
 named hint hs set next None none = absurd cc
 named hint hs set next (Some clause) none = (clause, refl, no_fault set hint hs next clause (outside set clause) refl none)
 
-goes_on : (live : ℕ → Option (List ℤ)) (set : ℤ → Bool) (hint : ℕ) (hs : List ℕ) (clause : List ℤ) (l : ℤ) → live hint ≡ Some clause → IsUnitOutside set clause l → HintsHold live (with_literal set (opposite l)) hs → HintsHold live set (hint ∷ hs)
+goes_on : (live : ℕ → Option (List ℤ)) (set : ℤ → Bool) (hint : ℕ) (hs : List ℕ) (clause : List ℤ) (l : ℤ) →
+    live hint ≡ Some clause → IsUnitOutside set clause l → HintsHold live (with_literal set (opposite l)) hs →
+    HintsHold live set (hint ∷ hs)
 unfolding HintsHold
 goes_on live set hint [] clause l is unit holds = absurd holds
 goes_on live set hint (h ∷ hs) clause l is unit holds = (clause, l, is, unit, holds)
@@ -151,7 +161,9 @@ within_from_none vars [] none = All-nil (λ (l : ℤ). variable l ≤ vars)
 within_from_none vars (l ∷ ls) none =
     ⊎_elim
     (λ (above : nat_lt vars (variable l) ≡ true). let no_ : Some (variable l) ≡ None = sym (ap (λ (b : Bool). cond b (Some (variable l)) (first_above vars ls)) above) ∙ none in absurd cc)
-    (λ (low : nat_lt vars (variable l) ≡ false). All-cons (λ (m : ℤ). variable m ≤ vars) l ls (ltb-false vars (variable l) low) (within_from_none vars ls (sym (ap (λ (b : Bool). cond b (Some (variable l)) (first_above vars ls)) low) ∙ none)))
+    (λ (low : nat_lt vars (variable l) ≡ false). All-cons (λ (m : ℤ). variable m ≤ vars) l ls
+    (ltb-false vars (variable l) low) (within_from_none vars ls
+    (sym (ap (λ (b : Bool). cond b (Some (variable l)) (first_above vars ls)) low) ∙ none)))
     (cases_Bool (nat_lt vars (variable l)))
 
 none_from_within : (vars : ℕ) (lits : List ℤ) → IsWithin vars lits → first_above vars lits ≡ None
@@ -167,10 +179,20 @@ variables_none (Some v) next none = absurd cc
 addition_holds : (s : State) (id : ℕ) (lits : List ℤ) (hints : List ℕ) → addition_fault s id lits hints ≡ None → AdditionHolds s id lits hints
 addition_holds s id lits hints none =
     ⊎_elim
-    (λ (not_greater : nat_le id s.greatest ≡ true). let no_ : Some (IdNotGreater id) ≡ None = sym (ap (λ (b : Bool). cond b (Some (IdNotGreater id)) (variables_then (first_above s.vars lits) (hints_fault s.live (among lits) hints))) not_greater) ∙ none in absurd cc)
+    (λ (not_greater : nat_le id s.greatest ≡ true). let no_ : Some (IdNotGreater id) ≡ None =
+    sym (ap (λ (b : Bool). cond b (Some (IdNotGreater id))
+    (variables_then (first_above s.vars lits) (hints_fault s.live (among lits) hints))) not_greater) ∙ none in
+    absurd cc)
     (λ (greater : nat_le id s.greatest ≡ false).
-    let rest = variables_none (first_above s.vars lits) (hints_fault s.live (among lits) hints) (sym (ap (λ (b : Bool). cond b (Some (IdNotGreater id)) (variables_then (first_above s.vars lits) (hints_fault s.live (among lits) hints))) greater) ∙ none) in
-    let r : AdditionHolds s id lits hints = record { greater = leb-false id s.greatest greater; variables = within_from_none s.vars lits rest.0; hints_hold = hints_hold s.live hints (among lits) rest.1 } in r)
+    let rest = variables_none (first_above s.vars lits) (hints_fault s.live (among lits) hints)
+    (sym (ap (λ (b : Bool). cond b (Some (IdNotGreater id))
+    (variables_then (first_above s.vars lits) (hints_fault s.live (among lits) hints))) greater) ∙ none) in
+    let r : AdditionHolds s id lits hints = record {
+      greater = leb-false id s.greatest greater;
+      variables = within_from_none s.vars lits rest.0;
+      hints_hold = hints_hold s.live hints (among lits) rest.1;
+    } in
+    r)
     (cases_Bool (nat_le id s.greatest))
 
 addition_without_fault : (s : State) (id : ℕ) (lits : List ℤ) (hints : List ℕ) → AreClauses s.live → AdditionHolds s id lits hints → addition_fault s id lits hints ≡ None
@@ -208,7 +230,9 @@ fresh_more : (live : ℕ → Option (List ℤ)) (seen : ℕ → Bool) (id : ℕ)
 fresh_more live seen id ids there new rest = record {
   holds = record {
     all_live = All-cons (λ (k : ℕ). IsSome (live k)) id ids there rest.holds.all_live;
-    differ = AllPairs-cons (λ (a b : ℕ). a ≢ b) id ids (λ k d within same. not_both (get_or ids k d == id) (eq-eqb (get_or ids k d) id (sym same)) (or_false (get_or ids k d == id) (seen (get_or ids k d)) (rest.unseen k d within)).0) rest.holds.differ;
+    differ = AllPairs-cons (λ (a b : ℕ). a ≢ b) id ids (λ k d within same.
+        not_both (get_or ids k d == id) (eq-eqb (get_or ids k d) id (sym same))
+        (or_false (get_or ids k d == id) (seen (get_or ids k d)) (rest.unseen k d within)).0) rest.holds.differ;
   };
   unseen = All-cons (λ (k : ℕ). seen k ≡ false) id ids new (λ k d within. (or_false (get_or ids k d == id) (seen (get_or ids k d)) (rest.unseen k d within)).1);
 }
@@ -230,10 +254,15 @@ unfolding deletion_fault
 deletion_fresh live [] seen none = no_deletion live seen
 deletion_fresh live (id ∷ ids) seen none =
     ⊎_elim
-    (λ (bad : (is_none (live id) || seen id) ≡ true). let no_ : Some (UnknownDelete id) ≡ None = sym (ap (λ (b : Bool). cond b (Some (UnknownDelete id)) (deletion_fault live (with_id seen id) ids)) bad) ∙ none in absurd cc)
+    (λ (bad : (is_none (live id) || seen id) ≡ true). let no_ : Some (UnknownDelete id) ≡ None =
+    sym (ap (λ (b : Bool). cond b (Some (UnknownDelete id)) (deletion_fault live (with_id seen id) ids)) bad)
+    ∙ none in absurd cc)
     (λ (good : (is_none (live id) || seen id) ≡ false).
     let parts = or_false (is_none (live id)) (seen id) good in
-    fresh_more live seen id ids (some_there (live id) parts.0) parts.1 (deletion_fresh live ids (with_id seen id) (sym (ap (λ (b : Bool). cond b (Some (UnknownDelete id)) (deletion_fault live (with_id seen id) ids)) good) ∙ none)))
+    fresh_more live seen id ids (some_there (live id) parts.0) parts.1
+    (deletion_fresh live ids (with_id seen id)
+    (sym (ap (λ (b : Bool). cond b (Some (UnknownDelete id)) (deletion_fault live (with_id seen id) ids)) good)
+    ∙ none)))
     (cases_Bool (is_none (live id) || seen id))
 
 fresh_without_fault : (live : ℕ → Option (List ℤ)) (ids : List ℕ) (seen : ℕ → Bool) → AreFresh live seen ids → deletion_fault live seen ids ≡ None

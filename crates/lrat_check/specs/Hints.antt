@@ -31,6 +31,6 @@ hints_fault live set [] = Some NoConflict
 hints_fault live set (hint ∷ hints) = fault_in hint hints set (λ s. hints_fault live s hints) (live hint)
 
 -- the fault that a check reports
-abbrev pub told : Result (Unit {0}) CheckError → Option CheckError
-told (Ok done) = None
-told (Err e) = Some e
+abbrev pub error_in : Result (Unit {0}) CheckError → Option CheckError
+error_in (Ok done) = None
+error_in (Err e) = Some e

@@ -1,9 +1,9 @@
-pub mod Marks
+pub mod LiteralMarks
 pub mod Seen
 pub mod Hints
 pub mod Scan
 pub mod Slots
-pub mod Index
+pub mod OccurrenceIndex
 pub mod Checked
 pub mod FaultLaws
 pub mod Judging

@@ -6,7 +6,7 @@ ghost use Rattle.sat_theory.specs.Line as theory;
 ghost use Rattle.sat_theory.specs.Line.{IsLine, HasClause};
 ghost use Rattle.sat_theory.specs.State.{start, next, without};
 ghost use Rattle.sat_theory.specs.Holding.{Holds};
-ghost use Rattle.sat_theory.specs.Log.{HasEmpty, IsNew};
+ghost use Rattle.sat_theory.specs.Log.{HasEmpty, IsUnsubsumed};
 ghost use Rattle.lrat_text.specs.Values.{line_value};
 ghost use Rattle.lrat_check.specs.Live.{live_at, AreClauses};
 ghost use Rattle.lrat_check.specs.Checked.{state_of, is_empty, adds_empty, HasAccepted};
@@ -15,9 +15,9 @@ ghost use Rattle.lrat_check.specs.Seen.{Judges};
 
 use crate::CheckError;
 use crate::clauses::Clauses;
-use crate::index::Index;
+use crate::index::OccurrenceIndex;
 use crate::judging::{judge_addition, judge_deletion};
-use crate::marks::Marks;
+use crate::marks::LiteralMarks;
 use cnf_core::{Clause, Cnf, Lit};
 use lrat_text::Line;
 use std::alloc::{AllocError, Global};
@@ -28,7 +28,7 @@ use std::marker::Model;
 #[derive(Drop)]
 pub struct Checker {
     clauses: Clauses,
-    marks: Marks,
+    marks: LiteralMarks,
     vars: u32,
     greatest: u32,
     refuted: bool,
@@ -54,21 +54,21 @@ impl Checker {
         ensures state { IfOk result (λ c. state_of c ≡ start cnf) }
         ensures accepted { IfOk result (HasAccepted cnf []) }
     {
-        Checker::over(alloc, cnf, Index::new(alloc))
+        Checker::over(alloc, cnf, OccurrenceIndex::new(alloc))
     }
 
-    /// As `new`, with occurrence lists (clauses by their literals), so that `is_new` is fast. They take memory
+    /// As `new`, with occurrence lists (clauses by their literals), so that `is_unsubsumed` is fast. They take memory
     /// for each literal; an addition takes one more step for each of its literals, and a deletion one for each
     /// clause in the lists of its clauses' literals.
     pub fn indexed(alloc: Global, cnf: Cnf) -> Result<Checker, AllocError>
         ensures state { IfOk result (λ c. state_of c ≡ start cnf) }
         ensures accepted { IfOk result (HasAccepted cnf []) }
     {
-        let index = Index::by_literals(alloc, cnf.vars())?;
+        let index = OccurrenceIndex::by_literals(alloc, cnf.vars())?;
         Checker::over(alloc, cnf, index)
     }
 
-    fn over(alloc: Global, cnf: Cnf, index: Index) -> Result<Checker, AllocError>
+    fn over(alloc: Global, cnf: Cnf, index: OccurrenceIndex) -> Result<Checker, AllocError>
         ensures state { IfOk result (λ c. state_of c ≡ start cnf) }
         ensures accepted { IfOk result (HasAccepted cnf []) }
     {
@@ -76,7 +76,7 @@ impl Checker {
         let greatest = cnf.clauses().len() as u32;
         let refuted = cnf.has_empty();
         let clauses = Clauses::of(alloc, index, cnf.into_clauses())?;
-        let marks = Marks::new(alloc, vars)?;
+        let marks = LiteralMarks::new(alloc, vars)?;
         Ok(Checker {
             clauses,
             marks,
@@ -101,7 +101,8 @@ impl Checker {
         ensures unchanged { OnErr result (self.new ≡ self.old) }
 
         // For whole logs: the accepted lines and this one are a log that holds.
-        ensures accepted { (f : Formula) (lines : List theory.Line) → HasAccepted f lines self.old → IsLine (line_value line) →
+        ensures accepted { (f : Formula) (lines : List theory.Line) → HasAccepted f lines self.old →
+            IsLine (line_value line) →
             OnOk result (HasAccepted f (lines ++ line_value line ∷ []) self.new) }
     {
         self.take(line)
@@ -110,7 +111,8 @@ impl Checker {
     /// Whether the empty clause is in the formula or was added: the formula is refuted.
     pub fn refuted(&self) -> bool
         ensures value { result ≡ self.now.refuted }
-        ensures log { (f : Formula) (lines : List theory.Line) → HasAccepted f lines self.now → (IsTrue result ↔ HasEmpty f lines) }
+        ensures log { (f : Formula) (lines : List theory.Line) → HasAccepted f lines self.now →
+            (IsTrue result ↔ HasEmpty f lines) }
     {
         self.refuted
     }
@@ -119,10 +121,10 @@ impl Checker {
     /// live clause is compared. With an index only those in the lists of `lits` are: each clause is in one list,
     /// that of the literal whose list was shortest when it was added. The entry also has a second literal of the
     /// clause, and the clause is compared only if that literal is among `lits` too.
-    pub fn is_new(&self, lits: &[Lit]) -> bool
-        ensures { IsTrue result ↔ IsNew (live_at self.now.live) lits.now }
+    pub fn is_unsubsumed(&self, lits: &[Lit]) -> bool
+        ensures { IsTrue result ↔ IsUnsubsumed (live_at self.now.live) lits.now }
     {
-        self.clauses.is_new(lits)
+        self.clauses.is_unsubsumed(lits)
     }
 
     fn take(&mut self, line: Line) -> Result<(), CheckError>
@@ -165,7 +167,8 @@ impl Checker {
 
     fn delete(&mut self, ids: &Vec<u32>) -> Result<(), CheckError>
         ensures exact { Judges result (deletion_fault (live_at self.old.live) no_ids ids.now.items) }
-        ensures next { OnOk result (state_of self.new ≡ record (state_of self.old) { live = without (live_at self.old.live) ids.now.items }) }
+        ensures next { OnOk result (state_of self.new ≡
+            record (state_of self.old) { live = without (live_at self.old.live) ids.now.items }) }
         ensures refuted { self.new.refuted ≡ self.old.refuted }
         ensures unchanged { OnErr result (self.new ≡ self.old) }
     {

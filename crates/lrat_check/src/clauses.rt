@@ -1,16 +1,18 @@
 //! The live clauses by their ids, in a hash map, with an occurrence index. Contracts see only the map. The
 //! invariant of the type is that each live clause is in one list of the index, so that a search in the lists of
 //! its literals finds it.
-ghost use Rattle.std.specs.Prelude.{◌≡◌, ◌<◌, ◌-◌, ◌^◌, ◌↔◌, length, true, false, [], ◌∷◌, IfOk, OnOk, OnErr, IsTrue, All, Any, ℤ};
+ghost use Rattle.std.specs.Prelude.{◌≡◌, ◌<◌, ◌-◌, ◌^◌, ◌↔◌, length, true, false, [], ◌∷◌, IfOk, OnOk, OnErr, IsTrue};
+ghost use Rattle.std.specs.Prelude.{All, Any, ℤ};
 ghost use Rattle.std.specs.Option.{option_copied};
 ghost use Rattle.std.specs.FinMap as map;
 ghost use Rattle.sat_theory.specs.State.{with_clause, without, by_id};
-ghost use Rattle.sat_theory.specs.Log.{IsNew};
+ghost use Rattle.sat_theory.specs.Log.{IsUnsubsumed};
 ghost use Rattle.lrat_check.specs.Live.{live_at};
-ghost use Rattle.lrat_check.specs.Index.{entries_of, HasLiteral, IsInside, NamesInside, IsInsideBy, EntersInside};
+ghost use Rattle.lrat_check.specs.OccurrenceIndex.{entries_of, HasLiteral, IsInside, NamesInside, IsInsideBy};
+ghost use Rattle.lrat_check.specs.OccurrenceIndex.{EntersInside};
 ghost use Rattle.lrat_check.specs.Slots.{AreSlots};
 
-use crate::index::{Entry, Index};
+use crate::index::{Entry, OccurrenceIndex};
 use crate::slots::Among;
 use cnf_core::{Clause, Lit};
 use std::alloc::{AllocError, Global};
@@ -21,7 +23,7 @@ use std::marker::Model;
 #[derive(Drop)]
 pub(crate) struct Clauses {
     live: HashMap<u32, Clause>,
-    index: Index,
+    index: OccurrenceIndex,
 }
 
 impl Model for Clauses {
@@ -29,7 +31,7 @@ impl Model for Clauses {
     ghost use Rattle.std.specs.HashMap.{get};
     ghost use Rattle.std.specs.FinMap as map;
     ghost use Rattle.lrat_check.specs.Live.{Live, live_code};
-    ghost use Rattle.lrat_check.specs.Index.{IsIndexed};
+    ghost use Rattle.lrat_check.specs.OccurrenceIndex.{IsIndexed};
 
     ghost Value = { Live };
 
@@ -42,7 +44,11 @@ impl Model for Clauses {
 
 impl Clauses {
     /// No clauses, with room for `count`.
-    pub(crate) fn new(alloc: Global, index: Index, count: usize) -> Result<Clauses, AllocError>
+    pub(crate) fn new(
+        alloc: Global,
+        index: OccurrenceIndex,
+        count: usize,
+    ) -> Result<Clauses, AllocError>
         ensures { IfOk result (λ s. s ≡ map.empty) }
     {
         Ok(Clauses {
@@ -53,7 +59,11 @@ impl Clauses {
 
     /// The clauses of a list, with the ids 1, 2 and so on.
     #[tactic(auto, using(crate::proofs::Loaded::loaded))]
-    pub(crate) fn of(alloc: Global, index: Index, list: Vec<Clause>) -> Result<Clauses, AllocError>
+    pub(crate) fn of(
+        alloc: Global,
+        index: OccurrenceIndex,
+        list: Vec<Clause>,
+    ) -> Result<Clauses, AllocError>
         requires { length list.items < 2 ^ 32 - 1 }
         ensures { IfOk result (λ s. live_at s ≡ by_id list.items) }
     {
@@ -94,18 +104,19 @@ impl Clauses {
 
     /// Whether no live clause has all its literals among `lits`. With an index only the clauses in the lists of
     /// `lits` are compared, since each live clause is in the list of one of its own literals; otherwise all are.
-    pub(crate) fn is_new(&self, lits: &[Lit]) -> bool
-        ensures new { result ≡ true → IsNew (live_at self.now) lits.now }
-        ensures old { result ≡ false → IsNew (live_at self.now) lits.now → ⊥ }
+    pub(crate) fn is_unsubsumed(&self, lits: &[Lit]) -> bool
+        ensures new { result ≡ true → IsUnsubsumed (live_at self.now) lits.now }
+        ensures old { result ≡ false → IsUnsubsumed (live_at self.now) lits.now → ⊥ }
     {
         let among = Among::of(lits);
         !self.has_inside(self.index.others(), &among) && !self.is_headed(&self.index, &among)
     }
 
     /// Whether the list of one of the literals of `among` has an entry of a live clause inside `among`.
-    fn is_headed(&self, index: &Index, among: &Among) -> bool
+    fn is_headed(&self, index: &OccurrenceIndex, among: &Among) -> bool
         requires { AreSlots among.now.slots among.now.lits.now }
-        ensures { IsTrue result ↔ Any (λ (l : ℤ). EntersInside (live_at self.now) among.now.lits.now (entries_of index.now l)) among.now.lits.now }
+        ensures { IsTrue result ↔ Any (λ (l : ℤ). EntersInside (live_at self.now) among.now.lits.now
+            (entries_of index.now l)) among.now.lits.now }
     {
         among
             .lits
@@ -114,7 +125,7 @@ impl Clauses {
     }
 
     /// Whether one of `entries` is of a live clause with all its literals in `among`.
-    #[tactic(auto, unfolding(crate::specs::Index::EntersInside))]
+    #[tactic(auto, unfolding(crate::specs::OccurrenceIndex::EntersInside))]
     fn enters_inside(&self, entries: &[Entry], among: &Among) -> bool
         requires { AreSlots among.now.slots among.now.lits.now }
         ensures { IsTrue result ↔ EntersInside (live_at self.now) among.now.lits.now entries.now }
@@ -132,7 +143,7 @@ impl Clauses {
     }
 
     /// Whether one of `ids` is of a live clause with all its literals in `among`.
-    #[tactic(auto, unfolding(crate::specs::Index::NamesInside))]
+    #[tactic(auto, unfolding(crate::specs::OccurrenceIndex::NamesInside))]
     fn has_inside(&self, ids: &[u32], among: &Among) -> bool
         requires { AreSlots among.now.slots among.now.lits.now }
         ensures { IsTrue result ↔ NamesInside (live_at self.now) among.now.lits.now ids.now }

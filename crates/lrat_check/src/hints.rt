@@ -3,13 +3,13 @@
 //! result is exact.
 ghost use Rattle.std.specs.Prelude.{◌≡◌};
 ghost use Rattle.lrat_check.specs.Live.{live_at, AreWithin};
-ghost use Rattle.lrat_check.specs.Marks.{marked, HasRoom};
-ghost use Rattle.lrat_check.specs.Hints.{outside, hints_fault, told};
+ghost use Rattle.lrat_check.specs.LiteralMarks.{marked, HasRoom};
+ghost use Rattle.lrat_check.specs.Hints.{outside, hints_fault, error_in};
 ghost use Rattle.lrat_check.specs.Scan.{Finds};
 
 use crate::CheckError;
 use crate::clauses::Clauses;
-use crate::marks::Marks;
+use crate::marks::LiteralMarks;
 use cnf_core::Lit;
 
 /// How many literals of a clause aren't falsified.
@@ -24,7 +24,7 @@ pub(crate) enum Scan {
 }
 
 /// Counts the literals of a clause that aren't marked.
-fn scan_clause(marks: &Marks, clause: &[Lit]) -> Scan
+fn scan_clause(marks: &LiteralMarks, clause: &[Lit]) -> Scan
     ensures { Finds clause.now (outside (marked marks.now) clause.now) result }
 {
     let mut found: Option<Lit> = None;
@@ -47,13 +47,13 @@ fn scan_clause(marks: &Marks, clause: &[Lit]) -> Scan
 #[tactic(auto, unfolding(crate::specs::Hints::hints_fault))]
 pub(crate) fn check_hints(
     clauses: &Clauses,
-    marks: &mut Marks,
+    marks: &mut LiteralMarks,
     vars: u32,
     hints: &[u32],
 ) -> Result<(), CheckError>
     requires room { HasRoom marks.old vars }
     requires within { AreWithin vars (live_at clauses.now) }
-    ensures exact { told result ≡ hints_fault (live_at clauses.now) (marked marks.old) hints.now }
+    ensures exact { error_in result ≡ hints_fault (live_at clauses.now) (marked marks.old) hints.now }
     ensures room { HasRoom marks.new vars }
 {
     let mut left = hints;

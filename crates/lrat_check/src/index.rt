@@ -3,10 +3,12 @@
 //! that one's literals. An entry has a second literal of its clause beside the id, so that most clauses that
 //! don't subsume are skipped without being read. The entry of a clause is removed with the clause. Ids that are
 //! in no literal's list are cleaned up from time to time, at an amortised constant cost.
-ghost use Rattle.std.specs.Prelude.{◌≡◌, ◌+◌, ◌*◌, ◌<◌, ℤ, [], ◌∷◌, ◌++◌, false, length, filter, slice_set, slice_index_or, nat_eq, OnOk, OnErr, IfSome, Any, Contains};
+ghost use Rattle.std.specs.Prelude.{◌≡◌, ◌+◌, ◌*◌, ◌<◌, ℤ, [], ◌∷◌, ◌++◌, false, length, filter, slice_set};
+ghost use Rattle.std.specs.Prelude.{slice_index_or, nat_eq, OnOk, OnErr, IfSome, Any, Contains};
 ghost use Rattle.std.specs.HashMap.{get};
 ghost use Rattle.cnf_core.specs.Codes.{code_of};
-ghost use Rattle.lrat_check.specs.Index.{entries_of as entries_of_lit, is_live, has_other_id, with_entry, IsFound, KeepsFound, KeepsLive, DropsEntries};
+ghost use Rattle.lrat_check.specs.OccurrenceIndex.{entries_of as entries_of_lit, is_live, has_other_id, with_entry};
+ghost use Rattle.lrat_check.specs.OccurrenceIndex.{IsFound, KeepsFound, KeepsLive, DropsEntries};
 
 use cnf_core::{Clause, Lit};
 use std::alloc::{AllocError, Global};
@@ -120,24 +122,24 @@ impl Ids {
 /// The occurrence index: each clause has an entry in the list of one of its literals, the one whose list was
 /// shortest when the clause was added. In an index without lists, the id of each clause is in `others`.
 #[derive(Drop)]
-pub(crate) struct Index {
+pub(crate) struct OccurrenceIndex {
     heads: Vec<Entries>,
     others: Ids,
     dead: usize,
 }
 
-impl Model for Index {
-    ghost use Rattle.lrat_check.specs.Index.{Lists};
+impl Model for OccurrenceIndex {
+    ghost use Rattle.lrat_check.specs.OccurrenceIndex.{Lists};
 
     ghost Value = { Lists };
 
     ghost view = { λ i. record { heads = i.heads.items; others = i.others } };
 }
 
-impl Index {
+impl OccurrenceIndex {
     /// An empty index without lists for literals.
-    pub(crate) fn new(alloc: Global) -> Index {
-        Index {
+    pub(crate) fn new(alloc: Global) -> OccurrenceIndex {
+        OccurrenceIndex {
             heads: Vec::new(alloc),
             others: Ids::new(alloc),
             dead: 0,
@@ -145,9 +147,9 @@ impl Index {
     }
 
     /// An empty index with lists for the literals of the variables 1 to `vars`.
-    pub(crate) fn by_literals(alloc: Global, vars: u32) -> Result<Index, AllocError> {
+    pub(crate) fn by_literals(alloc: Global, vars: u32) -> Result<OccurrenceIndex, AllocError> {
         let codes = 2 * vars as usize + 2;
-        let mut index = Index::new(alloc);
+        let mut index = OccurrenceIndex::new(alloc);
         index.heads.reserve(codes)?;
         for _ in 0..codes {
             index.heads.push(Entries::new(alloc))?;
@@ -255,7 +257,8 @@ fn drop_entries(lists: &mut Vec<Entries>, id: u32, lits: &[Lit])
 /// Removes the entries with an id from the list at `place`.
 fn drop_at(lists: &mut Vec<Entries>, place: usize, id: u32)
     requires { place < length lists.old.items }
-    ensures { lists.new.items ≡ slice_set lists.old.items place (filter (has_other_id id) (slice_index_or lists.old.items place [])) }
+    ensures { lists.new.items ≡ slice_set lists.old.items place
+        (filter (has_other_id id) (slice_index_or lists.old.items place [])) }
 {
     let entries = &mut lists[place];
     entries.drop_id(id);

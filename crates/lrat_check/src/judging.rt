@@ -4,15 +4,15 @@ ghost use Rattle.std.specs.Prelude.{◌≡◌, ℤ, false, OnOk, IfOk};
 ghost use Rattle.sat_theory.specs.Formula.{IsWithin};
 ghost use Rattle.sat_theory.specs.Holding.{among};
 ghost use Rattle.lrat_check.specs.Live.{live_at, AreWithin};
-ghost use Rattle.lrat_check.specs.Marks.{marked, HasRoom};
-ghost use Rattle.lrat_check.specs.Hints.{told};
+ghost use Rattle.lrat_check.specs.LiteralMarks.{marked, HasRoom};
+ghost use Rattle.lrat_check.specs.Hints.{error_in};
 ghost use Rattle.lrat_check.specs.Judging as spec;
 ghost use Rattle.lrat_check.specs.Seen.{seen_in, Judges};
 
 use crate::CheckError;
 use crate::clauses::Clauses;
 use crate::hints::check_hints;
-use crate::marks::Marks;
+use crate::marks::LiteralMarks;
 use cnf_core::Lit;
 use std::alloc::{AllocError, Global};
 use std::collections::HashSet;
@@ -21,7 +21,7 @@ use std::collections::HashSet;
 #[tactic(auto, using(crate::proofs::Above::above))]
 pub(crate) fn judge_addition(
     clauses: &Clauses,
-    marks: &mut Marks,
+    marks: &mut LiteralMarks,
     vars: u32,
     greatest: u32,
     id: u32,
@@ -30,7 +30,11 @@ pub(crate) fn judge_addition(
 ) -> Result<(), CheckError>
     requires room { HasRoom marks.old vars }
     requires within { AreWithin vars (live_at clauses.now) }
-    ensures exact { told result ≡ spec.addition_fault (record { live = live_at clauses.now; vars = vars; greatest = greatest }) id lits.now hints.now }
+    ensures exact { error_in result ≡ spec.addition_fault (record {
+      live = live_at clauses.now;
+      vars = vars;
+      greatest = greatest;
+    }) id lits.now hints.now }
     ensures room { HasRoom marks.new vars }
 {
     if id <= greatest {
@@ -55,7 +59,7 @@ fn first_above(vars: u32, lits: &[Lit]) -> Option<u32>
 
 /// Marks literals, in an empty set.
 #[tactic(auto, using(crate::proofs::Marking::marking))]
-fn mark_all(marks: &mut Marks, vars: u32, lits: &[Lit])
+fn mark_all(marks: &mut LiteralMarks, vars: u32, lits: &[Lit])
     requires empty { (l : ℤ) → marked marks.old l ≡ false }
     requires room { HasRoom marks.old vars }
     requires within { IsWithin vars lits.now }

@@ -12,8 +12,10 @@ ghost use Rattle.lrat_check.specs.Checked.{Checked, HasAccepted};
 /// If a checker of a formula has accepted some lines and is refuted, the lines refute the formula, and no
 /// assignment satisfies it.
 pub fn refuted_is_unsatisfiable()
-    ensures refutes { (f : Formula) (lines : List Line) (c : Checked) → HasAccepted f lines c → c.refuted ≡ true → Refutes f lines }
-    ensures none { (f : Formula) (lines : List Line) (c : Checked) (v : Assignment) → HasAccepted f lines c → c.refuted ≡ true → Satisfies v f → ⊥ }
+    ensures refutes { (f : Formula) (lines : List Line) (c : Checked) → HasAccepted f lines c → c.refuted ≡ true →
+        Refutes f lines }
+    ensures none { (f : Formula) (lines : List Line) (c : Checked) (v : Assignment) → HasAccepted f lines c →
+        c.refuted ≡ true → Satisfies v f → ⊥ }
 {}
 
 /// A line has no fault if and only if it holds.

@@ -3,7 +3,7 @@
 ghost use Rattle.std.specs.Prelude.{◌≡◌, ◌<◌, ℤ, false, length, IfOk};
 ghost use Rattle.sat_theory.specs.Holding.{with_literal};
 ghost use Rattle.cnf_core.specs.Codes.{code_of};
-ghost use Rattle.lrat_check.specs.Marks.{marked, HasRoom};
+ghost use Rattle.lrat_check.specs.LiteralMarks.{marked, HasRoom};
 
 use cnf_core::Lit;
 use std::alloc::{AllocError, Global};
@@ -11,13 +11,13 @@ use std::marker::Model;
 
 /// A set of literals: each literal has a time stamp, and is in the set if that is the current one.
 #[derive(Drop)]
-pub(crate) struct Marks {
+pub(crate) struct LiteralMarks {
     stamps: Vec<u32>,
     time: u32,
 }
 
-impl Model for Marks {
-    ghost use Rattle.lrat_check.specs.Marks.{Stamped, AreStamps};
+impl Model for LiteralMarks {
+    ghost use Rattle.lrat_check.specs.LiteralMarks.{Stamped, AreStamps};
 
     ghost Value = { Stamped };
 
@@ -27,13 +27,13 @@ impl Model for Marks {
 }
 
 #[tactic(auto, using(crate::proofs::Stamps::stamping))]
-impl Marks {
+impl LiteralMarks {
     /// The empty set, with room for the literals of the variables 1 to `vars`.
-    pub(crate) fn new(alloc: Global, vars: u32) -> Result<Marks, AllocError>
+    pub(crate) fn new(alloc: Global, vars: u32) -> Result<LiteralMarks, AllocError>
         ensures { IfOk result (λ m. HasRoom m vars) }
     {
         let stamps = vec![in alloc; 0u32; 2 * vars as usize + 2]?;
-        Ok(Marks { stamps, time: 1 })
+        Ok(LiteralMarks { stamps, time: 1 })
     }
 
     /// Clears the set. Once in 2^32 calls it takes one step for each literal.
@@ -59,7 +59,7 @@ impl Marks {
     }
 
     /// Whether a literal is in the set.
-    #[tactic(auto, unfolding(crate::specs::Marks::marked))]
+    #[tactic(auto, unfolding(crate::specs::LiteralMarks::marked))]
     pub(crate) fn has(&self, lit: Lit) -> bool
         ensures { result ≡ marked self.now lit }
     {

@@ -1,7 +1,7 @@
 //! Membership in a list of literals, mostly in one step: a table is indexed by the literal's code modulo its size,
 //! and the list is searched only if several of its literals share a slot.
 ghost use Rattle.std.specs.Prelude.{◌≡◌, ◌↔◌, length, IsTrue};
-ghost use Rattle.lrat_check.specs.Index.{HasLiteral};
+ghost use Rattle.lrat_check.specs.OccurrenceIndex.{HasLiteral};
 ghost use Rattle.lrat_check.specs.Slots.{AreSlots, with_slot};
 
 use cnf_core::Lit;
@@ -55,7 +55,7 @@ fn put(slots: &mut [usize], lit: Lit)
     slots[place] = slot;
 }
 
-#[tactic(auto, unfolding(crate::specs::Index::HasLiteral))]
+#[tactic(auto, unfolding(crate::specs::OccurrenceIndex::HasLiteral))]
 fn has_literal(lits: &[Lit], lit: Lit) -> bool
     ensures { IsTrue result ↔ HasLiteral lits.now lit }
 {

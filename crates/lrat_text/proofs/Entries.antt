@@ -5,8 +5,8 @@ use Rattle.std.proofs.lemmas.Bool.{cases_eq, ne_eqb}
 use Rattle.std.proofs.lemmas.Grind.{common_steps}
 use Rattle.text_core.specs.Numbers.{number_up_to}
 use Rattle.sat_theory.specs.Formula.{opposite}
-use Rattle.lrat_text.specs.Numerals.{or_end, id_in, positive, negative, literal_in, begins_minus, first_of, behind_first}
-use Rattle.lrat_text.proofs.Fronts.{first_of-nil, first_of-blank, first_of-byte, behind_first-byte}
+use Rattle.lrat_text.specs.Numerals.{or_end, id_in, positive, negative, literal_in, begins_minus, first_of, after_first}
+use Rattle.lrat_text.proofs.Prefixes.{first_of-nil, first_of-blank, first_of-byte, after_first-byte}
 
 pub id_none : (item : List ℕ) → number_up_to 4294967295 item ≡ None → id_in item ≡ None
 id_none item none = ap or_end none
@@ -45,8 +45,11 @@ plain_empty text none = ap literal_in whole ∙ ap (λ (item : List ℕ). positi
 pub plain_byte : (b : ℕ) (text bs : List ℕ) → text ≡ b ∷ bs → (b ≡ 45 → ⊥) → literal_in (first_of text) ≡ positive (number_up_to 2147483647 (first_of text))
 plain_byte b text bs split isnt =
     ⊎_elim
-    (λ (blank : b ≡ 32). let whole : first_of text ≡ [] = ap first_of split ∙ first_of-blank b bs blank in ap literal_in whole ∙ ap (λ (item : List ℕ). positive (number_up_to 2147483647 item)) (sym whole))
-    (λ (other : b ≡ 32 → ⊥). let whole : first_of text ≡ b ∷ first_of bs = ap first_of split ∙ first_of-byte b bs other in ap literal_in whole ∙ other_sign b (first_of bs) isnt ∙ ap (λ (item : List ℕ). positive (number_up_to 2147483647 item)) (sym whole))
+    (λ (blank : b ≡ 32). let whole : first_of text ≡ [] = ap first_of split ∙ first_of-blank b bs blank in
+    ap literal_in whole ∙ ap (λ (item : List ℕ). positive (number_up_to 2147483647 item)) (sym whole))
+    (λ (other : b ≡ 32 → ⊥). let whole : first_of text ≡ b ∷ first_of bs = ap first_of split
+    ∙ first_of-byte b bs other in ap literal_in whole ∙ other_sign b (first_of bs) isnt
+    ∙ ap (λ (item : List ℕ). positive (number_up_to 2147483647 item)) (sym whole))
     (cases_eq b 32)
   where
     other_sign : (b : ℕ) (bs : List ℕ) → (b ≡ 45 → ⊥) → literal_in (b ∷ bs) ≡ positive (number_up_to 2147483647 (b ∷ bs))
@@ -58,8 +61,8 @@ at_minus b text bs split is = ap first_of split ∙ ap (λ (x : ℕ). first_of (
 pub minus_byte : (b : ℕ) (text bs : List ℕ) → text ≡ b ∷ bs → b ≡ 45 → literal_in (first_of text) ≡ negative (number_up_to 2147483647 (first_of bs))
 minus_byte b text bs split is = ap literal_in (at_minus b text bs split is)
 
-pub rest_of_minus : (b : ℕ) (text bs : List ℕ) → text ≡ b ∷ bs → b ≡ 45 → behind_first text ≡ behind_first bs
-rest_of_minus b text bs split is = ap behind_first split ∙ ap (λ (x : ℕ). behind_first (x ∷ bs)) is ∙ behind_first-byte 45 bs (λ e. cc)
+pub rest_of_minus : (b : ℕ) (text bs : List ℕ) → text ≡ b ∷ bs → b ≡ 45 → after_first text ≡ after_first bs
+rest_of_minus b text bs split is = ap after_first split ∙ ap (λ (x : ℕ). after_first (x ∷ bs)) is ∙ after_first-byte 45 bs (λ e. cc)
 
 pub begins_none : (text : List ℕ) → text ≡ [] → begins_minus (first_of text) ≡ false
 begins_none text none = ap begins_minus (ap first_of none ∙ first_of-nil)
@@ -71,4 +74,21 @@ begins_byte b text bs split =
     (λ (other : b ≡ 32 → ⊥). sym (ap begins_minus (ap first_of split ∙ first_of-byte b bs other)))
     (cases_eq b 32)
 
-pub ruleset entries = (common_steps, id_none, id_zero, id_some, literal_none, literal_end, literal_positive, literal_unsigned, literal_minus_zero, literal_negative, plain_empty, plain_byte, minus_byte, rest_of_minus, begins_none, begins_byte)
+pub ruleset entries = (
+  common_steps,
+  id_none,
+  id_zero,
+  id_some,
+  literal_none,
+  literal_end,
+  literal_positive,
+  literal_unsigned,
+  literal_minus_zero,
+  literal_negative,
+  plain_empty,
+  plain_byte,
+  minus_byte,
+  rest_of_minus,
+  begins_none,
+  begins_byte,
+)

@@ -1,5 +1,5 @@
 pub mod Entries
-pub mod Fronts
+pub mod Prefixes
 pub mod Judged
 pub mod Marked
 pub mod Written

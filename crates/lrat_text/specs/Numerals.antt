@@ -41,5 +41,5 @@ is_letter_d (b ∷ c ∷ bs) = false
 abbrev pub first_of : List ℕ → List ℕ
 first_of text = (split_from [] text).first
 
-abbrev pub behind_first : List ℕ → List (List ℕ)
-behind_first text = (split_from [] text).more
+abbrev pub after_first : List ℕ → List (List ℕ)
+after_first text = (split_from [] text).more

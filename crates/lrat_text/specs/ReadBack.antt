@@ -1,5 +1,7 @@
 -- Round trips: what is read was written that way, and what was written is read.
-use Rattle.std.specs.Prelude.{◌≡◌, ◌≢◌, ℕ, zero, suc, ◌-◌, ◌<◌, ◌≤◌, ◌^◌, ◌⊎◌, ◌==◌, ℤ, pos, negsuc, Bool, true, false, if◌then◌else◌, List, [], ◌∷◌, ◌++◌, map, All, Option, Some, None, Result, Ok, Err, decimal, codes, refl, length, get_or}
+use Rattle.std.specs.Prelude.{◌≡◌, ◌≢◌, ℕ, zero, suc, ◌-◌, ◌<◌, ◌≤◌, ◌^◌, ◌⊎◌, ◌==◌, ℤ, pos, negsuc, Bool, true, false}
+use Rattle.std.specs.Prelude.{if◌then◌else◌, List, [], ◌∷◌, ◌++◌, map, All, Option, Some, None, Result, Ok, Err}
+use Rattle.std.specs.Prelude.{decimal, codes, refl, length, get_or}
 use Rattle.std.specs.Fmt.{signed_decimal}
 use Rattle.std.proofs.Common.{ap, sym, ◌∙◌, subst, arith, inl, inr, append_assoc, append-nil}
 use Rattle.std.proofs.Math.Logic.{⊎_elim}
@@ -164,7 +166,9 @@ literal_ends : (w : List ℕ) → literal_in w ≡ Some None → w ≡ nought
 literal_ends [] is = absurd cc
 literal_ends (b ∷ bs) is =
     ⊎_elim
-    (λ (minus : ((b == 45) ≡ true) × (negative (number_up_to 2147483647 bs) ≡ Some None)). let found = negative_cases (number_up_to 2147483647 bs) None minus.1 in let no_ : None ≡ Some (opposite (pos found.0)) = found.3 in absurd cc)
+    (λ (minus : ((b == 45) ≡ true) × (negative (number_up_to 2147483647 bs) ≡ Some None)). let found =
+    negative_cases (number_up_to 2147483647 bs) None minus.1 in let no_ : None ≡ Some (opposite (pos found.0)) =
+    found.3 in absurd cc)
     (λ (plain : ((b == 45) ≡ false) × (positive (number_up_to 2147483647 (b ∷ bs)) ≡ Some None)).
     ⊎_elim
     (λ (at_end : (number_up_to 2147483647 (b ∷ bs) ≡ Some 0) × (None ≡ None)). (number_spells 2147483647 0 (b ∷ bs) (omega arith) at_end.0).1 ∙ decimal_0)
@@ -192,7 +196,8 @@ abbrev pub Lines : Type 0
 Lines = Result Line LineError
 
 -- the cases in which item_then succeeds
-pub item_ok : {X : Type 0} (o : Option (Option X)) (end : Lines) (next : X → Lines) (l : Line) → item_then o end next ≡ Ok l → ((o ≡ Some None) × (end ≡ Ok l)) ⊎ ((x : X) × (o ≡ Some (Some x)) × (next x ≡ Ok l))
+pub item_ok : {X : Type 0} (o : Option (Option X)) (end : Lines) (next : X → Lines) (l : Line) →
+    item_then o end next ≡ Ok l → ((o ≡ Some None) × (end ≡ Ok l)) ⊎ ((x : X) × (o ≡ Some (Some x)) × (next x ≡ Ok l))
 item_ok None end next l is = absurd cc
 item_ok (Some None) end next l is = inl (refl, is)
 item_ok (Some (Some x)) end next l is = inr (x, refl, is)
@@ -232,7 +237,16 @@ hints_spell id lits hints (w ∷ ws) l is =
     let rest = hints_spell id lits (hints ++ h ∷ []) ws l found.2 in
     let w_is : w ≡ decimal h = spelled.1 in
     let ws_is : ws ≡ hint_items rest.more = rest.text in
-    let r : SpellsHints id lits hints (w ∷ ws) l = record { more = h ∷ rest.more; line = rest.line ∙ ap (λ (hs : List ℕ). Add id lits hs) (append_assoc hints (h ∷ []) rest.more); ids = All-cons IsId h rest.more spelled.0 rest.ids; text = cc } in r)
+    let r : SpellsHints id lits hints (w ∷ ws) l =
+    record {
+      more = h ∷ rest.more;
+      line = rest.line
+          ∙ ap (λ (hs : List ℕ). Add id lits hs) (append_assoc hints (h ∷ []) rest.more);
+      ids =
+          All-cons IsId h rest.more spelled.0 rest.ids;
+      text = cc;
+    } in
+    r)
     (item_ok (id_in w) (end_of (Add id lits hints) ws) next l plain.1))
     (if_cases (begins_minus w) (Err RatHint) (item_then (id_in w) (end_of (Add id lits hints) ws) next) (Ok l) is)
 
@@ -273,7 +287,15 @@ ids_spell id ids (w ∷ ws) l is =
     let rest = ids_spell id (ids ++ k ∷ []) ws l found.2 in
     let w_is : w ≡ decimal k = spelled.1 in
     let ws_is : ws ≡ hint_items rest.more = rest.text in
-    let r : SpellsIds id ids (w ∷ ws) l = record { more = k ∷ rest.more; line = rest.line ∙ ap (λ (ks : List ℕ). Delete id ks) (append_assoc ids (k ∷ []) rest.more); are_ids = All-cons IsId k rest.more spelled.0 rest.are_ids; text = cc } in r)
+    let r : SpellsIds id ids (w ∷ ws) l = record {
+      more = k ∷ rest.more;
+      line = rest.line
+          ∙ ap (λ (ks : List ℕ). Delete id ks) (append_assoc ids (k ∷ []) rest.more);
+      are_ids =
+          All-cons IsId k rest.more spelled.0 rest.are_ids;
+      text = cc;
+    } in
+    r)
     (item_ok (id_in w) (end_of (Delete id ids) ws) next l is)
 
 pub ids_back : (id : ℕ) (ids more : List ℕ) → All IsId more → ids_of id ids (hint_items more) ≡ Ok (Delete id (ids ++ more))
@@ -291,7 +313,9 @@ ids_back id ids (k ∷ ks) are =
 clause_pushed : (lits : List ℤ) (l : ℤ) → IsClause lits → is_repeated lits l ≡ false → 0 < variable l → IsClause (lits ++ l ∷ [])
 clause_pushed lits l clause new some = record {
   literals = All-push (λ (m : ℤ). 0 < variable m) lits l clause.literals some;
-  differ = all_pairs_push (λ (a b : ℤ). variable a ≢ variable b) lits l clause.differ (λ k d within same. let again : is_repeated lits l ≡ true = list_any_at (λ (m : ℤ). variable m == variable l) lits k d within (eq-eqb (variable (get_or lits k d)) (variable l) same) in not_both again new);
+  differ = all_pairs_push (λ (a b : ℤ). variable a ≢ variable b) lits l clause.differ (λ k d within same.
+      let again : is_repeated lits l ≡ true = list_any_at (λ (m : ℤ). variable m == variable l) lits k d within
+      (eq-eqb (variable (get_or lits k d)) (variable l) same) in not_both again new);
 }
   where
     not_both : is_repeated lits l ≡ true → is_repeated lits l ≡ false → ⊥
@@ -331,7 +355,18 @@ lits_spell id lits (w ∷ ws) l is =
     let w_is : w ≡ nought = literal_ends w at_end.0 in
     let ws_is : ws ≡ hint_items done.more = done.text in
     let none : lits ++ [] ≡ lits = append-nil lits in
-    let r : SpellsLits id lits (w ∷ ws) l = record { more = []; hints = done.more; line = done.line ∙ ap (λ (ms : List ℤ). Add id ms done.more) (sym none); clause = λ c. rw none c; within = All-nil (λ (m : ℤ). variable m ≤ 2 ^ 31 - 1); ids = done.ids; text = cc } in r)
+    let r : SpellsLits id lits (w ∷ ws) l = record {
+      more = [];
+      hints = done.more;
+      line = done.line
+          ∙ ap (λ (ms : List ℤ). Add id ms done.more) (sym none);
+      clause = λ c. rw none c;
+      within =
+          All-nil (λ (m : ℤ). variable m ≤ 2 ^ 31 - 1);
+      ids = done.ids;
+      text = cc;
+    } in
+    r)
     (λ (found : (m : ℤ) × (literal_in w ≡ Some (Some m)) × (next m ≡ Ok l)).
     let m : ℤ = found.0 in
     let spelled = literal_spells w m found.1 in
@@ -355,10 +390,13 @@ lits_spell id lits (w ∷ ws) l is =
     (if_cases (is_repeated lits m) (Err RepeatedVariable) (lits_of id (lits ++ m ∷ []) ws) (Ok l) found.2))
     (item_ok (literal_in w) (hints_of id lits [] ws) next l is)
 
-pub lits_back : (id : ℕ) (lits more : List ℤ) (hints : List ℕ) → IsClause (lits ++ more) → IsWithin (2 ^ 31 - 1) more → All IsId hints → lits_of id lits (addition_items more hints) ≡ Ok (Add id (lits ++ more) hints)
+pub lits_back : (id : ℕ) (lits more : List ℤ) (hints : List ℕ) → IsClause (lits ++ more) → IsWithin (2 ^ 31 - 1) more →
+    All IsId hints → lits_of id lits (addition_items more hints) ≡ Ok (Add id (lits ++ more) hints)
 unfolding lits_of
 lits_back id lits [] hints clause within ids =
-    ap (λ (o : Option (Option ℤ)). item_then o (hints_of id lits [] (hint_items hints)) (λ m. if is_repeated lits m then Err RepeatedVariable else lits_of id (lits ++ m ∷ []) (hint_items hints))) literal_end_back
+    ap (λ (o : Option (Option ℤ)). item_then o (hints_of id lits [] (hint_items hints))
+    (λ m. if is_repeated lits m then Err RepeatedVariable else lits_of id (lits ++ m ∷ []) (hint_items hints)))
+    literal_end_back
     ∙ hints_back id lits [] hints ids
     ∙ ap (λ (ms : List ℤ). Ok (Add id ms hints)) (sym (append-nil lits))
 lits_back id lits (m ∷ ms) hints clause within ids =

@@ -42,13 +42,13 @@ ids_of id ids [] = Err NoEnd
 ids_of id ids (w ∷ ws) = item_then (id_in w) (end_of (Delete id ids) ws) (λ k. ids_of id (ids ++ k ∷ []) ws)
 
 -- the items after the line's own id
-abbrev pub behind_id : ℕ → List (List ℕ) → Result Line LineError
-behind_id id [] = Err NoEnd
-behind_id id (w ∷ ws) = if is_letter_d w then ids_of id [] ws else lits_of id [] (w ∷ ws)
+abbrev pub after_id : ℕ → List (List ℕ) → Result Line LineError
+after_id id [] = Err NoEnd
+after_id id (w ∷ ws) = if is_letter_d w then ids_of id [] ws else lits_of id [] (w ∷ ws)
 
 abbrev pub line_in_items : List (List ℕ) → Result Line LineError
 line_in_items [] = Err NoEnd
-line_in_items (w ∷ ws) = item_then (id_in w) (Err BadNumber) (λ id. behind_id id ws)
+line_in_items (w ∷ ws) = item_then (id_in w) (Err BadNumber) (λ id. after_id id ws)
 
 -- a line without its LF
 abbrev pub line_in : List ℕ → Result Line LineError

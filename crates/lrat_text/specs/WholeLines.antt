@@ -16,9 +16,10 @@ use Rattle.sat_theory.specs.Formula.{variable, IsClause, IsWithin}
 use Rattle.sat_theory.specs.Line.{Line, Add, Delete, IsId, IsLine}
 use Rattle.lrat_text.specs.declared.error.LineError.TheVariants.{BadNumber}
 use Rattle.lrat_text.specs.Numerals.{id_in, literal_in, is_letter_d}
-use Rattle.lrat_text.specs.Reading.{item_then, lits_of, ids_of, behind_id, line_in_items, line_in}
+use Rattle.lrat_text.specs.Reading.{item_then, lits_of, ids_of, after_id, line_in_items, line_in}
 use Rattle.lrat_text.specs.Spelling.{line_items, line_body, line_text}
-use Rattle.lrat_text.specs.ReadBack.{nought, if_cases, letter_first, literal_back, literal_end_back, id_spells, id_back, item_ok, hint_items, addition_items, ids_spell, ids_back, lits_spell, lits_back}
+use Rattle.lrat_text.specs.ReadBack.{nought, if_cases, letter_first, literal_back, literal_end_back, id_spells, id_back}
+use Rattle.lrat_text.specs.ReadBack.{item_ok, hint_items, addition_items, ids_spell, ids_back, lits_spell, lits_back}
 
 -- ---- what is read
 
@@ -27,9 +28,9 @@ record SpellsLine (ws : List (List ℕ)) (l : Line) : Type 0 where
   is_line : IsLine l
   text : ws ≡ line_items l
 
-behind_spells : (id : ℕ) (w : List ℕ) (ws : List (List ℕ)) (l : Line) → IsId id → w ≡ decimal id → behind_id id ws ≡ Ok l → SpellsLine (w ∷ ws) l
-behind_spells id w [] l own w_is is = absurd cc
-behind_spells id w (v ∷ vs) l own w_is is =
+after_spells : (id : ℕ) (w : List ℕ) (ws : List (List ℕ)) (l : Line) → IsId id → w ≡ decimal id → after_id id ws ≡ Ok l → SpellsLine (w ∷ ws) l
+after_spells id w [] l own w_is is = absurd cc
+after_spells id w (v ∷ vs) l own w_is is =
     ⊎_elim
     (λ (deletion : (is_letter_d v ≡ true) × (ids_of id [] vs ≡ Ok l)).
     let found = ids_spell id [] vs l deletion.1 in
@@ -58,10 +59,10 @@ items_spelled [] l is = absurd cc
 items_spelled (w ∷ ws) l is =
     ⊎_elim
     (λ (at_end : (id_in w ≡ Some None) × (Err BadNumber ≡ Ok l)). let no_ : Err BadNumber ≡ Ok l = at_end.1 in absurd cc)
-    (λ (found : (id : ℕ) × (id_in w ≡ Some (Some id)) × (behind_id id ws ≡ Ok l)).
+    (λ (found : (id : ℕ) × (id_in w ≡ Some (Some id)) × (after_id id ws ≡ Ok l)).
     let spelled = id_spells w found.0 found.1 in
-    behind_spells found.0 w ws l spelled.0 spelled.1 found.2)
-    (item_ok (id_in w) (Err BadNumber) (λ id. behind_id id ws) l is)
+    after_spells found.0 w ws l spelled.0 spelled.1 found.2)
+    (item_ok (id_in w) (Err BadNumber) (λ id. after_id id ws) l is)
 
 -- a line that is read can be written, and the text is its spelling
 pub line_spells : (text : List ℕ) (l : Line) → line_in text ≡ Ok l → IsLine l × (text ≡ line_body l)
@@ -121,21 +122,23 @@ no_letter : (w : List ℕ) (r : Option ℤ) → literal_in w ≡ Some r → is_l
 unfolding number_from
 no_letter w r is = ⊎_elim (λ (same : w ≡ codes "d"). let none : literal_in w ≡ None = ap literal_in same in absurd cc) (λ (other : is_letter_d w ≡ false). other) (letter_first w)
 
-addition_back : (id : ℕ) (lits : List ℤ) (hints : List ℕ) → IsClause lits → IsWithin (2 ^ 31 - 1) lits → All IsId hints → behind_id id (addition_items lits hints) ≡ Ok (Add id lits hints)
+addition_back : (id : ℕ) (lits : List ℤ) (hints : List ℕ) → IsClause lits → IsWithin (2 ^ 31 - 1) lits → All IsId hints → after_id id (addition_items lits hints) ≡ Ok (Add id lits hints)
 addition_back id [] hints clause within ids =
     ap (λ (b : Bool). if b then ids_of id [] (hint_items hints) else lits_of id [] (nought ∷ hint_items hints)) (no_letter nought None literal_end_back) ∙ lits_back id [] [] hints clause within ids
 addition_back id (m ∷ ms) hints clause within ids =
     let low : variable m ≤ 2 ^ 31 - 1 = All-head (λ (x : ℤ). variable x ≤ 2 ^ 31 - 1) m ms within in
     let some : 0 < variable m = All-head (λ (x : ℤ). 0 < variable x) m ms clause.literals in
-    ap (λ (b : Bool). if b then ids_of id [] (addition_items ms hints) else lits_of id [] (signed_decimal m ∷ addition_items ms hints)) (no_letter (signed_decimal m) (Some m) (literal_back m some (omega (arith, low))))
+    ap (λ (b : Bool). if b then ids_of id [] (addition_items ms hints) else lits_of id []
+    (signed_decimal m ∷ addition_items ms hints))
+    (no_letter (signed_decimal m) (Some m) (literal_back m some (omega (arith, low))))
     ∙ lits_back id [] (m ∷ ms) hints clause within ids
 
 items_back : (l : Line) → IsLine l → line_in_items (line_items l) ≡ Ok l
 items_back (Add id lits hints) is =
-    ap (λ (o : Option (Option ℕ)). item_then o (Err BadNumber) (λ k. behind_id k (addition_items lits hints))) (id_back id is.own_id)
+    ap (λ (o : Option (Option ℕ)). item_then o (Err BadNumber) (λ k. after_id k (addition_items lits hints))) (id_back id is.own_id)
     ∙ addition_back id lits hints is.clause is.variables is.hint_ids
 items_back (Delete id ids) is =
-    ap (λ (o : Option (Option ℕ)). item_then o (Err BadNumber) (λ k. behind_id k (codes "d" ∷ hint_items ids))) (id_back id is.own_id)
+    ap (λ (o : Option (Option ℕ)). item_then o (Err BadNumber) (λ k. after_id k (codes "d" ∷ hint_items ids))) (id_back id is.own_id)
     ∙ ids_back id [] ids is.deleted_ids
 
 -- A line that can be written is read again.
@@ -147,7 +150,9 @@ line_back (Delete id ids) is =
 
 joined_free : (w : List ℕ) (ws : List (List ℕ)) → AreFree 10 (w ∷ ws) → is_free 10 (join_with_byte 32 (w ∷ ws)) ≡ true
 joined_free w [] free = free.0
-joined_free w (v ∷ vs) free = free_both 10 w (32 ∷ join_with_byte 32 (v ∷ vs)) free.0 (free_both 10 (32 ∷ []) (join_with_byte 32 (v ∷ vs)) (free_one 10 32 (λ e. omega (arith, e))) (joined_free v vs free.1))
+joined_free w (v ∷ vs) free = free_both 10 w (32 ∷ join_with_byte 32 (v ∷ vs)) free.0
+    (free_both 10 (32 ∷ []) (join_with_byte 32 (v ∷ vs)) (free_one 10 32 (λ e. omega (arith, e)))
+    (joined_free v vs free.1))
 
 body_free : (l : Line) → IsLine l → is_free 10 (line_body l) ≡ true
 body_free (Add id lits hints) is = joined_free (decimal id) (addition_items lits hints) (free_line 10 (Add id lits hints) (omega arith) is)

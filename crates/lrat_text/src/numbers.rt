@@ -3,15 +3,15 @@
 ghost use Rattle.std.specs.Prelude.{◌≡◌, ℕ, ◌+◌, ◌<◌, ◌≤◌, [], ◌∷◌, length, Some, None, IfNone, IfSome};
 ghost use Rattle.text_core.specs.Items.{items_left, size_left};
 ghost use Rattle.text_core.specs.Numbers.{number_from, number_up_to};
-ghost use Rattle.lrat_text.specs.Numerals.{first_of, behind_first};
+ghost use Rattle.lrat_text.specs.Numerals.{first_of, after_first};
 
 /// The number whose digits end at the next blank, and the text after the blank.
-#[tactic(auto, using(crate::proofs::Fronts::fronts))]
+#[tactic(auto, using(crate::proofs::Prefixes::prefixes))]
 fn digits(limit: u32, text: &[u8]) -> Option<(u32, Option<&[u8]>)>
     ensures none { IfNone result (number_from limit 0 (first_of text.now) ≡ None) }
     ensures number { IfSome result (λ x. number_from limit 0 (first_of text.now) ≡ Some x.0) }
     ensures within { IfSome result (λ x. x.0 ≤ limit) }
-    ensures rest { IfSome result (λ x. behind_first text.now ≡ items_left x.1) }
+    ensures rest { IfSome result (λ x. after_first text.now ≡ items_left x.1) }
     ensures shorter { IfSome result (λ x. size_left x.1 < length text.now + 1) }
 {
     let mut value = 0u32;
@@ -34,11 +34,11 @@ fn digits(limit: u32, text: &[u8]) -> Option<(u32, Option<&[u8]>)>
 }
 
 /// The text after the item 0, whose digit was read already; None if the item goes on.
-#[tactic(auto, using(crate::proofs::Fronts::fronts))]
-fn behind_zero(text: &[u8]) -> Option<Option<&[u8]>>
+#[tactic(auto, using(crate::proofs::Prefixes::prefixes))]
+fn after_zero(text: &[u8]) -> Option<Option<&[u8]>>
     ensures none { IfNone result ((limit : ℕ) → number_up_to limit (48 ∷ first_of text.now) ≡ None) }
     ensures zero { IfSome result (λ rest. first_of text.now ≡ []) }
-    ensures rest { IfSome result (λ rest. behind_first text.now ≡ items_left rest) }
+    ensures rest { IfSome result (λ rest. after_first text.now ≡ items_left rest) }
     ensures shorter { IfSome result (λ rest. size_left rest < length text.now + 1) }
 {
     let Some((byte, rest)) = text.split_first() else {
@@ -52,12 +52,12 @@ fn behind_zero(text: &[u8]) -> Option<Option<&[u8]>>
 
 /// The number that the first item of a text spells, if it is at most `limit`, and the text after the item's
 /// blank.
-#[tactic(auto, using(crate::proofs::Fronts::fronts))]
+#[tactic(auto, using(crate::proofs::Prefixes::prefixes))]
 pub(crate) fn next_number(limit: u32, text: &[u8]) -> Option<(u32, Option<&[u8]>)>
     ensures none { IfNone result (number_up_to limit (first_of text.now) ≡ None) }
     ensures number { IfSome result (λ x. number_up_to limit (first_of text.now) ≡ Some x.0) }
     ensures within { IfSome result (λ x. x.0 ≤ limit) }
-    ensures rest { IfSome result (λ x. behind_first text.now ≡ items_left x.1) }
+    ensures rest { IfSome result (λ x. after_first text.now ≡ items_left x.1) }
     ensures shorter { IfSome result (λ x. size_left x.1 < length text.now + 1) }
 {
     let (first, others) = text.split_first()?;
@@ -65,7 +65,7 @@ pub(crate) fn next_number(limit: u32, text: &[u8]) -> Option<(u32, Option<&[u8]>
         return None;
     }
     if *first == b'0' {
-        let Some(rest) = behind_zero(others) else {
+        let Some(rest) = after_zero(others) else {
             return None;
         };
         return Some((0, rest));

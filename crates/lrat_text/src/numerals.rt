@@ -3,7 +3,7 @@ ghost use Rattle.std.specs.Prelude.{◌≡◌, ◌+◌, ◌<◌, length, None, S
 ghost use Rattle.text_core.specs.Items.{items_left, size_left};
 ghost use Rattle.text_core.specs.Numbers.{number_up_to as number_up_to_of};
 ghost use Rattle.lrat_text.specs.Numerals as spec;
-ghost use Rattle.lrat_text.specs.Numerals.{first_of, behind_first};
+ghost use Rattle.lrat_text.specs.Numerals.{first_of, after_first};
 
 use crate::numbers::next_number;
 use cnf_core::Lit;
@@ -14,7 +14,7 @@ use cnf_core::Lit;
 pub(crate) fn next_id(text: &[u8]) -> Option<(Option<u32>, Option<&[u8]>)>
     ensures none { IfNone result (spec.id_in (first_of text.now) ≡ None) }
     ensures id { IfSome result (λ x. spec.id_in (first_of text.now) ≡ Some x.0) }
-    ensures rest { IfSome result (λ x. behind_first text.now ≡ items_left x.1) }
+    ensures rest { IfSome result (λ x. after_first text.now ≡ items_left x.1) }
     ensures shorter { IfSome result (λ x. size_left x.1 < length text.now + 1) }
 {
     let Some((id, rest)) = next_number(4_294_967_295, text) else {
@@ -28,10 +28,12 @@ pub(crate) fn next_id(text: &[u8]) -> Option<(Option<u32>, Option<&[u8]>)>
 
 /// The number after the minus sign of a literal, and the text after it.
 #[tactic(auto, using(crate::proofs::Entries::entries))]
-fn behind_minus(text: &[u8]) -> Option<&[u8]>
-    ensures none { IfNone result (spec.literal_in (first_of text.now) ≡ spec.positive (number_up_to_of 2147483647 (first_of text.now))) }
-    ensures literal { IfSome result (λ digits. spec.literal_in (first_of text.now) ≡ spec.negative (number_up_to_of 2147483647 (first_of digits.now))) }
-    ensures rest { IfSome result (λ digits. behind_first text.now ≡ behind_first digits.now) }
+fn after_minus(text: &[u8]) -> Option<&[u8]>
+    ensures none { IfNone result (spec.literal_in (first_of text.now) ≡
+        spec.positive (number_up_to_of 2147483647 (first_of text.now))) }
+    ensures literal { IfSome result (λ digits. spec.literal_in (first_of text.now) ≡
+        spec.negative (number_up_to_of 2147483647 (first_of digits.now))) }
+    ensures rest { IfSome result (λ digits. after_first text.now ≡ after_first digits.now) }
     ensures shorter { IfSome result (λ digits. length digits.now < length text.now) }
 {
     let (first, digits) = text.split_first()?;
@@ -46,10 +48,10 @@ fn behind_minus(text: &[u8]) -> Option<&[u8]>
 pub(crate) fn next_literal(text: &[u8]) -> Option<(Option<Lit>, Option<&[u8]>)>
     ensures none { IfNone result (spec.literal_in (first_of text.now) ≡ None) }
     ensures literal { IfSome result (λ x. spec.literal_in (first_of text.now) ≡ Some x.0) }
-    ensures rest { IfSome result (λ x. behind_first text.now ≡ items_left x.1) }
+    ensures rest { IfSome result (λ x. after_first text.now ≡ items_left x.1) }
     ensures shorter { IfSome result (λ x. size_left x.1 < length text.now + 1) }
 {
-    if let Some(digits) = behind_minus(text) {
+    if let Some(digits) = after_minus(text) {
         let Some((variable, rest)) = next_number(2_147_483_647, digits) else {
             return None;
         };

@@ -107,8 +107,8 @@ fn ids_of(alloc: Global, id: u32, text: Option<&[u8]>) -> Result<Line, LineError
 }
 
 /// Reads the text after the line's own id.
-fn behind_id(alloc: Global, id: u32, left: Option<&[u8]>) -> Result<Line, LineError>
-    ensures { Gives result (spec.behind_id id (items_left left.entry)) }
+fn after_id(alloc: Global, id: u32, left: Option<&[u8]>) -> Result<Line, LineError>
+    ensures { Gives result (spec.after_id id (items_left left.entry)) }
 {
     let Some(text) = left else {
         return Err(LineError::NoEnd);
@@ -127,7 +127,7 @@ fn read(alloc: Global, text: &[u8]) -> Result<Line, LineError>
     let Some((Some(id), rest)) = next_id(text) else {
         return Err(LineError::BadNumber);
     };
-    behind_id(alloc, id, rest)
+    after_id(alloc, id, rest)
 }
 
 /// Reads one line, without its LF. An addition is `ID literals 0 hints 0`, a deletion is `ID d ids

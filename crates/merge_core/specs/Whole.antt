@@ -10,11 +10,11 @@ unfoldable pub count_from : ℕ → ℕ → List ℕ
 count_from first zero = []
 count_from first (suc count) = first ∷ count_from (first + 1) count
 
--- the gates with their nodes; the first gate is the node `place`
-unfoldable pub placed_from : ℕ → List Gate → List (ℕ × Gate)
-placed_from place [] = []
-placed_from place (g ∷ gs) = (place, g) ∷ placed_from (place + 1) gs
+-- the gates with their nodes; the first gate is the node `node`
+unfoldable pub numbered_from : ℕ → List Gate → List (ℕ × Gate)
+numbered_from node [] = []
+numbered_from node (g ∷ gs) = (node, g) ∷ numbered_from (node + 1) gs
 
 -- the cone whose leaves are the sources and whose gates are all gates of the net
 abbrev pub cone_of : Net → Cone
-cone_of n = record { leaves = count_from 1 n.sources; gates = placed_from (n.sources + 1) n.gates }
+cone_of n = record { leaves = count_from 1 n.sources; gates = numbered_from (n.sources + 1) n.gates }

@@ -6,13 +6,13 @@ use Rattle.std.proofs.lemmas.Option.{slice_get_within}
 use Rattle.chain_theory.specs.Operator.{digit, apply}
 use Rattle.chain_theory.specs.Rows.{row_of, row_digit}
 use Rattle.net_theory.specs.declared.data.Sig.{Sig}
-use Rattle.net_theory.specs.declared.data.Sig.TheVariants.{Zero, One, Place}
+use Rattle.net_theory.specs.declared.data.Sig.TheVariants.{Zero, One, Node}
 use Rattle.net_theory.specs.declared.data.Gate.{Gate}
 use Rattle.net_theory.specs.Net.{Net, IsNet, IsSigBelow, IsGateAt, end_of, sig_value, gate_value, value}
 use Rattle.net_theory.specs.ValueLaws.{value-source, values_after-gate}
-use Rattle.lane_sim.specs.Cone.{Cone, IsCone, IsGateOver, IsSigAmong, AreApart, place_of, places, value_in}
+use Rattle.lane_sim.specs.Cone.{Cone, IsCone, IsGateOver, IsSigAmong, AreApart, node_of, nodes, value_in}
 use Rattle.lane_sim.specs.ConeLaws.{cone_leaf, cone_gate}
-use Rattle.merge_core.specs.Whole.{count_from, placed_from, cone_of}
+use Rattle.merge_core.specs.Whole.{count_from, numbered_from, cone_of}
 
 -- ---- numbers in order
 
@@ -79,112 +79,117 @@ count_apart first count i j p at_i at_j =
 
 -- ---- gates with their nodes
 
-pub placed_at : (place : ℕ) (gs : List Gate) (i : ℕ) (g : Gate) → slice_get gs i ≡ Some g → slice_get (placed_from place gs) i ≡ Some (place + i, g)
-unfolding placed_from
-placed_at place [] i g at = absurd cc
-placed_at place (h ∷ gs) zero g at =
+pub numbered_at : (node : ℕ) (gs : List Gate) (i : ℕ) (g : Gate) → slice_get gs i ≡ Some g → slice_get (numbered_from node gs) i ≡ Some (node + i, g)
+unfolding numbered_from
+numbered_at node [] i g at = absurd cc
+numbered_at node (h ∷ gs) zero g at =
     let same : h ≡ g = first_same h g at in
-    let here : place ≡ place + 0 = omega arith in
-    ap (λ (x : Gate). Some (place, x)) same ∙ ap (λ (q : ℕ). Some (q, g)) here
+    let here : node ≡ node + 0 = omega arith in
+    ap (λ (x : Gate). Some (node, x)) same ∙ ap (λ (q : ℕ). Some (q, g)) here
   where
     first_same : (x y : Gate) → Some x ≡ Some y → x ≡ y
     first_same x y e = cc
-placed_at place (h ∷ gs) (suc i) g at =
-    let here : place + 1 + i ≡ place + suc i = omega arith in
-    placed_at (place + 1) gs i g at ∙ ap (λ (q : ℕ). Some (q, g)) here
+numbered_at node (h ∷ gs) (suc i) g at =
+    let here : node + 1 + i ≡ node + suc i = omega arith in
+    numbered_at (node + 1) gs i g at ∙ ap (λ (q : ℕ). Some (q, g)) here
 
 -- the gate at an index, with its node
-record IsPlaced (place : ℕ) (gs : List Gate) (i : ℕ) (x : ℕ × Gate) : Type 0 where
+record IsNumbered (node : ℕ) (gs : List Gate) (i : ℕ) (x : ℕ × Gate) : Type 0 where
   gate : Gate
   at : slice_get gs i ≡ Some gate
   is : x.1 ≡ gate
 
-placed_is : (place : ℕ) (gs : List Gate) (i : ℕ) (x : ℕ × Gate) → slice_get (placed_from place gs) i ≡ Some x → IsPlaced place gs i x
-unfolding placed_from
-placed_is place [] i x at = absurd cc
-placed_is place (g ∷ gs) zero x at = record { gate = g; at = refl; is = ap (λ (y : ℕ × Gate). y.1) (sym (first_same (place, g) x at)) } where
+numbered_is : (node : ℕ) (gs : List Gate) (i : ℕ) (x : ℕ × Gate) → slice_get (numbered_from node gs) i ≡ Some x → IsNumbered node gs i x
+unfolding numbered_from
+numbered_is node [] i x at = absurd cc
+numbered_is node (g ∷ gs) zero x at = record { gate = g; at = refl; is = ap (λ (y : ℕ × Gate). y.1) (sym (first_same (node, g) x at)) } where
   first_same : (y z : ℕ × Gate) → Some y ≡ Some z → y ≡ z
   first_same y z e = cc
-placed_is place (g ∷ gs) (suc i) x at =
-    let rest : IsPlaced (place + 1) gs i x = placed_is (place + 1) gs i x at in
+numbered_is node (g ∷ gs) (suc i) x at =
+    let rest : IsNumbered (node + 1) gs i x = numbered_is (node + 1) gs i x at in
     record { gate = rest.gate; at = rest.at; is = rest.is }
 
-placed_places : (place : ℕ) (gs : List Gate) → map place_of (placed_from place gs) ≡ count_from place (length gs)
-unfolding placed_from count_from
-placed_places place [] = refl
-placed_places place (g ∷ gs) = ap (λ (ps : List ℕ). place ∷ ps) (placed_places (place + 1) gs)
+numbered_nodes : (node : ℕ) (gs : List Gate) → map node_of (numbered_from node gs) ≡ count_from node (length gs)
+unfolding numbered_from count_from
+numbered_nodes node [] = refl
+numbered_nodes node (g ∷ gs) = ap (λ (ps : List ℕ). node ∷ ps) (numbered_nodes (node + 1) gs)
 
-placed_take : (place : ℕ) (gs : List Gate) (i : ℕ) → i ≤ length gs → map place_of (take i (placed_from place gs)) ≡ count_from place i
-unfolding placed_from count_from
-placed_take place gs zero low = refl
-placed_take place [] (suc i) low = absurd (omega (arith, low))
-placed_take place (g ∷ gs) (suc i) low = ap (λ (ps : List ℕ). place ∷ ps) (placed_take (place + 1) gs i (omega (arith, low)))
+numbered_take : (node : ℕ) (gs : List Gate) (i : ℕ) → i ≤ length gs → map node_of (take i (numbered_from node gs)) ≡ count_from node i
+unfolding numbered_from count_from
+numbered_take node gs zero low = refl
+numbered_take node [] (suc i) low = absurd (omega (arith, low))
+numbered_take node (g ∷ gs) (suc i) low = ap (λ (ps : List ℕ). node ∷ ps) (numbered_take (node + 1) gs i (omega (arith, low)))
 
 -- the loop that pairs gates with nodes: its start, its step and its end
-pub placed_start : (n : Net) (items : List (ℕ × Gate)) (place : ℕ) (left : List Gate) → items ≡ [] → place ≡ n.sources + 1 → left ≡ n.gates → items ++ placed_from place left ≡ placed_from (n.sources + 1) n.gates
-placed_start n items place left none first all =
-    ap (λ (xs : List (ℕ × Gate)). xs ++ placed_from place left) none ∙ ap (λ (q : ℕ). placed_from q left) first ∙ ap (placed_from (n.sources + 1)) all
+pub numbered_start : (n : Net) (items : List (ℕ × Gate)) (node : ℕ) (left : List Gate) → items ≡ [] →
+    node ≡ n.sources + 1 → left ≡ n.gates → items ++ numbered_from node left ≡ numbered_from (n.sources + 1) n.gates
+numbered_start n items node left none first all =
+    ap (λ (xs : List (ℕ × Gate)). xs ++ numbered_from node left) none ∙ ap (λ (q : ℕ). numbered_from q left) first ∙ ap (numbered_from (n.sources + 1)) all
 
-pub placed_more : (items new : List (ℕ × Gate)) (place : ℕ) (left rest : List Gate) (g : Gate) (all : List (ℕ × Gate)) → left ≡ g ∷ rest → new ≡ items ++ (place, g) ∷ [] → items ++ placed_from place left ≡ all → new ++ placed_from (place + 1) rest ≡ all
-unfolding placed_from
-placed_more items new place left rest g all split more is =
-    ap (λ (xs : List (ℕ × Gate)). xs ++ placed_from (place + 1) rest) more
-    ∙ append_assoc items ((place, g) ∷ []) (placed_from (place + 1) rest)
-    ∙ ap (λ (gs : List Gate). items ++ placed_from place gs) (sym split)
+pub numbered_more : (items new : List (ℕ × Gate)) (node : ℕ) (left rest : List Gate) (g : Gate)
+    (all : List (ℕ × Gate)) → left ≡ g ∷ rest → new ≡ items ++ (node, g) ∷ [] → items ++
+    numbered_from node left ≡ all → new ++ numbered_from (node + 1) rest ≡ all
+unfolding numbered_from
+numbered_more items new node left rest g all split more is =
+    ap (λ (xs : List (ℕ × Gate)). xs ++ numbered_from (node + 1) rest) more
+    ∙ append_assoc items ((node, g) ∷ []) (numbered_from (node + 1) rest)
+    ∙ ap (λ (gs : List Gate). items ++ numbered_from node gs) (sym split)
     ∙ is
 
-pub placed_end : (items : List (ℕ × Gate)) (place : ℕ) (left : List Gate) (all : List (ℕ × Gate)) → length left ≡ 0 → items ++ placed_from place left ≡ all → items ≡ all
-unfolding placed_from
-placed_end items place [] all none is = sym (append-nil items) ∙ is
-placed_end items place (g ∷ gs) all none is = absurd (omega (arith, none))
+pub numbered_end : (items : List (ℕ × Gate)) (node : ℕ) (left : List Gate) (all : List (ℕ × Gate)) → length left ≡ 0 → items ++ numbered_from node left ≡ all → items ≡ all
+unfolding numbered_from
+numbered_end items node [] all none is = sym (append-nil items) ∙ is
+numbered_end items node (g ∷ gs) all none is = absurd (omega (arith, none))
 
 -- ---- the cone
 
-pub whole_places : (n : Net) → places (cone_of n) ≡ count_from 1 (n.sources + length n.gates)
-whole_places n =
+pub whole_nodes : (n : Net) → nodes (cone_of n) ≡ count_from 1 (n.sources + length n.gates)
+whole_nodes n =
     let next : n.sources + 1 ≡ 1 + n.sources = omega arith in
-    ap (λ (ps : List ℕ). count_from 1 n.sources ++ ps) (placed_places (n.sources + 1) n.gates)
+    ap (λ (ps : List ℕ). count_from 1 n.sources ++ ps) (numbered_nodes (n.sources + 1) n.gates)
     ∙ ap (λ (q : ℕ). count_from 1 n.sources ++ count_from q (length n.gates)) next
     ∙ count_join 1 n.sources (length n.gates)
 
 -- the nodes before a gate
-places_before : (n : Net) (i : ℕ) → i ≤ length n.gates → count_from 1 n.sources ++ map place_of (take i (placed_from (n.sources + 1) n.gates)) ≡ count_from 1 (n.sources + i)
-places_before n i low =
+nodes_before : (n : Net) (i : ℕ) → i ≤ length n.gates → count_from 1 n.sources ++ map node_of (take i (numbered_from (n.sources + 1) n.gates)) ≡ count_from 1 (n.sources + i)
+nodes_before n i low =
     let next : n.sources + 1 ≡ 1 + n.sources = omega arith in
-    ap (λ (ps : List ℕ). count_from 1 n.sources ++ ps) (placed_take (n.sources + 1) n.gates i low)
+    ap (λ (ps : List ℕ). count_from 1 n.sources ++ ps) (numbered_take (n.sources + 1) n.gates i low)
     ∙ ap (λ (q : ℕ). count_from 1 n.sources ++ count_from q i) next
     ∙ count_join 1 n.sources i
 
 among : (count : ℕ) (s : Sig) → IsSigBelow (count + 1) s → IsSigAmong (count_from 1 count) s
 among count Zero below = tt
 among count One below = tt
-among count (Place p) below =
+among count (Node p) below =
     let here : 1 + (p - 1) ≡ p = omega (arith, below.0) in
     (p - 1, count_at 1 count (p - 1) (omega (arith, below.0, below.1)) ∙ ap Some here)
 
 pub whole_cone : (n : Net) → IsNet n → n.sources ≤ 12 → IsCone (cone_of n)
 whole_cone n net few = record {
   few = omega (arith, few, count_length 1 n.sources);
-  apart = subst AreApart (sym (whole_places n)) (count_apart 1 (n.sources + length n.gates));
+  apart = subst AreApart (sym (whole_nodes n)) (count_apart 1 (n.sources + length n.gates));
   gates = λ i x at.
-      let was : IsPlaced (n.sources + 1) n.gates i x = placed_is (n.sources + 1) n.gates i x at in
-      let stands : IsGateAt (n.sources + 1 + i) was.gate = net.gates.each i was.gate was.at in
+      let was : IsNumbered (n.sources + 1) n.gates i x = numbered_is (n.sources + 1) n.gates i x at in
+      let representatives : IsGateAt (n.sources + 1 + i) was.gate = net.gates.each i was.gate was.at in
       let next : n.sources + 1 + i ≡ n.sources + i + 1 = omega arith in
-      subst (λ (g : Gate). IsGateOver (count_from 1 n.sources ++ map place_of (take i (placed_from (n.sources + 1) n.gates))) g) (sym was.is)
-      (subst (λ (ps : List ℕ). IsGateOver ps was.gate) (sym (places_before n i (omega (arith, slice_get_within n.gates i was.gate was.at))))
+      subst (λ (g : Gate). IsGateOver (count_from 1 n.sources ++ map node_of (take i (numbered_from (n.sources + 1) n.gates))) g) (sym was.is)
+      (subst (λ (ps : List ℕ). IsGateOver ps was.gate) (sym (nodes_before n i (omega (arith, slice_get_within n.gates i was.gate was.at))))
       (record {
-        first = among (n.sources + i) was.gate.a (subst (λ (q : ℕ). IsSigBelow q was.gate.a) next stands.first);
-        second = among (n.sources + i) was.gate.b (subst (λ (q : ℕ). IsSigBelow q was.gate.b) next stands.second);
+        first = among (n.sources + i) was.gate.a (subst (λ (q : ℕ). IsSigBelow q was.gate.a) next representatives.first);
+        second = among (n.sources + i) was.gate.b (subst (λ (q : ℕ). IsSigBelow q was.gate.b) next representatives.second);
       }));
 }
 
 abbrev cone_put : List ℕ → List (ℕ × Gate) → Cone
 cone_put leaves gates = record { leaves = leaves; gates = gates }
 
-pub cone_whole : (n : Net) (sources : ℕ) (leaves : List ℕ) (gates : List (ℕ × Gate)) → IsNet n → n.sources ≤ 12 → sources ≡ n.sources → leaves ≡ count_from 1 sources → gates ≡ placed_from (n.sources + 1) n.gates → IsCone (record { leaves = leaves; gates = gates })
-cone_whole n sources leaves gates net few same are placed =
+pub cone_whole : (n : Net) (sources : ℕ) (leaves : List ℕ) (gates : List (ℕ × Gate)) → IsNet n → n.sources ≤ 12 →
+    sources ≡ n.sources → leaves ≡ count_from 1 sources → gates ≡ numbered_from (n.sources + 1) n.gates →
+    IsCone (record { leaves = leaves; gates = gates })
+cone_whole n sources leaves gates net few same are numbered =
     let all : leaves ≡ count_from 1 n.sources = are ∙ ap (count_from 1) same in
-    let whole : record { leaves = leaves; gates = gates } ≡ cone_of n = ap (λ (ps : List ℕ). cone_put ps gates) all ∙ ap (cone_put (count_from 1 n.sources)) placed in
+    let whole : record { leaves = leaves; gates = gates } ≡ cone_of n = ap (λ (ps : List ℕ). cone_put ps gates) all ∙ ap (cone_put (count_from 1 n.sources)) numbered in
     subst IsCone (sym whole) (whole_cone n net few)
 
 -- ---- values
@@ -194,15 +199,15 @@ some_gate [] i low = absurd (omega (arith, low))
 some_gate (g ∷ gs) zero low = (g, refl)
 some_gate (g ∷ gs) (suc i) low = some_gate gs i (omega (arith, low))
 
-same_sig : (f h : ℕ → Bool) (place : ℕ) (s : Sig) → IsSigBelow place s → ((p : ℕ) → 1 ≤ p → p < place → f p ≡ h p) → sig_value f s ≡ sig_value h s
-same_sig f h place Zero below same = refl
-same_sig f h place One below same = refl
-same_sig f h place (Place p) below same = same p below.0 below.1
+same_sig : (f h : ℕ → Bool) (node : ℕ) (s : Sig) → IsSigBelow node s → ((p : ℕ) → 1 ≤ p → p < node → f p ≡ h p) → sig_value f s ≡ sig_value h s
+same_sig f h node Zero below same = refl
+same_sig f h node One below same = refl
+same_sig f h node (Node p) below same = same p below.0 below.1
 
-same_gate : (f h : ℕ → Bool) (place : ℕ) (g : Gate) → IsGateAt place g → ((p : ℕ) → 1 ≤ p → p < place → f p ≡ h p) → gate_value f g ≡ gate_value h g
-same_gate f h place g is same =
-    ap (λ (b : Bool). apply g.op b (sig_value f g.b)) (same_sig f h place g.a is.first same)
-    ∙ ap (apply g.op (sig_value h g.a)) (same_sig f h place g.b is.second same)
+same_gate : (f h : ℕ → Bool) (node : ℕ) (g : Gate) → IsGateAt node g → ((p : ℕ) → 1 ≤ p → p < node → f p ≡ h p) → gate_value f g ≡ gate_value h g
+same_gate f h node g is same =
+    ap (λ (b : Bool). apply g.op b (sig_value f g.b)) (same_sig f h node g.a is.first same)
+    ∙ ap (apply g.op (sig_value h g.a)) (same_sig f h node g.b is.second same)
 
 -- the assignment number `row` gives each source its bit
 abbrev IsRowOf : Net → (ℕ → Bool) → ℕ → Type 0
@@ -226,11 +231,11 @@ values_below n row given (suc end) p net cone bits low some within =
     let i : ℕ = p - (n.sources + 1) in
     let here : n.sources + 1 + i ≡ p = omega (arith, above) in
     let found : (g : Gate) × (slice_get n.gates i ≡ Some g) = some_gate n.gates i (omega (arith, above, within)) in
-    let stands : IsGateAt (n.sources + 1 + i) found.0 = net.gates.each i found.0 found.1 in
-    cone_gate (cone_of n) row i (p, found.0) cone (placed_at (n.sources + 1) n.gates i found.0 found.1 ∙ ap (λ (q : ℕ). Some (q, found.0)) here)
-    ∙ same_gate (value_in (cone_of n) row) (value n given) (n.sources + 1 + i) found.0 stands
+    let representatives : IsGateAt (n.sources + 1 + i) found.0 = net.gates.each i found.0 found.1 in
+    cone_gate (cone_of n) row i (p, found.0) cone (numbered_at (n.sources + 1) n.gates i found.0 found.1 ∙ ap (λ (q : ℕ). Some (q, found.0)) here)
+    ∙ same_gate (value_in (cone_of n) row) (value n given) (n.sources + 1 + i) found.0 representatives
     (λ q some_q low_q. values_below n row given end q net cone bits (omega (arith, low_q, here, low)) some_q (omega (arith, low_q, here, within)))
-    ∙ sym (values_after-gate given (n.sources + 1) i n.gates found.0 found.1 stands)
+    ∙ sym (values_after-gate given (n.sources + 1) i n.gates found.0 found.1 representatives)
     ∙ ap (value n given) here)
     (cases_lt p (n.sources + 1))
 

@@ -4,7 +4,7 @@
 //! new signals and looks up the key of the result. If no earlier gate has that key, the gate is kept; otherwise
 //! its node is mapped to the gate that has it.
 //!
-//! The main theorem is the contract of `merge_alike`: the merged net implements the net, each of its gates has
+//! The main theorem is the contract of `strash`: the merged net implements the net, each of its gates has
 //! the operator of a gate of the net, and no two of its gates are structurally equal.
 //!
 //! ```text
@@ -13,12 +13,12 @@
 #![tactic(auto)]
 
 mod equal;
-mod form;
+mod key;
 mod merging;
-mod rows;
-mod stands;
+mod representatives;
+mod signatures;
 mod whole;
 
-pub use equal::merge_equal;
-pub use form::{Form, form_of};
-pub use merging::merge_alike;
+pub use equal::functional_reduction;
+pub use key::{StrashKey, key_of};
+pub use merging::strash;

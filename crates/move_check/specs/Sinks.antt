@@ -1,14 +1,14 @@
 -- The sinks of one net as signals of another one: each node of the first is replaced by a signal of the second.
 use Rattle.std.specs.Prelude.{◌≡◌, ℕ, ◌≤◌, length, slice_get, slice_index_or, Some, ◌<◌}
 use Rattle.net_theory.specs.declared.data.Sig.{Sig}
-use Rattle.net_theory.specs.declared.data.Sig.TheVariants.{Place}
+use Rattle.net_theory.specs.declared.data.Sig.TheVariants.{Node}
 use Rattle.net_theory.specs.Net.{Net, IsSigBelow}
-use Rattle.net_theory.specs.Answers.{IsStill}
+use Rattle.net_theory.specs.Implements.{IsStill}
 
 -- sources stay, and each node has a signal below `end`
-pub record IsSinkMap (sources end : ℕ) (places : ℕ → Sig) : Type 0 where
-  pub stay : (p : ℕ) → p ≤ sources → places p ≡ Place p
-  pub below : (p : ℕ) → 1 ≤ p → IsSigBelow end (places p)
+pub record IsSinkMap (sources end : ℕ) (nodes : ℕ → Sig) : Type 0 where
+  pub stay : (p : ℕ) → p ≤ sources → nodes p ≡ Node p
+  pub below : (p : ℕ) → 1 ≤ p → IsSigBelow end (nodes p)
 
 -- The second net has equally many sources and sinks; a sink of the first that is a constant or a source is the
 -- same in the second, and equal sinks stay equal.

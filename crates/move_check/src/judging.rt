@@ -1,7 +1,7 @@
 //! Checks a candidate before it replaces a net.
 ghost use Rattle.std.specs.Prelude.{◌≡◌, ◌≤◌, true, length, IfOk, IfSome};
 ghost use Rattle.sat_solve.specs.Budgets.{most_budget};
-ghost use Rattle.net_theory.specs.Answers.{IsPruned};
+ghost use Rattle.net_theory.specs.Implements.{IsCleanedUp};
 ghost use Rattle.op_basis.specs.Basis.{members};
 ghost use Rattle.equiv_core.specs.Limits.{AreSmall};
 ghost use Rattle.net_theory.specs.Operators.{HasOperatorsWithin};
@@ -10,7 +10,7 @@ ghost use Rattle.move_check.specs.Fitting.{IsFit};
 use crate::operators::has_operators_within;
 use crate::sinks::with_sinks_of;
 use equiv_core::equal_nets;
-use net_core::{Net, drop_dead};
+use net_core::{Net, remove_dangling};
 use op_basis::Basis;
 use sat_solve::Solver;
 use std::alloc::{AllocError, Global};
@@ -19,14 +19,14 @@ use std::alloc::{AllocError, Global};
 const MOST_GATES: usize = 100_000;
 
 /// The most sources, and the most sinks, of nets that are compared: fewer than 300,000,000 (`IsSmall`).
-const MOST_ENDS: usize = 299_999_999;
+const MOST_SOURCES_OR_SINKS: usize = 299_999_999;
 
 /// Whether both nets are small enough for a miter.
 fn are_small(first: &Net, second: &Net) -> bool
     ensures { result ≡ true → AreSmall first.now second.now }
 {
-    first.sources() as usize <= MOST_ENDS
-        && first.sinks().len() <= MOST_ENDS
+    first.sources() as usize <= MOST_SOURCES_OR_SINKS
+        && first.sinks().len() <= MOST_SOURCES_OR_SINKS
         && first.gates().len() <= MOST_GATES
         && second.gates().len() <= MOST_GATES
 }
@@ -54,11 +54,11 @@ pub fn judged<S: Solver>(
     budget: u32,
 ) -> Result<Option<Net>, AllocError>
     requires budget { (1 ≤ budget) × (budget ≤ most_budget) }
-    ensures pruned { IfOk result (λ found. IfSome found (IsPruned net.now)) }
+    ensures cleaned_up { IfOk result (λ found. IfSome found (IsCleanedUp net.now)) }
     ensures lean { IfOk result (λ found. IfSome found (λ m. length m.gates ≤ length candidate.now.gates)) }
     ensures operators { IfOk result (λ found. IfSome found (HasOperatorsWithin (members basis) net.now)) }
 {
-    let lean = drop_dead(alloc, candidate)?;
+    let lean = remove_dangling(alloc, candidate)?;
     if !is_fit(net, &lean, basis) {
         return Ok(None);
     }
@@ -70,5 +70,5 @@ pub fn judged<S: Solver>(
     if !same {
         return Ok(None);
     }
-    Ok(Some(drop_dead(alloc, &judged)?))
+    Ok(Some(remove_dangling(alloc, &judged)?))
 }

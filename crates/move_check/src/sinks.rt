@@ -2,25 +2,26 @@
 //! source stays that. Every sink of the net at one node gets one signal, that of the candidate's sink there.
 ghost use Rattle.std.specs.Prelude.{◌≡◌, ℕ, length, vec_len, IfOk};
 ghost use Rattle.net_theory.specs.Net.{IsSigBelow, end_of};
-ghost use Rattle.net_core.specs.Marks.{places_of};
+ghost use Rattle.net_core.specs.Marks.{nodes_of};
 ghost use Rattle.move_check.specs.Sinks.{IsSinkMap, HasSinksOf};
 
-use net_core::{Net, Sig, moved_sinks, start_places};
+use net_core::{Net, Sig, moved_sinks, start_nodes};
 use std::alloc::{AllocError, Global};
 
 /// Maps the node of a net's sink to the signal of the candidate's sink, if the node is a gate.
 #[tactic(auto, using(crate::specs::SinkLaws::mapping))]
-fn put_sink(sources: u32, places: &mut [Sig], sink: Sig, other: Sig)
-    requires within { IsSigBelow (length places.old) sink }
-    ensures count { length places.new ≡ length places.old }
-    ensures map { (end : ℕ) → IsSigBelow end other → IsSinkMap sources end (places_of places.old) → IsSinkMap sources end (places_of places.new) }
+fn put_sink(sources: u32, nodes: &mut [Sig], sink: Sig, other: Sig)
+    requires within { IsSigBelow (length nodes.old) sink }
+    ensures count { length nodes.new ≡ length nodes.old }
+    ensures map { (end : ℕ) → IsSigBelow end other → IsSinkMap sources end (nodes_of nodes.old) →
+        IsSinkMap sources end (nodes_of nodes.new) }
 {
     match sink {
         Sig::Zero => {}
         Sig::One => {}
-        Sig::Place(place) => {
-            if place > sources {
-                places[place as usize] = other;
+        Sig::Node(node) => {
+            if node > sources {
+                nodes[node as usize] = other;
             }
         }
     }
@@ -30,18 +31,18 @@ fn put_sink(sources: u32, places: &mut [Sig], sink: Sig, other: Sig)
 #[tactic(auto, using(crate::specs::SinkLaws::mapping))]
 fn sink_map(alloc: Global, net: &Net, candidate: &Net) -> Result<Vec<Sig>, AllocError>
     requires sources { candidate.now.sources ≡ net.now.sources }
-    ensures map { IfOk result (λ places. IsSinkMap net.now.sources (end_of candidate.now) (places_of places.items)) }
-    ensures count { IfOk result (λ places. vec_len places ≡ end_of net.now) }
+    ensures map { IfOk result (λ nodes. IsSinkMap net.now.sources (end_of candidate.now) (nodes_of nodes.items)) }
+    ensures count { IfOk result (λ nodes. vec_len nodes ≡ end_of net.now) }
 {
     let sources = net.sources();
     let count = sources + 1 + net.gates().len() as u32;
-    let mut places = start_places(alloc, sources, count)?;
+    let mut nodes = start_nodes(alloc, sources, count)?;
     let sinks = net.sinks();
     let others = candidate.sinks();
     for index in 0..sinks.len().min(others.len()) {
-        put_sink(sources, &mut places, sinks[index], others[index]);
+        put_sink(sources, &mut nodes, sinks[index], others[index]);
     }
-    Ok(places)
+    Ok(nodes)
 }
 
 /// The candidate with its sinks given by that map.
@@ -51,7 +52,7 @@ pub(crate) fn with_sinks_of(alloc: Global, net: &Net, candidate: Net) -> Result<
     ensures gates { IfOk result (λ new. new.gates ≡ candidate.gates) }
     ensures sinks { IfOk result (HasSinksOf net.now) }
 {
-    let places = sink_map(alloc, net, &candidate)?;
-    let sinks = moved_sinks(alloc, &places, net.sinks())?;
+    let nodes = sink_map(alloc, net, &candidate)?;
+    let sinks = moved_sinks(alloc, &nodes, net.sinks())?;
     Ok(candidate.with_sinks(sinks))
 }

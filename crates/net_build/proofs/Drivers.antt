@@ -7,18 +7,18 @@ use Rattle.net_theory.specs.NetOf.{driver_from, driver_of, graph_of}
 use Rattle.net_build.specs.Parts.{graph_by, with_driver}
 
 -- a list without its prefix
-drop_front : {A : Type 0} (xs ys : List A) → drop (length xs) (xs ++ ys) ≡ ys
-drop_front [] ys = refl
-drop_front (x ∷ xs) ys = drop_front xs ys
+drop_prefix : {A : Type 0} (xs ys : List A) → drop (length xs) (xs ++ ys) ≡ ys
+drop_prefix [] ys = refl
+drop_prefix (x ∷ xs) ys = drop_prefix xs ys
 
-pub record IsCut (tables rest : List Table) (t : Table) (behind : List Table) : Type 0 where
-  pub here : drop (length rest) tables ≡ t ∷ behind
+pub record IsCut (tables rest : List Table) (t : Table) (after : List Table) : Type 0 where
+  pub here : drop (length rest) tables ≡ t ∷ after
   pub whole : rest ++ drop (length rest) tables ≡ tables
 
-pub cut_last : (tables left rest : List Table) (t : Table) (behind : List Table) → left ≡ rest ++ t ∷ [] → left ++ behind ≡ tables → IsCut tables rest t behind
-cut_last tables left rest t behind e whole =
-    let all : tables ≡ rest ++ (t ∷ behind) = sym whole ∙ ap (λ (xs : List Table). xs ++ behind) e ∙ append_assoc rest (t ∷ []) behind in
-    let here : drop (length rest) tables ≡ t ∷ behind = ap (λ (xs : List Table). drop (length rest) xs) all ∙ drop_front rest (t ∷ behind) in
+pub cut_last : (tables left rest : List Table) (t : Table) (after : List Table) → left ≡ rest ++ t ∷ [] → left ++ after ≡ tables → IsCut tables rest t after
+cut_last tables left rest t after e whole =
+    let all : tables ≡ rest ++ (t ∷ after) = sym whole ∙ ap (λ (xs : List Table). xs ++ after) e ∙ append_assoc rest (t ∷ []) after in
+    let here : drop (length rest) tables ≡ t ∷ after = ap (λ (xs : List Table). drop (length rest) xs) all ∙ drop_prefix rest (t ∷ after) in
     record { here = here; whole = ap (λ (xs : List Table). rest ++ xs) here ∙ sym all }
 
 driver_more : (number : ℕ) (t : Table) (ts : List Table) → with_driver (driver_from (number + 1) ts) t.output number ≡ driver_from number (t ∷ ts)
@@ -29,7 +29,9 @@ pub driver_none : (number : ℕ) → (λ (n : Name). None) ≡ driver_from numbe
 unfolding driver_from
 driver_none number = refl
 
-pub driver_step : (tables left rest : List Table) (t : Table) (v : ℕ) (old new : Name → Option ℕ) → left ≡ rest ++ t ∷ [] → left ++ drop (length left) tables ≡ tables → old ≡ driver_from (length left) (drop (length left) tables) → v ≡ length rest → new ≡ with_driver old t.output v → new ≡ driver_from (length rest) (drop (length rest) tables)
+pub driver_step : (tables left rest : List Table) (t : Table) (v : ℕ) (old new : Name → Option ℕ) → left ≡ rest ++
+    t ∷ [] → left ++ drop (length left) tables ≡ tables → old ≡ driver_from (length left) (drop (length left) tables) →
+    v ≡ length rest → new ≡ with_driver old t.output v → new ≡ driver_from (length rest) (drop (length rest) tables)
 driver_step tables left rest t v old new e whole before number set =
     let cut : IsCut tables rest t (drop (length left) tables) = cut_last tables left rest t (drop (length left) tables) e whole in
     let count : length left ≡ length rest + 1 = ap (length {A = Table}) e ∙ length-append rest (t ∷ []) in

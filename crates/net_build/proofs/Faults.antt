@@ -12,7 +12,7 @@ use Rattle.net_theory.specs.NetOf.{graph_of}
 use Rattle.net_theory.specs.GraphLaws.{order_acyclic}
 use Rattle.net_core.specs.declared.error.NetError.{NetError}
 use Rattle.net_core.specs.declared.error.NetError.TheVariants.{TooManyGates}
-use Rattle.net_document.specs.Listed.{Listed, IsListed, AreFree}
+use Rattle.net_document.specs.Listed.{Listed, IsWellListed, AreControlsFree}
 use Rattle.net_document.specs.Refusals.{repeated, missing, twice_or, undriven_in, fault_of}
 use Rattle.net_document.specs.TimesLaws.{has_times, times_has, distinct_times, times_distinct, repeated_distinct, missing_driven}
 
@@ -66,12 +66,12 @@ no_names : are_distinct [] ≡ true
 unfolding are_distinct
 no_names = refl
 
-driven_distinct : (l : Listed) → IsListed l → HasNoFault l → are_distinct (driven_names l.document) ≡ true
+driven_distinct : (l : Listed) → IsWellListed l → HasNoFault l → are_distinct (driven_names l.document) ≡ true
 driven_distinct l is free =
     let once : are_distinct l.driven ≡ true = repeated_distinct [] l.driven no_names free.once in
     times_distinct (driven_names l.document) (λ n. omega (arith, is.driven n, distinct_times l.driven n once))
 
-used_driven : (l : Listed) → IsListed l → HasNoFault l → All (λ n. has (driven_names l.document) n ≡ true) (used_names l.document)
+used_driven : (l : Listed) → IsWellListed l → HasNoFault l → All (λ n. has (driven_names l.document) n ≡ true) (used_names l.document)
 used_driven l is free =
     has_all (λ n. has (driven_names l.document) n ≡ true) (used_names l.document) (λ n h.
     let used : has (l.used ++ l.document.outputs) n ≡ true = times_has (l.used ++ l.document.outputs) n (omega (arith, is.used n, has_times (used_names l.document) n h)) in
@@ -79,11 +79,11 @@ used_driven l is free =
     times_has (driven_names l.document) n (omega (arith, is.driven n, has_times l.driven n driven)))
 
 -- the outputs of tables are distinct
-pub outputs_distinct : (l : Listed) → IsListed l → fault_of l ≡ None → are_distinct (map table_output l.document.tables) ≡ true
+pub outputs_distinct : (l : Listed) → IsWellListed l → fault_of l ≡ None → are_distinct (map table_output l.document.tables) ≡ true
 outputs_distinct l is e = distinct_right (source_names l.document) (map table_output l.document.tables) (driven_distinct l is (no_fault l e))
 
 -- a listed document without a fault whose tables have a topological order is well formed
-pub listed_well : (l : Listed) (order : List ℕ) → IsListed l → AreFree l.document → fault_of l ≡ None → order_of (graph_of l.document.tables) ≡ Some order → IsWellFormed l.document
+pub listed_well : (l : Listed) (order : List ℕ) → IsWellListed l → AreControlsFree l.document → fault_of l ≡ None → order_of (graph_of l.document.tables) ≡ Some order → IsWellFormed l.document
 listed_well l order is free e ordered = record {
   model = is.model;
   inputs = is.inputs;

@@ -33,7 +33,12 @@ few_by : (t : Table) (ns : List Name) → length t.cover.cubes ≤ 4096 → leng
 few_by t [] few = few
 few_by t (a ∷ []) few = few
 few_by t (a ∷ b ∷ []) few =
-    cond_both (is_same a b) (record { inputs = a ∷ []; output = t.output; cover = unary_cover (cover_value t.cover (false ∷ false ∷ [])) (cover_value t.cover (true ∷ true ∷ [])) }) t (λ (m : Table). length m.cover.cubes ≤ 4096)
+    cond_both (is_same a b) (record {
+      inputs = a ∷ [];
+      output = t.output;
+      cover = unary_cover (cover_value t.cover (false ∷ false ∷ [])) (cover_value t.cover (true ∷ true ∷ []));
+    }) t
+    (λ (m : Table). length m.cover.cubes ≤ 4096)
     (λ same. two (cover_value t.cover (false ∷ false ∷ [])) (cover_value t.cover (true ∷ true ∷ [])))
     (λ other. few) where
       two : (x y : Bool) → length (unary_cover x y).cubes ≤ 4096

@@ -13,7 +13,7 @@ use Rattle.net_theory.specs.Dependence.{IsFirstCyclic}
 use Rattle.net_core.specs.declared.error.NetError.{NetError}
 use Rattle.net_core.specs.declared.error.NetError.TheVariants.{Memory, Cycle}
 use Rattle.graph_core.specs.Visit.{Graph}
-use Rattle.graph_core.specs.VisitLaws.{IsRun}
+use Rattle.graph_core.specs.VisitLaws.{IsFinishOrder}
 
 -- the table over its first input alone with the given cover; unchanged if there is none
 abbrev pub merged_by : Table → Option Cover → Table
@@ -29,25 +29,25 @@ graph_by driver [] = []
 graph_by driver (t ∷ ts) = filter_map driver t.inputs ∷ graph_by driver ts
 
 -- each signal is a constant or a node of the net
-pub record AreBelow (n : Net) (signals : Signals) : Type 0 where
+pub record AreSignalsBelow (n : Net) (signals : Signals) : Type 0 where
   pub each : (name : Name) (s : Sig) → signals name ≡ Some s → IsSigBelow (end_of n) s
 
 -- a cover over `inputs` can be appended to a net
-pub record Fits (n : Net) (c : Cover) (inputs : List Name) : Type 0 where
+pub record CanExpand (n : Net) (c : Cover) (inputs : List Name) : Type 0 where
   pub cover : IsCover c
   pub width : c.width ≡ length inputs
   pub room : n.sources + length n.gates + cover_cost c inputs < 2 ^ 31
 
 abbrev pub FitsTable : Net → Table → Type 0
-FitsTable n t = Fits n (merged_table t).cover (merged_table t).inputs
+FitsTable n t = CanExpand n (merged_table t).cover (merged_table t).inputs
 
 -- The net has the gates of the tables done so far, and the tables `left` may follow in this order.
-pub record IsBegun (d : Document) (n : Net) (signals : Signals) (left : List ℕ) : Type 0 where
+pub record IsPartlyBuilt (d : Document) (n : Net) (signals : Signals) (left : List ℕ) : Type 0 where
   pub sources : n.sources ≡ source_count d
   pub sinks : n.sinks ≡ []
   pub done : List ℕ
   pub grown : IsGrowth d (growth n.gates signals) done
-  pub run : IsRun (graph_of d.tables) (length (graph_of d.tables)) done left
+  pub run : IsFinishOrder (graph_of d.tables) (length (graph_of d.tables)) done left
 
 -- the drivers, with one more name
 abbrev pub with_driver : (Name → Option ℕ) → Name → ℕ → Name → Option ℕ

@@ -5,13 +5,14 @@ ghost use Rattle.indexmap.specs.IndexMap.{get};
 ghost use Rattle.net_theory.specs.Document.{is_same};
 ghost use Rattle.net_theory.specs.WellFormed.{IsTable, IsWellFormed};
 ghost use Rattle.net_core.specs.Wholes.{cover_of, IsBody};
-ghost use Rattle.graph_core.specs.VisitLaws.{IsOrder};
-ghost use Rattle.net_theory.specs.NetOf.{grown_by, table_built, with_table, with_tables, graph_of, with_sources, source_count, net_in_order};
+ghost use Rattle.graph_core.specs.VisitLaws.{IsTopologicalOrder};
+ghost use Rattle.net_theory.specs.NetOf.{grown_by, table_built, with_table, with_tables, graph_of, with_sources};
+ghost use Rattle.net_theory.specs.NetOf.{source_count, net_in_order};
 ghost use Rattle.net_theory.specs.Document.{source_names};
-ghost use Rattle.net_build.specs.Parts.{growth, AreBelow, Fits, FitsTable, IsBegun};
+ghost use Rattle.net_build.specs.Parts.{growth, AreSignalsBelow, CanExpand, FitsTable, IsPartlyBuilt};
 
 use crate::merging::{first_alone, merged_cover};
-use crate::signals::{place_latches, place_names, push_signals, set_signal, sinks_of};
+use crate::signals::{number_latches, number_names, push_signals, set_signal, sinks_of};
 use indexmap::IndexMap;
 use net_core::{Body, Name, Net, Sig, expand_body};
 use net_document::{Document, Table};
@@ -28,9 +29,15 @@ fn add_body(
     output: &Name,
 ) -> Result<(), AllocError>
     requires body { IsBody body.now }
-    requires fits { Fits net.old (cover_of body.now) names.now }
-    requires below { AreBelow net.old (get is_same signals.old) }
-    ensures grown { OnOk result (growth net.new.gates (get is_same signals.new) ≡ grown_by (growth net.old.gates (get is_same signals.old)) output.now (table_built net.old.sources (growth net.old.gates (get is_same signals.old)) (record { inputs = names.now; output = output.now; cover = cover_of body.now }))) }
+    requires fits { CanExpand net.old (cover_of body.now) names.now }
+    requires below { AreSignalsBelow net.old (get is_same signals.old) }
+    ensures grown { OnOk result (growth net.new.gates (get is_same signals.new) ≡
+        grown_by (growth net.old.gates (get is_same signals.old)) output.now
+        (table_built net.old.sources (growth net.old.gates (get is_same signals.old)) (record {
+          inputs = names.now;
+          output = output.now;
+          cover = cover_of body.now;
+        }))) }
     ensures sources { OnOk result (net.new.sources ≡ net.old.sources) }
     ensures sinks { OnOk result (net.new.sinks ≡ net.old.sinks) }
 {
@@ -50,8 +57,9 @@ fn add_table(
 ) -> Result<(), AllocError>
     requires table { IsTable table.now }
     requires fits { FitsTable net.old table.now }
-    requires below { AreBelow net.old (get is_same signals.old) }
-    ensures grown { OnOk result (growth net.new.gates (get is_same signals.new) ≡ with_table net.old.sources (growth net.old.gates (get is_same signals.old)) table.now) }
+    requires below { AreSignalsBelow net.old (get is_same signals.old) }
+    ensures grown { OnOk result (growth net.new.gates (get is_same signals.new) ≡
+        with_table net.old.sources (growth net.old.gates (get is_same signals.old)) table.now) }
     ensures sources { OnOk result (net.new.sources ≡ net.old.sources) }
     ensures sinks { OnOk result (net.new.sinks ≡ net.old.sinks) }
 {
@@ -91,9 +99,11 @@ fn add_tables(
 ) -> Result<(), AllocError>
     requires well { IsWellFormed document.now }
     requires small { source_count document.now + 100000 < 2 ^ 31 }
-    requires begun { IsBegun document.now net.old (get is_same signals.old) order.now }
-    ensures grown { OnOk result (growth net.new.gates (get is_same signals.new) ≡ with_tables (source_count document.now) document.now.tables (growth net.old.gates (get is_same signals.old)) order.now) }
-    ensures begun { OnOk result (IsBegun document.now net.new (get is_same signals.new) []) }
+    requires begun { IsPartlyBuilt document.now net.old (get is_same signals.old) order.now }
+    ensures grown { OnOk result (growth net.new.gates (get is_same signals.new) ≡
+        with_tables (source_count document.now) document.now.tables (growth net.old.gates (get is_same signals.old))
+        order.now) }
+    ensures begun { OnOk result (IsPartlyBuilt document.now net.new (get is_same signals.new) []) }
 {
     let mut left = order;
     while let Some((table, rest)) = left.split_first() {
@@ -105,13 +115,14 @@ fn add_tables(
 
 /// Binds the names of the sources to the nodes from 1 on.
 #[tactic(auto, using(crate::proofs::Growths::sources))]
-fn place_sources(signals: &mut IndexMap<Name, Sig>, document: &Document) -> Result<(), AllocError>
+fn number_sources(signals: &mut IndexMap<Name, Sig>, document: &Document) -> Result<(), AllocError>
     requires { source_count document.now + 100000 < 2 ^ 31 }
-    ensures { OnOk result (get is_same signals.new ≡ with_sources (get is_same signals.old) 1 (source_names document.now)) }
+    ensures { OnOk result (get is_same signals.new ≡
+        with_sources (get is_same signals.old) 1 (source_names document.now)) }
 {
-    place_names(signals, 1, &document.inputs)?;
+    number_names(signals, 1, &document.inputs)?;
     let next = 1 + document.inputs.len() as u32;
-    place_latches(signals, next, &document.latches)
+    number_latches(signals, next, &document.latches)
 }
 
 /// The net of a document whose tables have the topological order `order`; `signals` has the signals of the
@@ -125,7 +136,7 @@ fn net_over(
 ) -> Result<Net, AllocError>
     requires well { IsWellFormed document.now }
     requires small { source_count document.now + 100000 < 2 ^ 31 }
-    requires order { IsOrder (graph_of document.now.tables) order.now }
+    requires order { IsTopologicalOrder (graph_of document.now.tables) order.now }
     requires signals { get is_same signals.old ≡ with_sources (λ n. None) 1 (source_names document.now) }
     ensures { IfOk result (λ net. net ≡ net_in_order document.now order.now) }
 {
@@ -140,10 +151,10 @@ fn net_over(
 pub fn grow(alloc: Global, document: &Document, order: &[u32]) -> Result<Net, AllocError>
     requires well { IsWellFormed document.now }
     requires small { source_count document.now + 100000 < 2 ^ 31 }
-    requires order { IsOrder (graph_of document.now.tables) order.now }
+    requires order { IsTopologicalOrder (graph_of document.now.tables) order.now }
     ensures { IfOk result (λ net. net ≡ net_in_order document.now order.now) }
 {
     let mut signals = IndexMap::new(alloc);
-    place_sources(&mut signals, document)?;
+    number_sources(&mut signals, document)?;
     net_over(alloc, document, order, &mut signals)
 }

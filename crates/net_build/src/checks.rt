@@ -2,8 +2,8 @@
 
 ghost use Rattle.std.specs.Prelude.{◌≡◌, ◌<◌, ◌≤◌, ◌^◌, [], ◌++◌, None, IfOk, IfErr, IfNone};
 ghost use Rattle.net_theory.specs.Cost.{cost};
-ghost use Rattle.net_document.specs.Listed.{IsListed};
-ghost use Rattle.net_document.specs.Refusals.{repeated, missing, fault_of, IsRefused};
+ghost use Rattle.net_document.specs.Listed.{IsWellListed};
+ghost use Rattle.net_document.specs.Refusals.{repeated, missing, fault_of, IsRefusedListing};
 
 use crate::merging::total_cost;
 use indexmap::IndexSet;
@@ -65,7 +65,7 @@ fn check_used(driven: &IndexSet<Name>, listed: &Listed) -> Result<(), NetError>
     requires once { repeated [] listed.now.driven ≡ None }
     requires driven { driven.now.keys ≡ listed.now.driven }
     ensures good { IfOk result (λ _. fault_of listed.now ≡ None) }
-    ensures refused { IfErr result (IsRefused listed.now) }
+    ensures refused { IfErr result (IsRefusedListing listed.now) }
 {
     match first_undriven(driven, &listed.used, &listed.document.outputs)? {
         Some(name) => Err(NetError::Undriven(name)),
@@ -80,7 +80,7 @@ fn check_names(driven: &mut IndexSet<Name>, listed: &Listed) -> Result<(), NetEr
     requires few { cost listed.now.document ≤ 100000 }
     requires none { driven.old.keys ≡ [] }
     ensures good { IfOk result (λ _. fault_of listed.now ≡ None) }
-    ensures refused { IfErr result (IsRefused listed.now) }
+    ensures refused { IfErr result (IsRefusedListing listed.now) }
 {
     match add_drivers(driven, &listed.driven)? {
         Some(name) => Err(NetError::DrivenTwice(name)),
@@ -91,10 +91,10 @@ fn check_names(driven: &mut IndexSet<Name>, listed: &Listed) -> Result<(), NetEr
 /// Refuses every fault other than a combinational loop.
 #[tactic(auto, unfolding(net_document::specs::Refusals::fault_of, net_theory::specs::Cost::cost))]
 pub fn check(alloc: Global, listed: &Listed) -> Result<(), NetError>
-    requires listed { IsListed listed.now }
+    requires listed { IsWellListed listed.now }
     requires small { cost listed.now.document < 2 ^ 32 }
     ensures good { IfOk result (λ _. fault_of listed.now ≡ None) }
-    ensures refused { IfErr result (IsRefused listed.now) }
+    ensures refused { IfErr result (IsRefusedListing listed.now) }
 {
     let gates = total_cost(alloc, &listed.document.tables)?;
     if gates > 100_000 {

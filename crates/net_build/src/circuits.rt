@@ -9,20 +9,20 @@ ghost use Rattle.net_theory.specs.WellFormed.{IsWellFormed};
 ghost use Rattle.net_theory.specs.Circuit.{IsCircuitOf};
 ghost use Rattle.net_theory.specs.CircuitLaws.{circuit_of as circuit_with};
 ghost use Rattle.net_theory.specs.NetOf.{source_count, graph_of as graph_of_tables};
-ghost use Rattle.net_document.specs.Listed.{IsListed, AreFree};
-ghost use Rattle.net_document.specs.Refusals.{fault_of, IsRefused};
+ghost use Rattle.net_document.specs.Listed.{IsWellListed, AreControlsFree};
+ghost use Rattle.net_document.specs.Refusals.{fault_of, IsRefusedListing};
 ghost use Rattle.net_build.specs.Parts.{IsCyclicError};
 
 use crate::building::{grow, table_at};
 use crate::checks::check;
 use crate::signals::graph_of;
-use graph_core::{Reads, first_cyclic, visit_all};
+use graph_core::{Fanins, first_cyclic, visit_all};
 use net_core::{Circuit, Latch, Name, Net, NetError};
 use net_document::{Document, LatchLine, Listed};
 use std::alloc::{AllocError, Global};
 
 /// The output of the first table on a combinational loop; there must be no topological order.
-fn cyclic_name(alloc: Global, document: &Document, graph: &[Reads]) -> Result<Name, AllocError>
+fn cyclic_name(alloc: Global, document: &Document, graph: &[Fanins]) -> Result<Name, AllocError>
     requires few { length document.now.tables < 2 ^ 31 }
     requires distinct { are_distinct (map table_output document.now.tables) ≡ true }
     requires graph { graph.now ≡ graph_of_tables document.now.tables }
@@ -73,7 +73,7 @@ fn with_net(alloc: Global, document: Document, net: Net) -> Result<Circuit, Allo
 
 /// For each table of a document its fanins: the tables that drive its inputs.
 #[tactic(auto, using(crate::proofs::Wholes::circuits))]
-fn document_graph(alloc: Global, document: &Document) -> Result<Vec<Reads>, AllocError>
+fn document_graph(alloc: Global, document: &Document) -> Result<Vec<Fanins>, AllocError>
     requires { length document.now.tables < 2 ^ 31 }
     ensures graph { IfOk result (λ graph. graph.items ≡ graph_of_tables document.now.tables) }
     ensures count { IfOk result (λ graph. length graph.items ≡ length document.now.tables) }
@@ -86,7 +86,8 @@ fn ordered_net(alloc: Global, document: &Document) -> Result<Net, NetError>
     requires small { source_count document.now + 100000 < 2 ^ 31 }
     requires few { length document.now.tables < 2 ^ 31 }
     requires distinct { are_distinct (map table_output document.now.tables) ≡ true }
-    requires ready { (order : List ℕ) → order_of (graph_of_tables document.now.tables) ≡ Some order → IsWellFormed document.now }
+    requires ready { (order : List ℕ) → order_of (graph_of_tables document.now.tables) ≡ Some order →
+        IsWellFormed document.now }
     ensures well { IfOk result (λ _. IsWellFormed document.now) }
     ensures circuit { IfOk result (λ net. IsCircuitOf document.now (circuit_with document.now net)) }
     ensures cyclic { IfErr result (IsCyclicError document.now) }
@@ -103,14 +104,14 @@ fn ordered_net(alloc: Global, document: &Document) -> Result<Net, NetError>
 /// The net of a document, or the error if the document isn't well formed.
 #[tactic(auto, using(crate::proofs::Wholes::circuits))]
 fn listed_net(alloc: Global, listed: &Listed) -> Result<Net, NetError>
-    requires listed { IsListed listed.now }
-    requires free { AreFree listed.now.document }
+    requires listed { IsWellListed listed.now }
+    requires free { AreControlsFree listed.now.document }
     requires small { 2 * source_count listed.now.document + cost listed.now.document < 2 ^ 31 }
     requires few { length listed.now.document.tables < 2 ^ 31 }
     ensures well_formed { IfOk result (λ _. IsWellFormed listed.now.document) }
     ensures circuit { IfOk result (λ net. IsCircuitOf listed.now.document (circuit_with listed.now.document net)) }
     ensures good { IfOk result (λ _. fault_of listed.now ≡ None) }
-    ensures refused { IfErr result (IsRefused listed.now) }
+    ensures refused { IfErr result (IsRefusedListing listed.now) }
 {
     check(alloc, listed)?;
     ordered_net(alloc, &listed.document)
@@ -121,14 +122,14 @@ fn listed_net(alloc: Global, listed: &Listed) -> Result<Net, NetError>
 ///
 /// The order of the names in an error is that of the lists of driven and used names.
 pub fn circuit_of(alloc: Global, listed: Listed) -> Result<Circuit, NetError>
-    requires listed { IsListed listed }
-    requires free { AreFree listed.document }
+    requires listed { IsWellListed listed }
+    requires free { AreControlsFree listed.document }
     requires small { 2 * source_count listed.document + cost listed.document < 2 ^ 31 }
     requires few { length listed.document.tables < 2 ^ 31 }
     ensures well_formed { IfOk result (λ _. IsWellFormed listed.document) }
     ensures circuit { IfOk result (IsCircuitOf listed.document) }
     ensures good { IfOk result (λ _. fault_of listed ≡ None) }
-    ensures refused { IfErr result (IsRefused listed) }
+    ensures refused { IfErr result (IsRefusedListing listed) }
 {
     let net = listed_net(alloc, &listed)?;
     Ok(with_net(alloc, listed.document, net)?)

@@ -1,7 +1,8 @@
 //! Tables with two inputs of the same name, and the costs of tables.
 
 ghost use Rattle.std.specs.Prelude.{◌≡◌, ◌<◌, ◌^◌, ◌++◌, false, true, All, IfOk, OnOk, sum_by, take};
-ghost use Rattle.net_theory.specs.Cost.{byte_if, unary_cover as unary_cover_of, merged_table, table_cost as table_cost_of};
+ghost use Rattle.net_theory.specs.Cost.{byte_if, unary_cover as unary_cover_of, merged_table};
+ghost use Rattle.net_theory.specs.Cost.{table_cost as table_cost_of};
 ghost use Rattle.net_theory.specs.WellFormed.{IsTable};
 ghost use Rattle.net_build.specs.Parts.{merged_by};
 

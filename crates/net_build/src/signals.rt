@@ -4,11 +4,12 @@ ghost use Rattle.std.specs.Prelude.{◌≡◌, ◌<◌, ◌^◌, ◌+◌, ◌++�
 ghost use Rattle.std.specs.List.{filter_map};
 ghost use Rattle.indexmap.specs.IndexMap.{get};
 ghost use Rattle.net_theory.specs.Document.{is_same, Name};
-ghost use Rattle.net_theory.specs.NetOf.{driver_of, graph_of as graph_of_tables, with_signal, with_sources, signal_of as signal_of_name};
+ghost use Rattle.net_theory.specs.NetOf.{driver_of, graph_of as graph_of_tables, with_signal, with_sources};
+ghost use Rattle.net_theory.specs.NetOf.{signal_of as signal_of_name};
 ghost use Rattle.net_theory.specs.Document.{latch_of, latch_input, latch_output, sink_names};
 ghost use Rattle.net_build.specs.Parts.{graph_by as graph_by_drivers, with_driver};
 
-use graph_core::Reads;
+use graph_core::Fanins;
 use indexmap::IndexMap;
 use net_core::{Name, Sig};
 use net_document::{Document, LatchLine, Table};
@@ -43,7 +44,7 @@ fn reads_of(
     alloc: Global,
     drivers: &IndexMap<Name, u32>,
     names: &[Name],
-) -> Result<Reads, AllocError>
+) -> Result<Fanins, AllocError>
     ensures { IfOk result (λ r. r ≡ filter_map (get is_same drivers.now) names.now) }
 {
     let mut reads = Vec::new(alloc);
@@ -54,7 +55,7 @@ fn reads_of(
             reads.push(*table)?;
         }
     }
-    Ok(Reads::new(reads))
+    Ok(Fanins::new(reads))
 }
 
 /// For each table its fanins, looked up in `drivers`.
@@ -63,7 +64,7 @@ fn graph_by(
     alloc: Global,
     drivers: &IndexMap<Name, u32>,
     tables: &[Table],
-) -> Result<Vec<Reads>, AllocError>
+) -> Result<Vec<Fanins>, AllocError>
     ensures { IfOk result (λ graph. graph.items ≡ graph_by_drivers (get is_same drivers.now) tables.now) }
 {
     let mut graph = Vec::new(alloc);
@@ -77,7 +78,7 @@ fn graph_by(
 
 /// For each table its fanins: the tables that drive its inputs, in order.
 #[tactic(auto, using(crate::proofs::Drivers::graphs))]
-pub fn graph_of(alloc: Global, tables: &[Table]) -> Result<Vec<Reads>, AllocError>
+pub fn graph_of(alloc: Global, tables: &[Table]) -> Result<Vec<Fanins>, AllocError>
     requires { length tables.now < 2 ^ 31 }
     ensures { IfOk result (λ graph. graph.items ≡ graph_of_tables tables.now) }
 {
@@ -115,7 +116,8 @@ pub fn push_signals(
     names: &[Name],
     found: &mut Vec<Sig>,
 ) -> Result<(), AllocError>
-    ensures { OnOk result (found.new.items ≡ found.old.items ++ map (signal_of_name (get is_same signals.now)) names.now) }
+    ensures { OnOk result (found.new.items ≡ found.old.items ++
+        map (signal_of_name (get is_same signals.now)) names.now) }
 {
     let mut left = names;
     while let Some((name, rest)) = left.split_first() {
@@ -131,7 +133,8 @@ fn push_latch_signals(
     latches: &[LatchLine],
     found: &mut Vec<Sig>,
 ) -> Result<(), AllocError>
-    ensures { OnOk result (found.new.items ≡ found.old.items ++ map (signal_of_name (get is_same signals.now)) (map latch_input latches.now)) }
+    ensures { OnOk result (found.new.items ≡ found.old.items ++
+        map (signal_of_name (get is_same signals.now)) (map latch_input latches.now)) }
 {
     let mut left = latches;
     while let Some((latch, rest)) = left.split_first() {
@@ -143,7 +146,7 @@ fn push_latch_signals(
 
 /// Binds `names` to the nodes from `first` on.
 #[tactic(auto, unfolding(net_theory::specs::NetOf::with_sources))]
-pub fn place_names(
+pub fn number_names(
     signals: &mut IndexMap<Name, Sig>,
     first: u32,
     names: &[Name],
@@ -151,11 +154,11 @@ pub fn place_names(
     requires { first + length names.now < 2 ^ 32 }
     ensures { OnOk result (get is_same signals.new ≡ with_sources (get is_same signals.old) first names.now) }
 {
-    let mut place = first;
+    let mut node = first;
     let mut left = names;
     while let Some((name, rest)) = left.split_first() {
-        set_signal(signals, name, Sig::Place(place))?;
-        place += 1;
+        set_signal(signals, name, Sig::Node(node))?;
+        node += 1;
         left = rest;
     }
     Ok(())
@@ -163,19 +166,20 @@ pub fn place_names(
 
 /// Binds the latches' outputs to the nodes from `first` on.
 #[tactic(auto, unfolding(net_theory::specs::NetOf::with_sources))]
-pub fn place_latches(
+pub fn number_latches(
     signals: &mut IndexMap<Name, Sig>,
     first: u32,
     latches: &[LatchLine],
 ) -> Result<(), AllocError>
     requires { first + length latches.now < 2 ^ 32 }
-    ensures { OnOk result (get is_same signals.new ≡ with_sources (get is_same signals.old) first (map latch_output (map latch_of latches.now))) }
+    ensures { OnOk result (get is_same signals.new ≡ with_sources (get is_same signals.old) first
+        (map latch_output (map latch_of latches.now))) }
 {
-    let mut place = first;
+    let mut node = first;
     let mut left = latches;
     while let Some((latch, rest)) = left.split_first() {
-        set_signal(signals, &latch.latch.output, Sig::Place(place))?;
-        place += 1;
+        set_signal(signals, &latch.latch.output, Sig::Node(node))?;
+        node += 1;
         left = rest;
     }
     Ok(())
@@ -188,7 +192,8 @@ pub fn sinks_of(
     signals: &IndexMap<Name, Sig>,
     document: &Document,
 ) -> Result<Vec<Sig>, AllocError>
-    ensures { IfOk result (λ sinks. sinks.items ≡ map (signal_of_name (get is_same signals.now)) (sink_names document.now)) }
+    ensures { IfOk result (λ sinks. sinks.items ≡ map (signal_of_name (get is_same signals.now))
+        (sink_names document.now)) }
 {
     let mut sinks = Vec::new(alloc);
     push_signals(signals, &document.outputs, &mut sinks)?;

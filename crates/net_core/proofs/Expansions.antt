@@ -32,21 +32,34 @@ pub ruleset tables = (common_steps, cover_cost-wide, expanded-wide)
 
 -- ---- appending to a net
 
-sigs_below : (place : ℕ) (ss : List Sig) → All (IsSigBelow place) ss → AreSigsBelow place ss
-sigs_below place [] all = tt
-sigs_below place (s ∷ ss) all = (all 0 s (omega arith), sigs_below place ss (λ k d low. all (suc k) d (omega arith)))
+sigs_below : (node : ℕ) (ss : List Sig) → All (IsSigBelow node) ss → AreSigsBelow node ss
+sigs_below node [] all = tt
+sigs_below node (s ∷ ss) all = (all 0 s (omega arith), sigs_below node ss (λ k d low. all (suc k) d (omega arith)))
 
 -- expanding a table satisfies `IsBuilt`
-pub expanded_built : (n : Net) (c : Cover) (inputs : List Sig) (new : List Gate) (sig : Sig) → IsNet n → IsCover c → c.width ≡ length inputs → All (IsSigBelow (end_of n)) inputs → built new sig ≡ expanded n.sources n.gates c inputs → IsBuilt n.sources n.gates (cover_cost c inputs) (λ given. cover_value c (map (sig_value (values_of given n.sources n.gates)) inputs)) (built new sig)
+pub expanded_built : (n : Net) (c : Cover) (inputs : List Sig) (new : List Gate) (sig : Sig) → IsNet n → IsCover c →
+    c.width ≡ length inputs → All (IsSigBelow (end_of n)) inputs →
+    built new sig ≡ expanded n.sources n.gates c inputs →
+    IsBuilt n.sources n.gates (cover_cost c inputs) (λ given.
+    cover_value c (map (sig_value (values_of given n.sources n.gates)) inputs)) (built new sig)
 expanded_built n c inputs new sig net is wide below e =
-    subst (IsBuilt n.sources n.gates (cover_cost c inputs) (λ given. cover_value c (map (sig_value (values_of given n.sources n.gates)) inputs))) (sym e) (expanded_is n.sources n.gates c inputs net.gates (sigs_below (end_of n) inputs below) is wide)
+    subst (IsBuilt n.sources n.gates (cover_cost c inputs) (λ given.
+    cover_value c (map (sig_value (values_of given n.sources n.gates)) inputs))) (sym e)
+    (expanded_is n.sources n.gates c inputs net.gates (sigs_below (end_of n) inputs below) is wide)
 
 -- and the net stays valid
-pub expanded_net : (n : Net) (c : Cover) (inputs : List Sig) (new : List Gate) (sig : Sig) → IsNet n → IsCover c → c.width ≡ length inputs → All (IsSigBelow (end_of n)) inputs → n.sources + length n.gates + cover_cost c inputs < 2 ^ 31 → built new sig ≡ expanded n.sources n.gates c inputs → IsNet (record { sources = n.sources; gates = new; sinks = n.sinks })
+pub expanded_net : (n : Net) (c : Cover) (inputs : List Sig) (new : List Gate) (sig : Sig) → IsNet n → IsCover c →
+    c.width ≡ length inputs → All (IsSigBelow (end_of n)) inputs →
+    n.sources + length n.gates + cover_cost c inputs < 2 ^ 31 → built new sig ≡ expanded n.sources n.gates c inputs →
+    IsNet (record { sources = n.sources; gates = new; sinks = n.sinks })
 expanded_net n c inputs new sig net is wide below room e =
-    let b : IsBuilt n.sources n.gates (cover_cost c inputs) (λ given. cover_value c (map (sig_value (values_of given n.sources n.gates)) inputs)) (built new sig) = expanded_built n c inputs new sig net is wide below e in
+    let b : IsBuilt n.sources n.gates (cover_cost c inputs) (λ given.
+    cover_value c (map (sig_value (values_of given n.sources n.gates)) inputs)) (built new sig) =
+    expanded_built n c inputs new sig net is wide below e in
     record {
       gates = b.grown.gates;
-      sinks = at_all (IsSigBelow (n.sources + 1 + length new)) n.sinks (λ k s at. below_later s (end_of n) (n.sources + 1 + length new) (omega (arith, b.grown.longer)) (all_at (IsSigBelow (end_of n)) n.sinks k s net.sinks at));
-      places = omega (arith, b.count, room);
+      sinks = at_all (IsSigBelow (n.sources + 1 + length new)) n.sinks (λ k s at.
+          below_later s (end_of n) (n.sources + 1 + length new) (omega (arith, b.grown.longer))
+          (all_at (IsSigBelow (end_of n)) n.sinks k s net.sinks at));
+      nodes = omega (arith, b.count, room);
     }

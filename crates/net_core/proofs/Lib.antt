@@ -1,6 +1,6 @@
 pub mod Evaluations
-pub mod DeadGates
-pub mod Fronts
+pub mod DanglingGates
+pub mod Prefixes
 pub mod Wide
 pub mod Expansions
 pub mod NamingLemmas

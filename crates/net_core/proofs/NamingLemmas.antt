@@ -18,7 +18,9 @@ pub ruleset sets = (common_steps, each_once-append)
 shorter : (from end : ℕ) → from < end → end - from ≡ suc (end - (from + 1))
 shorter from end low = omega arith
 
-free_suc : (taken : List Name) (from count : ℕ) → free_names taken from (suc count) ≡ (if not (has taken (numbered from)) then numbered from ∷ free_names taken (from + 1) count else free_names taken (from + 1) count)
+free_suc : (taken : List Name) (from count : ℕ) →
+    free_names taken from (suc count) ≡ (if not (has taken (numbered from)) then numbered from ∷ free_names taken
+    (from + 1) count else free_names taken (from + 1) count)
 unfolding free_names
 free_suc taken from count = refl
 
@@ -28,7 +30,8 @@ free_names-taken taken from end low e =
     sym (ap (free_names taken from) (shorter from end low) ∙ free_suc taken from (end - (from + 1)) ∙ cond-false (not (has taken (numbered from))) _ _ (not_from_true (has taken (numbered from)) e))
 
 -- a free name is the next one
-pub free_names-free : (taken : List Name) (from end : ℕ) → from < end → has taken (numbered from) ≡ false → free_names taken from (end - from) ≡ numbered from ∷ free_names taken (from + 1) (end - (from + 1))
+pub free_names-free : (taken : List Name) (from end : ℕ) → from < end → has taken (numbered from) ≡ false →
+    free_names taken from (end - from) ≡ numbered from ∷ free_names taken (from + 1) (end - (from + 1))
 free_names-free taken from end low e =
     ap (free_names taken from) (shorter from end low) ∙ free_suc taken from (end - (from + 1)) ∙ cond-true (not (has taken (numbered from))) _ _ (not_from_false (has taken (numbered from)) e)
 

@@ -14,7 +14,7 @@ use Rattle.net_core.specs.declared.whole.Whole.{Whole}
 use Rattle.net_core.specs.Growing.{word_of}
 use Rattle.net_core.specs.Wholes.{joined_cover, whole_cover, joined_bits}
 use Rattle.net_core.specs.BodyLaws.{whole_cost-wide}
-use Rattle.net_core.proofs.Fronts.{front_itself, front_push, front_more}
+use Rattle.net_core.proofs.Prefixes.{prefix_itself, prefix_push, prefix_more}
 
 -- ---- parity
 
@@ -52,12 +52,16 @@ whole_value-is w bits some wide =
 
 -- ---- gates
 
-joined_built : (c : Connective) (sources : ℕ) (gates : List Gate) (on : Bool) (inputs : List Sig) → 0 < length inputs → wide_built sources gates (joined_cover c (length inputs) on) inputs ≡ finished_by sources (length gates) on (join_all (word_of c) sources gates (unsigned inputs))
+joined_built : (c : Connective) (sources : ℕ) (gates : List Gate) (on : Bool) (inputs : List Sig) → 0 < length inputs →
+    wide_built sources gates (joined_cover c (length inputs) on) inputs ≡
+    finished_by sources (length gates) on (join_all (word_of c) sources gates (unsigned inputs))
 joined_built And sources gates on inputs some = and_built sources gates on inputs some
 joined_built Or sources gates on inputs some = or_built_wide sources gates on inputs some
 joined_built Xor sources gates on inputs some = xor_built sources gates on inputs
 
-pub whole_built : (w : Whole) (sources : ℕ) (gates : List Gate) (inputs : List Sig) → w.width ≡ length inputs → 2 < length inputs → expanded sources gates (whole_cover w) inputs ≡ finished_by sources (length gates) w.on (join_all (word_of w.connective) sources gates (unsigned inputs))
+pub whole_built : (w : Whole) (sources : ℕ) (gates : List Gate) (inputs : List Sig) → w.width ≡ length inputs →
+    2 < length inputs → expanded sources gates (whole_cover w) inputs ≡
+    finished_by sources (length gates) w.on (join_all (word_of w.connective) sources gates (unsigned inputs))
 whole_built w sources gates [] wide many = absurd (omega arith)
 whole_built w sources gates (a ∷ []) wide many = absurd (omega arith)
 whole_built w sources gates (a ∷ b ∷ []) wide many = absurd (omega arith)
@@ -65,4 +69,4 @@ whole_built w sources gates (a ∷ b ∷ d ∷ inputs) wide many =
     ap (λ (n : ℕ). wide_built sources gates (joined_cover w.connective n w.on) (a ∷ b ∷ d ∷ inputs)) wide
     ∙ joined_built w.connective sources gates w.on (a ∷ b ∷ d ∷ inputs) (omega arith)
 
-pub ruleset wholes = (common_steps, front_itself, front_push, front_more, whole_value-is, whole_cost-wide, whole_built, length-unsigned)
+pub ruleset wholes = (common_steps, prefix_itself, prefix_push, prefix_more, whole_value-is, whole_cost-wide, whole_built, length-unsigned)

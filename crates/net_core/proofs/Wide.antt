@@ -10,12 +10,12 @@ use Rattle.net_theory.specs.declared.data.Sig.{Sig}
 use Rattle.net_theory.specs.Expansion.{is_none, is_plain, last_complemented, complemented, constant_sig, finished_by, or_built, terms_from, parity_built, cover_built, wide_built}
 use Rattle.net_theory.specs.ExpansionLaws.{cover_terms}
 use Rattle.net_theory.specs.WideLaws.{literals_count}
-use Rattle.net_core.proofs.Fronts.{front_itself, front_push, front_more}
+use Rattle.net_core.proofs.Prefixes.{prefix_itself, prefix_push, prefix_more}
 
 pub sum_first : (cubes rest : List (List ℕ)) (c : List ℕ) → cubes ≡ c ∷ rest → literal_sum cubes ≡ literal_count c + literal_sum rest
 sum_first cubes rest c e = ap literal_sum e ∙ sum_by-cons literal_count c rest
 
-pub ruleset terms_loop = (common_steps, front_itself, front_push, front_more, sum_first, literals_count)
+pub ruleset terms_loop = (common_steps, prefix_itself, prefix_push, prefix_more, sum_first, literals_count)
 
 pub last_complemented-none : (gs : List Gate) → length gs ≡ 0 → gs ≡ last_complemented gs
 unfolding last_complemented
@@ -39,12 +39,19 @@ unfolding wide_cost cubes_cost
 wide_cost-some c cubed e = cond-false c.parity (c.width - 1) (cubes_cost c) cubed ∙ cond-false (is_plain c.cubes) 0 _ e
 
 -- expanding a table given by cubes
-pub wide_built-plain : (sources : ℕ) (gates : List Gate) (c : Cover) (inputs : List Sig) → c.parity ≡ false → is_plain c.cubes ≡ true → wide_built sources gates c inputs ≡ record { gates = gates; sig = constant_sig (c.on && not (is_none c.cubes)) }
+pub wide_built-plain : (sources : ℕ) (gates : List Gate) (c : Cover) (inputs : List Sig) → c.parity ≡ false →
+    is_plain c.cubes ≡ true → wide_built sources gates c inputs ≡ record {
+      gates = gates;
+      sig = constant_sig (c.on && not (is_none c.cubes));
+    }
 unfolding wide_built cover_built
 wide_built-plain sources gates c inputs cubed e =
     cond-false c.parity (parity_built sources gates c.on inputs) (cover_built sources gates c inputs) cubed ∙ cond-true (is_plain c.cubes) _ _ e
 
-pub wide_built-some : (sources : ℕ) (gates : List Gate) (c : Cover) (inputs : List Sig) → c.parity ≡ false → is_plain c.cubes ≡ false → wide_built sources gates c inputs ≡ finished_by sources (length gates) c.on (or_built sources (terms_from sources inputs (record { gates = gates; outs = [] }) c.cubes))
+pub wide_built-some : (sources : ℕ) (gates : List Gate) (c : Cover) (inputs : List Sig) → c.parity ≡ false →
+    is_plain c.cubes ≡ false → wide_built sources gates c inputs ≡
+    finished_by sources (length gates) c.on (or_built sources
+    (terms_from sources inputs (record { gates = gates; outs = [] }) c.cubes))
 unfolding wide_built cover_built
 wide_built-some sources gates c inputs cubed e =
     cond-false c.parity (parity_built sources gates c.on inputs) (cover_built sources gates c inputs) cubed ∙ cond-false (is_plain c.cubes) _ _ e
@@ -53,4 +60,4 @@ pub some_cubes : (cubes : List (List ℕ)) → is_plain cubes ≡ false → 0 < 
 some_cubes [] e = absurd cc
 some_cubes (c ∷ cubes) e = omega arith
 
-pub ruleset wide_table = (common_steps, front_itself, front_push, front_more, cover_terms, wide_cost-some, wide_built-plain, wide_built-some, some_cubes)
+pub ruleset wide_table = (common_steps, prefix_itself, prefix_push, prefix_more, cover_terms, wide_cost-some, wide_built-plain, wide_built-some, some_cubes)

@@ -24,5 +24,5 @@ word_of Or = or_word
 word_of Xor = xor_word
 
 -- `old` is a prefix of `new`
-pub record IsFront (old new : List Gate) : Type 0 where
+pub record IsPrefixOfGates (old new : List Gate) : Type 0 where
   pub same : take (length old) new ≡ old

@@ -12,8 +12,8 @@ pub use Rattle.net_theory.specs.WellFormed
 pub use Rattle.net_theory.specs.Circuit
 pub use Rattle.net_theory.specs.Reach
 pub use Rattle.net_theory.specs.Moving
-pub use Rattle.net_theory.specs.Answers
-pub use Rattle.net_theory.specs.Dead
+pub use Rattle.net_theory.specs.Implements
+pub use Rattle.net_theory.specs.Dangling
 pub use Rattle.net_theory.specs.Naming
 pub use Rattle.net_theory.specs.BuiltLaws
 pub mod Marks

@@ -20,12 +20,12 @@ sink_marks marks [] = marks
 sink_marks marks (s ∷ ss) = sink_marks (with_mark marks s) ss
 
 -- the map that a list represents
-unfoldable pub places_of : List Sig → ℕ → Sig
-places_of places p = slice_index_or places p Zero
+unfoldable pub nodes_of : List Sig → ℕ → Sig
+nodes_of nodes p = slice_index_or nodes p Zero
 
 abbrev pub kept : List Sig → List Gate → Kept
-kept places gates = record { places = places_of places; gates = gates }
+kept nodes gates = record { nodes = nodes_of nodes; gates = gates }
 
--- the operands of each gate are below it; the first gate is the node `place`
-pub record AreAt (place : ℕ) (gs : List Gate) : Type 0 where
-  pub each : (i : ℕ) (g : Gate) → slice_get gs i ≡ Some g → IsGateAt (place + i) g
+-- the operands of each gate are below it; the first gate is the node `node`
+pub record AreAt (node : ℕ) (gs : List Gate) : Type 0 where
+  pub each : (i : ℕ) (g : Gate) → slice_get gs i ≡ Some g → IsGateAt (node + i) g

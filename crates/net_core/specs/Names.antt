@@ -2,7 +2,7 @@
 use Rattle.std.specs.Prelude.{◌≡◌, ℕ, ◌<◌, ◌^◌, if◌then◌else◌, List, [], ◌∷◌, ◌++◌, length, slice_get, slice_index_or, slice_set, Option, Some, None, option_and_then}
 use Rattle.std.proofs.Common.{drop}
 use Rattle.net_theory.specs.declared.data.Sig.{Sig}
-use Rattle.net_theory.specs.declared.data.Sig.TheVariants.{Zero, One, Place}
+use Rattle.net_theory.specs.declared.data.Sig.TheVariants.{Zero, One, Node}
 use Rattle.net_theory.specs.Document.{Name, has}
 use Rattle.net_theory.specs.Circuit.{Circuit}
 use Rattle.net_theory.specs.Naming.{output_on, Naming, taken_set}
@@ -23,11 +23,11 @@ pub record AreFirsts (firsts : List (Option ℕ)) (outputs : List Name) (at : �
 abbrev pub noted : List (Option ℕ) → Sig → ℕ → List (Option ℕ)
 noted firsts Zero at = firsts
 noted firsts One at = firsts
-noted firsts (Place p) at = slice_set firsts p (Some at)
+noted firsts (Node p) at = slice_set firsts p (Some at)
 
 abbrev pub naming : List Name → List Name → Naming
 naming names free = record { names = names; free = free }
 
 -- There are fewer than 2^63 names to avoid, as in every circuit that fits into memory.
-abbrev pub HasRoom : Circuit → Type 0
-HasRoom c = length (taken_set c) < 2 ^ 63
+abbrev pub HasRoomForNames : Circuit → Type 0
+HasRoomForNames c = length (taken_set c) < 2 ^ 63

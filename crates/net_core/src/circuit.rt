@@ -39,5 +39,12 @@ impl Model for Circuit {
 
     ghost Value = { circuit.Circuit };
 
-    ghost view = { λ c. record { model = c.model; inputs = c.inputs.items; outputs = c.outputs.items; clocks = c.clocks.items; latches = c.latches.items; net = c.net } };
+    ghost view = { λ c. record {
+      model = c.model;
+      inputs = c.inputs.items;
+      outputs = c.outputs.items;
+      clocks = c.clocks.items;
+      latches = c.latches.items;
+      net = c.net;
+    } };
 }

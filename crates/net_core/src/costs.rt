@@ -2,7 +2,9 @@
 
 ghost use Rattle.std.specs.Prelude.{◌≡◌, ◌+◌, ◌≤◌, ◌<◌, ◌^◌, length, count_by, ◌==◌};
 ghost use Rattle.net_theory.specs.Cover.{IsCover};
-ghost use Rattle.net_theory.specs.Cost.{unary_cost as unary_cost_of, binary_cost as binary_cost_of, literal_count as literal_count_of, literal_sum, is_not as is_not_of, wide_cost as wide_cost_of, cover_cost as cover_cost_of};
+ghost use Rattle.net_theory.specs.Cost.{unary_cost as unary_cost_of, binary_cost as binary_cost_of};
+ghost use Rattle.net_theory.specs.Cost.{literal_count as literal_count_of, literal_sum, is_not as is_not_of};
+ghost use Rattle.net_theory.specs.Cost.{wide_cost as wide_cost_of, cover_cost as cover_cost_of};
 
 use crate::cover::{Cover, Cube};
 use crate::expansion::is_plain;

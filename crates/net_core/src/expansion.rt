@@ -1,16 +1,21 @@
 //! Decomposition of a table into two-input gates, exactly as `specs/Expansion.antt` of `net_theory` defines
 //! them.
 
-ghost use Rattle.std.specs.Prelude.{◌≡◌, ◌+◌, ◌-◌, ◌≤◌, ◌<◌, ◌^◌, ◌&&◌, [], length, map, vec_len, All, OnOk, OnErr, IfOk};
+ghost use Rattle.std.specs.Prelude.{◌≡◌, ◌+◌, ◌-◌, ◌≤◌, ◌<◌, ◌^◌, ◌&&◌, [], length, map, vec_len, All, OnOk, OnErr};
+ghost use Rattle.std.specs.Prelude.{IfOk};
 ghost use Rattle.std.specs.List.{list_any};
 ghost use Rattle.net_theory.specs.Net.{IsSigBelow, sig_value, values_of, end_of};
 ghost use Rattle.net_theory.specs.Cover.{IsCover, cover_value as cover_value_of};
 ghost use Rattle.net_theory.specs.Cost.{cover_cost, wide_cost, literal_count, literal_sum};
-ghost use Rattle.net_theory.specs.Expansion.{constant_sig, with_not, unary_built, binary_built, literals as literals_of, and_word, join_all as join_all_of, or_built, terms_from, complemented as complemented_of, last_complemented, finished_by, asks_nothing as asks_nothing_of, is_plain as is_plain_of, wide_built, expanded};
+ghost use Rattle.net_theory.specs.Expansion.{constant_sig, with_not, unary_built, binary_built};
+ghost use Rattle.net_theory.specs.Expansion.{literals as literals_of, and_word, join_all as join_all_of, or_built};
+ghost use Rattle.net_theory.specs.Expansion.{terms_from, complemented as complemented_of, last_complemented};
+ghost use Rattle.net_theory.specs.Expansion.{finished_by, asks_nothing as asks_nothing_of, is_plain as is_plain_of};
+ghost use Rattle.net_theory.specs.Expansion.{wide_built, expanded};
 ghost use Rattle.net_theory.specs.BuiltLaws.{IsBuilt};
 ghost use Rattle.net_theory.specs.WideLaws.{AreTerms};
 ghost use Rattle.net_theory.specs.declared.data.Gate.{Gate};
-ghost use Rattle.net_core.specs.Growing.{built, joint, terms, IsFront};
+ghost use Rattle.net_core.specs.Growing.{built, joint, terms, IsPrefixOfGates};
 ghost use Rattle.net_core.specs.Wholes.{cover_of, IsBody};
 
 use crate::cover::{Cover, Cube};
@@ -33,7 +38,7 @@ fn constant(value: bool) -> Sig
 fn push_not(sources: u32, gates: &mut Vec<Gate>, a: Sig) -> Result<Sig, AllocError>
     requires { sources + vec_len gates.old ≤ 2 ^ 31 }
     ensures gate { IfOk result (λ sig. built gates.new.items sig ≡ with_not sources gates.old.items a) }
-    ensures front { IsFront gates.old.items gates.new.items }
+    ensures prefix { IsPrefixOfGates gates.old.items gates.new.items }
 {
     push_gate(
         sources,
@@ -47,7 +52,7 @@ fn push_not(sources: u32, gates: &mut Vec<Gate>, a: Sig) -> Result<Sig, AllocErr
 }
 
 /// Appends a table of one input, by its truth table `word`.
-#[tactic(auto, using(crate::proofs::Fronts::fronts), unfolding(net_theory::specs::Expansion::unary_built))]
+#[tactic(auto, using(crate::proofs::Prefixes::prefixes), unfolding(net_theory::specs::Expansion::unary_built))]
 pub fn expand_unary(
     sources: u32,
     gates: &mut Vec<Gate>,
@@ -56,7 +61,7 @@ pub fn expand_unary(
 ) -> Result<Sig, AllocError>
     requires { sources + vec_len gates.old ≤ 2 ^ 31 }
     ensures gates { IfOk result (λ sig. built gates.new.items sig ≡ unary_built sources gates.old.items word a) }
-    ensures front { IsFront gates.old.items gates.new.items }
+    ensures prefix { IsPrefixOfGates gates.old.items gates.new.items }
 {
     match word {
         0 => Ok(Sig::Zero),
@@ -67,7 +72,7 @@ pub fn expand_unary(
 }
 
 /// Appends a table of two inputs, by its truth table `word`.
-#[tactic(auto, using(crate::proofs::Fronts::fronts), unfolding(net_theory::specs::Expansion::binary_built))]
+#[tactic(auto, using(crate::proofs::Prefixes::prefixes), unfolding(net_theory::specs::Expansion::binary_built))]
 pub fn expand_binary(
     sources: u32,
     gates: &mut Vec<Gate>,
@@ -78,7 +83,7 @@ pub fn expand_binary(
     requires word { word < 16 }
     requires room { sources + vec_len gates.old ≤ 2 ^ 31 }
     ensures gates { IfOk result (λ sig. built gates.new.items sig ≡ binary_built sources gates.old.items word a b) }
-    ensures front { IsFront gates.old.items gates.new.items }
+    ensures prefix { IsPrefixOfGates gates.old.items gates.new.items }
 {
     match word {
         0 => Ok(Sig::Zero),
@@ -162,9 +167,10 @@ fn push_term(
     requires width { length cube.now ≡ length inputs.now }
     requires some { 0 < literal_count cube.now }
     requires room { sources + vec_len gates.old + literal_count cube.now ≤ 2 ^ 31 }
-    ensures gates { IfOk result (λ out. joint gates.new.items out ≡ join_all_of and_word sources gates.old.items (literals_of cube.now inputs.now)) }
+    ensures gates { IfOk result (λ out. joint gates.new.items out ≡ join_all_of and_word sources gates.old.items
+        (literals_of cube.now inputs.now)) }
     ensures count { OnOk result (vec_len gates.new + 1 ≡ vec_len gates.old + literal_count cube.now) }
-    ensures front { IsFront gates.old.items gates.new.items }
+    ensures prefix { IsPrefixOfGates gates.old.items gates.new.items }
 {
     let signals = literals(alloc, cube, inputs)?;
     join_all(Connective::And, sources, gates, &signals)
@@ -181,10 +187,11 @@ fn push_terms(
 ) -> Result<Vec<Signed>, AllocError>
     requires cubes { AreTerms (length inputs.now) cubes.now }
     requires room { sources + vec_len gates.old + literal_sum cubes.now ≤ 2 ^ 31 }
-    ensures terms { IfOk result (λ outs. terms gates.new.items outs.items ≡ terms_from sources inputs.now (terms gates.old.items []) cubes.now) }
+    ensures terms { IfOk result (λ outs. terms gates.new.items outs.items ≡
+        terms_from sources inputs.now (terms gates.old.items []) cubes.now) }
     ensures size { IfOk result (λ outs. vec_len outs ≡ length cubes.now) }
     ensures count { IfOk result (λ outs. vec_len gates.new + vec_len outs ≡ vec_len gates.old + literal_sum cubes.now) }
-    ensures front { IsFront gates.old.items gates.new.items }
+    ensures prefix { IsPrefixOfGates gates.old.items gates.new.items }
 {
     let mut outs = Vec::new(alloc);
     let mut left = cubes;
@@ -208,9 +215,10 @@ fn join_terms(
     requires cubes { AreTerms (length inputs.now) cubes.now }
     requires some { 0 < length cubes.now }
     requires room { sources + vec_len gates.old + literal_sum cubes.now ≤ 2 ^ 31 }
-    ensures gates { IfOk result (λ out. joint gates.new.items out ≡ or_built sources (terms_from sources inputs.now (terms gates.old.items []) cubes.now)) }
+    ensures gates { IfOk result (λ out. joint gates.new.items out ≡
+        or_built sources (terms_from sources inputs.now (terms gates.old.items []) cubes.now)) }
     ensures count { OnOk result (vec_len gates.new + 1 ≡ vec_len gates.old + literal_sum cubes.now) }
-    ensures front { IsFront gates.old.items gates.new.items }
+    ensures prefix { IsPrefixOfGates gates.old.items gates.new.items }
 {
     let outs = push_terms(alloc, sources, gates, cubes, inputs)?;
     join_all(Connective::Or, sources, gates, &outs)
@@ -242,7 +250,7 @@ fn complement_last(gates: &mut [Gate])
 
 /// The final signal: `out`, complemented unless its polarity and `on` cancel. The complement goes into the last
 /// gate; if the table added no gate (there were `before` gates), NOT is appended.
-#[tactic(auto, using(crate::proofs::Fronts::fronts), unfolding(net_theory::specs::Expansion::finished))]
+#[tactic(auto, using(crate::proofs::Prefixes::prefixes), unfolding(net_theory::specs::Expansion::finished))]
 pub fn finish(
     sources: u32,
     gates: &mut Vec<Gate>,
@@ -251,8 +259,9 @@ pub fn finish(
     on: bool,
 ) -> Result<Sig, AllocError>
     requires { sources + vec_len gates.old ≤ 2 ^ 31 }
-    ensures gates { IfOk result (λ sig. built gates.new.items sig ≡ finished_by sources before on (joint gates.old.items out)) }
-    ensures front { OnErr result (IsFront gates.old.items gates.new.items) }
+    ensures gates { IfOk result (λ sig. built gates.new.items sig ≡
+        finished_by sources before on (joint gates.old.items out)) }
+    ensures prefix { OnErr result (IsPrefixOfGates gates.old.items gates.new.items) }
 {
     let turned = if on { out.turned } else { !out.turned };
     if !turned {
@@ -277,8 +286,9 @@ fn expand_wide(
     requires cover { IsCover cover.now }
     requires width { cover.now.width ≡ length inputs.now }
     requires room { sources + vec_len gates.old + wide_cost cover.now < 2 ^ 31 }
-    ensures gates { IfOk result (λ sig. built gates.new.items sig ≡ wide_built sources gates.old.items cover.now inputs.now) }
-    ensures front { OnErr result (IsFront gates.old.items gates.new.items) }
+    ensures gates { IfOk result (λ sig. built gates.new.items sig ≡
+        wide_built sources gates.old.items cover.now inputs.now) }
+    ensures prefix { OnErr result (IsPrefixOfGates gates.old.items gates.new.items) }
 {
     if is_plain(&cover.cubes) {
         return Ok(constant(cover.on && !cover.cubes.is_empty()));
@@ -300,8 +310,9 @@ pub fn expand_gates(
     requires cover { IsCover cover.now }
     requires width { cover.now.width ≡ length inputs.now }
     requires room { sources + vec_len gates.old + cover_cost cover.now inputs.now < 2 ^ 31 }
-    ensures gates { IfOk result (λ sig. built gates.new.items sig ≡ expanded sources gates.old.items cover.now inputs.now) }
-    ensures front { OnErr result (IsFront gates.old.items gates.new.items) }
+    ensures gates { IfOk result (λ sig. built gates.new.items sig ≡
+        expanded sources gates.old.items cover.now inputs.now) }
+    ensures prefix { OnErr result (IsPrefixOfGates gates.old.items gates.new.items) }
 {
     match inputs {
         [] => Ok(constant(cover_value(cover, &[]))),
@@ -324,9 +335,12 @@ pub fn expand(
     requires width { cover.now.width ≡ length inputs.now }
     requires room { net.old.sources + length net.old.gates + cover_cost cover.now inputs.now < 2 ^ 31 }
     requires inputs { All (IsSigBelow (end_of net.old)) inputs.now }
-    ensures gates { IfOk result (λ sig. built net.new.gates sig ≡ expanded net.old.sources net.old.gates cover.now inputs.now) }
+    ensures gates { IfOk result (λ sig. built net.new.gates sig ≡
+        expanded net.old.sources net.old.gates cover.now inputs.now) }
     ensures others { OnOk result (net.new ≡ record net.old { gates = net.new.gates }) }
-    ensures value { IfOk result (λ sig. IsBuilt net.old.sources net.old.gates (cover_cost cover.now inputs.now) (λ given. cover_value_of cover.now (map (sig_value (values_of given net.old.sources net.old.gates)) inputs.now)) (built net.new.gates sig)) }
+    ensures value { IfOk result (λ sig. IsBuilt net.old.sources net.old.gates (cover_cost cover.now inputs.now)
+        (λ given. cover_value_of cover.now (map (sig_value (values_of given net.old.sources net.old.gates))
+        inputs.now)) (built net.new.gates sig)) }
     ensures err { OnErr result (net.new ≡ net.old) }
 {
     let before = net.gates.len();
@@ -350,9 +364,13 @@ pub fn expand_body(
     requires width { (cover_of body.now).width ≡ length inputs.now }
     requires room { net.old.sources + length net.old.gates + cover_cost (cover_of body.now) inputs.now < 2 ^ 31 }
     requires inputs { All (IsSigBelow (end_of net.old)) inputs.now }
-    ensures gates { IfOk result (λ sig. built net.new.gates sig ≡ expanded net.old.sources net.old.gates (cover_of body.now) inputs.now) }
+    ensures gates { IfOk result (λ sig. built net.new.gates sig ≡
+        expanded net.old.sources net.old.gates (cover_of body.now) inputs.now) }
     ensures others { OnOk result (net.new ≡ record net.old { gates = net.new.gates }) }
-    ensures value { IfOk result (λ sig. IsBuilt net.old.sources net.old.gates (cover_cost (cover_of body.now) inputs.now) (λ given. cover_value_of (cover_of body.now) (map (sig_value (values_of given net.old.sources net.old.gates)) inputs.now)) (built net.new.gates sig)) }
+    ensures value { IfOk result (λ sig. IsBuilt net.old.sources net.old.gates
+        (cover_cost (cover_of body.now) inputs.now) (λ given.
+        cover_value_of (cover_of body.now) (map (sig_value (values_of given net.old.sources net.old.gates))
+        inputs.now)) (built net.new.gates sig)) }
     ensures err { OnErr result (net.new ≡ net.old) }
 {
     let before = net.gates.len();

@@ -2,7 +2,7 @@
 
 ghost use Rattle.std.specs.Prelude.{◌≡◌, ◌+◌, ◌≤◌, ◌<◌, ◌^◌, length, vec_len, OnOk, IfOk};
 ghost use Rattle.net_theory.specs.Expansion.{with_gate, joined, join_from, join_all as join_all_of};
-ghost use Rattle.net_core.specs.Growing.{built, joint, word_of, IsFront};
+ghost use Rattle.net_core.specs.Growing.{built, joint, word_of, IsPrefixOfGates};
 
 use net_theory::{Gate, Sig, Signed};
 use op_basis::Op;
@@ -47,11 +47,11 @@ pub fn push_gate(sources: u32, gates: &mut Vec<Gate>, gate: Gate) -> Result<Sig,
     requires { sources + vec_len gates.old ≤ 2 ^ 31 }
     ensures gate { IfOk result (λ sig. built gates.new.items sig ≡ with_gate sources gates.old.items gate) }
     ensures count { OnOk result (vec_len gates.new ≡ vec_len gates.old + 1) }
-    ensures front { IsFront gates.old.items gates.new.items }
+    ensures prefix { IsPrefixOfGates gates.old.items gates.new.items }
 {
-    let place = sources + 1 + gates.len() as u32;
+    let node = sources + 1 + gates.len() as u32;
     gates.push(gate)?;
-    Ok(Sig::Place(place))
+    Ok(Sig::Node(node))
 }
 
 /// Joins `next` to `out`, the result so far.
@@ -63,9 +63,10 @@ fn join(
     next: Signed,
 ) -> Result<Signed, AllocError>
     requires { sources + vec_len gates.old ≤ 2 ^ 31 }
-    ensures gate { IfOk result (λ new. joint gates.new.items new ≡ joined (word_of connective) sources (joint gates.old.items out) next) }
+    ensures gate { IfOk result (λ new. joint gates.new.items new ≡
+        joined (word_of connective) sources (joint gates.old.items out) next) }
     ensures count { OnOk result (vec_len gates.new ≡ vec_len gates.old + 1) }
-    ensures front { IsFront gates.old.items gates.new.items }
+    ensures prefix { IsPrefixOfGates gates.old.items gates.new.items }
 {
     let gate = Gate {
         op: operator(connective, out.turned, next.turned),
@@ -77,7 +78,7 @@ fn join(
 }
 
 /// Joins `signals` to `first`.
-#[tactic(auto, using(crate::proofs::Fronts::fronts), unfolding(net_theory::specs::Expansion::join_from))]
+#[tactic(auto, using(crate::proofs::Prefixes::prefixes), unfolding(net_theory::specs::Expansion::join_from))]
 fn join_more(
     connective: Connective,
     sources: u32,
@@ -86,9 +87,10 @@ fn join_more(
     signals: &[Signed],
 ) -> Result<Signed, AllocError>
     requires { sources + vec_len gates.old + length signals.now ≤ 2 ^ 31 }
-    ensures gates { IfOk result (λ out. joint gates.new.items out ≡ join_from (word_of connective) sources (joint gates.old.items first) signals.now) }
+    ensures gates { IfOk result (λ out. joint gates.new.items out ≡
+        join_from (word_of connective) sources (joint gates.old.items first) signals.now) }
     ensures count { OnOk result (vec_len gates.new ≡ vec_len gates.old + length signals.now) }
-    ensures front { IsFront gates.old.items gates.new.items }
+    ensures prefix { IsPrefixOfGates gates.old.items gates.new.items }
 {
     let mut out = first;
     let mut left = signals;
@@ -100,7 +102,7 @@ fn join_more(
 }
 
 /// Joins all signals of a nonempty list.
-#[tactic(auto, using(crate::proofs::Fronts::fronts), unfolding(net_theory::specs::Expansion::join_all))]
+#[tactic(auto, using(crate::proofs::Prefixes::prefixes), unfolding(net_theory::specs::Expansion::join_all))]
 pub fn join_all(
     connective: Connective,
     sources: u32,
@@ -109,9 +111,10 @@ pub fn join_all(
 ) -> Result<Signed, AllocError>
     requires some { 0 < length signals.now }
     requires room { sources + vec_len gates.old + length signals.now ≤ 2 ^ 31 }
-    ensures gates { IfOk result (λ out. joint gates.new.items out ≡ join_all_of (word_of connective) sources gates.old.items signals.now) }
+    ensures gates { IfOk result (λ out. joint gates.new.items out ≡
+        join_all_of (word_of connective) sources gates.old.items signals.now) }
     ensures count { OnOk result (vec_len gates.new + 1 ≡ vec_len gates.old + length signals.now) }
-    ensures front { IsFront gates.old.items gates.new.items }
+    ensures prefix { IsPrefixOfGates gates.old.items gates.new.items }
 {
     match signals.split_first() {
         Some((first, rest)) => join_more(connective, sources, gates, *first, rest),

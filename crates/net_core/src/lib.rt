@@ -3,7 +3,7 @@
 //! definitions are those of `net_theory`, with a glossary in its `specs/Net.antt`.
 //!
 //! The main theorems: `expand` appends as many gates as the table costs and returns a signal with the
-//! table's value under every assignment; `drop_dead` keeps exactly the gates in the transitive fanin of
+//! table's value under every assignment; `remove_dangling` keeps exactly the gates in the transitive fanin of
 //! the sinks, and the values of all sinks.
 //!
 //! ```text
@@ -15,7 +15,7 @@
 mod circuit;
 mod costs;
 mod cover;
-mod dead;
+mod dangling;
 mod error;
 mod evaluation;
 mod expansion;
@@ -31,12 +31,12 @@ mod whole;
 pub use circuit::{Circuit, Latch};
 pub use costs::cover_cost;
 pub use cover::{Cover, Cube};
-pub use dead::drop_dead;
+pub use dangling::remove_dangling;
 pub use error::NetError;
 pub use evaluation::values;
 pub use expansion::{expand, expand_body};
 pub use joining::Connective;
-pub use keeping::{keep_gates, moved, moved_sinks, start_places};
+pub use keeping::{keep_gates, moved, moved_sinks, start_nodes};
 pub use marking::{mark_reached, mark_sinks};
 pub use name::Name;
 pub use naming::{GateNames, all_names, gate_names, take_latches, take_names};

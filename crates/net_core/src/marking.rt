@@ -14,8 +14,8 @@ fn mark(marks: &mut [bool], sig: Sig)
     requires { IsSigBelow (length marks.old) sig }
     ensures { set_of marks.new ≡ with_mark (set_of marks.old) sig }
 {
-    if let Sig::Place(place) = sig {
-        marks[place as usize] = true;
+    if let Sig::Node(node) = sig {
+        marks[node as usize] = true;
     }
 }
 

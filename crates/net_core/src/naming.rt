@@ -3,11 +3,14 @@
 ghost use Rattle.std.specs.Prelude.{◌≡◌, ◌^◌, ◌+◌, ◌-◌, ◌≤◌, ◌<◌, [], length, map, slice_get, vec_len, All, OnOk, IfOk};
 ghost use Rattle.std.specs.List.{filter_map};
 ghost use Rattle.net_theory.specs.Document.{has, latch_output};
-ghost use Rattle.net_theory.specs.Naming.{control_of, taken_names, taken_set, numbered as numbered_of, each_once, free_names, first_free, rest_free, named, names_after, names_in, gate_names as gate_names_of, first_spare as first_spare_of, second_spare as second_spare_of};
+ghost use Rattle.net_theory.specs.Naming.{control_of, taken_names, taken_set, numbered as numbered_of, each_once};
+ghost use Rattle.net_theory.specs.Naming.{free_names, first_free, rest_free, named, names_after, names_in};
+ghost use Rattle.net_theory.specs.Naming.{gate_names as gate_names_of, first_spare as first_spare_of};
+ghost use Rattle.net_theory.specs.Naming.{second_spare as second_spare_of};
 ghost use Rattle.net_theory.specs.Circuit.{IsProper};
 ghost use Rattle.std.specs.Option.{option_copied};
 ghost use Rattle.net_theory.specs.Net.{IsSigBelow};
-ghost use Rattle.net_core.specs.Names.{with_name, naming, first_name, noted, AreFirsts, HasRoom};
+ghost use Rattle.net_core.specs.Names.{with_name, naming, first_name, noted, AreFirsts, HasRoomForNames};
 
 use crate::circuit::{Circuit, Latch};
 use crate::name::Name;
@@ -116,7 +119,8 @@ fn next_free(
     end: u64,
 ) -> Result<(Name, u64), AllocError>
     ensures first { IfOk result (λ x. x.0 ≡ first_free (free_names taken.now.keys next (end - next))) }
-    ensures rest { IfOk result (λ x. free_names taken.now.keys x.1 (end - x.1) ≡ rest_free (free_names taken.now.keys next (end - next))) }
+    ensures rest { IfOk result (λ x. free_names taken.now.keys x.1 (end - x.1) ≡
+        rest_free (free_names taken.now.keys next (end - next))) }
 {
     for number in next..end {
         let name = numbered(alloc, number)?;
@@ -132,8 +136,8 @@ fn note_output(firsts: &mut [Option<usize>], sig: Sig, at: usize)
     requires { IsSigBelow (length firsts.old) sig }
     ensures { firsts.new ≡ noted firsts.old sig at }
 {
-    if let Sig::Place(place) = sig {
-        firsts[place as usize] = Some(at);
+    if let Sig::Node(node) = sig {
+        firsts[node as usize] = Some(at);
     }
 }
 
@@ -182,11 +186,11 @@ fn name_at(names: &[Name], at: usize) -> Option<&Name>
 
 /// The first output that a node drives.
 #[tactic(auto, using(crate::proofs::Firsts::found))]
-fn output_at<'a>(firsts: &[Option<usize>], outputs: &'a [Name], place: usize) -> Option<&'a Name>
-    requires { place < length firsts.now }
-    ensures { option_copied result ≡ first_name firsts.now outputs.now place }
+fn output_at<'a>(firsts: &[Option<usize>], outputs: &'a [Name], node: usize) -> Option<&'a Name>
+    requires { node < length firsts.now }
+    ensures { option_copied result ≡ first_name firsts.now outputs.now node }
 {
-    match firsts[place] {
+    match firsts[node] {
         Some(at) => name_at(outputs, at),
         None => None,
     }
@@ -201,7 +205,8 @@ fn push_name(
     next: u64,
     end: u64,
 ) -> Result<u64, AllocError>
-    ensures { IfOk result (λ after. naming names.new.items (free_names taken.now.keys after (end - after)) ≡ named (naming names.old.items (free_names taken.now.keys next (end - next))) (option_copied output.entry)) }
+    ensures { IfOk result (λ after. naming names.new.items (free_names taken.now.keys after (end - after)) ≡
+        named (naming names.old.items (free_names taken.now.keys next (end - next))) (option_copied output.entry)) }
 {
     match output {
         Some(output) => {
@@ -228,16 +233,18 @@ fn name_gates(
     end: u64,
 ) -> Result<(Vec<Name>, u64), AllocError>
     requires { first + length gates.now ≤ length firsts.now }
-    ensures { IfOk result (λ x. naming x.0.items (free_names taken.now.keys x.1 (end - x.1)) ≡ names_after (first_name firsts.now outputs.now) (naming [] (free_names taken.now.keys 1 (end - 1))) first gates.now) }
+    ensures { IfOk result (λ x. naming x.0.items (free_names taken.now.keys x.1 (end - x.1)) ≡
+        names_after (first_name firsts.now outputs.now) (naming [] (free_names taken.now.keys 1 (end - 1))) first
+        gates.now) }
 {
     let mut names = Vec::new(alloc);
     let mut next = 1;
-    let mut place = first;
+    let mut node = first;
     let mut left = gates;
     while let Some((_, rest)) = left.split_first() {
-        let output = output_at(firsts, outputs, place);
+        let output = output_at(firsts, outputs, node);
         next = push_name(alloc, taken, &mut names, output, next, end)?;
-        place += 1;
+        node += 1;
         left = rest;
     }
     Ok((names, next))
@@ -260,7 +267,8 @@ fn net_names(
     net: &Net,
 ) -> Result<(Vec<Name>, u64, u64), AllocError>
     requires { length outputs.now ≤ length net.now.sinks }
-    ensures names { IfOk result (λ x. naming x.0.items (free_names taken.now.keys x.1 (x.2 - x.1)) ≡ names_in taken.now.keys outputs.now net.now) }
+    ensures names { IfOk result (λ x. naming x.0.items (free_names taken.now.keys x.1 (x.2 - x.1)) ≡
+        names_in taken.now.keys outputs.now net.now) }
     ensures room { IfOk result (λ _. length taken.now.keys < 2 ^ 63) }
 {
     let sources = net.sources() as usize;
@@ -281,8 +289,10 @@ fn with_spares(
 ) -> Result<GateNames, AllocError>
     requires { length outputs.now ≤ length net.now.sinks }
     ensures names { IfOk result (λ x. x.names.items ≡ (names_in taken.now.keys outputs.now net.now).names) }
-    ensures first_spare { IfOk result (λ x. x.first_spare ≡ first_free (names_in taken.now.keys outputs.now net.now).free) }
-    ensures second_spare { IfOk result (λ x. x.second_spare ≡ first_free (rest_free (names_in taken.now.keys outputs.now net.now).free)) }
+    ensures first_spare { IfOk result (λ x. x.first_spare ≡
+        first_free (names_in taken.now.keys outputs.now net.now).free) }
+    ensures second_spare { IfOk result (λ x. x.second_spare ≡
+        first_free (rest_free (names_in taken.now.keys outputs.now net.now).free)) }
     ensures room { IfOk result (λ _. length taken.now.keys < 2 ^ 63) }
 {
     let (names, next, end) = net_names(alloc, taken, outputs, net)?;
@@ -304,7 +314,7 @@ pub fn all_names(alloc: Global, circuit: &Circuit) -> Result<GateNames, AllocErr
     ensures names { IfOk result (λ x. x.names.items ≡ gate_names_of circuit.now) }
     ensures first_spare { IfOk result (λ x. x.first_spare ≡ first_spare_of circuit.now) }
     ensures second_spare { IfOk result (λ x. x.second_spare ≡ second_spare_of circuit.now) }
-    ensures room { IfOk result (λ _. HasRoom circuit.now) }
+    ensures room { IfOk result (λ _. HasRoomForNames circuit.now) }
 {
     let taken = taken(alloc, circuit)?;
     with_spares(alloc, &taken, &circuit.outputs, &circuit.net)

@@ -1,7 +1,8 @@
 //! The values of covers, evaluated cube by cube, and truth tables of one and two inputs.
 
 ghost use Rattle.std.specs.Prelude.{◌≡◌, ◌<◌, false, true};
-ghost use Rattle.net_theory.specs.Cover.{is_asked as is_asked_of, matches as matches_of, is_matched as is_matched_of, cover_value as cover_value_of};
+ghost use Rattle.net_theory.specs.Cover.{is_asked as is_asked_of, matches as matches_of, is_matched as is_matched_of};
+ghost use Rattle.net_theory.specs.Cover.{cover_value as cover_value_of};
 ghost use Rattle.net_theory.specs.Expansion.{digit_of, unary_word as unary_word_of, binary_word as binary_word_of};
 
 use crate::cover::{Cover, Cube};

@@ -6,8 +6,9 @@ ghost use Rattle.std.specs.List.{list_all, list_any};
 ghost use Rattle.net_theory.specs.Whole.{itself};
 ghost use Rattle.net_theory.specs.Cover.{is_odd as is_odd_of, cover_value as cover_value_of};
 ghost use Rattle.net_theory.specs.Cost.{cover_cost as cover_cost_of};
-ghost use Rattle.net_theory.specs.Expansion.{unary_word as unary_word_of, binary_word as binary_word_of, unsigned as unsigned_of, expanded};
-ghost use Rattle.net_core.specs.Growing.{built, IsFront};
+ghost use Rattle.net_theory.specs.Expansion.{unary_word as unary_word_of, binary_word as binary_word_of};
+ghost use Rattle.net_theory.specs.Expansion.{unsigned as unsigned_of, expanded};
+ghost use Rattle.net_core.specs.Growing.{built, IsPrefixOfGates};
 ghost use Rattle.net_core.specs.Wholes.{whole_cover, cover_of, IsBody, joined_bits};
 
 use crate::costs::{binary_cost, cover_cost, unary_cost};
@@ -153,8 +154,9 @@ fn join_whole(
     requires width { whole.width ≡ length inputs.now }
     requires many { 2 < length inputs.now }
     requires room { sources + vec_len gates.old + whole.width ≤ 2 ^ 31 }
-    ensures gates { IfOk result (λ sig. built gates.new.items sig ≡ expanded sources gates.old.items (whole_cover whole) inputs.now) }
-    ensures front { OnErr result (IsFront gates.old.items gates.new.items) }
+    ensures gates { IfOk result (λ sig. built gates.new.items sig ≡
+        expanded sources gates.old.items (whole_cover whole) inputs.now) }
+    ensures prefix { OnErr result (IsPrefixOfGates gates.old.items gates.new.items) }
 {
     let before = gates.len();
     let signals = unsigned(alloc, inputs)?;
@@ -174,8 +176,9 @@ fn whole_gates(
     requires some { 0 < whole.width }
     requires width { whole.width ≡ length inputs.now }
     requires room { sources + vec_len gates.old + cover_cost_of (whole_cover whole) inputs.now < 2 ^ 31 }
-    ensures gates { IfOk result (λ sig. built gates.new.items sig ≡ expanded sources gates.old.items (whole_cover whole) inputs.now) }
-    ensures front { OnErr result (IsFront gates.old.items gates.new.items) }
+    ensures gates { IfOk result (λ sig. built gates.new.items sig ≡
+        expanded sources gates.old.items (whole_cover whole) inputs.now) }
+    ensures prefix { OnErr result (IsPrefixOfGates gates.old.items gates.new.items) }
 {
     match inputs {
         [] => unreachable!(),
@@ -222,8 +225,9 @@ pub fn body_gates(
     requires body { IsBody body.now }
     requires width { (cover_of body.now).width ≡ length inputs.now }
     requires room { sources + vec_len gates.old + cover_cost_of (cover_of body.now) inputs.now < 2 ^ 31 }
-    ensures gates { IfOk result (λ sig. built gates.new.items sig ≡ expanded sources gates.old.items (cover_of body.now) inputs.now) }
-    ensures front { OnErr result (IsFront gates.old.items gates.new.items) }
+    ensures gates { IfOk result (λ sig. built gates.new.items sig ≡
+        expanded sources gates.old.items (cover_of body.now) inputs.now) }
+    ensures prefix { OnErr result (IsPrefixOfGates gates.old.items gates.new.items) }
 {
     match body {
         Body::Cubes(cover) => expand_gates(alloc, sources, gates, cover, inputs),

@@ -8,10 +8,10 @@ use Rattle.text_core.specs.Lines.{Line}
 abbrev pub is_blank : ℕ → Bool
 is_blank b = b == 32 || b == 9
 
--- `front`, followed by `bytes` up to the first `#` of `bytes`
+-- `prefix`, followed by `bytes` up to the first `#` of `bytes`
 unfoldable pub before_from : List ℕ → List ℕ → List ℕ
-before_from front [] = front
-before_from front (b ∷ bs) = if b == 35 then front else before_from (front ++ b ∷ []) bs
+before_from prefix [] = prefix
+before_from prefix (b ∷ bs) = if b == 35 then prefix else before_from (prefix ++ b ∷ []) bs
 
 abbrev pub before_comment : List ℕ → List ℕ
 before_comment text = before_from [] text
@@ -25,18 +25,18 @@ unfoldable pub trimmed : List ℕ → List ℕ
 trimmed [] = []
 trimmed (b ∷ bs) = if is_blank b && is_nothing (trimmed bs) then [] else b ∷ trimmed bs
 
-abbrev pub behind_first : ℕ → Option (List ℕ) → Option (List ℕ)
-behind_first b rest = option_map (λ (front : List ℕ). b ∷ front) rest
+abbrev pub after_first : ℕ → Option (List ℕ) → Option (List ℕ)
+after_first b rest = option_map (λ (prefix : List ℕ). b ∷ prefix) rest
 
 -- a text without its last byte, if that is the given byte, else None
 unfoldable pub without_last : ℕ → List ℕ → Option (List ℕ)
 without_last c [] = None
 without_last c (b ∷ []) = if b == c then Some [] else None
-without_last c (b ∷ d ∷ bs) = behind_first b (without_last c (d ∷ bs))
+without_last c (b ∷ d ∷ bs) = after_first b (without_last c (d ∷ bs))
 
 abbrev pub or_whole : List ℕ → Option (List ℕ) → List ℕ
 or_whole text None = text
-or_whole text (Some front) = front
+or_whole text (Some prefix) = prefix
 
 -- A CR before the LF is removed; a CR without an LF after it stays.
 abbrev pub without_return : Line → List ℕ

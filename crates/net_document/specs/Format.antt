@@ -5,14 +5,14 @@ use Rattle.net_theory.specs.Document.{Document}
 use Rattle.net_theory.specs.WellFormed.{IsWellFormed}
 use Rattle.net_theory.specs.Cost.{cost}
 use Rattle.net_theory.specs.Circuit.{Circuit, IsProper, Describes, IsCircuitOf}
-use Rattle.net_theory.specs.Answers.{Answers}
+use Rattle.net_theory.specs.Implements.{Implements}
 use Rattle.net_theory.specs.Operators.{HasOperatorsWithin}
 use Rattle.net_theory.specs.ExchangeLaws.{with_net}
-use Rattle.net_core.specs.Names.{HasRoom}
+use Rattle.net_core.specs.Names.{HasRoomForNames}
 use Rattle.net_core.specs.declared.error.NetError.{NetError}
 use Rattle.net_core.specs.declared.error.NetError.TheVariants.{Memory}
-use Rattle.net_document.specs.Listed.{Listed, IsListed}
-use Rattle.net_document.specs.Refusals.{fault_of, IsRefused}
+use Rattle.net_document.specs.Listed.{Listed, IsWellListed}
+use Rattle.net_document.specs.Refusals.{fault_of, IsRefusedListing}
 
 -- `listed` parses a text, or gives the first error of its lines; `written` is the document that the writer makes
 -- of a circuit; `text` is the circuit's text; `operators` are the operators that gates may have.
@@ -42,13 +42,13 @@ pub record IsCircuitOfText (f : Format) (bytes : List ℕ) (c : Circuit) : Type 
 -- ---- texts that are refused
 
 -- the first error of the lines, or, if they have none, the fault of the document
-abbrev pub IsTold : Format → List ℕ → NetError → Type 0
-IsTold f bytes e = (f.listed bytes ≡ Err e) ⊎ ((l : Listed) × (f.listed bytes ≡ Ok l) × IsRefused l e)
+abbrev pub IsReported : Format → List ℕ → NetError → Type 0
+IsReported f bytes e = (f.listed bytes ≡ Err e) ⊎ ((l : Listed) × (f.listed bytes ≡ Ok l) × IsRefusedListing l e)
 
 -- The error with which a text may be refused. Out of memory is possible for any text.
 abbrev pub IsRefusedText : Format → List ℕ → NetError → Type 0
 IsRefusedText f bytes Memory = Unit {0}
-IsRefusedText f bytes e = IsTold f bytes e
+IsRefusedText f bytes e = IsReported f bytes e
 
 -- a fault of a text: an error other than out of memory
 abbrev pub HasNetFault : Format → List ℕ → NetError → Type 0
@@ -61,7 +61,7 @@ pub record IsReadBack (f : Format) (bytes : List ℕ) (d : Document) : Type 0 wh
   pub listed : Listed
   pub said : f.listed bytes ≡ Ok listed
   pub document : listed.document ≡ d
-  pub is : IsListed listed
+  pub is : IsWellListed listed
 
 -- The bytes are a text of `c`: they list the document that the writer makes of `c`. The document is well formed
 -- and without faults, has the model name of `c`, is equivalent to `c`, and costs at most as many gates as `c`
@@ -81,7 +81,7 @@ pub record IsTextOf (f : Format) (bytes : List ℕ) (c : Circuit) : Type 0 where
 -- Every listed name, latch and table is within its limits, and the lists of driven and used names match the
 -- document.
 abbrev pub ListsWell : Format → Type 0
-ListsWell f = (bytes : List ℕ) (l : Listed) → f.listed bytes ≡ Ok l → IsListed l
+ListsWell f = (bytes : List ℕ) (l : Listed) → f.listed bytes ≡ Ok l → IsWellListed l
 
 -- each gate of m has an operator of the format, or that of a gate of n
 abbrev pub CanOperate : Format → Net → Net → Type 0
@@ -94,5 +94,5 @@ pub record IsFormat (f : Format) (CanWrite : Circuit → Type 0) : Type 0 where
   pub lists : ListsWell f
   pub proper : (c : Circuit) → CanWrite c → IsProper c
   pub read_back : (c : Circuit) → CanWrite c → IsTextOf f (f.text c) c
-  pub kept : (bytes : List ℕ) (c : Circuit) → IsCircuitOfText f bytes c → HasRoom c → CanWrite c
-  pub exchanged : (c : Circuit) (m : Net) → CanWrite c → Answers c.net m → CanOperate f c.net m → CanWrite (with_net c m)
+  pub kept : (bytes : List ℕ) (c : Circuit) → IsCircuitOfText f bytes c → HasRoomForNames c → CanWrite c
+  pub exchanged : (c : Circuit) (m : Net) → CanWrite c → Implements c.net m → CanOperate f c.net m → CanWrite (with_net c m)

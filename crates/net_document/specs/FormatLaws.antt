@@ -9,10 +9,10 @@ use Rattle.net_theory.specs.Dependence.{IsFirstCyclic}
 use Rattle.net_theory.specs.WellFormed.{IsWellFormed}
 use Rattle.net_core.specs.declared.error.NetError.{NetError}
 use Rattle.net_core.specs.declared.error.NetError.TheVariants.{Syntax, NotSupported, MixedCover, TooWide, TooManyGates, DrivenTwice, Undriven, Cycle, LineTooLong, TooManyRows, NameTooLong, Memory}
-use Rattle.net_document.specs.Listed.{Listed, IsListed, times}
-use Rattle.net_document.specs.Refusals.{repeated, missing, undriven_in, twice_or, fault_of, IsRefused}
+use Rattle.net_document.specs.Listed.{Listed, IsWellListed, times}
+use Rattle.net_document.specs.Refusals.{repeated, missing, undriven_in, twice_or, fault_of, IsRefusedListing}
 use Rattle.net_document.specs.TimesLaws.{has_times, times_has, distinct_times, times_distinct}
-use Rattle.net_document.specs.Format.{Format, IsNetlist, IsTold, IsRefusedText, HasNetFault, ListsWell}
+use Rattle.net_document.specs.Format.{Format, IsNetlist, IsReported, IsRefusedText, HasNetFault, ListsWell}
 
 -- ---- documents without a fault
 
@@ -31,14 +31,14 @@ missing_none driven (n ∷ ns) each =
     cond-true (has driven n) _ _ (each n (has_first n ns)) ∙ missing_none driven ns (λ m there. each m (has_later n ns m there))
 
 -- each used name is driven, by the lists of names
-listed_driven : (l : Listed) → IsListed l → IsWellFormed l.document → (n : Name) → has (l.used ++ l.document.outputs) n ≡ true → has l.driven n ≡ true
+listed_driven : (l : Listed) → IsWellListed l → IsWellFormed l.document → (n : Name) → has (l.used ++ l.document.outputs) n ≡ true → has l.driven n ≡ true
 listed_driven l is well n there =
     let used : 1 ≤ times n (used_names l.document) = omega (arith, has_times (l.used ++ l.document.outputs) n there, is.used n) in
     let driven = all_has (λ (m : Name). has (driven_names l.document) m ≡ true) (used_names l.document) n well.used_driven (times_has (used_names l.document) n used) in
     times_has l.driven n (omega (arith, has_times (driven_names l.document) n driven, is.driven n))
 
 -- a well-formed document has no fault
-pub fault_none : (l : Listed) → IsListed l → IsWellFormed l.document → fault_of l ≡ None
+pub fault_none : (l : Listed) → IsWellListed l → IsWellFormed l.document → fault_of l ≡ None
 unfolding fault_of
 fault_none l is well =
     let distinct : are_distinct l.driven ≡ true = times_distinct l.driven (λ n. omega (arith, is.driven n, distinct_times (driven_names l.document) n well.driven_once)) in
@@ -52,7 +52,7 @@ fault_none l is well =
 abbrev Faults : Listed → NetError → Type 0
 Faults l e = (fault_of l ≡ Some e) ⊎ ((fault_of l ≡ None) × ((name : Name) × (e ≡ Cycle name) × IsFirstCyclic l.document name))
 
-refused_faults : (l : Listed) (e : NetError) → (e ≡ Memory → ⊥) → IsRefused l e → Faults l e
+refused_faults : (l : Listed) (e : NetError) → (e ≡ Memory → ⊥) → IsRefusedListing l e → Faults l e
 refused_faults l Memory never h = absurd (never refl)
 refused_faults l (Cycle name) never h = inr (h.0, (name, refl, h.1))
 refused_faults l (Syntax line) never h = inl h
@@ -70,17 +70,18 @@ fault_apart : {A : Type 0} (f : Option NetError) (a : NetError) → f ≡ Some a
 fault_apart f a x y = absurd (let e : Some a ≡ None = sym x ∙ y in cc)
 
 -- a well-formed document has no fault at all
-faultless : (l : Listed) (e : NetError) → IsListed l → IsWellFormed l.document → Faults l e → ⊥
-faultless l e is well (inl told) = fault_apart (fault_of l) e told (fault_none l is well)
-faultless l e is well (inr cycle) = well.acyclic cycle.1.2.place cycle.1.2.cyclic
+faultless : (l : Listed) (e : NetError) → IsWellListed l → IsWellFormed l.document → Faults l e → ⊥
+faultless l e is well (inl reported) = fault_apart (fault_of l) e reported (fault_none l is well)
+faultless l e is well (inr cycle) = well.acyclic cycle.1.2.node cycle.1.2.cyclic
 
 -- the first table that depends on itself is unique
 cyclic_one : (d : Document) (a b : Name) → IsFirstCyclic d a → IsFirstCyclic d b → a ≡ b
 cyclic_one d a b x y =
     ⊎_elim
-    (λ same. let table : Some x.table ≡ Some y.table = sym x.at ∙ ap (λ (k : ℕ). slice_get d.tables k) same ∙ y.at in sym x.output ∙ ap (λ (t : Table). t.output) (some_same x.table y.table table) ∙ y.output)
-    (λ other. ⊎_elim (λ lt. absurd (y.first x.place lt x.cyclic)) (λ gt. absurd (x.first y.place gt y.cyclic)) other)
-    (cases_order x.place y.place) where
+    (λ same. let table : Some x.table ≡ Some y.table = sym x.at ∙ ap (λ (k : ℕ). slice_get d.tables k) same ∙ y.at in
+    sym x.output ∙ ap (λ (t : Table). t.output) (some_same x.table y.table table) ∙ y.output)
+    (λ other. ⊎_elim (λ lt. absurd (y.first x.node lt x.cyclic)) (λ gt. absurd (x.first y.node gt y.cyclic)) other)
+    (cases_order x.node y.node) where
       some_same : (t u : Table) → Some t ≡ Some u → t ≡ u
       some_same t u e = cc
 
@@ -95,19 +96,19 @@ faults_one l a b (inr x) (inr y) = x.1.1 ∙ ap Cycle (cyclic_one l.document x.1
 
 -- ---- the fault of a text
 
-fault_told : (f : Format) (bytes : List ℕ) (e : NetError) → (e ≡ Memory → ⊥) → IsRefusedText f bytes e → IsTold f bytes e
-fault_told f bytes Memory never h = absurd (never refl)
-fault_told f bytes (Cycle name) never h = h
-fault_told f bytes (Syntax line) never h = h
-fault_told f bytes (NotSupported line word) never h = h
-fault_told f bytes (MixedCover line) never h = h
-fault_told f bytes (TooWide line) never h = h
-fault_told f bytes (TooManyGates count) never h = h
-fault_told f bytes (DrivenTwice name) never h = h
-fault_told f bytes (Undriven name) never h = h
-fault_told f bytes (LineTooLong line) never h = h
-fault_told f bytes (TooManyRows line) never h = h
-fault_told f bytes (NameTooLong line) never h = h
+fault_reported : (f : Format) (bytes : List ℕ) (e : NetError) → (e ≡ Memory → ⊥) → IsRefusedText f bytes e → IsReported f bytes e
+fault_reported f bytes Memory never h = absurd (never refl)
+fault_reported f bytes (Cycle name) never h = h
+fault_reported f bytes (Syntax line) never h = h
+fault_reported f bytes (NotSupported line word) never h = h
+fault_reported f bytes (MixedCover line) never h = h
+fault_reported f bytes (TooWide line) never h = h
+fault_reported f bytes (TooManyGates count) never h = h
+fault_reported f bytes (DrivenTwice name) never h = h
+fault_reported f bytes (Undriven name) never h = h
+fault_reported f bytes (LineTooLong line) never h = h
+fault_reported f bytes (TooManyRows line) never h = h
+fault_reported f bytes (NameTooLong line) never h = h
 
 ok_same : (r : Result Listed NetError) (k l : Listed) → r ≡ Ok k → r ≡ Ok l → k ≡ l
 ok_same r k l e f = cc
@@ -118,26 +119,26 @@ err_same r c d e f = cc
 ok_err : (r : Result Listed NetError) (l : Listed) (e : NetError) → r ≡ Ok l → r ≡ Err e → ⊥
 ok_err r l e x y = let f : Ok l ≡ Err e = sym x ∙ y in cc
 
-told_one : (f : Format) (bytes : List ℕ) (a b : NetError) → (a ≡ Memory → ⊥) → (b ≡ Memory → ⊥) → IsTold f bytes a → IsTold f bytes b → a ≡ b
-told_one f bytes a b na nb (inl x) (inl y) = err_same (f.listed bytes) a b x y
-told_one f bytes a b na nb (inl x) (inr y) = absurd (ok_err (f.listed bytes) y.0 a y.1 x)
-told_one f bytes a b na nb (inr x) (inl y) = absurd (ok_err (f.listed bytes) x.0 b x.1 y)
-told_one f bytes a b na nb (inr x) (inr y) =
-    faults_one y.0 a b (refused_faults y.0 a na (subst (λ (l : Listed). IsRefused l a) (ok_same (f.listed bytes) x.0 y.0 x.1 y.1) x.2)) (refused_faults y.0 b nb y.2)
+reported_one : (f : Format) (bytes : List ℕ) (a b : NetError) → (a ≡ Memory → ⊥) → (b ≡ Memory → ⊥) → IsReported f bytes a → IsReported f bytes b → a ≡ b
+reported_one f bytes a b na nb (inl x) (inl y) = err_same (f.listed bytes) a b x y
+reported_one f bytes a b na nb (inl x) (inr y) = absurd (ok_err (f.listed bytes) y.0 a y.1 x)
+reported_one f bytes a b na nb (inr x) (inl y) = absurd (ok_err (f.listed bytes) x.0 b x.1 y)
+reported_one f bytes a b na nb (inr x) (inr y) =
+    faults_one y.0 a b (refused_faults y.0 a na (subst (λ (l : Listed). IsRefusedListing l a) (ok_same (f.listed bytes) x.0 y.0 x.1 y.1) x.2)) (refused_faults y.0 b nb y.2)
 
-told_never : (f : Format) (bytes : List ℕ) (l : Listed) (e : NetError) → ListsWell f → f.listed bytes ≡ Ok l → IsWellFormed l.document → (e ≡ Memory → ⊥) → IsTold f bytes e → ⊥
-told_never f bytes l e is said well never (inl err) = ok_err (f.listed bytes) l e said err
-told_never f bytes l e is said well never (inr m) =
-    let refused : IsRefused l e = subst (λ (x : Listed). IsRefused x e) (ok_same (f.listed bytes) m.0 l m.1 said) m.2 in
+reported_never : (f : Format) (bytes : List ℕ) (l : Listed) (e : NetError) → ListsWell f → f.listed bytes ≡ Ok l → IsWellFormed l.document → (e ≡ Memory → ⊥) → IsReported f bytes e → ⊥
+reported_never f bytes l e is said well never (inl err) = ok_err (f.listed bytes) l e said err
+reported_never f bytes l e is said well never (inr m) =
+    let refused : IsRefusedListing l e = subst (λ (x : Listed). IsRefusedListing x e) (ok_same (f.listed bytes) m.0 l m.1 said) m.2 in
     faultless l e (is bytes l said) well (refused_faults l e never refused)
 
 -- a text has at most one fault
 pub fault_one : (f : Format) (bytes : List ℕ) (a b : NetError) → HasNetFault f bytes a → HasNetFault f bytes b → a ≡ b
-fault_one f bytes a b x y = told_one f bytes a b x.1 y.1 (fault_told f bytes a x.1 x.0) (fault_told f bytes b y.1 y.0)
+fault_one f bytes a b x y = reported_one f bytes a b x.1 y.1 (fault_reported f bytes a x.1 x.0) (fault_reported f bytes b y.1 y.0)
 
 -- and none if it is a netlist
 pub fault_never : (f : Format) (bytes : List ℕ) (e : NetError) → ListsWell f → IsNetlist f bytes → HasNetFault f bytes e → ⊥
-fault_never f bytes e is netlist h = told_never f bytes netlist.listed e is netlist.said netlist.well h.1 (fault_told f bytes e h.1 h.0)
+fault_never f bytes e is netlist h = reported_never f bytes netlist.listed e is netlist.said netlist.well h.1 (fault_reported f bytes e h.1 h.0)
 
 is_memory : (e : NetError) → ((e ≡ Memory → ⊥) → ⊥) → e ≡ Memory
 is_memory Memory h = refl

@@ -5,10 +5,10 @@ pub use Rattle.net_theory.specs.Circuit
 pub mod Listed
 pub mod Refusals
 pub mod Format
-pub mod Alike
+pub mod Equivalence
 pub mod TimesLaws
 pub mod FormatLaws
-pub mod AlikeLaws
+pub mod EquivalenceLaws
 pub mod OnceLaws
 pub use Rattle.text_core.specs.Lines
 pub mod Contents

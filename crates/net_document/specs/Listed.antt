@@ -16,7 +16,7 @@ times n names = count_by (is_same n) names
 
 -- Names, latches and tables are within their limits, and the lists have each name as often as the document drives
 -- or uses it.
-pub record IsListed (l : Listed) : Type 0 where
+pub record IsWellListed (l : Listed) : Type 0 where
   pub model : IsName l.document.model
   pub inputs : All IsName l.document.inputs
   pub outputs : All IsName l.document.outputs
@@ -27,5 +27,5 @@ pub record IsListed (l : Listed) : Type 0 where
   pub used : (n : Name) → times n (l.used ++ l.document.outputs) ≡ times n (used_names l.document)
 
 -- no table drives a latch's control
-abbrev pub AreFree : Document → Type 0
-AreFree d = All (λ (l : LatchLine). IsFreeOf (map table_output d.tables) l.latch.control) d.latches
+abbrev pub AreControlsFree : Document → Type 0
+AreControlsFree d = All (λ (l : LatchLine). IsFreeOf (map table_output d.tables) l.latch.control) d.latches

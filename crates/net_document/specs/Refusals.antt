@@ -33,12 +33,12 @@ fault_of l = if nat_lt 100000 (cost l.document) then Some (TooManyGates (cost l.
 
 -- The document may be refused with this error. A combinational loop is reported only if there is no other fault.
 -- Out of memory is always possible.
-abbrev pub IsRefused : Listed → NetError → Type 0
-IsRefused l Memory = Unit {0}
-IsRefused l (Cycle name) = (fault_of l ≡ None) × IsFirstCyclic l.document name
-IsRefused l e = fault_of l ≡ Some e
+abbrev pub IsRefusedListing : Listed → NetError → Type 0
+IsRefusedListing l Memory = Unit {0}
+IsRefusedListing l (Cycle name) = (fault_of l ≡ None) × IsFirstCyclic l.document name
+IsRefusedListing l e = fault_of l ≡ Some e
 
 -- the error is the fault or out of memory
-abbrev pub Tells : NetError → Option NetError → Type 0
-Tells Memory fault = Unit {0}
-Tells e fault = fault ≡ Some e
+abbrev pub IsReportOf : NetError → Option NetError → Type 0
+IsReportOf Memory fault = Unit {0}
+IsReportOf e fault = fault ≡ Some e

@@ -80,9 +80,9 @@ times_distinct (m ∷ ns) few =
     (λ apart. cons_distinct m ns apart (times_distinct ns (λ n. omega (arith, few n, more n m ns))))
     (cases_Bool (has ns m))
 
-repeated_told : (before : List Name) (n : Name) (ns : List Name) → has before n ≡ true → repeated before (n ∷ ns) ≡ None → ⊥
+repeated_reported : (before : List Name) (n : Name) (ns : List Name) → has before n ≡ true → repeated before (n ∷ ns) ≡ None → ⊥
 unfolding repeated
-repeated_told before n ns there e = let f : Some n ≡ None = sym (cond-true _ _ _ there) ∙ e in cc
+repeated_reported before n ns there e = let f : Some n ≡ None = sym (cond-true _ _ _ there) ∙ e in cc
 
 repeated_passed : (before : List Name) (n : Name) (ns : List Name) → has before n ≡ false → repeated before (n ∷ ns) ≡ repeated (before ++ n ∷ []) ns
 unfolding repeated
@@ -92,20 +92,24 @@ repeated_passed before n ns apart = cond-false _ _ _ apart
 distinct_more : (before : List Name) (n : Name) → are_distinct before ≡ true → has before n ≡ false → are_distinct (before ++ n ∷ []) ≡ true
 distinct_more before n d apart = append_distinct before (n ∷ []) d (cons_distinct n [] (no_name n) no_names) only where
   only : (m : Name) → has before m ≡ true → has (n ∷ []) m ≡ false
-  only m h = false_from_ne_true (has (n ∷ []) m) (λ t. ⊎_elim (λ same. let f : has before n ≡ true = subst (λ (x : Name). has before x ≡ true) same h in let g : true ≡ false = sym f ∙ apart in cc) (λ no. has_none m no) (has_cases n [] m t))
+  only m h = false_from_ne_true (has (n ∷ []) m)
+      (λ t. ⊎_elim (λ same. let f : has before n ≡ true = subst (λ (x : Name). has before x ≡ true) same h in
+      let g : true ≡ false = sym f ∙ apart in cc) (λ no. has_none m no) (has_cases n [] m t))
 
 -- if `repeated` finds none, the names are distinct
 pub repeated_distinct : (before ns : List Name) → are_distinct before ≡ true → repeated before ns ≡ None → are_distinct (before ++ ns) ≡ true
 repeated_distinct before [] d e = subst (λ (xs : List Name). are_distinct xs ≡ true) (sym (append-nil before)) d
 repeated_distinct before (n ∷ ns) d e =
     ⊎_elim
-    (λ there. absurd (repeated_told before n ns there e))
-    (λ apart. subst (λ (xs : List Name). are_distinct xs ≡ true) (append_assoc before (n ∷ []) ns) (repeated_distinct (before ++ n ∷ []) ns (distinct_more before n d apart) (sym (repeated_passed before n ns apart) ∙ e)))
+    (λ there. absurd (repeated_reported before n ns there e))
+    (λ apart. subst (λ (xs : List Name). are_distinct xs ≡ true) (append_assoc before (n ∷ []) ns)
+    (repeated_distinct (before ++ n ∷ []) ns (distinct_more before n d apart)
+    (sym (repeated_passed before n ns apart) ∙ e)))
     (cases_Bool (has before n))
 
-missing_told : (driven : List Name) (m : Name) (ns : List Name) → has driven m ≡ false → missing driven (m ∷ ns) ≡ None → ⊥
+missing_reported : (driven : List Name) (m : Name) (ns : List Name) → has driven m ≡ false → missing driven (m ∷ ns) ≡ None → ⊥
 unfolding missing
-missing_told driven m ns apart e = let f : Some m ≡ None = sym (cond-false _ _ _ apart) ∙ e in cc
+missing_reported driven m ns apart e = let f : Some m ≡ None = sym (cond-false _ _ _ apart) ∙ e in cc
 
 missing_passed : (driven : List Name) (m : Name) (ns : List Name) → has driven m ≡ true → missing driven (m ∷ ns) ≡ missing driven ns
 unfolding missing
@@ -117,5 +121,5 @@ missing_driven driven [] n e h = absurd (has_none n h)
 missing_driven driven (m ∷ ns) n e h =
     ⊎_elim
     (λ there. ⊎_elim (λ same. subst (λ (x : Name). has driven x ≡ true) (sym same) there) (λ later. missing_driven driven ns n (sym (missing_passed driven m ns there) ∙ e) later) (has_cases m ns n h))
-    (λ apart. absurd (missing_told driven m ns apart e))
+    (λ apart. absurd (missing_reported driven m ns apart e))
     (cases_Bool (has driven m))

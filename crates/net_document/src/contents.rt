@@ -2,7 +2,8 @@
 //! that follows the recursion of its definition.
 ghost use Rattle.std.specs.Prelude.{◌≡◌};
 ghost use Rattle.std.specs.Option.{option_copied};
-ghost use Rattle.net_document.specs.Contents.{is_blank as is_blank_of, before_comment as before_comment_of, trimmed, without_last as without_last_of};
+ghost use Rattle.net_document.specs.Contents.{is_blank as is_blank_of, before_comment as before_comment_of, trimmed};
+ghost use Rattle.net_document.specs.Contents.{without_last as without_last_of};
 ghost use Rattle.net_document.specs.Contents.{without_return as without_return_of, content_of as content_of_line};
 
 /// Whether a byte is a space or a tab.
@@ -13,7 +14,7 @@ pub fn is_blank(byte: u8) -> bool
 }
 
 /// `text` before the first `#`.
-#[tactic(auto, using(text_core::specs::Cuts::cuts), unfolding(crate::specs::Contents::before_from))]
+#[tactic(auto, using(text_core::specs::Splits::splits), unfolding(crate::specs::Contents::before_from))]
 fn before_comment(text: &[u8]) -> &[u8]
     ensures content { result.now ≡ before_comment_of text.now }
 {
@@ -21,8 +22,8 @@ fn before_comment(text: &[u8]) -> &[u8]
     let mut left = text;
     while let Some((byte, rest)) = left.split_first() {
         if *byte == b'#' {
-            let (front, _) = text.split_at(at);
-            return front;
+            let (prefix, _) = text.split_at(at);
+            return prefix;
         }
         at += 1;
         left = rest;
@@ -36,11 +37,11 @@ fn trim(text: &[u8]) -> &[u8]
     ensures { result.now ≡ trimmed text.now }
 {
     let mut left = text;
-    while let Some((last, front)) = left.split_last() {
+    while let Some((last, prefix)) = left.split_last() {
         if !is_blank(*last) {
             return left;
         }
-        left = front;
+        left = prefix;
     }
     left
 }
@@ -50,8 +51,8 @@ fn trim(text: &[u8]) -> &[u8]
 pub fn without_last(byte: u8, text: &[u8]) -> Option<&[u8]>
     ensures { option_copied result ≡ without_last_of byte text.now }
 {
-    let (last, front) = text.split_last()?;
-    if *last == byte { Some(front) } else { None }
+    let (last, prefix) = text.split_last()?;
+    if *last == byte { Some(prefix) } else { None }
 }
 
 /// A line without its final CR, if an LF follows it.
@@ -62,7 +63,7 @@ fn without_return(text: &[u8], ended: bool) -> &[u8]
         return text;
     }
     match without_last(b'\r', text) {
-        Some(front) => front,
+        Some(prefix) => prefix,
         None => text,
     }
 }

@@ -19,7 +19,8 @@ mod names;
 pub use contents::{content_of, is_blank, without_last};
 pub use document::{Document, LatchLine, Listed, Table};
 pub use laws::{
-    documents_of_like_circuits_are_the_same, laws_of_counts, laws_of_refusals, netlists_are_read,
+    documents_of_equivalent_circuits_are_equivalent, laws_of_counts, laws_of_refusals,
+    netlists_are_read,
 };
 pub use name_bytes::{is_long_line, is_long_word, is_name};
 pub use names::add_copies;

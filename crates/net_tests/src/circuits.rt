@@ -35,9 +35,9 @@ fn is_refused(alloc: Global, bytes: &[u8], word: &str, name: &[u8]) -> bool {
         }
         Err(error) => error,
     };
-    let told = names(&error, word, name);
+    let reported = names(&error, word, name);
     drop(error);
-    told
+    reported
 }
 
 /// Texts, and the texts of their circuits.

@@ -68,7 +68,7 @@ const FAULTS: &[(&str, &str, u32)] = &[
 ];
 
 #[test]
-fn faults_are_told_with_their_lines(rt: HostRuntime) {
+fn faults_are_reported_with_their_lines(rt: HostRuntime) {
     for &(text, word, line) in FAULTS {
         assert!(rt;
             is_refused(rt.alloc(), text.as_bytes(), word, line),

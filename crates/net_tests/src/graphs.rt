@@ -1,20 +1,20 @@
 //! Tests of topological orders of graphs.
 
-use graph_core::{Reads, visit_all};
+use graph_core::{Fanins, visit_all};
 use std::alloc::{AllocError, Global};
 
 /// The fanins of the nodes of a graph.
-fn reads_of(alloc: Global, graph: &[&[u32]]) -> Result<Vec<Reads>, AllocError> {
+fn fanins_of(alloc: Global, graph: &[&[u32]]) -> Result<Vec<Fanins>, AllocError> {
     let mut reads = Vec::new(alloc);
     for nodes in graph {
-        reads.push(Reads::new(Vec::from_slice(alloc, nodes)?))?;
+        reads.push(Fanins::new(Vec::from_slice(alloc, nodes)?))?;
     }
     Ok(reads)
 }
 
 /// Whether the graph has the topological order `order`; None means that a node is on a cycle.
 fn is_ordered(alloc: Global, graph: &[&[u32]], order: Option<&[u32]>) -> Result<bool, AllocError> {
-    let reads = reads_of(alloc, graph)?;
+    let reads = fanins_of(alloc, graph)?;
     if reads.len() > 8 {
         return Ok(false);
     }

@@ -1,7 +1,7 @@
 //! Tests of the lines of BLIF texts: what they list, and which fault is reported. No contract states these rules
 //! one by one.
 
-use crate::refusals::tells;
+use crate::refusals::reports;
 use blif_text::{Listed, read_listed};
 use net_core::{Body, NetError};
 use std::alloc::Global;
@@ -57,9 +57,9 @@ pub fn has_fault(read: Result<Listed, NetError>, word: &str, line: u32) -> bool 
         }
         Err(error) => error,
     };
-    let told = tells(&error, word, line);
+    let reported = reports(&error, word, line);
     drop(error);
-    told
+    reported
 }
 
 /// Whether `text` lists `counts` of each kind, and `lines` cover lines.
@@ -143,7 +143,7 @@ const FAULTS: &[(&str, &str, u32)] = &[
 ];
 
 #[test]
-fn faults_are_told(rt: HostRuntime) {
+fn faults_are_reported(rt: HostRuntime) {
     for &(text, word, line) in FAULTS {
         assert!(rt;
             is_refused(rt.alloc(), text.as_bytes(), word, line),

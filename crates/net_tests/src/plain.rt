@@ -1,6 +1,6 @@
 //! Tests of `plain`: values of cubes and nodes, computed from the definitions.
 
-use net_theory::plain::{matches_bits, place_value};
+use net_theory::plain::{matches_bits, node_value};
 use net_theory::{Gate, Sig};
 use op_basis::Op;
 
@@ -25,35 +25,35 @@ fn a_full_adder_adds(rt: HostRuntime) {
     let gates = [
         Gate {
             op: Op::new(6),
-            a: Sig::Place(1),
-            b: Sig::Place(2),
+            a: Sig::Node(1),
+            b: Sig::Node(2),
         },
         Gate {
             op: Op::new(6),
-            a: Sig::Place(3),
-            b: Sig::Place(4),
+            a: Sig::Node(3),
+            b: Sig::Node(4),
         },
         Gate {
             op: Op::new(1),
-            a: Sig::Place(1),
-            b: Sig::Place(2),
+            a: Sig::Node(1),
+            b: Sig::Node(2),
         },
         Gate {
             op: Op::new(1),
-            a: Sig::Place(3),
-            b: Sig::Place(4),
+            a: Sig::Node(3),
+            b: Sig::Node(4),
         },
         Gate {
             op: Op::new(7),
-            a: Sig::Place(6),
-            b: Sig::Place(7),
+            a: Sig::Node(6),
+            b: Sig::Node(7),
         },
     ];
     for row in 0..8u32 {
         let given = [(row & 1) == 1, (row >> 1) & 1 == 1, (row >> 2) & 1 == 1];
         let sum = (row & 1) + ((row >> 1) & 1) + (row >> 2);
-        let odd = place_value(&given, &gates, 5) == (sum & 1 == 1);
-        let carry = place_value(&given, &gates, 8) == (sum > 1);
+        let odd = node_value(&given, &gates, 5) == (sum & 1 == 1);
+        let carry = node_value(&given, &gates, 8) == (sum > 1);
         assert!(rt; odd && carry, "{row}");
     }
 }

@@ -17,24 +17,24 @@ fn fault(error: &NetError) -> (&'static str, u32) {
 }
 
 /// Whether an error is `word` at line `line`.
-pub fn tells(error: &NetError, word: &str, line: u32) -> bool {
-    let (told, at) = fault(error);
-    told == word && at == line
+pub fn reports(error: &NetError, word: &str, line: u32) -> bool {
+    let (reported, at) = fault(error);
+    reported == word && at == line
 }
 
 /// The name of an error with a netlist name, and that name.
 fn named(error: &NetError) -> (&'static str, &[u8]) {
     match error {
-        NetError::DrivenTwice(told) => ("DrivenTwice", told.get()),
-        NetError::Undriven(told) => ("Undriven", told.get()),
-        NetError::Cycle(told) => ("Cycle", told.get()),
-        NetError::NotSupported(_, told) => ("NotSupported", told.get()),
+        NetError::DrivenTwice(reported) => ("DrivenTwice", reported.get()),
+        NetError::Undriven(reported) => ("Undriven", reported.get()),
+        NetError::Cycle(reported) => ("Cycle", reported.get()),
+        NetError::NotSupported(_, reported) => ("NotSupported", reported.get()),
         _ => ("another", b""),
     }
 }
 
 /// Whether an error is `word` with the name `name`.
 pub fn names(error: &NetError, word: &str, name: &[u8]) -> bool {
-    let (told, at) = named(error);
-    told == word && at == name
+    let (reported, at) = named(error);
+    reported == word && at == name
 }

@@ -52,12 +52,12 @@ pub fn cover(alloc: Global, cubes: &[&[u8]], on: bool) -> Result<Cover, AllocErr
 }
 
 /// The value of a signal, as a digit.
-fn digit(sig: Sig, places: &[bool]) -> u8 {
+fn digit(sig: Sig, nodes: &[bool]) -> u8 {
     let value = match sig {
         Sig::Zero => false,
         Sig::One => true,
-        Sig::Place(place) => places
-            .get((place as usize).wrapping_sub(1))
+        Sig::Node(node) => nodes
+            .get((node as usize).wrapping_sub(1))
             .copied()
             .unwrap_or(false),
     };
@@ -68,13 +68,9 @@ fn digit(sig: Sig, places: &[bool]) -> u8 {
 fn value_on(alloc: Global, net: &Net, sig: Sig, row: u32) -> Result<u8, AllocError>
     requires { net.now.sources ≡ 3 }
 {
-    let mut places = vec![in alloc; false; 3 + net.gates().len()]?;
-    values(
-        net,
-        &[row & 4 == 4, row & 2 == 2, row & 1 == 1],
-        &mut places,
-    );
-    Ok(digit(sig, &places))
+    let mut nodes = vec![in alloc; false; 3 + net.gates().len()]?;
+    values(net, &[row & 4 == 4, row & 2 == 2, row & 1 == 1], &mut nodes);
+    Ok(digit(sig, &nodes))
 }
 
 /// Whether a signal of a net of three sources has the values `digits` under the assignments 000, 001, 010 and so
@@ -100,7 +96,7 @@ fn is_expanded(
 ) -> Result<bool, AllocError>
     requires { cover.now.width ≡ 3 }
 {
-    let inputs = [Sig::Place(1), Sig::Place(2), Sig::Place(3)];
+    let inputs = [Sig::Node(1), Sig::Node(2), Sig::Node(3)];
     if !is_cover(cover) || cover.cubes.len() > 4096 || cover_cost(cover, &inputs) > 1000 {
         return Ok(false);
     }
@@ -156,7 +152,7 @@ fn is_joined(alloc: Global, whole: Whole, digits: &[u8]) -> Result<bool, AllocEr
     requires { whole.width ≡ 3 }
 {
     let mut net = Net::new(3, Vec::new(alloc), Vec::new(alloc));
-    let inputs = [Sig::Place(1), Sig::Place(2), Sig::Place(3)];
+    let inputs = [Sig::Node(1), Sig::Node(2), Sig::Node(3)];
     let sig = expand_body(alloc, &mut net, &Body::Joined(whole), &inputs)?;
     let few = net.gates().len() == 2;
     let rows = has_rows(alloc, &net, sig, digits);

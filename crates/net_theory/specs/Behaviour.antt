@@ -22,7 +22,7 @@ pub record HasOneMap (d : Document) (given : Name → Bool) : Type 0 where
 -- are the same names in the same order, and their latches agree in order, output, control and initial
 -- value. Under every assignment of the inputs and the latches' outputs, each has exactly one valuation (on
 -- driven names), and the two agree on the outputs and the latches' inputs.
-pub record Same (d e : Document) : Type 0 where
+pub record IsEquivalent (d e : Document) : Type 0 where
   pub inputs : d.inputs ≡ e.inputs
   pub outputs : d.outputs ≡ e.outputs
   pub clocks : d.clocks ≡ e.clocks

@@ -10,7 +10,7 @@ use Rattle.net_theory.specs.Net.{IsSigBelow, AreGates, sig_value, values_of}
 use Rattle.net_theory.specs.Cover.{Cover, cover_value}
 use Rattle.net_theory.specs.Expansion.{Built, gate_of, with_gate, with_not, constant_sig, digit_of, unary_word, binary_word, unary_built, binary_built}
 use Rattle.net_theory.specs.Cost.{unary_cost, binary_cost}
-use Rattle.net_theory.specs.ValueLaws.{IsGrown, grown_none, grown_push, value-last}
+use Rattle.net_theory.specs.ValueLaws.{ExtendsGates, grown_none, grown_push, value-last}
 
 -- ---- choices
 
@@ -27,13 +27,14 @@ differs a b e same = grind (arith, nat_tests)
 
 -- `b` extends the gates `old` by `more` gates, and its signal has the value `bit`.
 pub record IsBuilt (sources : ℕ) (old : List Gate) (more : ℕ) (bit : (ℕ → Bool) → Bool) (b : Built) : Type 0 where
-  pub grown : IsGrown sources old b.gates
+  pub grown : ExtendsGates sources old b.gates
   pub count : length b.gates ≡ length old + more
   pub below : IsSigBelow (sources + 1 + length b.gates) b.sig
   pub value : (given : ℕ → Bool) → sig_value (values_of given sources b.gates) b.sig ≡ bit given
 
 -- with an equal `bit`
-pub built_same : (sources : ℕ) (old : List Gate) (more : ℕ) (bit bit' : (ℕ → Bool) → Bool) (b : Built) → ((given : ℕ → Bool) → bit given ≡ bit' given) → IsBuilt sources old more bit b → IsBuilt sources old more bit' b
+pub built_same : (sources : ℕ) (old : List Gate) (more : ℕ) (bit bit' : (ℕ → Bool) → Bool) (b : Built) →
+    ((given : ℕ → Bool) → bit given ≡ bit' given) → IsBuilt sources old more bit b → IsBuilt sources old more bit' b
 built_same sources old more bit bit' b same is =
     record { grown = is.grown; count = is.count; below = is.below; value = λ given. is.value given ∙ same given }
 
@@ -42,9 +43,9 @@ pub built_count : (sources : ℕ) (old : List Gate) (more more' : ℕ) (bit : (�
 built_count sources old more more' bit b same is =
     record { grown = is.grown; count = omega (arith, is.count); below = is.below; value = is.value }
 
-constant_below : (place : ℕ) (b : Bool) → IsSigBelow place (constant_sig b)
-constant_below place true = tt
-constant_below place false = tt
+constant_below : (node : ℕ) (b : Bool) → IsSigBelow node (constant_sig b)
+constant_below node true = tt
+constant_below node false = tt
 
 constant_value : (bits : ℕ → Bool) (b : Bool) → sig_value bits (constant_sig b) ≡ b
 constant_value bits true = refl
@@ -61,12 +62,17 @@ built_constant sources old b are =
     }
 
 -- a copy
-pub built_copy : (sources : ℕ) (old : List Gate) (a : Sig) → AreGates sources old → IsSigBelow (sources + 1 + length old) a → IsBuilt sources old 0 (λ given. sig_value (values_of given sources old) a) (record { gates = old; sig = a })
+pub built_copy : (sources : ℕ) (old : List Gate) (a : Sig) → AreGates sources old →
+    IsSigBelow (sources + 1 + length old) a → IsBuilt sources old 0 (λ given.
+    sig_value (values_of given sources old) a) (record { gates = old; sig = a })
 built_copy sources old a are below =
     record { grown = grown_none sources old are; count = omega arith; below = below; value = λ given. refl }
 
 -- one gate
-pub built_gate : (sources : ℕ) (old : List Gate) (op : ℕ) (a b : Sig) → AreGates sources old → op < 16 → IsSigBelow (sources + 1 + length old) a → IsSigBelow (sources + 1 + length old) b → IsBuilt sources old 1 (λ given. apply op (sig_value (values_of given sources old) a) (sig_value (values_of given sources old) b)) (with_gate sources old (gate_of op a b))
+pub built_gate : (sources : ℕ) (old : List Gate) (op : ℕ) (a b : Sig) → AreGates sources old → op < 16 →
+    IsSigBelow (sources + 1 + length old) a → IsSigBelow (sources + 1 + length old) b →
+    IsBuilt sources old 1 (λ given. apply op (sig_value (values_of given sources old) a)
+    (sig_value (values_of given sources old) b)) (with_gate sources old (gate_of op a b))
 built_gate sources old op a b are low first second =
     record {
       grown = grown_push sources old (gate_of op a b) are (record { operator = low; first = first; second = second });
@@ -80,7 +86,9 @@ nand_twice true = refl
 nand_twice false = refl
 
 -- NOT
-pub built_not : (sources : ℕ) (old : List Gate) (a : Sig) → AreGates sources old → IsSigBelow (sources + 1 + length old) a → IsBuilt sources old 1 (λ given. not (sig_value (values_of given sources old) a)) (with_not sources old a)
+pub built_not : (sources : ℕ) (old : List Gate) (a : Sig) → AreGates sources old →
+    IsSigBelow (sources + 1 + length old) a → IsBuilt sources old 1 (λ given.
+    not (sig_value (values_of given sources old) a)) (with_not sources old a)
 built_not sources old a are below =
     built_same sources old 1
     (λ given. apply 14 (sig_value (values_of given sources old) a) (sig_value (values_of given sources old) a))
@@ -115,7 +123,8 @@ apply_three false = refl
 abbrev IsUnary : ℕ → List Gate → Sig → ℕ → Built → Type 0
 IsUnary sources old a word b = IsBuilt sources old (unary_cost word) (λ given. apply_unary word (sig_value (values_of given sources old) a)) b
 
-pub unary_is : (sources : ℕ) (old : List Gate) (word : ℕ) (a : Sig) → AreGates sources old → IsSigBelow (sources + 1 + length old) a → word < 4 → IsUnary sources old a word (unary_built sources old word a)
+pub unary_is : (sources : ℕ) (old : List Gate) (word : ℕ) (a : Sig) → AreGates sources old →
+    IsSigBelow (sources + 1 + length old) a → word < 4 → IsUnary sources old a word (unary_built sources old word a)
 unfolding unary_built
 unary_is sources old word a are below low =
     by_test (IsUnary sources old a word) (word == 0) _ _
@@ -172,7 +181,9 @@ IsBinary sources old a b word x = IsBuilt sources old (binary_cost word) (λ giv
 costs_one : (word : ℕ) → word ≢ 0 → word ≢ 15 → word ≢ 3 → word ≢ 5 → 1 ≡ binary_cost word
 costs_one word n0 n15 n3 n5 = grind (arith, nat_tests)
 
-pub binary_is : (sources : ℕ) (old : List Gate) (word : ℕ) (a b : Sig) → AreGates sources old → IsSigBelow (sources + 1 + length old) a → IsSigBelow (sources + 1 + length old) b → word < 16 → IsBinary sources old a b word (binary_built sources old word a b)
+pub binary_is : (sources : ℕ) (old : List Gate) (word : ℕ) (a b : Sig) → AreGates sources old →
+    IsSigBelow (sources + 1 + length old) a → IsSigBelow (sources + 1 + length old) b → word < 16 →
+    IsBinary sources old a b word (binary_built sources old word a b)
 unfolding binary_built
 binary_is sources old word a b are first second low =
     by_test (IsBinary sources old a b word) (word == 0) _ _
@@ -187,7 +198,8 @@ binary_is sources old word a b are first second low =
     (λ e12. rw (eqb-true word 12 e12) (built_same sources old 1 _ _ _ (λ given. apply_12 _ _) (built_not sources old a are first)))
     (λ n12. by_test (IsBinary sources old a b word) (word == 10) _ _
     (λ e10. rw (eqb-true word 10 e10) (built_same sources old 1 _ _ _ (λ given. apply_10 _ _) (built_not sources old b are second)))
-    (λ n10. built_count sources old 1 (binary_cost word) _ _ (costs_one word (differs word 0 n0) (differs word 15 n15) (differs word 3 n3) (differs word 5 n5)) (built_gate sources old word a b are low first second)))))))
+    (λ n10. built_count sources old 1 (binary_cost word) _ _ (costs_one word (differs word 0 n0) (differs word 15 n15)
+    (differs word 3 n3) (differs word 5 n5)) (built_gate sources old word a b are low first second)))))))
 
 -- ---- the truth tables of covers
 
@@ -225,11 +237,19 @@ word4 w x y z = 8 * digit_of w + 4 * digit_of x + 2 * digit_of y + digit_of z
 abbrev FourBits : Type 1
 FourBits = Bool → Bool → Bool → Bool → Type 0
 
-four : (P : FourBits) → P false false false false → P false false false true → P false false true false → P false false true true → P false true false false → P false true false true → P false true true false → P false true true true → P true false false false → P true false false true → P true false true false → P true false true true → P true true false false → P true true false true → P true true true false → P true true true true → (w x y z : Bool) → P w x y z
+four : (P : FourBits) → P false false false false → P false false false true → P false false true false →
+    P false false true true → P false true false false → P false true false true → P false true true false →
+    P false true true true → P true false false false → P true false false true → P true false true false →
+    P true false true true → P true true false false → P true true false true → P true true true false →
+    P true true true true → (w x y z : Bool) → P w x y z
 four P a b c d e f g h i j k l m n o p w x y z =
     both (λ w. P w x y z)
-    (both (λ x. P false x y z) (both (λ y. P false false y z) (both (P false false false) a b z) (both (P false false true) c d z) y) (both (λ y. P false true y z) (both (P false true false) e f z) (both (P false true true) g h z) y) x)
-    (both (λ x. P true x y z) (both (λ y. P true false y z) (both (P true false false) i j z) (both (P true false true) k l z) y) (both (λ y. P true true y z) (both (P true true false) m n z) (both (P true true true) o p z) y) x)
+    (both (λ x. P false x y z) (both (λ y. P false false y z) (both (P false false false) a b z)
+    (both (P false false true) c d z) y) (both (λ y. P false true y z) (both (P false true false) e f z)
+    (both (P false true true) g h z) y) x)
+    (both (λ x. P true x y z) (both (λ y. P true false y z) (both (P true false false) i j z)
+    (both (P true false true) k l z) y) (both (λ y. P true true y z) (both (P true true false) m n z)
+    (both (P true true true) o p z) y) x)
     w
 
 abbrev pub pick : Bool → Bool → Bool → Bool → Bool → Bool → Bool
@@ -239,13 +259,26 @@ pick w x y z true false = y
 pick w x y z true true = z
 
 word4_low : (w x y z : Bool) → word4 w x y z < 16
-word4_low = four (λ w x y z. word4 w x y z < 16) (omega arith) (omega arith) (omega arith) (omega arith) (omega arith) (omega arith) (omega arith) (omega arith) (omega arith) (omega arith) (omega arith) (omega arith) (omega arith) (omega arith) (omega arith) (omega arith)
+word4_low = four (λ w x y z. word4 w x y z < 16) (omega arith) (omega arith) (omega arith) (omega arith) (omega arith)
+    (omega arith) (omega arith) (omega arith) (omega arith) (omega arith) (omega arith) (omega arith) (omega arith)
+    (omega arith) (omega arith) (omega arith)
 
 abbrev digits_are : Bool → Bool → Bool → Bool → Type 0
 digits_are w x y z = (digit (word4 w x y z) 3 ≡ w) × (digit (word4 w x y z) 2 ≡ x) × (digit (word4 w x y z) 1 ≡ y) × (digit (word4 w x y z) 0 ≡ z)
 
 word4_digits : (w x y z : Bool) → digits_are w x y z
-word4_digits = four digits_are (refl, refl, refl, refl) (refl, refl, refl, refl) (refl, refl, refl, refl) (refl, refl, refl, refl) (refl, refl, refl, refl) (refl, refl, refl, refl) (refl, refl, refl, refl) (refl, refl, refl, refl) (refl, refl, refl, refl) (refl, refl, refl, refl) (refl, refl, refl, refl) (refl, refl, refl, refl) (refl, refl, refl, refl) (refl, refl, refl, refl) (refl, refl, refl, refl) (refl, refl, refl, refl)
+word4_digits = four digits_are (refl, refl, refl, refl) (refl, refl, refl, refl) (refl, refl, refl, refl) (
+  refl,
+  refl,
+  refl,
+  refl,
+) (refl, refl, refl, refl) (refl, refl, refl, refl) (refl, refl, refl, refl) (refl, refl, refl, refl)
+    (refl, refl, refl, refl) (refl, refl, refl, refl) (refl, refl, refl, refl) (refl, refl, refl, refl) (
+      refl,
+      refl,
+      refl,
+      refl,
+    ) (refl, refl, refl, refl) (refl, refl, refl, refl) (refl, refl, refl, refl)
 
 word4_value : (w x y z a b : Bool) → apply (word4 w x y z) a b ≡ pick w x y z a b
 word4_value w x y z false false = (word4_digits w x y z).0
@@ -256,7 +289,8 @@ word4_value w x y z true true = (word4_digits w x y z).3
 pub binary_word_low : (c : Cover) → binary_word c < 16
 binary_word_low c = word4_low (cover_value c (false ∷ false ∷ [])) (cover_value c (false ∷ true ∷ [])) (cover_value c (true ∷ false ∷ [])) (cover_value c (true ∷ true ∷ []))
 
-pick_value : (c : Cover) (a b : Bool) → pick (cover_value c (false ∷ false ∷ [])) (cover_value c (false ∷ true ∷ [])) (cover_value c (true ∷ false ∷ [])) (cover_value c (true ∷ true ∷ [])) a b ≡ cover_value c (a ∷ b ∷ [])
+pick_value : (c : Cover) (a b : Bool) → pick (cover_value c (false ∷ false ∷ [])) (cover_value c (false ∷ true ∷ []))
+    (cover_value c (true ∷ false ∷ [])) (cover_value c (true ∷ true ∷ [])) a b ≡ cover_value c (a ∷ b ∷ [])
 pick_value c false false = refl
 pick_value c false true = refl
 pick_value c true false = refl

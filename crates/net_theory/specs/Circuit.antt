@@ -1,6 +1,6 @@
 -- Circuits: nets with names.
 use Rattle.std.specs.Prelude.{◌≡◌, ℕ, ◌+◌, ◌-◌, ◌≤◌, ◌<◌, Bool, true, List, [], ◌++◌, length, map, All, Option, Some, None, slice_index_or}
-use Rattle.net_theory.specs.declared.data.Sig.TheVariants.{Zero, Place}
+use Rattle.net_theory.specs.declared.data.Sig.TheVariants.{Zero, Node}
 use Rattle.net_theory.specs.declared.data.Trigger.{Trigger}
 use Rattle.net_theory.specs.Net.{Net, IsNet, sink_values}
 use Rattle.net_theory.specs.Document.{Name, IsName, has, are_distinct, Latch, Document, latches_of, latch_output, sink_names}
@@ -24,9 +24,9 @@ abbrev pub sources_of : Circuit → List Name
 sources_of c = c.inputs ++ map latch_output c.latches
 
 -- the control isn't an output, unless it is also a source
-abbrev pub IsApart : List Name → List Name → Option (Trigger × Name) → Type 0
-IsApart outputs sources None = Unit {0}
-IsApart outputs sources (Some c) = has outputs c.1 ≡ true → has sources c.1 ≡ true
+abbrev pub IsControlApart : List Name → List Name → Option (Trigger × Name) → Type 0
+IsControlApart outputs sources None = Unit {0}
+IsControlApart outputs sources (Some c) = has outputs c.1 ≡ true → has sources c.1 ≡ true
 
 -- A circuit that can be written: each source and sink has a name, the names of the sources are distinct,
 -- outputs with the same name are the same signal, and there are at most 100,000 gates.
@@ -40,19 +40,23 @@ pub record IsProper (c : Circuit) : Type 0 where
   pub clocks : All IsName c.clocks
   pub latches : All IsLatch c.latches
   pub distinct : are_distinct (sources_of c) ≡ true
-  pub source_outputs : (i j : ℕ) → i < length c.outputs → j < length (sources_of c) → slice_index_or c.outputs i [] ≡ slice_index_or (sources_of c) j [] → slice_index_or c.net.sinks i Zero ≡ Place (j + 1)
-  pub equal_outputs : (i j : ℕ) → i < length c.outputs → j < length c.outputs → slice_index_or c.outputs i [] ≡ slice_index_or c.outputs j [] → slice_index_or c.net.sinks i Zero ≡ slice_index_or c.net.sinks j Zero
-  pub controls : All (λ (l : Latch). IsApart c.outputs (sources_of c) l.control) c.latches
+  pub source_outputs : (i j : ℕ) → i < length c.outputs → j < length (sources_of c) →
+      slice_index_or c.outputs i [] ≡ slice_index_or (sources_of c) j [] →
+      slice_index_or c.net.sinks i Zero ≡ Node (j + 1)
+  pub equal_outputs : (i j : ℕ) → i < length c.outputs → j < length c.outputs →
+      slice_index_or c.outputs i [] ≡ slice_index_or c.outputs j [] →
+      slice_index_or c.net.sinks i Zero ≡ slice_index_or c.net.sinks j Zero
+  pub controls : All (λ (l : Latch). IsControlApart c.outputs (sources_of c) l.control) c.latches
   pub gates : length c.net.gates ≤ 100000
 
 -- the bit of a source node, by the bit of its name
-abbrev pub by_place : List Name → (Name → Bool) → ℕ → Bool
-by_place names given place = given (slice_index_or names (place - 1) [])
+abbrev pub by_node : List Name → (Name → Bool) → ℕ → Bool
+by_node names given node = given (slice_index_or names (node - 1) [])
 
 -- the values of a circuit's sinks, the outputs and then the next states, where the sources have the bits
 -- that `given` gives their names
 abbrev pub values_by_name : Circuit → (Name → Bool) → List Bool
-values_by_name c given = sink_values c.net (by_place (sources_of c) given)
+values_by_name c given = sink_values c.net (by_node (sources_of c) given)
 
 -- A document is equivalent to a circuit: it has the circuit's inputs, outputs, clocks and latches, and
 -- under every assignment it has exactly one valuation, which gives the sinks the circuit's values.

@@ -7,19 +7,19 @@ use Rattle.std.proofs.lemmas.Bool.{both_ways}
 use Rattle.std.proofs.lemmas.List.{length-map}
 use Rattle.std.proofs.lemmas.Simd.{map-map}
 use Rattle.std.proofs.lemmas.Option.{slice_get_within, slice_get-get_or}
-use Rattle.net_theory.specs.declared.data.Sig.TheVariants.{Zero, Place}
+use Rattle.net_theory.specs.declared.data.Sig.TheVariants.{Zero, Node}
 use Rattle.net_theory.specs.declared.data.Trigger.{Trigger}
 use Rattle.net_theory.specs.Net.{Net, IsSigBelow, sig_value}
 use Rattle.net_theory.specs.Document.{Name, has, Latch, LatchLine, Document, latch_of, latch_input, latches_of, source_names, sink_names, driven_names, used_names, table_inputs, table_output}
-use Rattle.net_theory.specs.NameLaws.{has_place, has_at, has_left, has_right, has_either, has_map_place, distinct_left, all_at, at_all, all_has, has_all, at_map}
+use Rattle.net_theory.specs.NameLaws.{has_index, has_at, has_left, has_right, has_either, has_map_index, distinct_left, all_at, at_all, all_has, has_all, at_map}
 use Rattle.net_theory.specs.Behaviour.{HoldsIn, IsMapOf, HasOneMap}
 use Rattle.net_theory.specs.Cost.{cost}
 use Rattle.graph_core.specs.Visit.{has_ended, order_of}
-use Rattle.graph_core.specs.VisitLaws.{IsOrder, order_is}
+use Rattle.graph_core.specs.VisitLaws.{IsTopologicalOrder, order_is}
 use Rattle.net_theory.specs.NetOf.{graph_of, signal_of, Growth, with_tables, sources_only, source_count, net_in_order, net_of}
 use Rattle.net_theory.specs.GraphLaws.{graph_closed, length-graph_of}
 use Rattle.net_theory.specs.WellFormed.{IsFreeOf, IsLatch, IsLatchLine, IsWellFormed}
-use Rattle.net_theory.specs.Circuit.{Circuit, IsApart, IsProper, Describes, IsCircuitOf}
+use Rattle.net_theory.specs.Circuit.{Circuit, IsControlApart, IsProper, Describes, IsCircuitOf}
 use Rattle.net_theory.specs.NetLaws.{IsGrowth, TableStands, HasSignal, name_value, net_bits, spent_all, start_growth, tables_grown, source_bit, signal_is, map_same}
 
 -- the circuit with the names of `d` and the net `n`
@@ -29,20 +29,22 @@ circuit_of d n = record { model = d.model; inputs = d.inputs; outputs = d.output
 abbrev grown_all : Document → List ℕ → Growth
 grown_all d order = with_tables (source_count d) d.tables (sources_only d) order
 
-all_grown : (d : Document) (order : List ℕ) → IsWellFormed d → IsOrder (graph_of d.tables) order → IsGrowth d (grown_all d order) order
+all_grown : (d : Document) (order : List ℕ) → IsWellFormed d → IsTopologicalOrder (graph_of d.tables) order → IsGrowth d (grown_all d order) order
 all_grown d order well is =
     tables_grown d (sources_only d) [] order well (start_growth d (distinct_left (source_names d) (map table_output d.tables) well.driven_once)) is.run
 
-ended_all : (d : Document) (order : List ℕ) → IsOrder (graph_of d.tables) order → (k : ℕ) → k < length d.tables → has_ended order k ≡ true
+ended_all : (d : Document) (order : List ℕ) → IsTopologicalOrder (graph_of d.tables) order → (k : ℕ) → k < length d.tables → has_ended order k ≡ true
 ended_all d order is k low = is.whole k (omega (arith, length-graph_of d.tables))
 
 -- each driven name has a signal
-driven_known : (d : Document) (g : Growth) (order : List ℕ) → IsGrowth d g order → ((k : ℕ) → k < length d.tables → has_ended order k ≡ true) → (n : Name) → has (driven_names d) n ≡ true → HasSignal g n
+driven_known : (d : Document) (g : Growth) (order : List ℕ) → IsGrowth d g order →
+    ((k : ℕ) → k < length d.tables → has_ended order k ≡ true) → (n : Name) → has (driven_names d) n ≡ true →
+    HasSignal g n
 driven_known d g order is all n e =
     ⊎_elim
-    (λ source. let place = has_place (source_names d) n source in (Place (place.0 + 1), is.sources place.0 n place.1))
+    (λ source. let node = has_index (source_names d) n source in (Node (node.0 + 1), is.sources node.0 n node.1))
     (λ output.
-    let t = has_map_place table_output d.tables n output in
+    let t = has_map_index table_output d.tables n output in
     let stands : TableStands d g t.1 = is.stands t.0 t.1 (all t.0 (slice_get_within d.tables t.0 t.1 t.2)) t.2 in
     subst (HasSignal g) t.3 stands.output)
     (has_either (source_names d) (map table_output d.tables) n e)
@@ -53,7 +55,7 @@ map_is : (d : Document) (g : Growth) (order : List ℕ) (given : Name → Bool) 
 map_is d g order given is all =
     record {
       sources = at_all (λ n. name_value d g given n ≡ given n) (source_names d) (λ k n e.
-          ap (sig_value (net_bits d g given)) (signal_is g.signals n (Place (k + 1)) (is.sources k n e))
+          ap (sig_value (net_bits d g given)) (signal_is g.signals n (Node (k + 1)) (is.sources k n e))
           ∙ source_bit d g given k n e (slice_get_within (source_names d) k n e));
       tables = at_all (HoldsIn (name_value d g given)) d.tables (λ k t e.
           (is.stands k t (all k (slice_get_within d.tables k t e)) e).value given);
@@ -74,12 +76,14 @@ sinks_driven : (d : Document) (n : Name) → IsWellFormed d → has (sink_names 
 sinks_driven d n well e =
     all_has (λ m. has (driven_names d) m ≡ true) (used_names d) n well.used_driven (has_right (Rattle.std.specs.List.flat_map table_inputs d.tables) (sink_names d) n e)
 
-sinks_are : (d : Document) (g : Growth) (order : List ℕ) (given v : Name → Bool) → IsWellFormed d → IsGrowth d g order → ((k : ℕ) → k < length d.tables → has_ended order k ≡ true) → IsMapOf d given v → map v (sink_names d) ≡ map (sig_value (net_bits d g given)) (map (signal_of g.signals) (sink_names d))
+sinks_are : (d : Document) (g : Growth) (order : List ℕ) (given v : Name → Bool) → IsWellFormed d →
+    IsGrowth d g order → ((k : ℕ) → k < length d.tables → has_ended order k ≡ true) → IsMapOf d given v →
+    map v (sink_names d) ≡ map (sig_value (net_bits d g given)) (map (signal_of g.signals) (sink_names d))
 sinks_are d g order given v well is all maps =
     map_same v (name_value d g given) (sink_names d) (λ n e. let s = driven_known d g order is all n (sinks_driven d n well e) in sym (is.only given v n s.0 maps s.1))
     ∙ sym (map-map (sig_value (net_bits d g given)) (signal_of g.signals) (sink_names d))
 
-describes_is : (d : Document) (order : List ℕ) → IsWellFormed d → IsOrder (graph_of d.tables) order → Describes d (circuit_of d (net_in_order d order))
+describes_is : (d : Document) (order : List ℕ) → IsWellFormed d → IsTopologicalOrder (graph_of d.tables) order → Describes d (circuit_of d (net_in_order d order))
 unfolding net_in_order
 describes_is d order well is =
     let g : Growth = grown_all d order in
@@ -111,7 +115,7 @@ output_sink d g i low =
     sink_at d g (sink_names d) i (omega (arith, length-append d.outputs (map latch_input d.latches)))
     ∙ ap (signal_of g.signals) (index_left d.outputs (map latch_input d.latches) i [] low)
 
-apart_control : (d : Document) (c : Option (Trigger × Name)) → IsWellFormed d → IsFreeOf (map table_output d.tables) c → IsApart d.outputs (source_names d) c
+apart_control : (d : Document) (c : Option (Trigger × Name)) → IsWellFormed d → IsFreeOf (map table_output d.tables) c → IsControlApart d.outputs (source_names d) c
 apart_control d None well free = tt
 apart_control d (Some c) well free = λ is_output. ⊎_elim
     (λ source. source)
@@ -122,7 +126,9 @@ map_all : {A B : Type 0} (P : B → Type 0) (f : A → B) (xs : List A) → ((k 
 map_all P f xs each =
     at_all P (map f xs) (λ k y e. let r = at_map f xs k y e in subst P r.2 (each k r.0 r.1))
 
-proper_is : (d : Document) (order : List ℕ) → IsWellFormed d → IsOrder (graph_of d.tables) order → source_count d + 100000 < 2 ^ 31 → length (grown_all d order).gates ≡ cost d → IsProper (circuit_of d (net_in_order d order))
+proper_is : (d : Document) (order : List ℕ) → IsWellFormed d → IsTopologicalOrder (graph_of d.tables) order →
+    source_count d + 100000 < 2 ^ 31 → length (grown_all d order).gates ≡ cost d →
+    IsProper (circuit_of d (net_in_order d order))
 unfolding net_in_order
 proper_is d order well is small count =
     let g : Growth = grown_all d order in
@@ -133,7 +139,7 @@ proper_is d order well is small count =
         sinks = map_all (IsSigBelow (source_count d + 1 + length g.gates)) (signal_of g.signals) (sink_names d) (λ k n e.
             let s = driven_known d g order growth (ended_all d order is) n (sinks_driven d n well (has_at (sink_names d) k n e)) in
             subst (IsSigBelow (source_count d + 1 + length g.gates)) (sym (signal_is g.signals n s.0 s.1)) (growth.below n s.0 s.1));
-        places = omega (arith, count, well.gates);
+        nodes = omega (arith, count, well.gates);
       };
       source_count = refl;
       sink_count =
@@ -149,14 +155,17 @@ proper_is d order well is small count =
       source_outputs = λ i j low_i low_j same.
           output_sink d g i low_i
           ∙ ap (signal_of g.signals) same
-          ∙ signal_is g.signals (slice_index_or (source_names d) j []) (Place (j + 1)) (growth.sources j (slice_index_or (source_names d) j []) (slice_get-get_or (source_names d) j [] low_j));
+          ∙ signal_is g.signals (slice_index_or (source_names d) j []) (Node (j + 1)) (growth.sources j (slice_index_or (source_names d) j []) (slice_get-get_or (source_names d) j [] low_j));
       equal_outputs = λ i j low_i low_j same.
           output_sink d g i low_i ∙ ap (signal_of g.signals) same ∙ sym (output_sink d g j low_j);
-      controls = map_all (λ (l : Latch). IsApart d.outputs (source_names d) l.control) latch_of d.latches (λ k l e. apart_control d l.latch.control well (all_at (λ (x : LatchLine). IsFreeOf (map table_output d.tables) x.latch.control) d.latches k l well.controls e));
+      controls = map_all (λ (l : Latch). IsControlApart d.outputs (source_names d) l.control) latch_of d.latches
+          (λ k l e. apart_control d l.latch.control well
+          (all_at (λ (x : LatchLine). IsFreeOf (map table_output d.tables) x.latch.control) d.latches k l well.controls
+          e));
       gates = omega (arith, count, well.gates);
     }
 
-count_is : (d : Document) (order : List ℕ) → IsWellFormed d → IsOrder (graph_of d.tables) order → length (grown_all d order).gates ≡ cost d
+count_is : (d : Document) (order : List ℕ) → IsWellFormed d → IsTopologicalOrder (graph_of d.tables) order → length (grown_all d order).gates ≡ cost d
 unfolding cost
 count_is d order well is =
     (all_grown d order well is).count ∙ spent_all 0 d.tables order (λ k low. subst (λ (x : ℕ). has_ended order x ≡ true) (omega arith) (ended_all d order is k low))
@@ -165,7 +174,7 @@ count_is d order well is =
 pub circuit_is : (d : Document) (order : List ℕ) → IsWellFormed d → order_of (graph_of d.tables) ≡ Some order → source_count d + 100000 < 2 ^ 31 → IsCircuitOf d (circuit_of d (net_in_order d order))
 unfolding net_of net_in_order
 circuit_is d order well e small =
-    let is : IsOrder (graph_of d.tables) order = order_is (graph_of d.tables) order (graph_closed d) e in
+    let is : IsTopologicalOrder (graph_of d.tables) order = order_is (graph_of d.tables) order (graph_closed d) e in
     let count : length (grown_all d order).gates ≡ cost d = count_is d order well is in
     record {
       model = refl;

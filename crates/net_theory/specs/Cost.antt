@@ -15,7 +15,11 @@ abbrev pub unary_cover : Bool → Bool → Cover
 unary_cover at_zero at_one = record { width = 1; cubes = byte_if at_zero 48 ++ byte_if at_one 49; on = true; parity = false }
 
 abbrev pub merged : Table → List Name → Table
-merged t (a ∷ b ∷ []) = if is_same a b then record { inputs = a ∷ []; output = t.output; cover = unary_cover (cover_value t.cover (false ∷ false ∷ [])) (cover_value t.cover (true ∷ true ∷ [])) } else t
+merged t (a ∷ b ∷ []) = if is_same a b then record {
+  inputs = a ∷ [];
+  output = t.output;
+  cover = unary_cover (cover_value t.cover (false ∷ false ∷ [])) (cover_value t.cover (true ∷ true ∷ []));
+} else t
 merged t other = t
 
 -- A table of two inputs with the same name is replaced by a table of one input.

@@ -3,7 +3,7 @@ use Rattle.std.specs.Prelude.{ℕ, ◌+◌, ◌*◌, ◌-◌, Bool, true, false,
 use Rattle.std.specs.List.{list_any, list_all}
 use Rattle.net_theory.specs.Cover.{Cover, cover_value}
 use Rattle.net_theory.specs.declared.data.Sig.{Sig}
-use Rattle.net_theory.specs.declared.data.Sig.TheVariants.{Zero, One, Place}
+use Rattle.net_theory.specs.declared.data.Sig.TheVariants.{Zero, One, Node}
 use Rattle.net_theory.specs.declared.data.Gate.{Gate}
 use Rattle.net_theory.specs.declared.data.Signed.{Signed}
 
@@ -22,7 +22,7 @@ gate_of op a b = record { op = op; a = a; b = b }
 
 -- the gates with one more appended, and its node
 abbrev pub with_gate : ℕ → List Gate → Gate → Built
-with_gate sources gates g = record { gates = gates ++ g ∷ []; sig = Place (sources + 1 + length gates) }
+with_gate sources gates g = record { gates = gates ++ g ∷ []; sig = Node (sources + 1 + length gates) }
 
 abbrev pub constant_sig : Bool → Sig
 constant_sig true = One
@@ -40,7 +40,9 @@ unary_word c = 2 * digit_of (cover_value c (false ∷ [])) + digit_of (cover_val
 
 -- the truth table of two inputs: the values at (0,0), (0,1), (1,0) and (1,1)
 abbrev pub binary_word : Cover → ℕ
-binary_word c = 8 * digit_of (cover_value c (false ∷ false ∷ [])) + 4 * digit_of (cover_value c (false ∷ true ∷ [])) + 2 * digit_of (cover_value c (true ∷ false ∷ [])) + digit_of (cover_value c (true ∷ true ∷ []))
+binary_word c = 8 * digit_of (cover_value c (false ∷ false ∷ [])) + 4 * digit_of
+    (cover_value c (false ∷ true ∷ [])) + 2 * digit_of (cover_value c (true ∷ false ∷ [])) + digit_of
+    (cover_value c (true ∷ true ∷ []))
 
 -- NOT of a signal is the operator NAND (1110) on it twice.
 abbrev pub with_not : ℕ → List Gate → Sig → Built
@@ -48,12 +50,31 @@ with_not sources gates a = with_gate sources gates (gate_of 14 a a)
 
 -- A table of one input: a constant and a copy need no gate.
 unfoldable pub unary_built : ℕ → List Gate → ℕ → Sig → Built
-unary_built sources gates word a = if word == 0 then record { gates = gates; sig = Zero } else (if word == 3 then record { gates = gates; sig = One } else (if word == 1 then record { gates = gates; sig = a } else with_not sources gates a))
+unary_built sources gates word a = if word == 0 then record {
+  gates = gates;
+  sig = Zero;
+} else (if word == 3 then record {
+  gates = gates;
+  sig = One;
+} else (if word == 1 then record { gates = gates; sig = a } else with_not sources gates a))
 
 -- A table of two inputs: a constant and a copy need no gate, and NOT of one input reads that input twice.
 -- Every other function is one gate with the truth table as operator and the inputs as operands, in order.
 unfoldable pub binary_built : ℕ → List Gate → ℕ → Sig → Sig → Built
-binary_built sources gates word a b = if word == 0 then record { gates = gates; sig = Zero } else (if word == 15 then record { gates = gates; sig = One } else (if word == 3 then record { gates = gates; sig = a } else (if word == 5 then record { gates = gates; sig = b } else (if word == 12 then with_not sources gates a else (if word == 10 then with_not sources gates b else with_gate sources gates (gate_of word a b))))))
+binary_built sources gates word a b = if word == 0 then record {
+  gates = gates;
+  sig = Zero;
+} else (if word == 15 then record {
+  gates = gates;
+  sig = One;
+} else (if word == 3 then record {
+  gates = gates;
+  sig = a;
+} else (if word == 5 then record {
+  gates = gates;
+  sig = b;
+} else (if word == 12 then with_not sources gates a
+    else (if word == 10 then with_not sources gates b else with_gate sources gates (gate_of word a b))))))
 
 -- ---- tables of more inputs, by their cubes
 
@@ -73,7 +94,7 @@ or_word true true = 14
 
 -- one gate joins the next signal to the result so far; its operator takes in both polarities
 abbrev pub joined : (Bool → Bool → ℕ) → ℕ → Joined → Signed → Joined
-joined word sources j s = record { gates = j.gates ++ gate_of (word j.out.turned s.turned) j.out.sig s.sig ∷ []; out = record { sig = Place (sources + 1 + length j.gates); turned = false } }
+joined word sources j s = record { gates = j.gates ++ gate_of (word j.out.turned s.turned) j.out.sig s.sig ∷ []; out = record { sig = Node (sources + 1 + length j.gates); turned = false } }
 
 -- that of XOR
 abbrev pub xor_word : Bool → Bool → ℕ
@@ -109,7 +130,12 @@ pub record Terms : Type 0 where
 -- each cube is the AND of its literals
 unfoldable pub terms_from : ℕ → List Sig → Terms → List (List ℕ) → Terms
 terms_from sources inputs t [] = t
-terms_from sources inputs t (c ∷ cubes) = terms_from sources inputs (record { gates = (join_all and_word sources t.gates (literals c inputs)).gates; outs = t.outs ++ (join_all and_word sources t.gates (literals c inputs)).out ∷ [] }) cubes
+terms_from sources inputs t (c ∷ cubes) = terms_from sources inputs
+    (record {
+      gates = (join_all and_word sources t.gates (literals c inputs)).gates;
+      outs = t.outs ++
+          (join_all and_word sources t.gates (literals c inputs)).out ∷ [];
+    }) cubes
 
 -- the OR of all cubes
 abbrev pub or_built : ℕ → Terms → Joined
@@ -127,7 +153,8 @@ last_complemented (g ∷ h ∷ gs) = g ∷ last_complemented (h ∷ gs)
 -- A complement is pushed into the operator of the table's last gate, or, if the table has no gate, becomes a
 -- NOT gate.
 unfoldable pub finished : ℕ → ℕ → List Gate → Sig → Bool → Built
-finished sources before gates a turned = if turned then (if length gates == before then with_not sources gates a else record { gates = last_complemented gates; sig = a }) else record { gates = gates; sig = a }
+finished sources before gates a turned = if turned then (if length gates == before then with_not sources gates a
+    else record { gates = last_complemented gates; sig = a }) else record { gates = gates; sig = a }
 
 -- whether a cube has no literal, so that it covers every minterm
 unfoldable pub asks_nothing : List ℕ → Bool
@@ -146,7 +173,11 @@ abbrev pub finished_by : ℕ → ℕ → Bool → Joined → Built
 finished_by sources before on j = finished sources before j.gates j.out.sig (if on then j.out.turned else not j.out.turned)
 
 unfoldable pub cover_built : ℕ → List Gate → Cover → List Sig → Built
-cover_built sources gates c inputs = if is_plain c.cubes then record { gates = gates; sig = constant_sig (c.on && not (is_none c.cubes)) } else finished_by sources (length gates) c.on (or_built sources (terms_from sources inputs (record { gates = gates; outs = [] }) c.cubes))
+cover_built sources gates c inputs = if is_plain c.cubes then record {
+  gates = gates;
+  sig = constant_sig (c.on && not (is_none c.cubes));
+} else finished_by sources (length gates) c.on
+    (or_built sources (terms_from sources inputs (record { gates = gates; outs = [] }) c.cubes))
 
 -- the inputs, none complemented
 unfoldable pub unsigned : List Sig → List Signed

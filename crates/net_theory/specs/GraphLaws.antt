@@ -8,10 +8,10 @@ use Rattle.std.proofs.lemmas.Option.{slice_get_within}
 use Rattle.std.proofs.lemmas.List.{length-map}
 use Rattle.net_theory.specs.Document.{Name, is_same, has, are_distinct, Table, Document, table_output}
 use Rattle.net_theory.specs.NameLaws.{same_name, same_itself, has_cases, has_none, has_first, has_later, has_map_at, distinct_cons, map_at}
-use Rattle.net_theory.specs.Dependence.{Reads, DependsOn, at_once, by_way_of, IsAcyclic}
-use Rattle.graph_core.specs.Visit.{Graph, reads_of, has_ended, order_of}
+use Rattle.net_theory.specs.Dependence.{ReadsTable, DependsOn, at_once, by_way_of, IsAcyclic}
+use Rattle.graph_core.specs.Visit.{Graph, fanins_of, has_ended, order_of}
 use Rattle.graph_core.specs.VisitLaws as visit
-use Rattle.graph_core.specs.VisitLaws.{IsClosed, LeadsTo, order_is, order_apart, no_order}
+use Rattle.graph_core.specs.VisitLaws.{IsClosedGraph, HasPath, order_is, order_apart, no_order}
 use Rattle.net_theory.specs.NetOf.{driver_from, driver_of, graph_of}
 
 -- ---- drivers
@@ -38,7 +38,10 @@ driver_finds number [] name e = absurd (has_none name e)
 driver_finds number (t ∷ ts) name e =
     ⊎_elim
     (λ here. (number, cond-true (is_same t.output name) _ _ here))
-    (λ other. let r = driver_finds (number + 1) ts name (⊎_elim (λ is. absurd (both_ways (is_same t.output name) other (subst (λ (x : Name). is_same t.output x ≡ true) (sym is) (same_itself t.output)))) (λ later. later) (has_cases t.output (map table_output ts) name e)) in (r.0, cond-false (is_same t.output name) _ _ other ∙ r.1))
+    (λ other. let r = driver_finds (number + 1) ts name
+    (⊎_elim (λ is. absurd (both_ways (is_same t.output name) other
+    (subst (λ (x : Name). is_same t.output x ≡ true) (sym is) (same_itself t.output)))) (λ later. later)
+    (has_cases t.output (map table_output ts) name e)) in (r.0, cond-false (is_same t.output name) _ _ other ∙ r.1))
     (cases_Bool (is_same t.output name))
 
 -- where no two tables drive one name, a table is the driver of its output
@@ -52,13 +55,16 @@ driver_at number (u ∷ ts) zero t distinct e =
 driver_at number (u ∷ ts) (suc k) t distinct e =
     let parts = distinct_cons u.output (map table_output ts) distinct in
     ⊎_elim
-    (λ here. absurd (both_ways (has (map table_output ts) u.output) parts.0 (subst (λ (x : Name). has (map table_output ts) x ≡ true) (sym (same_name u.output t.output here)) (has_map_at table_output ts k t e))))
+    (λ here. absurd (both_ways (has (map table_output ts) u.output) parts.0
+    (subst (λ (x : Name). has (map table_output ts) x ≡ true) (sym (same_name u.output t.output here))
+    (has_map_at table_output ts k t e))))
     (λ other. cond-false (is_same u.output t.output) _ _ other ∙ driver_at (number + 1) ts k t parts.1 e ∙ ap Some (omega arith))
     (cases_Bool (is_same u.output t.output))
 
 -- ---- what filter_map keeps
 
-kept_by : (f : Name → Option ℕ) (n : Name) (ns : List Name) (j : ℕ) (r : Option ℕ) → f n ≡ r → has_ended (cons_option r (filter_map f ns)) j ≡ true → (f n ≡ Some j) ⊎ (has_ended (filter_map f ns) j ≡ true)
+kept_by : (f : Name → Option ℕ) (n : Name) (ns : List Name) (j : ℕ) (r : Option ℕ) → f n ≡ r →
+    has_ended (cons_option r (filter_map f ns)) j ≡ true → (f n ≡ Some j) ⊎ (has_ended (filter_map f ns) j ≡ true)
 kept_by f n ns j None e h = inr h
 kept_by f n ns j (Some i) e h =
     ⊎_elim (λ here. inl (e ∙ ap Some (sym (eqb-true j i here)))) (λ later. inr later) (or_cases (nat_eq j i) (has_ended (filter_map f ns) j) h)
@@ -97,12 +103,12 @@ at_index [] i x d e = absurd cc
 at_index (y ∷ xs) zero x d e = cc
 at_index (y ∷ xs) (suc i) x d e = at_index xs i x d e
 
-pub reads_of-graph : (ts : List Table) (i : ℕ) (t : Table) → slice_get ts i ≡ Some t → reads_of (graph_of ts) i ≡ filter_map (driver_of ts) t.inputs
+pub fanins_of-graph : (ts : List Table) (i : ℕ) (t : Table) → slice_get ts i ≡ Some t → fanins_of (graph_of ts) i ≡ filter_map (driver_of ts) t.inputs
 unfolding graph_of
-reads_of-graph ts i t e =
+fanins_of-graph ts i t e =
     at_index (map (λ (u : Table). filter_map (driver_of ts) u.inputs) ts) i (filter_map (driver_of ts) t.inputs) [] (map_at (λ (u : Table). filter_map (driver_of ts) u.inputs) ts i t e)
 
-none_past : (g : Graph) (i j : ℕ) → has_ended (reads_of g i) j ≡ true → i < length g
+none_past : (g : Graph) (i j : ℕ) → has_ended (fanins_of g i) j ≡ true → i < length g
 none_past [] i j e = absurd cc
 none_past (r ∷ g) zero j e = omega arith
 none_past (r ∷ g) (suc i) j e = omega (arith, none_past g i j e)
@@ -113,11 +119,11 @@ some_at (x ∷ xs) zero low = (x, refl)
 some_at (x ∷ xs) (suc i) low = some_at xs i (omega arith)
 
 -- a fanin in the graph is one in the document
-pub reads_from : (d : Document) (i j : ℕ) → has_ended (reads_of (graph_of d.tables) i) j ≡ true → Reads d i j
+pub reads_from : (d : Document) (i j : ℕ) → has_ended (fanins_of (graph_of d.tables) i) j ≡ true → ReadsTable d i j
 reads_from d i j e =
     let low : i < length d.tables = omega (arith, none_past (graph_of d.tables) i j e, length-graph_of d.tables) in
     let t = some_at d.tables i low in
-    let kept = kept_from (driver_of d.tables) t.0.inputs j (subst (λ (xs : List ℕ). has_ended xs j ≡ true) (reads_of-graph d.tables i t.0 t.1) e) in
+    let kept = kept_from (driver_of d.tables) t.0.inputs j (subst (λ (xs : List ℕ). has_ended xs j ≡ true) (fanins_of-graph d.tables i t.0 t.1) e) in
     let found = driver_found 0 d.tables kept.0 j kept.2 in
     let same : j ≡ found.0 = omega (arith, found.1) in
     record {
@@ -129,23 +135,23 @@ reads_from d i j e =
     }
 
 -- and conversely, where no two tables drive one name
-pub reads_in : (d : Document) (i j : ℕ) → are_distinct (map table_output d.tables) ≡ true → Reads d i j → has_ended (reads_of (graph_of d.tables) i) j ≡ true
+pub reads_in : (d : Document) (i j : ℕ) → are_distinct (map table_output d.tables) ≡ true → ReadsTable d i j → has_ended (fanins_of (graph_of d.tables) i) j ≡ true
 reads_in d i j distinct r =
-    subst (λ (xs : List ℕ). has_ended xs j ≡ true) (sym (reads_of-graph d.tables i r.reader r.is_reader))
+    subst (λ (xs : List ℕ). has_ended xs j ≡ true) (sym (fanins_of-graph d.tables i r.reader r.is_reader))
     (kept_in (driver_of d.tables) r.reader.inputs r.driver.output j r.read (driver_at 0 d.tables j r.driver distinct r.is_driver ∙ ap Some (omega arith)))
 
-pub graph_closed : (d : Document) → IsClosed (graph_of d.tables) (length (graph_of d.tables))
+pub graph_closed : (d : Document) → IsClosedGraph (graph_of d.tables) (length (graph_of d.tables))
 graph_closed d i j e =
     let r = reads_from d i j e in
     omega (arith, slice_get_within d.tables j r.driver r.is_driver, length-graph_of d.tables)
 
 -- ---- dependence
 
-pub leads_depends : (d : Document) (i j : ℕ) → LeadsTo (graph_of d.tables) i j → DependsOn d i j
+pub leads_depends : (d : Document) (i j : ℕ) → HasPath (graph_of d.tables) i j → DependsOn d i j
 leads_depends d _ _ (visit.at_once i j r) = at_once i j (reads_from d i j r)
 leads_depends d _ _ (visit.by_way_of i j k r more) = by_way_of i j k (reads_from d i j r) (leads_depends d j k more)
 
-pub depends_leads : (d : Document) (i j : ℕ) → are_distinct (map table_output d.tables) ≡ true → DependsOn d i j → LeadsTo (graph_of d.tables) i j
+pub depends_leads : (d : Document) (i j : ℕ) → are_distinct (map table_output d.tables) ≡ true → DependsOn d i j → HasPath (graph_of d.tables) i j
 depends_leads d _ _ distinct (at_once i j r) = visit.at_once i j (reads_in d i j distinct r)
 depends_leads d _ _ distinct (by_way_of i j k r more) = visit.by_way_of i j k (reads_in d i j distinct r) (depends_leads d j k distinct more)
 

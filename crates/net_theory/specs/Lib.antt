@@ -25,10 +25,10 @@ pub mod Reach
 pub mod ReachLaws
 pub mod Moving
 pub mod MovingLaws
-pub mod Answers
+pub mod Implements
 pub mod ExchangeLaws
-pub mod Dead
+pub mod Dangling
 pub mod Operators
-pub mod DeadLaws
+pub mod DanglingLaws
 pub mod Naming
 pub mod NamingLaws

@@ -35,30 +35,32 @@ unary_cover_is true true = record { cubes = two; parity = λ e. absurd cc } wher
   two (suc (suc k)) d low = absurd (omega arith)
 
 -- the merged table m has the output and the function of t, and only inputs of t
-pub record IsMerged (t m : Table) : Type 0 where
+pub record IsMergedTable (t m : Table) : Type 0 where
   pub output : m.output ≡ t.output
   pub cover : IsCover m.cover
   pub width : m.cover.width ≡ length m.inputs
   pub inputs : (n : Name) → has m.inputs n ≡ true → has t.inputs n ≡ true
   pub value : (f : Name → Bool) → cover_value m.cover (map f m.inputs) ≡ cover_value t.cover (map f t.inputs)
 
-merged_itself : (t : Table) → IsCover t.cover → t.cover.width ≡ length t.inputs → IsMerged t t
+merged_itself : (t : Table) → IsCover t.cover → t.cover.width ≡ length t.inputs → IsMergedTable t t
 merged_itself t is wide = record { output = refl; cover = is; width = wide; inputs = λ n h. h; value = λ f. refl }
 
 at_both : (t : Table) (x : Bool) → (if x then cover_value t.cover (true ∷ true ∷ []) else cover_value t.cover (false ∷ false ∷ [])) ≡ cover_value t.cover (x ∷ x ∷ [])
 at_both t false = refl
 at_both t true = refl
 
-merged_by : (t : Table) (ns : List Name) → t.inputs ≡ ns → IsCover t.cover → t.cover.width ≡ length t.inputs → IsMerged t (merged t ns)
+merged_by : (t : Table) (ns : List Name) → t.inputs ≡ ns → IsCover t.cover → t.cover.width ≡ length t.inputs → IsMergedTable t (merged t ns)
 merged_by t [] e is wide = merged_itself t is wide
 merged_by t (a ∷ []) e is wide = merged_itself t is wide
 merged_by t (a ∷ b ∷ []) e is wide =
-    cond_both (is_same a b) _ t (IsMerged t)
+    cond_both (is_same a b) _ t (IsMergedTable t)
     (λ same. record {
       output = refl;
       cover = unary_cover_is _ _;
       width = refl;
-      inputs = λ n h. subst (λ (xs : List Name). has xs n ≡ true) (sym e) (⊎_elim (λ here. subst (λ (x : Name). has (a ∷ b ∷ []) x ≡ true) (sym here) (has_first a (b ∷ []))) (λ none. absurd (has_none n none)) (has_cases a [] n h));
+      inputs = λ n h. subst (λ (xs : List Name). has xs n ≡ true) (sym e)
+          (⊎_elim (λ here. subst (λ (x : Name). has (a ∷ b ∷ []) x ≡ true) (sym here) (has_first a (b ∷ []))) (λ none.
+          absurd (has_none n none)) (has_cases a [] n h));
       value = λ f.
           unary_cover_value (cover_value t.cover (false ∷ false ∷ [])) (cover_value t.cover (true ∷ true ∷ [])) (f a)
           ∙ at_both t (f a)
@@ -68,7 +70,7 @@ merged_by t (a ∷ b ∷ []) e is wide =
     (λ other. merged_itself t is wide)
 merged_by t (a ∷ b ∷ c ∷ ns) e is wide = merged_itself t is wide
 
-pub merged_is : (t : Table) → IsCover t.cover → t.cover.width ≡ length t.inputs → IsMerged t (merged_table t)
+pub merged_is : (t : Table) → IsCover t.cover → t.cover.width ≡ length t.inputs → IsMergedTable t (merged_table t)
 unfolding merged_table
 merged_is t is wide = merged_by t t.inputs refl is wide
 

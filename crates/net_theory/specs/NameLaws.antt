@@ -59,10 +59,10 @@ pub has_either : (xs ys : List Name) (n : Name) → has (xs ++ ys) n ≡ true �
 has_either xs ys n e = or_cases (has xs n) (has ys n) (sym (has_append xs ys n) ∙ e)
 
 -- the index of a name
-pub has_place : (ns : List Name) (n : Name) → has ns n ≡ true → (k : ℕ) × (slice_get ns k ≡ Some n)
-has_place [] n e = absurd (has_none n e)
-has_place (m ∷ ns) n e =
-    ⊎_elim (λ here. (0, ap Some (sym here))) (λ later. let r = has_place ns n later in (suc r.0, r.1)) (has_cases m ns n e)
+pub has_index : (ns : List Name) (n : Name) → has ns n ≡ true → (k : ℕ) × (slice_get ns k ≡ Some n)
+has_index [] n e = absurd (has_none n e)
+has_index (m ∷ ns) n e =
+    ⊎_elim (λ here. (0, ap Some (sym here))) (λ later. let r = has_index ns n later in (suc r.0, r.1)) (has_cases m ns n e)
 
 pub has_at : (ns : List Name) (k : ℕ) (n : Name) → slice_get ns k ≡ Some n → has ns n ≡ true
 has_at [] k n e = absurd cc
@@ -119,16 +119,16 @@ append_distinct (x ∷ xs) ys ex ey apart =
     (append_distinct xs ys parts.1 ey (λ n h. apart n (has_later x xs n h)))
 
 -- a name has one index
-pub distinct_place : (ns : List Name) (i j : ℕ) (n : Name) → are_distinct ns ≡ true → slice_get ns i ≡ Some n → slice_get ns j ≡ Some n → i ≡ j
-distinct_place [] i j n e at_i at_j = absurd cc
-distinct_place (m ∷ ns) zero zero n e at_i at_j = refl
-distinct_place (m ∷ ns) zero (suc j) n e at_i at_j =
+pub distinct_index : (ns : List Name) (i j : ℕ) (n : Name) → are_distinct ns ≡ true → slice_get ns i ≡ Some n → slice_get ns j ≡ Some n → i ≡ j
+distinct_index [] i j n e at_i at_j = absurd cc
+distinct_index (m ∷ ns) zero zero n e at_i at_j = refl
+distinct_index (m ∷ ns) zero (suc j) n e at_i at_j =
     let same : n ≡ m = cc in
     absurd (both_ways (has ns m) (distinct_cons m ns e).0 (subst (λ (x : Name). has ns x ≡ true) same (has_at ns j n at_j)))
-distinct_place (m ∷ ns) (suc i) zero n e at_i at_j =
+distinct_index (m ∷ ns) (suc i) zero n e at_i at_j =
     let same : n ≡ m = cc in
     absurd (both_ways (has ns m) (distinct_cons m ns e).0 (subst (λ (x : Name). has ns x ≡ true) same (has_at ns i n at_i)))
-distinct_place (m ∷ ns) (suc i) (suc j) n e at_i at_j = ap suc (distinct_place ns i j n (distinct_cons m ns e).1 at_i at_j)
+distinct_index (m ∷ ns) (suc i) (suc j) n e at_i at_j = ap suc (distinct_index ns i j n (distinct_cons m ns e).1 at_i at_j)
 
 -- ---- names that a list's elements have
 
@@ -150,11 +150,11 @@ index_map f (x ∷ xs) (suc k) d low = index_map f xs k d (omega arith)
 pub has_map_at : {A : Type 0} (f : A → Name) (xs : List A) (k : ℕ) (x : A) → slice_get xs k ≡ Some x → has (map f xs) (f x) ≡ true
 has_map_at f xs k x e = has_at (map f xs) k (f x) (map_at f xs k x e)
 
-pub has_map_place : {A : Type 0} (f : A → Name) (xs : List A) (n : Name) → has (map f xs) n ≡ true → (k : ℕ) × (x : A) × (slice_get xs k ≡ Some x) × (f x ≡ n)
-has_map_place f xs n e =
-    let place = has_place (map f xs) n e in
-    let r = at_map f xs place.0 n place.1 in
-    (place.0, r.0, r.1, r.2)
+pub has_map_index : {A : Type 0} (f : A → Name) (xs : List A) (n : Name) → has (map f xs) n ≡ true → (k : ℕ) × (x : A) × (slice_get xs k ≡ Some x) × (f x ≡ n)
+has_map_index f xs n e =
+    let index = has_index (map f xs) n e in
+    let r = at_map f xs index.0 n index.1 in
+    (index.0, r.0, r.1, r.2)
 
 pub has_flat_at : {A : Type 0} (f : A → List Name) (xs : List A) (k : ℕ) (x : A) (n : Name) → slice_get xs k ≡ Some x → has (f x) n ≡ true → has (flat_map f xs) n ≡ true
 has_flat_at f [] k x n e h = absurd cc

@@ -3,7 +3,7 @@ use Rattle.std.specs.Prelude.{ℕ, ◌+◌, ◌-◌, Bool, false, not, ◌==◌,
 use Rattle.std.specs.List.{filter_map, range_with_len}
 use Rattle.std.specs.Option.{option_map}
 use Rattle.net_theory.specs.declared.data.Sig.{Sig}
-use Rattle.net_theory.specs.declared.data.Sig.TheVariants.{Zero, One, Place}
+use Rattle.net_theory.specs.declared.data.Sig.TheVariants.{Zero, One, Node}
 use Rattle.net_theory.specs.declared.data.Gate.{Gate}
 use Rattle.net_theory.specs.declared.data.Trigger.{Trigger}
 use Rattle.net_theory.specs.Document.{Name, has, Latch, latch_output}
@@ -39,7 +39,7 @@ free_names taken from count = filter (λ n. not (has taken n)) (map numbered (ra
 abbrev pub is_at : Sig → ℕ → Bool
 is_at Zero p = false
 is_at One p = false
-is_at (Place q) p = q == p
+is_at (Node q) p = q == p
 
 -- the first output that is the signal of the node p
 unfoldable pub output_on : List Name → List Sig → ℕ → Option Name
@@ -65,10 +65,10 @@ abbrev pub named : Naming → Option Name → Naming
 named n (Some o) = record { names = n.names ++ o ∷ []; free = n.free }
 named n None = record { names = n.names ++ first_free n.free ∷ []; free = rest_free n.free }
 
--- names the gates from the node `place` on; `output_at` gives the first output that a node drives
+-- names the gates from the node `node` on; `output_at` gives the first output that a node drives
 unfoldable pub names_after : (ℕ → Option Name) → Naming → ℕ → List Gate → Naming
-names_after output_at n place [] = n
-names_after output_at n place (g ∷ gs) = names_after output_at (named n (output_at place)) (place + 1) gs
+names_after output_at n node [] = n
+names_after output_at n node (g ∷ gs) = names_after output_at (named n (output_at node)) (node + 1) gs
 
 -- so many numbered names that enough of them are free for all gates and two constants
 abbrev pub enough : List Name → Net → ℕ
@@ -94,5 +94,5 @@ abbrev pub second_spare : Circuit → Name
 second_spare c = first_free (rest_free (all_named c).free)
 
 -- the name of a node
-unfoldable pub place_name : Circuit → ℕ → Name
-place_name c p = if nat_le p c.net.sources then slice_index_or (sources_of c) (p - 1) [] else slice_index_or (gate_names c) (p - c.net.sources - 1) []
+unfoldable pub node_name : Circuit → ℕ → Name
+node_name c p = if nat_le p c.net.sources then slice_index_or (sources_of c) (p - 1) [] else slice_index_or (gate_names c) (p - c.net.sources - 1) []

@@ -21,29 +21,29 @@ use Rattle.std.specs.Prelude.{◌≡◌, ℕ, ◌+◌, ◌-◌, ◌==◌, if◌t
 use Rattle.chain_theory.specs.Operator.{apply}
 use Rattle.chain_theory.specs.Value.{extended}
 use Rattle.net_theory.specs.declared.data.Sig.{Sig}
-use Rattle.net_theory.specs.declared.data.Sig.TheVariants.{Zero, One, Place}
+use Rattle.net_theory.specs.declared.data.Sig.TheVariants.{Zero, One, Node}
 use Rattle.net_theory.specs.declared.data.Gate.{Gate}
 
 -- The nodes 1 to `sources` are the sources. The gates are the next nodes, in a topological order. The sinks
 -- are the net's output signals.
--- Example: XOR of two sources has sources = 2, one gate with op = 6, a = `Place 1` and b = `Place 2`, and one
--- sink, `Place 3`.
+-- Example: XOR of two sources has sources = 2, one gate with op = 6, a = `Node 1` and b = `Node 2`, and one
+-- sink, `Node 3`.
 pub record Net : Type 0 where
   pub sources : ℕ
   pub gates : List Gate
   pub sinks : List Sig
 
--- the signal is a constant or a node below `place`
+-- the signal is a constant or a node below `node`
 abbrev pub IsSigBelow : ℕ → Sig → Type 0
-IsSigBelow place Zero = Unit {0}
-IsSigBelow place One = Unit {0}
-IsSigBelow place (Place p) = (1 ≤ p) × (p < place)
+IsSigBelow node Zero = Unit {0}
+IsSigBelow node One = Unit {0}
+IsSigBelow node (Node p) = (1 ≤ p) × (p < node)
 
--- the operands (fanins) of the gate at `place` are constants or nodes below it
-pub record IsGateAt (place : ℕ) (g : Gate) : Type 0 where
+-- the operands (fanins) of the gate at `node` are constants or nodes below it
+pub record IsGateAt (node : ℕ) (g : Gate) : Type 0 where
   pub operator : g.op < 16
-  pub first : IsSigBelow place g.a
-  pub second : IsSigBelow place g.b
+  pub first : IsSigBelow node g.a
+  pub second : IsSigBelow node g.b
 
 -- the operands of each gate are below it; the first gate comes after the sources
 pub record AreGates (sources : ℕ) (gates : List Gate) : Type 0 where
@@ -56,7 +56,7 @@ end_of n = n.sources + 1 + length n.gates
 pub record IsNet (n : Net) : Type 0 where
   pub gates : AreGates n.sources n.gates
   pub sinks : All (IsSigBelow (end_of n)) n.sinks
-  pub places : n.sources + length n.gates < 2 ^ 31
+  pub nodes : n.sources + length n.gates < 2 ^ 31
 
 -- ---- values
 
@@ -64,7 +64,7 @@ pub record IsNet (n : Net) : Type 0 where
 abbrev pub sig_value : (ℕ → Bool) → Sig → Bool
 sig_value bits Zero = false
 sig_value bits One = true
-sig_value bits (Place p) = bits p
+sig_value bits (Node p) = bits p
 
 -- the value of a gate: its operator on the values of its operands
 abbrev pub gate_value : (ℕ → Bool) → Gate → Bool
@@ -72,22 +72,22 @@ gate_value bits g = apply g.op (sig_value bits g.a) (sig_value bits g.b)
 
 -- the bit of a node, in a list that begins with node 1; there is no node 0
 abbrev pub bit_of : List Bool → ℕ → Bool
-bit_of bits place = if place == 0 then false else slice_index_or bits (place - 1) false
+bit_of bits node = if node == 0 then false else slice_index_or bits (node - 1) false
 
--- Simulation: each gate in turn sets the bit of its node; the first gate is node `place`.
+-- Simulation: each gate in turn sets the bit of its node; the first gate is node `node`.
 unfoldable pub values_after : (ℕ → Bool) → ℕ → List Gate → ℕ → Bool
-values_after bits place [] = bits
-values_after bits place (g ∷ gs) = values_after (extended bits place (gate_value bits g)) (place + 1) gs
+values_after bits node [] = bits
+values_after bits node (g ∷ gs) = values_after (extended bits node (gate_value bits g)) (node + 1) gs
 
 -- the bits of the nodes, where the sources have the bits of `given`
 abbrev pub values_of : (ℕ → Bool) → ℕ → List Gate → ℕ → Bool
 values_of given sources gates = values_after given (sources + 1) gates
 
 -- The value of a source is the bit that `given` gives it, and the value of a gate's node is its
--- operator on the values of its operands (proved by `values_of_places`).
+-- operator on the values of its operands (proved by `values_of_nodes`).
 -- Example: XOR under the given bits 1 and 0 has the values 1, 0 and 1 at the nodes 1, 2 and 3.
 abbrev pub value : Net → (ℕ → Bool) → ℕ → Bool
-value n given place = values_of given n.sources n.gates place
+value n given node = values_of given n.sources n.gates node
 
 -- the values of the sinks, in order
 abbrev pub sink_values : Net → (ℕ → Bool) → List Bool

@@ -3,7 +3,7 @@ use Rattle.std.specs.Prelude.{ℕ, ◌+◌, if◌then◌else◌, List, [], ◌�
 use Rattle.std.specs.List.{filter_map}
 use Rattle.std.specs.Option.{option_map}
 use Rattle.net_theory.specs.declared.data.Sig.{Sig}
-use Rattle.net_theory.specs.declared.data.Sig.TheVariants.{Zero, Place}
+use Rattle.net_theory.specs.declared.data.Sig.TheVariants.{Zero, Node}
 use Rattle.net_theory.specs.declared.data.Gate.{Gate}
 use Rattle.net_theory.specs.Net.{Net}
 use Rattle.net_theory.specs.Document.{Name, is_same, Table, Document, source_names, sink_names}
@@ -35,8 +35,8 @@ with_signal signals name sig n = if is_same name n then Some sig else signals n
 
 -- the sources are the nodes 1, 2 and so on
 unfoldable pub with_sources : Signals → ℕ → List Name → Signals
-with_sources signals place [] = signals
-with_sources signals place (n ∷ ns) = with_sources (with_signal signals n (Place place)) (place + 1) ns
+with_sources signals node [] = signals
+with_sources signals node (n ∷ ns) = with_sources (with_signal signals n (Node node)) (node + 1) ns
 
 abbrev pub signal_of : Signals → Name → Sig
 signal_of signals name = unwrap_or (signals name) Zero

@@ -10,7 +10,9 @@ use Rattle.net_theory.specs.declared.data.Gate.{Gate}
 use Rattle.net_theory.specs.declared.data.Signed.{Signed}
 use Rattle.net_theory.specs.Cover.{IsCover, is_cube, is_cube_byte, matches, is_matched, is_odd, value_by, cover_value}
 use Rattle.net_theory.specs.Cost.{literal_count, literal_sum, cubes_cost, wide_cost}
-use Rattle.net_theory.specs.Expansion.{Joined, Terms, signed, unsigned, literals, join_from, join_all, and_word, or_word, xor_word, terms_from, or_built, asks_nothing, is_plain, finished_by, cover_built, parity_built, wide_built}
+use Rattle.net_theory.specs.Expansion.{Joined, Terms, signed, unsigned, literals, join_from, join_all, and_word}
+use Rattle.net_theory.specs.Expansion.{or_word, xor_word, terms_from, or_built, asks_nothing, is_plain, finished_by}
+use Rattle.net_theory.specs.Expansion.{cover_built, parity_built, wide_built}
 use Rattle.net_theory.specs.Whole.{ones, dashes, single_ones, and_cover, or_cover, xor_cover, itself, value_where}
 
 -- ---- they are covers
@@ -152,7 +154,9 @@ abbrev made : List Gate → List Signed → Terms
 made gates outs = record { gates = gates; outs = outs }
 
 -- a cube of one literal needs no gate
-single_terms : (sources : ℕ) (inputs : List Sig) (gates : List Gate) (outs : List Signed) (cubes : List (List ℕ)) (ss : List Sig) → AreSingle inputs cubes ss → terms_from sources inputs (made gates outs) cubes ≡ made gates (outs ++ unsigned ss)
+single_terms : (sources : ℕ) (inputs : List Sig) (gates : List Gate) (outs : List Signed) (cubes : List (List ℕ))
+    (ss : List Sig) → AreSingle inputs cubes ss → terms_from sources inputs (made gates outs) cubes ≡
+    made gates (outs ++ unsigned ss)
 unfolding terms_from unsigned join_all join_from
 single_terms sources inputs gates outs [] [] are = ap (made gates) (sym (append-nil outs))
 single_terms sources inputs gates outs [] (s ∷ ss) are = absurd are
@@ -162,11 +166,15 @@ single_terms sources inputs gates outs (c ∷ cubes) (s ∷ ss) are =
     ∙ single_terms sources inputs gates (outs ++ signed s false ∷ []) cubes ss are.1
     ∙ ap (made gates) (append_assoc outs (signed s false ∷ []) (unsigned ss))
 
-or_joins_inputs : (sources : ℕ) (gates : List Gate) (inputs : List Sig) → or_built sources (terms_from sources inputs (made gates []) (single_ones (length inputs))) ≡ join_all or_word sources gates (unsigned inputs)
+or_joins_inputs : (sources : ℕ) (gates : List Gate) (inputs : List Sig) →
+    or_built sources (terms_from sources inputs (made gates []) (single_ones (length inputs))) ≡
+    join_all or_word sources gates (unsigned inputs)
 or_joins_inputs sources gates inputs =
     ap (or_built sources) (single_terms sources inputs gates [] (single_ones (length inputs)) inputs (single_literals inputs))
 
-and_joins_inputs : (sources : ℕ) (gates : List Gate) (inputs : List Sig) → or_built sources (terms_from sources inputs (made gates []) (ones (length inputs) ∷ [])) ≡ join_all and_word sources gates (unsigned inputs)
+and_joins_inputs : (sources : ℕ) (gates : List Gate) (inputs : List Sig) →
+    or_built sources (terms_from sources inputs (made gates []) (ones (length inputs) ∷ [])) ≡
+    join_all and_word sources gates (unsigned inputs)
 unfolding terms_from join_all join_from
 and_joins_inputs sources gates inputs =
     ap (λ (ls : List Signed). let j : Joined = join_all and_word sources gates ls in j) (ones_literals inputs)
@@ -186,21 +194,27 @@ unfolding asks_nothing
 singles_ask zero = refl
 singles_ask (suc n) = more_ask (single_ones n) ∙ singles_ask n
 
-pub and_built : (sources : ℕ) (gates : List Gate) (on : Bool) (inputs : List Sig) → 0 < length inputs → wide_built sources gates (and_cover (length inputs) on) inputs ≡ finished_by sources (length gates) on (join_all and_word sources gates (unsigned inputs))
+pub and_built : (sources : ℕ) (gates : List Gate) (on : Bool) (inputs : List Sig) → 0 < length inputs →
+    wide_built sources gates (and_cover (length inputs) on) inputs ≡
+    finished_by sources (length gates) on (join_all and_word sources gates (unsigned inputs))
 unfolding wide_built cover_built
 and_built sources gates on [] some = absurd (omega arith)
 and_built sources gates on (a ∷ inputs) some =
     cond-false (is_plain (ones (suc (length inputs)) ∷ [])) _ _ (ones_ask (length inputs))
     ∙ ap (finished_by sources (length gates) on) (and_joins_inputs sources gates (a ∷ inputs))
 
-pub or_built_wide : (sources : ℕ) (gates : List Gate) (on : Bool) (inputs : List Sig) → 0 < length inputs → wide_built sources gates (or_cover (length inputs) on) inputs ≡ finished_by sources (length gates) on (join_all or_word sources gates (unsigned inputs))
+pub or_built_wide : (sources : ℕ) (gates : List Gate) (on : Bool) (inputs : List Sig) → 0 < length inputs →
+    wide_built sources gates (or_cover (length inputs) on) inputs ≡
+    finished_by sources (length gates) on (join_all or_word sources gates (unsigned inputs))
 unfolding wide_built cover_built
 or_built_wide sources gates on [] some = absurd (omega arith)
 or_built_wide sources gates on (a ∷ inputs) some =
     cond-false (is_plain (single_ones (suc (length inputs)))) _ _ (singles_ask (suc (length inputs)))
     ∙ ap (finished_by sources (length gates) on) (or_joins_inputs sources gates (a ∷ inputs))
 
-pub xor_built : (sources : ℕ) (gates : List Gate) (on : Bool) (inputs : List Sig) → wide_built sources gates (xor_cover (length inputs) on) inputs ≡ finished_by sources (length gates) on (join_all xor_word sources gates (unsigned inputs))
+pub xor_built : (sources : ℕ) (gates : List Gate) (on : Bool) (inputs : List Sig) →
+    wide_built sources gates (xor_cover (length inputs) on) inputs ≡
+    finished_by sources (length gates) on (join_all xor_word sources gates (unsigned inputs))
 unfolding wide_built parity_built
 xor_built sources gates on inputs = refl
 
@@ -222,7 +236,14 @@ more_sum (c ∷ cubes) =
 singles_sum : (n : ℕ) → literal_sum (single_ones n) ≡ n
 singles_sum zero = refl
 singles_sum (suc n) =
-    omega (arith, sum_by-cons literal_count (49 ∷ dashes n) (map (λ cube. 45 ∷ cube) (single_ones n)), sum_by-cons (λ b. if b == 48 || b == 49 then 1 else 0) 49 (dashes n), dashes_count n, more_sum (single_ones n), singles_sum n)
+    omega (
+      arith,
+      sum_by-cons literal_count (49 ∷ dashes n) (map (λ cube. 45 ∷ cube) (single_ones n)),
+      sum_by-cons (λ b. if b == 48 || b == 49 then 1 else 0) 49 (dashes n),
+      dashes_count n,
+      more_sum (single_ones n),
+      singles_sum n,
+    )
 
 pub and_cost : (n : ℕ) (on : Bool) → 2 ≤ n → wide_cost (and_cover n on) ≡ n - 1
 unfolding wide_cost cubes_cost

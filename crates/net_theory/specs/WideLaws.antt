@@ -13,14 +13,14 @@ use Rattle.net_theory.specs.Net.{IsSigBelow, AreGates, sig_value, values_of}
 use Rattle.net_theory.specs.Cover.{matches, is_matched}
 use Rattle.net_theory.specs.Cost.{literal_count, literal_sum}
 use Rattle.net_theory.specs.Expansion.{join_from, join_all, signed, literals, and_word, or_word, Terms, terms_from, or_built}
-use Rattle.net_theory.specs.ValueLaws.{IsGrown, grown_none, grown_more, grown_sig, below_later}
-use Rattle.net_theory.specs.JoinLaws.{signed_value, IsSignedBelow, AreSignedBelow, and_joins, or_joins, fold_from, IsJoined, grown_signed, joined_all, bit_from}
+use Rattle.net_theory.specs.ValueLaws.{ExtendsGates, grown_none, grown_more, grown_sig, below_later}
+use Rattle.net_theory.specs.JoinLaws.{signed_value, IsSignedBelow, AreSignedBelow, and_joins, or_joins, fold_from, IsJoinedSignal, grown_signed, joined_all, bit_from}
 
 -- ---- literals
 
 abbrev pub AreSigsBelow : ℕ → List Sig → Type 0
-AreSigsBelow place [] = Unit {0}
-AreSigsBelow place (s ∷ ss) = IsSigBelow place s × AreSigsBelow place ss
+AreSigsBelow node [] = Unit {0}
+AreSigsBelow node (s ∷ ss) = IsSigBelow node s × AreSigsBelow node ss
 
 pub sigs_below_later : (ss : List Sig) (p q : ℕ) → p ≤ q → AreSigsBelow p ss → AreSigsBelow q ss
 sigs_below_later [] p q low b = tt
@@ -33,21 +33,24 @@ signed_below_later (s ∷ ss) p q low b = (below_later s.sig p q low b.0, signed
 abbrev with_literal : Bool → Bool → Sig → List Signed → List Signed
 with_literal is_one is_zero a rest = if is_one then signed a false ∷ rest else (if is_zero then signed a true ∷ rest else rest)
 
-below_step : (is_one is_zero : Bool) (place : ℕ) (a : Sig) (rest : List Signed) → IsSigBelow place a → AreSignedBelow place rest → AreSignedBelow place (with_literal is_one is_zero a rest)
-below_step true z place a rest b r = (b, r)
-below_step false true place a rest b r = (b, r)
-below_step false false place a rest b r = r
+below_step : (is_one is_zero : Bool) (node : ℕ) (a : Sig) (rest : List Signed) → IsSigBelow node a → AreSignedBelow node rest → AreSignedBelow node (with_literal is_one is_zero a rest)
+below_step true z node a rest b r = (b, r)
+below_step false true node a rest b r = (b, r)
+below_step false false node a rest b r = r
 
-literals_below : (place : ℕ) (cube : List ℕ) (inputs : List Sig) → AreSigsBelow place inputs → AreSignedBelow place (literals cube inputs)
+literals_below : (node : ℕ) (cube : List ℕ) (inputs : List Sig) → AreSigsBelow node inputs → AreSignedBelow node (literals cube inputs)
 unfolding literals
-literals_below place [] inputs b = tt
-literals_below place (c ∷ cube) [] b = tt
-literals_below place (c ∷ cube) (a ∷ inputs) b = below_step (c == 49) (c == 48) place a (literals cube inputs) b.0 (literals_below place cube inputs b.1)
+literals_below node [] inputs b = tt
+literals_below node (c ∷ cube) [] b = tt
+literals_below node (c ∷ cube) (a ∷ inputs) b = below_step (c == 49) (c == 48) node a (literals cube inputs) b.0 (literals_below node cube inputs b.1)
 
 abbrev and_of : Bool → Bool → Bool
 and_of a b = a && b
 
-value_step : (is_one is_zero : Bool) (bits : ℕ → Bool) (a : Sig) (rest : List Signed) (b m : Bool) → ((x : Bool) → fold_from and_of x (map (signed_value bits) rest) ≡ (x && m)) → fold_from and_of b (map (signed_value bits) (with_literal is_one is_zero a rest)) ≡ (b && ((if is_one then sig_value bits a else (if is_zero then not (sig_value bits a) else true)) && m))
+value_step : (is_one is_zero : Bool) (bits : ℕ → Bool) (a : Sig) (rest : List Signed) (b m : Bool) →
+    ((x : Bool) → fold_from and_of x (map (signed_value bits) rest) ≡ (x && m)) →
+    fold_from and_of b (map (signed_value bits) (with_literal is_one is_zero a rest)) ≡
+    (b && ((if is_one then sig_value bits a else (if is_zero then not (sig_value bits a) else true)) && m))
 unfolding fold_from
 value_step true z bits a rest b m ih = ih (b && sig_value bits a) ∙ and_assoc b (sig_value bits a) m
 value_step false true bits a rest b m ih = ih (b && not (sig_value bits a)) ∙ and_assoc b (not (sig_value bits a)) m
@@ -58,7 +61,9 @@ and_true true = refl
 and_true false = refl
 
 -- AND of the literals is 1 exactly if the cube covers the minterm.
-literals_value : (bits : ℕ → Bool) (cube : List ℕ) (inputs : List Sig) (b : Bool) → fold_from and_of b (map (signed_value bits) (literals cube inputs)) ≡ (b && matches cube (map (sig_value bits) inputs))
+literals_value : (bits : ℕ → Bool) (cube : List ℕ) (inputs : List Sig) (b : Bool) →
+    fold_from and_of b (map (signed_value bits) (literals cube inputs)) ≡
+    (b && matches cube (map (sig_value bits) inputs))
 unfolding literals matches fold_from
 literals_value bits [] inputs b = and_true b
 literals_value bits (c ∷ cube) [] b = and_true b
@@ -82,7 +87,8 @@ literals_count (c ∷ cube) (a ∷ inputs) e =
 abbrev pub turned_count : List Signed → ℕ
 turned_count ss = count_by (λ (s : Signed). s.turned) ss
 
-turned_step : (is_one is_zero : Bool) (a : Sig) (rest : List Signed) (n : ℕ) → (is_one ≡ true → is_zero ≡ false) → turned_count rest ≡ n → turned_count (with_literal is_one is_zero a rest) ≡ (if is_zero then 1 else 0) + n
+turned_step : (is_one is_zero : Bool) (a : Sig) (rest : List Signed) (n : ℕ) → (is_one ≡ true → is_zero ≡ false) →
+    turned_count rest ≡ n → turned_count (with_literal is_one is_zero a rest) ≡ (if is_zero then 1 else 0) + n
 turned_step true true a rest n one e = absurd (let h : true ≡ false = one refl in cc)
 turned_step true false a rest n one e = sum_by-cons (λ (s : Signed). if s.turned then 1 else 0) (signed a false) rest ∙ ap (λ k. 0 + k) e
 turned_step false true a rest n one e = sum_by-cons (λ (s : Signed). if s.turned then 1 else 0) (signed a true) rest ∙ ap (λ k. 1 + k) e
@@ -105,10 +111,16 @@ literals_turned (c ∷ cube) (a ∷ inputs) e =
 abbrev pub matched_at : ℕ → List Gate → List Sig → List ℕ → (ℕ → Bool) → Bool
 matched_at sources gates inputs cube given = matches cube (map (sig_value (values_of given sources gates)) inputs)
 
-cube_joined_by : (sources : ℕ) (old : List Gate) (inputs : List Sig) (cube : List ℕ) (ls : List Signed) → literals cube inputs ≡ ls → length ls ≡ literal_count cube → 0 < literal_count cube → AreGates sources old → AreSignedBelow (sources + 1 + length old) ls → IsJoined sources old (literal_count cube - 1) (matched_at sources old inputs cube) (join_all and_word sources old ls)
+cube_joined_by : (sources : ℕ) (old : List Gate) (inputs : List Sig) (cube : List ℕ) (ls : List Signed) →
+    literals cube inputs ≡ ls → length ls ≡ literal_count cube → 0 < literal_count cube → AreGates sources old →
+    AreSignedBelow (sources + 1 + length old) ls →
+    IsJoinedSignal sources old (literal_count cube - 1) (matched_at sources old inputs cube)
+    (join_all and_word sources old ls)
 cube_joined_by sources old inputs cube [] e size some are below = absurd (omega arith)
 cube_joined_by sources old inputs cube (s ∷ ss) e size some are below =
-    let is : IsJoined sources old (length ss) (bit_from and_of sources old (λ given. true) (s ∷ ss)) (join_all and_word sources old (s ∷ ss)) = joined_all and_word and_of true sources old s ss and_joins (λ b. refl) are below in
+    let is : IsJoinedSignal sources old (length ss) (bit_from and_of sources old (λ given. true) (s ∷ ss))
+    (join_all and_word sources old (s ∷ ss)) =
+    joined_all and_word and_of true sources old s ss and_joins (λ b. refl) are below in
     let more : length ss ≡ literal_count cube - 1 = omega arith in
     record {
       grown = is.grown;
@@ -121,7 +133,10 @@ cube_joined_by sources old inputs cube (s ∷ ss) e size some are below =
     }
 
 -- a cube with a literal
-pub cube_joined : (sources : ℕ) (old : List Gate) (inputs : List Sig) (cube : List ℕ) → length cube ≡ length inputs → 0 < literal_count cube → AreGates sources old → AreSigsBelow (sources + 1 + length old) inputs → IsJoined sources old (literal_count cube - 1) (matched_at sources old inputs cube) (join_all and_word sources old (literals cube inputs))
+pub cube_joined : (sources : ℕ) (old : List Gate) (inputs : List Sig) (cube : List ℕ) → length cube ≡ length inputs →
+    0 < literal_count cube → AreGates sources old → AreSigsBelow (sources + 1 + length old) inputs →
+    IsJoinedSignal sources old (literal_count cube - 1) (matched_at sources old inputs cube)
+    (join_all and_word sources old (literals cube inputs))
 cube_joined sources old inputs cube wide some are below =
     cube_joined_by sources old inputs cube (literals cube inputs) refl (literals_count cube inputs wide) some are (literals_below (sources + 1 + length old) cube inputs below)
 
@@ -146,31 +161,45 @@ abbrev pub matches_of : ℕ → List Gate → List Sig → List (List ℕ) → (
 matches_of sources gates inputs cubes given = map (λ c. matched_at sources gates inputs c given) cubes
 
 pub record AreBuilt (sources : ℕ) (old : List Gate) (inputs : List Sig) (done : List (List ℕ)) (more : ℕ) (t : Terms) : Type 0 where
-  pub grown : IsGrown sources old t.gates
+  pub grown : ExtendsGates sources old t.gates
   pub count : length t.gates ≡ length old + more
   pub size : length t.outs ≡ length done
   pub below : AreSignedBelow (sources + 1 + length t.gates) t.outs
   pub values : (given : ℕ → Bool) → map (signed_value (values_of given sources t.gates)) t.outs ≡ matches_of sources old inputs done given
 
-same_values : (sources : ℕ) (old new : List Gate) (inputs : List Sig) (given : ℕ → Bool) → IsGrown sources old new → AreSigsBelow (sources + 1 + length old) inputs → map (sig_value (values_of given sources new)) inputs ≡ map (sig_value (values_of given sources old)) inputs
+same_values : (sources : ℕ) (old new : List Gate) (inputs : List Sig) (given : ℕ → Bool) →
+    ExtendsGates sources old new → AreSigsBelow (sources + 1 + length old) inputs →
+    map (sig_value (values_of given sources new)) inputs ≡ map (sig_value (values_of given sources old)) inputs
 same_values sources old new [] given grown below = refl
 same_values sources old new (a ∷ inputs) given grown below =
     rw (grown_sig sources old new a given grown below.0, same_values sources old new inputs given grown below.1) refl
 
-same_signed : (sources : ℕ) (old new : List Gate) (ss : List Signed) (given : ℕ → Bool) → IsGrown sources old new → AreSignedBelow (sources + 1 + length old) ss → map (signed_value (values_of given sources new)) ss ≡ map (signed_value (values_of given sources old)) ss
+same_signed : (sources : ℕ) (old new : List Gate) (ss : List Signed) (given : ℕ → Bool) →
+    ExtendsGates sources old new → AreSignedBelow (sources + 1 + length old) ss →
+    map (signed_value (values_of given sources new)) ss ≡ map (signed_value (values_of given sources old)) ss
 same_signed sources old new [] given grown below = refl
 same_signed sources old new (s ∷ ss) given grown below =
     rw (grown_signed sources old new s given grown below.0, same_signed sources old new ss given grown below.1) refl
 
-below_push : (place : ℕ) (ss : List Signed) (s : Signed) → AreSignedBelow place ss → IsSignedBelow place s → AreSignedBelow place (ss ++ s ∷ [])
-below_push place [] s b is = (is, tt)
-below_push place (r ∷ ss) s b is = (b.0, below_push place ss s b.1 is)
+below_push : (node : ℕ) (ss : List Signed) (s : Signed) → AreSignedBelow node ss → IsSignedBelow node s → AreSignedBelow node (ss ++ s ∷ [])
+below_push node [] s b is = (is, tt)
+below_push node (r ∷ ss) s b is = (b.0, below_push node ss s b.1 is)
 
 -- one more cube
-cube_built : (sources : ℕ) (old : List Gate) (inputs : List Sig) (done : List (List ℕ)) (more : ℕ) (t : Terms) (c : List ℕ) → AreBuilt sources old inputs done more t → AreSigsBelow (sources + 1 + length old) inputs → length c ≡ length inputs → 0 < literal_count c → AreBuilt sources old inputs (done ++ c ∷ []) (more + (literal_count c - 1)) (record { gates = (join_all and_word sources t.gates (literals c inputs)).gates; outs = t.outs ++ (join_all and_word sources t.gates (literals c inputs)).out ∷ [] })
+cube_built : (sources : ℕ) (old : List Gate) (inputs : List Sig) (done : List (List ℕ)) (more : ℕ) (t : Terms)
+    (c : List ℕ) → AreBuilt sources old inputs done more t → AreSigsBelow (sources + 1 + length old) inputs →
+    length c ≡ length inputs → 0 < literal_count c →
+    AreBuilt sources old inputs (done ++ c ∷ []) (more + (literal_count c - 1))
+    (record {
+      gates = (join_all and_word sources t.gates (literals c inputs)).gates;
+      outs = t.outs ++
+          (join_all and_word sources t.gates (literals c inputs)).out ∷ [];
+    })
 cube_built sources old inputs done more t c is below wide some =
     let later : AreSigsBelow (sources + 1 + length t.gates) inputs = sigs_below_later inputs (sources + 1 + length old) (sources + 1 + length t.gates) (omega (arith, is.grown.longer)) below in
-    let j : IsJoined sources t.gates (literal_count c - 1) (matched_at sources t.gates inputs c) (join_all and_word sources t.gates (literals c inputs)) = cube_joined sources t.gates inputs c wide some is.grown.gates later in
+    let j : IsJoinedSignal sources t.gates (literal_count c - 1) (matched_at sources t.gates inputs c)
+    (join_all and_word sources t.gates (literals c inputs)) =
+    cube_joined sources t.gates inputs c wide some is.grown.gates later in
     let new : List Gate = (join_all and_word sources t.gates (literals c inputs)).gates in
     let out : Signed = (join_all and_word sources t.gates (literals c inputs)).out in
     record {
@@ -181,20 +210,30 @@ cube_built sources old inputs done more t c is below wide some =
       values = λ given.
           map-append (signed_value (values_of given sources new)) t.outs (out ∷ [])
           ∙ ap (λ (xs : List Bool). xs ++ signed_value (values_of given sources new) out ∷ []) (same_signed sources t.gates new t.outs given j.grown is.below ∙ is.values given)
-          ∙ ap (λ (x : Bool). matches_of sources old inputs done given ++ x ∷ []) (j.value given ∙ ap (λ (bits : List Bool). matches c bits) (same_values sources old t.gates inputs given is.grown below))
+          ∙ ap (λ (x : Bool). matches_of sources old inputs done given ++ x ∷ []) (j.value given
+          ∙ ap (λ (bits : List Bool). matches c bits) (same_values sources old t.gates inputs given is.grown below))
           ∙ sym (map-append (λ x. matched_at sources old inputs x given) done (c ∷ []));
     }
 
 -- the rest of them
-pub cubes_built : (sources : ℕ) (old : List Gate) (inputs : List Sig) (done : List (List ℕ)) (more : ℕ) (t : Terms) (cubes : List (List ℕ)) → AreBuilt sources old inputs done more t → AreSigsBelow (sources + 1 + length old) inputs → AreTerms (length inputs) cubes → AreBuilt sources old inputs (done ++ cubes) (more + term_gates cubes) (terms_from sources inputs t cubes)
+pub cubes_built : (sources : ℕ) (old : List Gate) (inputs : List Sig) (done : List (List ℕ)) (more : ℕ) (t : Terms)
+    (cubes : List (List ℕ)) → AreBuilt sources old inputs done more t →
+    AreSigsBelow (sources + 1 + length old) inputs → AreTerms (length inputs) cubes →
+    AreBuilt sources old inputs (done ++ cubes) (more + term_gates cubes) (terms_from sources inputs t cubes)
 unfolding terms_from
 cubes_built sources old inputs done more t [] is below are =
     grind (arith, common_steps)
 cubes_built sources old inputs done more t (c ∷ cubes) is below are =
     let next : Terms = record { gates = (join_all and_word sources t.gates (literals c inputs)).gates; outs = t.outs ++ (join_all and_word sources t.gates (literals c inputs)).out ∷ [] } in
     let e : (more + (literal_count c - 1)) + term_gates cubes ≡ more + ((literal_count c - 1) + term_gates cubes) = omega arith in
-    let rest : AreBuilt sources old inputs ((done ++ c ∷ []) ++ cubes) ((more + (literal_count c - 1)) + term_gates cubes) (terms_from sources inputs next cubes) = cubes_built sources old inputs (done ++ c ∷ []) (more + (literal_count c - 1)) next cubes (cube_built sources old inputs done more t c is below are.0 are.1) below are.2 in
-    let counted : AreBuilt sources old inputs ((done ++ c ∷ []) ++ cubes) (more + ((literal_count c - 1) + term_gates cubes)) (terms_from sources inputs next cubes) = subst (λ (k : ℕ). AreBuilt sources old inputs ((done ++ c ∷ []) ++ cubes) k (terms_from sources inputs next cubes)) e rest in
+    let rest : AreBuilt sources old inputs ((done ++ c ∷ []) ++
+    cubes) ((more + (literal_count c - 1)) + term_gates cubes) (terms_from sources inputs next cubes) =
+    cubes_built sources old inputs (done ++ c ∷ []) (more + (literal_count c - 1)) next cubes
+    (cube_built sources old inputs done more t c is below are.0 are.1) below are.2 in
+    let counted : AreBuilt sources old inputs ((done ++ c ∷ []) ++
+    cubes) (more + ((literal_count c - 1) + term_gates cubes)) (terms_from sources inputs next cubes) =
+    subst (λ (k : ℕ). AreBuilt sources old inputs ((done ++ c ∷ []) ++
+    cubes) k (terms_from sources inputs next cubes)) e rest in
     subst (λ (xs : List (List ℕ)). AreBuilt sources old inputs xs (more + ((literal_count c - 1) + term_gates cubes)) (terms_from sources inputs next cubes)) (append_assoc done (c ∷ []) cubes) counted
 
 -- ---- the OR of the cubes
@@ -215,13 +254,18 @@ fold_or bits (c ∷ cubes) b = fold_or bits cubes (b || matches c bits) ∙ or_a
 abbrev pub any_matched : ℕ → List Gate → List Sig → List (List ℕ) → (ℕ → Bool) → Bool
 any_matched sources gates inputs cubes given = is_matched cubes (map (sig_value (values_of given sources gates)) inputs)
 
-or_joined_by : (sources : ℕ) (old : List Gate) (inputs : List Sig) (cubes : List (List ℕ)) (more : ℕ) (t : Terms) (outs : List Signed) → t.outs ≡ outs → AreBuilt sources old inputs cubes more t → 1 < length cubes → IsJoined sources old (more + (length cubes - 1)) (any_matched sources old inputs cubes) (join_all or_word sources t.gates outs)
+or_joined_by : (sources : ℕ) (old : List Gate) (inputs : List Sig) (cubes : List (List ℕ)) (more : ℕ) (t : Terms)
+    (outs : List Signed) → t.outs ≡ outs → AreBuilt sources old inputs cubes more t → 1 < length cubes →
+    IsJoinedSignal sources old (more + (length cubes - 1)) (any_matched sources old inputs cubes)
+    (join_all or_word sources t.gates outs)
 or_joined_by sources old inputs cubes more t [] e is some = absurd (omega (arith, is.size, ap (length {A = Signed}) e))
 or_joined_by sources old inputs cubes more t (s ∷ []) e is some = absurd (omega (arith, is.size, ap (length {A = Signed}) e))
 or_joined_by sources old inputs cubes more t (s ∷ r ∷ ss) e is some =
     let size : suc (length (r ∷ ss)) ≡ length cubes = ap (length {A = Signed}) (sym e) ∙ is.size in
     let below : AreSignedBelow (sources + 1 + length t.gates) (s ∷ r ∷ ss) = subst (λ (xs : List Signed). AreSignedBelow (sources + 1 + length t.gates) xs) e is.below in
-    let j : IsJoined sources t.gates (length (r ∷ ss)) (bit_from or_of sources t.gates (λ given. false) (s ∷ r ∷ ss)) (join_all or_word sources t.gates (s ∷ r ∷ ss)) = joined_all or_word or_of false sources t.gates s (r ∷ ss) or_joins (λ b. refl) is.grown.gates below in
+    let j : IsJoinedSignal sources t.gates (length (r ∷ ss))
+    (bit_from or_of sources t.gates (λ given. false) (s ∷ r ∷ ss)) (join_all or_word sources t.gates (s ∷ r ∷ ss)) =
+    joined_all or_word or_of false sources t.gates s (r ∷ ss) or_joins (λ b. refl) is.grown.gates below in
     record {
       grown = grown_more sources old t.gates (join_all or_word sources t.gates (s ∷ r ∷ ss)).gates is.grown j.grown;
       count = omega (arith, is.count, j.count, size);
@@ -241,11 +285,16 @@ none_built sources old inputs are =
     record { grown = grown_none sources old are; count = omega arith; size = refl; below = tt; values = λ given. refl }
 
 -- The OR of all cubes.
-pub cover_joined : (sources : ℕ) (old : List Gate) (inputs : List Sig) (cubes : List (List ℕ)) → AreGates sources old → AreSigsBelow (sources + 1 + length old) inputs → AreTerms (length inputs) cubes → 0 < length cubes → IsJoined sources old (literal_sum cubes - 1) (any_matched sources old inputs cubes) (or_built sources (terms_from sources inputs (no_terms old) cubes))
+pub cover_joined : (sources : ℕ) (old : List Gate) (inputs : List Sig) (cubes : List (List ℕ)) → AreGates sources old →
+    AreSigsBelow (sources + 1 + length old) inputs → AreTerms (length inputs) cubes → 0 < length cubes →
+    IsJoinedSignal sources old (literal_sum cubes - 1) (any_matched sources old inputs cubes)
+    (or_built sources (terms_from sources inputs (no_terms old) cubes))
 unfolding terms_from join_all join_from
 cover_joined sources old inputs [] are below terms some = absurd (omega arith)
 cover_joined sources old inputs (c ∷ []) are below terms some =
-    let is : IsJoined sources old (literal_count c - 1) (matched_at sources old inputs c) (join_all and_word sources old (literals c inputs)) = cube_joined sources old inputs c terms.0 terms.1 are below in
+    let is : IsJoinedSignal sources old (literal_count c - 1) (matched_at sources old inputs c)
+    (join_all and_word sources old (literals c inputs)) =
+    cube_joined sources old inputs c terms.0 terms.1 are below in
     let e : literal_count c - 1 ≡ literal_sum (c ∷ []) - 1 = omega (arith, sum_by-cons literal_count c []) in
     record {
       grown = is.grown;
@@ -256,7 +305,12 @@ cover_joined sources old inputs (c ∷ []) are below terms some =
     }
 cover_joined sources old inputs (c ∷ d ∷ cubes) are below terms some =
     let t : Terms = terms_from sources inputs (no_terms old) (c ∷ d ∷ cubes) in
-    let built : AreBuilt sources old inputs (c ∷ d ∷ cubes) (0 + term_gates (c ∷ d ∷ cubes)) t = cubes_built sources old inputs [] 0 (no_terms old) (c ∷ d ∷ cubes) (none_built sources old inputs are) below terms in
-    let is : IsJoined sources old ((0 + term_gates (c ∷ d ∷ cubes)) + (length (c ∷ d ∷ cubes) - 1)) (any_matched sources old inputs (c ∷ d ∷ cubes)) (join_all or_word sources t.gates t.outs) = or_joined_by sources old inputs (c ∷ d ∷ cubes) (0 + term_gates (c ∷ d ∷ cubes)) t t.outs refl built (omega arith) in
+    let built : AreBuilt sources old inputs (c ∷ d ∷ cubes) (0 + term_gates (c ∷ d ∷ cubes)) t =
+    cubes_built sources old inputs [] 0 (no_terms old) (c ∷ d ∷ cubes)
+    (none_built sources old inputs are) below terms in
+    let is : IsJoinedSignal sources old ((0 + term_gates (c ∷ d ∷ cubes)) + (length (c ∷ d ∷ cubes) - 1))
+    (any_matched sources old inputs (c ∷ d ∷ cubes)) (join_all or_word sources t.gates t.outs) =
+    or_joined_by sources old inputs (c ∷ d ∷ cubes) (0 + term_gates (c ∷ d ∷ cubes)) t t.outs refl built
+    (omega arith) in
     let e : (0 + term_gates (c ∷ d ∷ cubes)) + (length (c ∷ d ∷ cubes) - 1) ≡ literal_sum (c ∷ d ∷ cubes) - 1 = omega (arith, term_gates_sum (length inputs) (c ∷ d ∷ cubes) terms) in
-    subst (λ (k : ℕ). IsJoined sources old k (any_matched sources old inputs (c ∷ d ∷ cubes)) (join_all or_word sources t.gates t.outs)) e is
+    subst (λ (k : ℕ). IsJoinedSignal sources old k (any_matched sources old inputs (c ∷ d ∷ cubes)) (join_all or_word sources t.gates t.outs)) e is

@@ -11,7 +11,7 @@ pub enum Sig {
     One,
     /// The value of a node, by its index: the sources are 1, 2 and so on, and the gates follow. There is no node
     /// 0.
-    Place(u32),
+    Node(u32),
 }
 
 /// A two-input gate: an operator (a truth table of 4 bits) and two operands, which may be equal or constant.

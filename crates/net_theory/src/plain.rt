@@ -31,32 +31,32 @@ pub fn matches_bits(cube: &[u8], bits: &[bool]) -> bool
     is_asked(*byte, *bit) && matches_bits(cube, bits)
 }
 
-/// The bit of the source `place`; `given` begins with source 1. Other nodes have the bit false.
-pub fn given_bit(given: &[bool], place: u32) -> bool
-    ensures { result ≡ bit_of given.now place }
+/// The bit of the source `node`; `given` begins with source 1. Other nodes have the bit false.
+pub fn given_bit(given: &[bool], node: u32) -> bool
+    ensures { result ≡ bit_of given.now node }
 {
-    if place == 0 {
+    if node == 0 {
         return false;
     }
-    let at = place as usize - 1;
+    let at = node as usize - 1;
     if at < given.len() { given[at] } else { false }
 }
 
-/// The value of the node `place` where the sources have the bits `given`, source 1 first.
+/// The value of the node `node` where the sources have the bits `given`, source 1 first.
 #[cycle(values)]
-pub fn place_value(given: &[bool], gates: &[Gate], place: u32) -> bool
+pub fn node_value(given: &[bool], gates: &[Gate], node: u32) -> bool
     requires { length given.now + length gates.now < 2 ^ 31 }
-    ensures { result ≡ values_of (bit_of given.now) (length given.now) gates.now place }
+    ensures { result ≡ values_of (bit_of given.now) (length given.now) gates.now node }
 {
     let Some((last, before)) = gates.split_last() else {
-        return given_bit(given, place);
+        return given_bit(given, node);
     };
-    if place as usize == given.len() + 1 + before.len() {
+    if node as usize == given.len() + 1 + before.len() {
         let a = sig_value(given, before, last.a);
         let b = sig_value(given, before, last.b);
         last.op.apply(a, b)
     } else {
-        place_value(given, before, place)
+        node_value(given, before, node)
     }
 }
 
@@ -69,6 +69,6 @@ pub fn sig_value(given: &[bool], gates: &[Gate], sig: Sig) -> bool
     match sig {
         Sig::Zero => false,
         Sig::One => true,
-        Sig::Place(place) => place_value(given, gates, place),
+        Sig::Node(node) => node_value(given, gates, node),
     }
 }

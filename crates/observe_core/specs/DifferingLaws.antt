@@ -1,5 +1,8 @@
 -- The words of the assignments that distinguish two values of the outputs.
-use Rattle.std.proofs.Common.{◌≡◌, ◌∙◌, ℕ, zero, suc, ◌+◌, ◌-◌, ◌*◌, ◌%◌, ◌^◌, ◌≤◌, ◌<◌, Bool, true, false, List, [], ◌∷◌, ◌++◌, length, set, get_or, Some, refl, ap, sym, subst, arith, inl, inr, ◌⊎◌, ⊎_elim, length-set, get_or-set_same, get_or-set_other, length-append, replicate, take, mul-le-mul_left}
+use Rattle.std.proofs.Common.{◌≡◌, ◌∙◌, ℕ, zero, suc, ◌+◌, ◌-◌, ◌*◌, ◌%◌, ◌^◌, ◌≤◌, ◌<◌, Bool, true, false, List, []}
+use Rattle.std.proofs.Common.{◌∷◌, ◌++◌, length, set, get_or, Some, refl, ap, sym, subst, arith, inl, inr, ◌⊎◌, ⊎_elim}
+use Rattle.std.proofs.Common.{length-set, get_or-set_same, get_or-set_other, length-append, replicate, take}
+use Rattle.std.proofs.Common.{mul-le-mul_left}
 use Rattle.std.specs.Prelude.{slice_get, slice_index_or, bit_or, bit_xor, if◌then◌else◌}
 use Rattle.std.proofs.lemmas.Bool.{cases_lt, both_ways, cond-true, cond-false}
 use Rattle.std.proofs.lemmas.Option.{slice_get_within, slice_get-get_or}
@@ -10,22 +13,22 @@ use Rattle.net_theory.specs.declared.data.Gate.{Gate}
 use Rattle.net_theory.specs.Net.{Net, IsNet}
 use Rattle.lane_sim.specs.Above.{with_gates}
 use Rattle.lane_sim.specs.Combining.{differ}
-use Rattle.lane_sim.specs.Cone.{Cone, IsCone, places, value_in}
+use Rattle.lane_sim.specs.Cone.{Cone, IsCone, nodes, value_in}
 use Rattle.lane_sim.specs.ConeLaws.{cone_leaf}
-use Rattle.lane_sim.specs.PatternLaws.{at_behind, places_count}
+use Rattle.lane_sim.specs.PatternLaws.{at_after, nodes_count}
 use Rattle.lane_sim.specs.SeenLaws.{digit_or, digit_or_left, digit_or_right, no_digit, above_zero}
 use Rattle.lane_sim.specs.WordLaws.{digit_xor}
 use Rattle.lane_sim.specs.Words.{Words, AreWords, width_of}
-use Rattle.window_theory.specs.Places.{among, IsRising}
+use Rattle.window_theory.specs.Nodes.{among, IsRising}
 use Rattle.window_theory.specs.PairLaws.{among_at}
 use Rattle.window_theory.specs.Care.{HasRow}
 use Rattle.window_theory.specs.Rows.{has_row}
-use Rattle.window_core.specs.Surrounding.{gate_places}
+use Rattle.window_core.specs.Expanding.{gate_nodes}
 use Rattle.window_core.specs.ConeLaws.{among_get, get_among, rising_apart}
-use Rattle.window_core.specs.SurroundingLaws.{among_left}
+use Rattle.window_core.specs.ExpandingLaws.{among_left}
 use Rattle.observe_core.specs.Putting.{ArePutGates, IsAbove, IsPutCone}
-use Rattle.observe_core.specs.PuttingLaws.{put_values, put_is_cone, all_places}
-use Rattle.observe_core.specs.Differing.{bit_in, IsAdded, RowsDiffer, AreAdded, put_bits, IsTold, ArePutWords, AreTold, AreTelling}
+use Rattle.observe_core.specs.PuttingLaws.{put_values, put_is_cone, all_nodes}
+use Rattle.observe_core.specs.Differing.{bit_in, IsDifferenceAdded, RowsDiffer, AreAdded, put_bits, IsDistinguished, ArePutWords, AreDistinguished, AreDistinguishing}
 
 -- ---- bits
 
@@ -60,13 +63,15 @@ grown_off old x y t e = (
 
 -- ---- one row
 
-pub row_more : (first second : List ℕ) (start j : ℕ) (old now new : List ℕ) → j < length now → new ≡ set now j (bit_or (get_or now j 0) (bit_xor (get_or first (start + j) 0) (get_or second (start + j) 0))) → IsAdded first second start j old now → IsAdded first second start (j + 1) old new
+pub row_more : (first second : List ℕ) (start j : ℕ) (old now new : List ℕ) → j < length now →
+    new ≡ set now j (bit_or (get_or now j 0) (bit_xor (get_or first (start + j) 0) (get_or second (start + j) 0))) →
+    IsDifferenceAdded first second start j old now → IsDifferenceAdded first second start (j + 1) old new
 row_more first second start j old now new room is was =
     let x : ℕ = get_or first (start + j) 0 in
     let y : ℕ = get_or second (start + j) 0 in
     let w : ℕ = bit_or (get_or now j 0) (bit_xor x y) in
     let here : get_or (set now j w) j 0 ≡ bit_or (get_or old j 0) (bit_xor x y) = get_or-set_same now j w 0 room ∙ ap (λ (k : ℕ). bit_or k (bit_xor x y)) (was.later j (omega arith)) in
-    subst (IsAdded first second start (j + 1) old) (sym is)
+    subst (IsDifferenceAdded first second start (j + 1) old) (sym is)
     (record {
       size = length-set now j w ∙ was.size;
       later = λ i low. get_or-set_other now j i w 0 (λ e. omega (arith, e, low)) ∙ was.later i (omega (arith, low));
@@ -98,23 +103,35 @@ row_fits start i count width size some low room small =
 -- ---- values
 
 -- the word of a gate of the fanout cone
-tail_bit : (n : Net) (outputs : List ℕ) (bits : ℕ) (s c : Cone) (tail : List ℕ) (w : Words) (width k p j t : ℕ) → IsPutCone n outputs bits s tail c → AreWords c w → width ≡ width_of (2 ^ length s.leaves) → slice_get tail k ≡ Some p → t < 64 → 64 * j + t < 2 ^ length s.leaves → bit_in w.lanes ((length (places s) + k) * width + j) t ≡ value_in c (64 * j + t) p
-tail_bit n outputs bits s c tail w width k p j t is are width_is at few low =
-    let all : places c ≡ places s ++ tail = ap (λ (ls : List ℕ). ls ++ gate_places c.gates) is.leaves ∙ ap (λ (gs : List (ℕ × Gate)). s.leaves ++ gate_places gs) is.gates ∙ all_places s is.put tail is.put_are.places in
-    let there : slice_get (places c) (length (places s) + k) ≡ Some p = ap (λ (ps : List ℕ). slice_get ps (length (places s) + k)) all ∙ at_behind (places s) tail k p at in
+fanout_cone_bit : (n : Net) (outputs : List ℕ) (bits : ℕ) (s c : Cone) (fanout_cone : List ℕ) (w : Words)
+    (width k p j t : ℕ) → IsPutCone n outputs bits s fanout_cone c → AreWords c w →
+    width ≡ width_of (2 ^ length s.leaves) → slice_get fanout_cone k ≡ Some p → t < 64 →
+    64 * j + t < 2 ^ length s.leaves → bit_in w.lanes ((length (nodes s) + k) * width + j) t ≡ value_in c (64 * j + t) p
+fanout_cone_bit n outputs bits s c fanout_cone w width k p j t is are width_is at few low =
+    let all : nodes c ≡ nodes s ++ fanout_cone = ap (λ (ls : List ℕ). ls ++ gate_nodes c.gates) is.leaves
+    ∙ ap (λ (gs : List (ℕ × Gate)). s.leaves ++ gate_nodes gs) is.gates
+    ∙ all_nodes s is.put fanout_cone is.put_are.nodes in
+    let there : slice_get (nodes c) (length (nodes s) + k) ≡ Some p = ap (λ (ps : List ℕ). slice_get ps (length (nodes s) + k)) all ∙ at_after (nodes s) fanout_cone k p at in
     let rows : w.rows ≡ 2 ^ length s.leaves = are.rows ∙ ap (λ (ls : List ℕ). 2 ^ length ls) is.leaves in
     let wide : width_of w.rows ≡ width = ap (λ (r : ℕ). width_of r) rows ∙ sym width_is in
-    ap (λ (x : ℕ). bit_in w.lanes ((length (places s) + k) * x + j) t) (sym wide)
-    ∙ are.values (length (places s) + k) p j t there few (subst (λ (r : ℕ). 64 * j + t < r) (sym rows) low)
+    ap (λ (x : ℕ). bit_in w.lanes ((length (nodes s) + k) * x + j) t) (sym wide)
+    ∙ are.values (length (nodes s) + k) p j t there few (subst (λ (r : ℕ). 64 * j + t < r) (sym rows) low)
 
 -- the rows of the fanout cone end with the words
-pub put_room : (n : Net) (outputs : List ℕ) (bits : ℕ) (s c : Cone) (tail : List ℕ) (w : Words) (width a b : ℕ) (lanes : List ℕ) → IsPutCone n outputs bits s tail c → AreWords c w → width ≡ width_of (2 ^ length s.leaves) → a ≡ length s.leaves → b ≡ length s.gates → lanes ≡ w.lanes → (a + b + length tail) * width ≤ length lanes
-put_room n outputs bits s c tail w width a b lanes is are width_is a_is b_is lanes_is =
-    let all : places c ≡ places s ++ tail = ap (λ (ls : List ℕ). ls ++ gate_places c.gates) is.leaves ∙ ap (λ (gs : List (ℕ × Gate)). s.leaves ++ gate_places gs) is.gates ∙ all_places s is.put tail is.put_are.places in
-    let count : length (places c) ≡ a + b + length tail = ap (length {A = ℕ}) all ∙ length-append (places s) tail ∙ omega (arith, places_count s, a_is, b_is) in
+pub put_room : (n : Net) (outputs : List ℕ) (bits : ℕ) (s c : Cone) (fanout_cone : List ℕ) (w : Words) (width a b : ℕ)
+    (lanes : List ℕ) → IsPutCone n outputs bits s fanout_cone c → AreWords c w →
+    width ≡ width_of (2 ^ length s.leaves) → a ≡ length s.leaves → b ≡ length s.gates → lanes ≡ w.lanes →
+    (a + b + length fanout_cone) * width ≤ length lanes
+put_room n outputs bits s c fanout_cone w width a b lanes is are width_is a_is b_is lanes_is =
+    let all : nodes c ≡ nodes s ++ fanout_cone = ap (λ (ls : List ℕ). ls ++ gate_nodes c.gates) is.leaves
+    ∙ ap (λ (gs : List (ℕ × Gate)). s.leaves ++ gate_nodes gs) is.gates
+    ∙ all_nodes s is.put fanout_cone is.put_are.nodes in
+    let count : length (nodes c) ≡ a + b + length fanout_cone = ap (length {A = ℕ}) all ∙ length-append (nodes s) fanout_cone ∙ omega (arith, nodes_count s, a_is, b_is) in
     let rows : w.rows ≡ 2 ^ length s.leaves = are.rows ∙ ap (λ (ls : List ℕ). 2 ^ length ls) is.leaves in
     let wide : width_of w.rows ≡ width = ap (λ (r : ℕ). width_of r) rows ∙ sym width_is in
-    let size : length lanes ≡ (a + b + length tail) * width = ap (length {A = ℕ}) lanes_is ∙ are.size ∙ ap (λ (k : ℕ). k * width_of w.rows) count ∙ ap (λ (k : ℕ). (a + b + length tail) * k) wide in
+    let size : length lanes ≡ (a + b + length fanout_cone) * width =
+    ap (length {A = ℕ}) lanes_is ∙ are.size ∙ ap (λ (k : ℕ). k * width_of w.rows) count
+    ∙ ap (λ (k : ℕ). (a + b + length fanout_cone) * k) wide in
     omega (arith, size)
 
 -- there is a word
@@ -122,124 +139,158 @@ pub some_word : (k width : ℕ) → width ≡ width_of (2 ^ k) → 1 ≤ width
 some_word k width is = omega (arith, is, above_zero k)
 
 -- some bits give the leaves one row and the outputs another
-pub some_bits : (leaves outputs : List ℕ) (row bits : ℕ) → IsRising leaves → length leaves ≤ 12 → IsRising outputs → length outputs ≤ 12 → ((q : ℕ) → among leaves q ≡ true → among outputs q ≡ false) → (f : ℕ → Bool) × HasRow f leaves row × HasRow f outputs bits
+pub some_bits : (leaves outputs : List ℕ) (row bits : ℕ) → IsRising leaves → length leaves ≤ 12 → IsRising outputs →
+    length outputs ≤ 12 → ((q : ℕ) → among leaves q ≡ true → among outputs q ≡ false) → (f : ℕ → Bool) ×
+    HasRow f leaves row × HasRow f outputs bits
 some_bits leaves outputs row bits rising_l few_l rising_o few_o beside =
-    let f : ℕ → Bool = λ q. if among outputs q then value_in (bare outputs) bits q else value_in (bare leaves) row q in (
+    let f : ℕ → Bool = λ q. if among outputs q then value_in (directly_observable outputs) bits q else value_in (directly_observable leaves) row q in (
       f,
-      λ i low. cond-false (among outputs (slice_index_or leaves i 0)) (value_in (bare outputs) bits (slice_index_or leaves i 0)) (value_in (bare leaves) row (slice_index_or leaves i 0)) (beside (slice_index_or leaves i 0) (among_at leaves i 0 low)) ∙ own leaves row i rising_l few_l low,
-      λ i low. cond-true (among outputs (slice_index_or outputs i 0)) (value_in (bare outputs) bits (slice_index_or outputs i 0)) (value_in (bare leaves) row (slice_index_or outputs i 0)) (among_at outputs i 0 low) ∙ own outputs bits i rising_o few_o low,
+      λ i low. cond-false (among outputs (slice_index_or leaves i 0))
+          (value_in (directly_observable outputs) bits (slice_index_or leaves i 0))
+          (value_in (directly_observable leaves) row (slice_index_or leaves i 0))
+          (beside (slice_index_or leaves i 0) (among_at leaves i 0 low)) ∙ own leaves row i rising_l few_l low,
+      λ i low. cond-true (among outputs (slice_index_or outputs i 0))
+          (value_in (directly_observable outputs) bits (slice_index_or outputs i 0))
+          (value_in (directly_observable leaves) row (slice_index_or outputs i 0)) (among_at outputs i 0 low)
+          ∙ own outputs bits i rising_o few_o low,
     )
   where
-    bare : List ℕ → Cone
-    bare ps = record { leaves = ps; gates = [] }
+    directly_observable : List ℕ → Cone
+    directly_observable ps = record { leaves = ps; gates = [] }
 
-    none_behind : (xs : List ℕ) → xs ++ [] ≡ xs
-    none_behind [] = refl
-    none_behind (x ∷ xs) = ap (λ (ys : List ℕ). x ∷ ys) (none_behind xs)
+    none_after : (xs : List ℕ) → xs ++ [] ≡ xs
+    none_after [] = refl
+    none_after (x ∷ xs) = ap (λ (ys : List ℕ). x ∷ ys) (none_after xs)
 
-    own : (ps : List ℕ) (r i : ℕ) → IsRising ps → length ps ≤ 12 → i < length ps → value_in (bare ps) r (slice_index_or ps i 0) ≡ digit r (length ps - (i + 1))
+    own : (ps : List ℕ) (r i : ℕ) → IsRising ps → length ps ≤ 12 → i < length ps → value_in (directly_observable ps) r (slice_index_or ps i 0) ≡ digit r (length ps - (i + 1))
     own ps r i rising few low =
-        let cone : IsCone (bare ps) = record {
+        let cone : IsCone (directly_observable ps) = record {
           few = few;
-          apart = λ a b p ea eb. rising_apart ps rising a b p (ap (λ (xs : List ℕ). slice_get xs a) (sym (none_behind ps)) ∙ ea) (ap (λ (xs : List ℕ). slice_get xs b) (sym (none_behind ps)) ∙ eb);
+          apart = λ a b p ea eb. rising_apart ps rising a b p (ap (λ (xs : List ℕ). slice_get xs a) (sym (none_after ps)) ∙ ea) (ap (λ (xs : List ℕ). slice_get xs b) (sym (none_after ps)) ∙ eb);
           gates = λ k x at. absurd cc;
         } in
-        let place : length ps - 1 - i ≡ length ps - (i + 1) = omega arith in
-        cone_leaf (bare ps) r i (slice_index_or ps i 0) cone (slice_get-get_or ps i 0 low) ∙ ap (digit r) place
+        let node : length ps - 1 - i ≡ length ps - (i + 1) = omega arith in
+        cone_leaf (directly_observable ps) r i (slice_index_or ps i 0) cone (slice_get-get_or ps i 0 low) ∙ ap (digit r) node
 
 -- The words of a fanin cone with the forced gates above it.
-pub put_words : (n : Net) (outputs : List ℕ) (bits : ℕ) (s : Cone) (tail : List ℕ) (put : List (ℕ × Gate)) (w : Words) → IsNet n → IsCone s → IsAbove n outputs s tail → ArePutGates n outputs bits tail put → AreWords (with_gates s put) w → ArePutWords n outputs bits s tail w
-put_words n outputs bits s tail put w net cone above gates are =
+pub put_words : (n : Net) (outputs : List ℕ) (bits : ℕ) (s : Cone) (fanout_cone : List ℕ) (put : List (ℕ × Gate))
+    (w : Words) → IsNet n → IsCone s → IsAbove n outputs s fanout_cone → ArePutGates n outputs bits fanout_cone put →
+    AreWords (with_gates s put) w → ArePutWords n outputs bits s fanout_cone w
+put_words n outputs bits s fanout_cone put w net cone above gates are =
     record {
       cone = with_gates s put;
-      is = record { leaves = refl; put = put; gates = refl; put_are = gates; cone = put_is_cone n outputs bits s tail put net cone above gates };
+      is = record { leaves = refl; put = put; gates = refl; put_are = gates; cone = put_is_cone n outputs bits s fanout_cone put net cone above gates };
       are = are;
     }
 
 -- One more value of the outputs.
-pub told_more : (n : Net) (outputs : List ℕ) (bits : ℕ) (s c : Cone) (tail watchers : List ℕ) (none w : Words) (start : ℕ) (old new : List ℕ) → IsNet n → IsAbove n outputs s tail → length outputs ≤ 12 → ArePutWords n outputs 0 s tail none → IsPutCone n outputs bits s tail c → AreWords c w → start ≡ length (places s) → length old ≡ width_of (2 ^ length s.leaves) → ((p : ℕ) → among watchers p ≡ true → among tail p ≡ true)
-    → AreAdded none.lanes w.lanes start tail watchers (length tail) old new → AreTold n outputs s watchers bits old → AreTold n outputs s watchers (bits + 1) new
-told_more n outputs bits s c tail watchers none w start old new net above few first is are start_is size inside added was =
+pub distinguished_more : (n : Net) (outputs : List ℕ) (bits : ℕ) (s c : Cone) (fanout_cone cone_outputs : List ℕ)
+    (none w : Words) (start : ℕ) (old new : List ℕ) → IsNet n → IsAbove n outputs s fanout_cone → length outputs ≤ 12 →
+    ArePutWords n outputs 0 s fanout_cone none → IsPutCone n outputs bits s fanout_cone c → AreWords c w →
+    start ≡ length (nodes s) → length old ≡ width_of (2 ^ length s.leaves) →
+    ((p : ℕ) → among cone_outputs p ≡ true → among fanout_cone p ≡ true)
+    → AreAdded none.lanes w.lanes start fanout_cone cone_outputs (length fanout_cone) old new →
+    AreDistinguished n outputs s cone_outputs bits old → AreDistinguished n outputs s cone_outputs (bits + 1) new
+distinguished_more n outputs bits s c fanout_cone cone_outputs none w start old new net above few first is are start_is size inside added was =
     record {
       only = λ j t low few_t within on. ⊎_elim
           (λ before. was.only j t (back j low) few_t within before)
-          (λ rows. told j t few_t within rows)
+          (λ rows. distinguished j t few_t within rows)
           (added.only j t (back j low) on);
-      none = λ j t b p f g low few_t within off below f_row g_row f_zero g_bits watcher.
+      none = λ j t b p f g low few_t within off below f_row g_row f_zero g_bits cone_output.
           let r = added.none j t (back j low) off in
           ⊎_elim
-          (λ (before : b < bits). was.none j t b p f g (back j low) few_t within r.0 before f_row g_row f_zero g_bits watcher)
+          (λ (before : b < bits). was.none j t b p f g (back j low) few_t within r.0 before f_row g_row f_zero g_bits cone_output)
           (λ (past : bits ≤ b).
           let same : b ≡ bits = omega (arith, past, below) in
-          let k = among_get tail p (inside p watcher) in
+          let k = among_get fanout_cone p (inside p cone_output) in
           let row : ℕ = 64 * j + t in
           let one : bit_in none.lanes ((start + k.0) * length old + j) t ≡ put_bits n s.leaves outputs f p = zero_bit j t k.0 p f few_t within k.1 f_row f_zero in
           let other : bit_in w.lanes ((start + k.0) * length old + j) t ≡ put_bits n s.leaves outputs g p = own_bit j t k.0 p g few_t within k.1 g_row (subst (HasRow g outputs) same g_bits) in
-          sym one ∙ r.1 k.0 p (slice_get_within tail k.0 p k.1) k.1 watcher ∙ other)
+          sym one ∙ r.1 k.0 p (slice_get_within fanout_cone k.0 p k.1) k.1 cone_output ∙ other)
           (cases_lt b bits);
     }
   where
     back : (j : ℕ) → j < length new → j < length old
     back j low = omega (arith, low, added.size)
 
-    zero_bit : (j t k p : ℕ) (f : ℕ → Bool) → t < 64 → 64 * j + t < 2 ^ length s.leaves → slice_get tail k ≡ Some p → HasRow f s.leaves (64 * j + t) → HasRow f outputs 0 → bit_in none.lanes ((start + k) * length old + j) t ≡ put_bits n s.leaves outputs f p
+    zero_bit : (j t k p : ℕ) (f : ℕ → Bool) → t < 64 → 64 * j + t < 2 ^ length s.leaves →
+        slice_get fanout_cone k ≡ Some p → HasRow f s.leaves (64 * j + t) → HasRow f outputs 0 →
+        bit_in none.lanes ((start + k) * length old + j) t ≡ put_bits n s.leaves outputs f p
     zero_bit j t k p f few_t within at row bits_are =
         ap (λ (x : ℕ). bit_in none.lanes ((x + k) * length old + j) t) start_is
-        ∙ tail_bit n outputs 0 s first.cone tail none (length old) k p j t first.is first.are size at few_t within
-        ∙ put_values n outputs 0 s first.cone tail (64 * j + t) f p net above first.is row bits_are (get_among tail k p at)
+        ∙ fanout_cone_bit n outputs 0 s first.cone fanout_cone none (length old) k p j t first.is first.are size at few_t within
+        ∙ put_values n outputs 0 s first.cone fanout_cone (64 * j + t) f p net above first.is row bits_are (get_among fanout_cone k p at)
 
-    own_bit : (j t k p : ℕ) (f : ℕ → Bool) → t < 64 → 64 * j + t < 2 ^ length s.leaves → slice_get tail k ≡ Some p → HasRow f s.leaves (64 * j + t) → HasRow f outputs bits → bit_in w.lanes ((start + k) * length old + j) t ≡ put_bits n s.leaves outputs f p
+    own_bit : (j t k p : ℕ) (f : ℕ → Bool) → t < 64 → 64 * j + t < 2 ^ length s.leaves →
+        slice_get fanout_cone k ≡ Some p → HasRow f s.leaves (64 * j + t) → HasRow f outputs bits →
+        bit_in w.lanes ((start + k) * length old + j) t ≡ put_bits n s.leaves outputs f p
     own_bit j t k p f few_t within at row bits_are =
         ap (λ (x : ℕ). bit_in w.lanes ((x + k) * length old + j) t) start_is
-        ∙ tail_bit n outputs bits s c tail w (length old) k p j t is are size at few_t within
-        ∙ put_values n outputs bits s c tail (64 * j + t) f p net above is row bits_are (get_among tail k p at)
+        ∙ fanout_cone_bit n outputs bits s c fanout_cone w (length old) k p j t is are size at few_t within
+        ∙ put_values n outputs bits s c fanout_cone (64 * j + t) f p net above is row bits_are (get_among fanout_cone k p at)
 
-    told : (j t : ℕ) → t < 64 → 64 * j + t < 2 ^ length s.leaves → RowsDiffer none.lanes w.lanes start (length old) tail watchers j t → IsTold n s.leaves outputs watchers (64 * j + t)
-    told j t few_t within rows =
-        let free : (q : ℕ) → among s.leaves q ≡ true → among outputs q ≡ false = λ q leaf. above.beside q (among_left s.leaves (gate_places s.gates) q leaf) in
+    distinguished : (j t : ℕ) → t < 64 → 64 * j + t < 2 ^ length s.leaves →
+        RowsDiffer none.lanes w.lanes start (length old) fanout_cone cone_outputs j t →
+        IsDistinguished n s.leaves outputs cone_outputs (64 * j + t)
+    distinguished j t few_t within rows =
+        let free : (q : ℕ) → among s.leaves q ≡ true → among outputs q ≡ false = λ q leaf. above.beside q (among_left s.leaves (gate_nodes s.gates) q leaf) in
         let f = some_bits s.leaves outputs (64 * j + t) 0 above.own.leaves_rising above.own.few above.outputs_rising few free in
         let g = some_bits s.leaves outputs (64 * j + t) bits above.own.leaves_rising above.own.few above.outputs_rising few free in
         record {
           one = f.0;
           other = g.0;
-          place = rows.place;
+          node = rows.node;
           one_row = f.1;
           other_row = g.1;
-          watcher = rows.watcher;
+          cone_output = rows.cone_output;
           differ = λ same. rows.differ
-              (zero_bit j t rows.index rows.place f.0 few_t within rows.at f.1 f.2 ∙ same ∙ sym (own_bit j t rows.index rows.place g.0 few_t within rows.at g.1 g.2));
+              (zero_bit j t rows.index rows.node f.0 few_t within rows.at f.1 f.2 ∙ same ∙ sym (own_bit j t rows.index rows.node g.0 few_t within rows.at g.1 g.2));
         }
 
 -- the same by the code's own lists
-pub told_code : (n : Net) (outputs : List ℕ) (bits : ℕ) (s c : Cone) (tail watchers : List ℕ) (none w : Words) (first second : List ℕ) (a b : ℕ) (old new : List ℕ) → IsNet n → IsAbove n outputs s tail → length outputs ≤ 8 → ArePutWords n outputs 0 s tail none → IsPutCone n outputs bits s tail c → AreWords c w → first ≡ none.lanes → second ≡ w.lanes → a ≡ length s.leaves → b ≡ length s.gates → length old ≡ width_of (2 ^ length s.leaves) → ((p : ℕ) → among watchers p ≡ true → among tail p ≡ true)
-    → AreAdded first second (a + b) tail watchers (length tail) old new → AreTold n outputs s watchers bits old → AreTold n outputs s watchers (bits + 1) new
-told_code n outputs bits s c tail watchers none w first second a b old new net above few words is are first_is second_is a_is b_is size inside added was =
-    told_more n outputs bits s c tail watchers none w (a + b) old new net above (omega (arith, few)) words is are (omega (arith, places_count s, a_is, b_is)) size inside
-    (subst (λ (xs : List ℕ). AreAdded xs w.lanes (a + b) tail watchers (length tail) old new) first_is (subst (λ (ys : List ℕ). AreAdded first ys (a + b) tail watchers (length tail) old new) second_is added)) was
+pub distinguished_code : (n : Net) (outputs : List ℕ) (bits : ℕ) (s c : Cone) (fanout_cone cone_outputs : List ℕ)
+    (none w : Words) (first second : List ℕ) (a b : ℕ) (old new : List ℕ) → IsNet n → IsAbove n outputs s fanout_cone →
+    length outputs ≤ 8 → ArePutWords n outputs 0 s fanout_cone none → IsPutCone n outputs bits s fanout_cone c →
+    AreWords c w → first ≡ none.lanes → second ≡ w.lanes → a ≡ length s.leaves → b ≡ length s.gates →
+    length old ≡ width_of (2 ^ length s.leaves) → ((p : ℕ) → among cone_outputs p ≡ true → among fanout_cone p ≡ true)
+    → AreAdded first second (a + b) fanout_cone cone_outputs (length fanout_cone) old new →
+    AreDistinguished n outputs s cone_outputs bits old → AreDistinguished n outputs s cone_outputs (bits + 1) new
+distinguished_code n outputs bits s c fanout_cone cone_outputs none w first second a b old new net above few words is are first_is second_is a_is b_is size inside added was =
+    distinguished_more n outputs bits s c fanout_cone cone_outputs none w (a + b) old new net above (omega (arith, few)) words is are (omega (arith, nodes_count s, a_is, b_is)) size inside
+    (subst (λ (xs : List ℕ). AreAdded xs w.lanes (a + b) fanout_cone cone_outputs (length fanout_cone) old new)
+    first_is (subst (λ (ys : List ℕ). AreAdded first ys (a + b) fanout_cone cone_outputs
+    (length fanout_cone) old new) second_is added)) was
 
 -- Before any value but 0, nothing differs.
-pub told_start : (n : Net) (outputs : List ℕ) (s : Cone) (tail watchers : List ℕ) (none : Words) (differ : List ℕ) → IsNet n → IsAbove n outputs s tail → ArePutWords n outputs 0 s tail none → ((p : ℕ) → among watchers p ≡ true → among tail p ≡ true) → ((j : ℕ) → j < length differ → get_or differ j 0 ≡ 0) → AreTold n outputs s watchers 1 differ
-told_start n outputs s tail watchers none differ net above first inside empty =
+pub distinguished_start : (n : Net) (outputs : List ℕ) (s : Cone) (fanout_cone cone_outputs : List ℕ) (none : Words)
+    (differ : List ℕ) → IsNet n → IsAbove n outputs s fanout_cone → ArePutWords n outputs 0 s fanout_cone none →
+    ((p : ℕ) → among cone_outputs p ≡ true → among fanout_cone p ≡ true) →
+    ((j : ℕ) → j < length differ → get_or differ j 0 ≡ 0) → AreDistinguished n outputs s cone_outputs 1 differ
+distinguished_start n outputs s fanout_cone cone_outputs none differ net above first inside empty =
     record {
       only = λ j t low few_t within on. absurd (no_digit t (ap (λ (x : ℕ). digit x t) (sym (empty j low)) ∙ on));
-      none = λ j t b p f g low few_t within off below f_row g_row f_zero g_bits watcher.
+      none = λ j t b p f g low few_t within off below f_row g_row f_zero g_bits cone_output.
           let same : b ≡ 0 = omega (arith, below) in
-          sym (put_values n outputs 0 s first.cone tail (64 * j + t) f p net above first.is f_row f_zero (inside p watcher))
-          ∙ put_values n outputs 0 s first.cone tail (64 * j + t) g p net above first.is g_row (subst (HasRow g outputs) same g_bits) (inside p watcher);
+          sym (put_values n outputs 0 s first.cone fanout_cone (64 * j + t) f p net above first.is f_row f_zero (inside p cone_output))
+          ∙ put_values n outputs 0 s first.cone fanout_cone (64 * j + t) g p net above first.is g_row (subst (HasRow g outputs) same g_bits) (inside p cone_output);
     }
 
 -- In the end all values were simulated.
-pub told_end : (n : Net) (outputs : List ℕ) (s : Cone) (tail watchers : List ℕ) (differ : List ℕ) → IsAbove n outputs s tail → length outputs ≤ 12 → AreTold n outputs s watchers (2 ^ length outputs) differ → AreTelling n s.leaves outputs watchers differ
-told_end n outputs s tail watchers differ above few was =
+pub distinguished_end : (n : Net) (outputs : List ℕ) (s : Cone) (fanout_cone cone_outputs : List ℕ) (differ : List ℕ) →
+    IsAbove n outputs s fanout_cone → length outputs ≤ 12 →
+    AreDistinguished n outputs s cone_outputs (2 ^ length outputs) differ →
+    AreDistinguishing n s.leaves outputs cone_outputs differ
+distinguished_end n outputs s fanout_cone cone_outputs differ above few was =
     record {
       only = was.only;
-      none = λ j t p f g low few_t within off f_row g_row watcher.
-          let free : (q : ℕ) → among s.leaves q ≡ true → among outputs q ≡ false = λ q leaf. above.beside q (among_left s.leaves (gate_places s.gates) q leaf) in
+      none = λ j t p f g low few_t within off f_row g_row cone_output.
+          let free : (q : ℕ) → among s.leaves q ≡ true → among outputs q ≡ false = λ q leaf. above.beside q (among_left s.leaves (gate_nodes s.gates) q leaf) in
           let z = some_bits s.leaves outputs (64 * j + t) 0 above.own.leaves_rising above.own.few above.outputs_rising few free in
           let f_bits = has_row f outputs in
           let g_bits = has_row g outputs in
-          sym (was.none j t f_bits.0 p z.0 f low few_t within off f_bits.1 z.1 f_row z.2 f_bits.2 watcher)
-          ∙ was.none j t g_bits.0 p z.0 g low few_t within off g_bits.1 z.1 g_row z.2 g_bits.2 watcher;
+          sym (was.none j t f_bits.0 p z.0 f low few_t within off f_bits.1 z.1 f_row z.2 f_bits.2 cone_output)
+          ∙ was.none j t g_bits.0 p z.0 g low few_t within off g_bits.1 z.1 g_row z.2 g_bits.2 cone_output;
     }
 
 -- ---- the code's indices and lists
@@ -252,8 +303,8 @@ all_zero xs k is j low =
     let size : length xs ≡ k = ap (length {A = ℕ}) is ∙ length-replicate {A = ℕ} k 0 in
     ap (λ (ys : List ℕ). get_or ys j 0) is ∙ get_or-replicate k j 0 0 (omega (arith, low, size))
 
-pub take_front : (xs ys : List ℕ) (n : ℕ) → length xs ≡ n → take n (xs ++ ys) ≡ xs
-take_front [] ys zero e = refl
-take_front [] ys (suc n) e = absurd (omega (arith, e))
-take_front (x ∷ xs) ys zero e = absurd (omega (arith, e))
-take_front (x ∷ xs) ys (suc n) e = ap (λ (zs : List ℕ). x ∷ zs) (take_front xs ys n (omega (arith, e)))
+pub take_prefix : (xs ys : List ℕ) (n : ℕ) → length xs ≡ n → take n (xs ++ ys) ≡ xs
+take_prefix [] ys zero e = refl
+take_prefix [] ys (suc n) e = absurd (omega (arith, e))
+take_prefix (x ∷ xs) ys zero e = absurd (omega (arith, e))
+take_prefix (x ∷ xs) ys (suc n) e = ap (λ (zs : List ℕ). x ∷ zs) (take_prefix xs ys n (omega (arith, e)))

@@ -11,9 +11,9 @@ use Rattle.tt_core.specs.Words.{Words, IsSpec, cell_of, specification}
 use Rattle.lane_sim.specs.WordLaws.{digit_and}
 use Rattle.window_theory.specs.Window.{Window}
 use Rattle.window_theory.specs.Care.{IsSpecificationOf}
-use Rattle.observe_theory.specs.Tail.{Tail, IsTail}
+use Rattle.observe_theory.specs.FanoutCone.{FanoutCone, IsFanoutCone}
 use Rattle.observe_theory.specs.Observed.{IsNarrowed, IsObservedOf}
-use Rattle.observe_core.specs.Observing.{IsSeenMask, IsMasked}
+use Rattle.observe_core.specs.Observing.{IsObservableMask, IsMasked}
 
 no_digit_and : (mask t : ℕ) → digit 0 t ≡ (digit 0 t && digit mask t)
 no_digit_and mask t = let z : digit 0 t ≡ false = ap (λ (x : ℕ). x == 1) (bit_at-zero t) in rw z refl
@@ -56,8 +56,12 @@ masked_spec mask old new spec n on care =
 
 cell_kept : (mask : ℕ) (old new : Words) (h t : ℕ) → IsMasked mask old new → digit mask t ≡ true → cell_of new h t ≡ cell_of old h t
 cell_kept mask old new h t is on =
-    let care : digit (slice_index new.care (h - 1)) t ≡ digit (slice_index old.care (h - 1)) t = is.care (h - 1) t ∙ ap (λ (b : Bool). digit (slice_index old.care (h - 1)) t && b) on ∙ and_true (digit (slice_index old.care (h - 1)) t) in
-    let value : digit (slice_index new.on (h - 1)) t ≡ digit (slice_index old.on (h - 1)) t = is.on (h - 1) t ∙ ap (λ (b : Bool). digit (slice_index old.on (h - 1)) t && b) on ∙ and_true (digit (slice_index old.on (h - 1)) t) in
+    let care : digit (slice_index new.care (h - 1)) t ≡ digit (slice_index old.care (h - 1)) t =
+    is.care (h - 1) t ∙ ap (λ (b : Bool). digit (slice_index old.care (h - 1)) t && b) on
+    ∙ and_true (digit (slice_index old.care (h - 1)) t) in
+    let value : digit (slice_index new.on (h - 1)) t ≡ digit (slice_index old.on (h - 1)) t =
+    is.on (h - 1) t ∙ ap (λ (b : Bool). digit (slice_index old.on (h - 1)) t && b) on
+    ∙ and_true (digit (slice_index old.on (h - 1)) t) in
     rw (care, value) refl
   where
     and_true : (b : Bool) → (b && true) ≡ b
@@ -66,28 +70,34 @@ cell_kept mask old new h t is on =
 
 cell_free : (mask : ℕ) (old new : Words) (h t : ℕ) → IsMasked mask old new → digit mask t ≡ false → cell_of new h t ≡ Free
 cell_free mask old new h t is off =
-    let care : digit (slice_index new.care (h - 1)) t ≡ false = is.care (h - 1) t ∙ ap (λ (b : Bool). digit (slice_index old.care (h - 1)) t && b) off ∙ and_false (digit (slice_index old.care (h - 1)) t) in
+    let care : digit (slice_index new.care (h - 1)) t ≡ false =
+    is.care (h - 1) t ∙ ap (λ (b : Bool). digit (slice_index old.care (h - 1)) t && b) off
+    ∙ and_false (digit (slice_index old.care (h - 1)) t) in
     cond-false (digit (slice_index new.care (h - 1)) t) (if digit (slice_index new.on (h - 1)) t then One else Zero) Free care
   where
     and_false : (b : Bool) → (b && false) ≡ false
     and_false true = refl
     and_false false = refl
 
-pub narrowed_is : (n : Net) (w : Window) (t : Tail) (mask : ℕ) (old new : Words) → IsSpecificationOf n w (specification old) → IsSeenMask n w t mask → IsMasked mask old new → IsNarrowed n w t (specification old) (specification new)
+pub narrowed_is : (n : Net) (w : Window) (t : FanoutCone) (mask : ℕ) (old new : Words) →
+    IsSpecificationOf n w (specification old) → IsObservableMask n w t mask → IsMasked mask old new →
+    IsNarrowed n w t (specification old) (specification new)
 narrowed_is n w t mask old new whole rows is =
     record {
       inputs = is.inputs;
       outputs = is.outputs;
       seen = λ h row low high below seen. ⊎_elim
           (λ on. cell_kept mask old new h row is on)
-          (λ off. absurd (seen (rows.unseen row (subst (λ (k : ℕ). row < 2 ^ k) whole.inputs below) off)))
+          (λ off. absurd (seen (rows.unobservable row (subst (λ (k : ℕ). row < 2 ^ k) whole.inputs below) off)))
           (cases_Bool (digit mask row));
-      unseen = λ h row low high below unseen. ⊎_elim
-          (λ on. absurd (rows.seen row (subst (λ (k : ℕ). row < 2 ^ k) whole.inputs below) on unseen))
+      unobservable = λ h row low high below unobservable. ⊎_elim
+          (λ on. absurd (rows.seen row (subst (λ (k : ℕ). row < 2 ^ k) whole.inputs below) on unobservable))
           (λ off. cell_free mask old new h row is off)
           (cases_Bool (digit mask row));
     }
 
-pub observed_is : (n : Net) (w : Window) (t : Tail) (mask : ℕ) (old new : Words) → IsSpecificationOf n w (specification old) → IsTail n w t → IsSeenMask n w t mask → IsMasked mask old new → IsObservedOf n w (specification new)
-observed_is n w t mask old new whole tail rows is =
-    record { tail = t; is_tail = tail; whole = specification old; is_whole = whole; narrowed = narrowed_is n w t mask old new whole rows is }
+pub observed_is : (n : Net) (w : Window) (t : FanoutCone) (mask : ℕ) (old new : Words) →
+    IsSpecificationOf n w (specification old) → IsFanoutCone n w t → IsObservableMask n w t mask →
+    IsMasked mask old new → IsObservedOf n w (specification new)
+observed_is n w t mask old new whole fanout_cone rows is =
+    record { fanout_cone = t; is_fanout_cone = fanout_cone; whole = specification old; is_whole = whole; narrowed = narrowed_is n w t mask old new whole rows is }

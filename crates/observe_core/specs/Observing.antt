@@ -7,12 +7,12 @@ use Rattle.chain_theory.specs.Specification.{Specification}
 use Rattle.net_theory.specs.Net.{Net}
 use Rattle.tt_core.specs.Words.{Words}
 use Rattle.lane_sim.specs.Cone.{Cone}
-use Rattle.window_theory.specs.Places.{among, IsRising, AreJust}
-use Rattle.window_theory.specs.Surround.{LeadsTo}
-use Rattle.window_core.specs.Surrounding.{gate_places, AreAbove, AreCovered, IsBehind}
+use Rattle.window_theory.specs.Nodes.{among, IsRising, AreJust}
+use Rattle.window_theory.specs.FaninCone.{ExpandsTo}
+use Rattle.window_core.specs.Expanding.{gate_nodes, AreAbove, AreLeavesOrGates, IsInFanin}
 use Rattle.window_theory.specs.Window.{Window}
-use Rattle.observe_theory.specs.Tail.{Tail}
-use Rattle.observe_theory.specs.Unseen.{IsFirst, IsUnseen}
+use Rattle.observe_theory.specs.FanoutCone.{FanoutCone}
+use Rattle.observe_theory.specs.Unobservable.{IsConeRoot, IsUnobservable}
 use Rattle.observe_theory.specs.Observed.{IsObservedOf}
 
 -- a node of one of two lists
@@ -28,19 +28,19 @@ pub record ArePutTogether (one other left both : List ℕ) : Type 0 where
   pub second : (p : ℕ) → among other p ≡ true → IsEither both left p
 
 -- The observing fanin cone as a cone of the net.
-pub record IsObservingCone (n : Net) (w : Window) (t : Tail) (c : Cone) : Type 0 where
+pub record IsObservingCone (n : Net) (w : Window) (t : FanoutCone) (c : Cone) : Type 0 where
   pub first : List ℕ
-  pub just : AreJust (IsFirst w t) first
+  pub just : AreJust (IsConeRoot w t) first
   pub few : length first ≤ 12
-  pub leads : LeadsTo n first c.leaves
+  pub expands_to : ExpandsTo n first c.leaves
   pub above : AreAbove n c.leaves c.gates
-  pub covered : AreCovered c.leaves c.gates first
-  pub behind : (p : ℕ) → among (gate_places c.gates) p ≡ true → IsBehind n first p
+  pub covered : AreLeavesOrGates c.leaves c.gates first
+  pub in_fanin : (p : ℕ) → among (gate_nodes c.gates) p ≡ true → IsInFanin n first p
 
 -- The bits of a mask are 0 at exactly the unobservable rows.
-pub record IsSeenMask (n : Net) (w : Window) (t : Tail) (mask : ℕ) : Type 0 where
-  pub seen : (row : ℕ) → row < 2 ^ length w.inputs → digit mask row ≡ true → IsUnseen n w t row → ⊥
-  pub unseen : (row : ℕ) → row < 2 ^ length w.inputs → digit mask row ≡ false → IsUnseen n w t row
+pub record IsObservableMask (n : Net) (w : Window) (t : FanoutCone) (mask : ℕ) : Type 0 where
+  pub seen : (row : ℕ) → row < 2 ^ length w.inputs → digit mask row ≡ true → IsUnobservable n w t row → ⊥
+  pub unobservable : (row : ℕ) → row < 2 ^ length w.inputs → digit mask row ≡ false → IsUnobservable n w t row
 
 -- The tables of a specification, with all rows free but those of a mask.
 pub record IsMasked (mask : ℕ) (old new : Words) : Type 0 where
@@ -50,7 +50,7 @@ pub record IsMasked (mask : ℕ) (old new : Words) : Type 0 where
   pub care : (i t : ℕ) → digit (slice_index new.care i) t ≡ (digit (slice_index old.care i) t && digit mask t)
 
 -- The chain implements the observed specification of the window.
-pub record MeetsSeen (n : Net) (w : Window) (c : Chain) : Type 0 where
+pub record MeetsObserved (n : Net) (w : Window) (c : Chain) : Type 0 where
   pub chain : IsChain c
   pub specification : Specification
   pub is : IsObservedOf n w specification

@@ -3,30 +3,30 @@ use Rattle.std.specs.Prelude.{◌≡◌, ℕ, Bool, ◌+◌, ◌≤◌, true, fa
 use Rattle.std.proofs.Common.{arith, sym, ◌∙◌, ap, subst, inl, inr, ⊎_elim}
 use Rattle.std.proofs.lemmas.Bool.{cases_Bool, both_ways}
 use Rattle.net_theory.specs.Net.{Net, IsNet}
-use Rattle.window_theory.specs.Places.{among, IsRising, AreJust}
-use Rattle.window_theory.specs.PlaceLaws.{among_cases, among_first, among_later}
+use Rattle.window_theory.specs.Nodes.{among, IsRising, AreJust}
+use Rattle.window_theory.specs.NodeLaws.{among_cases, among_first, among_later}
 use Rattle.window_theory.specs.Paths.{IsGate}
 use Rattle.window_theory.specs.Window.{Window, IsReadBy, IsInput, IsOutput}
 use Rattle.window_core.specs.Rising.{put}
 use Rattle.window_core.specs.RisingLaws.{put_own, put_kept, put_only, put_rising, put_longer}
-use Rattle.window_core.specs.WalkingLaws.{among_end, end_among, front_among, rising_end}
-use Rattle.observe_theory.specs.Tail.{IsFollower, IsLeastFollower, AreFollowing, AreTail, IsSide, IsWatcher, IsBare, IsTail}
-use Rattle.observe_theory.specs.TailLaws.{follower_high}
-use Rattle.observe_theory.specs.JoinedLaws.{in_front, in_back, in_parts, is_off, out_back}
-use Rattle.observe_core.specs.Following.{IsNextFollower, HaveSame, IsTaking, HasTail}
+use Rattle.window_core.specs.PartnerSearchLaws.{among_end, end_among, prefix_among, rising_end}
+use Rattle.observe_theory.specs.FanoutCone.{IsFollower, IsLeastFollower, AreFollowing, AreFanoutCone, IsSideInput, IsConeOutput, IsDirectlyObservable, IsFanoutCone}
+use Rattle.observe_theory.specs.FanoutConeLaws.{follower_high}
+use Rattle.observe_theory.specs.JoinedLaws.{in_prefix, in_back, in_parts, is_off, out_back}
+use Rattle.observe_core.specs.Following.{IsNextFollower, HaveSame, IsConeTaking, HasFanoutCone}
 use Rattle.observe_core.specs.Kept.{IsBoth, HasSome}
 
 -- ---- lists with the same nodes
 
 pub follower_same : (n : Net) (xs ys : List ℕ) (p : ℕ) → HaveSame xs ys → IsFollower n xs p → IsFollower n ys p
-follower_same n xs ys p same is = record { outside = sym (same p) ∙ is.outside; place = is.place; inside = sym (same is.place) ∙ is.inside; reads = is.reads }
+follower_same n xs ys p same is = record { outside = sym (same p) ∙ is.outside; node = is.node; inside = sym (same is.node) ∙ is.inside; reads = is.reads }
 
 pub output_same : (n : Net) (xs ys : List ℕ) (p : ℕ) → HaveSame xs ys → IsOutput n xs p → IsOutput n ys p
 output_same n xs ys p same is =
     record {
       inside = sym (same p) ∙ is.inside;
       seen = ⊎_elim
-          (λ read. inl (record { reader = read.reader; outside = sym (same read.reader) ∙ read.outside; reads = read.reads }))
+          (λ read. inl (record { fanout = read.fanout; outside = sym (same read.fanout) ∙ read.outside; reads = read.reads }))
           (λ sink. inr sink)
           is.seen;
     }
@@ -44,9 +44,9 @@ turned xs ys same q = sym (same q)
 
 -- ---- taking
 
-pub taking_start : (n : Net) (gates all tail : List ℕ) → all ≡ gates → IsRising all → ((p : ℕ) → among all p ≡ true → IsGate n p) → tail ≡ [] → IsTaking n gates 0 all tail
+pub taking_start : (n : Net) (gates all fanout_cone : List ℕ) → all ≡ gates → IsRising all → ((p : ℕ) → among all p ≡ true → IsGate n p) → fanout_cone ≡ [] → IsConeTaking n gates 0 all fanout_cone
 unfolding AreFollowing IsRising
-taking_start n gates all tail same rising are none =
+taking_start n gates all fanout_cone same rising are none =
     record {
       taken = [];
       following = tt;
@@ -58,44 +58,56 @@ taking_start n gates all tail same rising are none =
       are = are;
     }
 
-pub taking_more : (n : Net) (gates all tail new next : List ℕ) (count p : ℕ) → IsNet n → (p ≡ 0 → ⊥) → IsNextFollower n all p → new ≡ put p all → next ≡ tail ++ p ∷ [] → IsTaking n gates count all tail → IsTaking n gates (count + 1) new next
+pub taking_more : (n : Net) (gates all fanout_cone new next : List ℕ) (count p : ℕ) → IsNet n → (p ≡ 0 → ⊥) →
+    IsNextFollower n all p → new ≡ put p all → next ≡ fanout_cone ++ p ∷ [] →
+    IsConeTaking n gates count all fanout_cone → IsConeTaking n gates (count + 1) new next
 unfolding AreFollowing
-taking_more n gates all tail new next count p net some follower new_is next_is was =
+taking_more n gates all fanout_cone new next count p net some follower new_is next_is was =
     let taken : List ℕ = was.taken in
     let first : IsFollower n all p = ⊎_elim (λ none. absurd (some none)) (λ f. f) follower.found in
     let own : IsFollower n (taken ++ gates) p = follower_same n all (taken ++ gates) p was.same first in
-    let least : IsLeastFollower n (taken ++ gates) p = record { follower = own; least = λ q is. (follower.most q (follower_same n (taken ++ gates) all q (turned all (taken ++ gates) was.same) is)).1 } in
-    subst (λ (xs : List ℕ). IsTaking n gates (count + 1) xs next) (sym new_is)
-    (subst (λ (ts : List ℕ). IsTaking n gates (count + 1) (put p all) ts) (sym next_is)
+    let least : IsLeastFollower n (taken ++ gates) p =
+    record {
+      follower = own;
+      least = λ q is. (follower.most q (follower_same n (taken ++
+          gates) all q (turned all (taken ++ gates) was.same) is)).1;
+    } in
+    subst (λ (xs : List ℕ). IsConeTaking n gates (count + 1) xs next) (sym new_is)
+    (subst (λ (ts : List ℕ). IsConeTaking n gates (count + 1) (put p all) ts) (sym next_is)
     (record {
       taken = p ∷ taken;
       following = (least, was.following);
       size = omega (arith, was.size);
       just = record {
-        rising = rising_end tail p was.just.rising (λ q e. follower_high n gates taken p q net was.following own (was.just.only q e));
-        only = λ q e. ⊎_elim (λ there. among_later p q taken (was.just.only q there)) (λ (same : q ≡ p). subst (λ (z : ℕ). among (p ∷ taken) z ≡ true) (sym same) (among_first p taken)) (among_end tail p q e);
+        rising = rising_end fanout_cone p was.just.rising (λ q e. follower_high n gates taken p q net was.following own (was.just.only q e));
+        only = λ q e. ⊎_elim (λ there. among_later p q taken (was.just.only q there)) (λ (same : q ≡ p).
+            subst (λ (z : ℕ). among (p ∷ taken) z ≡ true) (sym same) (among_first p taken)) (among_end fanout_cone p q e);
         all = λ q e. ⊎_elim
-            (λ (same : q ≡ p). subst (λ (z : ℕ). among (tail ++ p ∷ []) z ≡ true) (sym same) (end_among tail p))
-            (λ later. front_among tail p q (was.just.all q later))
+            (λ (same : q ≡ p). subst (λ (z : ℕ). among (fanout_cone ++ p ∷ []) z ≡ true) (sym same) (end_among fanout_cone p))
+            (λ later. prefix_among fanout_cone p q (was.just.all q later))
             (among_cases p q taken e);
       };
       rising = put_rising p all was.rising;
       same = both_same (put p all) (p ∷ (taken ++ gates))
-          (λ q e. ⊎_elim (λ (same : q ≡ p). subst (λ (z : ℕ). among (p ∷ (taken ++ gates)) z ≡ true) (sym same) (among_first p (taken ++ gates))) (λ there. among_later p q (taken ++ gates) (sym (was.same q) ∙ there)) (put_only p q all e))
-          (λ q e. ⊎_elim (λ (same : q ≡ p). subst (λ (z : ℕ). among (put p all) z ≡ true) (sym same) (put_own p all)) (λ there. put_kept p q all (was.same q ∙ there)) (among_cases p q (taken ++ gates) e));
+          (λ q e. ⊎_elim (λ (same : q ≡ p). subst (λ (z : ℕ). among (p ∷ (taken ++ gates)) z ≡ true) (sym same)
+          (among_first p (taken ++ gates))) (λ there. among_later p q (taken ++ gates) (sym (was.same q) ∙ there))
+          (put_only p q all e))
+          (λ q e. ⊎_elim (λ (same : q ≡ p). subst (λ (z : ℕ). among (put p all) z ≡ true) (sym same) (put_own p all))
+          (λ there. put_kept p q all (was.same q ∙ there)) (among_cases p q (taken ++ gates) e));
       few = omega (arith, was.few, (put_longer p all was.rising).1);
-      are = λ q e. ⊎_elim (λ (same : q ≡ p). subst (IsGate n) (sym same) first.reads.reader) (λ there. was.are q there) (put_only p q all e);
+      are = λ q e. ⊎_elim (λ (same : q ≡ p). subst (IsGate n) (sym same) first.reads.fanout) (λ there. was.are q there) (put_only p q all e);
     }))
 
 -- the window's gates with the fanout cone
-joined : (n : Net) (gates all tail : List ℕ) (count : ℕ) → (w : IsTaking n gates count all tail) → HaveSame all (tail ++ gates)
-joined n gates all tail count w =
-    both_same all (tail ++ gates)
-    (λ q e. ⊎_elim (λ a. in_front tail gates q (w.just.all q a)) (λ b. in_back tail gates q b) (in_parts w.taken gates q (sym (w.same q) ∙ e)))
-    (λ q e. w.same q ∙ ⊎_elim (λ a. in_front w.taken gates q (w.just.only q a)) (λ b. in_back w.taken gates q b) (in_parts tail gates q e))
+joined : (n : Net) (gates all fanout_cone : List ℕ) (count : ℕ) → (w : IsConeTaking n gates count all fanout_cone) → HaveSame all (fanout_cone ++ gates)
+joined n gates all fanout_cone count w =
+    both_same all (fanout_cone ++ gates)
+    (λ q e. ⊎_elim (λ a. in_prefix fanout_cone gates q (w.just.all q a)) (λ b. in_back fanout_cone gates q b) (in_parts w.taken gates q (sym (w.same q) ∙ e)))
+    (λ q e. w.same q ∙ ⊎_elim (λ a. in_prefix w.taken gates q (w.just.only q a)) (λ b. in_back w.taken gates q b) (in_parts fanout_cone gates q e))
 
-pub taking_none : (n : Net) (gates all tail : List ℕ) (count p : ℕ) → count ≤ 16 → p ≡ 0 → IsNextFollower n all p → IsTaking n gates count all tail → HasTail n gates all tail
-taking_none n gates all tail count p low none follower was =
+pub taking_none : (n : Net) (gates all fanout_cone : List ℕ) (count p : ℕ) → count ≤ 16 → p ≡ 0 →
+    IsNextFollower n all p → IsConeTaking n gates count all fanout_cone → HasFanoutCone n gates all fanout_cone
+taking_none n gates all fanout_cone count p low none follower was =
     record {
       is = record {
         taken = was.taken;
@@ -105,13 +117,13 @@ taking_none n gates all tail count p low none follower was =
         just = was.just;
       };
       rising = was.rising;
-      same = joined n gates all tail count was;
+      same = joined n gates all fanout_cone count was;
       few = omega (arith, was.few, low);
       are = was.are;
     }
 
-pub taking_end : (n : Net) (gates all tail : List ℕ) (count : ℕ) → count ≡ 16 → IsTaking n gates count all tail → HasTail n gates all tail
-taking_end n gates all tail count full was =
+pub taking_end : (n : Net) (gates all fanout_cone : List ℕ) (count : ℕ) → count ≡ 16 → IsConeTaking n gates count all fanout_cone → HasFanoutCone n gates all fanout_cone
+taking_end n gates all fanout_cone count full was =
     record {
       is = record {
         taken = was.taken;
@@ -121,7 +133,7 @@ taking_end n gates all tail count full was =
         just = was.just;
       };
       rising = was.rising;
-      same = joined n gates all tail count was;
+      same = joined n gates all fanout_cone count was;
       few = omega (arith, was.few, full);
       are = was.are;
     }
@@ -137,57 +149,109 @@ taken_outside n gates (q ∷ before) p are on =
     (λ later. taken_outside n gates before p are.1 later)
     (among_cases q p before on)
 
-pub tail_outside : (n : Net) (gates tail : List ℕ) (p : ℕ) → AreTail n gates tail → among tail p ≡ true → among gates p ≡ false
-tail_outside n gates tail p are on = taken_outside n gates are.taken p are.following (are.just.only p on)
+pub fanout_cone_outside : (n : Net) (gates fanout_cone : List ℕ) (p : ℕ) → AreFanoutCone n gates fanout_cone → among fanout_cone p ≡ true → among gates p ≡ false
+fanout_cone_outside n gates fanout_cone p are on = taken_outside n gates are.taken p are.following (are.just.only p on)
 
-pub sides_are : (n : Net) (gates all tail inputs sides : List ℕ) → HasTail n gates all tail → AreJust (IsInput n all) inputs → AreJust (IsBoth (IsReadBy n tail) inputs) sides → AreJust (IsSide n gates tail) sides
-sides_are n gates all tail inputs sides has are kept =
+pub side_inputs_are : (n : Net) (gates all fanout_cone inputs side_inputs : List ℕ) →
+    HasFanoutCone n gates all fanout_cone → AreJust (IsInput n all) inputs →
+    AreJust (IsBoth (IsReadBy n fanout_cone) inputs) side_inputs → AreJust (IsSideInput n gates fanout_cone) side_inputs
+side_inputs_are n gates all fanout_cone inputs side_inputs has are kept =
     record {
       rising = kept.rising;
       only = λ p e. let both = kept.only p e in record { outside = sym (has.same p) ∙ (are.only p both.0).outside; read = both.1 };
-      all = λ p side. kept.all p
-          (are.all p (record { outside = has.same p ∙ side.outside; read = record { reader = side.read.reader; inside = has.same side.read.reader ∙ in_front tail gates side.read.reader side.read.inside; reads = side.read.reads } }), side.read);
+      all = λ p side_input. kept.all p (
+        are.all p (record {
+          outside = has.same p ∙ side_input.outside;
+          read = record {
+            fanout = side_input.read.fanout;
+            inside = has.same side_input.read.fanout
+                ∙ in_prefix fanout_cone gates side_input.read.fanout side_input.read.inside;
+            reads =
+                side_input.read.reads;
+          };
+        }),
+        side_input.read,
+      );
     }
 
-pub watchers_are : (n : Net) (gates all tail outputs watchers : List ℕ) → HasTail n gates all tail → AreJust (IsOutput n all) outputs → AreJust (IsBoth (λ p. among gates p ≡ false) outputs) watchers → AreJust (IsWatcher n gates tail) watchers
-watchers_are n gates all tail outputs watchers has are kept =
+pub cone_outputs_are : (n : Net) (gates all fanout_cone outputs cone_outputs : List ℕ) →
+    HasFanoutCone n gates all fanout_cone → AreJust (IsOutput n all) outputs →
+    AreJust (IsBoth (λ p. among gates p ≡ false) outputs) cone_outputs →
+    AreJust (IsConeOutput n gates fanout_cone) cone_outputs
+cone_outputs_are n gates all fanout_cone outputs cone_outputs has are kept =
     record {
       rising = kept.rising;
       only = λ p e.
           let both = kept.only p e in
-          let seen : IsOutput n (tail ++ gates) p = output_same n all (tail ++ gates) p has.same (are.only p both.0) in
-          record { inside = ⊎_elim (λ a. a) (λ b. absurd (both_ways (among gates p) both.1 b)) (in_parts tail gates p seen.inside); seen = seen };
-      all = λ p watcher. kept.all p
-          (are.all p (output_same n (tail ++ gates) all p (turned all (tail ++ gates) has.same) watcher.seen), tail_outside n gates tail p has.is watcher.inside);
+          let seen : IsOutput n (fanout_cone ++ gates) p = output_same n all (fanout_cone ++ gates) p has.same (are.only p both.0) in
+          record { inside = ⊎_elim (λ a. a) (λ b. absurd (both_ways (among gates p) both.1 b)) (in_parts fanout_cone gates p seen.inside); seen = seen };
+      all = λ p cone_output. kept.all p
+          (are.all p (output_same n (fanout_cone ++ gates) all p (turned all (fanout_cone ++ gates) has.same) cone_output.seen), fanout_cone_outside n gates fanout_cone p has.is cone_output.inside);
     }
 
-pub some_bare : (n : Net) (gates all tail outputs : List ℕ) → HasTail n gates all tail → AreJust (IsOutput n all) outputs → HasSome gates outputs → IsBare n gates tail
-some_bare n gates all tail outputs has are some =
-    record { place = some.place; inside = some.inside; seen = output_same n all (tail ++ gates) some.place has.same (are.only some.place some.there) }
+pub some_directly_observable : (n : Net) (gates all fanout_cone outputs : List ℕ) →
+    HasFanoutCone n gates all fanout_cone → AreJust (IsOutput n all) outputs → HasSome gates outputs →
+    IsDirectlyObservable n gates fanout_cone
+some_directly_observable n gates all fanout_cone outputs has are some =
+    record { node = some.node; inside = some.inside; seen = output_same n all (fanout_cone ++ gates) some.node has.same (are.only some.node some.there) }
 
-pub bare_some : (n : Net) (gates all tail outputs : List ℕ) → HasTail n gates all tail → AreJust (IsOutput n all) outputs → IsBare n gates tail → HasSome gates outputs
-bare_some n gates all tail outputs has are bare =
-    record { place = bare.place; inside = bare.inside; there = are.all bare.place (output_same n (tail ++ gates) all bare.place (turned all (tail ++ gates) has.same) bare.seen) }
+pub directly_observable_some : (n : Net) (gates all fanout_cone outputs : List ℕ) →
+    HasFanoutCone n gates all fanout_cone → AreJust (IsOutput n all) outputs →
+    IsDirectlyObservable n gates fanout_cone → HasSome gates outputs
+directly_observable_some n gates all fanout_cone outputs has are directly_observable =
+    record {
+      node = directly_observable.node;
+      inside = directly_observable.inside;
+      there = are.all directly_observable.node (output_same n (fanout_cone ++ gates) all directly_observable.node
+          (turned all (fanout_cone ++ gates) has.same) directly_observable.seen);
+    }
 
 -- all of it
-pub tail_is : (n : Net) (w : Window) (start all tail inputs sides outputs watchers : List ℕ) (bare : Bool) → start ≡ w.gates → HasTail n start all tail → AreJust (IsInput n all) inputs → AreJust (IsBoth (IsReadBy n tail) inputs) sides → AreJust (IsOutput n all) outputs → AreJust (IsBoth (λ p. among w.gates p ≡ false) outputs) watchers → (bare ≡ true → HasSome w.gates outputs) → (HasSome w.gates outputs → bare ≡ true) → IsTail n w (record { gates = tail; sides = sides; watchers = watchers; bare = bare })
-tail_is n w start all tail inputs sides outputs watchers bare same has_start inputs_are kept_sides outputs_are kept_watchers bare_on bare_off =
-    let has : HasTail n w.gates all tail = subst (λ (gs : List ℕ). HasTail n gs all tail) same has_start in
+pub fanout_cone_is : (n : Net) (w : Window) (start all fanout_cone inputs side_inputs outputs cone_outputs : List ℕ)
+    (directly_observable : Bool) → start ≡ w.gates → HasFanoutCone n start all fanout_cone →
+    AreJust (IsInput n all) inputs → AreJust (IsBoth (IsReadBy n fanout_cone) inputs) side_inputs →
+    AreJust (IsOutput n all) outputs → AreJust (IsBoth (λ p. among w.gates p ≡ false) outputs) cone_outputs →
+    (directly_observable ≡ true → HasSome w.gates outputs) → (HasSome w.gates outputs → directly_observable ≡ true) →
+    IsFanoutCone n w (record {
+      gates = fanout_cone;
+      side_inputs = side_inputs;
+      cone_outputs = cone_outputs;
+      directly_observable = directly_observable;
+    })
+fanout_cone_is n w start all fanout_cone inputs side_inputs outputs cone_outputs directly_observable same has_start
+    inputs_are kept_side_inputs outputs_are kept_cone_outputs directly_observable_on directly_observable_off =
+    let has : HasFanoutCone n w.gates all fanout_cone = subst (λ (gs : List ℕ). HasFanoutCone n gs all fanout_cone) same has_start in
     record {
       gates = has.is;
-      sides = sides_are n w.gates all tail inputs sides has inputs_are kept_sides;
-      watchers = watchers_are n w.gates all tail outputs watchers has outputs_are kept_watchers;
-      bare = λ on. some_bare n w.gates all tail outputs has outputs_are (bare_on on);
-      hidden = λ off is. both_ways bare off (bare_off (bare_some n w.gates all tail outputs has outputs_are is));
+      side_inputs = side_inputs_are n w.gates all fanout_cone inputs side_inputs has inputs_are kept_side_inputs;
+      cone_outputs = cone_outputs_are n w.gates all fanout_cone outputs cone_outputs has outputs_are kept_cone_outputs;
+      directly_observable = λ on. some_directly_observable n w.gates all fanout_cone outputs has outputs_are (directly_observable_on on);
+      hidden = λ off is. both_ways directly_observable off (directly_observable_off (directly_observable_some n w.gates all fanout_cone outputs has outputs_are is));
     }
 
 -- and by the code's own lists
-pub tail_code : (n : Net) (w : Window) (start all tail inputs sides outputs watchers all_a ins tl all_b outs_a gs_a gs_b outs_b : List ℕ) (bare : Bool) → start ≡ w.gates → HasTail n start all tail → all_a ≡ all → AreJust (IsInput n all_a) inputs → ins ≡ inputs → tl ≡ tail → AreJust (IsBoth (IsReadBy n tl) ins) sides → all_b ≡ all → AreJust (IsOutput n all_b) outputs → outs_a ≡ outputs → gs_a ≡ w.gates → AreJust (IsBoth (λ p. among gs_a p ≡ false) outs_a) watchers → gs_b ≡ w.gates → outs_b ≡ outputs → (bare ≡ true → HasSome gs_b outs_b) → (HasSome gs_b outs_b → bare ≡ true) → IsTail n w (record { gates = tail; sides = sides; watchers = watchers; bare = bare })
-tail_code n w start all tail inputs sides outputs watchers all_a ins tl all_b outs_a gs_a gs_b outs_b bare same has all_a_is inputs_are ins_is tl_is kept_sides all_b_is outputs_are outs_a_is gs_a_is kept_watchers gs_b_is outs_b_is bare_on bare_off =
-    tail_is n w start all tail inputs sides outputs watchers bare same has
+pub fanout_cone_code : (n : Net) (w : Window) (start all fanout_cone inputs side_inputs outputs cone_outputs all_a ins
+    tl all_b outs_a gs_a gs_b outs_b : List ℕ) (directly_observable : Bool) → start ≡ w.gates →
+    HasFanoutCone n start all fanout_cone → all_a ≡ all → AreJust (IsInput n all_a) inputs → ins ≡ inputs →
+    tl ≡ fanout_cone → AreJust (IsBoth (IsReadBy n tl) ins) side_inputs → all_b ≡ all →
+    AreJust (IsOutput n all_b) outputs → outs_a ≡ outputs → gs_a ≡ w.gates →
+    AreJust (IsBoth (λ p. among gs_a p ≡ false) outs_a) cone_outputs → gs_b ≡ w.gates → outs_b ≡ outputs →
+    (directly_observable ≡ true → HasSome gs_b outs_b) → (HasSome gs_b outs_b → directly_observable ≡ true) →
+    IsFanoutCone n w (record {
+      gates = fanout_cone;
+      side_inputs = side_inputs;
+      cone_outputs = cone_outputs;
+      directly_observable = directly_observable;
+    })
+fanout_cone_code n w start all fanout_cone inputs side_inputs outputs cone_outputs all_a ins tl all_b outs_a gs_a gs_b
+    outs_b directly_observable same has all_a_is inputs_are ins_is tl_is kept_side_inputs all_b_is outputs_are
+    outs_a_is gs_a_is kept_cone_outputs gs_b_is outs_b_is directly_observable_on directly_observable_off =
+    fanout_cone_is n w start all fanout_cone inputs side_inputs outputs cone_outputs directly_observable same has
     (subst (λ (xs : List ℕ). AreJust (IsInput n xs) inputs) all_a_is inputs_are)
-    (subst (λ (xs : List ℕ). AreJust (IsBoth (IsReadBy n tail) xs) sides) ins_is (subst (λ (ys : List ℕ). AreJust (IsBoth (IsReadBy n ys) ins) sides) tl_is kept_sides))
+    (subst (λ (xs : List ℕ). AreJust (IsBoth (IsReadBy n fanout_cone) xs) side_inputs) ins_is (subst (λ (ys : List ℕ). AreJust (IsBoth (IsReadBy n ys) ins) side_inputs) tl_is kept_side_inputs))
     (subst (λ (xs : List ℕ). AreJust (IsOutput n xs) outputs) all_b_is outputs_are)
-    (subst (λ (xs : List ℕ). AreJust (IsBoth (λ p. among w.gates p ≡ false) xs) watchers) outs_a_is (subst (λ (ys : List ℕ). AreJust (IsBoth (λ p. among ys p ≡ false) outs_a) watchers) gs_a_is kept_watchers))
-    (λ on. subst (λ (xs : List ℕ). HasSome xs outputs) gs_b_is (subst (λ (ys : List ℕ). HasSome gs_b ys) outs_b_is (bare_on on)))
-    (λ some. bare_off (subst (λ (xs : List ℕ). HasSome xs outs_b) (sym gs_b_is) (subst (λ (ys : List ℕ). HasSome w.gates ys) (sym outs_b_is) some)))
+    (subst (λ (xs : List ℕ). AreJust (IsBoth (λ p. among w.gates p ≡ false) xs) cone_outputs) outs_a_is
+    (subst (λ (ys : List ℕ). AreJust (IsBoth (λ p. among ys p ≡ false) outs_a) cone_outputs) gs_a_is
+    kept_cone_outputs))
+    (λ on. subst (λ (xs : List ℕ). HasSome xs outputs) gs_b_is (subst (λ (ys : List ℕ). HasSome gs_b ys) outs_b_is (directly_observable_on on)))
+    (λ some. directly_observable_off (subst (λ (xs : List ℕ). HasSome xs outs_b) (sym gs_b_is) (subst (λ (ys : List ℕ). HasSome w.gates ys) (sym outs_b_is) some)))

@@ -2,12 +2,13 @@
 //! outputs. The fanin cone is simulated once, and the fanout cone above it with each value of the window's
 //! outputs; the words of its outputs are compared with those for the value 0.
 
-ghost use Rattle.std.specs.Prelude.{◌≡◌, ℕ, ◌+◌, ◌*◌, ◌≤◌, ◌<◌, ◌^◌, true, length, slice_index_or, slice_set, bit_or, bit_xor, IfOk, OnOk};
-ghost use Rattle.lane_sim.specs.Above.{HasWords};
+ghost use Rattle.std.specs.Prelude.{◌≡◌, ℕ, ◌+◌, ◌*◌, ◌≤◌, ◌<◌, ◌^◌, true, length, slice_index_or, slice_set, bit_or};
+ghost use Rattle.std.specs.Prelude.{bit_xor, IfOk, OnOk};
+ghost use Rattle.lane_sim.specs.Above.{BeginsWithWords};
 ghost use Rattle.lane_sim.specs.Words.{AreWords, width_of};
-ghost use Rattle.window_theory.specs.Places.{among};
-ghost use Rattle.observe_core.specs.Differing.{IsAdded, AreAdded, AreTelling};
-ghost use Rattle.observe_core.specs.Forcing.{StandsAbove, HaveBits, Tell};
+ghost use Rattle.window_theory.specs.Nodes.{among};
+ghost use Rattle.observe_core.specs.Differing.{IsDifferenceAdded, AreAdded, AreDistinguishing};
+ghost use Rattle.observe_core.specs.Forcing.{StandsAbove, HaveBits, Distinguish};
 ghost use Rattle.observe_core.specs.Putting.{IsAbove};
 
 use crate::forcing::Forced;
@@ -21,7 +22,9 @@ fn add_one(differ: &mut [u64], first: &[u64], second: &[u64], start: usize, j: u
     requires within { j < length differ.old }
     requires one { start + j < length first.now }
     requires two { start + j < length second.now }
-    ensures { differ.new ≡ slice_set differ.old j (bit_or (slice_index_or differ.old j 0) (bit_xor (slice_index_or first.now (start + j) 0) (slice_index_or second.now (start + j) 0))) }
+    ensures { differ.new ≡ slice_set differ.old j
+        (bit_or (slice_index_or differ.old j 0) (bit_xor (slice_index_or first.now (start + j) 0)
+        (slice_index_or second.now (start + j) 0))) }
 {
     differ[j] |= first[start + j] ^ second[start + j];
 }
@@ -30,7 +33,7 @@ fn add_one(differ: &mut [u64], first: &[u64], second: &[u64], start: usize, j: u
 fn add_difference(differ: &mut [u64], first: &[u64], second: &[u64], start: usize)
     requires one { start + length differ.old ≤ length first.now }
     requires two { start + length differ.old ≤ length second.now }
-    ensures { IsAdded first.now second.now start (length differ.old) differ.old differ.new }
+    ensures { IsDifferenceAdded first.now second.now start (length differ.old) differ.old differ.new }
 {
     for j in 0..differ.len() {
         add_one(differ, first, second, start, j);
@@ -39,22 +42,23 @@ fn add_difference(differ: &mut [u64], first: &[u64], second: &[u64], start: usiz
 
 /// ORs in the bits in which the rows of the fanout cone's outputs differ. The rows of the fanout cone's gates
 /// follow each other after the first `start` rows.
-fn add_watchers(
+fn add_cone_outputs(
     differ: &mut [u64],
     first: &[u64],
     second: &[u64],
     start: usize,
-    tail: &[u32],
-    watchers: &[u32],
+    fanout_cone: &[u32],
+    cone_outputs: &[u32],
 )
     requires some { 1 ≤ length differ.old }
     requires small { length first.now < 2 ^ 63 }
-    requires one { (start + length tail.now) * length differ.old ≤ length first.now }
-    requires two { (start + length tail.now) * length differ.old ≤ length second.now }
-    ensures { AreAdded first.now second.now start tail.now watchers.now (length tail.now) differ.old differ.new }
+    requires one { (start + length fanout_cone.now) * length differ.old ≤ length first.now }
+    requires two { (start + length fanout_cone.now) * length differ.old ≤ length second.now }
+    ensures { AreAdded first.now second.now start fanout_cone.now cone_outputs.now
+        (length fanout_cone.now) differ.old differ.new }
 {
-    for i in 0..tail.len() {
-        if !has(watchers, tail[i]) {
+    for i in 0..fanout_cone.len() {
+        if !has(cone_outputs, fanout_cone[i]) {
             continue;
         }
         let row = (start + i) * differ.len();
@@ -65,14 +69,14 @@ fn add_watchers(
 /// Simulates the fanout cone with the window's outputs forced to `bits`; the rows of the fanin cone stay.
 fn put_words(alloc: Global, forced: Forced, bits: u32, words: &mut Words) -> Result<(), AllocError>
     requires above { StandsAbove forced }
-    requires words { HasWords forced.surround.now words.old }
+    requires words { BeginsWithWords forced.fanin_cone.now words.old }
     ensures put { OnOk result (HaveBits forced.entry bits words.new) }
-    ensures below { OnOk result (HasWords forced.entry.surround.now words.new) }
+    ensures below { OnOk result (BeginsWithWords forced.entry.fanin_cone.now words.new) }
 {
     let _sources = forced.net.sources(); // for the prover: brings the type's invariant into the proof
-    let _leaves = forced.surround.leaves(); // for the prover: the fanin cone is a cone
-    let gates = put_gates(alloc, forced.net, forced.outputs, bits, forced.tail)?;
-    simulate_above(words, forced.index, forced.surround, &gates)?;
+    let _leaves = forced.fanin_cone.leaves(); // for the prover: the fanin cone is a cone
+    let gates = put_gates(alloc, forced.net, forced.outputs, bits, forced.fanout_cone)?;
+    simulate_above(words, forced.index, forced.fanin_cone, &gates)?;
     Ok(())
 }
 
@@ -87,23 +91,23 @@ fn add_bits(
 ) -> Result<(), AllocError>
     requires above { StandsAbove forced }
     requires zero { HaveBits forced 0 zero.now }
-    requires words { HasWords forced.surround.now words.old }
-    requires size { length differ.old ≡ width_of (2 ^ length forced.surround.now.leaves) }
-    requires told { Tell forced bits differ.old }
-    ensures told { OnOk result (Tell forced.entry (bits + 1) differ.new) }
+    requires words { BeginsWithWords forced.fanin_cone.now words.old }
+    requires size { length differ.old ≡ width_of (2 ^ length forced.fanin_cone.now.leaves) }
+    requires distinguished { Distinguish forced bits differ.old }
+    ensures distinguished { OnOk result (Distinguish forced.entry (bits + 1) differ.new) }
     ensures size { length differ.new ≡ length differ.old }
-    ensures words { OnOk result (HasWords forced.entry.surround.now words.new) }
+    ensures words { OnOk result (BeginsWithWords forced.entry.fanin_cone.now words.new) }
 {
     let _sources = forced.net.sources(); // for the prover: brings the type's invariant into the proof
     put_words(alloc, forced, bits, words)?;
-    let start = forced.surround.leaves().len() + forced.surround.gates().len();
-    add_watchers(
+    let start = forced.fanin_cone.leaves().len() + forced.fanin_cone.gates().len();
+    add_cone_outputs(
         differ,
         lanes_of(zero),
         lanes_of(words),
         start,
-        forced.tail,
-        forced.watchers,
+        forced.fanout_cone,
+        forced.cone_outputs,
     );
     Ok(())
 }
@@ -118,10 +122,10 @@ fn add_all_bits(
 ) -> Result<(), AllocError>
     requires above { StandsAbove forced }
     requires zero { HaveBits forced 0 zero.now }
-    requires words { HasWords forced.surround.now words.old }
-    requires size { length differ.old ≡ width_of (2 ^ length forced.surround.now.leaves) }
-    requires told { Tell forced 1 differ.old }
-    ensures told { OnOk result (Tell forced.entry (2 ^ length forced.entry.outputs.now) differ.new) }
+    requires words { BeginsWithWords forced.fanin_cone.now words.old }
+    requires size { length differ.old ≡ width_of (2 ^ length forced.fanin_cone.now.leaves) }
+    requires distinguished { Distinguish forced 1 differ.old }
+    ensures distinguished { OnOk result (Distinguish forced.entry (2 ^ length forced.entry.outputs.now) differ.new) }
     ensures size { length differ.new ≡ length differ.old }
 {
     for bits in 1..(1u32 << forced.outputs.len()) {
@@ -133,9 +137,9 @@ fn add_all_bits(
 /// The words of both cones with the window's outputs forced to 0, from those of the fanin cone.
 fn zero_words(alloc: Global, forced: Forced, words: &Words) -> Result<Words, AllocError>
     requires above { StandsAbove forced }
-    requires words { AreWords forced.surround.now words.now }
+    requires words { AreWords forced.fanin_cone.now words.now }
     ensures put { IfOk result (HaveBits forced.entry 0) }
-    ensures below { IfOk result (HasWords forced.entry.surround.now) }
+    ensures below { IfOk result (BeginsWithWords forced.entry.fanin_cone.now) }
 {
     let more = lanes_of(words).len();
     let mut zero = copy_words(alloc, words, more)?;
@@ -145,36 +149,37 @@ fn zero_words(alloc: Global, forced: Forced, words: &Words) -> Result<Words, All
 
 /// The assignments of the fanin cone's leaves that distinguish two values of the window's outputs, as the
 /// bits of words. The fanin cone's words are given, so it isn't simulated again.
-pub(crate) fn telling(
+pub(crate) fn distinguishing(
     alloc: Global,
     net: &Net,
     outputs: &[u32],
-    surround: &Cone,
+    fanin_cone: &Cone,
     words: &Words,
-    tail: &[u32],
-    watchers: &[u32],
+    fanout_cone: &[u32],
+    cone_outputs: &[u32],
 ) -> Result<Vec<u64>, AllocError>
     requires few { length outputs.now ≤ 8 }
-    requires above { IsAbove net.now outputs.now surround.now tail.now }
-    requires words { AreWords surround.now words.now }
-    requires watchers { (p : ℕ) → among watchers.now p ≡ true → among tail.now p ≡ true }
-    ensures size { IfOk result (λ differ. length differ.items ≡ width_of (2 ^ length surround.now.leaves)) }
-    ensures telling { IfOk result (λ differ. AreTelling net.now surround.now.leaves outputs.now watchers.now differ.items) }
+    requires above { IsAbove net.now outputs.now fanin_cone.now fanout_cone.now }
+    requires words { AreWords fanin_cone.now words.now }
+    requires cone_outputs { (p : ℕ) → among cone_outputs.now p ≡ true → among fanout_cone.now p ≡ true }
+    ensures size { IfOk result (λ differ. length differ.items ≡ width_of (2 ^ length fanin_cone.now.leaves)) }
+    ensures distinguishing { IfOk result (λ differ.
+        AreDistinguishing net.now fanin_cone.now.leaves outputs.now cone_outputs.now differ.items) }
 {
     let _sources = net.sources(); // for the prover: brings the type's invariant into the proof
-    let _leaves = surround.leaves(); // for the prover: the fanin cone is a cone
-    let index = index_of(alloc, surround, tail)?;
+    let _leaves = fanin_cone.leaves(); // for the prover: the fanin cone is a cone
+    let index = index_of(alloc, fanin_cone, fanout_cone)?;
     let forced = Forced {
         net,
         outputs,
-        surround,
-        tail,
-        watchers,
+        fanin_cone,
+        fanout_cone,
+        cone_outputs,
         index: &index,
     };
     let zero = zero_words(alloc, forced, words)?;
     let mut other = copy_words(alloc, &zero, 0)?;
-    let rows = 1usize << surround.leaves().len();
+    let rows = 1usize << fanin_cone.leaves().len();
     let mut differ = vec![in alloc; 0u64; (rows + 63) / 64]?;
     add_all_bits(alloc, forced, &zero, &mut other, &mut differ)?;
     Ok(differ)

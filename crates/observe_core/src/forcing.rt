@@ -1,8 +1,8 @@
 //! The outputs of a window that are forced, with its fanout cone above the observing fanin cone.
 
 ghost use Rattle.std.specs.Prelude.{◌≡◌, ℕ, ◌≤◌, ◌++◌, true, length};
-ghost use Rattle.lane_sim.specs.Cone.{places};
-ghost use Rattle.window_theory.specs.Places.{among};
+ghost use Rattle.lane_sim.specs.Cone.{nodes};
+ghost use Rattle.window_theory.specs.Nodes.{among};
 
 use lane_sim::{Cone, Index};
 use window_core::Net;
@@ -13,11 +13,11 @@ use window_core::Net;
 pub(crate) struct Forced<'a> {
     pub(crate) net: &'a Net,
     pub(crate) outputs: &'a [u32],
-    pub(crate) surround: &'a Cone,
-    pub(crate) tail: &'a [u32],
-    pub(crate) watchers: &'a [u32],
+    pub(crate) fanin_cone: &'a Cone,
+    pub(crate) fanout_cone: &'a [u32],
+    pub(crate) cone_outputs: &'a [u32],
     pub(crate) index: &'a Index,
     ghost few: { length outputs.now ≤ 8 },
-    ghost watched: { (p : ℕ) → among watchers.now p ≡ true → among tail.now p ≡ true },
-    ghost indexed: { index.now ≡ places surround.now ++ tail.now },
+    ghost outputs_within: { (p : ℕ) → among cone_outputs.now p ≡ true → among fanout_cone.now p ≡ true },
+    ghost indexed: { index.now ≡ nodes fanin_cone.now ++ fanout_cone.now },
 }

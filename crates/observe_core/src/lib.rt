@@ -2,12 +2,12 @@
 //! the rows of the window's inputs on which no output of this cone depends on the window, and the window's
 //! specification with these rows free.
 //!
-//! - `tail` finds the fanout cone, by the index of the net.
+//! - `fanout_cone` finds the fanout cone, by the index of the net.
 //! - `observed_spec` is the window's specification with the cells of all unobservable rows free. The fanout
 //!   cone is simulated above its fanin cone with each value of the window's outputs; where its own outputs
 //!   never differ, the row of the window's inputs is unobservable.
 //! - A chain that implements this specification may replace the window, and all sinks keep their values
-//!   (`seen_keeps`).
+//!   (`observable_keeps`).
 //!
 //! ```text
 //! let fanouts = fanouts_of(alloc, &net)?;
@@ -27,5 +27,5 @@ mod trailing;
 
 pub use lists::lists_of;
 pub use narrowing::{observed_spec, observed_spec_by};
-pub use shape::Tail;
-pub use trailing::{tail, tail_by};
+pub use shape::FanoutCone;
+pub use trailing::{fanout_cone, fanout_cone_by};

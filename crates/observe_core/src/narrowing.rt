@@ -3,16 +3,16 @@
 ghost use Rattle.std.specs.Prelude.{◌≡◌, map, bit_and, IfOk};
 ghost use Rattle.tt_core.specs.Words.{specification};
 ghost use Rattle.window_theory.specs.Window.{Belongs};
-ghost use Rattle.window_core.specs.Readers.{AreReaders};
-ghost use Rattle.observe_theory.specs.Tail.{Tail, IsTail};
+ghost use Rattle.window_core.specs.Fanouts.{AreFanouts};
+ghost use Rattle.observe_theory.specs.FanoutCone.{FanoutCone, IsFanoutCone};
 ghost use Rattle.observe_theory.specs.Observed.{IsObservedOf};
-ghost use Rattle.observe_core.specs.Observing.{IsMasked, IsSeenMask};
+ghost use Rattle.observe_core.specs.Observing.{IsMasked, IsObservableMask};
 
-use crate::observing::seen_rows;
-use crate::trailing::tail_by;
+use crate::observing::observable_rows;
+use crate::trailing::fanout_cone_by;
 use std::alloc::{AllocError, Global};
 use tt_core::Spec;
-use window_core::{Net, Readers, Window, readers_of, spec_of};
+use window_core::{Fanouts, Net, Window, fanouts_of, spec_of};
 
 /// The words, ANDed with a mask.
 fn masked(alloc: Global, words: &[u64], mask: u64) -> Result<Vec<u64>, AllocError>
@@ -32,28 +32,34 @@ fn narrowed(alloc: Global, spec: &Spec, mask: u64) -> Result<Spec, AllocError>
 }
 
 /// The rows on which the window is observable, by the index of the net.
-fn seen_by(alloc: Global, net: &Net, readers: &Readers, window: &Window) -> Result<u64, AllocError>
-    requires index { AreReaders net.now readers.now }
+fn observable_by(
+    alloc: Global,
+    net: &Net,
+    fanouts: &Fanouts,
+    window: &Window,
+) -> Result<u64, AllocError>
+    requires index { AreFanouts net.now fanouts.now }
     requires belongs { Belongs net.now window.now }
-    ensures { IfOk result (λ seen. (tail : Tail) × IsTail net.now window.now tail × IsSeenMask net.now window.now tail seen) }
+    ensures { IfOk result (λ seen. (fanout_cone : FanoutCone) × IsFanoutCone net.now window.now fanout_cone ×
+        IsObservableMask net.now window.now fanout_cone seen) }
 {
-    let tail = tail_by(alloc, net, readers, window)?;
-    seen_rows(alloc, net, window, &tail)
+    let fanout_cone = fanout_cone_by(alloc, net, fanouts, window)?;
+    observable_rows(alloc, net, window, &fanout_cone)
 }
 
 /// The observed specification of a window, by the index of the net.
 pub fn observed_spec_by(
     alloc: Global,
     net: &Net,
-    readers: &Readers,
+    fanouts: &Fanouts,
     window: &Window,
 ) -> Result<Spec, AllocError>
-    requires index { AreReaders net.now readers.now }
+    requires index { AreFanouts net.now fanouts.now }
     requires belongs { Belongs net.now window.now }
     ensures { IfOk result (λ s. IsObservedOf net.now window.now (specification s)) }
 {
     let whole = spec_of(alloc, net, window)?;
-    let seen = seen_by(alloc, net, readers, window)?;
+    let seen = observable_by(alloc, net, fanouts, window)?;
     let _outputs = whole.outputs(); // for the prover: the tables are a specification
     narrowed(alloc, &whole, seen)
 }
@@ -63,6 +69,6 @@ pub fn observed_spec(alloc: Global, net: &Net, window: &Window) -> Result<Spec, 
     requires { Belongs net.now window.now }
     ensures { IfOk result (λ s. IsObservedOf net.now window.now (specification s)) }
 {
-    let readers = readers_of(alloc, net)?;
-    observed_spec_by(alloc, net, &readers, window)
+    let fanouts = fanouts_of(alloc, net)?;
+    observed_spec_by(alloc, net, &fanouts, window)
 }

@@ -3,10 +3,11 @@
 ghost use Rattle.std.specs.Prelude.{◌≡◌, ℕ, ◌≤◌, true, [], length, if◌then◌else◌, IfOk, OnOk};
 ghost use Rattle.net_theory.specs.declared.data.Sig.TheVariants as sigs;
 ghost use Rattle.net_theory.specs.declared.data.Gate.{Gate as GateValue};
-ghost use Rattle.window_theory.specs.Places.{among};
+ghost use Rattle.window_theory.specs.Nodes.{among};
 ghost use Rattle.window_theory.specs.Paths.{IsGate};
 ghost use Rattle.window_core.specs.Gates.{IsGateOf};
-ghost use Rattle.observe_core.specs.Putting.{put_place as put_place_of, put_sig as put_sig_of, put_gate as put_gate_of, HasPut, ArePutGates};
+ghost use Rattle.observe_core.specs.Putting.{put_node as put_node_of, put_sig as put_sig_of, put_gate as put_gate_of};
+ghost use Rattle.observe_core.specs.Putting.{HasPut, ArePutGates};
 
 use std::alloc::{AllocError, Global};
 use window_core::{Gate, Net, Sig, gate_at};
@@ -19,19 +20,19 @@ fn constant(bit: bool) -> Sig
 }
 
 /// The node, or the constant that replaces it: the first output has the most significant of the bits.
-#[tactic(auto, unfolding(crate::specs::Putting::put_place))]
-fn put_place(outputs: &[u32], bits: u32, place: u32) -> Sig
+#[tactic(auto, unfolding(crate::specs::Putting::put_node))]
+fn put_node(outputs: &[u32], bits: u32, node: u32) -> Sig
     requires { length outputs.now ≤ 8 }
-    ensures { result ≡ put_place_of outputs.now bits place }
+    ensures { result ≡ put_node_of outputs.now bits node }
 {
     let mut left = outputs;
     while let Some((output, rest)) = left.split_first() {
-        if place == *output {
+        if node == *output {
             return constant((bits >> rest.len()) & 1 == 1);
         }
         left = rest;
     }
-    Sig::Place(place)
+    Sig::Node(node)
 }
 
 /// The signal, or the constant that replaces it.
@@ -40,18 +41,18 @@ fn put_sig(outputs: &[u32], bits: u32, sig: Sig) -> Sig
     ensures { result ≡ put_sig_of outputs.now bits sig }
 {
     match sig {
-        Sig::Place(place) => put_place(outputs, bits, place),
+        Sig::Node(node) => put_node(outputs, bits, node),
         _ => sig,
     }
 }
 
 /// The gate at a node, with its operands replaced.
-fn put_gate(net: &Net, outputs: &[u32], bits: u32, place: u32) -> Gate
+fn put_gate(net: &Net, outputs: &[u32], bits: u32, node: u32) -> Gate
     requires few { length outputs.now ≤ 8 }
-    requires gate { IsGate net.now place }
-    ensures { (g : GateValue) × IsGateOf net.now place g × (result ≡ put_gate_of outputs.now bits g) }
+    requires gate { IsGate net.now node }
+    ensures { (g : GateValue) × IsGateOf net.now node g × (result ≡ put_gate_of outputs.now bits g) }
 {
-    let gate = gate_at(net, place);
+    let gate = gate_at(net, node);
     Gate {
         op: gate.op,
         a: put_sig(outputs, bits, gate.a),
@@ -60,20 +61,20 @@ fn put_gate(net: &Net, outputs: &[u32], bits: u32, place: u32) -> Gate
 }
 
 /// Appends the gates of the fanout cone, with constants for the outputs.
-fn put_tail(
+fn put_fanout_cone(
     net: &Net,
     outputs: &[u32],
     bits: u32,
-    tail: &[u32],
+    fanout_cone: &[u32],
     gates: &mut Vec<(u32, Gate)>,
 ) -> Result<(), AllocError>
     requires few { length outputs.now ≤ 8 }
-    requires tail { (p : ℕ) → among tail.now p ≡ true → IsGate net.now p }
-    ensures { OnOk result (HasPut net.now outputs.now bits tail.now [] gates.old.items gates.new.items) }
+    requires fanout_cone { (p : ℕ) → among fanout_cone.now p ≡ true → IsGate net.now p }
+    ensures { OnOk result (HasPut net.now outputs.now bits fanout_cone.now [] gates.old.items gates.new.items) }
 {
-    let mut left = tail;
-    while let Some((place, rest)) = left.split_first() {
-        gates.push((*place, put_gate(net, outputs, bits, *place)))?;
+    let mut left = fanout_cone;
+    while let Some((node, rest)) = left.split_first() {
+        gates.push((*node, put_gate(net, outputs, bits, *node)))?;
         left = rest;
     }
     Ok(())
@@ -85,13 +86,13 @@ pub(crate) fn put_gates(
     net: &Net,
     outputs: &[u32],
     bits: u32,
-    tail: &[u32],
+    fanout_cone: &[u32],
 ) -> Result<Vec<(u32, Gate)>, AllocError>
     requires few { length outputs.now ≤ 8 }
-    requires tail { (p : ℕ) → among tail.now p ≡ true → IsGate net.now p }
-    ensures { IfOk result (λ gates. ArePutGates net.now outputs.now bits tail.now gates.items) }
+    requires fanout_cone { (p : ℕ) → among fanout_cone.now p ≡ true → IsGate net.now p }
+    ensures { IfOk result (λ gates. ArePutGates net.now outputs.now bits fanout_cone.now gates.items) }
 {
-    let mut gates = Vec::with_capacity(alloc, tail.len())?;
-    put_tail(net, outputs, bits, tail, &mut gates)?;
+    let mut gates = Vec::with_capacity(alloc, fanout_cone.len())?;
+    put_fanout_cone(net, outputs, bits, fanout_cone, &mut gates)?;
     Ok(gates)
 }

@@ -2,93 +2,93 @@
 //! whether the window is directly observable.
 
 ghost use Rattle.std.specs.Prelude.{◌≡◌, ℕ, true, false, List, [], ◌⊎◌, IfOk, OnOk};
-ghost use Rattle.net_theory.specs.Reach.{is_place};
-ghost use Rattle.window_theory.specs.Places.{among, IsRising, AreJust};
+ghost use Rattle.net_theory.specs.Reach.{is_node};
+ghost use Rattle.window_theory.specs.Nodes.{among, IsRising, AreJust};
 ghost use Rattle.window_theory.specs.Paths.{IsGate};
 ghost use Rattle.window_theory.specs.Window.{IsReadBy, IsInput, Belongs};
-ghost use Rattle.window_core.specs.Readers.{AreReaders};
-ghost use Rattle.observe_theory.specs.Tail.{IsTail};
-ghost use Rattle.observe_core.specs.Following.{HasTail};
+ghost use Rattle.window_core.specs.Fanouts.{AreFanouts};
+ghost use Rattle.observe_theory.specs.FanoutCone.{IsFanoutCone};
+ghost use Rattle.observe_core.specs.Following.{HasFanoutCone};
 ghost use Rattle.observe_core.specs.Kept.{IsBoth, HasSome};
 
 use crate::following::next_follower;
-use crate::shape::{MOST_OF_TAIL, Tail};
+use crate::shape::{FanoutCone, MOST_OF_FANOUT_CONE};
 use std::alloc::{AllocError, Global};
 use window_core::{
-    Gate, Net, Readers, Sig, Window, all_inputs, all_outputs, gate_at, has, put, readers_of,
+    Fanouts, Gate, Net, Sig, Window, all_inputs, all_outputs, fanouts_of, gate_at, has, put,
 };
 
-/// Takes the least follower of the gates so far, as long as there is one, at most `MOST_OF_TAIL` times.
-fn take_tail(
+/// Takes the least follower of the gates so far, as long as there is one, at most `MOST_OF_FANOUT_CONE` times.
+fn take_fanout_cone(
     net: &Net,
-    readers: &Readers,
+    fanouts: &Fanouts,
     all: &mut Vec<u32>,
-    tail: &mut Vec<u32>,
+    fanout_cone: &mut Vec<u32>,
 ) -> Result<(), AllocError>
-    requires index { AreReaders net.now readers.now }
+    requires index { AreFanouts net.now fanouts.now }
     requires rising { IsRising all.old.items }
     requires gates { (p : ℕ) → among all.old.items p ≡ true → IsGate net.now p }
-    requires none { tail.old.items ≡ [] }
-    ensures { OnOk result (HasTail net.now all.old.items all.new.items tail.new.items) }
+    requires none { fanout_cone.old.items ≡ [] }
+    ensures { OnOk result (HasFanoutCone net.now all.old.items all.new.items fanout_cone.new.items) }
 {
     let _sources = net.sources(); // for the prover: brings the net's invariant into the proof
-    for _taken in 0..MOST_OF_TAIL {
-        let place = next_follower(net, readers, all);
-        if place == 0 {
+    for _taken in 0..MOST_OF_FANOUT_CONE {
+        let node = next_follower(net, fanouts, all);
+        if node == 0 {
             return Ok(());
         }
-        put(all, place)?;
-        tail.push(place)?;
+        put(all, node)?;
+        fanout_cone.push(node)?;
     }
     Ok(())
 }
 
-/// The nodes of `places` that aren't in `gates`. `places` is ascending.
-fn places_outside(alloc: Global, places: &[u32], gates: &[u32]) -> Result<Vec<u32>, AllocError>
-    requires { IsRising places.now }
-    ensures { IfOk result (λ kept. AreJust (IsBoth (λ p. among gates.now p ≡ false) places.now) kept.items) }
+/// The nodes of `nodes` that aren't in `gates`. `nodes` is ascending.
+fn nodes_outside(alloc: Global, nodes: &[u32], gates: &[u32]) -> Result<Vec<u32>, AllocError>
+    requires { IsRising nodes.now }
+    ensures { IfOk result (λ kept. AreJust (IsBoth (λ p. among gates.now p ≡ false) nodes.now) kept.items) }
 {
     let mut kept = Vec::new(alloc);
-    let mut left = places;
-    while let Some((place, rest)) = left.split_first() {
-        if has(gates, *place) {
+    let mut left = nodes;
+    while let Some((node, rest)) = left.split_first() {
+        if has(gates, *node) {
             left = rest;
             continue;
         }
-        kept.push(*place)?;
+        kept.push(*node)?;
         left = rest;
     }
     Ok(kept)
 }
 
 /// Whether a signal names a node.
-fn names(sig: Sig, place: u32) -> bool
-    ensures { result ≡ is_place place sig }
+fn names(sig: Sig, node: u32) -> bool
+    ensures { result ≡ is_node node sig }
 {
     match sig {
-        Sig::Place(named) => named == place,
+        Sig::Node(named) => named == node,
         _ => false,
     }
 }
 
 /// Whether a gate reads a node.
-fn reads(gate: &Gate, place: u32) -> bool
-    ensures yes { result ≡ true → (is_place place gate.now.a ≡ true) ⊎ (is_place place gate.now.b ≡ true) }
-    ensures first { result ≡ false → is_place place gate.now.a ≡ false }
-    ensures second { result ≡ false → is_place place gate.now.b ≡ false }
+fn reads(gate: &Gate, node: u32) -> bool
+    ensures yes { result ≡ true → (is_node node gate.now.a ≡ true) ⊎ (is_node node gate.now.b ≡ true) }
+    ensures first { result ≡ false → is_node node gate.now.a ≡ false }
+    ensures second { result ≡ false → is_node node gate.now.b ≡ false }
 {
-    names(gate.a, place) || names(gate.b, place)
+    names(gate.a, node) || names(gate.b, node)
 }
 
-/// Whether some of `gates` reads `place`.
-fn is_read_by(net: &Net, gates: &[u32], place: u32) -> bool
+/// Whether some of `gates` reads `node`.
+fn is_read_by(net: &Net, gates: &[u32], node: u32) -> bool
     requires { (p : ℕ) → among gates.now p ≡ true → IsGate net.now p }
-    ensures yes { result ≡ true → IsReadBy net.now gates.now place }
-    ensures no { IsReadBy net.now gates.now place → result ≡ true }
+    ensures yes { result ≡ true → IsReadBy net.now gates.now node }
+    ensures no { IsReadBy net.now gates.now node → result ≡ true }
 {
     let mut left = gates;
     while let Some((gate, rest)) = left.split_first() {
-        if reads(gate_at(net, *gate), place) {
+        if reads(gate_at(net, *gate), node) {
             return true;
         }
         left = rest;
@@ -96,22 +96,22 @@ fn is_read_by(net: &Net, gates: &[u32], place: u32) -> bool
     false
 }
 
-/// The nodes of `places` that some of `gates` reads. `places` is ascending.
-fn places_read(
+/// The nodes of `nodes` that some of `gates` reads. `nodes` is ascending.
+fn nodes_read(
     alloc: Global,
     net: &Net,
-    places: &[u32],
+    nodes: &[u32],
     gates: &[u32],
 ) -> Result<Vec<u32>, AllocError>
-    requires rising { IsRising places.now }
+    requires rising { IsRising nodes.now }
     requires gates { (p : ℕ) → among gates.now p ≡ true → IsGate net.now p }
-    ensures { IfOk result (λ kept. AreJust (IsBoth (IsReadBy net.now gates.now) places.now) kept.items) }
+    ensures { IfOk result (λ kept. AreJust (IsBoth (IsReadBy net.now gates.now) nodes.now) kept.items) }
 {
     let mut kept = Vec::new(alloc);
-    let mut left = places;
-    while let Some((place, rest)) = left.split_first() {
-        if is_read_by(net, gates, *place) {
-            kept.push(*place)?;
+    let mut left = nodes;
+    while let Some((node, rest)) = left.split_first() {
+        if is_read_by(net, gates, *node) {
+            kept.push(*node)?;
             left = rest;
             continue;
         }
@@ -121,13 +121,13 @@ fn places_read(
 }
 
 /// Whether the lists have a node in common.
-fn has_some(gates: &[u32], places: &[u32]) -> bool
-    ensures yes { result ≡ true → HasSome gates.now places.now }
-    ensures no { HasSome gates.now places.now → result ≡ true }
+fn has_some(gates: &[u32], nodes: &[u32]) -> bool
+    ensures yes { result ≡ true → HasSome gates.now nodes.now }
+    ensures no { HasSome gates.now nodes.now → result ≡ true }
 {
-    let mut left = places;
-    while let Some((place, rest)) = left.split_first() {
-        if has(gates, *place) {
+    let mut left = nodes;
+    while let Some((node, rest)) = left.split_first() {
+        if has(gates, *node) {
             return true;
         }
         left = rest;
@@ -136,66 +136,72 @@ fn has_some(gates: &[u32], places: &[u32]) -> bool
 }
 
 /// The side inputs: the inputs of all gates that the fanout cone's gates read.
-fn sides_of(alloc: Global, net: &Net, all: &[u32], gates: &[u32]) -> Result<Vec<u32>, AllocError>
+fn side_inputs_of(
+    alloc: Global,
+    net: &Net,
+    all: &[u32],
+    gates: &[u32],
+) -> Result<Vec<u32>, AllocError>
     requires all { (p : ℕ) → among all.now p ≡ true → IsGate net.now p }
     requires gates { (p : ℕ) → among gates.now p ≡ true → IsGate net.now p }
-    ensures { IfOk result (λ sides. (inputs : List ℕ) × AreJust (IsInput net.now all.now) inputs × AreJust (IsBoth (IsReadBy net.now gates.now) inputs) sides.items) }
+    ensures { IfOk result (λ side_inputs. (inputs : List ℕ) × AreJust (IsInput net.now all.now) inputs ×
+        AreJust (IsBoth (IsReadBy net.now gates.now) inputs) side_inputs.items) }
 {
     let inputs = all_inputs(alloc, net, all)?;
-    places_read(alloc, net, &inputs, gates)
+    nodes_read(alloc, net, &inputs, gates)
 }
 
 /// The fanout cone of a window with these gates; `all` are its gates and the window's.
-fn tail_of(
+fn fanout_cone_of(
     alloc: Global,
     net: &Net,
-    readers: &Readers,
+    fanouts: &Fanouts,
     window: &Window,
     all: &[u32],
     gates: Vec<u32>,
-) -> Result<Tail, AllocError>
-    requires index { AreReaders net.now readers.now }
+) -> Result<FanoutCone, AllocError>
+    requires index { AreFanouts net.now fanouts.now }
     requires belongs { Belongs net.now window.now }
-    requires tail { HasTail net.now window.now.gates all.now gates.items }
-    ensures { IfOk result (λ tail. IsTail net.now window.now tail) }
+    requires fanout_cone { HasFanoutCone net.now window.now.gates all.now gates.items }
+    ensures { IfOk result (λ fanout_cone. IsFanoutCone net.now window.now fanout_cone) }
 {
     let own = window.gates();
-    let sides = sides_of(alloc, net, all, &gates)?;
-    let outputs = all_outputs(alloc, net, readers, all)?;
-    let watchers = places_outside(alloc, &outputs, own)?;
-    let bare = has_some(own, &outputs);
-    Ok(Tail {
+    let side_inputs = side_inputs_of(alloc, net, all, &gates)?;
+    let outputs = all_outputs(alloc, net, fanouts, all)?;
+    let cone_outputs = nodes_outside(alloc, &outputs, own)?;
+    let directly_observable = has_some(own, &outputs);
+    Ok(FanoutCone {
         gates,
-        sides,
-        watchers,
-        bare,
+        side_inputs,
+        cone_outputs,
+        directly_observable,
     })
 }
 
 /// The fanout cone of a window, by the index of the net.
-pub fn tail_by(
+pub fn fanout_cone_by(
     alloc: Global,
     net: &Net,
-    readers: &Readers,
+    fanouts: &Fanouts,
     window: &Window,
-) -> Result<Tail, AllocError>
-    requires index { AreReaders net.now readers.now }
+) -> Result<FanoutCone, AllocError>
+    requires index { AreFanouts net.now fanouts.now }
     requires belongs { Belongs net.now window.now }
-    ensures { IfOk result (λ tail. IsTail net.now window.now tail) }
+    ensures { IfOk result (λ fanout_cone. IsFanoutCone net.now window.now fanout_cone) }
 {
     let _sources = net.sources(); // for the prover: brings the net's invariant into the proof
     let mut all = Vec::with_capacity(alloc, 24)?;
     all.extend_from_slice(window.gates())?;
     let mut gates = Vec::with_capacity(alloc, 16)?;
-    take_tail(net, readers, &mut all, &mut gates)?;
-    tail_of(alloc, net, readers, window, &all, gates)
+    take_fanout_cone(net, fanouts, &mut all, &mut gates)?;
+    fanout_cone_of(alloc, net, fanouts, window, &all, gates)
 }
 
-/// As `tail_by`, but with an index of its own, made for this one call.
-pub fn tail(alloc: Global, net: &Net, window: &Window) -> Result<Tail, AllocError>
+/// As `fanout_cone_by`, but with an index of its own, made for this one call.
+pub fn fanout_cone(alloc: Global, net: &Net, window: &Window) -> Result<FanoutCone, AllocError>
     requires { Belongs net.now window.now }
-    ensures { IfOk result (λ tail. IsTail net.now window.now tail) }
+    ensures { IfOk result (λ fanout_cone. IsFanoutCone net.now window.now fanout_cone) }
 {
-    let readers = readers_of(alloc, net)?;
-    tail_by(alloc, net, &readers, window)
+    let fanouts = fanouts_of(alloc, net)?;
+    fanout_cone_by(alloc, net, &fanouts, window)
 }

@@ -2,15 +2,15 @@
 use Rattle.std.specs.Prelude.{◌≡◌, ℕ, true, false, List, [], ◌∷◌, ◌++◌, ◌⊎◌}
 use Rattle.std.proofs.Common.{inl, inr, ⊎_elim, subst, sym}
 use Rattle.std.proofs.lemmas.Bool.{cases_Bool, both_ways}
-use Rattle.window_theory.specs.Places.{among}
-use Rattle.window_theory.specs.PlaceLaws.{among_cases, among_first, among_later}
+use Rattle.window_theory.specs.Nodes.{among}
+use Rattle.window_theory.specs.NodeLaws.{among_cases, among_first, among_later}
 
-pub in_front : (xs ys : List ℕ) (p : ℕ) → among xs p ≡ true → among (xs ++ ys) p ≡ true
-in_front [] ys p on = absurd cc
-in_front (x ∷ xs) ys p on =
+pub in_prefix : (xs ys : List ℕ) (p : ℕ) → among xs p ≡ true → among (xs ++ ys) p ≡ true
+in_prefix [] ys p on = absurd cc
+in_prefix (x ∷ xs) ys p on =
     ⊎_elim
     (λ (own : p ≡ x). subst (λ (q : ℕ). among (x ∷ (xs ++ ys)) q ≡ true) (sym own) (among_first x (xs ++ ys)))
-    (λ later. among_later x p (xs ++ ys) (in_front xs ys p later))
+    (λ later. among_later x p (xs ++ ys) (in_prefix xs ys p later))
     (among_cases x p xs on)
 
 pub in_back : (xs ys : List ℕ) (p : ℕ) → among ys p ≡ true → among (xs ++ ys) p ≡ true

@@ -1,10 +1,10 @@
 pub use Rattle.window_theory.specs.Window
-pub mod Tail
-pub mod Unseen
+pub mod FanoutCone
+pub mod Unobservable
 pub mod Observed
 pub mod JoinedLaws
-pub mod TailLaws
+pub mod FanoutConeLaws
 pub mod ApartLaws
-pub mod UnseenLaws
+pub mod UnobservableLaws
 pub mod ObservedLaws
 pub mod OneLaws

@@ -7,12 +7,12 @@ use Rattle.chain_theory.specs.Specification.{Specification}
 use Rattle.chain_theory.specs.Agreement.{output_value, is_met, HasChain}
 use Rattle.chain_theory.specs.declared.data.Cell.{Cell}
 use Rattle.net_theory.specs.Net.{Net}
-use Rattle.window_theory.specs.Places.{among, AreJust}
-use Rattle.window_theory.specs.PlaceLaws.{just_same}
+use Rattle.window_theory.specs.Nodes.{among, AreJust}
+use Rattle.window_theory.specs.NodeLaws.{just_same}
 use Rattle.window_theory.specs.Window.{Window}
 use Rattle.window_theory.specs.Care.{values_with, IsCareRow, IsSpecificationOf}
-use Rattle.observe_theory.specs.Tail.{IsFollower, IsLeastFollower, AreFollowing, AreTail, IsSide, IsWatcher, IsBare, Tail, IsTail}
-use Rattle.observe_theory.specs.Unseen.{IsUnseen}
+use Rattle.observe_theory.specs.FanoutCone.{IsFollower, IsLeastFollower, AreFollowing, AreFanoutCone, IsSideInput, IsConeOutput, IsDirectlyObservable, FanoutCone, IsFanoutCone}
+use Rattle.observe_theory.specs.Unobservable.{IsUnobservable}
 use Rattle.observe_theory.specs.Observed.{IsObservedOf}
 
 -- ---- one fanout cone
@@ -44,20 +44,20 @@ no_more n gates xs (q ∷ ys) a none b more =
     (λ other. no_more n gates xs ys a none b.1 (omega (arith, more, other)))
     (cases_eq (length xs) (length ys))
 
-not_fewer : (n : Net) (gates tail other : List ℕ) → (a : AreTail n gates tail) → (b : AreTail n gates other) → length a.taken < length b.taken → ⊥
-not_fewer n gates tail other a b less = no_more n gates a.taken b.taken a.following (a.all (omega (arith, less, b.few))) b.following less
+not_fewer : (n : Net) (gates fanout_cone other : List ℕ) → (a : AreFanoutCone n gates fanout_cone) → (b : AreFanoutCone n gates other) → length a.taken < length b.taken → ⊥
+not_fewer n gates fanout_cone other a b less = no_more n gates a.taken b.taken a.following (a.all (omega (arith, less, b.few))) b.following less
 
-gates_one : (n : Net) (gates tail other : List ℕ) → AreTail n gates tail → AreTail n gates other → tail ≡ other
-gates_one n gates tail other a b =
+gates_one : (n : Net) (gates fanout_cone other : List ℕ) → AreFanoutCone n gates fanout_cone → AreFanoutCone n gates other → fanout_cone ≡ other
+gates_one n gates fanout_cone other a b =
     let size : length a.taken ≡ length b.taken = ⊎_elim
-    (λ less. absurd (not_fewer n gates tail other a b less))
+    (λ less. absurd (not_fewer n gates fanout_cone other a b less))
     (λ most. ⊎_elim
-    (λ (less : length b.taken < length a.taken). absurd (not_fewer n gates other tail b a less))
+    (λ (less : length b.taken < length a.taken). absurd (not_fewer n gates other fanout_cone b a less))
     (λ least. omega (arith, most, least))
     (cases_lt (length b.taken) (length a.taken)))
     (cases_lt (length a.taken) (length b.taken)) in
     let same : a.taken ≡ b.taken = following_one n gates a.taken b.taken a.following b.following size in
-    just_same (λ p. among a.taken p ≡ true) tail other a.just (subst (λ (zs : List ℕ). AreJust (λ p. among zs p ≡ true) other) (sym same) b.just)
+    just_same (λ p. among a.taken p ≡ true) fanout_cone other a.just (subst (λ (zs : List ℕ). AreJust (λ p. among zs p ≡ true) other) (sym same) b.just)
 
 bits_one : (a b : Bool) (P : Type 0) → (a ≡ true → P) → (a ≡ false → P → ⊥) → (b ≡ true → P) → (b ≡ false → P → ⊥) → a ≡ b
 bits_one true true P on off there none = refl
@@ -65,31 +65,33 @@ bits_one false false P on off there none = refl
 bits_one true false P on off there none = absurd (none refl (on refl))
 bits_one false true P on off there none = absurd (off refl (there refl))
 
-abbrev made : List ℕ → List ℕ → List ℕ → Bool → Tail
-made gates sides watchers bare = record { gates = gates; sides = sides; watchers = watchers; bare = bare }
+abbrev made : List ℕ → List ℕ → List ℕ → Bool → FanoutCone
+made gates side_inputs cone_outputs directly_observable = record { gates = gates; side_inputs = side_inputs; cone_outputs = cone_outputs; directly_observable = directly_observable }
 
-tail_fields : (t u : Tail) → t.gates ≡ u.gates → t.sides ≡ u.sides → t.watchers ≡ u.watchers → t.bare ≡ u.bare → t ≡ u
-tail_fields t u a b c d =
-    ap (λ (xs : List ℕ). made xs t.sides t.watchers t.bare) a
-    ∙ ap (λ (xs : List ℕ). made u.gates xs t.watchers t.bare) b
-    ∙ ap (λ (xs : List ℕ). made u.gates u.sides xs t.bare) c
-    ∙ ap (λ (x : Bool). made u.gates u.sides u.watchers x) d
+fanout_cone_fields : (t u : FanoutCone) → t.gates ≡ u.gates → t.side_inputs ≡ u.side_inputs → t.cone_outputs ≡ u.cone_outputs → t.directly_observable ≡ u.directly_observable → t ≡ u
+fanout_cone_fields t u a b c d =
+    ap (λ (xs : List ℕ). made xs t.side_inputs t.cone_outputs t.directly_observable) a
+    ∙ ap (λ (xs : List ℕ). made u.gates xs t.cone_outputs t.directly_observable) b
+    ∙ ap (λ (xs : List ℕ). made u.gates u.side_inputs xs t.directly_observable) c
+    ∙ ap (λ (x : Bool). made u.gates u.side_inputs u.cone_outputs x) d
 
 -- A window has one fanout cone.
-pub tail_one : (n : Net) (w : Window) (t u : Tail) → IsTail n w t → IsTail n w u → t ≡ u
-tail_one n w t u a b =
+pub fanout_cone_one : (n : Net) (w : Window) (t u : FanoutCone) → IsFanoutCone n w t → IsFanoutCone n w u → t ≡ u
+fanout_cone_one n w t u a b =
     let gates : t.gates ≡ u.gates = gates_one n w.gates t.gates u.gates a.gates b.gates in
-    tail_fields t u gates
-    (just_same (IsSide n w.gates t.gates) t.sides u.sides a.sides (subst (λ (gs : List ℕ). AreJust (IsSide n w.gates gs) u.sides) (sym gates) b.sides))
-    (just_same (IsWatcher n w.gates t.gates) t.watchers u.watchers a.watchers (subst (λ (gs : List ℕ). AreJust (IsWatcher n w.gates gs) u.watchers) (sym gates) b.watchers))
-    (bits_one t.bare u.bare (IsBare n w.gates t.gates) a.bare a.hidden
-    (λ on. subst (IsBare n w.gates) (sym gates) (b.bare on))
-    (λ off is. b.hidden off (subst (IsBare n w.gates) gates is)))
+    fanout_cone_fields t u gates
+    (just_same (IsSideInput n w.gates t.gates) t.side_inputs u.side_inputs a.side_inputs (subst (λ (gs : List ℕ). AreJust (IsSideInput n w.gates gs) u.side_inputs) (sym gates) b.side_inputs))
+    (just_same (IsConeOutput n w.gates t.gates) t.cone_outputs u.cone_outputs a.cone_outputs (subst (λ (gs : List ℕ). AreJust (IsConeOutput n w.gates gs) u.cone_outputs) (sym gates) b.cone_outputs))
+    (bits_one t.directly_observable u.directly_observable (IsDirectlyObservable n w.gates t.gates) a.directly_observable a.hidden
+    (λ on. subst (IsDirectlyObservable n w.gates) (sym gates) (b.directly_observable on))
+    (λ off is. b.hidden off (subst (IsDirectlyObservable n w.gates) gates is)))
 
 -- ---- one observed specification
 
 -- a bit that meets a cell of one specification of a window meets that of another
-met_whole : (n : Net) (w : Window) (s z : Specification) (h row : ℕ) (bit : Bool) → IsSpecificationOf n w s → IsSpecificationOf n w z → 1 ≤ h → h ≤ length w.outputs → row < 2 ^ length w.inputs → is_met (s.cell h row) bit ≡ true → is_met (z.cell h row) bit ≡ true
+met_whole : (n : Net) (w : Window) (s z : Specification) (h row : ℕ) (bit : Bool) → IsSpecificationOf n w s →
+    IsSpecificationOf n w z → 1 ≤ h → h ≤ length w.outputs → row < 2 ^ length w.inputs →
+    is_met (s.cell h row) bit ≡ true → is_met (z.cell h row) bit ≡ true
 met_whole n w s z h row bit a b low high below met =
     ⊎_elim
     (λ on. on)
@@ -101,18 +103,20 @@ met_whole n w s z h row bit a b low high below met =
     ap (λ (c : Cell). is_met c bit) (b.free h row low high below none))
     (cases_Bool (is_met (z.cell h row) bit))
 
-met_same : (n : Net) (w : Window) (s z : Specification) (a : IsObservedOf n w s) (b : IsObservedOf n w z) (h row : ℕ) (bit : Bool) → 1 ≤ h → h ≤ length w.outputs → row < 2 ^ length w.inputs → is_met (s.cell h row) bit ≡ true → is_met (z.cell h row) bit ≡ true
+met_same : (n : Net) (w : Window) (s z : Specification) (a : IsObservedOf n w s) (b : IsObservedOf n w z) (h row : ℕ)
+    (bit : Bool) → 1 ≤ h → h ≤ length w.outputs → row < 2 ^ length w.inputs → is_met (s.cell h row) bit ≡ true →
+    is_met (z.cell h row) bit ≡ true
 met_same n w s z a b h row bit low high below met =
     ⊎_elim
     (λ on. on)
     (λ off.
-    let tails : a.tail ≡ b.tail = tail_one n w a.tail b.tail a.is_tail b.is_tail in
+    let fanout_cones : a.fanout_cone ≡ b.fanout_cone = fanout_cone_one n w a.fanout_cone b.fanout_cone a.is_fanout_cone b.is_fanout_cone in
     let high_a : h ≤ a.whole.outputs = subst (λ (k : ℕ). h ≤ k) (sym a.is_whole.outputs) high in
     let high_b : h ≤ b.whole.outputs = subst (λ (k : ℕ). h ≤ k) (sym b.is_whole.outputs) high in
     let below_a : row < 2 ^ a.whole.inputs = subst (λ (k : ℕ). row < 2 ^ k) (sym a.is_whole.inputs) below in
     let below_b : row < 2 ^ b.whole.inputs = subst (λ (k : ℕ). row < 2 ^ k) (sym b.is_whole.inputs) below in
-    let seen : IsUnseen n w b.tail row → ⊥ = λ u. both_ways (is_met (z.cell h row) bit) off (ap (λ (c : Cell). is_met c bit) (b.narrowed.unseen h row low high_b below_b u)) in
-    let own_a : s.cell h row ≡ a.whole.cell h row = a.narrowed.seen h row low high_a below_a (λ u. seen (subst (λ (t : Tail). IsUnseen n w t row) tails u)) in
+    let seen : IsUnobservable n w b.fanout_cone row → ⊥ = λ u. both_ways (is_met (z.cell h row) bit) off (ap (λ (c : Cell). is_met c bit) (b.narrowed.unobservable h row low high_b below_b u)) in
+    let own_a : s.cell h row ≡ a.whole.cell h row = a.narrowed.seen h row low high_a below_a (λ u. seen (subst (λ (t : FanoutCone). IsUnobservable n w t row) fanout_cones u)) in
     let own_b : z.cell h row ≡ b.whole.cell h row = b.narrowed.seen h row low high_b below_b seen in
     ap (λ (c : Cell). is_met c bit) own_b ∙ met_whole n w a.whole b.whole h row bit a.is_whole b.is_whole low high below (ap (λ (c : Cell). is_met c bit) (sym own_a) ∙ met))
     (cases_Bool (is_met (z.cell h row) bit))

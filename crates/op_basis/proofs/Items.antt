@@ -8,10 +8,10 @@ use Rattle.op_basis.specs.Text.{items_of, with_word, list_below}
 use Rattle.op_basis.specs.Word.{word_text}
 
 -- the item grows by one byte
-item_step : (front left : List ℕ) (b : ℕ) → is_item front ≡ true → b ≢ 44 → is_item (front ++ b ∷ []) ≡ true
+item_step : (prefix left : List ℕ) (b : ℕ) → is_item prefix ≡ true → b ≢ 44 → is_item (prefix ++ b ∷ []) ≡ true
 unfolding is_item
 item_step [] left b free other = grind (arith, common_steps)
-item_step (x ∷ front) left b free other = grind (arith, common_steps, item_step front left b)
+item_step (x ∷ prefix) left b free other = grind (arith, common_steps, item_step prefix left b)
 
 take_step : (i : ℕ) (xs : List ℕ) (b : ℕ) (rest : List ℕ) → drop i xs ≡ b ∷ rest → take (i + 1) xs ≡ take i xs ++ b ∷ []
 take_step zero [] b rest e = cc

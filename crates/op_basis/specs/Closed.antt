@@ -123,7 +123,9 @@ unfoldable pub right_on_second : ℕ → ℕ → ℕ
 right_on_second p q = operator_of (λ a b. apply q b (apply p a b))
 
 unfoldable pub reapplies : Basis → ℕ → ℕ → Bool
-reapplies basis p q = implies (basis q) (is_allowed basis (left_on_first p q) && is_allowed basis (left_on_second p q) && is_allowed basis (right_on_first p q) && is_allowed basis (right_on_second p q))
+reapplies basis p q = implies (basis q) (is_allowed basis (left_on_first p q) &&
+    is_allowed basis (left_on_second p q) && is_allowed basis (right_on_first p q) &&
+    is_allowed basis (right_on_second p q))
 
 unfoldable pub reapplies_all : Basis → ℕ → Bool
 reapplies_all basis p = implies (basis p) (every (reapplies basis p))

@@ -1,5 +1,7 @@
 -- A list that is read gives the set of the operators whose words are its items.
-use Rattle.std.proofs.Common.{◌≡◌, ◌≢◌, ℕ, zero, suc, ◌^◌, ◌<◌, ◌==◌, Bool, true, false, cond, List, [], ◌∷◌, length, bit_or, max, Option, Some, None, Result, Ok, Err, refl, sym, ap, ◌∙◌, arith, inl, inr, eqb-true, Contains, ◌⊎◌, ◌↔◌}
+use Rattle.std.proofs.Common.{◌≡◌, ◌≢◌, ℕ, zero, suc, ◌^◌, ◌<◌, ◌==◌, Bool, true, false, cond, List, [], ◌∷◌, length}
+use Rattle.std.proofs.Common.{bit_or, max, Option, Some, None, Result, Ok, Err, refl, sym, ap, ◌∙◌, arith, inl, inr}
+use Rattle.std.proofs.Common.{eqb-true, Contains, ◌⊎◌, ◌↔◌}
 use Rattle.std.proofs.lemmas.Grind.{common_steps}
 use Rattle.std.proofs.lemmas.Bool.{eqb-false}
 use Rattle.std.proofs.lemmas.List.Elements.{Contains-append_right, Contains-append_cases}
@@ -68,7 +70,8 @@ pub record IsWordOf (item : List ℕ) (op : ℕ) : Type 0 where
   pub word : item ≡ word_text op
   pub low : op < 16
 
-spelled_by : (a b c d op : ℕ) (at_00 at_01 at_10 at_11 : Option Bool) → bit_in a ≡ at_00 → bit_in b ≡ at_01 → bit_in c ≡ at_10 → bit_in d ≡ at_11 → of_bits at_00 at_01 at_10 at_11 ≡ Some op → IsWordOf (a ∷ b ∷ c ∷ d ∷ []) op
+spelled_by : (a b c d op : ℕ) (at_00 at_01 at_10 at_11 : Option Bool) → bit_in a ≡ at_00 → bit_in b ≡ at_01 →
+    bit_in c ≡ at_10 → bit_in d ≡ at_11 → of_bits at_00 at_01 at_10 at_11 ≡ Some op → IsWordOf (a ∷ b ∷ c ∷ d ∷ []) op
 spelled_by a b c d op None y z w ea eb ec ed e = absurd cc
 spelled_by a b c d op (Some x) None z w ea eb ec ed e = absurd cc
 spelled_by a b c d op (Some x) (Some y) None w ea eb ec ed e = absurd cc
@@ -98,25 +101,26 @@ same_operator : (a b : ℕ) → a < 16 → b < 16 → word_text a ≡ word_text 
 same_operator a b low below e = some_same a b (sym (operator_back a low) ∙ ap operator_in e ∙ operator_back b below)
 
 -- the set with one more item: the item is the word of an operator that wasn't a member
-pub record Adds (set : ℕ) (item : List ℕ) (more : ℕ) : Type 0 where
+pub record AddsItem (set : ℕ) (item : List ℕ) (more : ℕ) : Type 0 where
   pub op : ℕ
   pub spelled : IsWordOf item op
   pub fresh : members set op ≡ false
   pub sum : bit_or set (2 ^ op) ≡ more
 
-added_by : (is : Bool) (set op more : ℕ) (item : List ℕ) (error : BasisError) → members set op ≡ is → IsWordOf item op → cond is (Err error) (Ok (bit_or set (2 ^ op))) ≡ Ok more → Adds set item more
+added_by : (is : Bool) (set op more : ℕ) (item : List ℕ) (error : BasisError) → members set op ≡ is →
+    IsWordOf item op → cond is (Err error) (Ok (bit_or set (2 ^ op))) ≡ Ok more → AddsItem set item more
 added_by true set p more item error is spell e = absurd cc
 added_by false set p more item error is spell e = record { op = p; spelled = spell; fresh = is; sum = cc }
 
-operator_adds : (set more : ℕ) (item : List ℕ) (found : Option ℕ) → operator_in item ≡ found → with_operator set found ≡ Ok more → Adds set item more
+operator_adds : (set more : ℕ) (item : List ℕ) (found : Option ℕ) → operator_in item ≡ found → with_operator set found ≡ Ok more → AddsItem set item more
 operator_adds set more item None is e = absurd cc
 operator_adds set more item (Some op) is e = added_by (members set op) set op more item _ refl (item_spelled item op is) e
 
-unless_adds : (is : Bool) (set more : ℕ) (item : List ℕ) (error : BasisError) → cond is (Err error) (with_operator set (operator_in item)) ≡ Ok more → Adds set item more
+unless_adds : (is : Bool) (set more : ℕ) (item : List ℕ) (error : BasisError) → cond is (Err error) (with_operator set (operator_in item)) ≡ Ok more → AddsItem set item more
 unless_adds true set more item error e = absurd cc
 unless_adds false set more item error e = operator_adds set more item (operator_in item) refl e
 
-item_adds : (set more : ℕ) (item : List ℕ) → with_item set item ≡ Ok more → Adds set item more
+item_adds : (set more : ℕ) (item : List ℕ) → with_item set item ≡ Ok more → AddsItem set item more
 unfolding with_item
 item_adds set more item e = unless_adds (length item == 0) set more item _ e
 
@@ -151,7 +155,7 @@ all_differ x [] never = tt
 all_differ x (y ∷ xs) never = (not_true (same_text x y) (λ e. never (contains_here y x xs (sym ((bytes_decides x y).0 e)))), all_differ x xs (λ h. never (contains_later y x xs h)))
 
 -- how a list that is read changes the set
-pub record Reads (set more : ℕ) (items : List (List ℕ)) : Type 0 where
+pub record ReadsItems (set more : ℕ) (items : List (List ℕ)) : Type 0 where
   pub kept : (op : ℕ) → members set op ≡ true → members more op ≡ true
   pub put : (op : ℕ) → op < 16 → Contains items (word_text op) → members more op ≡ true
   pub came : (op : ℕ) → members more op ≡ true → (members set op ≡ true) ⊎ Contains items (word_text op)
@@ -164,7 +168,7 @@ none_distinct : IsDistinct same_text []
 unfolding IsDistinct
 none_distinct = tt
 
-reads_none : (set : ℕ) → Reads set set []
+reads_none : (set : ℕ) → ReadsItems set set []
 reads_none set = record {
   kept = λ op is. is;
   put = λ op low has. absurd (contains_none (word_text op) has);
@@ -179,31 +183,34 @@ clash : (b : Bool) → b ≡ true → b ≡ false → ⊥
 clash b yes_it no_it = cc
 
 -- the first item is the operator `adds.op`
-first_is : (set middle : ℕ) (item : List ℕ) (adds : Adds set item middle) (op : ℕ) → op < 16 → item ≡ word_text op → op ≡ adds.op
+first_is : (set middle : ℕ) (item : List ℕ) (adds : AddsItem set item middle) (op : ℕ) → op < 16 → item ≡ word_text op → op ≡ adds.op
 first_is set middle item adds op low e = same_operator op adds.op low adds.spelled.low (sym e ∙ adds.spelled.word)
 
-grown_kept : (set middle : ℕ) (item : List ℕ) → Adds set item middle → (op : ℕ) → members set op ≡ true → members middle op ≡ true
+grown_kept : (set middle : ℕ) (item : List ℕ) → AddsItem set item middle → (op : ℕ) → members set op ≡ true → members middle op ≡ true
 grown_kept set middle item adds op is = ap (λ (s : ℕ). members s op) (sym adds.sum) ∙ kept_by set adds.op op (op == adds.op) refl is
 
-grown_put : (set middle : ℕ) (item : List ℕ) (adds : Adds set item middle) (op : ℕ) → op ≡ adds.op → members middle op ≡ true
+grown_put : (set middle : ℕ) (item : List ℕ) (adds : AddsItem set item middle) (op : ℕ) → op ≡ adds.op → members middle op ≡ true
 grown_put set middle item adds op e = ap (λ (x : ℕ). members middle x) e ∙ ap (λ (s : ℕ). members s adds.op) (sym adds.sum) ∙ new_member set adds.op
 
-grown_came : (set middle : ℕ) (item : List ℕ) (adds : Adds set item middle) (op : ℕ) → members middle op ≡ true → (members set op ≡ true) ⊎ (item ≡ word_text op)
+grown_came : (set middle : ℕ) (item : List ℕ) (adds : AddsItem set item middle) (op : ℕ) → members middle op ≡ true → (members set op ≡ true) ⊎ (item ≡ word_text op)
 grown_came set middle item adds op is = elim (from_by set adds.op op (op == adds.op) refl (ap (λ (s : ℕ). members s op) adds.sum ∙ is)) [
   | inl before ↦ inl before
   | inr e ↦ inr (adds.spelled.word ∙ ap word_text (sym e))
 ]
 
-grown_below : (set middle : ℕ) (item : List ℕ) → Adds set item middle → set < 2 ^ 16 → middle < 2 ^ 16
+grown_below : (set middle : ℕ) (item : List ℕ) → AddsItem set item middle → set < 2 ^ 16 → middle < 2 ^ 16
 grown_below set middle item adds low = rw adds.sum at (or_lt 16 set (2 ^ adds.op) low (pow-lt adds.spelled.low))
 
-step_put : (set middle more : ℕ) (item : List ℕ) (items : List (List ℕ)) → Adds set item middle → Reads middle more items → (op : ℕ) → op < 16 → Contains (item ∷ items) (word_text op) → members more op ≡ true
+step_put : (set middle more : ℕ) (item : List ℕ) (items : List (List ℕ)) → AddsItem set item middle →
+    ReadsItems middle more items → (op : ℕ) → op < 16 → Contains (item ∷ items) (word_text op) → members more op ≡ true
 step_put set middle more item items adds rest op low has = elim (contains_cases item (word_text op) items has) [
   | inl here ↦ rest.kept op (grown_put set middle item adds op (first_is set middle item adds op low here))
   | inr later ↦ rest.put op low later
 ]
 
-step_came : (set middle more : ℕ) (item : List ℕ) (items : List (List ℕ)) → Adds set item middle → Reads middle more items → (op : ℕ) → members more op ≡ true → (members set op ≡ true) ⊎ Contains (item ∷ items) (word_text op)
+step_came : (set middle more : ℕ) (item : List ℕ) (items : List (List ℕ)) → AddsItem set item middle →
+    ReadsItems middle more items → (op : ℕ) → members more op ≡ true → (members set op ≡ true) ⊎
+    Contains (item ∷ items) (word_text op)
 step_came set middle more item items adds rest op is = elim (rest.came op is) [
   | inl before ↦ elim (grown_came set middle item adds op before) [
     | inl first ↦ inl first
@@ -212,24 +219,26 @@ step_came set middle more item items adds rest op is = elim (rest.came op is) [
   | inr later ↦ inr (contains_later item (word_text op) items later)
 ]
 
-step_fresh : (set middle more : ℕ) (item : List ℕ) (items : List (List ℕ)) → Adds set item middle → Reads middle more items → (op : ℕ) → op < 16 → Contains (item ∷ items) (word_text op) → members set op ≡ false
+step_fresh : (set middle more : ℕ) (item : List ℕ) (items : List (List ℕ)) → AddsItem set item middle →
+    ReadsItems middle more items → (op : ℕ) → op < 16 → Contains (item ∷ items) (word_text op) → members set op ≡ false
 step_fresh set middle more item items adds rest op low has = elim (contains_cases item (word_text op) items has) [
   | inl here ↦ ap (λ (x : ℕ). members set x) (first_is set middle item adds op low here) ∙ adds.fresh
   | inr later ↦ not_true (members set op) (λ is. clash (members middle op) (grown_kept set middle item adds op is) (rest.fresh op low later))
 ]
 
-step_words : (set middle more : ℕ) (item : List ℕ) (items : List (List ℕ)) → Adds set item middle → Reads middle more items → (x : List ℕ) → Contains (item ∷ items) x → (op : ℕ) × IsWordOf x op
+step_words : (set middle more : ℕ) (item : List ℕ) (items : List (List ℕ)) → AddsItem set item middle →
+    ReadsItems middle more items → (x : List ℕ) → Contains (item ∷ items) x → (op : ℕ) × IsWordOf x op
 step_words set middle more item items adds rest x has = elim (contains_cases item x items has) [
   | inl here ↦ (adds.op, record { word = sym here ∙ adds.spelled.word; low = adds.spelled.low })
   | inr later ↦ rest.words x later
 ]
 
-not_again : (set middle more : ℕ) (item : List ℕ) (items : List (List ℕ)) → Adds set item middle → Reads middle more items → Contains items item → ⊥
+not_again : (set middle more : ℕ) (item : List ℕ) (items : List (List ℕ)) → AddsItem set item middle → ReadsItems middle more items → Contains items item → ⊥
 not_again set middle more item items adds rest has =
     let same : Contains items (word_text adds.op) = rw adds.spelled.word at has in
     clash (members middle adds.op) (grown_put set middle item adds adds.op refl) (rest.fresh adds.op adds.spelled.low same)
 
-reads_step : (set middle more : ℕ) (item : List ℕ) (items : List (List ℕ)) → Adds set item middle → Reads middle more items → Reads set more (item ∷ items)
+reads_step : (set middle more : ℕ) (item : List ℕ) (items : List (List ℕ)) → AddsItem set item middle → ReadsItems middle more items → ReadsItems set more (item ∷ items)
 reads_step set middle more item items adds rest = record {
   kept = λ op is. rest.kept op (grown_kept set middle item adds op is);
   put = step_put set middle more item items adds rest;
@@ -240,31 +249,34 @@ reads_step set middle more item items adds rest = record {
   below = λ low. rest.below (grown_below set middle item adds low);
 }
 
-bind_reads : (r : Result ℕ BasisError) (set more : ℕ) (item : List ℕ) (items : List (List ℕ)) → ((m : ℕ) → r ≡ Ok m → listed m items ≡ Ok more → Reads set more (item ∷ items)) → (r >>= λ m. listed m items) ≡ Ok more → Reads set more (item ∷ items)
+bind_reads : (r : Result ℕ BasisError) (set more : ℕ) (item : List ℕ) (items : List (List ℕ)) →
+    ((m : ℕ) → r ≡ Ok m → listed m items ≡ Ok more → ReadsItems set more (item ∷ items)) →
+    (r >>= λ m. listed m items) ≡ Ok more → ReadsItems set more (item ∷ items)
 bind_reads (Ok m) set more item items each e = each m refl e
 bind_reads (Err error) set more item items each e = absurd cc
 
-same_none : (set more : ℕ) → set ≡ more → Reads set more []
+same_none : (set more : ℕ) → set ≡ more → ReadsItems set more []
 same_none set more e = rw e (reads_none more)
 
-listed_reads : (set more : ℕ) (items : List (List ℕ)) → listed set items ≡ Ok more → Reads set more items
+listed_reads : (set more : ℕ) (items : List (List ℕ)) → listed set items ≡ Ok more → ReadsItems set more items
 unfolding listed
 listed_reads set more [] e = same_none set more cc
-listed_reads set more (item ∷ items) e = bind_reads (with_item set item) set more item items (λ m here rest. reads_step set m more item items (item_adds set m item here) (listed_reads m more items rest)) e
+listed_reads set more (item ∷ items) e = bind_reads (with_item set item) set more item items (λ m here rest.
+    reads_step set m more item items (item_adds set m item here) (listed_reads m more items rest)) e
 
 -- ---- words of lists
 
-list_read : (is : Bool) (word : List ℕ) (set : ℕ) (other : Result ℕ BasisError) → is ≡ false → cond is other (listed 0 (items_of word)) ≡ Ok set → Reads 0 set (items_of word)
+list_read : (is : Bool) (word : List ℕ) (set : ℕ) (other : Result ℕ BasisError) → is ≡ false → cond is other (listed 0 (items_of word)) ≡ Ok set → ReadsItems 0 set (items_of word)
 list_read true word set other digit e = absurd cc
 list_read false word set other digit e = listed_reads 0 set (items_of word) e
 
-word_reads : (word : List ℕ) (set : ℕ) → begins_letter word ≡ false → basis_of word ≡ Ok set → Reads 0 set (items_of word)
+word_reads : (word : List ℕ) (set : ℕ) → begins_letter word ≡ false → basis_of word ≡ Ok set → ReadsItems 0 set (items_of word)
 word_reads word set digit e = list_read (begins_letter word) word set _ digit e
 
 no_zero_member : (op : ℕ) → members 0 op ≡ true → ⊥
 no_zero_member op is = clash (members 0 op) is (ap (λ (x : ℕ). x == 1) (bit_at-zero op))
 
-among : (word : List ℕ) (set op : ℕ) → Reads 0 set (items_of word) → members set op ≡ true → Contains (items_of word) (word_text op)
+among : (word : List ℕ) (set op : ℕ) → ReadsItems 0 set (items_of word) → members set op ≡ true → Contains (items_of word) (word_text op)
 among word set op reads is = elim (reads.came op is) [
   | inl before ↦ absurd (no_zero_member op before)
   | inr has ↦ has

@@ -1,5 +1,7 @@
 -- The text that is written for a basis is read as this basis.
-use Rattle.std.proofs.Common.{if◌then◌else◌, ◌≡◌, ℕ, zero, suc, ◌+◌, ◌*◌, ◌%◌, ◌^◌, ◌<◌, ◌≤◌, ◌==◌, Bool, true, false, cond, List, [], ◌∷◌, ◌++◌, length, bit_or, Option, Some, Result, Ok, Err, refl, sym, ap, ◌∙◌, arith, inl, inr, eqb-true}
+use Rattle.std.proofs.Common.{if◌then◌else◌, ◌≡◌, ℕ, zero, suc, ◌+◌, ◌*◌, ◌%◌, ◌^◌, ◌<◌, ◌≤◌, ◌==◌, Bool, true, false}
+use Rattle.std.proofs.Common.{cond, List, [], ◌∷◌, ◌++◌, length, bit_or, Option, Some, Result, Ok, Err, refl, sym, ap}
+use Rattle.std.proofs.Common.{◌∙◌, arith, inl, inr, eqb-true}
 use Rattle.std.specs.Prelude.{codes}
 use Rattle.std.proofs.lemmas.Grind.{common_steps}
 use Rattle.std.proofs.lemmas.List.Splits.{slice_split-cons_yes, slice_split-cons_no, length-slice_split}
@@ -14,7 +16,8 @@ use Rattle.chain_theory.specs.Operator.{digit}
 use Rattle.op_basis.specs.declared.error.BasisError.{BasisError}
 use Rattle.op_basis.specs.Basis.{members}
 use Rattle.op_basis.specs.Closed.{number, of_values}
-use Rattle.op_basis.specs.Text.{◌>>=◌, all_set, u2_set, bench_set, nand_set, is_comma, items_of, with_word, text_with, list_below, with_item, listed, begins_letter, named, name_of, basis_text, basis_of}
+use Rattle.op_basis.specs.Text.{◌>>=◌, all_set, u2_set, bench_set, nand_set, is_comma, items_of, with_word, text_with}
+use Rattle.op_basis.specs.Text.{list_below, with_item, listed, begins_letter, named, name_of, basis_text, basis_of}
 use Rattle.op_basis.specs.Word.{word_text, character, bit_in, operator_in}
 
 -- ---- items
@@ -58,10 +61,16 @@ pub has_item : (text : List ℕ) → 0 < length (items_of text)
 unfolding items_of
 has_item text = omega (arith, length-slice_split is_comma text)
 
-item_push_by : (b : ℕ) (text item : List ℕ) (comma : Bool) → is_comma b ≡ comma → items_of (text ++ 44 ∷ item) ≡ items_of text ++ item ∷ [] → items_of ((b ∷ text) ++ 44 ∷ item) ≡ items_of (b ∷ text) ++ item ∷ []
+item_push_by : (b : ℕ) (text item : List ℕ) (comma : Bool) → is_comma b ≡ comma →
+    items_of (text ++ 44 ∷ item) ≡ items_of text ++ item ∷ [] →
+    items_of ((b ∷ text) ++ 44 ∷ item) ≡ items_of (b ∷ text) ++ item ∷ []
 unfolding items_of
 item_push_by b text item true e more = rw (slice_split-cons_yes is_comma b (text ++ 44 ∷ item) e, slice_split-cons_yes is_comma b text e) (ap (λ (parts : List (List ℕ)). [] ∷ parts) more)
-item_push_by b text item false e more = rw (slice_split-cons_no is_comma b (text ++ 44 ∷ item) e, slice_split-cons_no is_comma b text e) (ap (onto_first b) more ∙ onto_push b (slice_split is_comma text) item (has_item text))
+item_push_by b text item false e more = rw (
+  slice_split-cons_no is_comma b (text ++ 44 ∷ item) e,
+  slice_split-cons_no is_comma b text e,
+) (ap (onto_first b) more
+    ∙ onto_push b (slice_split is_comma text) item (has_item text))
 
 -- one more item
 item_push : (text item : List ℕ) → is_item item ≡ true → items_of (text ++ 44 ∷ item) ≡ items_of text ++ item ∷ []
@@ -75,7 +84,9 @@ unfolding listed
 bind_ok (Ok m) = refl
 bind_ok (Err e) = refl
 
-bind_push : (r answer : Result ℕ BasisError) (more : ℕ) (items : List (List ℕ)) (item : List ℕ) → ((m : ℕ) → listed m items ≡ Ok more → listed m (items ++ item ∷ []) ≡ answer) → (r >>= λ m. listed m items) ≡ Ok more → (r >>= λ m. listed m (items ++ item ∷ [])) ≡ answer
+bind_push : (r answer : Result ℕ BasisError) (more : ℕ) (items : List (List ℕ)) (item : List ℕ) →
+    ((m : ℕ) → listed m items ≡ Ok more → listed m (items ++ item ∷ []) ≡ answer) →
+    (r >>= λ m. listed m items) ≡ Ok more → (r >>= λ m. listed m (items ++ item ∷ [])) ≡ answer
 bind_push (Ok m) answer more items item each e = each m e
 bind_push (Err error) answer more items item each e = absurd cc
 
@@ -83,7 +94,8 @@ same_set : (a b : ℕ) → listed a [] ≡ Ok b → a ≡ b
 unfolding listed
 same_set a b e = cc
 
-listed_push : (set more : ℕ) (items : List (List ℕ)) (item : List ℕ) (answer : Result ℕ BasisError) → listed set items ≡ Ok more → with_item more item ≡ answer → listed set (items ++ item ∷ []) ≡ answer
+listed_push : (set more : ℕ) (items : List (List ℕ)) (item : List ℕ) (answer : Result ℕ BasisError) →
+    listed set items ≡ Ok more → with_item more item ≡ answer → listed set (items ++ item ∷ []) ≡ answer
 unfolding listed
 listed_push set more [] item answer e last = bind_ok (with_item set item) ∙ ap (λ (s : ℕ). with_item s item) (same_set set more e) ∙ last
 listed_push set more (x ∷ items) item answer e last = bind_push (with_item set x) answer more items item (λ m found. listed_push m more items item answer found last) e
@@ -149,7 +161,8 @@ unfolding listed
 read_word set k [] low reads =
     let empty : set % 2 ^ k ≡ 0 = reads.none refl in
     ap (listed 0) (item_last (word_text k) (word_is_item k)) ∙ listed_push 0 0 [] (word_text k) _ refl (ap (λ (s : ℕ). with_item s (word_text k)) (sym empty) ∙ item_ok set k low)
-read_word set k (b ∷ bs) low reads = ap (listed 0) (item_push (b ∷ bs) (word_text k) (word_is_item k)) ∙ listed_push 0 (set % 2 ^ k) (items_of (b ∷ bs)) (word_text k) _ (reads.some (omega arith)) (item_ok set k low)
+read_word set k (b ∷ bs) low reads = ap (listed 0) (item_push (b ∷ bs) (word_text k) (word_is_item k))
+    ∙ listed_push 0 (set % 2 ^ k) (items_of (b ∷ bs)) (word_text k) _ (reads.some (omega arith)) (item_ok set k low)
 
 with_word_some : (text word : List ℕ) → 0 < length word → length (with_word text word) ≡ 0 → ⊥
 with_word_some [] word some none = omega arith
@@ -195,7 +208,9 @@ list_back set some low =
 
 -- ---- names
 
-name_back : (is : Bool) (set other : ℕ) (name list : List ℕ) (rest : Option (List ℕ)) → (is ≡ true → set ≡ other) → basis_of name ≡ Ok other → basis_of (text_with rest list) ≡ Ok set → basis_of (text_with (cond is (Some name) rest) list) ≡ Ok set
+name_back : (is : Bool) (set other : ℕ) (name list : List ℕ) (rest : Option (List ℕ)) → (is ≡ true → set ≡ other) →
+    basis_of name ≡ Ok other → basis_of (text_with rest list) ≡ Ok set →
+    basis_of (text_with (cond is (Some name) rest) list) ≡ Ok set
 name_back true set other name list rest same named_is else_is = named_is ∙ ap (λ (s : ℕ). Ok s) (sym (same refl))
 name_back false set other name list rest same named_is else_is = else_is
 

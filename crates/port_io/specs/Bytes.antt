@@ -24,7 +24,7 @@ abbrev pub IsAtEnd : Option (List ℕ) → Type 0
 IsAtEnd left = (rest : List ℕ) → left ≡ Some rest → rest ≡ []
 
 -- A prefix of `text`, of `count` bytes, was appended to what had been written, and nothing else.
-pub record AppendsFront (old new : Option (List ℕ)) (text : List ℕ) : Type 0 where
+pub record AppendsPrefix (old new : Option (List ℕ)) (text : List ℕ) : Type 0 where
   pub count : ℕ
   pub within : count ≤ length text
   pub appends : Appends old new (take count text)
@@ -36,6 +36,6 @@ pub record TakesBeyond (room : ℕ) (old new : Option (List ℕ)) : Type 0 where
   pub beyond : room < length taken
 
 -- What is left now is a suffix of what was left before.
-pub record TakesFront (old new : Option (List ℕ)) : Type 0 where
+pub record TakesPrefix (old new : Option (List ℕ)) : Type 0 where
   pub taken : List ℕ
   pub consumes : Consumes old new taken

@@ -11,9 +11,9 @@ use std::alloc::Global;
 use std::marker::Model;
 
 /// Copies the longest prefix of `rest` that fits into `buf`, and returns its length.
-fn copy_front(rest: &[u8], buf: &mut [u8]) -> usize
+fn copy_prefix(rest: &[u8], buf: &mut [u8]) -> usize
     ensures count { result ≡ min (length buf.old) (length rest.now) }
-    ensures front { take result buf.new ≡ take result rest.now }
+    ensures prefix { take result buf.new ≡ take result rest.now }
 {
     let count = buf.len().min(rest.len());
     buf[..count].copy_from_slice(&rest[..count]);
@@ -67,7 +67,7 @@ impl Source for SteadySource {
         ensures end { result ≡ Ok 0 → 0 < length buf.new → IsAtEnd (Some self.new) }
     {
         let (_, rest) = self.bytes.split_at(self.at);
-        let count = copy_front(rest, buf);
+        let count = copy_prefix(rest, buf);
         self.at += count;
         Ok(count)
     }

@@ -24,7 +24,7 @@ pub trait Source {
             (λ count. Consumes (left self.old) (left self.new) (take count buf.new)) }
         ensures end { result ≡ Ok 0 → 0 < length buf.new → IsAtEnd (left self.new) }
         ensures none_taken { OnErr result (left self.new ≡ left self.old) }
-        ensures quiet { OnOk result (faults self.new ≡ faults self.old) }
+        ensures faultless { OnOk result (faults self.new ≡ faults self.old) }
         ensures only_if_rose { OnErr result (Rose (faults self.old) (faults self.new)) }
         ensures never_falls { faults self.old ≤ faults self.new };
 }
@@ -45,7 +45,7 @@ pub trait Sink {
         ensures gone { IfOk result
             (λ count. Appends (written self.old) (written self.new) (take count piece.now)) }
         ensures none_gone { OnErr result (written self.new ≡ written self.old) }
-        ensures quiet { OnOk result (faults self.new ≡ faults self.old) }
+        ensures faultless { OnOk result (faults self.new ≡ faults self.old) }
         ensures only_if_rose { OnErr result (Rose (faults self.old) (faults self.new)) }
         ensures never_falls { faults self.old ≤ faults self.new };
 }

@@ -1,6 +1,6 @@
 //! Reading a source: one call, or to its end.
 ghost use Rattle.std.specs.Prelude.{◌≡◌, ℕ, ◌<◌, ◌≤◌, List, [], Some, IfOk, OnOk, IsErrOf, is_some, length, vec_len};
-ghost use Rattle.port_io.specs.Bytes.{Consumes, IsAtEnd, TakesBeyond, TakesFront};
+ghost use Rattle.port_io.specs.Bytes.{Consumes, IsAtEnd, TakesBeyond, TakesPrefix};
 ghost use Rattle.port_io.specs.Faults.{Rose};
 
 use crate::outside::{Failed, Source};
@@ -45,8 +45,8 @@ pub fn read_piece<'a, S: Source>(
     ensures too_long { IsErrOf result ReadError.TooLong → TakesBeyond room (S.left source.old) (S.left source.new) }
     ensures only_if_rose { IsErrOf result ReadError.ReadFault →
         Rose (S.faults source.old) (S.faults source.new) }
-    ensures quiet { (IsErrOf result ReadError.ReadFault → ⊥) → S.faults source.new ≡ S.faults source.old }
-    ensures front { TakesFront (S.left source.old) (S.left source.new) }
+    ensures faultless { (IsErrOf result ReadError.ReadFault → ⊥) → S.faults source.new ≡ S.faults source.old }
+    ensures prefix { TakesPrefix (S.left source.old) (S.left source.new) }
     ensures never_falls { S.faults source.old ≤ S.faults source.new }
 {
     match source.read(buf) {
@@ -77,10 +77,10 @@ pub fn read_all<S: Source>(
         IsErrOf result ReadError.TooLong → limit < length input }
     ensures only_if_rose { IsErrOf result ReadError.ReadFault →
         Rose (S.faults source.old) (S.faults source.new) }
-    ensures quiet { (IsErrOf result ReadError.ReadFault → ⊥) → S.faults source.new ≡ S.faults source.old }
+    ensures faultless { (IsErrOf result ReadError.ReadFault → ⊥) → S.faults source.new ≡ S.faults source.old }
 
-    ensures front { TakesFront (S.left source.old) (S.left source.new) }
-    ensures told { is_some (S.left source.new) ≡ is_some (S.left source.old) }
+    ensures prefix { TakesPrefix (S.left source.old) (S.left source.new) }
+    ensures known { is_some (S.left source.new) ≡ is_some (S.left source.old) }
     ensures never_falls { S.faults source.old ≤ S.faults source.new }
 {
     let mut all = Vec::new(alloc);

@@ -1,6 +1,6 @@
 //! Writing a whole text.
 ghost use Rattle.std.specs.Prelude.{◌≡◌, ◌≤◌, OnOk, OnErr};
-ghost use Rattle.port_io.specs.Bytes.{Appends, AppendsFront};
+ghost use Rattle.port_io.specs.Bytes.{Appends, AppendsPrefix};
 ghost use Rattle.port_io.specs.Faults.{Rose};
 
 use crate::outside::{Failed, Sink};
@@ -17,8 +17,8 @@ pub enum WriteFault {
 #[tactic(auto, using(crate::specs::TextLaws::writing))]
 pub fn write_all<O: Sink>(sink: &mut O, bytes: &[u8]) -> Result<(), WriteFault>
     ensures all { OnOk result (Appends (O.written sink.old) (O.written sink.new) bytes.now) }
-    ensures front { AppendsFront (O.written sink.old) (O.written sink.new) bytes.now }
-    ensures quiet { OnOk result (O.faults sink.new ≡ O.faults sink.old) }
+    ensures prefix { AppendsPrefix (O.written sink.old) (O.written sink.new) bytes.now }
+    ensures faultless { OnOk result (O.faults sink.new ≡ O.faults sink.old) }
     ensures only_if_rose { OnErr result (Rose (O.faults sink.old) (O.faults sink.new)) }
     ensures never_falls { O.faults sink.old ≤ O.faults sink.new }
 {

@@ -12,13 +12,13 @@ const MOST_TAIL: usize = 16;
 const MOST_WAITING: usize = 100;
 
 /// Adds the fanouts of a node; false where they are too many.
-fn add_readers(context: &Context, waiting: &mut Vec<u32>, node: u32) -> Result<bool, AllocError> {
-    let readers = context.readers(node);
-    if waiting.len() + readers.len() > MOST_WAITING {
+fn add_fanouts(context: &Context, waiting: &mut Vec<u32>, node: u32) -> Result<bool, AllocError> {
+    let fanouts = context.fanouts(node);
+    if waiting.len() + fanouts.len() > MOST_WAITING {
         return Ok(false);
     }
-    for reader in readers {
-        add(waiting, *reader)?;
+    for fanout in fanouts {
+        add(waiting, *fanout)?;
     }
     Ok(true)
 }
@@ -27,7 +27,7 @@ fn add_readers(context: &Context, waiting: &mut Vec<u32>, node: u32) -> Result<b
 fn gates_above(alloc: Global, context: &Context, node: u32) -> Result<Vec<u32>, AllocError> {
     let mut above = Vec::new(alloc);
     let mut waiting = Vec::new(alloc);
-    if !add_readers(context, &mut waiting, node)? {
+    if !add_fanouts(context, &mut waiting, node)? {
         return Ok(above);
     }
     for _taken in 0..MOST_TAIL {
@@ -36,7 +36,7 @@ fn gates_above(alloc: Global, context: &Context, node: u32) -> Result<Vec<u32>, 
         };
         waiting.retain(|other| *other != next);
         above.push(next)?;
-        if !add_readers(context, &mut waiting, next)? {
+        if !add_fanouts(context, &mut waiting, next)? {
             break;
         }
     }
@@ -68,8 +68,8 @@ pub fn sides_of(alloc: Global, xag: &Xag, tail: &[u32], node: u32) -> Result<Vec
 
 /// Whether some gate outside the tail reads the node.
 fn is_read_outside(context: &Context, tail: &[u32], node: u32) -> bool {
-    let readers = context.readers(node);
-    readers.len() > MOST_TAIL || readers.iter().any(|reader| !tail.contains(reader))
+    let fanouts = context.fanouts(node);
+    fanouts.len() > MOST_TAIL || fanouts.iter().any(|fanout| !tail.contains(fanout))
 }
 
 /// The tail of a gate, rising, as long as its sides fit among the leaves. Empty where something beyond it

@@ -16,13 +16,13 @@ use xag_core::{NetBuilder, Xag, XagGate, operator};
 struct Making {
     net: NetBuilder,
     allowed: Basis,
-    turned: Vec<bool>,
-    places: Vec<u32>,
+    complemented: Vec<bool>,
+    net_nodes: Vec<u32>,
     opposites: Vec<u32>,
 }
 
 /// Which nodes are complemented.
-fn turned_nodes(alloc: Global, xag: &Xag) -> Result<Vec<bool>, AllocError> {
+fn complemented_nodes(alloc: Global, xag: &Xag) -> Result<Vec<bool>, AllocError> {
     let mut parities = Parities::new(alloc, xag.nodes())?;
     for source in 1..=xag.sources() {
         parities.unite(0, source.wrapping_mul(2));
@@ -35,11 +35,11 @@ fn turned_nodes(alloc: Global, xag: &Xag) -> Result<Vec<bool>, AllocError> {
             parities.unite(gate.first, gate.second);
         }
     }
-    let mut turned = Vec::with_capacity(alloc, xag.nodes() as usize)?;
+    let mut complemented = Vec::with_capacity(alloc, xag.nodes() as usize)?;
     for node in 0..xag.nodes() {
-        turned.push(parities.first(node.wrapping_mul(2)) & 1 == 1)?;
+        complemented.push(parities.first(node.wrapping_mul(2)) & 1 == 1)?;
     }
-    Ok(turned)
+    Ok(complemented)
 }
 
 /// An operator that complements a node read as both operands, if one is allowed; else NOT of the first
@@ -55,21 +55,21 @@ fn negation(allowed: Basis) -> Op {
 
 impl Making {
     /// Whether a literal is the complement of the net's node for its node.
-    fn is_turned(&self, literal: u32) -> bool {
-        bit_at(&self.turned, literal >> 1) != (literal & 1 == 1)
+    fn is_complemented(&self, literal: u32) -> bool {
+        bit_at(&self.complemented, literal >> 1) != (literal & 1 == 1)
     }
 
     /// The net's node for a node, or for its complement.
-    fn place_of(&mut self, node: u32, is_opposite: bool) -> Result<u32, AllocError> {
-        let place = at(&self.places, node);
+    fn net_node_of(&mut self, node: u32, is_opposite: bool) -> Result<u32, AllocError> {
+        let net_node = at(&self.net_nodes, node);
         if !is_opposite {
-            return Ok(place);
+            return Ok(net_node);
         }
         let known = at(&self.opposites, node);
         if known != 0 {
             return Ok(known);
         }
-        let opposite = self.net.append(negation(self.allowed), place, place)?;
+        let opposite = self.net.append(negation(self.allowed), net_node, net_node)?;
         put(&mut self.opposites, node, opposite);
         Ok(opposite)
     }
@@ -77,8 +77,8 @@ impl Making {
     /// Which operands of a gate go through a NOT gate so that its operator is allowed; none where that
     /// doesn't help.
     fn opposed(&self, gate: XagGate, all: bool) -> (bool, bool) {
-        let first = self.is_turned(gate.first);
-        let second = self.is_turned(gate.second);
+        let first = self.is_complemented(gate.first);
+        let second = self.is_complemented(gate.second);
         for (a, b) in [(false, false), (false, true), (true, false), (true, true)] {
             let op = operator(gate, first != a, second != b, all);
             if self.allowed.contains(op) {
@@ -90,18 +90,18 @@ impl Making {
 
     /// Appends the gate of a node.
     fn append(&mut self, node: u32, gate: XagGate) -> Result<(), AllocError> {
-        let all = bit_at(&self.turned, node);
+        let all = bit_at(&self.complemented, node);
         let (a, b) = self.opposed(gate, all);
-        let first = self.place_of(gate.first >> 1, a)?;
-        let second = self.place_of(gate.second >> 1, b)?;
+        let first = self.net_node_of(gate.first >> 1, a)?;
+        let second = self.net_node_of(gate.second >> 1, b)?;
         let op = operator(
             gate,
-            self.is_turned(gate.first) != a,
-            self.is_turned(gate.second) != b,
+            self.is_complemented(gate.first) != a,
+            self.is_complemented(gate.second) != b,
             all,
         );
-        let place = self.net.append(op, first, second)?;
-        put(&mut self.places, node, place);
+        let net_node = self.net.append(op, first, second)?;
+        put(&mut self.net_nodes, node, net_node);
         Ok(())
     }
 
@@ -110,25 +110,25 @@ impl Making {
         if literal >> 1 == 0 {
             return Ok(if literal == 0 { Sig::Zero } else { Sig::One });
         }
-        let is_opposite = self.is_turned(literal);
-        Ok(Sig::Place(self.place_of(literal >> 1, is_opposite)?))
+        let is_opposite = self.is_complemented(literal);
+        Ok(Sig::Node(self.net_node_of(literal >> 1, is_opposite)?))
     }
 }
 
 /// A net without gates, for a graph.
 fn begun(alloc: Global, xag: &Xag, allowed: Basis) -> Result<Making, AllocError> {
-    let turned = turned_nodes(alloc, xag)?;
-    let mut places = Vec::with_capacity(alloc, xag.nodes() as usize)?;
+    let complemented = complemented_nodes(alloc, xag)?;
+    let mut net_nodes = Vec::with_capacity(alloc, xag.nodes() as usize)?;
     for node in 0..xag.nodes() {
-        places.push(node)?;
+        net_nodes.push(node)?;
     }
     let opposites = vec![in alloc; 0u32; xag.nodes() as usize]?;
     let net = NetBuilder::new(alloc, xag.sources())?;
     Ok(Making {
         net,
         allowed,
-        turned,
-        places,
+        complemented,
+        net_nodes,
         opposites,
     })
 }
@@ -149,8 +149,8 @@ pub(crate) fn net_within(alloc: Global, xag: &Xag, allowed: Basis) -> Result<Net
     let Making {
         net,
         allowed: _,
-        turned: _,
-        places: _,
+        complemented: _,
+        net_nodes: _,
         opposites: _,
     } = making;
     net.finish(alloc, &signals)

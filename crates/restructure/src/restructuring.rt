@@ -1,7 +1,7 @@
 //! A smaller net by moves over its graph.
 ghost use Rattle.std.specs.Prelude.{◌<◌, IfOk, IfSome, length};
 ghost use Rattle.op_basis.specs.Basis.{members};
-ghost use Rattle.net_theory.specs.Answers.{IsPruned};
+ghost use Rattle.net_theory.specs.Implements.{IsCleanedUp};
 ghost use Rattle.net_theory.specs.Operators.{HasOperatorsWithin};
 
 use crate::moves::improved;
@@ -77,7 +77,7 @@ pub fn restructured<S: Solver>(
     basis: Basis,
     rounds: u32,
 ) -> Result<Option<Net>, AllocError>
-    ensures pruned { IfOk result (λ found. IfSome found (IsPruned net.now)) }
+    ensures cleaned_up { IfOk result (λ found. IfSome found (IsCleanedUp net.now)) }
     ensures operators { IfOk result (λ found. IfSome found (HasOperatorsWithin (members basis) net.now)) }
     ensures fewer { IfOk result (λ found. IfSome found (λ m. length m.gates < length net.now.gates)) }
 {

@@ -10,7 +10,7 @@ use crate::finder::{Finder, Terms, taken};
 use crate::marks::Marks;
 use resub_search::{Divisors, Recipe, add_to, read_nodes};
 use std::alloc::{AllocError, Global};
-use xag_core::{Context, Edit, Xag, rebuild};
+use xag_core::{Context, Substitution, Xag, rebuild};
 
 /// The most batches that make a graph smaller.
 const MOST_BATCHES: u32 = 12;
@@ -31,7 +31,7 @@ const LEAST_PART: usize = 4000;
 #[derive(Drop)]
 pub struct Batch {
     pub context: Context,
-    pub edit: Edit,
+    pub substitution: Substitution,
     pub marks: Marks,
 }
 
@@ -40,10 +40,10 @@ impl Batch {
     fn new(alloc: Global, xag: &Xag) -> Result<Batch, AllocError> {
         let context = Context::new(alloc, xag)?;
         let marks = Marks::new(alloc, xag.nodes())?;
-        let edit = Edit::new(alloc, xag);
+        let substitution = Substitution::new(alloc, xag);
         Ok(Batch {
             context,
-            edit,
+            substitution,
             marks,
         })
     }
@@ -53,17 +53,17 @@ impl Batch {
         &mut self,
         xag: &Xag,
         divisors: &Divisors,
-        cone: &[u32],
+        mffc: &[u32],
         target: u32,
         recipe: Recipe,
     ) -> Result<(), AllocError> {
-        add_to(&mut self.edit, divisors, target, recipe)?;
-        self.context.give_up(xag, cone);
+        add_to(&mut self.substitution, divisors, target, recipe)?;
+        self.context.release_mffc(xag, mffc);
         for node in read_nodes(divisors, recipe) {
-            self.context.hold(node);
+            self.context.add_reference(node);
             self.marks.note_read(node);
         }
-        self.context.pin(target);
+        self.context.exclude(target);
         Ok(())
     }
 }
@@ -93,7 +93,7 @@ fn with_all(
             finder.note(alloc, xag, batch, target, terms)?;
         }
     }
-    rebuild(alloc, xag, &batch.edit)
+    rebuild(alloc, xag, &batch.substitution)
 }
 
 /// The graph after a batch; None where it isn't what the terms allow.

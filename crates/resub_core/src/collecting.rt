@@ -10,19 +10,19 @@ use xag_core::{Context, Xag};
 const MOST_DIVISORS: usize = 100;
 
 /// The most fanouts of a node that are looked at.
-const MOST_READERS: usize = 24;
+const MOST_FANOUTS: usize = 24;
 
 /// Takes in fanouts of a slot that aren't left out.
-fn take_readers(
+fn take_fanouts(
     xag: &Xag,
     context: &Context,
     region: &mut Region,
     slot: usize,
     end: u32,
 ) -> Result<(), AllocError> {
-    for reader in context.readers(region.node(slot)).iter().take(MOST_READERS) {
-        if *reader < end && region.slot(*reader).is_none() && !region.is_left_out(*reader) {
-            region.take_in(xag, *reader)?;
+    for fanout in context.fanouts(region.node(slot)).iter().take(MOST_FANOUTS) {
+        if *fanout < end && region.slot(*fanout).is_none() && !region.is_left_out(*fanout) {
+            region.take_in(xag, *fanout)?;
         }
     }
     Ok(())
@@ -42,7 +42,7 @@ fn take_beside(
         if slot >= region.len() || region.len() > MOST_DIVISORS {
             break;
         }
-        take_readers(xag, context, region, slot, end)?;
+        take_fanouts(xag, context, region, slot, end)?;
     }
     Ok(())
 }
@@ -76,18 +76,18 @@ fn list(
 }
 
 /// Lists the divisors in a region that was set up, and in the gates beside it, among the nodes below `end`. The gates of
-/// `cone` are left out: the target, and those that go with it.
+/// `mffc` are left out: the target, and those that go with it.
 pub fn collect(
     divisors: &mut Divisors,
     xag: &Xag,
     context: &Context,
     region: &mut Region,
-    cone: &[u32],
+    mffc: &[u32],
     end: u32,
 ) -> Result<(), AllocError> {
-    region.leave_out(cone, true);
+    region.leave_out(mffc, true);
     take_beside(xag, context, region, end)?;
     list(divisors, xag, context, region)?;
-    region.leave_out(cone, false);
+    region.leave_out(mffc, false);
     Ok(())
 }

@@ -10,13 +10,13 @@ use region_core::Region;
 use resub_search::{Divisors, Recipe, Search, Wanted, add_to, read_nodes};
 use rows::{Random, bit_at, put};
 use std::alloc::{AllocError, Global};
-use xag_core::{Context, Edit, Xag, XagGate, rebuild};
+use xag_core::{Context, Substitution, Xag, XagGate, rebuild};
 
 /// The most rebuilt gates that trials of one search may cost.
 const MOST_WORK: usize = 40_000;
 
 /// The least cone of which gates may be read again.
-const LEAST_CONE: usize = 3;
+const LEAST_MFFC: usize = 3;
 
 /// How a target may change: by how many new gates, and whether the graph may keep its size.
 #[derive(Clone, Copy)]
@@ -31,7 +31,7 @@ pub struct Finder {
     region: Region,
     divisors: Divisors,
     search: Search,
-    cone: Vec<u32>,
+    mffc: Vec<u32>,
     kept: Vec<bool>,
     random: Random,
 }
@@ -97,7 +97,7 @@ impl Finder {
             region: Region::new(alloc, nodes)?,
             divisors: Divisors::new(alloc),
             search: Search::new(alloc)?,
-            cone: Vec::new(alloc),
+            mffc: Vec::new(alloc),
             kept: vec![in alloc; false; nodes as usize]?,
             random: Random::new(seed),
         })
@@ -119,7 +119,7 @@ impl Finder {
             put(&mut self.kept, node, true);
         }
         let mut gone = 0usize;
-        for member in &self.cone {
+        for member in &self.mffc {
             if bit_at(&self.kept, *member) {
                 mark_operands(&mut self.kept, xag.gate(*member), true);
             } else {
@@ -135,7 +135,7 @@ impl Finder {
         for node in read {
             put(&mut self.kept, node, false);
         }
-        for member in &self.cone {
+        for member in &self.mffc {
             mark_operands(&mut self.kept, xag.gate(*member), false);
         }
     }
@@ -158,9 +158,9 @@ impl Finder {
     ) -> Result<Option<Xag>, AllocError>
         ensures { IfOk result (λ other. IfSome other (HasEnds xag.now)) }
     {
-        let mut edit = Edit::new(alloc, xag);
-        add_to(&mut edit, &self.divisors, target, recipe)?;
-        rebuild(alloc, xag, &edit)
+        let mut substitution = Substitution::new(alloc, xag);
+        add_to(&mut substitution, &self.divisors, target, recipe)?;
+        rebuild(alloc, xag, &substitution)
     }
 
     /// Tries what was found, in a random order: the smallest graph of some trials.
@@ -209,7 +209,7 @@ impl Finder {
         let wanted = Wanted::of(alloc, self.region.target_row(), self.region.care())?;
         self.search.find(alloc, &self.divisors, &wanted, gates)?;
         let size = xag.gates().len();
-        let is_plateau = gates as usize >= self.cone.len();
+        let is_plateau = gates as usize >= self.mffc.len();
         let trials = if is_plateau {
             1
         } else {
@@ -221,7 +221,7 @@ impl Finder {
 
     /// The most new gates of a search, where the target's cone goes but for `kept` gates.
     fn most_gates(&self, terms: Terms, kept: u32) -> u32 {
-        let saved = (self.cone.len() as u64).min(1000) as u32;
+        let saved = (self.mffc.len() as u64).min(1000) as u32;
         let most = if terms.is_level {
             saved
         } else {
@@ -243,8 +243,8 @@ impl Finder {
     ) -> Result<Option<Xag>, AllocError>
         ensures { IfOk result (λ other. IfSome other (IsNoLarger xag.now)) }
     {
-        let apart = if inside { 1 } else { self.cone.len() };
-        let left_out = self.cone.get(..apart).unwrap_or(&[]);
+        let apart = if inside { 1 } else { self.mffc.len() };
+        let left_out = self.mffc.get(..apart).unwrap_or(&[]);
         collect(
             &mut self.divisors,
             xag,
@@ -278,7 +278,7 @@ impl Finder {
             return Ok(None);
         }
         let found = self.search_over(alloc, xag, context, target, false, terms)?;
-        if found.is_some() || terms.is_level || self.cone.len() < LEAST_CONE {
+        if found.is_some() || terms.is_level || self.mffc.len() < LEAST_MFFC {
             return Ok(found);
         }
         self.search_over(alloc, xag, context, target, true, terms)
@@ -295,7 +295,7 @@ impl Finder {
     ) -> Result<Option<Xag>, AllocError>
         ensures { IfOk result (λ other. IfSome other (IsNoLarger xag.now)) }
     {
-        context.cone_of(xag, target, &mut self.cone)?;
+        context.mffc_of(xag, target, &mut self.mffc)?;
         for with_tail in [false, true] {
             let found = self.search_region(alloc, xag, context, target, with_tail, terms)?;
             if found.is_some() {
@@ -329,7 +329,7 @@ impl Finder {
         let Some(recipe) = self.search.found.first() else {
             return Ok(false);
         };
-        batch.note(xag, &self.divisors, &self.cone, target, *recipe)?;
+        batch.note(xag, &self.divisors, &self.mffc, target, *recipe)?;
         Ok(true)
     }
 
@@ -355,7 +355,7 @@ impl Finder {
             xag,
             &batch.context,
             &mut self.region,
-            &self.cone,
+            &self.mffc,
             target,
         )?;
         if !batch.marks.allow(&self.region, target, with_tail) {
@@ -382,7 +382,7 @@ impl Finder {
         if !xag.is_gate(target) || batch.context.references(target) == 0 {
             return Ok(());
         }
-        batch.context.cone_of(xag, target, &mut self.cone)?;
+        batch.context.mffc_of(xag, target, &mut self.mffc)?;
         for with_tail in [false, true] {
             if self.note_region(alloc, xag, batch, target, with_tail, terms)? {
                 break;

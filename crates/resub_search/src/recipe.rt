@@ -2,7 +2,7 @@
 
 use crate::divisors::Divisors;
 use std::alloc::AllocError;
-use xag_core::{Edit, XagGate};
+use xag_core::{Substitution, XagGate};
 
 /// The code of the first new gate's literal. Below it a code is 2 * divisor, or 2 * divisor + 1 for the complement.
 pub const INNER: u32 = 2048;
@@ -93,19 +93,19 @@ fn made_gate(divisors: &Divisors, made: Made, gate: XagGate) -> XagGate {
 
 /// Adds the new gates of a recipe to an edit, and redirects the target to what stands for it.
 pub fn add_to(
-    edit: &mut Edit,
+    substitution: &mut Substitution,
     divisors: &Divisors,
     target: u32,
     recipe: Recipe,
 ) -> Result<(), AllocError> {
     let mut made = Made { inner: 0, outer: 0 };
     if recipe.steps >= 1 {
-        made.inner = edit.gate(made_gate(divisors, made, recipe.inner))?;
+        made.inner = substitution.gate(made_gate(divisors, made, recipe.inner))?;
     }
     if recipe.steps >= 2 {
-        made.outer = edit.gate(made_gate(divisors, made, recipe.outer))?;
+        made.outer = substitution.gate(made_gate(divisors, made, recipe.outer))?;
     }
-    edit.redirect(target, literal_of(divisors, made, recipe.root))
+    substitution.substitute(target, literal_of(divisors, made, recipe.root))
 }
 
 /// The nodes that a recipe reads, with the constant for none.

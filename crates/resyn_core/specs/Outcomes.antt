@@ -6,11 +6,11 @@ use Rattle.op_basis.specs.Basis.{members}
 use Rattle.window_theory.specs.Paths.{IsGate}
 use Rattle.window_theory.specs.Window.{IsPartnerOrNone}
 use Rattle.settings.specs.declared.improve.ImproveSettings.{ImproveSettings}
-use Rattle.improve_theory.specs.declared.visit.Visit.{Visit}
-use Rattle.resyn_core.specs.declared.trial.Tried.{Tried}
-use Rattle.resyn_core.specs.declared.trial.Tried.TheVariants.{Passed, Open, Smaller}
-use Rattle.improve_theory.specs.Leading.{Leads}
-use Rattle.improve_theory.specs.Settled.{IsLeast}
+use Rattle.improve_theory.specs.declared.candidate.Candidate.{Candidate}
+use Rattle.resyn_core.specs.declared.attempts.Attempted.{Attempted}
+use Rattle.resyn_core.specs.declared.attempts.Attempted.TheVariants.{NoGain, Open, Accepted}
+use Rattle.improve_theory.specs.Leading.{IsReplacement}
+use Rattle.improve_theory.specs.Settled.{HasNoShorterChain}
 use Rattle.improve_theory.specs.Undecided.{IsUndecided}
 
 -- ---- nets that replace each other
@@ -18,20 +18,20 @@ use Rattle.improve_theory.specs.Undecided.{IsUndecided}
 -- The net became smaller by merging: the new net may replace the old one and has fewer gates. Or nothing
 -- changed.
 abbrev pub IsShrunk : ImproveSettings → Net → Net → Bool → Type 0
-IsShrunk s n m true = Leads (members s.basis) n m × (length m.gates < length n.gates)
+IsShrunk s n m true = IsReplacement (members s.basis) n m × (length m.gates < length n.gates)
 IsShrunk s n m false = m ≡ n
 
 -- ---- candidates
 
 -- If the root is a gate and the partner one of it, no chain shorter than the candidate's window implements
 -- its local specification.
-pub record IsDone (s : ImproveSettings) (n : Net) (v : Visit) : Type 0 where
-  pub done : IsGate n v.root → IsPartnerOrNone n v.root v.partner → IsLeast s n v
+pub record IsDone (s : ImproveSettings) (n : Net) (v : Candidate) : Type 0 where
+  pub done : IsGate n v.root → IsPartnerOrNone n v.root v.partner → HasNoShorterChain s n v
 
 -- No gain: the net is unchanged, and the window has no shorter chain. Open: the net is unchanged, the window
 -- has at least six gates, and the certificate leaves it undecided. Accepted: the new net may replace the old
 -- one, and has fewer gates.
-abbrev pub IsTried : ImproveSettings → Net → Net → Visit → Tried → Type 0
-IsTried s n m v Passed = (m ≡ n) × IsDone s n v
-IsTried s n m v (Open search) = (m ≡ n) × IsUndecided n s (record { visit = v; search = search })
-IsTried s n m v Smaller = Leads (members s.basis) n m × (length m.gates < length n.gates)
+abbrev pub IsAttempted : ImproveSettings → Net → Net → Candidate → Attempted → Type 0
+IsAttempted s n m v NoGain = (m ≡ n) × IsDone s n v
+IsAttempted s n m v (Open search) = (m ≡ n) × IsUndecided n s (record { candidate = v; search = search })
+IsAttempted s n m v Accepted = IsReplacement (members s.basis) n m × (length m.gates < length n.gates)

@@ -1,6 +1,6 @@
 //! Resynthesis of a net by windows. A round merges structurally equal gates and then goes once over all
 //! candidate windows in order; rounds follow until one changes nothing, a fixpoint, or until
-//! `settings.rounds` of them have changed something. The trait `Trial` attempts one window, so this crate
+//! `settings.rounds` of them have changed something. The trait `Attempts` attempts one window, so this crate
 //! knows no solver, no search and no cache.
 //!
 //! Candidates are ordered by their root, ascending. For each root come the counts from 1 to the cap without a
@@ -9,7 +9,7 @@
 //! partners. An attempt has no gain, stays undecided with a certificate, or makes the net smaller.
 //!
 //! What is proved rests on one argument: in a round that changed nothing each candidate was attempted on the
-//! final net, so each window has no shorter chain or is named (`IsSwept`, which holds for each part of a
+//! final net, so each window has no shorter chain or is named (`IsResynthesized`, which holds for each part of a
 //! round and composes). Nothing has to be known of the candidates that are skipped after a change.
 //!
 //! In ABC and mockturtle these are called:
@@ -34,11 +34,11 @@
 //! ```
 #![tactic(auto)]
 
-mod places;
+mod attempts;
+mod nodes;
+mod resynthesizing;
 mod round;
-mod sweeping;
-mod trial;
 
+pub use attempts::{Attempted, Attempts};
+pub use resynthesizing::{Resynthesized, resynthesize};
 pub use settings::ImproveSettings;
-pub use sweeping::{Swept, sweep};
-pub use trial::{Trial, Tried};

@@ -1,12 +1,13 @@
 //! One round: structurally equal gates are merged, and then every window is attempted in order.
 ghost use Rattle.std.specs.Prelude.{◌+◌, ◌≤◌, IfOk, OnOk};
-ghost use Rattle.improve_theory.specs.Visits.{IsNoVisit, IsThis, IsOfCounts, IsOfPartners, IsOfRoot, IsOfRoots, IsNextPartner};
+ghost use Rattle.improve_theory.specs.Candidates.{IsNoCandidate, IsThis, IsOfCounts, IsOfPartners, IsOfRoot, IsOfRoots};
+ghost use Rattle.improve_theory.specs.Candidates.{IsNextPartner};
 ghost use Rattle.net_theory.specs.Net.{end_of};
-ghost use Rattle.resyn_core.specs.Swept.{stage, IsSwept};
+ghost use Rattle.resyn_core.specs.Resynthesized.{loop_state, IsResynthesized};
 
-use crate::places::{end_place, first_place, has_gate};
-use crate::trial::{Trial, Tried};
-use improve_theory::{Undecided, Visit};
+use crate::attempts::{Attempted, Attempts};
+use crate::nodes::{end_node, first_node, has_gate};
+use improve_theory::{Candidate, Undecided};
 use std::alloc::{AllocError, Global};
 use std::marker::Model;
 
@@ -20,7 +21,7 @@ pub struct Round {
 }
 
 impl Model for Round {
-    ghost use Rattle.resyn_core.specs.Swept as theory;
+    ghost use Rattle.resyn_core.specs.Resynthesized as theory;
 
     ghost Value = { theory.Round };
 
@@ -28,31 +29,31 @@ impl Model for Round {
 }
 
 /// Attempts a candidate, unless its root is no gate.
-#[tactic(auto, using(crate::specs::SweptLaws::visiting))]
-fn make_visit<T: Trial>(
+#[tactic(auto, using(crate::specs::ResynthesizedLaws::attempting))]
+fn attempt_candidate<T: Attempts>(
     alloc: Global,
-    trial: &mut T,
+    attempts: &mut T,
     round: &mut Round,
-    visit: Visit,
+    candidate: Candidate,
 ) -> Result<(), AllocError>
-    requires from { 1 ≤ visit.count }
-    requires to { visit.count ≤ (T.settings_of trial.old).cap }
-    ensures { OnOk result (IsSwept (IsThis visit)
-        (stage (T.settings_of trial.old) (T.net_of trial.old) round.old)
-        (stage (T.settings_of trial.new) (T.net_of trial.new) round.new)) }
+    requires from { 1 ≤ candidate.count }
+    requires to { candidate.count ≤ (T.settings_of attempts.old).cap }
+    ensures { OnOk result (IsResynthesized (IsThis candidate)
+        (loop_state (T.settings_of attempts.old) (T.net_of attempts.old) round.old)
+        (loop_state (T.settings_of attempts.new) (T.net_of attempts.new) round.new)) }
 {
-    if !has_gate(trial.net(), visit.root) {
+    if !has_gate(attempts.net(), candidate.root) {
         return Ok(());
     }
-    match trial.attempt(alloc, visit)? {
-        Tried::Passed => {}
-        Tried::Open(search) => {
+    match attempts.attempt(alloc, candidate)? {
+        Attempted::NoGain => {}
+        Attempted::Open(search) => {
             if round.changed {
                 return Ok(());
             }
-            round.named.push(Undecided { visit, search })?;
+            round.named.push(Undecided { candidate, search })?;
         }
-        Tried::Smaller => {
+        Attempted::Accepted => {
             round.changed = true;
             round.named.clear();
         }
@@ -61,28 +62,28 @@ fn make_visit<T: Trial>(
 }
 
 /// Attempts a root with a partner or none, by the counts from `first` to the cap.
-#[tactic(auto, using(crate::specs::SweptLaws::visiting))]
-fn visit_counts<T: Trial>(
+#[tactic(auto, using(crate::specs::ResynthesizedLaws::attempting))]
+fn attempt_counts<T: Attempts>(
     alloc: Global,
-    trial: &mut T,
+    attempts: &mut T,
     round: &mut Round,
     root: u32,
     partner: Option<u32>,
     first: u32,
 ) -> Result<(), AllocError>
     requires first { 1 ≤ first }
-    requires within { first ≤ (T.settings_of trial.old).cap + 1 }
-    ensures { OnOk result (IsSwept (IsOfCounts root partner first ((T.settings_of trial.old).cap + 1))
-        (stage (T.settings_of trial.old) (T.net_of trial.old) round.old)
-        (stage (T.settings_of trial.new) (T.net_of trial.new) round.new)) }
+    requires within { first ≤ (T.settings_of attempts.old).cap + 1 }
+    ensures { OnOk result (IsResynthesized (IsOfCounts root partner first ((T.settings_of attempts.old).cap + 1))
+        (loop_state (T.settings_of attempts.old) (T.net_of attempts.old) round.old)
+        (loop_state (T.settings_of attempts.new) (T.net_of attempts.new) round.new)) }
 {
-    let end = trial.settings().cap + 1;
+    let end = attempts.settings().cap + 1;
     for count in first..end {
-        make_visit(
+        attempt_candidate(
             alloc,
-            trial,
+            attempts,
             round,
-            Visit {
+            Candidate {
                 root,
                 partner,
                 count,
@@ -93,39 +94,39 @@ fn visit_counts<T: Trial>(
 }
 
 /// The greatest partner of a root below `below`; None where there is none, or the root is no gate.
-fn next_partner<T: Trial>(
+fn next_partner<T: Attempts>(
     alloc: Global,
-    trial: &T,
+    attempts: &T,
     root: u32,
     below: u32,
 ) -> Result<Option<u32>, AllocError>
-    ensures { IfOk result (λ next. IsNextPartner (T.net_of trial.now) root below next) }
+    ensures { IfOk result (λ next. IsNextPartner (T.net_of attempts.now) root below next) }
 {
-    if !has_gate(trial.net(), root) {
+    if !has_gate(attempts.net(), root) {
         return Ok(None);
     }
-    trial.next_partner(alloc, root, below)
+    attempts.next_partner(alloc, root, below)
 }
 
 /// Attempts a root with each of its partners, from the greatest to the least.
-#[tactic(auto, using(crate::specs::SweptLaws::visiting))]
-fn visit_partners<T: Trial>(
+#[tactic(auto, using(crate::specs::ResynthesizedLaws::attempting))]
+fn attempt_partners<T: Attempts>(
     alloc: Global,
-    trial: &mut T,
+    attempts: &mut T,
     round: &mut Round,
     root: u32,
 ) -> Result<(), AllocError>
-    requires cap { 1 ≤ (T.settings_of trial.old).cap }
-    ensures { OnOk result (IsSwept (IsOfPartners root (T.settings_of trial.old).cap 0)
-        (stage (T.settings_of trial.old) (T.net_of trial.old) round.old)
-        (stage (T.settings_of trial.new) (T.net_of trial.new) round.new)) }
+    requires cap { 1 ≤ (T.settings_of attempts.old).cap }
+    ensures { OnOk result (IsResynthesized (IsOfPartners root (T.settings_of attempts.old).cap 0)
+        (loop_state (T.settings_of attempts.old) (T.net_of attempts.old) round.old)
+        (loop_state (T.settings_of attempts.new) (T.net_of attempts.new) round.new)) }
 {
     let mut below = root;
     loop {
-        match next_partner(alloc, trial, root, below)? {
+        match next_partner(alloc, attempts, root, below)? {
             None => return Ok(()),
             Some(partner) => {
-                visit_counts(alloc, trial, round, root, Some(partner), 2)?;
+                attempt_counts(alloc, attempts, round, root, Some(partner), 2)?;
                 below = partner;
             }
         }
@@ -133,47 +134,55 @@ fn visit_partners<T: Trial>(
 }
 
 /// Attempts a root without a partner, and then with each of its partners.
-#[tactic(auto, using(crate::specs::SweptLaws::visiting))]
-fn visit_root<T: Trial>(
+#[tactic(auto, using(crate::specs::ResynthesizedLaws::attempting))]
+fn attempt_root<T: Attempts>(
     alloc: Global,
-    trial: &mut T,
+    attempts: &mut T,
     round: &mut Round,
     root: u32,
 ) -> Result<(), AllocError>
-    requires cap { 1 ≤ (T.settings_of trial.old).cap }
-    ensures { OnOk result (IsSwept (IsOfRoot root (T.settings_of trial.old).cap)
-        (stage (T.settings_of trial.old) (T.net_of trial.old) round.old)
-        (stage (T.settings_of trial.new) (T.net_of trial.new) round.new)) }
+    requires cap { 1 ≤ (T.settings_of attempts.old).cap }
+    ensures { OnOk result (IsResynthesized (IsOfRoot root (T.settings_of attempts.old).cap)
+        (loop_state (T.settings_of attempts.old) (T.net_of attempts.old) round.old)
+        (loop_state (T.settings_of attempts.new) (T.net_of attempts.new) round.new)) }
 {
-    visit_counts(alloc, trial, round, root, None, 1)?;
-    visit_partners(alloc, trial, round, root)?;
+    attempt_counts(alloc, attempts, round, root, None, 1)?;
+    attempt_partners(alloc, attempts, round, root)?;
     Ok(())
 }
 
 /// Attempts all roots of the initial net, in ascending order.
-#[tactic(auto, using(crate::specs::SweptLaws::visiting))]
-fn visit_all<T: Trial>(alloc: Global, trial: &mut T, round: &mut Round) -> Result<(), AllocError>
-    requires cap { 1 ≤ (T.settings_of trial.old).cap }
-    ensures { OnOk result (IsSwept (IsOfRoots (T.settings_of trial.old).cap (end_of (T.net_of trial.old)))
-        (stage (T.settings_of trial.old) (T.net_of trial.old) round.old)
-        (stage (T.settings_of trial.new) (T.net_of trial.new) round.new)) }
+#[tactic(auto, using(crate::specs::ResynthesizedLaws::attempting))]
+fn attempt_all<T: Attempts>(
+    alloc: Global,
+    attempts: &mut T,
+    round: &mut Round,
+) -> Result<(), AllocError>
+    requires cap { 1 ≤ (T.settings_of attempts.old).cap }
+    ensures { OnOk result (IsResynthesized (IsOfRoots (T.settings_of attempts.old).cap (end_of (T.net_of attempts.old)))
+        (loop_state (T.settings_of attempts.old) (T.net_of attempts.old) round.old)
+        (loop_state (T.settings_of attempts.new) (T.net_of attempts.new) round.new)) }
 {
-    let first = first_place(trial.net());
-    let end = end_place(trial.net());
+    let first = first_node(attempts.net());
+    let end = end_node(attempts.net());
     for root in first..end {
-        visit_root(alloc, trial, round, root)?;
+        attempt_root(alloc, attempts, round, root)?;
     }
     Ok(())
 }
 
 /// Merges structurally equal gates (structural hashing).
 #[tactic(auto, using(crate::specs::RoundLaws::merging))]
-fn merge_gates<T: Trial>(alloc: Global, trial: &mut T, round: &mut Round) -> Result<(), AllocError>
-    ensures { OnOk result (IsSwept IsNoVisit
-        (stage (T.settings_of trial.old) (T.net_of trial.old) round.old)
-        (stage (T.settings_of trial.new) (T.net_of trial.new) round.new)) }
+fn merge_gates<T: Attempts>(
+    alloc: Global,
+    attempts: &mut T,
+    round: &mut Round,
+) -> Result<(), AllocError>
+    ensures { OnOk result (IsResynthesized IsNoCandidate
+        (loop_state (T.settings_of attempts.old) (T.net_of attempts.old) round.old)
+        (loop_state (T.settings_of attempts.new) (T.net_of attempts.new) round.new)) }
 {
-    let merged = trial.merge_alike(alloc)?;
+    let merged = attempts.strash(alloc)?;
     if !merged {
         return Ok(());
     }
@@ -182,18 +191,18 @@ fn merge_gates<T: Trial>(alloc: Global, trial: &mut T, round: &mut Round) -> Res
 }
 
 /// Makes a round.
-#[tactic(auto, using(crate::specs::SweptLaws::sweeping))]
-pub fn make_round<T: Trial>(
+#[tactic(auto, using(crate::specs::ResynthesizedLaws::resynthesizing))]
+pub fn make_round<T: Attempts>(
     alloc: Global,
-    trial: &mut T,
+    attempts: &mut T,
     round: &mut Round,
 ) -> Result<(), AllocError>
-    requires cap { 1 ≤ (T.settings_of trial.old).cap }
-    ensures { OnOk result (IsSwept (IsOfRoots (T.settings_of trial.old).cap (end_of (T.net_of trial.old)))
-        (stage (T.settings_of trial.old) (T.net_of trial.old) round.old)
-        (stage (T.settings_of trial.new) (T.net_of trial.new) round.new)) }
+    requires cap { 1 ≤ (T.settings_of attempts.old).cap }
+    ensures { OnOk result (IsResynthesized (IsOfRoots (T.settings_of attempts.old).cap (end_of (T.net_of attempts.old)))
+        (loop_state (T.settings_of attempts.old) (T.net_of attempts.old) round.old)
+        (loop_state (T.settings_of attempts.new) (T.net_of attempts.new) round.new)) }
 {
-    merge_gates(alloc, trial, round)?;
-    visit_all(alloc, trial, round)?;
+    merge_gates(alloc, attempts, round)?;
+    attempt_all(alloc, attempts, round)?;
     Ok(())
 }

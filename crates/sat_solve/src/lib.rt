@@ -22,4 +22,4 @@
 
 mod solver;
 
-pub use solver::{Cones, Probed, Solved, Solver};
+pub use solver::{AssumptionResult, Cones, Solved, Solver};

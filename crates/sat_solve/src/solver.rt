@@ -17,15 +17,15 @@ pub enum Solved {
 /// The result of a call under assumptions. It is a hint: the contract promises only that the solver is still
 /// one of its formula.
 #[derive(Clone, Copy)]
-pub enum Probed {
+pub enum AssumptionResult {
     /// The formula itself is refuted.
     Refuted,
     /// Unsatisfiable under the assumptions: one of them became false.
-    Clashed,
+    Unsat,
     /// All assumptions are true and all decision variables have values, with no conflict.
-    Standing,
+    Sat,
     /// Undecided: the limit was reached.
-    GivenUp,
+    Limit,
 }
 
 /// Which variables a call under assumptions decides: tables by variable (index 0 is unused) with the fanins
@@ -46,7 +46,7 @@ pub struct Cones<'a> {
 pub trait Solver: Drop {
     ghost use Rattle.std.specs.Prelude.{◌≡◌, ℕ, ◌*◌, ◌^◌, ◌<◌, ◌≤◌, length, max, IfOk};
     ghost use Rattle.sat_theory.specs.Formula.{Formula, IsWithin, bits_of, Satisfies};
-    ghost use Rattle.sat_theory.specs.Log.{Refutes, IsSpent, IsKept, IsThinned};
+    ghost use Rattle.sat_theory.specs.Log.{Refutes, ReachesBudget, KeepsHalf, DeletesQuarter};
     ghost use Rattle.sat_solve.specs.Budgets.{most_budget};
     ghost use Rattle.sat_solve.specs.Answering.{IfSat, IfUnsat, IfOpen, IfLogged, IsDecided};
 
@@ -66,11 +66,17 @@ pub trait Solver: Drop {
         ensures vars { IfOk result (λ s. vars_of s ≡ cnf.now.vars) };
 
     /// Solves under assumptions: decides the assumptions without a value in their order, and then only
-    /// decision variables, those of the assumptions first (see `Cones`). It returns `GivenUp` at the first
+    /// decision variables, those of the assumptions first (see `Cones`). It returns `Limit` at the first
     /// decision after `limit` conflicts, or after work that corresponds to that many.
-    fn probe(&mut self, targets: &[Lit], cones: Cones, limit: u32) -> Result<Probed, AllocError>
-        requires within { IsWithin (vars_of self.old) targets.now }
-        ensures kept { (f : Formula) (least : ℕ) → IsSolverOf f least self.old → IfOk result (λ _. IsSolverOf f least self.new) }
+    fn solve_assuming(
+        &mut self,
+        assumptions: &[Lit],
+        cones: Cones,
+        limit: u32,
+    ) -> Result<AssumptionResult, AllocError>
+        requires within { IsWithin (vars_of self.old) assumptions.now }
+        ensures kept { (f : Formula) (least : ℕ) → IsSolverOf f least self.old →
+            IfOk result (λ _. IsSolverOf f least self.new) }
         ensures vars { IfOk result (λ _. vars_of self.new ≡ vars_of self.old) };
 
     /// The value of a variable after the last call under assumptions; None if it has none, or the formula
@@ -84,17 +90,22 @@ pub trait Solver: Drop {
         Self: Sized,
         requires some { 0 < budget }
         requires most { budget ≤ most_budget }
-        ensures bits { (f : Formula) (least : ℕ) → IsSolverOf f least self → IfOk result (λ s. IfSat s (λ bits. length bits ≡ f.vars)) }
-        ensures sat { (f : Formula) (least : ℕ) → IsSolverOf f least self → IfOk result (λ s. IfSat s (λ bits. Satisfies (bits_of bits) f)) }
+        ensures bits { (f : Formula) (least : ℕ) → IsSolverOf f least self →
+            IfOk result (λ s. IfSat s (λ bits. length bits ≡ f.vars)) }
+        ensures sat { (f : Formula) (least : ℕ) → IsSolverOf f least self →
+            IfOk result (λ s. IfSat s (λ bits. Satisfies (bits_of bits) f)) }
         ensures unsat { (f : Formula) (least : ℕ) → IsSolverOf f least self → IfOk result (λ s. IfUnsat s (Refutes f)) }
-        ensures open { (f : Formula) (least : ℕ) → IsSolverOf f least self → IfOk result (λ s. IfOpen s (λ lines. IsSpent f lines (max least budget))) }
+        ensures open { (f : Formula) (least : ℕ) → IsSolverOf f least self →
+            IfOk result (λ s. IfOpen s (λ lines. ReachesBudget f lines (max least budget))) }
         // At the end of an open log at least half of its additions are live.
-        ensures kept { (f : Formula) (least : ℕ) → IsSolverOf f least self → IfOk result (λ s. IfOpen s (IsKept f)) }
+        ensures kept { (f : Formula) (least : ℕ) → IsSolverOf f least self → IfOk result (λ s. IfOpen s (KeepsHalf f)) }
         // A log that refutes, or leaves open, deletes about a quarter of its additions or more, and no clause of
         // the formula.
-        ensures thinned { (f : Formula) (least : ℕ) → IsSolverOf f least self → IfOk result (λ s. IfLogged s (IsThinned f)) }
+        ensures thinned { (f : Formula) (least : ℕ) → IsSolverOf f least self →
+            IfOk result (λ s. IfLogged s (DeletesQuarter f)) }
         // A budget of twice 3 to the number of variables decides every formula.
-        ensures decides { (f : Formula) (least : ℕ) → IsSolverOf f least self → 2 * 3 ^ f.vars ≤ max least budget → IfOk result IsDecided };
+        ensures decides { (f : Formula) (least : ℕ) → IsSolverOf f least self → 2 * 3 ^ f.vars ≤ max least budget →
+            IfOk result IsDecided };
 
     /// Decides a formula, or returns Open at the first decision after `budget` learnt clauses, from 1 to
     /// 10,000,000.
@@ -106,12 +117,12 @@ pub trait Solver: Drop {
         ensures bits { IfOk result (λ s. IfSat s (λ bits. length bits ≡ cnf.now.vars)) }
         ensures sat { IfOk result (λ s. IfSat s (λ bits. Satisfies (bits_of bits) cnf.now)) }
         ensures unsat { IfOk result (λ s. IfUnsat s (Refutes cnf.now)) }
-        ensures open { IfOk result (λ s. IfOpen s (λ lines. IsSpent cnf.now lines budget)) }
+        ensures open { IfOk result (λ s. IfOpen s (λ lines. ReachesBudget cnf.now lines budget)) }
         // At the end of an open log at least half of its additions are live.
-        ensures kept { IfOk result (λ s. IfOpen s (IsKept cnf.now)) }
+        ensures kept { IfOk result (λ s. IfOpen s (KeepsHalf cnf.now)) }
         // A log that refutes, or leaves open, deletes about a quarter of its additions or more, and no clause of
         // the formula.
-        ensures thinned { IfOk result (λ s. IfLogged s (IsThinned cnf.now)) }
+        ensures thinned { IfOk result (λ s. IfLogged s (DeletesQuarter cnf.now)) }
         // A budget of twice 3 to the number of variables decides every formula.
         ensures decides { 2 * 3 ^ cnf.now.vars ≤ budget → IfOk result IsDecided }
     {

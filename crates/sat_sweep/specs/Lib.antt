@@ -1,1 +1,1 @@
-pub mod Stays
+pub mod KeepsFormula

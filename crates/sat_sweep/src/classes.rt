@@ -12,7 +12,7 @@ const NONE: u32 = u32::MAX;
 
 /// The candidate classes, each a linked list of nodes.
 #[derive(Drop)]
-pub(crate) struct Classes {
+pub(crate) struct CandidateClasses {
     /// The class of each node.
     class: Vec<u32>,
     /// The first and the last node of each class.
@@ -25,24 +25,24 @@ pub(crate) struct Classes {
 /// Puts each node into the class of its signature. Classes are numbered in the order of their first nodes. Returns
 /// the class of each node and the number of classes.
 fn number(alloc: Global, patterns: &Patterns, count: u32) -> Result<(Vec<u32>, usize), AllocError> {
-    let mut marks = IndexSet::with_capacity(alloc, count as usize)?;
+    let mut signatures = IndexSet::with_capacity(alloc, count as usize)?;
     let mut class = Vec::with_capacity(alloc, count as usize)?;
     for variable in 0..count {
-        let (index, _) = marks.insert_full(patterns.mark_of(variable))?;
+        let (index, _) = signatures.insert_full(patterns.signature_of(variable))?;
         class.push(index as u32)?;
     }
-    Ok((class, marks.len()))
+    Ok((class, signatures.len()))
 }
 
-impl Classes {
+impl CandidateClasses {
     /// The classes of `count` nodes, each with an empty list.
     pub(crate) fn new(
         alloc: Global,
         patterns: &Patterns,
         count: u32,
-    ) -> Result<Classes, AllocError> {
+    ) -> Result<CandidateClasses, AllocError> {
         let (class, classes) = number(alloc, patterns, count)?;
-        Ok(Classes {
+        Ok(CandidateClasses {
             class,
             heads: vec![in alloc; NONE; classes]?,
             lasts: vec![in alloc; NONE; classes]?,
@@ -71,16 +71,16 @@ impl Classes {
 
     /// The first node in the list of `variable`'s class that still has its signature.
     pub(crate) fn candidate(&self, patterns: &Patterns, variable: u32) -> Option<u32> {
-        let mark = patterns.mark_of(variable);
-        let mut point = entry(&self.heads, entry(&self.class, variable, NONE), NONE);
+        let signature = patterns.signature_of(variable);
+        let mut node = entry(&self.heads, entry(&self.class, variable, NONE), NONE);
         for _turn in 0..self.next.len() {
-            if point == NONE {
+            if node == NONE {
                 return None;
             }
-            if patterns.mark_of(point) == mark {
-                return Some(point);
+            if patterns.signature_of(node) == signature {
+                return Some(node);
             }
-            point = entry(&self.next, point, NONE);
+            node = entry(&self.next, node, NONE);
         }
         None
     }

@@ -4,7 +4,7 @@
 //! gates of the second net before the nodes of the first that they were merged with. So a question explores the
 //! fanin cones of a pair down to what the two share, and no further.
 
-use crate::points::Points;
+use crate::nodes::Nodes;
 use crate::rows::put;
 use sat_solve::Cones;
 use std::alloc::{AllocError, Global};
@@ -20,15 +20,15 @@ pub(crate) struct ConeRows {
 
 impl ConeRows {
     /// The fanins of the nodes, and of the sinks' differences, whose variables come after the nodes.
-    pub(crate) fn new(alloc: Global, points: &Points) -> Result<ConeRows, AllocError> {
-        let room = points.count().saturating_add(points.ones.len());
+    pub(crate) fn new(alloc: Global, nodes: &Nodes) -> Result<ConeRows, AllocError> {
+        let room = nodes.count().saturating_add(nodes.first_sinks.len());
         let mut rows = ConeRows {
             first: Vec::with_capacity(alloc, room)?,
             second: Vec::with_capacity(alloc, room)?,
             rank: Vec::with_capacity(alloc, room)?,
         };
-        rows.push_points(points)?;
-        rows.push_differences(points)?;
+        rows.push_nodes(nodes)?;
+        rows.push_differences(nodes)?;
         Ok(rows)
     }
 
@@ -42,20 +42,20 @@ impl ConeRows {
     }
 
     /// Appends the fanins of the nodes. Sources have none.
-    fn push_points(&mut self, points: &Points) -> Result<(), AllocError> {
-        for (variable, point) in points.points.iter().enumerate() {
-            if variable <= points.sources as usize {
+    fn push_nodes(&mut self, nodes: &Nodes) -> Result<(), AllocError> {
+        for (variable, node) in nodes.nodes.iter().enumerate() {
+            if variable <= nodes.sources as usize {
                 self.push(0, 0)?;
             } else {
-                self.push(point.a, point.b)?;
+                self.push(node.a, node.b)?;
             }
         }
         Ok(())
     }
 
     /// Appends the fanins of the sinks' differences.
-    fn push_differences(&mut self, points: &Points) -> Result<(), AllocError> {
-        for (one, other) in points.ones.iter().zip(points.others.iter()) {
+    fn push_differences(&mut self, nodes: &Nodes) -> Result<(), AllocError> {
+        for (one, other) in nodes.first_sinks.iter().zip(nodes.second_sinks.iter()) {
             self.push(one.variable, other.variable)?;
         }
         Ok(())

@@ -1,24 +1,24 @@
 //! The gates in topological order. First the solver derives the binary clauses of each gate, which the miter
 //! lacks: it has four ternary clauses for a gate. Then each gate is compared with earlier nodes.
 ghost use Rattle.std.specs.Prelude.{◌≡◌, ◌<◌, ◌^◌, OnOk};
-ghost use Rattle.sat_sweep.specs.Stays.{Stays};
+ghost use Rattle.sat_sweep.specs.KeepsFormula.{KeepsFormula};
 
+use crate::nodes::{Edge, NodeGate};
 use crate::pairs::compare;
-use crate::points::{Edge, Point};
-use crate::probing::ask_two;
-use crate::state::Sweeping;
-use sat_solve::{Probed, Solver};
+use crate::queries::ask_two;
+use crate::state::SweepState;
+use sat_solve::{AssumptionResult, Solver};
 use std::alloc::AllocError;
 
 /// The conflict limit of the question for a binary clause. These conflicts don't count against the budget.
-const SHORT_LIMIT: u32 = 2;
+const BINARY_LIMIT: u32 = 2;
 
 /// The greatest number of candidates that a gate is compared with.
 const MOST_CANDIDATES: u32 = 1000;
 
 /// What one step of a sweep found.
 #[derive(Clone, Copy, PartialEq, Eq)]
-pub(crate) enum Heard {
+pub(crate) enum SweepEvent {
     /// Nothing that ends the sweep.
     Nothing,
     /// The miter is refuted.
@@ -26,45 +26,45 @@ pub(crate) enum Heard {
     /// The budget is spent.
     Spent,
     /// An assignment under which a sink differs.
-    Difference,
+    Counterexample,
 }
 
 /// The value of a gate that is forced by the value `bit` of one operand, if it is. The operand is the second one
 /// if `second` holds.
-fn forced(point: Point, second: bool, bit: bool) -> Option<bool> {
+fn forced(node: NodeGate, second: bool, bit: bool) -> Option<bool> {
     let (one, other) = if second {
-        (point.op.apply(false, bit), point.op.apply(true, bit))
+        (node.op.apply(false, bit), node.op.apply(true, bit))
     } else {
-        (point.op.apply(bit, false), point.op.apply(bit, true))
+        (node.op.apply(bit, false), node.op.apply(bit, true))
     };
     if one == other { Some(one) } else { None }
 }
 
 /// Has the solver derive the binary clause of a gate and one operand, if the operand's value `bit` forces the
 /// gate.
-fn shorten_one<S: Solver>(
+fn derive_one<S: Solver>(
     solver: &mut S,
     vars: u32,
-    sweeping: &Sweeping,
+    sweeping: &SweepState,
     variable: u32,
-    point: Point,
+    node: NodeGate,
     second: bool,
     bit: bool,
-) -> Result<Heard, AllocError>
+) -> Result<SweepEvent, AllocError>
     requires vars { S.vars_of solver.old ≡ vars }
     requires small { vars < 2 ^ 31 }
-    ensures { OnOk result (Stays S.IsSolverOf S.vars_of solver.old solver.new) }
+    ensures { OnOk result (KeepsFormula S.IsSolverOf S.vars_of solver.old solver.new) }
 {
-    let Some(value) = forced(point, second, bit) else {
-        return Ok(Heard::Nothing);
+    let Some(value) = forced(node, second, bit) else {
+        return Ok(SweepEvent::Nothing);
     };
     let gate = Edge {
         variable,
-        turned: value,
+        complemented: value,
     };
     let operand = Edge {
-        variable: if second { point.b } else { point.a },
-        turned: !bit,
+        variable: if second { node.b } else { node.a },
+        complemented: !bit,
     };
     match ask_two(
         solver,
@@ -72,143 +72,143 @@ fn shorten_one<S: Solver>(
         sweeping.cones.rows(),
         gate,
         operand,
-        SHORT_LIMIT,
+        BINARY_LIMIT,
     )? {
-        Probed::Refuted => Ok(Heard::Refuted),
-        _ => Ok(Heard::Nothing),
+        AssumptionResult::Refuted => Ok(SweepEvent::Refuted),
+        _ => Ok(SweepEvent::Nothing),
     }
 }
 
 /// Whether the operands of a gate are two different nodes, neither of them constant.
-fn is_on_two(point: &Point) -> bool {
-    point.a != point.b && point.a != 0 && point.b != 0
+fn is_on_two(node: &NodeGate) -> bool {
+    node.a != node.b && node.a != 0 && node.b != 0
 }
 
 /// Has the solver derive the binary clauses of a gate in the cone of an open sink, if its operands are two
 /// different nodes, neither of them constant.
-fn shorten<S: Solver>(
+fn derive_binary<S: Solver>(
     solver: &mut S,
     vars: u32,
-    sweeping: &Sweeping,
+    sweeping: &SweepState,
     variable: u32,
-) -> Result<Heard, AllocError>
+) -> Result<SweepEvent, AllocError>
     requires vars { S.vars_of solver.old ≡ vars }
     requires small { vars < 2 ^ 31 }
-    ensures { OnOk result (Stays S.IsSolverOf S.vars_of solver.old solver.new) }
+    ensures { OnOk result (KeepsFormula S.IsSolverOf S.vars_of solver.old solver.new) }
 {
     if !sweeping.is_needed(variable) {
-        return Ok(Heard::Nothing);
+        return Ok(SweepEvent::Nothing);
     }
-    let Some(point) = sweeping.points.gate(variable) else {
-        return Ok(Heard::Nothing);
+    let Some(node) = sweeping.nodes.gate(variable) else {
+        return Ok(SweepEvent::Nothing);
     };
-    if !is_on_two(&point) {
-        return Ok(Heard::Nothing);
+    if !is_on_two(&node) {
+        return Ok(SweepEvent::Nothing);
     }
     for (second, bit) in [(false, false), (false, true), (true, false), (true, true)] {
-        let heard = shorten_one(solver, vars, sweeping, variable, point, second, bit)?;
-        if heard != Heard::Nothing {
-            return Ok(heard);
+        let event = derive_one(solver, vars, sweeping, variable, node, second, bit)?;
+        if event != SweepEvent::Nothing {
+            return Ok(event);
         }
     }
-    Ok(Heard::Nothing)
+    Ok(SweepEvent::Nothing)
 }
 
 /// Has the solver derive the binary clauses of all gates in the cones of open sinks.
-pub(crate) fn shorten_gates<S: Solver>(
+pub(crate) fn derive_binary_clauses<S: Solver>(
     solver: &mut S,
     vars: u32,
-    sweeping: &Sweeping,
-) -> Result<Heard, AllocError>
+    sweeping: &SweepState,
+) -> Result<SweepEvent, AllocError>
     requires vars { S.vars_of solver.old ≡ vars }
     requires small { vars < 2 ^ 31 }
-    ensures { OnOk result (Stays S.IsSolverOf S.vars_of solver.old solver.new) }
+    ensures { OnOk result (KeepsFormula S.IsSolverOf S.vars_of solver.old solver.new) }
 {
-    for variable in sweeping.points.first_gate()..sweeping.points.end() {
-        let heard = shorten(solver, vars, sweeping, variable)?;
-        if heard != Heard::Nothing {
-            return Ok(heard);
+    for variable in sweeping.nodes.first_gate()..sweeping.nodes.end() {
+        let event = derive_binary(solver, vars, sweeping, variable)?;
+        if event != SweepEvent::Nothing {
+            return Ok(event);
         }
     }
-    Ok(Heard::Nothing)
+    Ok(SweepEvent::Nothing)
 }
 
 /// Compares a gate with its candidates in turn: first with the gate that it is structurally equal to, if there is
 /// one, then with those of its class.
-fn settle<S: Solver>(
+fn compare_candidates<S: Solver>(
     solver: &mut S,
     vars: u32,
-    sweeping: &mut Sweeping,
+    sweeping: &mut SweepState,
     x: u32,
-    alike: Option<u32>,
+    strash_equal: Option<u32>,
     limit: u32,
-) -> Result<Heard, AllocError>
+) -> Result<SweepEvent, AllocError>
     requires vars { S.vars_of solver.old ≡ vars }
     requires small { vars < 2 ^ 31 }
-    ensures { OnOk result (Stays S.IsSolverOf S.vars_of solver.old solver.new) }
+    ensures { OnOk result (KeepsFormula S.IsSolverOf S.vars_of solver.old solver.new) }
 {
-    let mut candidate = alike;
+    let mut candidate = strash_equal;
     for turn in 0..MOST_CANDIDATES {
-        let is_alike = turn == 0 && candidate.is_some();
-        if !is_alike {
+        let is_strash_equal = turn == 0 && candidate.is_some();
+        if !is_strash_equal {
             candidate = sweeping.candidate(x);
         }
         let Some(y) = candidate else {
-            return Ok(Heard::Nothing);
+            return Ok(SweepEvent::Nothing);
         };
-        let (heard, again) = compare(solver, vars, sweeping, x, y, is_alike, limit)?;
+        let (event, again) = compare(solver, vars, sweeping, x, y, is_strash_equal, limit)?;
         if !again {
-            return Ok(heard);
+            return Ok(event);
         }
     }
-    Ok(Heard::Nothing)
+    Ok(SweepEvent::Nothing)
 }
 
 /// Visits a gate: it is merged, or listed as a candidate for later gates.
 fn visit<S: Solver>(
     solver: &mut S,
     vars: u32,
-    sweeping: &mut Sweeping,
+    sweeping: &mut SweepState,
     x: u32,
     limit: u32,
-) -> Result<Heard, AllocError>
+) -> Result<SweepEvent, AllocError>
     requires vars { S.vars_of solver.old ≡ vars }
     requires small { vars < 2 ^ 31 }
-    ensures { OnOk result (Stays S.IsSolverOf S.vars_of solver.old solver.new) }
+    ensures { OnOk result (KeepsFormula S.IsSolverOf S.vars_of solver.old solver.new) }
 {
     if sweeping.is_merged(x) {
         sweeping.follow(x);
-        return Ok(Heard::Nothing);
+        return Ok(SweepEvent::Nothing);
     }
     if !sweeping.is_needed(x) {
         sweeping.list(x);
-        return Ok(Heard::Nothing);
+        return Ok(SweepEvent::Nothing);
     }
-    let alike = sweeping.alike(x)?;
-    let heard = settle(solver, vars, sweeping, x, alike, limit)?;
+    let strash_equal = sweeping.strash_equal(x)?;
+    let event = compare_candidates(solver, vars, sweeping, x, strash_equal, limit)?;
     sweeping.list(x);
-    Ok(heard)
+    Ok(event)
 }
 
 /// Visits all gates in topological order.
 pub(crate) fn visit_gates<S: Solver>(
     solver: &mut S,
     vars: u32,
-    sweeping: &mut Sweeping,
+    sweeping: &mut SweepState,
     limit: u32,
-) -> Result<Heard, AllocError>
+) -> Result<SweepEvent, AllocError>
     requires vars { S.vars_of solver.old ≡ vars }
     requires small { vars < 2 ^ 31 }
-    ensures { OnOk result (Stays S.IsSolverOf S.vars_of solver.old solver.new) }
+    ensures { OnOk result (KeepsFormula S.IsSolverOf S.vars_of solver.old solver.new) }
 {
-    for x in sweeping.points.first_gate()..sweeping.points.end() {
+    for x in sweeping.nodes.first_gate()..sweeping.nodes.end() {
         if sweeping.is_spent() {
-            return Ok(Heard::Spent);
+            return Ok(SweepEvent::Spent);
         }
-        let heard = visit(solver, vars, sweeping, x, limit)?;
-        if heard != Heard::Nothing {
-            return Ok(heard);
+        let event = visit(solver, vars, sweeping, x, limit)?;
+        if event != SweepEvent::Nothing {
+            return Ok(event);
         }
     }
-    Ok(Heard::Nothing)
+    Ok(SweepEvent::Nothing)
 }

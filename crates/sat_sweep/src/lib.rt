@@ -15,11 +15,11 @@
 //! }
 //! ```
 //!
-//! - `src/points.rt`: the nodes of both nets in one array, by the variables of the miter. `src/cones.rt`: the
+//! - `src/nodes.rt`: the nodes of both nets in one array, by the variables of the miter. `src/cones.rt`: the
 //!   decision variables of a question.
-//! - `src/patterns.rt`: simulation and signatures. `src/classes.rt`: candidate classes. `src/forms.rt`: structural
+//! - `src/patterns.rt`: simulation and signatures. `src/classes.rt`: candidate classes. `src/strash.rt`: structural
 //!   hashing over representatives.
-//! - `src/probing.rt`: questions to the solver under assumptions. `src/joining.rt`: the first round, over
+//! - `src/queries.rt`: questions to the solver under assumptions. `src/structural.rt`: the first round, over
 //!   structurally equal gates. `src/gates.rt`, `src/sinks.rt`, `src/sweeping.rt`: the other rounds.
 //!   `src/pairs.rt`: whether two nodes are equal. `src/patience.rt`: conflict limits that adapt to the results so
 //!   far.
@@ -27,18 +27,18 @@
 
 mod classes;
 mod cones;
-mod forms;
 mod gates;
-mod joining;
+mod nodes;
 mod pairs;
 mod patience;
 mod patterns;
-mod points;
-mod probing;
+mod queries;
 mod random;
 mod rows;
 mod sinks;
 mod state;
+mod strash;
+mod structural;
 mod sweeping;
 
 pub use sweeping::{Swept, sweep};

@@ -2,12 +2,12 @@
 //! it finds an assignment that tells them apart, the signatures are refined. The results for pairs of one kind
 //! decide whether more such pairs are asked.
 ghost use Rattle.std.specs.Prelude.{◌≡◌, ◌<◌, ◌^◌, OnOk};
-ghost use Rattle.sat_sweep.specs.Stays.{Stays};
+ghost use Rattle.sat_sweep.specs.KeepsFormula.{KeepsFormula};
 
-use crate::gates::Heard;
-use crate::probing::ask_equal;
-use crate::state::Sweeping;
-use sat_solve::{Probed, Solver};
+use crate::gates::SweepEvent;
+use crate::queries::ask_equal;
+use crate::state::SweepState;
+use sat_solve::{AssumptionResult, Solver};
 use std::alloc::AllocError;
 
 /// Compares a gate with an earlier node, with at most `limit` conflicts. The second result says whether to try
@@ -15,31 +15,31 @@ use std::alloc::AllocError;
 pub(crate) fn ask<S: Solver>(
     solver: &mut S,
     vars: u32,
-    sweeping: &mut Sweeping,
+    sweeping: &mut SweepState,
     x: u32,
     y: u32,
     limit: u32,
-) -> Result<(Heard, bool), AllocError>
+) -> Result<(SweepEvent, bool), AllocError>
     requires vars { S.vars_of solver.old ≡ vars }
     requires small { vars < 2 ^ 31 }
-    ensures { OnOk result (Stays S.IsSolverOf S.vars_of solver.old solver.new) }
+    ensures { OnOk result (KeepsFormula S.IsSolverOf S.vars_of solver.old solver.new) }
 {
     let other = sweeping.as_other(x, y);
     match ask_equal(solver, vars, sweeping.cones.rows(), x, other, limit)? {
-        Probed::Refuted => Ok((Heard::Refuted, false)),
-        Probed::Clashed => {
+        AssumptionResult::Refuted => Ok((SweepEvent::Refuted, false)),
+        AssumptionResult::Unsat => {
             sweeping.merge(x, other);
-            Ok((Heard::Nothing, false))
+            Ok((SweepEvent::Nothing, false))
         }
-        Probed::GivenUp => {
+        AssumptionResult::Limit => {
             sweeping.spend(limit);
-            Ok((Heard::Nothing, false))
+            Ok((SweepEvent::Nothing, false))
         }
-        Probed::Standing => {
+        AssumptionResult::Sat => {
             if sweeping.learn(solver) {
-                return Ok((Heard::Difference, false));
+                return Ok((SweepEvent::Counterexample, false));
             }
-            Ok((Heard::Nothing, !sweeping.may_be_equal(x, y)))
+            Ok((SweepEvent::Nothing, !sweeping.may_be_equal(x, y)))
         }
     }
 }
@@ -49,21 +49,21 @@ pub(crate) fn ask<S: Solver>(
 pub(crate) fn compare<S: Solver>(
     solver: &mut S,
     vars: u32,
-    sweeping: &mut Sweeping,
+    sweeping: &mut SweepState,
     x: u32,
     y: u32,
-    is_alike: bool,
+    is_strash_equal: bool,
     limit: u32,
-) -> Result<(Heard, bool), AllocError>
+) -> Result<(SweepEvent, bool), AllocError>
     requires vars { S.vars_of solver.old ≡ vars }
     requires small { vars < 2 ^ 31 }
-    ensures { OnOk result (Stays S.IsSolverOf S.vars_of solver.old solver.new) }
+    ensures { OnOk result (KeepsFormula S.IsSolverOf S.vars_of solver.old solver.new) }
 {
-    let is_inner = sweeping.is_inner(x, y);
-    if is_inner && !is_alike && !sweeping.patience.has_inner() {
-        return Ok((Heard::Nothing, false));
+    let is_within_net = sweeping.is_within_net(x, y);
+    if is_within_net && !is_strash_equal && !sweeping.patience.asks_within_net() {
+        return Ok((SweepEvent::Nothing, false));
     }
-    let most = match (is_inner, is_alike) {
+    let most = match (is_within_net, is_strash_equal) {
         (true, true) => limit,
         (true, false) => limit / 5,
         (false, _) => sweeping.patience.limit(limit),
@@ -72,7 +72,7 @@ pub(crate) fn compare<S: Solver>(
     let asked = ask(solver, vars, sweeping, x, y, most)?;
     if !asked.1 {
         let is_merged = sweeping.is_merged(x);
-        sweeping.patience.take_in(is_inner, is_merged);
+        sweeping.patience.count_result(is_within_net, is_merged);
     }
     Ok(asked)
 }

@@ -2,7 +2,7 @@
 //! values: nodes with different signatures are neither equal nor complementary. Values are hashed up to
 //! complement: the polarity of a node is its first value, and is removed from each word.
 
-use crate::points::{Edge, Points};
+use crate::nodes::{Edge, Nodes};
 use crate::random::{generator, sparse};
 use crate::rows::{entry, put};
 use op_basis::on_words;
@@ -20,19 +20,19 @@ pub(crate) struct Patterns {
     /// The values under the last 64 assignments.
     words: Vec<u64>,
     /// The polarity of each node, in all bits: the first value that it had.
-    phases: Vec<u64>,
+    polarities: Vec<u64>,
     /// A hash of all words so far, with the polarity removed.
-    marks: Vec<u64>,
+    signatures: Vec<u64>,
 }
 
 /// A signature with one more word mixed in. The constants are those of `boost::hash_combine` and of the finalizer
 /// of MurmurHash3.
-fn mixed(mark: u64, word: u64) -> u64 {
+fn mixed(signature: u64, word: u64) -> u64 {
     let spread = word
         .wrapping_add(0x9e37_79b9_7f4a_7c15)
-        .wrapping_add(mark << 6)
-        .wrapping_add(mark >> 2);
-    let product = (mark ^ spread).wrapping_mul(0xff51_afd7_ed55_8ccd);
+        .wrapping_add(signature << 6)
+        .wrapping_add(signature >> 2);
+    let product = (signature ^ spread).wrapping_mul(0xff51_afd7_ed55_8ccd);
     product ^ (product >> 29)
 }
 
@@ -42,12 +42,12 @@ fn lowest(word: u64) -> u64 {
 }
 
 /// Computes the values of all gates from those of the sources.
-fn simulate(points: &Points, words: &mut [u64]) {
-    for (variable, point) in points.points.iter().enumerate() {
-        if variable > points.sources as usize && variable < words.len() {
-            let a = entry(words, point.a, 0);
-            let b = entry(words, point.b, 0);
-            words[variable] = on_words(point.op, a, b);
+fn simulate(nodes: &Nodes, words: &mut [u64]) {
+    for (variable, node) in nodes.nodes.iter().enumerate() {
+        if variable > nodes.sources as usize && variable < words.len() {
+            let a = entry(words, node.a, 0);
+            let b = entry(words, node.b, 0);
+            words[variable] = on_words(node.op, a, b);
         }
     }
 }
@@ -55,12 +55,12 @@ fn simulate(points: &Points, words: &mut [u64]) {
 /// The values of a signal.
 fn edge_word(words: &[u64], edge: Edge) -> u64 {
     let word = entry(words, edge.variable, 0);
-    if edge.turned { !word } else { word }
+    if edge.complemented { !word } else { word }
 }
 
 /// The first assignment under which a sink differs, as a mask with one bit; 0 if there is none.
-fn differing(points: &Points, words: &[u64]) -> u64 {
-    for (one, other) in points.ones.iter().zip(points.others.iter()) {
+fn differing(nodes: &Nodes, words: &[u64]) -> u64 {
+    for (one, other) in nodes.first_sinks.iter().zip(nodes.second_sinks.iter()) {
         let differ = edge_word(words, *one) ^ edge_word(words, *other);
         if differ != 0 {
             return differ & differ.wrapping_neg();
@@ -71,28 +71,28 @@ fn differing(points: &Points, words: &[u64]) -> u64 {
 
 impl Patterns {
     /// Simulates random assignments, up to the first word in which a sink differs.
-    pub(crate) fn new(alloc: Global, points: &Points) -> Result<Patterns, AllocError> {
-        let count = points.count();
+    pub(crate) fn new(alloc: Global, nodes: &Nodes) -> Result<Patterns, AllocError> {
+        let count = nodes.count();
         let mut patterns = Patterns {
             random: generator(),
             words: vec![in alloc; 0u64; count]?,
-            phases: vec![in alloc; 0u64; count]?,
-            marks: vec![in alloc; 0u64; count]?,
+            polarities: vec![in alloc; 0u64; count]?,
+            signatures: vec![in alloc; 0u64; count]?,
         };
-        patterns.begin(points);
+        patterns.begin(nodes);
         Ok(patterns)
     }
 
     /// Simulates the first random assignments.
-    fn begin(&mut self, points: &Points) {
+    fn begin(&mut self, nodes: &Nodes) {
         for turn in 0..WORDS {
-            self.draw(points.sources);
-            simulate(points, &mut self.words);
+            self.draw(nodes.sources);
+            simulate(nodes, &mut self.words);
             if turn == 0 {
-                self.take_phases();
+                self.set_polarities();
             }
-            self.mark();
-            if self.is_different(points) {
+            self.mix_words();
+            if self.is_different(nodes) {
                 return;
             }
         }
@@ -120,44 +120,44 @@ impl Patterns {
     }
 
     /// Sets the polarities from the current words.
-    fn take_phases(&mut self) {
-        for (phase, word) in self.phases.iter_mut().zip(self.words.iter()) {
-            *phase = lowest(*word);
+    fn set_polarities(&mut self) {
+        for (polarity, word) in self.polarities.iter_mut().zip(self.words.iter()) {
+            *polarity = lowest(*word);
         }
     }
 
     /// Mixes the current words into the signatures.
-    fn mark(&mut self) {
-        let seen = self.words.iter().zip(self.phases.iter());
-        for (mark, (word, phase)) in self.marks.iter_mut().zip(seen) {
-            *mark = mixed(*mark, *word ^ *phase);
+    fn mix_words(&mut self) {
+        let seen = self.words.iter().zip(self.polarities.iter());
+        for (signature, (word, polarity)) in self.signatures.iter_mut().zip(seen) {
+            *signature = mixed(*signature, *word ^ *polarity);
         }
     }
 
     /// Simulates the solver's current assignment and its neighbours, and refines the signatures.
-    pub(crate) fn learn<S: Solver>(&mut self, points: &Points, solver: &S) {
-        self.draw_near(points.sources, solver);
-        simulate(points, &mut self.words);
-        self.mark();
+    pub(crate) fn learn<S: Solver>(&mut self, nodes: &Nodes, solver: &S) {
+        self.draw_near(nodes.sources, solver);
+        simulate(nodes, &mut self.words);
+        self.mix_words();
     }
 
     /// Whether a sink differs under one of the last 64 assignments.
-    pub(crate) fn is_different(&self, points: &Points) -> bool {
-        differing(points, &self.words) != 0
+    pub(crate) fn is_different(&self, nodes: &Nodes) -> bool {
+        differing(nodes, &self.words) != 0
     }
 
     /// The values of the sources under the first of the last 64 assignments at which a sink differs.
     pub(crate) fn difference(
         &self,
         alloc: Global,
-        points: &Points,
+        nodes: &Nodes,
     ) -> Result<Option<Vec<bool>>, AllocError> {
-        let lane = differing(points, &self.words);
+        let lane = differing(nodes, &self.words);
         if lane == 0 {
             return Ok(None);
         }
-        let mut bits = Vec::with_capacity(alloc, points.sources as usize)?;
-        for source in 1..=points.sources {
+        let mut bits = Vec::with_capacity(alloc, nodes.sources as usize)?;
+        for source in 1..=nodes.sources {
             let word = entry(&self.words, source, 0);
             bits.push(word & lane != 0)?;
         }
@@ -165,12 +165,12 @@ impl Patterns {
     }
 
     /// The signature of a node.
-    pub(crate) fn mark_of(&self, variable: u32) -> u64 {
-        entry(&self.marks, variable, 0)
+    pub(crate) fn signature_of(&self, variable: u32) -> u64 {
+        entry(&self.signatures, variable, 0)
     }
 
     /// Whether two nodes with one signature are candidates for complementary rather than equal values.
-    pub(crate) fn are_turned(&self, x: u32, y: u32) -> bool {
-        entry(&self.phases, x, 0) != entry(&self.phases, y, 0)
+    pub(crate) fn are_complementary(&self, x: u32, y: u32) -> bool {
+        entry(&self.polarities, x, 0) != entry(&self.polarities, y, 0)
     }
 }

@@ -1,68 +1,68 @@
 //! The sinks in order: for each open one the solver is asked whether the nets can differ in it.
 ghost use Rattle.std.specs.Prelude.{◌≡◌, ◌<◌, ◌^◌, OnOk};
-ghost use Rattle.sat_sweep.specs.Stays.{Stays};
+ghost use Rattle.sat_sweep.specs.KeepsFormula.{KeepsFormula};
 
-use crate::gates::Heard;
-use crate::probing::ask_one;
-use crate::state::Sweeping;
-use sat_solve::{Probed, Solver};
+use crate::gates::SweepEvent;
+use crate::queries::ask_one;
+use crate::state::SweepState;
+use sat_solve::{AssumptionResult, Solver};
 use std::alloc::AllocError;
 
 /// Asks whether the nets can differ in a sink, whose difference is the variable `difference`.
 fn visit_sink<S: Solver>(
     solver: &mut S,
     vars: u32,
-    sweeping: &mut Sweeping,
+    sweeping: &mut SweepState,
     sink: usize,
     difference: u32,
     limit: u32,
-) -> Result<Heard, AllocError>
+) -> Result<SweepEvent, AllocError>
     requires vars { S.vars_of solver.old ≡ vars }
     requires small { vars < 2 ^ 31 }
-    ensures { OnOk result (Stays S.IsSolverOf S.vars_of solver.old solver.new) }
+    ensures { OnOk result (KeepsFormula S.IsSolverOf S.vars_of solver.old solver.new) }
 {
     match ask_one(solver, vars, sweeping.cones.rows(), difference, true, limit)? {
-        Probed::Refuted => return Ok(Heard::Refuted),
-        Probed::Clashed => sweeping.close(sink),
-        Probed::GivenUp => sweeping.spend(limit),
-        Probed::Standing => {
+        AssumptionResult::Refuted => return Ok(SweepEvent::Refuted),
+        AssumptionResult::Unsat => sweeping.close(sink),
+        AssumptionResult::Limit => sweeping.spend(limit),
+        AssumptionResult::Sat => {
             if sweeping.learn(solver) {
-                return Ok(Heard::Difference);
+                return Ok(SweepEvent::Counterexample);
             }
             // Asking again would find the same assignment, so the sink is left to the search after the sweep.
             sweeping.close(sink);
         }
     }
-    Ok(Heard::Nothing)
+    Ok(SweepEvent::Nothing)
 }
 
-/// Visits all open sinks in order; with `joined` only those whose two signals were merged.
+/// Visits all open sinks in order; with `merged_only` only those whose two signals were merged.
 pub(crate) fn visit_sinks<S: Solver>(
     solver: &mut S,
     vars: u32,
-    sweeping: &mut Sweeping,
-    joined: bool,
+    sweeping: &mut SweepState,
+    merged_only: bool,
     limit: u32,
-) -> Result<Heard, AllocError>
+) -> Result<SweepEvent, AllocError>
     requires vars { S.vars_of solver.old ≡ vars }
     requires small { vars < 2 ^ 31 }
-    ensures { OnOk result (Stays S.IsSolverOf S.vars_of solver.old solver.new) }
+    ensures { OnOk result (KeepsFormula S.IsSolverOf S.vars_of solver.old solver.new) }
 {
-    let mut next = sweeping.points.end();
+    let mut next = sweeping.nodes.end();
     for sink in 0..sweeping.sinks() {
         let difference = next;
         next = next.saturating_add(1);
-        if !sweeping.is_asked(sink, joined) {
+        if !sweeping.is_asked(sink, merged_only) {
             continue;
         }
         if sweeping.is_spent() {
-            return Ok(Heard::Spent);
+            return Ok(SweepEvent::Spent);
         }
         let most = sweeping.most_of(limit);
-        let heard = visit_sink(solver, vars, sweeping, sink, difference, most)?;
-        if heard != Heard::Nothing {
-            return Ok(heard);
+        let event = visit_sink(solver, vars, sweeping, sink, difference, most)?;
+        if event != SweepEvent::Nothing {
+            return Ok(event);
         }
     }
-    Ok(Heard::Nothing)
+    Ok(SweepEvent::Nothing)
 }

@@ -1,25 +1,25 @@
 //! The state of a sweep, apart from the solver.
 
-use crate::classes::Classes;
+use crate::classes::CandidateClasses;
 use crate::cones::ConeRows;
-use crate::forms::Forms;
+use crate::nodes::{Edge, Nodes};
 use crate::patience::Patience;
 use crate::patterns::Patterns;
-use crate::points::{Edge, Points};
 use crate::rows::{entry, put};
+use crate::strash::StrashTable;
 use net_core::Net;
 use sat_solve::Solver;
 use std::alloc::{AllocError, Global};
 
 /// The nodes, their simulation, the merged ones, and the conflicts spent.
 #[derive(Drop)]
-pub(crate) struct Sweeping {
-    pub points: Points,
+pub(crate) struct SweepState {
+    pub nodes: Nodes,
     pub patterns: Patterns,
     pub cones: ConeRows,
     pub patience: Patience,
-    classes: Classes,
-    forms: Forms,
+    classes: CandidateClasses,
+    strash: StrashTable,
     /// The representative of each node: itself if it wasn't merged.
     same: Vec<Edge>,
     /// Whether a node is in the fanin cone of an open sink.
@@ -31,39 +31,39 @@ pub(crate) struct Sweeping {
 }
 
 /// Makes each node its own representative.
-fn themselves(alloc: Global, count: u32) -> Result<Vec<Edge>, AllocError> {
+fn own_representatives(alloc: Global, count: u32) -> Result<Vec<Edge>, AllocError> {
     let mut same = Vec::with_capacity(alloc, count as usize)?;
     for variable in 0..count {
         same.push(Edge {
             variable,
-            turned: false,
+            complemented: false,
         })?;
     }
     Ok(same)
 }
 
-impl Sweeping {
+impl SweepState {
     /// The initial state for two nets with equally many sources: random assignments are simulated.
     pub(crate) fn new(
         alloc: Global,
         first: &Net,
         second: &Net,
         budget: u32,
-    ) -> Result<Sweeping, AllocError> {
-        let points = Points::new(alloc, first, second)?;
-        let count = points.count();
-        let sinks = points.ones.len();
-        let patterns = Patterns::new(alloc, &points)?;
-        let cones = ConeRows::new(alloc, &points)?;
-        let classes = Classes::new(alloc, &patterns, points.end())?;
-        let same = themselves(alloc, points.end())?;
-        Ok(Sweeping {
-            points,
+    ) -> Result<SweepState, AllocError> {
+        let nodes = Nodes::new(alloc, first, second)?;
+        let count = nodes.count();
+        let sinks = nodes.first_sinks.len();
+        let patterns = Patterns::new(alloc, &nodes)?;
+        let cones = ConeRows::new(alloc, &nodes)?;
+        let classes = CandidateClasses::new(alloc, &patterns, nodes.end())?;
+        let same = own_representatives(alloc, nodes.end())?;
+        Ok(SweepState {
+            nodes,
             patterns,
             cones,
             patience: Patience::new(),
             classes,
-            forms: Forms::new(alloc),
+            strash: StrashTable::new(alloc),
             same,
             needed: vec![in alloc; false; count]?,
             open: vec![in alloc; true; sinks]?,
@@ -79,9 +79,9 @@ impl Sweeping {
         self.needed.fill(false);
         self.need_sinks();
         self.need_cones();
-        self.forms.clear();
+        self.strash.clear();
         self.classes.clear();
-        for variable in 0..=self.points.sources {
+        for variable in 0..=self.nodes.sources {
             self.classes.push(variable);
         }
     }
@@ -92,7 +92,7 @@ impl Sweeping {
             if !*open {
                 continue;
             }
-            let (one, other) = self.points.sink(sink);
+            let (one, other) = self.nodes.sink(sink);
             put(&mut self.needed, one, true);
             put(&mut self.needed, other, true);
         }
@@ -100,13 +100,13 @@ impl Sweeping {
 
     /// Marks the operands of needed gates as needed, from the last gate down.
     fn need_cones(&mut self) {
-        for variable in (self.points.sources..self.points.end()).rev() {
+        for variable in (self.nodes.sources..self.nodes.end()).rev() {
             if !entry(&self.needed, variable, false) {
                 continue;
             }
-            if let Some(point) = self.points.gate(variable) {
-                put(&mut self.needed, point.a, true);
-                put(&mut self.needed, point.b, true);
+            if let Some(node) = self.nodes.gate(variable) {
+                put(&mut self.needed, node.a, true);
+                put(&mut self.needed, node.b, true);
             }
         }
     }
@@ -120,7 +120,7 @@ impl Sweeping {
     fn representative(&self, variable: u32) -> Edge {
         let itself = Edge {
             variable,
-            turned: false,
+            complemented: false,
         };
         entry(&self.same, variable, itself)
     }
@@ -137,7 +137,7 @@ impl Sweeping {
         if root.variable != edge.variable {
             let other = Edge {
                 variable: root.variable,
-                turned: edge.turned != root.turned,
+                complemented: edge.complemented != root.complemented,
             };
             self.merge(variable, other);
         }
@@ -152,13 +152,13 @@ impl Sweeping {
 
     /// The representative of the first gate that is structurally equal to the gate `variable`, if it is another
     /// gate.
-    pub(crate) fn alike(&mut self, variable: u32) -> Result<Option<u32>, AllocError> {
-        let Some(point) = self.points.gate(variable) else {
+    pub(crate) fn strash_equal(&mut self, variable: u32) -> Result<Option<u32>, AllocError> {
+        let Some(node) = self.nodes.gate(variable) else {
             return Ok(None);
         };
-        let a = self.representative(point.a);
-        let b = self.representative(point.b);
-        let owner = self.forms.owner(variable, point, a, b)?;
+        let a = self.representative(node.a);
+        let b = self.representative(node.b);
+        let owner = self.strash.owner(variable, node, a, b)?;
         if owner == variable {
             return Ok(None);
         }
@@ -172,7 +172,7 @@ impl Sweeping {
 
     /// Whether two nodes may be equal or complementary.
     pub(crate) fn may_be_equal(&self, x: u32, y: u32) -> bool {
-        self.patterns.mark_of(x) == self.patterns.mark_of(y)
+        self.patterns.signature_of(x) == self.patterns.signature_of(y)
     }
 
     /// The signal that `x` equals if the two are equal or complementary: `y`, complemented if the polarities
@@ -180,7 +180,7 @@ impl Sweeping {
     pub(crate) fn as_other(&self, x: u32, y: u32) -> Edge {
         Edge {
             variable: y,
-            turned: self.patterns.are_turned(x, y),
+            complemented: self.patterns.are_complementary(x, y),
         }
     }
 
@@ -192,8 +192,8 @@ impl Sweeping {
 
     /// Simulates the solver's current assignment. Returns whether a sink differs near it.
     pub(crate) fn learn<S: Solver>(&mut self, solver: &S) -> bool {
-        self.patterns.learn(&self.points, solver);
-        self.patterns.is_different(&self.points)
+        self.patterns.learn(&self.nodes, solver);
+        self.patterns.is_different(&self.nodes)
     }
 
     /// Counts the conflicts of a question that was given up.
@@ -202,8 +202,8 @@ impl Sweeping {
     }
 
     /// Whether a pair is within one net: two gates of it, or a gate and the constant.
-    pub(crate) fn is_inner(&self, x: u32, y: u32) -> bool {
-        y == 0 || self.points.are_of_one_net(x, y)
+    pub(crate) fn is_within_net(&self, x: u32, y: u32) -> bool {
+        y == 0 || self.nodes.are_of_one_net(x, y)
     }
 
     /// The conflicts that count against the budget.
@@ -232,20 +232,23 @@ impl Sweeping {
     }
 
     /// Whether the two signals of a sink are merged, with equal polarity.
-    fn is_joined(&self, sink: usize) -> bool {
-        let (Some(one), Some(other)) = (self.points.ones.get(sink), self.points.others.get(sink))
-        else {
+    fn is_sink_merged(&self, sink: usize) -> bool {
+        let (Some(one), Some(other)) = (
+            self.nodes.first_sinks.get(sink),
+            self.nodes.second_sinks.get(sink),
+        ) else {
             return false;
         };
         let first = self.representative(one.variable);
         let second = self.representative(other.variable);
-        let turned = (one.turned != first.turned) != (other.turned != second.turned);
-        first.variable == second.variable && !turned
+        let complemented = (one.complemented != first.complemented)
+            != (other.complemented != second.complemented);
+        first.variable == second.variable && !complemented
     }
 
-    /// Whether a sink is visited: it is open and, with `joined`, its two signals are merged.
-    pub(crate) fn is_asked(&self, sink: usize, joined: bool) -> bool {
-        self.is_open(sink) && (!joined || self.is_joined(sink))
+    /// Whether a sink is visited: it is open and, with `merged_only`, its two signals are merged.
+    pub(crate) fn is_asked(&self, sink: usize, merged_only: bool) -> bool {
+        self.is_open(sink) && (!merged_only || self.is_sink_merged(sink))
     }
 
     /// Closes a sink.

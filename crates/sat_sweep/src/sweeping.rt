@@ -2,12 +2,12 @@
 //! the conflict limit of the round before.
 ghost use Rattle.std.specs.Prelude.{◌≡◌, ℕ, ◌+◌, ◌<◌, ◌^◌, length, OnOk};
 ghost use Rattle.sat_theory.specs.Formula.{Formula};
-ghost use Rattle.sat_sweep.specs.Stays.{Stays};
+ghost use Rattle.sat_sweep.specs.KeepsFormula.{KeepsFormula};
 
-use crate::gates::{Heard, shorten_gates, visit_gates};
-use crate::joining::join_alike;
+use crate::gates::{SweepEvent, derive_binary_clauses, visit_gates};
 use crate::sinks::visit_sinks;
-use crate::state::Sweeping;
+use crate::state::SweepState;
+use crate::structural::structural_round;
 use net_core::Net;
 use sat_solve::Solver;
 use std::alloc::{AllocError, Global};
@@ -29,16 +29,16 @@ pub enum Swept {
 fn round<S: Solver>(
     solver: &mut S,
     vars: u32,
-    sweeping: &mut Sweeping,
+    sweeping: &mut SweepState,
     limit: u32,
-) -> Result<Heard, AllocError>
+) -> Result<SweepEvent, AllocError>
     requires vars { S.vars_of solver.old ≡ vars }
     requires small { vars < 2 ^ 31 }
-    ensures { OnOk result (Stays S.IsSolverOf S.vars_of solver.old solver.new) }
+    ensures { OnOk result (KeepsFormula S.IsSolverOf S.vars_of solver.old solver.new) }
 {
-    let heard = visit_gates(solver, vars, sweeping, limit)?;
-    if heard != Heard::Nothing {
-        return Ok(heard);
+    let event = visit_gates(solver, vars, sweeping, limit)?;
+    if event != SweepEvent::Nothing {
+        return Ok(event);
     }
     visit_sinks(solver, vars, sweeping, false, limit)
 }
@@ -47,51 +47,59 @@ fn round<S: Solver>(
 fn rounds<S: Solver>(
     solver: &mut S,
     vars: u32,
-    sweeping: &mut Sweeping,
-) -> Result<Heard, AllocError>
+    sweeping: &mut SweepState,
+) -> Result<SweepEvent, AllocError>
     requires vars { S.vars_of solver.old ≡ vars }
     requires small { vars < 2 ^ 31 }
-    ensures { OnOk result (Stays S.IsSolverOf S.vars_of solver.old solver.new) }
+    ensures { OnOk result (KeepsFormula S.IsSolverOf S.vars_of solver.old solver.new) }
 {
     for limit in LIMITS {
-        let heard = round(solver, vars, sweeping, limit)?;
-        if heard != Heard::Nothing {
-            return Ok(heard);
+        let event = round(solver, vars, sweeping, limit)?;
+        if event != SweepEvent::Nothing {
+            return Ok(event);
         }
         if !sweeping.has_open() {
-            return Ok(Heard::Nothing);
+            return Ok(SweepEvent::Nothing);
         }
         sweeping.begin_round();
     }
-    Ok(Heard::Nothing)
+    Ok(SweepEvent::Nothing)
 }
 
 /// Derives the binary clauses of the gates that are still needed, and then goes through the rounds.
-fn go_on<S: Solver>(solver: &mut S, vars: u32, sweeping: &mut Sweeping) -> Result<Heard, AllocError>
+fn sweep_remaining<S: Solver>(
+    solver: &mut S,
+    vars: u32,
+    sweeping: &mut SweepState,
+) -> Result<SweepEvent, AllocError>
     requires vars { S.vars_of solver.old ≡ vars }
     requires small { vars < 2 ^ 31 }
-    ensures { OnOk result (Stays S.IsSolverOf S.vars_of solver.old solver.new) }
+    ensures { OnOk result (KeepsFormula S.IsSolverOf S.vars_of solver.old solver.new) }
 {
     sweeping.begin_round();
-    let heard = shorten_gates(solver, vars, sweeping)?;
-    if heard != Heard::Nothing {
-        return Ok(heard);
+    let event = derive_binary_clauses(solver, vars, sweeping)?;
+    if event != SweepEvent::Nothing {
+        return Ok(event);
     }
     rounds(solver, vars, sweeping)
 }
 
 /// Merges structurally equal gates, and goes on if a sink is still open.
-fn go<S: Solver>(solver: &mut S, vars: u32, sweeping: &mut Sweeping) -> Result<Heard, AllocError>
+fn sweep_all<S: Solver>(
+    solver: &mut S,
+    vars: u32,
+    sweeping: &mut SweepState,
+) -> Result<SweepEvent, AllocError>
     requires vars { S.vars_of solver.old ≡ vars }
     requires small { vars < 2 ^ 31 }
-    ensures { OnOk result (Stays S.IsSolverOf S.vars_of solver.old solver.new) }
+    ensures { OnOk result (KeepsFormula S.IsSolverOf S.vars_of solver.old solver.new) }
 {
     sweeping.begin_round();
-    let heard = join_alike(solver, vars, sweeping)?;
-    if heard != Heard::Nothing || !sweeping.has_open() {
-        return Ok(heard);
+    let event = structural_round(solver, vars, sweeping)?;
+    if event != SweepEvent::Nothing || !sweeping.has_open() {
+        return Ok(event);
     }
-    go_on(solver, vars, sweeping)
+    sweep_remaining(solver, vars, sweeping)
 }
 
 /// Sweeps two nets with equally many sources and equally many sinks: finds signals that are equal or
@@ -104,24 +112,26 @@ pub fn sweep<S: Solver>(
     solver: &mut S,
     budget: u32,
 ) -> Result<Swept, AllocError>
-    requires vars { S.vars_of solver.old ≡ first.now.sources + length first.now.gates + length second.now.gates + length first.now.sinks }
+    requires vars { S.vars_of solver.old ≡ first.now.sources + length first.now.gates + length second.now.gates +
+        length first.now.sinks }
     requires small { S.vars_of solver.old < 2 ^ 31 }
-    ensures kept { (f : Formula) (least : ℕ) → S.IsSolverOf f least solver.old → OnOk result (S.IsSolverOf f least solver.new) }
+    ensures kept { (f : Formula) (least : ℕ) → S.IsSolverOf f least solver.old →
+        OnOk result (S.IsSolverOf f least solver.new) }
     ensures vars { OnOk result (S.vars_of solver.new ≡ S.vars_of solver.old) }
 {
     let gates = first.gates().len() as u32 + second.gates().len() as u32;
     let vars = first.sources() + gates + first.sinks().len() as u32;
-    let mut sweeping = Sweeping::new(alloc, first, second, budget)?;
-    let heard = if sweeping.patterns.is_different(&sweeping.points) {
-        Heard::Difference
+    let mut sweeping = SweepState::new(alloc, first, second, budget)?;
+    let event = if sweeping.patterns.is_different(&sweeping.nodes) {
+        SweepEvent::Counterexample
     } else {
-        go(solver, vars, &mut sweeping)?
+        sweep_all(solver, vars, &mut sweeping)?
     };
     let spent = sweeping.spent();
-    if heard != Heard::Difference {
+    if event != SweepEvent::Counterexample {
         return Ok(Swept::Swept { spent });
     }
-    match sweeping.patterns.difference(alloc, &sweeping.points)? {
+    match sweeping.patterns.difference(alloc, &sweeping.nodes)? {
         Some(bits) => Ok(Swept::Differ(bits)),
         None => Ok(Swept::Swept { spent }),
     }

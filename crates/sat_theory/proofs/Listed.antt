@@ -18,7 +18,9 @@ pub live_in-none : live_in [] ≡ by_id []
 unfolding live_in
 live_in-none = λ i k. sym (same_either_way (k == 0) None) i
 
-without_one : (ids : List ℕ) (c : Numbered) (cs : List Numbered) (k : ℕ) (t e : Bool) → is_listed ids c.id ≡ t → (k == c.id) ≡ e → live_in (not_listed ids cs) k ≡ without (live_in cs) ids k → live_in (not_listed ids (c ∷ cs)) k ≡ without (live_in (c ∷ cs)) ids k
+without_one : (ids : List ℕ) (c : Numbered) (cs : List Numbered) (k : ℕ) (t e : Bool) → is_listed ids c.id ≡ t →
+    (k == c.id) ≡ e → live_in (not_listed ids cs) k ≡ without (live_in cs) ids k →
+    live_in (not_listed ids (c ∷ cs)) k ≡ without (live_in (c ∷ cs)) ids k
 unfolding live_in
 without_one ids c cs k true true listed same rest =
     let e : k ≡ c.id = eqb-true k c.id same in
@@ -59,7 +61,9 @@ deletion_tail live id ids holds = record {
 deletion_cons : (live : ℕ → Option (List ℤ)) (id : ℕ) (ids : List ℕ) → IsSome (live id) → is_listed ids id ≡ false → DeletionHolds live ids → DeletionHolds live (id ∷ ids)
 deletion_cons live id ids there new holds = record {
   all_live = All-cons (λ (k : ℕ). IsSome (live k)) id ids there holds.all_live;
-  differ = AllPairs-cons (λ (a b : ℕ). a ≢ b) id ids (λ k d within same. let again : is_listed ids id ≡ true = list_any_at (λ (j : ℕ). id == j) ids k d within (eq-eqb id (get_or ids k d) same) in not_both again new) holds.differ;
+  differ = AllPairs-cons (λ (a b : ℕ). a ≢ b) id ids (λ k d within same. let again : is_listed ids id ≡ true =
+      list_any_at (λ (j : ℕ). id == j) ids k d within (eq-eqb id (get_or ids k d) same) in
+      not_both again new) holds.differ;
 }
   where
     not_both : is_listed ids id ≡ true → is_listed ids id ≡ false → ⊥

@@ -11,12 +11,16 @@ HasSeen set lits i (Some l) = Contains lits l × (set l ≡ false) × ((k : ℕ)
 
 -- The clause of a hint before the last has one literal outside: the opposite joins the set, and the other hints
 -- decide.
-hint_goes : (live : ℕ → Option (List ℤ)) (set grown : ℤ → Bool) (hint h : ℕ) (hs : List ℕ) (clause : List ℤ) (l : ℤ) → live hint ≡ Some clause → IsUnitOutside set clause l → grown ≡ with_literal set (opposite l) → HintsHold live grown (h ∷ hs) → HintsHold live set (hint ∷ h ∷ hs)
+hint_goes : (live : ℕ → Option (List ℤ)) (set grown : ℤ → Bool) (hint h : ℕ) (hs : List ℕ) (clause : List ℤ) (l : ℤ) →
+    live hint ≡ Some clause → IsUnitOutside set clause l → grown ≡ with_literal set (opposite l) →
+    HintsHold live grown (h ∷ hs) → HintsHold live set (hint ∷ h ∷ hs)
 unfolding HintsHold
 hint_goes live set grown hint h hs clause l is unit grows holds =
     (clause, l, is, unit, subst (λ (s : ℤ → Bool). HintsHold live s (h ∷ hs)) grows holds)
 
-hint_comes : (live : ℕ → Option (List ℤ)) (set grown : ℤ → Bool) (hint h : ℕ) (hs : List ℕ) (clause : List ℤ) (l : ℤ) → live hint ≡ Some clause → IsUnitOutside set clause l → grown ≡ with_literal set (opposite l) → HintsHold live set (hint ∷ h ∷ hs) → HintsHold live grown (h ∷ hs)
+hint_comes : (live : ℕ → Option (List ℤ)) (set grown : ℤ → Bool) (hint h : ℕ) (hs : List ℕ) (clause : List ℤ) (l : ℤ) →
+    live hint ≡ Some clause → IsUnitOutside set clause l → grown ≡ with_literal set (opposite l) →
+    HintsHold live set (hint ∷ h ∷ hs) → HintsHold live grown (h ∷ hs)
 unfolding HintsHold
 hint_comes live set grown hint h hs clause l is unit grows (other, m, other_is, other_unit, holds) =
     let same : other ≡ clause = cc in
@@ -25,7 +29,9 @@ hint_comes live set grown hint h hs clause l is unit grows (other, m, other_is, 
     let sets : with_literal set (opposite m) ≡ grown = ap (λ (x : ℤ). with_literal set (opposite x)) literals ∙ sym grows in
     subst (λ (s : ℤ → Bool). HintsHold live s (h ∷ hs)) sets holds
 
-pub hint_taken : (live : ℕ → Option (List ℤ)) (set grown : ℤ → Bool) (hint : ℕ) (more : List ℕ) (clause : List ℤ) (l : ℤ) → 0 < length more → live hint ≡ Some clause → IsUnitOutside set clause l → grown ≡ with_literal set (opposite l) → HintsHold live grown more ↔ HintsHold live set (hint ∷ more)
+pub hint_taken : (live : ℕ → Option (List ℤ)) (set grown : ℤ → Bool) (hint : ℕ) (more : List ℕ) (clause : List ℤ)
+    (l : ℤ) → 0 < length more → live hint ≡ Some clause → IsUnitOutside set clause l →
+    grown ≡ with_literal set (opposite l) → HintsHold live grown more ↔ HintsHold live set (hint ∷ more)
 hint_taken live set grown hint [] clause l some is unit grows = absurd (omega arith)
 hint_taken live set grown hint (h ∷ hs) clause l some is unit grows =
     (hint_goes live set grown hint h hs clause l is unit grows, hint_comes live set grown hint h hs clause l is unit grows)

@@ -1,6 +1,8 @@
 -- How many additions of a log can be live: fewer than 3 ^ vars, if each is of an unsubsumed clause and none is of
 -- the empty clause. No live addition is a subset of a later one, so all live additions are different clauses.
-use Rattle.std.specs.Prelude.{◌≡◌, ◌≢◌, ℕ, suc, ◌+◌, ◌*◌, ◌^◌, ◌<◌, ◌≤◌, ◌==◌, if◌then◌else◌, ℤ, Bool, true, false, List, [], ◌∷◌, length, slice_index_or, Contains, All, Any, AllPairs, count_by, cond, Option, Some, None, is_some}
+use Rattle.std.specs.Prelude.{◌≡◌, ◌≢◌, ℕ, suc, ◌+◌, ◌*◌, ◌^◌, ◌<◌, ◌≤◌, ◌==◌, if◌then◌else◌, ℤ, Bool, true, false}
+use Rattle.std.specs.Prelude.{List, [], ◌∷◌, length, slice_index_or, Contains, All, Any, AllPairs, count_by, cond}
+use Rattle.std.specs.Prelude.{Option, Some, None, is_some}
 use Rattle.std.proofs.Common.{sym, subst, ap, ◌∙◌, arith, inr, refl}
 use Rattle.std.proofs.lemmas.Bool.{ne_eqb, eq-eqb}
 use Rattle.std.proofs.lemmas.List.Elements.{All-cons, All-head, All-tail, All-weaker, All-contains, Contains-get_or}
@@ -10,7 +12,7 @@ use Rattle.sat_theory.specs.Formula.{Formula, IsClause, IsWithin}
 use Rattle.sat_theory.specs.Line.{Line, Add, Delete, IsAdding}
 use Rattle.sat_theory.specs.State.{State, start, next, is_listed}
 use Rattle.sat_theory.specs.Holding.{among}
-use Rattle.sat_theory.specs.Log.{after, EachLine, IsStep, IsFresh, IsNew, AddsEmpty, added_ids, additions, live_additions, IsSpent, IsKept, DeletesNothing}
+use Rattle.sat_theory.specs.Log.{after, EachLine, IsStep, AddsUnsubsumed, IsUnsubsumed, AddsEmpty, added_ids, additions, live_additions, ReachesBudget, KeepsHalf, DeletesNothing}
 use Rattle.sat_theory.specs.Pigeonholes.{different_below}
 use Rattle.sat_theory.specs.Ternary.{code, code_low, inside, some_code}
 
@@ -91,7 +93,9 @@ code_differs s id ids clause n is_live all found same =
     let at : slice_index_or ids found.there.0 found.id ≡ found.id = found.there.2 in
     let low : found.there.0 < length ids = found.there.1 in
     let between : IsApart s id (slice_index_or ids found.there.0 found.id) = all.apart 0 (suc found.there.0) found.id (omega arith) (let h : suc found.there.0 < suc (length ids) = omega arith in h) in
-    let known : IsAdded s.vars found.clause = All-contains (λ k. (c : List ℤ) → s.live k ≡ Some c → IsAdded s.vars c) (id ∷ ids) found.id all.added (contains_later id found.id ids found.there) found.clause found.is_live in
+    let known : IsAdded s.vars found.clause = All-contains (λ k. (c : List ℤ) → s.live k ≡ Some c →
+    IsAdded s.vars c) (id ∷ ids) found.id all.added (contains_later id found.id ids found.there) found.clause
+    found.is_live in
     between clause found.clause is_live (rw at found.is_live) (inside found.clause clause s.vars known.is_clause known.within (found.is ∙ sym same))
 
 apart_rest : (s : State) (id : ℕ) (ids : List ℕ) → AreApart s (id ∷ ids) → AreApart s ids
@@ -101,7 +105,8 @@ apart_rest s id ids all = record {
   apart = λ i j d order within. all.apart (suc i) (suc j) d (omega arith) (let low : j < length ids = within in let h : suc j < suc (length ids) = omega arith in h);
 }
 
-differ_cons : (s : State) (id : ℕ) (ids ns : List ℕ) (o : Option (List ℤ)) → s.live id ≡ o → AreApart s (id ∷ ids) → All (IsCode s ids) ns → AllPairs (λ a b. a ≢ b) ns → AllPairs (λ a b. a ≢ b) (with_code s.vars o ns)
+differ_cons : (s : State) (id : ℕ) (ids ns : List ℕ) (o : Option (List ℤ)) → s.live id ≡ o → AreApart s (id ∷ ids) →
+    All (IsCode s ids) ns → AllPairs (λ a b. a ≢ b) ns → AllPairs (λ a b. a ≢ b) (with_code s.vars o ns)
 differ_cons s id ids ns None is all are differ = differ
 differ_cons s id ids ns (Some clause) is all are differ =
     AllPairs-cons (λ a b. a ≢ b) (code (among clause) s.vars) ns
@@ -136,10 +141,14 @@ codes_long s (id ∷ ids) =
 live_few : (s : State) (ids : List ℕ) → AreApart s ids → count_by (is_live_in s) ids < 3 ^ s.vars
 live_few s ids all =
     let room : 0 < 3 ^ s.vars = (let h : code (among []) s.vars < 3 ^ s.vars = code_low (among []) s.vars in omega arith) in
-    let below : All (λ n. n < 3 ^ s.vars) (codes s ids) = All-weaker (IsCode s ids) (λ n. n < 3 ^ s.vars) (λ n found. subst (λ (m : ℕ). m < 3 ^ s.vars) found.is (code_low (among found.clause) s.vars)) (codes s ids) (codes_are s ids) in
+    let below : All (λ n. n < 3 ^ s.vars) (codes s ids) =
+    All-weaker (IsCode s ids) (λ n. n < 3 ^ s.vars) (λ n found. subst (λ (m : ℕ). m < 3 ^ s.vars) found.is
+    (code_low (among found.clause) s.vars)) (codes s ids) (codes_are s ids) in
     let some : All (λ n. 0 ≢ n) (codes s ids) = All-weaker (IsCode s ids) (λ n. 0 ≢ n) (λ n found same. nonzero n found same) (codes s ids) (codes_are s ids) in
     let zeros : List ℕ = 0 ∷ codes s ids in
-    let few : length zeros ≤ 3 ^ s.vars = different_below (3 ^ s.vars) zeros (All-cons (λ n. n < 3 ^ s.vars) 0 (codes s ids) room below) (AllPairs-cons (λ a b. a ≢ b) 0 (codes s ids) some (codes_differ s ids all)) in
+    let few : length zeros ≤ 3 ^ s.vars = different_below (3 ^ s.vars) zeros
+    (All-cons (λ n. n < 3 ^ s.vars) 0 (codes s ids) room below)
+    (AllPairs-cons (λ a b. a ≢ b) 0 (codes s ids) some (codes_differ s ids all)) in
     let long : length zeros ≡ suc (length (codes s ids)) = refl in
     let count : length (codes s ids) ≡ count_by (is_live_in s) ids = codes_long s ids in
     omega arith
@@ -172,14 +181,17 @@ now_added s id lits hints = (let same : (id == id) ≡ true = eq-eqb id id refl 
 is_the : (lits clause : List ℤ) (o : Option (List ℤ)) → o ≡ Some lits → o ≡ Some clause → lits ≡ clause
 is_the lits clause o one other = cc
 
-apart_added : (s : State) (id : ℕ) (lits : List ℤ) (hints ids : List ℕ) → s.greatest < id → IsAdded s.vars lits → IsNew s.live lits → AreApart s ids → AreApart (next s (Add id lits hints)) (id ∷ ids)
+apart_added : (s : State) (id : ℕ) (lits : List ℤ) (hints ids : List ℕ) → s.greatest < id → IsAdded s.vars lits →
+    IsUnsubsumed s.live lits → AreApart s ids → AreApart (next s (Add id lits hints)) (id ∷ ids)
 apart_added s id lits hints ids greater known new all = record {
   given = All-cons (λ k. k ≤ id) id ids (omega arith) (All-weaker (λ k. k ≤ s.greatest) (λ k. k ≤ id) (λ k h. omega (arith, h, greater)) ids all.given);
   added = All-cons (λ k. (c : List ℤ) → after_it.live k ≡ Some c → IsAdded s.vars c) id ids
       (λ c is. subst (λ (x : List ℤ). IsAdded s.vars x) (is_the lits c (after_it.live id) (now_added s id lits hints) is) known)
       (λ k d low c is. all.added k d low c (sym (same k d low) ∙ is));
   apart = AllPairs-cons (IsApart after_it) id ids
-      (λ k d low c e is_c is_e inside_it. new (slice_index_or ids k d) e (sym (same k d low) ∙ is_e) (subst (λ (x : List ℤ). All (Contains x) e) (sym (is_the lits c (after_it.live id) (now_added s id lits hints) is_c)) inside_it))
+      (λ k d low c e is_c is_e inside_it. new (slice_index_or ids k d) e (sym (same k d low)
+      ∙ is_e) (subst (λ (x : List ℤ). All (Contains x) e)
+      (sym (is_the lits c (after_it.live id) (now_added s id lits hints) is_c)) inside_it))
       (λ i j d order within c e is_c is_e. all.apart i j d order within c e (sym (same i d (omega arith)) ∙ is_c) (sym (same j d within) ∙ is_e));
 }
   where
@@ -190,15 +202,21 @@ apart_added s id lits hints ids greater known new all = record {
     same k d low = before_added s id lits hints (slice_index_or ids k d) greater (all.given k d low)
 
 -- the live additions of a log, together with the clauses that were live before it
-live_added : (s : State) (lines : List Line) (ids : List ℕ) → EachLine IsStep s lines → EachLine IsFresh s lines → All AddsSome lines → AreApart s ids → count_by (is_live_in (after s lines)) ids + count_by (is_live_in (after s lines)) (added_ids lines) < 3 ^ s.vars
+live_added : (s : State) (lines : List Line) (ids : List ℕ) → EachLine IsStep s lines →
+    EachLine AddsUnsubsumed s lines → All AddsSome lines → AreApart s ids →
+    count_by (is_live_in (after s lines)) ids + count_by (is_live_in (after s lines)) (added_ids lines) < 3 ^ s.vars
 unfolding EachLine after added_ids
 live_added s [] ids steps fresh some all = (let few : count_by (is_live_in s) ids < 3 ^ s.vars = live_few s ids all in let none : count_by (is_live_in s) [] ≡ 0 = refl in omega arith)
-live_added s (Delete id gone ∷ lines) ids steps fresh some all = live_added (next s (Delete id gone)) lines ids steps.1 fresh.1 (All-tail AddsSome (Delete id gone) lines some) (apart_deleted s id gone ids all)
+live_added s (Delete id gone ∷ lines) ids steps fresh some all =
+    live_added (next s (Delete id gone)) lines ids steps.1 fresh.1 (All-tail AddsSome (Delete id gone) lines some)
+    (apart_deleted s id gone ids all)
 live_added s (Add id lits hints ∷ lines) ids steps fresh some all =
     let t : State = next s (Add id lits hints) in
     let p : ℕ → Bool = is_live_in (after t lines) in
     let known : IsAdded s.vars lits = record { is_clause = steps.0.is_line.clause; within = steps.0.holds.variables; some = All-head AddsSome (Add id lits hints) lines some } in
-    let ih : count_by p (id ∷ ids) + count_by p (added_ids lines) < 3 ^ s.vars = live_added t lines (id ∷ ids) steps.1 fresh.1 (All-tail AddsSome (Add id lits hints) lines some) (apart_added s id lits hints ids steps.0.holds.greater known fresh.0 all) in
+    let ih : count_by p (id ∷ ids) + count_by p (added_ids lines) < 3 ^ s.vars =
+    live_added t lines (id ∷ ids) steps.1 fresh.1 (All-tail AddsSome (Add id lits hints) lines some)
+    (apart_added s id lits hints ids steps.0.holds.greater known fresh.0 all) in
     let first : count_by p (id ∷ ids) ≡ cond {A = ℕ} (p id) 1 0 + count_by p ids = count_cons p id ids in
     let second : count_by p (id ∷ added_ids lines) ≡ cond {A = ℕ} (p id) 1 0 + count_by p (added_ids lines) = count_cons p id (added_ids lines) in
     omega arith
@@ -211,7 +229,9 @@ none_apart s = record {
 }
 
 -- A log of unsubsumed additions that doesn't add the empty clause has fewer than 3 ^ vars live additions.
-pub few_live : (f : Formula) (lines : List Line) → EachLine IsStep (start f) lines → EachLine IsFresh (start f) lines → All AddsSome lines → live_additions (after (start f) lines) lines < 3 ^ f.vars
+pub few_live : (f : Formula) (lines : List Line) → EachLine IsStep (start f) lines →
+    EachLine AddsUnsubsumed (start f) lines → All AddsSome lines →
+    live_additions (after (start f) lines) lines < 3 ^ f.vars
 few_live f lines steps fresh some =
     let few : count_by (is_live_in (after (start f) lines)) [] + live_additions (after (start f) lines) lines < 3 ^ f.vars = live_added (start f) lines [] steps fresh some (none_apart (start f)) in
     let none : count_by (is_live_in (after (start f) lines)) [] ≡ 0 = refl in
@@ -234,16 +254,26 @@ IsThere s id = (id ≤ s.greatest) × (is_some (s.live id) ≡ true)
 there_added : (s : State) (id : ℕ) (lits : List ℤ) (hints ids : List ℕ) → s.greatest < id → All (IsThere s) ids → All (IsThere (next s (Add id lits hints))) (id ∷ ids)
 there_added s id lits hints ids greater there =
     All-cons (IsThere (next s (Add id lits hints))) id ids (omega arith, ap (λ (o : Option (List ℤ)). is_some o) (now_added s id lits hints))
-    (All-weaker (IsThere s) (IsThere (next s (Add id lits hints))) (λ k h. ((let low : k ≤ s.greatest = h.0 in omega (arith, low, greater)), ap (λ (o : Option (List ℤ)). is_some o) (before_added s id lits hints k greater h.0) ∙ h.1)) ids there)
+    (All-weaker (IsThere s) (IsThere (next s (Add id lits hints)))
+    (λ k h. (
+      (let low : k ≤ s.greatest = h.0 in omega (arith, low, greater)),
+      ap (λ (o : Option (List ℤ)). is_some o) (before_added s id lits hints k greater h.0) ∙ h.1,
+    )) ids there)
 
-all_added : (s : State) (lines : List Line) (ids : List ℕ) → EachLine IsStep s lines → DeletesNothing lines → All (IsThere s) ids → count_by (is_live_in (after s lines)) ids + count_by (is_live_in (after s lines)) (added_ids lines) ≡ length ids + length (added_ids lines)
+all_added : (s : State) (lines : List Line) (ids : List ℕ) → EachLine IsStep s lines → DeletesNothing lines →
+    All (IsThere s) ids → count_by (is_live_in (after s lines)) ids + count_by (is_live_in (after s lines))
+    (added_ids lines) ≡ length ids + length (added_ids lines)
 unfolding EachLine after added_ids
-all_added s [] ids steps adding there = (let all : count_by (is_live_in s) ids ≡ length ids = count_all (is_live_in s) ids (All-weaker (IsThere s) (λ k. is_some (s.live k) ≡ true) (λ k h. h.1) ids there) in let none : count_by (is_live_in s) [] ≡ 0 = refl in let zero_ : length {A = ℕ} [] ≡ 0 = refl in omega arith)
+all_added s [] ids steps adding there = (let all : count_by (is_live_in s) ids ≡ length ids =
+    count_all (is_live_in s) ids (All-weaker (IsThere s) (λ k. is_some (s.live k) ≡ true) (λ k h. h.1) ids there) in
+    let none : count_by (is_live_in s) [] ≡ 0 = refl in let zero_ : length {A = ℕ} [] ≡ 0 = refl in omega arith)
 all_added s (Delete id gone ∷ lines) ids steps adding there = absurd (All-head IsAdding (Delete id gone) lines adding)
 all_added s (Add id lits hints ∷ lines) ids steps adding there =
     let t : State = next s (Add id lits hints) in
     let p : ℕ → Bool = is_live_in (after t lines) in
-    let ih : count_by p (id ∷ ids) + count_by p (added_ids lines) ≡ length (id ∷ ids) + length (added_ids lines) = all_added t lines (id ∷ ids) steps.1 (All-tail IsAdding (Add id lits hints) lines adding) (there_added s id lits hints ids steps.0.holds.greater there) in
+    let ih : count_by p (id ∷ ids) + count_by p (added_ids lines) ≡ length (id ∷ ids) + length (added_ids lines) =
+    all_added t lines (id ∷ ids) steps.1 (All-tail IsAdding (Add id lits hints) lines adding)
+    (there_added s id lits hints ids steps.0.holds.greater there) in
     let first : count_by p (id ∷ ids) ≡ cond {A = ℕ} (p id) 1 0 + count_by p ids = count_cons p id ids in
     let second : count_by p (id ∷ added_ids lines) ≡ cond {A = ℕ} (p id) 1 0 + count_by p (added_ids lines) = count_cons p id (added_ids lines) in
     let long : length (id ∷ ids) ≡ suc (length ids) = refl in
@@ -253,13 +283,15 @@ all_added s (Add id lits hints ∷ lines) ids steps adding there =
 -- If nothing is deleted, all additions are live.
 pub all_live : (f : Formula) (lines : List Line) → EachLine IsStep (start f) lines → DeletesNothing lines → live_additions (after (start f) lines) lines ≡ additions lines
 all_live f lines steps adding =
-    let all : count_by (is_live_in (after (start f) lines)) [] + live_additions (after (start f) lines) lines ≡ length {A = ℕ} [] + additions lines = all_added (start f) lines [] steps adding (λ k d (low : k < 0). absurd (omega arith)) in
+    let all : count_by (is_live_in (after (start f) lines)) [] + live_additions (after (start f) lines) lines ≡
+    length {A = ℕ} [] + additions lines = all_added (start f) lines [] steps adding (λ k d (low : k < 0).
+    absurd (omega arith)) in
     let none : count_by (is_live_in (after (start f) lines)) [] ≡ 0 = refl in
     let zero_ : length {A = ℕ} [] ≡ 0 = refl in
     omega arith
 
 -- If a log reaches a budget with at least half of its additions live, the budget is below 2 * 3 ^ vars.
-pub budget_kept : (f : Formula) (lines : List Line) (budget : ℕ) → IsSpent f lines budget → IsKept f lines → budget < 2 * 3 ^ f.vars
+pub budget_kept : (f : Formula) (lines : List Line) (budget : ℕ) → ReachesBudget f lines budget → KeepsHalf f lines → budget < 2 * 3 ^ f.vars
 budget_kept f lines budget spent kept =
     let few : live_additions (after (start f) lines) lines < 3 ^ f.vars = few_live f lines spent.holds spent.fresh (adds_some lines (λ there. spent.open_yet (inr there))) in
     let half : additions lines ≤ 2 * live_additions (after (start f) lines) lines = kept in
@@ -267,7 +299,7 @@ budget_kept f lines budget spent kept =
     omega arith
 
 -- If a log reaches a budget without deletions, the budget is below 3 ^ vars.
-pub budget_undeleted : (f : Formula) (lines : List Line) (budget : ℕ) → IsSpent f lines budget → DeletesNothing lines → budget < 3 ^ f.vars
+pub budget_undeleted : (f : Formula) (lines : List Line) (budget : ℕ) → ReachesBudget f lines budget → DeletesNothing lines → budget < 3 ^ f.vars
 budget_undeleted f lines budget spent adding =
     let few : live_additions (after (start f) lines) lines < 3 ^ f.vars = few_live f lines spent.holds spent.fresh (adds_some lines (λ there. spent.open_yet (inr there))) in
     let all : live_additions (after (start f) lines) lines ≡ additions lines = all_live f lines spent.holds adding in

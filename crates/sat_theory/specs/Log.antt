@@ -39,13 +39,13 @@ pub record Refutes (f : Formula) (lines : List Line) : Type 0 where
 
 -- A clause is unsubsumed if no live clause subsumes it, that is, has all its literals in the clause.
 -- Example: if the only live clause is 1, 2, then 1, 3 is unsubsumed, and 1, 2, 3 is not.
-abbrev pub IsNew : (ℕ → Option (List ℤ)) → List ℤ → Type 0
-IsNew live lits = (id : ℕ) (clause : List ℤ) → live id ≡ Some clause → All (Contains lits) clause → ⊥
+abbrev pub IsUnsubsumed : (ℕ → Option (List ℤ)) → List ℤ → Type 0
+IsUnsubsumed live lits = (id : ℕ) (clause : List ℤ) → live id ≡ Some clause → All (Contains lits) clause → ⊥
 
 -- if the line is an addition, its clause is unsubsumed
-abbrev pub IsFresh : State → Line → Type 0
-IsFresh s (Add id lits hints) = IsNew s.live lits
-IsFresh s (Delete id ids) = Unit {0}
+abbrev pub AddsUnsubsumed : State → Line → Type 0
+AddsUnsubsumed s (Add id lits hints) = IsUnsubsumed s.live lits
+AddsUnsubsumed s (Delete id ids) = Unit {0}
 
 -- the ids of a log's additions, in order
 unfoldable pub added_ids : List Line → List ℕ
@@ -63,15 +63,15 @@ live_additions s lines = count_by (λ id. is_some (s.live id)) (added_ids lines)
 
 -- A log reaches a budget on a formula if its lines hold, it doesn't reach the empty clause, and it has at least
 -- `budget` additions, each of an unsubsumed clause.
-pub record IsSpent (f : Formula) (lines : List Line) (budget : ℕ) : Type 0 where
+pub record ReachesBudget (f : Formula) (lines : List Line) (budget : ℕ) : Type 0 where
   pub holds : LogHolds f lines
   pub open_yet : HasEmpty f lines → ⊥
   pub enough : budget ≤ additions lines
-  pub fresh : EachLine IsFresh (start f) lines
+  pub fresh : EachLine AddsUnsubsumed (start f) lines
 
 -- At the end of the log, at least half of its additions are live.
-abbrev pub IsKept : Formula → List Line → Type 0
-IsKept f lines = additions lines ≤ 2 * live_additions (after (start f) lines) lines
+abbrev pub KeepsHalf : Formula → List Line → Type 0
+KeepsHalf f lines = additions lines ≤ 2 * live_additions (after (start f) lines) lines
 
 -- a deletion has no id of a clause of the formula (those are 1 to the number of clauses)
 abbrev pub SparesFormula : Formula → Line → Type 0
@@ -80,7 +80,7 @@ SparesFormula f (Delete id ids) = All (λ k. length f.clauses < k) ids
 
 -- A log deletes a quarter if it deletes nothing but its own additions, and at its end at most about three quarters
 -- of them are live: 3/4 of the additions, and vars + 2000 more.
-pub record IsThinned (f : Formula) (lines : List Line) : Type 0 where
+pub record DeletesQuarter (f : Formula) (lines : List Line) : Type 0 where
   pub spares : All (SparesFormula f) lines
   pub few : 4 * live_additions (after (start f) lines) lines ≤ 3 * additions lines + 4 * f.vars + 8000
 

@@ -11,7 +11,8 @@ zeros table = count_by (λ x. x == 0) table
 
 zeros_less : (table : List ℕ) (i : ℕ) → i < length table → slice_index_or table i 0 ≡ 0 → zeros (slice_set table i 1) + 1 ≡ zeros table
 zeros_less table i room was =
-    let moved : zeros (slice_set table i 1) + cond {A = ℕ} (slice_index_or table i 0 == 0) 1 0 ≡ zeros table + cond {A = ℕ} (1 == 0) 1 0 = sum_by-set (λ (x : ℕ). cond {A = ℕ} (x == 0) 1 0) table i 1 0 room in
+    let moved : zeros (slice_set table i 1) + cond {A = ℕ} (slice_index_or table i 0 == 0) 1 0 ≡
+    zeros table + cond {A = ℕ} (1 == 0) 1 0 = sum_by-set (λ (x : ℕ). cond {A = ℕ} (x == 0) 1 0) table i 1 0 room in
     let before : (slice_index_or table i 0 == 0) ≡ true = eq-eqb (slice_index_or table i 0) 0 was in
     let one : cond {A = ℕ} (slice_index_or table i 0 == 0) 1 0 ≡ 1 = rw before refl in
     omega arith
@@ -25,7 +26,11 @@ at_most_zeros (x ∷ xs) table free differ =
     let rest : All P xs = All-tail P x xs free in
     let less : zeros (slice_set table x 1) + 1 ≡ zeros table = zeros_less table x first.0 first.1 in
     let ih : length xs ≤ zeros (slice_set table x 1) = at_most_zeros xs (slice_set table x 1)
-    (λ k d low. ((let h : slice_index_or xs k d < length table = (rest k d low).0 in rw length-set h), get_or-set_other table x (slice_index_or xs k d) 1 0 (λ same. differ 0 (suc k) d (omega arith) (omega arith) (sym same)) ∙ (rest k d low).1))
+    (λ k d low. (
+      (let h : slice_index_or xs k d < length table = (rest k d low).0 in rw length-set h),
+      get_or-set_other table x (slice_index_or xs k d) 1 0 (λ same. differ 0 (suc k) d (omega arith) (omega arith)
+          (sym same)) ∙ (rest k d low).1,
+    ))
     (λ i j d order within. differ (suc i) (suc j) d (omega arith) (omega arith)) in
     omega arith
 

@@ -38,7 +38,8 @@ unit_value : (v : Assignment) (set : ℤ → Bool) (clause : List ℤ) (l : ℤ)
 unfolding IsTrueClause
 unit_value v set clause l false_set (k, m, within, at, value) unit =
     let P : ℤ → Type 0 = λ x. (x ≡ l) ⊎ (set x ≡ true) in
-    ⊎_elim (λ (same : m ≡ l). subst (λ (x : ℤ). literal_value v x ≡ true) same value) (λ (member : set m ≡ true). not_both (literal_value v m) value (false_set m member)) (All-contains P clause m unit.others (k, within, at))
+    ⊎_elim (λ (same : m ≡ l). subst (λ (x : ℤ). literal_value v x ≡ true) same value) (λ (member : set m ≡ true).
+    not_both (literal_value v m) value (false_set m member)) (All-contains P clause m unit.others (k, within, at))
 
 -- all live clauses are clauses, and are true
 abbrev Models : Assignment → (ℕ → Option (List ℤ)) → Type 0
@@ -58,7 +59,9 @@ hints_contradict v live (hint ∷ more ∷ hints) set models (clause, l, is, uni
     let value : literal_value v l ≡ true = unit_value v set clause l false_set found.1 unit in
     let one : 0 < variable l = All-contains (λ (x : ℤ). 0 < variable x) clause l found.0.literals unit.there in
     hints_contradict v live (more ∷ hints) (with_literal set (opposite l)) models hold
-    (λ m member. ⊎_elim (λ (same : m ≡ opposite l). subst (λ (x : ℤ). literal_value v x ≡ false) (sym same) (opposite_value v l one value)) (λ (old : set m ≡ true). false_set m old) (with_literal_cases set (opposite l) m member))
+    (λ m member. ⊎_elim (λ (same : m ≡ opposite l). subst (λ (x : ℤ). literal_value v x ≡ false) (sym same)
+    (opposite_value v l one value)) (λ (old : set m ≡ true). false_set m old)
+    (with_literal_cases set (opposite l) m member))
 
 -- a member of a list's set is in the list
 pub Contains-from_among : (lits : List ℤ) (l : ℤ) → among lits l ≡ true → Contains lits l
@@ -75,13 +78,23 @@ among-from_Contains lits l (k, within, at) =
 -- if a clause has no true literal, all its literals are false
 false_clause : (v : Assignment) (lits : List ℤ) → list_any (literal_value v) lits ≡ false → IsFalseSet v (among lits)
 false_clause v lits none l member =
-    ⊎_elim (λ (value : literal_value v l ≡ true). let there : Contains lits l = Contains-from_among lits l member in not_both (list_any (literal_value v) lits) (list_any-from_Any (literal_value v) lits (there.0, l, there.1, there.2, value)) none) (λ (value : literal_value v l ≡ false). value) (cases_Bool (literal_value v l))
+    ⊎_elim (λ (value : literal_value v l ≡ true). let there : Contains lits l = Contains-from_among lits l member in
+    not_both (list_any (literal_value v) lits) (list_any-from_Any (literal_value v) lits (
+      there.0,
+      l,
+      there.1,
+      there.2,
+      value,
+    )) none) (λ (value : literal_value v l ≡ false). value) (cases_Bool (literal_value v l))
 
 -- RUP is sound: an addition that holds is true under every assignment under which all live clauses are.
 addition_true : (v : Assignment) (s : State) (id : ℕ) (lits : List ℤ) (hints : List ℕ) → Models v s.live → AdditionHolds s id lits hints → IsTrueClause v lits
 unfolding IsTrueClause
 addition_true v s id lits hints models holds =
-    ⊎_elim (λ (some : list_any (literal_value v) lits ≡ true). Any-from_list_any (literal_value v) lits some) (λ (none : list_any (literal_value v) lits ≡ false). absurd (hints_contradict v s.live hints (among lits) models holds.hints_hold (false_clause v lits none))) (cases_Bool (list_any (literal_value v) lits))
+    ⊎_elim (λ (some : list_any (literal_value v) lits ≡ true). Any-from_list_any (literal_value v) lits some)
+    (λ (none : list_any (literal_value v) lits ≡ false).
+    absurd (hints_contradict v s.live hints (among lits) models holds.hints_hold (false_clause v lits none)))
+    (cases_Bool (list_any (literal_value v) lits))
 
 -- the clause of one of two ids
 chosen : {A : Type 0} (b : Bool) (x y z : A) → (if b then x else y) ≡ z → (x ≡ z) ⊎ (y ≡ z)
@@ -137,5 +150,9 @@ pub no_assignment : (f : Formula) (lines : List Line) (v : Assignment) → IsFor
 no_assignment f lines v is_formula refutes satisfies =
     ⊎_elim
     (λ (there : Contains f.clauses []). empty_is_false v (All-contains (IsTrueClause v) f.clauses [] satisfies there))
-    (λ (added : Any AddsEmpty lines). no_empty v (start f) lines refutes.holds (λ id clause is. let there : Contains f.clauses clause = by_id-Contains f.clauses id clause is in (All-contains IsClause f.clauses clause is_formula.clauses there, All-contains (IsTrueClause v) f.clauses clause satisfies there)) added)
+    (λ (added : Any AddsEmpty lines). no_empty v (start f) lines refutes.holds (λ id clause is.
+    let there : Contains f.clauses clause = by_id-Contains f.clauses id clause is in (
+      All-contains IsClause f.clauses clause is_formula.clauses there,
+      All-contains (IsTrueClause v) f.clauses clause satisfies there,
+    )) added)
     refutes.reaches

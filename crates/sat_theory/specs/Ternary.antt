@@ -79,7 +79,9 @@ neg_digit set n is = choose (set (pos (suc n))) (set (negsuc n)) is
 
 -- a clause doesn't have both literals of a variable
 one_sign : (lits : List ℤ) (n : ℕ) → IsClause lits → among lits (negsuc n) ≡ true → among lits (pos (suc n)) ≡ false
-one_sign lits n clause is = ⊎_elim (λ (both : among lits (pos (suc n)) ≡ true). absurd (no_both (Contains-from_among lits (negsuc n) is) (Contains-from_among lits (pos (suc n)) both))) (λ (off : among lits (pos (suc n)) ≡ false). off) (cases_Bool (among lits (pos (suc n))))
+one_sign lits n clause is = ⊎_elim (λ (both : among lits (pos (suc n)) ≡ true).
+    absurd (no_both (Contains-from_among lits (negsuc n) is) (Contains-from_among lits (pos (suc n)) both)))
+    (λ (off : among lits (pos (suc n)) ≡ false). off) (cases_Bool (among lits (pos (suc n))))
   where
     differs : (i j : ℕ) (l m : ℤ) → slice_index_or lits i l ≡ l → slice_index_or lits j m ≡ m → i < j → j < length lits → variable l ≡ variable m → ⊥
     differs i j l m at_i at_j order within same =
@@ -89,8 +91,12 @@ one_sign lits n clause is = ⊎_elim (λ (both : among lits (pos (suc n)) ≡ tr
     no_both : Contains lits (negsuc n) → Contains lits (pos (suc n)) → ⊥
     no_both (i, low_i, at_i) (j, low_j, at_j) =
         ⊎_elim
-        (λ (same : i ≡ j). (let e : slice_index_or lits j (negsuc n) ≡ negsuc n = rw same at at_i in let f : slice_index_or lits j (negsuc n) ≡ pos (suc n) = get_or_default lits j (negsuc n) (pos (suc n)) low_j ∙ at_j in cc))
-        (λ (order : (i < j) ⊎ (j < i)). ⊎_elim (λ (less : i < j). differs i j (negsuc n) (pos (suc n)) at_i at_j less low_j refl) (λ (more : j < i). differs j i (pos (suc n)) (negsuc n) at_j at_i more low_i refl) order)
+        (λ (same : i ≡ j). (let e : slice_index_or lits j (negsuc n) ≡ negsuc n = rw same at at_i in
+        let f : slice_index_or lits j (negsuc n) ≡ pos (suc n) = get_or_default lits j (negsuc n) (pos (suc n)) low_j
+        ∙ at_j in cc))
+        (λ (order : (i < j) ⊎ (j < i)). ⊎_elim (λ (less : i < j).
+        differs i j (negsuc n) (pos (suc n)) at_i at_j less low_j refl) (λ (more : j < i).
+        differs j i (pos (suc n)) (negsuc n) at_j at_i more low_i refl) order)
         (cases_order i j)
 
 -- Clauses with the same number have the same literals.

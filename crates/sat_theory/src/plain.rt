@@ -1,8 +1,10 @@
 //! The definitions, computed literally: clauses are looked up by linear search, and a set of literals is a list.
 //! It is there to be read, and to test faster checkers against.
-ghost use Rattle.std.specs.Prelude.{◌≡◌, ℕ, ◌-◌, ◌^◌, ◌<◌, ◌↔◌, [], ℤ, IsTrue, IfOk, OnOk, OnErr, IfSome, IfNone, Some, None, All, List};
+ghost use Rattle.std.specs.Prelude.{◌≡◌, ℕ, ◌-◌, ◌^◌, ◌<◌, ◌↔◌, [], ℤ, IsTrue, IfOk, OnOk, OnErr, IfSome, IfNone, Some};
+ghost use Rattle.std.specs.Prelude.{None, All, List};
 ghost use Rattle.std.specs.Option.{option_map};
-ghost use Rattle.sat_theory.specs.Formula.{bits_of, variable, IsWithin, IsTrueClause, literal_value as literal_value_of, opposite as opposite_of};
+ghost use Rattle.sat_theory.specs.Formula.{bits_of, variable, IsWithin, IsTrueClause};
+ghost use Rattle.sat_theory.specs.Formula.{literal_value as literal_value_of, opposite as opposite_of};
 ghost use Rattle.sat_theory.specs.Plain.{live_in, not_listed, Numbered, state_of};
 ghost use Rattle.sat_theory.specs.Line.{Add, Delete};
 ghost use Rattle.sat_theory.specs.State.{start, next, is_listed as is_listed_in};
@@ -208,7 +210,8 @@ impl PlainState {
     /// Adds a clause of the formula or of a line, without checking that it holds.
     pub fn add(&mut self, id: u32, lits: Vec<i32>) -> Result<(), AllocError>
         requires { IsWithin (2 ^ 31 - 1) lits.items }
-        ensures ok { OnOk result ((hints : List ℕ) → state_of self.new ≡ next (state_of self.old) (Add id lits.items hints)) }
+        ensures ok { OnOk result ((hints : List ℕ) →
+            state_of self.new ≡ next (state_of self.old) (Add id lits.items hints)) }
         ensures err { OnErr result (self.new ≡ self.old) }
     {
         self.clauses.insert(0, PlainClause::new(id, lits))?;

@@ -25,5 +25,5 @@ pub record IsInRange (s : ImproveSettings) : Type 0 where
   pub effort_to : s.effort ≤ most_effort
 
 -- the defaults
-abbrev pub usual : ImproveSettings
-usual = record { basis = all_set; method = Ssv; cap = 5; rounds = 1000; conflicts = 100000; observe = false; effort = 0 }
+abbrev pub defaults : ImproveSettings
+defaults = record { basis = all_set; method = Ssv; cap = 5; rounds = 1000; conflicts = 100000; observe = false; effort = 0 }

@@ -18,5 +18,5 @@ pub record IsInRange (s : SynthSettings) : Type 0 where
   pub conflicts_to : s.conflicts ≤ most_conflicts
 
 -- the defaults
-abbrev pub usual : SynthSettings
-usual = record { basis = all_set; method = Ssv; max = most_steps; conflicts = 100000 }
+abbrev pub defaults : SynthSettings
+defaults = record { basis = all_set; method = Ssv; max = most_steps; conflicts = 100000 }

@@ -1,6 +1,6 @@
 //! Settings of netlist improvement.
 ghost use Rattle.std.specs.Prelude.{◌≡◌};
-ghost use Rattle.settings.specs.Improve.{usual, IsInRange};
+ghost use Rattle.settings.specs.Improve.{defaults, IsInRange};
 
 use crate::Method;
 use op_basis::Basis;
@@ -40,8 +40,8 @@ pub struct ImproveSettings {
 impl ImproveSettings {
     /// The defaults: all operators, the method `ssv`, windows of at most 5 gates, 1,000 rounds, a limit of
     /// 100,000 conflicts, no observability don't-cares, and an effort of 0.
-    pub fn usual() -> ImproveSettings
-        ensures value { result ≡ usual }
+    pub fn defaults() -> ImproveSettings
+        ensures value { result ≡ defaults }
         ensures range { IsInRange result }
     {
         ImproveSettings {

@@ -4,7 +4,7 @@
 //! encodes, searches or parses.
 //!
 //! `specs/Synth.antt` and `specs/Improve.antt` define the valid ranges (`IsInRange`) and the defaults
-//! (`usual`); `specs/Methods.antt` names each method. Names and methods correspond one to one
+//! (`defaults`); `specs/Methods.antt` names each method. Names and methods correspond one to one
 //! (`laws::names_are_of_one_method`).
 //!
 //! ```text

@@ -1,6 +1,6 @@
 //! Settings of exact synthesis: the search for a chain with the fewest steps (gates).
 ghost use Rattle.std.specs.Prelude.{◌≡◌};
-ghost use Rattle.settings.specs.Synth.{usual, IsInRange};
+ghost use Rattle.settings.specs.Synth.{defaults, IsInRange};
 
 use crate::methods::Method;
 use chain_theory::MOST_STEPS;
@@ -25,8 +25,8 @@ pub struct SynthSettings {
 
 impl SynthSettings {
     /// The defaults: all operators, the method `ssv`, sizes up to 16, and a limit of 100,000 conflicts.
-    pub fn usual() -> SynthSettings
-        ensures value { result ≡ usual }
+    pub fn defaults() -> SynthSettings
+        ensures value { result ≡ defaults }
         ensures range { IsInRange result }
     {
         SynthSettings {

@@ -1,6 +1,6 @@
 //! The roots of the trees of a kind, and the row of literals of each.
 
-use crate::kind::Kind;
+use crate::kind::TreeKind;
 use rows::{bit_at, put};
 use std::alloc::{AllocError, Global};
 use xag_core::{Context, Xag, XagGate};
@@ -14,7 +14,7 @@ const MOST_STEPS: usize = 400;
 
 /// A root and the literals of its tree, ascending.
 #[derive(Drop)]
-pub struct Row {
+pub struct LiteralRow {
     pub root: u32,
     pub literals: Vec<u32>,
 }
@@ -24,7 +24,7 @@ fn mark_operand(
     roots: &mut [bool],
     xag: &Xag,
     context: &Context,
-    kind: Kind,
+    kind: TreeKind,
     gate: XagGate,
     literal: u32,
 ) {
@@ -45,7 +45,7 @@ fn mark_roots(
     alloc: Global,
     xag: &Xag,
     context: &Context,
-    kind: Kind,
+    kind: TreeKind,
 ) -> Result<Vec<bool>, AllocError> {
     let mut roots = vec![in alloc; false; xag.nodes() as usize]?;
     for sink in xag.sinks() {
@@ -65,7 +65,7 @@ fn mark_roots(
 fn sort_operand(
     xag: &Xag,
     roots: &[bool],
-    kind: Kind,
+    kind: TreeKind,
     literal: u32,
     pending: &mut Vec<u32>,
     literals: &mut Vec<u32>,
@@ -87,7 +87,7 @@ fn tree_literals(
     alloc: Global,
     xag: &Xag,
     roots: &[bool],
-    kind: Kind,
+    kind: TreeKind,
     root: u32,
 ) -> Result<Vec<u32>, AllocError> {
     let mut literals = Vec::new(alloc);
@@ -141,9 +141,9 @@ fn row_of(
     alloc: Global,
     xag: &Xag,
     roots: &[bool],
-    kind: Kind,
+    kind: TreeKind,
     root: u32,
-) -> Result<Row, AllocError> {
+) -> Result<LiteralRow, AllocError> {
     let mut all = tree_literals(alloc, xag, roots, kind, root)?;
     all.sort()?;
     let literals = if kind.is_xor {
@@ -151,11 +151,11 @@ fn row_of(
     } else {
         distinct_ones(alloc, &all)?
     };
-    Ok(Row { root, literals })
+    Ok(LiteralRow { root, literals })
 }
 
 /// The rows of all roots of a kind, in topological order of the roots.
-pub fn rows_of(alloc: Global, xag: &Xag, kind: Kind) -> Result<Vec<Row>, AllocError> {
+pub fn rows_of(alloc: Global, xag: &Xag, kind: TreeKind) -> Result<Vec<LiteralRow>, AllocError> {
     let context = Context::new(alloc, xag)?;
     let roots = mark_roots(alloc, xag, &context, kind)?;
     let mut rows = Vec::new(alloc);

@@ -1,11 +1,11 @@
 //! Extraction of pairs: a pair becomes a gate, and the gate's literal replaces it in each row. Lists say in
 //! which rows each literal occurs; rows that have lost it are skipped.
 
-use crate::collecting::Row;
-use crate::pairs::{Pair, Pairs};
+use crate::collecting::LiteralRow;
+use crate::pairs::{LiteralPair, PairCounts};
 use rows::{Random, at, put};
 use std::alloc::{AllocError, Global};
-use xag_core::{Edit, NONE, XagGate};
+use xag_core::{NONE, Substitution, XagGate};
 
 /// The most pairs that are counted at the start.
 const MOST_PAIRS: usize = 4_000_000;
@@ -15,16 +15,16 @@ const MOST_RANKS: u64 = 1_000_000_000;
 
 /// The rows of each literal: a list that begins at the literal's head.
 #[derive(Drop)]
-pub struct Places {
+pub struct Occurrences {
     heads: Vec<u32>,
     rows: Vec<u32>,
     nexts: Vec<u32>,
 }
 
-impl Places {
+impl Occurrences {
     /// No rows, for literals below `literals`.
-    fn new(alloc: Global, literals: usize) -> Result<Places, AllocError> {
-        Ok(Places {
+    fn new(alloc: Global, literals: usize) -> Result<Occurrences, AllocError> {
+        Ok(Occurrences {
             heads: vec![in alloc; NONE; literals]?,
             rows: Vec::new(alloc),
             nexts: Vec::new(alloc),
@@ -63,7 +63,7 @@ impl Places {
 }
 
 /// Counts the pairs of a row with the literal at `index` first.
-fn count_with(pairs: &mut Pairs, literals: &[u32], index: usize) -> Result<(), AllocError> {
+fn count_with(pairs: &mut PairCounts, literals: &[u32], index: usize) -> Result<(), AllocError> {
     let Some(literal) = literals.get(index) else {
         return Ok(());
     };
@@ -75,24 +75,28 @@ fn count_with(pairs: &mut Pairs, literals: &[u32], index: usize) -> Result<(), A
 
 /// Counts the pairs of a row, and notes where its literals occur.
 fn count_row(
-    pairs: &mut Pairs,
-    places: &mut Places,
+    pairs: &mut PairCounts,
+    occurrences: &mut Occurrences,
     literals: &[u32],
     row: u32,
 ) -> Result<(), AllocError> {
     for (index, literal) in literals.iter().enumerate() {
-        places.note(*literal, row)?;
+        occurrences.note(*literal, row)?;
         count_with(pairs, literals, index)?;
     }
     Ok(())
 }
 
 /// Counts the pairs of all rows, up to `MOST_PAIRS`.
-fn count_all(pairs: &mut Pairs, places: &mut Places, rows: &[Row]) -> Result<(), AllocError> {
+fn count_all(
+    pairs: &mut PairCounts,
+    occurrences: &mut Occurrences,
+    rows: &[LiteralRow],
+) -> Result<(), AllocError> {
     for (row, entry) in rows.iter().enumerate() {
         if pairs.len() < MOST_PAIRS {
             let row = (row as u64 & 0xFFFF_FFFF) as u32;
-            count_row(pairs, places, &entry.literals, row)?;
+            count_row(pairs, occurrences, &entry.literals, row)?;
         }
     }
     Ok(())
@@ -100,7 +104,7 @@ fn count_all(pairs: &mut Pairs, places: &mut Places, rows: &[Row]) -> Result<(),
 
 /// A literal leaves a row or enters it: updates the counts of its pairs with the others.
 fn change_pairs(
-    pairs: &mut Pairs,
+    pairs: &mut PairCounts,
     literals: &[u32],
     literal: u32,
     more: bool,
@@ -113,11 +117,11 @@ fn change_pairs(
 
 /// Replaces both literals of the pair by the gate's literal in a row that has both.
 fn replace_in(
-    pairs: &mut Pairs,
-    places: &mut Places,
+    pairs: &mut PairCounts,
+    occurrences: &mut Occurrences,
     literals: &mut Vec<u32>,
     row: u32,
-    pair: Pair,
+    pair: LiteralPair,
     literal: u32,
 ) -> Result<(), AllocError> {
     if !literals.contains(&pair.low) || !literals.contains(&pair.high) {
@@ -129,23 +133,23 @@ fn replace_in(
     change_pairs(pairs, literals, pair.high, false)?;
     change_pairs(pairs, literals, literal, true)?;
     literals.push(literal)?;
-    places.note(literal, row)
+    occurrences.note(literal, row)
 }
 
 /// Extracts a pair from all rows that have it.
 fn take_out(
     alloc: Global,
-    pairs: &mut Pairs,
-    places: &mut Places,
-    rows: &mut [Row],
-    pair: Pair,
+    pairs: &mut PairCounts,
+    occurrences: &mut Occurrences,
+    rows: &mut [LiteralRow],
+    pair: LiteralPair,
     literal: u32,
 ) -> Result<(), AllocError> {
-    places.extend()?;
-    let having = places.rows_with(alloc, pair.high)?;
+    occurrences.extend()?;
+    let having = occurrences.rows_with(alloc, pair.high)?;
     for row in &having {
         if let Some(entry) = rows.get_mut(*row as usize) {
-            replace_in(pairs, places, &mut entry.literals, *row, pair, literal)?;
+            replace_in(pairs, occurrences, &mut entry.literals, *row, pair, literal)?;
         }
     }
     Ok(())
@@ -154,15 +158,15 @@ fn take_out(
 /// Extracts pairs while some pair occurs in two rows.
 pub fn extract(
     alloc: Global,
-    edit: &mut Edit,
+    substitution: &mut Substitution,
     nodes: u32,
-    rows: &mut [Row],
+    rows: &mut [LiteralRow],
     is_xor: bool,
     random: Option<Random>,
 ) -> Result<(), AllocError> {
-    let mut pairs = Pairs::new(alloc, random);
-    let mut places = Places::new(alloc, 2 * nodes as usize)?;
-    count_all(&mut pairs, &mut places, rows)?;
+    let mut pairs = PairCounts::new(alloc, random);
+    let mut occurrences = Occurrences::new(alloc, 2 * nodes as usize)?;
+    count_all(&mut pairs, &mut occurrences, rows)?;
     for _rank in 0..MOST_RANKS {
         let Some(taken) = pairs.take() else {
             break;
@@ -170,12 +174,12 @@ pub fn extract(
         let Some(pair) = taken else {
             continue;
         };
-        let literal = edit.gate(XagGate {
+        let literal = substitution.gate(XagGate {
             first: pair.low,
             second: pair.high,
             is_xor,
         })?;
-        take_out(alloc, &mut pairs, &mut places, rows, pair, literal)?;
+        take_out(alloc, &mut pairs, &mut occurrences, rows, pair, literal)?;
     }
     Ok(())
 }
@@ -196,14 +200,18 @@ pub fn shuffle(literals: &mut [u32], random: &mut Random) {
 }
 
 /// Makes a chain of gates of what is left of a row, and substitutes it for the root.
-pub fn fold(edit: &mut Edit, row: &Row, is_xor: bool) -> Result<(), AllocError> {
+pub fn fold(
+    substitution: &mut Substitution,
+    row: &LiteralRow,
+    is_xor: bool,
+) -> Result<(), AllocError> {
     let mut joined = at(&row.literals, 0);
     for literal in row.literals.iter().skip(1) {
-        joined = edit.gate(XagGate {
+        joined = substitution.gate(XagGate {
             first: joined,
             second: *literal,
             is_xor,
         })?;
     }
-    edit.redirect(row.root, joined)
+    substitution.substitute(row.root, joined)
 }

@@ -16,6 +16,6 @@ mod collecting;
 mod extraction;
 mod kind;
 mod pairs;
-mod passes;
+mod sharing;
 
-pub use passes::share;
+pub use sharing::share;

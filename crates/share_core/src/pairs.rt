@@ -11,24 +11,24 @@ const MOST: u64 = 0x3FF_FFFF;
 
 /// Two literals, the lower first.
 #[derive(Clone, Copy, PartialEq, Eq, Hash)]
-pub struct Pair {
+pub struct LiteralPair {
     pub low: u32,
     pub high: u32,
 }
 
 /// The pairs in the order in which they were met, the number of rows with each, and the heap.
 #[derive(Drop)]
-pub struct Pairs {
-    met: IndexSet<Pair>,
+pub struct PairCounts {
+    met: IndexSet<LiteralPair>,
     counts: Vec<u32>,
     heap: BinaryHeap<u64>,
     random: Option<Random>,
 }
 
-impl Pairs {
+impl PairCounts {
     /// No pairs. With `random`, ties are broken at random.
-    pub fn new(alloc: Global, random: Option<Random>) -> Pairs {
-        Pairs {
+    pub fn new(alloc: Global, random: Option<Random>) -> PairCounts {
+        PairCounts {
             met: IndexSet::new(alloc),
             counts: Vec::new(alloc),
             heap: BinaryHeap::new(alloc),
@@ -60,7 +60,7 @@ impl Pairs {
 
     /// One more row, or one row less, has both literals.
     pub fn change(&mut self, a: u32, b: u32, more: bool) -> Result<(), AllocError> {
-        let pair = Pair {
+        let pair = LiteralPair {
             low: a.min(b),
             high: a.max(b),
         };
@@ -85,7 +85,7 @@ impl Pairs {
     }
 
     /// Pops the top rank. Returns its pair if the rank is up to date, and None if the heap is empty.
-    pub fn take(&mut self) -> Option<Option<Pair>> {
+    pub fn take(&mut self) -> Option<Option<LiteralPair>> {
         let rank = self.heap.pop()?;
         let index = (MOST - (rank & MOST)) as u32;
         let count = at(&self.counts, index);

@@ -2,7 +2,7 @@
 use Rattle.std.specs.Prelude.{ℕ, ◌+◌, if◌then◌else◌, Option, Some, None}
 use Rattle.chain_theory.specs.Chain.{Chain}
 use Rattle.cert_theory.specs.declared.data.Verdict.{Verdict}
-use Rattle.cert_theory.specs.Bundle.{Section, is_open}
+use Rattle.cert_theory.specs.Certificate.{Section, is_open}
 use Rattle.size_loop.specs.declared.advancing.Advance.{Advance}
 use Rattle.size_loop.specs.declared.advancing.Advance.TheVariants as advances
 use Rattle.size_loop.specs.State.{State}
@@ -13,8 +13,8 @@ open_with (Some low) section = Some low
 open_with None section = if is_open section then Some section.size else None
 
 -- the search after a section of the next size
-abbrev pub behind : State → Section → State
-behind s section = record s { next = s.next + 1; low = open_with s.low section }
+abbrev pub after_section : State → Section → State
+after_section s section = record s { next = s.next + 1; low = open_with s.low section }
 
 -- a property of the section and of the search that goes on after it
 abbrev pub IfSection : Advance → (State → Section → Type 0) → Type 0

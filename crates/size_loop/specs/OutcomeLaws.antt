@@ -6,43 +6,48 @@ use Rattle.std.proofs.lemmas.List.Elements.{All-nil, All-push}
 use Rattle.chain_theory.specs.Chain.{Chain}
 use Rattle.tt_core.specs.Words.{specification}
 use Rattle.op_basis.specs.Basis.{members}
-use Rattle.step_core.specs.Short.{IsAnswer}
-use Rattle.enc_theory.specs.declared.part.Part.{Part}
-use Rattle.cert_theory.specs.declared.data.Heading.{Heading}
-use Rattle.cert_theory.specs.Bundle.{PartLog, IsPartLog, part_of, IsFound, IsEnding, found as found_at}
-use Rattle.cert_theory.specs.Thrift.{IsThriftyLog}
-use Rattle.size_loop.specs.Outcomes.{AreLogged, IsWalked, HasSize}
+use Rattle.step_core.specs.LeastChains.{IsLeastAnswer}
+use Rattle.enc_theory.specs.declared.subproblem.Subproblem.{Subproblem}
+use Rattle.cert_theory.specs.declared.data.Header.{Header}
+use Rattle.cert_theory.specs.Certificate.{SubproblemLog, IsSubproblemLog, subproblem_of, IsFound, IsTrailer, found as found_at}
+use Rattle.cert_theory.specs.LiveBounds.{HasLiveBounds}
+use Rattle.size_loop.specs.Outcomes.{AreLogged, IsEnumerated, HasSize}
 
 -- without subproblems there are no logs
-pub logged_none : (h : Heading) (size : ℕ) → AreLogged h size [] []
-logged_none h size = record { parts_are = refl; ends = All-nil (IsPartLog h size); thrifty = All-nil (IsThriftyLog h size) }
+pub logged_none : (h : Header) (size : ℕ) → AreLogged h size [] []
+logged_none h size = record { subproblems_are = refl; ends = All-nil (IsSubproblemLog h size); live_bounds = All-nil (HasLiveBounds h size) }
 
-parts_more : (parts : List Part) (logs : List PartLog) (part : Part) (p : PartLog) → map part_of logs ≡ parts → p.part ≡ part → map part_of (logs ++ p ∷ []) ≡ parts ++ part ∷ []
-parts_more parts logs part p are same =
-    map-append part_of logs (p ∷ [])
-    ∙ ap (λ (xs : List Part). xs ++ p.part ∷ []) are
-    ∙ ap (λ (x : Part). parts ++ x ∷ []) same
+subproblems_more : (subproblems : List Subproblem) (logs : List SubproblemLog) (subproblem : Subproblem)
+    (p : SubproblemLog) → map subproblem_of logs ≡ subproblems → p.subproblem ≡ subproblem →
+    map subproblem_of (logs ++ p ∷ []) ≡ subproblems ++ subproblem ∷ []
+subproblems_more subproblems logs subproblem p are same =
+    map-append subproblem_of logs (p ∷ [])
+    ∙ ap (λ (xs : List Subproblem). xs ++ p.subproblem ∷ []) are
+    ∙ ap (λ (x : Subproblem). subproblems ++ x ∷ []) same
 
 -- one more subproblem with its log
-pub logged_more : (h : Heading) (size : ℕ) (parts : List Part) (logs : List PartLog) (part : Part) (p : PartLog) → AreLogged h size parts logs → p.part ≡ part → IsPartLog h size p → IsThriftyLog h size p → AreLogged h size (parts ++ part ∷ []) (logs ++ p ∷ [])
-logged_more h size parts logs part p are same is thrifty = record {
-  parts_are = parts_more parts logs part p are.parts_are same;
-  ends = All-push (IsPartLog h size) logs p are.ends is;
-  thrifty = All-push (IsThriftyLog h size) logs p are.thrifty thrifty;
+pub logged_more : (h : Header) (size : ℕ) (subproblems : List Subproblem) (logs : List SubproblemLog)
+    (subproblem : Subproblem) (p : SubproblemLog) → AreLogged h size subproblems logs → p.subproblem ≡ subproblem →
+    IsSubproblemLog h size p → HasLiveBounds h size p → AreLogged h size (subproblems ++ subproblem ∷ []) (logs ++
+    p ∷ [])
+logged_more h size subproblems logs subproblem p are same is live_bounds = record {
+  subproblems_are = subproblems_more subproblems logs subproblem p are.subproblems_are same;
+  ends = All-push (IsSubproblemLog h size) logs p are.ends is;
+  live_bounds = All-push (HasLiveBounds h size) logs p are.live_bounds live_bounds;
 }
 
 -- the result of an enumeration is kept
-pub walked_few : (h : Heading) (most : ℕ) (found : Option Chain) → IsAnswer (specification h.spec) (members h.basis) most found → most ≤ h.max → IsWalked h found
-walked_few h most None answer room = tt
-walked_few h most (Some c) short room = record { chain = short.small.chain; size_is = refl; size_to = omega (arith, short.few, room); over = short.over; agrees = short.agrees }
+pub enumerated_few : (h : Header) (most : ℕ) (found : Option Chain) → IsLeastAnswer (specification h.spec) (members h.basis) most found → most ≤ h.max → IsEnumerated h found
+enumerated_few h most None answer room = tt
+enumerated_few h most (Some c) short room = record { chain = short.small.chain; size_is = refl; size_to = omega (arith, short.few, room); over = short.over; agrees = short.agrees }
 
 -- its size is the number of its steps
-pub walked_found : (h : Heading) (size : ℕ) (c : Chain) → IsFound h (length c.steps) c → length c.steps ≡ size → IsFound h size c
-walked_found h size c is count = subst (λ (n : ℕ). IsFound h n c) count is
+pub enumerated_found : (h : Header) (size : ℕ) (c : Chain) → IsFound h (length c.steps) c → length c.steps ≡ size → IsFound h size c
+enumerated_found h size c is count = subst (λ (n : ℕ). IsFound h n c) count is
 
 -- and it ends the search at that size
-pub walked_ending : (h : Heading) (next : ℕ) (low : Option ℕ) (found : Option Chain) → IsWalked h found → HasSize next found → IsEnding h next low found (found_at next low)
-walked_ending h next low None is has = absurd has
-walked_ending h next low (Some c) is has = (walked_found h next c is has, refl)
+pub enumerated_ending : (h : Header) (next : ℕ) (low : Option ℕ) (found : Option Chain) → IsEnumerated h found → HasSize next found → IsTrailer h next low found (found_at next low)
+enumerated_ending h next low None is has = absurd has
+enumerated_ending h next low (Some c) is has = (enumerated_found h next c is has, refl)
 
-pub ruleset walking = (common_steps, walked_few, walked_found, walked_ending)
+pub ruleset enumerating = (common_steps, enumerated_few, enumerated_found, enumerated_ending)

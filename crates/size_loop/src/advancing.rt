@@ -3,14 +3,14 @@
 //! Before the first size it enumerates chains of few steps once, and keeps the shortest one until its size comes.
 ghost use Rattle.std.specs.Prelude.{◌≡◌, ◌≤◌, None, IsTrue, IfOk};
 ghost use Rattle.settings.specs.Synth.{IsInRange};
-ghost use Rattle.cert_theory.specs.Bundle.{IsHeading, IsSection, IsEnding};
-ghost use Rattle.size_loop.specs.Advancing.{IfSection, IfEnded, behind, open_with};
-ghost use Rattle.cert_theory.specs.Thrift.{IsThriftySection};
+ghost use Rattle.cert_theory.specs.Certificate.{IsHeader, IsSection, IsTrailer};
+ghost use Rattle.size_loop.specs.Advancing.{IfSection, IfEnded, after_section, open_with};
+ghost use Rattle.cert_theory.specs.LiveBounds.{HasLiveBoundsIn};
 ghost use Rattle.size_loop.specs.State.{IsState};
-ghost use Rattle.size_loop.specs.Outcomes.{IsWalked, HasSize};
+ghost use Rattle.size_loop.specs.Outcomes.{IsEnumerated, HasSize};
 
-use crate::sizes::{SizeOutcome, search_formulas, walked};
-use cert_theory::{Heading, Section, Verdict};
+use crate::sizes::{SizeOutcome, enumerated, search_formulas};
+use cert_theory::{Header, Section, Verdict};
 use chain_core::Chain;
 use op_basis::Basis;
 use sat_solve::Solver;
@@ -21,23 +21,24 @@ use tt_core::Spec;
 
 /// A search in progress: the sizes below `next` are done, and `low` is the first open one among them.
 #[derive(Drop)]
-pub struct Search {
-    heading: Heading,
+pub struct SizeSearch {
+    header: Header,
     next: u32,
     low: Option<u32>,
     // the chain found by enumeration before the first size, if any
-    walked: Option<Chain>,
+    enumerated: Option<Chain>,
 }
 
-impl Model for Search {
+impl Model for SizeSearch {
     ghost use Rattle.size_loop.specs.State.{State, IsState};
-    ghost use Rattle.size_loop.specs.Outcomes.{IsWalked};
+    ghost use Rattle.size_loop.specs.Outcomes.{IsEnumerated};
 
     ghost Value = { State };
 
-    ghost view = { λ s. record { heading = s.heading; next = s.next; low = s.low } };
+    ghost view = { λ s. record { header = s.header; next = s.next; low = s.low } };
 
-    ghost invariant = { λ s. IsState (record { heading = s.heading; next = s.next; low = s.low }) × IsWalked s.heading s.walked };
+    ghost invariant = { λ s. IsState (record { header = s.header; next = s.next; low = s.low }) ×
+        IsEnumerated s.header s.enumerated };
 }
 
 /// The result of the next size.
@@ -45,7 +46,7 @@ impl Model for Search {
 pub enum Advance {
     /// No chain was found: the logs of its subproblems, and the search that goes on after it.
     Section {
-        rest: Search,
+        rest: SizeSearch,
         section: Section,
     },
     /// The search ends with a chain of that size or, after the greatest size, without one.
@@ -55,14 +56,20 @@ pub enum Advance {
     },
 }
 
-#[tactic(auto, using(crate::specs::OutcomeLaws::walking))]
-impl Search {
+#[tactic(auto, using(crate::specs::OutcomeLaws::enumerating))]
+impl SizeSearch {
     /// A search for a chain over the basis that implements the tables, from size 0 on. `max` is the greatest size.
     /// A formula is left open once the solver has learnt at least `budget` clauses of it. The basis isn't empty,
     /// and `max` and `budget` are in the ranges of `settings`.
-    pub fn new(spec: Spec, basis: Basis, method: Method, max: u32, budget: u32) -> Search
-        requires asked { IsInRange (record { basis = basis; method = method; max = max; conflicts = budget }) }
-        ensures heading { result.heading ≡ record { spec = spec; basis = basis; method = method; conflicts = budget; max = max } }
+    pub fn new(spec: Spec, basis: Basis, method: Method, max: u32, budget: u32) -> SizeSearch
+        requires settings { IsInRange (record { basis = basis; method = method; max = max; conflicts = budget }) }
+        ensures header { result.header ≡ record {
+          spec = spec;
+          basis = basis;
+          method = method;
+          conflicts = budget;
+          max = max;
+        } }
         ensures next { result.next ≡ 0 }
         ensures low { result.low ≡ None }
         ensures whole { IsState result }
@@ -70,8 +77,8 @@ impl Search {
         // for the prover: bring in the type invariants
         let _inputs = spec.n();
         let _operators = basis.get();
-        Search {
-            heading: Heading {
+        SizeSearch {
+            header: Header {
                 spec,
                 basis,
                 method,
@@ -80,48 +87,51 @@ impl Search {
             },
             next: 0,
             low: None,
-            walked: None,
+            enumerated: None,
         }
     }
 
     /// Searches the next size with the solver `S`.
     pub fn advance<S: Solver>(self, alloc: Global) -> Result<Advance, AllocError>
-        ensures within { IfOk result (λ step. IfSection step (λ rest section. self.next ≤ self.heading.max)) }
-        ensures section { IfOk result (λ step. IfSection step (λ rest section. IsSection self.heading self.next section)) }
-        ensures thrifty { IfOk result (λ step. IfSection step (λ rest section. IsThriftySection self.heading section)) }
-        ensures rest { IfOk result (λ step. IfSection step (λ rest section. rest ≡ behind self section)) }
-        ensures ending { IfOk result (λ step. IfEnded step (λ chain verdict. IsEnding self.heading self.next self.low chain verdict)) }
+        ensures within { IfOk result (λ step. IfSection step (λ rest section. self.next ≤ self.header.max)) }
+        ensures section { IfOk result (λ step. IfSection step (λ rest section.
+            IsSection self.header self.next section)) }
+        ensures live_bounds { IfOk result (λ step.
+            IfSection step (λ rest section. HasLiveBoundsIn self.header section)) }
+        ensures rest { IfOk result (λ step. IfSection step (λ rest section. rest ≡ after_section self section)) }
+        ensures trailer { IfOk result (λ step. IfEnded step (λ chain verdict.
+            IsTrailer self.header self.next self.low chain verdict)) }
     {
-        let Search {
-            heading,
+        let SizeSearch {
+            header,
             next,
             low,
-            walked,
+            enumerated,
         } = self;
-        if next > heading.max {
+        if next > header.max {
             return Ok(Advance::Ended {
                 chain: None,
-                verdict: Verdict::not_found(heading.max, low),
+                verdict: Verdict::not_found(header.max, low),
             });
         }
-        let walked = walked_from(alloc, &heading, next, walked)?;
-        if has_size(&walked, next) {
+        let enumerated = enumerated_from(alloc, &header, next, enumerated)?;
+        if has_size(&enumerated, next) {
             return Ok(Advance::Ended {
-                chain: walked,
+                chain: enumerated,
                 verdict: Verdict::found(next, low),
             });
         }
-        match search_formulas::<S>(alloc, &heading, next)? {
+        match search_formulas::<S>(alloc, &header, next)? {
             SizeOutcome::Found(chain) => Ok(Advance::Ended {
                 chain: Some(chain),
                 verdict: Verdict::found(next, low),
             }),
             SizeOutcome::Logged(section) => {
-                let rest = Search {
-                    heading,
+                let rest = SizeSearch {
+                    header,
                     next: next + 1,
                     low: first_open(low, &section),
-                    walked,
+                    enumerated,
                 };
                 Ok(Advance::Section { rest, section })
             }
@@ -130,20 +140,20 @@ impl Search {
 }
 
 /// The chain of few steps: enumerated before the first size, and kept afterwards.
-fn walked_from(
+fn enumerated_from(
     alloc: Global,
-    heading: &Heading,
+    header: &Header,
     next: u32,
     before: Option<Chain>,
 ) -> Result<Option<Chain>, AllocError>
-    requires heading { IsHeading heading.now }
-    requires before { IsWalked heading.now before }
-    ensures { IfOk result (λ found. IsWalked heading.now found) }
+    requires header { IsHeader header.now }
+    requires before { IsEnumerated header.now before }
+    ensures { IfOk result (λ found. IsEnumerated header.now found) }
 {
     if next > 0 {
         return Ok(before);
     }
-    walked(alloc, heading, heading.max)
+    enumerated(alloc, header, header.max)
 }
 
 /// Whether there is a chain and it has `size` steps.

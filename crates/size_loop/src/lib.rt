@@ -23,7 +23,7 @@ mod searching;
 mod sizes;
 mod trying;
 
-pub use advancing::{Advance, Search};
+pub use advancing::{Advance, SizeSearch};
 pub use searching::search;
 pub use sizes::{SizeOutcome, search_size};
-pub use trying::{PartOutcome, try_part};
+pub use trying::{SubproblemOutcome, try_subproblem};

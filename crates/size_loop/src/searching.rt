@@ -2,11 +2,11 @@
 //! sections so far are those of all sizes below the next one; with the trailer they are a valid certificate.
 ghost use Rattle.std.specs.Prelude.{◌≡◌, IfOk};
 ghost use Rattle.settings.specs.Synth.{IsInRange};
-ghost use Rattle.cert_theory.specs.Bundle.{IsValid};
-ghost use Rattle.cert_theory.specs.Thrift.{AreThrifty};
+ghost use Rattle.cert_theory.specs.Certificate.{IsValid};
+ghost use Rattle.cert_theory.specs.LiveBounds.{HaveLiveBounds};
 
-use crate::advancing::{Advance, Search};
-use cert_theory::{Bundle, Heading};
+use crate::advancing::{Advance, SizeSearch};
+use cert_theory::{Certificate, Header};
 use op_basis::Basis;
 use sat_solve::Solver;
 use settings::Method;
@@ -25,13 +25,19 @@ pub fn search<S: Solver>(
     method: Method,
     max: u32,
     budget: u32,
-) -> Result<Bundle, AllocError>
-    requires asked { IsInRange (record { basis = basis; method = method; max = max; conflicts = budget }) }
-    ensures heading { IfOk result (λ b. b.heading ≡ record { spec = spec.now; basis = basis; method = method; conflicts = budget; max = max }) }
+) -> Result<Certificate, AllocError>
+    requires settings { IsInRange (record { basis = basis; method = method; max = max; conflicts = budget }) }
+    ensures header { IfOk result (λ b. b.header ≡ record {
+      spec = spec.now;
+      basis = basis;
+      method = method;
+      conflicts = budget;
+      max = max;
+    }) }
     ensures valid { IfOk result (λ b. IsValid b) }
-    ensures thrifty { IfOk result (λ b. AreThrifty b.heading b.sections) }
+    ensures live_bounds { IfOk result (λ b. HaveLiveBounds b.header b.sections) }
 {
-    let mut search = Search::new(copied(alloc, spec)?, basis, method, max, budget);
+    let mut search = SizeSearch::new(copied(alloc, spec)?, basis, method, max, budget);
     let mut sections = Vec::new(alloc);
     loop {
         match search.advance::<S>(alloc)? {
@@ -40,15 +46,15 @@ pub fn search<S: Solver>(
                 search = rest;
             }
             Advance::Ended { chain, verdict } => {
-                let heading = Heading {
+                let header = Header {
                     spec: copied(alloc, spec)?,
                     basis,
                     method,
                     conflicts: budget,
                     max,
                 };
-                return Ok(Bundle {
-                    heading,
+                return Ok(Certificate {
+                    header,
                     sections,
                     chain,
                     verdict,

@@ -1,56 +1,64 @@
 //! One subproblem of a size: its formula is encoded and given to the solver. An assignment is decoded to a chain;
 //! the log has what the solver promises of it, over the same formula.
 ghost use Rattle.std.specs.Prelude.{◌≤◌, IfOk, Contains};
-ghost use Rattle.cert_theory.specs.Bundle.{IsHeading};
+ghost use Rattle.cert_theory.specs.Certificate.{IsHeader};
 ghost use Rattle.cert_theory.specs.Coding.{coding_of};
 ghost use Rattle.size_loop.specs.Outcomes.{IsTried};
 ghost use Rattle.size_loop.specs.Coded.{IsCodedBy};
 
-use cert_theory::{Ended, Heading, PartLog};
+use cert_theory::{Ended, Header, SubproblemLog};
 use chain_core::Chain;
 use enc_frame::Encoding;
-use enc_theory::Part;
+use enc_theory::Subproblem;
 use sat_solve::{Solved, Solver};
 use std::alloc::{AllocError, Global};
 
 /// The result of a subproblem.
 #[derive(Drop)]
-pub enum PartOutcome {
+pub enum SubproblemOutcome {
     /// A chain of the size.
     Found(Chain),
     /// A log that refutes the subproblem, or has spent the budget on it.
-    Logged(PartLog),
+    Logged(SubproblemLog),
 }
 
-/// Searches the subproblem `part` of `size` with the solver `S`.
-pub fn try_part<S: Solver, E: Encoding>(
+/// Searches the subproblem `subproblem` of `size` with the solver `S`.
+pub fn try_subproblem<S: Solver, E: Encoding>(
     alloc: Global,
     encoding: &E,
-    heading: &Heading,
+    header: &Header,
     size: u32,
-    part: Part,
-) -> Result<PartOutcome, AllocError>
-    requires heading { IsHeading heading.now }
-    requires coding { IsCodedBy (coding_of heading.now.method) (E.parts_of encoding.now) (E.formula_of encoding.now) }
-    requires size { size ≤ heading.now.max }
-    requires part { Contains (E.parts_of encoding.now heading.now.spec size) part }
-    ensures { IfOk result (λ outcome. IsTried heading.now size part outcome) }
+    subproblem: Subproblem,
+) -> Result<SubproblemOutcome, AllocError>
+    requires header { IsHeader header.now }
+    requires coding { IsCodedBy (coding_of header.now.method) (E.subproblems_of encoding.now)
+        (E.formula_of encoding.now) }
+    requires size { size ≤ header.now.max }
+    requires subproblem { Contains (E.subproblems_of encoding.now header.now.spec size) subproblem }
+    ensures { IfOk result (λ outcome. IsTried header.now size subproblem outcome) }
 {
-    let cnf = encoding.formula(alloc, &heading.spec, heading.basis, size, &part)?;
-    match S::solve(alloc, &cnf, heading.conflicts)? {
+    let cnf = encoding.formula(alloc, &header.spec, header.basis, size, &subproblem)?;
+    match S::solve(alloc, &cnf, header.conflicts)? {
         Solved::Sat(assign) => {
-            let chain = encoding.decode(alloc, &heading.spec, heading.basis, size, &part, &assign)?;
+            let chain = encoding.decode(
+                alloc,
+                &header.spec,
+                header.basis,
+                size,
+                &subproblem,
+                &assign,
+            )?;
             // for the prover: brings in the type invariant
             let _steps = chain.steps();
-            Ok(PartOutcome::Found(chain))
+            Ok(SubproblemOutcome::Found(chain))
         }
-        Solved::Unsat(log) => Ok(PartOutcome::Logged(PartLog {
-            part,
+        Solved::Unsat(log) => Ok(SubproblemOutcome::Logged(SubproblemLog {
+            subproblem,
             ended: Ended::Refuted,
             log,
         })),
-        Solved::Open(log) => Ok(PartOutcome::Logged(PartLog {
-            part,
+        Solved::Open(log) => Ok(SubproblemOutcome::Logged(SubproblemLog {
+            subproblem,
             ended: Ended::Open,
             log,
         })),

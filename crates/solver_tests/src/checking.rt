@@ -95,10 +95,10 @@ const FAULTS: &[(&[u8], CheckError)] = &[
 ];
 
 #[test]
-fn faults_are_told(rt: HostRuntime) -> Result<(), AllocError> {
+fn faults_are_reported(rt: HostRuntime) -> Result<(), AllocError> {
     for &(text, fault) in FAULTS {
-        let told = is_answer(rt.alloc(), text, Err(fault))?;
-        assert!(rt; told, "{text:?}");
+        let reported = is_answer(rt.alloc(), text, Err(fault))?;
+        assert!(rt; reported, "{text:?}");
     }
     Ok(())
 }
@@ -165,7 +165,7 @@ fn is_refuted(
     clauses: &[&[u8]],
 ) -> Result<bool, AllocError> {
     let checker = checker(alloc, indexed, vars, clauses)?;
-    Ok(checker.refuted() && !checker.is_new(&[]))
+    Ok(checker.refuted() && !checker.is_unsubsumed(&[]))
 }
 
 #[test]
@@ -176,15 +176,15 @@ fn formulas_have_the_empty_clause(rt: HostRuntime) -> Result<(), AllocError> {
         (false, [].as_slice(), false),
         (true, [b"1 1 0 0" as &[u8]].as_slice(), false),
     ] {
-        let told = is_refuted(rt.alloc(), indexed, 2, clauses)?;
-        assert!(rt; told == refuted, "{indexed} {refuted}");
+        let reported = is_refuted(rt.alloc(), indexed, 2, clauses)?;
+        assert!(rt; reported == refuted, "{indexed} {refuted}");
     }
     Ok(())
 }
 
 /// Whether clauses are unsubsumed in a checker as the rows say.
 fn are_so_new(alloc: Global, checker: &Checker, rows: &[(&[u8], bool)]) -> bool {
-    rows.iter().all(|(text, new)| checker.is_new(clause(alloc, text).lits()) == *new)
+    rows.iter().all(|(text, new)| checker.is_unsubsumed(clause(alloc, text).lits()) == *new)
 }
 
 /// Clauses, and whether they are unsubsumed by `1 2` and `-1 3`.

@@ -47,10 +47,10 @@ fn is_empty(alloc: Global) -> Result<bool, AllocError> {
 }
 
 #[test]
-fn assignments_satisfy_and_empty_clauses_are_told(rt: HostRuntime) {
+fn assignments_satisfy_and_empty_clauses_are_reported(rt: HostRuntime) {
     let judged = matches!(are_judged(rt.alloc()), Ok(true));
-    let told = matches!(is_empty(rt.alloc()), Ok(true));
-    assert!(rt; judged && told);
+    let reported = matches!(is_empty(rt.alloc()), Ok(true));
+    assert!(rt; judged && reported);
 }
 
 /// DIMACS numbers of literals, each with its variable, whether it is positive, and its table index.
@@ -62,20 +62,20 @@ const LITERALS: &[(i32, u32, bool, usize)] = &[
 ];
 
 /// Whether the literal of a number has these properties.
-fn tells(number: i32, variable: u32, positive: bool, place: usize) -> bool {
+fn reports(number: i32, variable: u32, positive: bool, place: usize) -> bool {
     if number == 0 || number == i32::MIN {
         return false;
     }
     let lit = Lit::new(number);
     let other = lit.opposite();
-    let told = lit.get() == number && lit.variable() == variable && lit.code() == place;
+    let reported = lit.get() == number && lit.variable() == variable && lit.code() == place;
     let signs = lit.is_positive() == positive && other.is_positive() != positive;
-    told && signs && other.opposite() == lit
+    reported && signs && other.opposite() == lit
 }
 
 #[test]
 fn literals_have_opposites_and_numbers(rt: HostRuntime) {
     for &(number, variable, positive, place) in LITERALS {
-        assert!(rt; tells(number, variable, positive, place), "{number}");
+        assert!(rt; reports(number, variable, positive, place), "{number}");
     }
 }

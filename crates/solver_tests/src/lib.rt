@@ -2,6 +2,8 @@
 //! parts of the solver, and the solver on formulas of increasing difficulty, with each of its logs checked.
 #![tactic(auto)]
 
+#[cfg(test)]
+mod assuming;
 pub mod building;
 #[cfg(test)]
 mod checking;
@@ -17,8 +19,6 @@ mod lines;
 mod pigeons;
 #[cfg(test)]
 mod plain;
-#[cfg(test)]
-mod probing;
 #[cfg(test)]
 mod solving;
 #[cfg(test)]

@@ -85,9 +85,9 @@ const FAULTS: &[(&[u8], LineError)] = &[
 ];
 
 #[test]
-fn faults_are_told_from_the_left(rt: HostRuntime) {
+fn faults_are_reported_from_the_left(rt: HostRuntime) {
     for &(text, error) in FAULTS {
-        let told = fault_of(rt.alloc(), text);
-        assert!(rt; told == Some(error), "{text:?}");
+        let reported = fault_of(rt.alloc(), text);
+        assert!(rt; reported == Some(error), "{text:?}");
     }
 }

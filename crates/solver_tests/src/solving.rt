@@ -72,7 +72,7 @@ fn count_lines(alloc: Global, checker: &mut Checker, log: &Log) -> Result<Counts
 
 /// The expected answer to a pigeonhole formula.
 #[derive(Clone, Copy)]
-struct Told {
+struct ExpectedPigeons {
     holes: u32,
     budget: u32,
     /// None: either answer is right
@@ -83,14 +83,14 @@ struct Told {
 
 /// An expected answer.
 #[derive(Clone, Copy)]
-enum Wanted {
+enum Expected {
     /// These bits satisfy the formula.
     Bits(&'static [bool]),
     /// A log refutes it, with this number of lines, if given.
     Refuted(Option<usize>),
     /// The formula is undecided, and the log has one line, which begins like this.
     Learnt(&'static [u8]),
-    Pigeons(Told),
+    Pigeons(ExpectedPigeons),
 }
 
 /// Whether these bits are the answer.
@@ -143,17 +143,17 @@ fn is_thrifty(counts: Counts, holes: u32, refuted: bool) -> bool {
 }
 
 /// Whether the counts of a log are as expected of a pigeonhole formula.
-fn fits(counts: Counts, refuted: bool, wanted: Told) -> bool {
-    let end = match wanted.refuted {
+fn fits(counts: Counts, refuted: bool, expected: ExpectedPigeons) -> bool {
+    let end = match expected.refuted {
         Some(end) => end == refuted,
         None => true,
     };
-    let added = match wanted.added {
+    let added = match expected.added {
         Some(added) => counts.added == added,
         None => true,
     };
-    let enough = refuted || counts.added >= u64::from(wanted.budget);
-    end && added && enough && counts.refused == 0 && is_thrifty(counts, wanted.holes, refuted)
+    let enough = refuted || counts.added >= u64::from(expected.budget);
+    end && added && enough && counts.refused == 0 && is_thrifty(counts, expected.holes, refuted)
 }
 
 /// Whether the log of a pigeonhole formula is as expected.
@@ -162,38 +162,38 @@ fn is_right(
     checker: &mut Checker,
     log: &Log,
     refuted: bool,
-    wanted: Told,
+    expected: ExpectedPigeons,
 ) -> Result<bool, AllocError> {
     let counts = count_lines(alloc, checker, log)?;
-    Ok(checker.refuted() == refuted && fits(counts, refuted, wanted))
+    Ok(checker.refuted() == refuted && fits(counts, refuted, expected))
 }
 
 /// Whether the answer to a pigeonhole formula is as expected.
-fn is_told(
+fn is_expected_pigeons(
     alloc: Global,
     checker: &mut Checker,
     solved: &Solved,
-    wanted: Told,
+    expected: ExpectedPigeons,
 ) -> Result<bool, AllocError> {
     match solved {
         Solved::Sat(_) => Ok(false),
-        Solved::Unsat(log) => is_right(alloc, checker, log, true, wanted),
-        Solved::Open(log) => is_right(alloc, checker, log, false, wanted),
+        Solved::Unsat(log) => is_right(alloc, checker, log, true, expected),
+        Solved::Open(log) => is_right(alloc, checker, log, false, expected),
     }
 }
 
 /// Whether an answer is as expected, and this checker accepts its log.
-fn is_wanted(
+fn is_expected(
     alloc: Global,
     checker: &mut Checker,
     solved: &Solved,
-    wanted: &Wanted,
+    expected: &Expected,
 ) -> Result<bool, AllocError> {
-    match wanted {
-        Wanted::Bits(bits) => Ok(has_bits(solved, bits)),
-        Wanted::Refuted(lines) => is_refuted(alloc, checker, solved, *lines),
-        Wanted::Learnt(begin) => is_learnt(alloc, solved, begin),
-        Wanted::Pigeons(pigeons) => is_told(alloc, checker, solved, *pigeons),
+    match expected {
+        Expected::Bits(bits) => Ok(has_bits(solved, bits)),
+        Expected::Refuted(lines) => is_refuted(alloc, checker, solved, *lines),
+        Expected::Learnt(begin) => is_learnt(alloc, solved, begin),
+        Expected::Pigeons(pigeons) => is_expected_pigeons(alloc, checker, solved, *pigeons),
     }
 }
 
@@ -202,10 +202,10 @@ fn is_checked(
     alloc: Global,
     cnf: Cnf,
     solved: &Solved,
-    wanted: &Wanted,
+    expected: &Expected,
 ) -> Result<bool, AllocError> {
     let mut checker = Checker::new(alloc, cnf)?;
-    let well = is_wanted(alloc, &mut checker, solved, wanted);
+    let well = is_expected(alloc, &mut checker, solved, expected);
     drop(checker);
     well
 }
@@ -219,12 +219,17 @@ fn answer(alloc: Global, cnf: &Cnf, budget: u32) -> Result<Solved, AllocError> {
 }
 
 /// Whether a formula has the expected answer within a budget.
-fn is_answered(alloc: Global, cnf: Cnf, budget: u32, wanted: &Wanted) -> Result<bool, AllocError> {
+fn is_answered(
+    alloc: Global,
+    cnf: Cnf,
+    budget: u32,
+    expected: &Expected,
+) -> Result<bool, AllocError> {
     let Ok(solved) = answer(alloc, &cnf, budget) else {
         drop(cnf);
         return Err(AllocError);
     };
-    let well = is_checked(alloc, cnf, &solved, wanted);
+    let well = is_checked(alloc, cnf, &solved, expected);
     drop(solved);
     well
 }
@@ -286,48 +291,53 @@ const NOT_SHORTENED: &[&[u8]] = &[
 ];
 
 /// Formulas, each with its name, its number of variables, its clauses, and its answer within a budget of one.
-const FORMULAS: &[(&str, u32, &[&[u8]], Wanted)] = &[
+const FORMULAS: &[(&str, u32, &[&[u8]], Expected)] = &[
     (
         "satisfied",
         2,
         &[b"1 1 2 0 0", b"2 -1 0 0"],
-        Wanted::Bits(&[false, true]),
+        Expected::Bits(&[false, true]),
     ),
-    ("no variable", 0, &[], Wanted::Bits(&[])),
-    ("no clause", 2, &[], Wanted::Bits(&[true, true])),
+    ("no variable", 0, &[], Expected::Bits(&[])),
+    ("no clause", 2, &[], Expected::Bits(&[true, true])),
     (
         "a variable in no clause",
         3,
         &[b"1 1 0 0", b"2 3 0 0"],
-        Wanted::Bits(&[true, true, true]),
+        Expected::Bits(&[true, true, true]),
     ),
-    ("contradiction", 2, CONTRADICTION, Wanted::Refuted(Some(2))),
-    ("negation", 8, NEGATION, Wanted::Refuted(None)),
+    (
+        "contradiction",
+        2,
+        CONTRADICTION,
+        Expected::Refuted(Some(2)),
+    ),
+    ("negation", 8, NEGATION, Expected::Refuted(None)),
     (
         "units that conflict",
         1,
         &[b"1 1 0 0", b"2 -1 0 0"],
-        Wanted::Refuted(Some(1)),
+        Expected::Refuted(Some(1)),
     ),
     (
         "the empty clause",
         2,
         &[b"1 1 2 0 0", b"2 0 0"],
-        Wanted::Refuted(Some(0)),
+        Expected::Refuted(Some(0)),
     ),
     (
         "the empty clause alone",
         0,
         &[b"1 0 0"],
-        Wanted::Refuted(Some(0)),
+        Expected::Refuted(Some(0)),
     ),
-    ("implied", 5, IMPLIED, Wanted::Learnt(b"5 -3 -1 0 ")),
-    ("shortened", 5, SHORTENED, Wanted::Learnt(b"6 -3 0 5 ")),
+    ("implied", 5, IMPLIED, Expected::Learnt(b"5 -3 -1 0 ")),
+    ("shortened", 5, SHORTENED, Expected::Learnt(b"6 -3 0 5 ")),
     (
         "not shortened",
         5,
         NOT_SHORTENED,
-        Wanted::Learnt(b"6 -3 -1 0 "),
+        Expected::Learnt(b"6 -3 -1 0 "),
     ),
 ];
 
@@ -336,23 +346,23 @@ fn are_answered(
     alloc: Global,
     vars: u32,
     clauses: &[&[u8]],
-    wanted: &Wanted,
+    expected: &Expected,
 ) -> Result<bool, AllocError> {
-    is_answered(alloc, formula(alloc, vars, clauses)?, 1, wanted)
+    is_answered(alloc, formula(alloc, vars, clauses)?, 1, expected)
 }
 
 #[test]
 fn formulas_are_answered(rt: HostRuntime) {
-    for (name, vars, clauses, wanted) in FORMULAS {
-        let answered = are_answered(rt.alloc(), *vars, clauses, wanted);
+    for (name, vars, clauses, expected) in FORMULAS {
+        let answered = are_answered(rt.alloc(), *vars, clauses, expected);
         assert!(rt; matches!(answered, Ok(true)), "{name}");
     }
 }
 
 /// Whether a pigeonhole formula has the expected answer.
-fn are_told(alloc: Global, wanted: Told) -> Result<bool, AllocError> {
-    let cnf = pigeons(alloc, wanted.holes)?;
-    is_answered(alloc, cnf, wanted.budget, &Wanted::Pigeons(wanted))
+fn are_expected_pigeons(alloc: Global, expected: ExpectedPigeons) -> Result<bool, AllocError> {
+    let cnf = pigeons(alloc, expected.holes)?;
+    is_answered(alloc, cnf, expected.budget, &Expected::Pigeons(expected))
 }
 
 /// Pigeonhole formulas: the number of holes, the budget, whether it is enough, and the number of additions.
@@ -371,27 +381,27 @@ const PIGEONS: &[(u32, u32, bool, Option<u64>)] = &[
 #[test]
 fn pigeons_have_no_holes(rt: HostRuntime) {
     for &(holes, budget, refuted, added) in PIGEONS {
-        let wanted = Told {
+        let expected = ExpectedPigeons {
             holes,
             budget,
             refuted: Some(refuted),
             added,
         };
-        let told = are_told(rt.alloc(), wanted);
-        assert!(rt; matches!(told, Ok(true)), "{holes} {budget}");
+        let reported = are_expected_pigeons(rt.alloc(), expected);
+        assert!(rt; matches!(reported, Ok(true)), "{holes} {budget}");
     }
 }
 
 #[test]
 fn ten_pigeons_have_a_log(rt: HostRuntime) {
     // refuted or not
-    let wanted = Told {
+    let expected = ExpectedPigeons {
         holes: 9,
         budget: 20000,
         refuted: None,
         added: None,
     };
-    assert!(rt; matches!(are_told(rt.alloc(), wanted), Ok(true)));
+    assert!(rt; matches!(are_expected_pigeons(rt.alloc(), expected), Ok(true)));
 }
 
 /// Adds the clauses that the first of some variables is true, that each variable implies the next one, and
@@ -410,7 +420,7 @@ fn push_row(alloc: Global, cnf: &mut Cnf, vars: u32) -> Result<(), AllocError> {
 fn is_followed(alloc: Global) -> Result<bool, AllocError> {
     let mut cnf = Cnf::new(alloc, 4000);
     push_row(alloc, &mut cnf, 4000)?;
-    is_answered(alloc, cnf, 1, &Wanted::Refuted(Some(1)))
+    is_answered(alloc, cnf, 1, &Expected::Refuted(Some(1)))
 }
 
 #[test]

@@ -8,7 +8,9 @@ use crate::building::formula;
 use clause_db::ClauseDb;
 use cnf_core::Lit;
 use std::alloc::{AllocError, Global};
-use subsume_core::{Finder, Found, Marks, Units, contains_all, holds, is_new, keep_others};
+use subsume_core::{
+    Finder, LitFlags, Simplification, Units, contains_all, holds, is_unsubsumed, keep_others,
+};
 
 /// The clauses with which all tests here begin.
 const CLAUSES: &[&[u8]] = &[b"1 1 2 0 0", b"2 -1 2 3 0 0", b"3 1 2 3 0 0", b"4 -2 0 0"];
@@ -58,9 +60,9 @@ const FOUND: &[(u32, u32, &[i32], &[u32])] = &[
 ];
 
 /// The id of the clause that was found to subsume another one; 0 for other results.
-fn subsuming(found: Found) -> u32 {
+fn subsuming(found: Simplification) -> u32 {
     match found {
-        Found::Subsumed(other) => other,
+        Simplification::Subsumed(other) => other,
         _ => 0,
     }
 }
@@ -162,7 +164,13 @@ fn over(clauses: &ClauseDb, number: i32) -> Option<Lit>
 const PAIRS: &[(i32, i32, bool)] = &[(1, 3, true), (1, 2, false), (2, 1, false), (1, -2, false)];
 
 /// Whether no live clause subsumes a pair.
-fn is_new_pair(clauses: &ClauseDb, units: &Units, marks: &mut Marks, one: i32, other: i32) -> bool
+fn is_new_pair(
+    clauses: &ClauseDb,
+    units: &Units,
+    marks: &mut LitFlags,
+    one: i32,
+    other: i32,
+) -> bool
     requires units { IsUnitsOf clauses.now units.now }
     requires some { (id : ℕ) → live_in clauses.now id ≡ Some [] → ⊥ }
 {
@@ -172,11 +180,11 @@ fn is_new_pair(clauses: &ClauseDb, units: &Units, marks: &mut Marks, one: i32, o
     let Some(other) = over(clauses, other) else {
         return false;
     };
-    is_new(clauses, units, marks, &[one, other])
+    is_unsubsumed(clauses, units, marks, &[one, other])
 }
 
-/// Whether `is_new` returns this for all pairs.
-fn all_new(clauses: &ClauseDb, units: &Units, marks: &mut Marks) -> bool
+/// Whether `is_unsubsumed` returns this for all pairs.
+fn all_new(clauses: &ClauseDb, units: &Units, marks: &mut LitFlags) -> bool
     requires units { IsUnitsOf clauses.now units.now }
     requires some { (id : ℕ) → live_in clauses.now id ≡ Some [] → ⊥ }
 {
@@ -192,20 +200,20 @@ fn all_new(clauses: &ClauseDb, units: &Units, marks: &mut Marks) -> bool
 fn comes(
     clauses: &mut ClauseDb,
     units: &mut Units,
-    marks: &mut Marks,
+    marks: &mut LitFlags,
     lit: Lit,
 ) -> Result<bool, AllocError>
     requires units { IsUnitsOf clauses.old units.old }
     requires some { (id : ℕ) → live_in clauses.old id ≡ Some [] → ⊥ }
     requires over { variable_of lit ≤ clauses.old.vars }
 {
-    let new = is_new(clauses, units, marks, &[lit]);
+    let new = is_unsubsumed(clauses, units, marks, &[lit]);
     if clauses.last() > 9 {
         return Ok(false);
     }
     clauses.add(&[lit])?;
     units.note(&[lit]);
-    Ok(new && !is_new(clauses, units, marks, &[lit]))
+    Ok(new && !is_unsubsumed(clauses, units, marks, &[lit]))
 }
 
 /// The same for a database of these clauses, with the pairs before.
@@ -216,7 +224,7 @@ fn are_new(alloc: Global) -> Result<bool, AllocError> {
     }
     let mut clauses = ClauseDb::new(alloc, &cnf)?;
     let mut units = Units::new(alloc, &clauses)?;
-    let mut marks = Marks::new(alloc, 3)?;
+    let mut marks = LitFlags::new(alloc, 3)?;
     let Some(lit) = over(&clauses, 3) else {
         return Ok(false);
     };

@@ -34,12 +34,12 @@ fn push_free(trail: &mut Trail, number: i32, reason: u32) -> Result<bool, AllocE
 
 /// Whether literals have these positions: 1 + the trail index at which each became false, 0 if it isn't
 /// false.
-fn fell(trail: &Trail, places: &[(i32, u32)]) -> bool {
-    for &(number, fell) in places {
+fn falsified_at(trail: &Trail, places: &[(i32, u32)]) -> bool {
+    for &(number, falsified_at) in places {
         let Some(lit) = over(trail, number) else {
             return false;
         };
-        if trail.fell(lit) != fell {
+        if trail.falsified_at(lit) != falsified_at {
             return false;
         }
     }
@@ -60,17 +60,17 @@ fn goes_on(trail: &mut Trail) -> Result<bool, AllocError> {
 }
 
 /// The positions of the literals after that.
-const FALLS: &[(i32, u32)] = &[(1, 2), (-1, 0), (2, 0), (-2, 1), (3, 0), (-3, 0)];
+const FALSIFIED: &[(i32, u32)] = &[(1, 2), (-1, 0), (2, 0), (-2, 1), (3, 0), (-3, 0)];
 
 /// The assignment after that.
 const BITS: &[bool] = &[false, true, false];
 
 /// Whether the trail has the assignment and the positions of the pushed literals.
-fn tells(alloc: Global, trail: &Trail) -> Result<bool, AllocError> {
+fn reports(alloc: Global, trail: &Trail) -> Result<bool, AllocError> {
     let assign = trail.assignment(alloc)?;
-    let told = assign.bits() == BITS;
+    let reported = assign.bits() == BITS;
     drop(assign);
-    Ok(told && fell(trail, FALLS))
+    Ok(reported && falsified_at(trail, FALSIFIED))
 }
 
 /// Whether backtracking leaves the first literal.
@@ -79,14 +79,14 @@ fn goes_back(trail: &mut Trail) -> bool {
         return false;
     }
     trail.pop();
-    trail.len() == 1 && fell(trail, &[(1, 0)])
+    trail.len() == 1 && falsified_at(trail, &[(1, 0)])
 }
 
 /// Whether a trail is right after assignments and after backtracking.
 fn goes(alloc: Global, trail: &mut Trail) -> Result<bool, AllocError> {
     let on = goes_on(trail)?;
-    let told = tells(alloc, trail)?;
-    Ok(on && told && goes_back(trail))
+    let reported = reports(alloc, trail)?;
+    Ok(on && reported && goes_back(trail))
 }
 
 /// The same for a trail of three variables.

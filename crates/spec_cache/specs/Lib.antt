@@ -1,9 +1,9 @@
 pub mod Order
 pub mod OrderLaws
-pub mod BackLaws
+pub mod InverseLaws
 pub mod WordLaws
 pub mod Ranks
 pub mod Permuting
 pub mod ListLaws
-pub mod Facts
-pub mod FactLaws
+pub mod ProvedBounds
+pub mod BoundLaws

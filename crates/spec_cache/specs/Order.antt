@@ -23,20 +23,20 @@ pub record IsPermuting (n : ℕ) (order : List ℕ) : Type 0 where
 
 -- The inverse of an order: it maps each new number back to the input that has it.
 -- Example: 3 ∷ 1 ∷ 2 ∷ [] is the inverse of 2 ∷ 3 ∷ 1 ∷ [].
-pub record GoesBack (n : ℕ) (order back : List ℕ) : Type 0 where
+pub record IsInverse (n : ℕ) (order back : List ℕ) : Type 0 where
   pub each : (j : ℕ) → 1 ≤ j → j ≤ n → number back (number order j) ≡ j
 
 -- the row that gives input j the value that row t gives the new number of j
-abbrev pub turned_row : ℕ → List ℕ → ℕ → ℕ
-turned_row n order t = row_of n (λ j. input n t (number order j))
+abbrev pub permuted_row : ℕ → List ℕ → ℕ → ℕ
+permuted_row n order t = row_of n (λ j. input n t (number order j))
 
 -- the word of 2 ^ n rows whose digit t is digit turned_row t of the given word
-abbrev pub turned_word : ℕ → List ℕ → ℕ → ℕ
-turned_word n order word = row_of (2 ^ n) (λ i. digit word (turned_row n order (2 ^ n - i)))
+abbrev pub permuted_word : ℕ → List ℕ → ℕ → ℕ
+permuted_word n order word = row_of (2 ^ n) (λ i. digit word (permuted_row n order (2 ^ n - i)))
 
 -- r is s with its inputs permuted.
 -- Example: 0010 with its inputs exchanged is 0100.
-pub record IsTurned (s r : Specification) (order : List ℕ) : Type 0 where
+pub record IsPermuted (s r : Specification) (order : List ℕ) : Type 0 where
   pub inputs : r.inputs ≡ s.inputs
   pub outputs : r.outputs ≡ s.outputs
-  pub cell : (h t : ℕ) → 1 ≤ h → h ≤ s.outputs → t < 2 ^ s.inputs → r.cell h t ≡ s.cell h (turned_row s.inputs order t)
+  pub cell : (h t : ℕ) → 1 ≤ h → h ≤ s.outputs → t < 2 ^ s.inputs → r.cell h t ≡ s.cell h (permuted_row s.inputs order t)

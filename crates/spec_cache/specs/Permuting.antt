@@ -4,7 +4,7 @@ use Rattle.std.specs.Prelude.{slice_index}
 use Rattle.std.proofs.lemmas.Grind.{common_steps, get_or_default_zero}
 use Rattle.std.proofs.lemmas.Bool.{cases_lt}
 use Rattle.std.proofs.lemmas.List.{get_or_append_left, get_or_push, length_push}
-use Rattle.spec_cache.specs.Order.{IsInput, IsOrder, IsPermuting, GoesBack, number}
+use Rattle.spec_cache.specs.Order.{IsInput, IsOrder, IsPermuting, IsInverse, number}
 use Rattle.spec_cache.specs.Ranks.{rank, rank_low, ranks_differ}
 
 -- ---- numbers that each have a property
@@ -75,7 +75,7 @@ only_place n order i j is first second same = elim (cases_lt i j) [
   ]
 ]
 
-pub back_goes : (order back : List ℕ) (count : ℕ) → AreEach (IsBackOf order) back count → count ≡ length order → IsPermuting (length order) order → GoesBack (length order) order back
+pub back_goes : (order back : List ℕ) (count : ℕ) → AreEach (IsBackOf order) back count → count ≡ length order → IsPermuting (length order) order → IsInverse (length order) order back
 back_goes order back count some same is = record {
   each = λ j from to.
       let x : ℕ = number order j in

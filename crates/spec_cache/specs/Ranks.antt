@@ -31,7 +31,9 @@ before_is ws index other e = elim (or_cases (nat_lt (slice_index ws other) (slic
 
 is_before : (ws : List ℕ) (index other : ℕ) → IsBefore ws index other → comes_before ws index other ≡ true
 unfolding comes_before
-is_before ws index other (inl less) = or_left (nat_lt (slice_index ws other) (slice_index ws index)) (slice_index ws other == slice_index ws index && nat_lt other index) (lt-ltb (slice_index ws other) (slice_index ws index) less)
+is_before ws index other (inl less) = or_left (nat_lt (slice_index ws other) (slice_index ws index))
+    (slice_index ws other == slice_index ws index &&
+    nat_lt other index) (lt-ltb (slice_index ws other) (slice_index ws index) less)
 is_before ws index other (inr both) =
     or_right (nat_lt (slice_index ws other) (slice_index ws index)) (slice_index ws other == slice_index ws index && nat_lt other index)
     (and_from (slice_index ws other == slice_index ws index) (nat_lt other index) (eq-eqb (slice_index ws other) (slice_index ws index) both.0) (lt-ltb other index both.1))

@@ -4,7 +4,7 @@ ghost use Rattle.std.specs.Cmp.Lexicographic.{pointwise};
 ghost use Rattle.std.specs.Cmp.Rules.{comparing, hashing};
 ghost use Rattle.std.specs.Hash as fed;
 ghost use Rattle.std.proofs.Common.{rules};
-ghost use Rattle.spec_cache.specs.Facts.{spelled};
+ghost use Rattle.spec_cache.specs.ProvedBounds.{spelled};
 
 use std::alloc::{AllocError, Global};
 use std::hash::{Hash, Hasher};
@@ -13,9 +13,9 @@ use tt_core::Spec;
 
 /// A specification as a list of words: the number of inputs, the outputs' values, and their care sets.
 #[derive(Drop)]
-pub struct Key(Vec<u64>);
+pub struct SpecKey(Vec<u64>);
 
-impl Model for Key {
+impl Model for SpecKey {
     ghost use Rattle.std.specs.Prelude.{List, ℕ};
 
     ghost Value = { List ℕ };
@@ -23,16 +23,16 @@ impl Model for Key {
     ghost view = { λ k. k.0.items };
 }
 
-impl Key {
+impl SpecKey {
     /// The key of a specification.
-    pub fn of(alloc: Global, spec: &Spec) -> Result<Key, AllocError>
+    pub fn of(alloc: Global, spec: &Spec) -> Result<SpecKey, AllocError>
         ensures { IfOk result (λ key. key ≡ spelled spec.now) }
     {
         let mut words = Vec::new(alloc);
         words.push(u64::from(spec.n()))?;
         words.extend_from_slice(spec.on())?;
         words.extend_from_slice(spec.care())?;
-        Ok(Key(words))
+        Ok(SpecKey(words))
     }
 
     /// The words.
@@ -43,21 +43,21 @@ impl Key {
     }
 }
 
-impl PartialEq for Key {
+impl PartialEq for SpecKey {
     ghost eq = { pointwise nat_eq };
 
     ghost laws = { Prim.search (comparing, rules) };
 
-    fn eq(&self, other: &Key) -> bool {
+    fn eq(&self, other: &SpecKey) -> bool {
         self.get() == other.get()
     }
 }
 
-impl Eq for Key {
+impl Eq for SpecKey {
     ghost laws = { Prim.search (comparing, rules) };
 }
 
-impl Hash for Key {
+impl Hash for SpecKey {
     ghost hash_input = { fed.slice fed.u64 };
 
     ghost respects_eq = { Prim.search (hashing, rules) };

@@ -14,15 +14,15 @@
 //! ```
 #![tactic(auto)]
 
+mod cache;
 mod chains;
 mod key;
 pub mod laws;
-mod memory;
 mod normal;
-mod turning;
+mod permute;
 
-pub use chains::turned_chain;
-pub use key::Key;
-pub use memory::{Found, Memory};
+pub use cache::{Found, SpecCache};
+pub use chains::permuted_chain;
+pub use key::SpecKey;
 pub use normal::{inverse, normal_order};
-pub use turning::turned_spec;
+pub use permute::permuted_spec;

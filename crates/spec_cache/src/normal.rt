@@ -1,7 +1,7 @@
 //! The normal order of inputs. It sorts them by signatures, counts of rows that don't depend on the numbering of
 //! the inputs. It affects only how often two specifications become one.
 ghost use Rattle.std.specs.Prelude.{◌≡◌, ◌<◌, ◌≤◌, length, IfOk};
-ghost use Rattle.spec_cache.specs.Order.{IsInput, IsOrder, IsPermuting, GoesBack};
+ghost use Rattle.spec_cache.specs.Order.{IsInput, IsOrder, IsPermuting, IsInverse};
 ghost use Rattle.spec_cache.specs.Ranks.{comes_before as comes_before_of, rank as rank_of};
 ghost use Rattle.spec_cache.specs.Permuting.{IsPlaceOf};
 
@@ -146,7 +146,8 @@ fn place_of(order: &[u32], number: u32) -> u32
 pub fn inverse(alloc: Global, order: &[u32]) -> Result<Vec<u32>, AllocError>
     requires { length order.now ≤ 6 }
     ensures order { IfOk result (λ back. IsOrder (length order.now) back.items) }
-    ensures back { IfOk result (λ back. IsPermuting (length order.now) order.now → GoesBack (length order.now) order.now back.items) }
+    ensures back { IfOk result (λ back. IsPermuting (length order.now) order.now →
+        IsInverse (length order.now) order.now back.items) }
 {
     let n = order.len() as u32;
     let mut back = Vec::with_capacity(alloc, MOST_INPUTS as usize)?;

@@ -17,8 +17,8 @@ use Rattle.tt_core.specs.Laws.{fits_meets}
 use Rattle.tt_core.specs.FirstFitLaws.{found_first}
 use Rattle.tt_core.specs.RowLaws.{row_below}
 use Rattle.step_core.specs.Steps.{misses, meets_at, word_in}
-use Rattle.step_core.specs.Outs.{HasValues, IsOutFor, AreOuts}
-use Rattle.step_core.specs.SearchLaws.{passing}
+use Rattle.step_core.specs.Outs.{IsStepFor, IsOutFor, AreOuts}
+use Rattle.step_core.specs.LoopLaws.{passing}
 use Rattle.step_core.specs.WordLaws.{word_row, not_missed}
 
 not_not : (b : Bool) → not b ≡ true → b ≡ false
@@ -27,11 +27,11 @@ not_not false e = refl
 
 -- ---- steps
 
-pub sits : (w : Words) (steps : List Step) (i k place : ℕ) → meets_at w steps i k ≡ true → k < length steps → place ≡ w.n + 1 + k → HasValues w steps i place
+pub sits : (w : Words) (steps : List Step) (i k place : ℕ) → meets_at w steps i k ≡ true → k < length steps → place ≡ w.n + 1 + k → IsStepFor w steps i place
 unfolding meets_at
 sits w steps i k place meets low e =
-    let here : HasValues w steps i (w.n + 1 + k) = record { from = omega arith; to = omega (arith, low); has = not_not (misses w (word_in w.n steps (w.n + 1 + k)) i) meets } in
-    subst (HasValues w steps i) (sym e) here
+    let here : IsStepFor w steps i (w.n + 1 + k) = record { from = omega arith; to = omega (arith, low); has = not_not (misses w (word_in w.n steps (w.n + 1 + k)) i) meets } in
+    subst (IsStepFor w steps i) (sym e) here
 
 -- ---- outs
 
@@ -53,7 +53,7 @@ trivial_out w steps h o out is e =
       met = λ t low. ap (is_met_by (cell_of w h t)) (trivial_bit w.n t steps out first.trivial) ∙ fits_meets (specification w) h out first.fitting t low;
     }
 
-pub step_out : (w : Words) (steps : List Step) (h place : ℕ) → IsSpec w → AreSteps w.n steps → 1 ≤ h → HasValues w steps (h - 1) place → IsOutFor w steps h (kinds.Place place)
+pub step_out : (w : Words) (steps : List Step) (h place : ℕ) → IsSpec w → AreSteps w.n steps → 1 ≤ h → IsStepFor w steps (h - 1) place → IsOutFor w steps h (kinds.Place place)
 step_out w steps h place spec are some has = record {
   names = (omega (arith, has.from), has.to);
   met = λ t low.
@@ -73,7 +73,8 @@ live_of w h o is e = ap is_none (sym is ∙ e)
 pub no_outs : (w : Words) (steps : List Step) (outs : List Out) → outs ≡ [] → AreOuts w steps outs
 no_outs w steps outs e = record { each = λ h from to. absurd (omega (arith, from, to, ap (λ (xs : List Out). length xs) e)) }
 
-pub more_outs : (w : Words) (steps : List Step) (outs more : List Out) (out : Out) (h : ℕ) → more ≡ outs ++ out ∷ [] → h ≡ length outs + 1 → AreOuts w steps outs → IsOutFor w steps h out → AreOuts w steps more
+pub more_outs : (w : Words) (steps : List Step) (outs more : List Out) (out : Out) (h : ℕ) → more ≡ outs ++ out ∷ [] →
+    h ≡ length outs + 1 → AreOuts w steps outs → IsOutFor w steps h out → AreOuts w steps more
 more_outs w steps outs more out h e last are is = subst (AreOuts w steps) (sym e) (record {
   each = λ g from to. elim (cases_lt (g - 1) (length outs)) [
     | inl below ↦ subst (IsOutFor w steps g) (sym (get_or_append_left outs (out ∷ []) kinds.Zero (g - 1) below)) (are.each g from (omega (arith, from, below)))

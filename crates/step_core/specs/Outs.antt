@@ -11,7 +11,7 @@ use Rattle.tt_core.specs.Live.{is_live}
 use Rattle.step_core.specs.Steps.{misses, word_in, is_met}
 
 -- the place is that of a step, and its word has the specified values of output i + 1
-pub record HasValues (w : Words) (steps : List Step) (i place : ℕ) : Type 0 where
+pub record IsStepFor (w : Words) (steps : List Step) (i place : ℕ) : Type 0 where
   pub from : w.n < place
   pub to : place ≤ w.n + length steps
   pub has : misses w (word_in w.n steps place) i ≡ false

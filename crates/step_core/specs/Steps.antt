@@ -46,7 +46,7 @@ abbrev pub AreOver : Basis → List Step → Type 0
 AreOver basis steps = All (λ (s : Step). basis s.op ≡ true) steps
 
 -- A solution: steps over the basis that have the values of all outputs.
-pub record IsServing (w : Words) (basis : Basis) (steps : List Step) : Type 0 where
+pub record IsSolution (w : Words) (basis : Basis) (steps : List Step) : Type 0 where
   pub are : AreSteps w.n steps
   pub over : AreOver basis steps
   pub met : all_met w steps ≡ true

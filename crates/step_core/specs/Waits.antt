@@ -6,7 +6,7 @@ use Rattle.chain_laws.specs.Follow.{step_at}
 use Rattle.tt_core.specs.Words.{Words, specification}
 use Rattle.bound_core.specs.Counts.{some_below, count_below, uses}
 use Rattle.step_core.specs.Steps.{word_in}
-use Rattle.step_core.specs.Cuts.{meets_some}
+use Rattle.step_core.specs.Pruning.{meets_some}
 
 -- the step of an index reads the place
 unfoldable pub reads_at : List Step → ℕ → ℕ → Bool
@@ -17,16 +17,16 @@ unfoldable pub is_read : List Step → ℕ → Bool
 is_read steps p = some_below (reads_at steps p) (length steps)
 
 -- the input p is in the support of output i + 1
-unfoldable pub asks_for : Words → ℕ → ℕ → Bool
-asks_for w p i = uses (specification w) (i + 1) p
+unfoldable pub has_in_support : Words → ℕ → ℕ → Bool
+has_in_support w p i = uses (specification w) (i + 1) p
 
 -- the input p is in the support of some output
-unfoldable pub is_asked : Words → ℕ → Bool
-is_asked w p = some_below (asks_for w p) (length w.on)
+unfoldable pub is_in_some_support : Words → ℕ → Bool
+is_in_some_support w p = some_below (has_in_support w p) (length w.on)
 
 -- The place has to be read: it is an input in the support of some output, or a step with the values of no output.
 unfoldable pub is_needed : Words → List Step → ℕ → Bool
-is_needed w steps p = if nat_lt w.n p then not (meets_some w (word_in w.n steps p)) else is_asked w p
+is_needed w steps p = if nat_lt w.n p then not (meets_some w (word_in w.n steps p)) else is_in_some_support w p
 
 -- the place i + 1 waits: it has to be read, and no step reads it yet
 unfoldable pub waits : Words → List Step → ℕ → Bool

@@ -29,7 +29,9 @@ word_row n t steps p few are low from to =
     let follows : FollowsAt step_word (run step_word (λ q. input_word (n - q)) (n + 1) steps) (n + 1) steps = run_follows step_word local (λ q. input_word (n - q)) (n + 1) steps at in
     sym (values_are n t (λ q. digit (run step_word (λ r. input_word (n - r)) (n + 1) steps q) t) steps are
     (λ q q_from q_to. ap (λ (x : ℕ). digit x t) (run_below step_word (λ r. input_word (n - r)) (n + 1) steps q (omega arith)) ∙ input_digit (n - q) t (omega arith) low)
-    (λ i s is. ap (λ (x : ℕ). digit x t) (follows.each i s is) ∙ on_words_bit s.op (run step_word (λ r. input_word (n - r)) (n + 1) steps s.j) (run step_word (λ r. input_word (n - r)) (n + 1) steps s.k) t low)
+    (λ i s is. ap (λ (x : ℕ). digit x t) (follows.each i s is)
+    ∙ on_words_bit s.op (run step_word (λ r. input_word (n - r)) (n + 1) steps s.j)
+    (run step_word (λ r. input_word (n - r)) (n + 1) steps s.k) t low)
     p from (omega arith))
 
 -- ---- outputs that are met

@@ -5,7 +5,7 @@
 //! for chains, and `chain_laws` for the normal form. Sizes are tried in increasing order from 0. When a size is
 //! tried, no smaller chain implements the specification; so if some chain of this size does, one in normal form
 //! does too, and it is enough to enumerate those. The enumeration is depth-first: it places one step after the
-//! other on a stack (`trail`), each with its truth table, and prunes what no chain in normal form has (`cuts`,
+//! other on a stack (`stack`), each with its truth table, and prunes what no chain in normal form has (`pruning`,
 //! `waits`):
 //!
 //! - Outputs that differ are values of different steps. The enumeration backtracks when fewer steps are left
@@ -27,16 +27,16 @@
 //! ```
 #![tactic(auto)]
 
-mod cuts;
+mod enumerate;
+mod least_chains;
 mod outs;
+mod pruning;
 mod rules;
-mod short;
-mod trail;
+mod stack;
 mod waits;
-mod walk;
 mod words;
 
 pub use chain_core::Chain;
+pub use least_chains::{least_chain, nth_chain};
 pub use op_basis::Basis;
-pub use short::{few_steps, nth_chain};
 pub use tt_core::Spec;

@@ -12,19 +12,19 @@ use std::marker::Model;
 pub struct Rules {
     basis: Basis,
     whole: bool,
-    rises: bool,
+    orders_operands: bool,
     normal: bool,
     constants: bool,
 }
 
 impl Model for Rules {
-    ghost use Rattle.step_core.specs.Rules.{AreRules, Ruled};
+    ghost use Rattle.step_core.specs.Rules.{AreRules, RulesView};
 
-    ghost Value = { Ruled };
+    ghost Value = { RulesView };
 
     ghost view = { λ rules. record { basis = rules.basis; whole = rules.whole } };
 
-    ghost invariant = { λ rules. AreRules rules.basis rules.rises rules.normal rules.constants };
+    ghost invariant = { λ rules. AreRules rules.basis rules.orders_operands rules.normal rules.constants };
 }
 
 impl Rules {
@@ -32,13 +32,13 @@ impl Rules {
     pub fn new(basis: Basis, whole: bool) -> Rules
         ensures { result ≡ record { basis = basis; whole = whole } }
     {
-        let rises = basis.swap_closed();
+        let orders_operands = basis.swap_closed();
         let normal = basis.polarity_closed();
         let constants = basis.const_closed();
         Rules {
             basis,
             whole,
-            rises,
+            orders_operands,
             normal,
             constants,
         }
@@ -60,10 +60,10 @@ impl Rules {
 
     /// Whether the first operand may be assumed to be the smaller one: the basis is closed under exchanged
     /// operands.
-    pub fn rises(&self) -> bool
+    pub fn orders_operands(&self) -> bool
         ensures { result ≡ swap_closed (members self.now.basis) }
     {
-        self.rises
+        self.orders_operands
     }
 
     /// Whether steps may be assumed to be normal (0 on row 0): the basis is closed under complements.

@@ -4,31 +4,33 @@
 //! after it.
 ghost use Rattle.std.specs.Prelude.{◌≡◌, ◌+◌, ◌<◌, ◌≤◌, false, length};
 ghost use Rattle.chain_theory.specs.Operator.{Basis as Operators};
-ghost use Rattle.step_core.specs.Walks.{NoneWith, HasPair};
-ghost use Rattle.step_core.specs.Waits.{reads_at as reads_at_of, is_read as is_read_of, asks_for as asks_for_of, is_asked as is_asked_of, is_needed as is_needed_of, waits as waits_of, waiting as waiting_of};
+ghost use Rattle.step_core.specs.Enumeration.{NoneWith, HasPair};
+ghost use Rattle.step_core.specs.Waits.{reads_at as reads_at_of, is_read as is_read_of, has_in_support as asks_for_of};
+ghost use Rattle.step_core.specs.Waits.{is_in_some_support as is_asked_of, is_needed as is_needed_of};
+ghost use Rattle.step_core.specs.Waits.{waits as waits_of, waiting as waiting_of};
 
-use crate::cuts::meets_some;
-use crate::trail::Trail;
+use crate::pruning::meets_some;
+use crate::stack::StepStack;
 use bound_core::uses;
 use tt_core::Spec;
 
 /// Whether the step of an index reads a place.
 #[tactic(auto, using(crate::specs::WaitLaws::reading))]
-fn reads_at(trail: &Trail, place: u32, index: u32) -> bool
-    requires { index < length trail.now.steps }
-    ensures { result ≡ reads_at_of trail.now.steps place index }
+fn reads_at(stack: &StepStack, place: u32, index: u32) -> bool
+    requires { index < length stack.now.steps }
+    ensures { result ≡ reads_at_of stack.now.steps place index }
 {
-    let step = trail.step(index);
+    let step = stack.step(index);
     step.j == place || step.k == place
 }
 
 /// Whether some step reads a place.
-#[tactic(auto, using(crate::specs::SearchLaws::passing), unfolding(crate::specs::Waits::is_read))]
-fn is_read(trail: &Trail, place: u32) -> bool
-    ensures { result ≡ is_read_of trail.now.steps place }
+#[tactic(auto, using(crate::specs::LoopLaws::passing), unfolding(crate::specs::Waits::is_read))]
+fn is_read(stack: &StepStack, place: u32) -> bool
+    ensures { result ≡ is_read_of stack.now.steps place }
 {
-    for index in 0..trail.len() {
-        if reads_at(trail, place, index) {
+    for index in 0..stack.len() {
+        if reads_at(stack, place, index) {
             return true;
         }
     }
@@ -36,8 +38,8 @@ fn is_read(trail: &Trail, place: u32) -> bool
 }
 
 /// Whether an input is in the support of an output. The input is given by its place, the output is counted from 0.
-#[tactic(auto, unfolding(crate::specs::Waits::asks_for))]
-fn asks_for(spec: &Spec, place: u32, output: u32) -> bool
+#[tactic(auto, unfolding(crate::specs::Waits::has_in_support))]
+fn has_in_support(spec: &Spec, place: u32, output: u32) -> bool
     requires output { output < length spec.now.on }
     requires place_from { 1 ≤ place }
     requires place { place ≤ spec.now.n }
@@ -49,14 +51,14 @@ fn asks_for(spec: &Spec, place: u32, output: u32) -> bool
 }
 
 /// Whether an input is in the support of some output.
-#[tactic(auto, using(crate::specs::SearchLaws::passing), unfolding(crate::specs::Waits::is_asked))]
-fn is_asked(spec: &Spec, place: u32) -> bool
+#[tactic(auto, using(crate::specs::LoopLaws::passing), unfolding(crate::specs::Waits::is_in_some_support))]
+fn is_in_some_support(spec: &Spec, place: u32) -> bool
     requires place_from { 1 ≤ place }
     requires place { place ≤ spec.now.n }
     ensures { result ≡ is_asked_of spec.now place }
 {
     for output in 0..spec.outputs() {
-        if asks_for(spec, place, output) {
+        if has_in_support(spec, place, output) {
             return true;
         }
     }
@@ -66,40 +68,40 @@ fn is_asked(spec: &Spec, place: u32) -> bool
 /// Whether a place has to be read: an input in the support of some output, or a step that has the values of no
 /// output.
 #[tactic(auto, using(crate::specs::WaitLaws::waiting_for))]
-fn is_needed(spec: &Spec, trail: &Trail, place: u32) -> bool
-    requires inputs { trail.now.n ≡ spec.now.n }
+fn is_needed(spec: &Spec, stack: &StepStack, place: u32) -> bool
+    requires inputs { stack.now.n ≡ spec.now.n }
     requires place_from { 1 ≤ place }
-    requires place { place ≤ trail.now.n + length trail.now.steps }
-    ensures { result ≡ is_needed_of spec.now trail.now.steps place }
+    requires place { place ≤ stack.now.n + length stack.now.steps }
+    ensures { result ≡ is_needed_of spec.now stack.now.steps place }
 {
     if place <= spec.n() {
-        return is_asked(spec, place);
+        return is_in_some_support(spec, place);
     }
-    !meets_some(spec, trail.word(place))
+    !meets_some(spec, stack.word(place))
 }
 
 /// Whether the place `before` + 1 waits: it has to be read, and no step reads it yet.
 #[tactic(auto, unfolding(crate::specs::Waits::waits))]
-fn waits(spec: &Spec, trail: &Trail, before: u32) -> bool
-    requires inputs { trail.now.n ≡ spec.now.n }
-    requires place { before < trail.now.n + length trail.now.steps }
-    ensures { result ≡ waits_of spec.now trail.now.steps before }
+fn waits(spec: &Spec, stack: &StepStack, before: u32) -> bool
+    requires inputs { stack.now.n ≡ spec.now.n }
+    requires place { before < stack.now.n + length stack.now.steps }
+    ensures { result ≡ waits_of spec.now stack.now.steps before }
 {
     // for the prover: bring in the invariants
     let _inputs = spec.n();
-    let _steps = trail.len();
-    !is_read(trail, before + 1) && is_needed(spec, trail, before + 1)
+    let _steps = stack.len();
+    !is_read(stack, before + 1) && is_needed(spec, stack, before + 1)
 }
 
 /// How many places wait to be read.
-#[tactic(auto, using(crate::specs::SearchLaws::counting))]
-pub(crate) fn waiting(spec: &Spec, trail: &Trail) -> u32
-    requires { trail.now.n ≡ spec.now.n }
-    ensures { result ≡ waiting_of spec.now trail.now.steps }
+#[tactic(auto, using(crate::specs::LoopLaws::counting))]
+pub(crate) fn waiting(spec: &Spec, stack: &StepStack) -> u32
+    requires { stack.now.n ≡ spec.now.n }
+    ensures { result ≡ waiting_of spec.now stack.now.steps }
 {
     let mut count = 0u32;
-    for before in 0..trail.n() + trail.len() {
-        count += u32::from(waits(spec, trail, before));
+    for before in 0..stack.n() + stack.len() {
+        count += u32::from(waits(spec, stack, before));
     }
     count
 }
@@ -110,20 +112,20 @@ pub(crate) fn waiting(spec: &Spec, trail: &Trail) -> u32
 #[tactic(auto, using(crate::specs::WaitLaws::leaving))]
 pub(crate) fn leaves_few(
     spec: &Spec,
-    trail: &Trail,
+    stack: &StepStack,
     left: u32,
     waiting: u32,
     low: u32,
     high: u32,
 ) -> bool
-    requires inputs { trail.now.n ≡ spec.now.n }
+    requires inputs { stack.now.n ≡ spec.now.n }
     requires some { 1 ≤ left }
     requires few { left ≤ 6 }
-    requires waiting { waiting ≡ waiting_of spec.now trail.now.steps }
+    requires waiting { waiting ≡ waiting_of spec.now stack.now.steps }
     requires low_from { 1 ≤ low }
     requires low { low ≤ high }
-    requires high { high ≤ trail.now.n + length trail.now.steps }
-    ensures { result ≡ false → (basis : Operators) → NoneWith spec.now basis trail.now.steps left (HasPair low high) }
+    requires high { high ≤ stack.now.n + length stack.now.steps }
+    ensures { result ≡ false → (basis : Operators) → NoneWith spec.now basis stack.now.steps left (HasPair low high) }
 {
     // for the prover: brings in the invariant of the specification
     let _inputs = spec.n();
@@ -131,7 +133,7 @@ pub(crate) fn leaves_few(
     if waiting <= room {
         return true;
     }
-    let first = u32::from(waits(spec, trail, low - 1));
-    let second = u32::from(waits(spec, trail, high - 1));
+    let first = u32::from(waits(spec, stack, low - 1));
+    let second = u32::from(waits(spec, stack, high - 1));
     waiting <= room + first + second
 }

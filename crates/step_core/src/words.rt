@@ -1,8 +1,9 @@
 //! Truth tables in words of 64 rows: whether a word has the values of an output, and whether a step does.
 ghost use Rattle.std.specs.Prelude.{◌≡◌, ◌<◌, length};
-ghost use Rattle.step_core.specs.Steps.{misses as misses_of, meets_at as meets_at_of, is_met as is_met_of, all_met as all_met_of};
+ghost use Rattle.step_core.specs.Steps.{misses as misses_of, meets_at as meets_at_of, is_met as is_met_of};
+ghost use Rattle.step_core.specs.Steps.{all_met as all_met_of};
 
-use crate::trail::Trail;
+use crate::stack::StepStack;
 use tt_core::Spec;
 
 /// Whether on some row the specified value of an output, counted from 0, isn't that of the word.
@@ -18,24 +19,24 @@ pub(crate) fn misses(spec: &Spec, word: u64, output: u32) -> bool
 
 /// Whether the step of an index, counted from 0, has all specified values of an output.
 #[tactic(auto, unfolding(crate::specs::Steps::meets_at))]
-pub(crate) fn meets_at(spec: &Spec, trail: &Trail, output: u32, index: u32) -> bool
-    requires inputs { trail.now.n ≡ spec.now.n }
+pub(crate) fn meets_at(spec: &Spec, stack: &StepStack, output: u32, index: u32) -> bool
+    requires inputs { stack.now.n ≡ spec.now.n }
     requires output { output < length spec.now.on }
-    requires index { index < length trail.now.steps }
-    ensures { result ≡ meets_at_of spec.now trail.now.steps output index }
+    requires index { index < length stack.now.steps }
+    ensures { result ≡ meets_at_of spec.now stack.now.steps output index }
 {
-    !misses(spec, trail.word(trail.n() + 1 + index), output)
+    !misses(spec, stack.word(stack.n() + 1 + index), output)
 }
 
 /// Whether some step has all specified values of an output.
-#[tactic(auto, using(crate::specs::SearchLaws::passing), unfolding(crate::specs::Steps::is_met))]
-pub(crate) fn is_met(spec: &Spec, trail: &Trail, output: u32) -> bool
-    requires inputs { trail.now.n ≡ spec.now.n }
+#[tactic(auto, using(crate::specs::LoopLaws::passing), unfolding(crate::specs::Steps::is_met))]
+pub(crate) fn is_met(spec: &Spec, stack: &StepStack, output: u32) -> bool
+    requires inputs { stack.now.n ≡ spec.now.n }
     requires output { output < length spec.now.on }
-    ensures { result ≡ is_met_of spec.now trail.now.steps output }
+    ensures { result ≡ is_met_of spec.now stack.now.steps output }
 {
-    for index in 0..trail.len() {
-        if meets_at(spec, trail, output, index) {
+    for index in 0..stack.len() {
+        if meets_at(spec, stack, output, index) {
             return true;
         }
     }
@@ -43,13 +44,13 @@ pub(crate) fn is_met(spec: &Spec, trail: &Trail, output: u32) -> bool
 }
 
 /// Whether each output has a step with its values.
-#[tactic(auto, using(crate::specs::SearchLaws::passing), unfolding(crate::specs::Steps::is_missing, crate::specs::Steps::all_met))]
-pub(crate) fn all_met(spec: &Spec, trail: &Trail) -> bool
-    requires inputs { trail.now.n ≡ spec.now.n }
-    ensures { result ≡ all_met_of spec.now trail.now.steps }
+#[tactic(auto, using(crate::specs::LoopLaws::passing), unfolding(crate::specs::Steps::is_missing, crate::specs::Steps::all_met))]
+pub(crate) fn all_met(spec: &Spec, stack: &StepStack) -> bool
+    requires inputs { stack.now.n ≡ spec.now.n }
+    ensures { result ≡ all_met_of spec.now stack.now.steps }
 {
     for output in 0..spec.outputs() {
-        if !is_met(spec, trail, output) {
+        if !is_met(spec, stack, output) {
             return false;
         }
     }

@@ -1,3 +1,3 @@
 mod Marking
 mod Placings
-mod Splicings
+mod Rebuilds

@@ -1,15 +1,17 @@
 -- Marks that are written one by one, and complemented.
-use Rattle.std.proofs.Common.{◌≡◌, ℕ, zero, suc, ◌+◌, ◌<◌, Bool, true, false, not, ◌&&◌, ◌||◌, List, [], ◌∷◌, ◌++◌, length, set, get_or, replicate, refl, ◌∙◌, ap, sym, subst, arith, ⊎_elim, ltb, if◌then◌else◌}
+use Rattle.std.proofs.Common.{◌≡◌, ℕ, zero, suc, ◌+◌, ◌<◌, Bool, true, false, not, ◌&&◌, ◌||◌, List, [], ◌∷◌, ◌++◌}
+use Rattle.std.proofs.Common.{length, set, get_or, replicate, refl, ◌∙◌, ap, sym, subst, arith, ⊎_elim, ltb}
+use Rattle.std.proofs.Common.{if◌then◌else◌}
 use Rattle.std.specs.Prelude.{slice_get, slice_index_or, Some}
 use Rattle.std.proofs.lemmas.Bool.{cases_eq, cases_lt, both_ways, lt-ltb, le-ltb, cond-true, cond-false, eq-eqb, ne_eqb}
 use Rattle.std.proofs.lemmas.List.{get_or-set_same, get_or-set_other}
 use Rattle.net_theory.specs.NameLaws.{all_at, at_all}
-use Rattle.net_theory.specs.ValueLaws.{at_front, at_end}
+use Rattle.net_theory.specs.ValueLaws.{at_prefix, at_end}
 use Rattle.net_core.specs.Marks.{set_of, no_marks}
-use Rattle.window_theory.specs.Places.{among}
-use Rattle.window_theory.specs.PlaceLaws.{among_cases, among_first, among_later}
-use Rattle.subst_core.specs.Lists.{AreBelow, AreUnmarked}
-use Rattle.subst_core.specs.Placing.{with_places}
+use Rattle.window_theory.specs.Nodes.{among}
+use Rattle.window_theory.specs.NodeLaws.{among_cases, among_first, among_later}
+use Rattle.subst_core.specs.Lists.{AllBelow, AreUnmarked}
+use Rattle.subst_core.specs.Placing.{with_nodes}
 
 -- ---- nodes that are marked
 
@@ -21,7 +23,7 @@ or_none : (a : Bool) → (a || false) ≡ a
 or_none true = refl
 or_none false = refl
 
-next_at : (marks : List Bool) (rest : List ℕ) (q p : ℕ) → q < length marks → with_places (set_of (set marks q true)) rest p ≡ with_places (set_of marks) (q ∷ rest) p
+next_at : (marks : List Bool) (rest : List ℕ) (q p : ℕ) → q < length marks → with_nodes (set_of (set marks q true)) rest p ≡ with_nodes (set_of marks) (q ∷ rest) p
 unfolding set_of
 next_at marks rest q p low =
     ⊎_elim
@@ -35,16 +37,16 @@ next_at marks rest q p low =
     (cases_eq p q)
 
 -- the first of the nodes is marked
-pub mark_next : (marks : List Bool) (places rest : List ℕ) (q : ℕ) → places ≡ q ∷ rest → q < length marks → with_places (set_of (set marks q true)) rest ≡ with_places (set_of marks) places
-mark_next marks places rest q e low = λ i p. (next_at marks rest q p low ∙ ap (λ (xs : List ℕ). with_places (set_of marks) xs p) (sym e)) i
+pub mark_next : (marks : List Bool) (nodes rest : List ℕ) (q : ℕ) → nodes ≡ q ∷ rest → q < length marks → with_nodes (set_of (set marks q true)) rest ≡ with_nodes (set_of marks) nodes
+mark_next marks nodes rest q e low = λ i p. (next_at marks rest q p low ∙ ap (λ (xs : List ℕ). with_nodes (set_of marks) xs p) (sym e)) i
 
-pub mark_none : (marks : List Bool) (places : List ℕ) → length places ≡ 0 → set_of marks ≡ with_places (set_of marks) places
+pub mark_none : (marks : List Bool) (nodes : List ℕ) → length nodes ≡ 0 → set_of marks ≡ with_nodes (set_of marks) nodes
 mark_none marks [] e = refl
-mark_none marks (q ∷ places) e = absurd (omega arith)
+mark_none marks (q ∷ nodes) e = absurd (omega arith)
 
 -- where nothing was marked exactly the nodes are
-pub places_alone : (places : List ℕ) → with_places no_marks places ≡ among places
-places_alone places = λ i p. or_none (among places p) i
+pub nodes_alone : (nodes : List ℕ) → with_nodes no_marks nodes ≡ among nodes
+nodes_alone nodes = λ i p. or_none (among nodes p) i
 
 no_marks_at : (n p : ℕ) → set_of (replicate n false) p ≡ false
 unfolding set_of
@@ -61,7 +63,9 @@ none_marked n = λ i p. no_marks_at n p i
 abbrev pub turned : List Bool → ℕ → ℕ → Bool
 turned marks count p = if ltb p count then not (set_of marks p) else set_of marks p
 
-pub turned_next : (old new : List Bool) (count : ℕ) (bit : Bool) → length new ≡ length old → count < length old → bit ≡ get_or new count false → ((p : ℕ) → p < length old → set_of new p ≡ turned old count p) → (p : ℕ) → p < length old → set_of (set new count (not bit)) p ≡ turned old (count + 1) p
+pub turned_next : (old new : List Bool) (count : ℕ) (bit : Bool) → length new ≡ length old → count < length old →
+    bit ≡ get_or new count false → ((p : ℕ) → p < length old → set_of new p ≡ turned old count p) → (p : ℕ) →
+    p < length old → set_of (set new count (not bit)) p ≡ turned old (count + 1) p
 unfolding set_of
 turned_next old new count bit size low is same p within =
     ⊎_elim
@@ -92,41 +96,45 @@ not_or false false = refl
 
 -- ---- nodes below a bound
 
-pub first_below : (bound : ℕ) (places rest : List ℕ) (p : ℕ) → places ≡ p ∷ rest → AreBelow bound places → p < bound
-first_below bound places rest p e are =
-    let below : AreBelow bound (p ∷ rest) = subst (AreBelow bound) e are in
+pub first_below : (bound : ℕ) (nodes rest : List ℕ) (p : ℕ) → nodes ≡ p ∷ rest → AllBelow bound nodes → p < bound
+first_below bound nodes rest p e are =
+    let below : AllBelow bound (p ∷ rest) = subst (AllBelow bound) e are in
     below 0 0 (omega arith)
 
 -- the nodes before the last, and the last
-pub front_below : (bound : ℕ) (places rest : List ℕ) (p : ℕ) → places ≡ rest ++ p ∷ [] → AreBelow bound places → AreBelow bound rest
-front_below bound places rest p e are =
-    at_all (λ (q : ℕ). q < bound) rest (λ i q at. all_at (λ (q : ℕ). q < bound) places i q are (ap (λ (xs : List ℕ). slice_get xs i) e ∙ at_front rest (p ∷ []) i q at))
+pub prefix_below : (bound : ℕ) (nodes rest : List ℕ) (p : ℕ) → nodes ≡ rest ++ p ∷ [] → AllBelow bound nodes → AllBelow bound rest
+prefix_below bound nodes rest p e are =
+    at_all (λ (q : ℕ). q < bound) rest (λ i q at. all_at (λ (q : ℕ). q < bound) nodes i q are (ap (λ (xs : List ℕ). slice_get xs i) e ∙ at_prefix rest (p ∷ []) i q at))
 
-pub last_below : (bound : ℕ) (places rest : List ℕ) (p : ℕ) → places ≡ rest ++ p ∷ [] → AreBelow bound places → p < bound
-last_below bound places rest p e are =
-    all_at (λ (q : ℕ). q < bound) places (length rest) p are (ap (λ (xs : List ℕ). slice_get xs (length rest)) e ∙ at_end rest p)
+pub last_below : (bound : ℕ) (nodes rest : List ℕ) (p : ℕ) → nodes ≡ rest ++ p ∷ [] → AllBelow bound nodes → p < bound
+last_below bound nodes rest p e are =
+    all_at (λ (q : ℕ). q < bound) nodes (length rest) p are (ap (λ (xs : List ℕ). slice_get xs (length rest)) e ∙ at_end rest p)
 
 -- a list whose nodes are below a bound
-among_at : (places : List ℕ) (i p : ℕ) → slice_get places i ≡ Some p → among places p ≡ true
+among_at : (nodes : List ℕ) (i p : ℕ) → slice_get nodes i ≡ Some p → among nodes p ≡ true
 among_at [] i p at = absurd cc
-among_at (q ∷ places) zero p at = let same : q ≡ p = cc in subst (λ (x : ℕ). among (q ∷ places) x ≡ true) same (among_first q places)
-among_at (q ∷ places) (suc i) p at = among_later q p places (among_at places i p at)
+among_at (q ∷ nodes) zero p at = let same : q ≡ p = cc in subst (λ (x : ℕ). among (q ∷ nodes) x ≡ true) same (among_first q nodes)
+among_at (q ∷ nodes) (suc i) p at = among_later q p nodes (among_at nodes i p at)
 
-pub list_below : (bound : ℕ) (places : List ℕ) → ((p : ℕ) → among places p ≡ true → p < bound) → AreBelow bound places
-list_below bound places each = at_all (λ (q : ℕ). q < bound) places (λ i p at. each p (among_at places i p at))
+pub list_below : (bound : ℕ) (nodes : List ℕ) → ((p : ℕ) → among nodes p ≡ true → p < bound) → AllBelow bound nodes
+list_below bound nodes each = at_all (λ (q : ℕ). q < bound) nodes (λ i p at. each p (among_at nodes i p at))
 
 -- ---- nodes that aren't marked
 
 -- once the first isn't marked, the others decide
-pub unmarked_next : (marks : List Bool) (places left rest : List ℕ) (q : ℕ) → left ≡ q ∷ rest → slice_index_or marks q false ≡ false → (AreUnmarked (set_of marks) left → AreUnmarked (set_of marks) places) → AreUnmarked (set_of marks) rest → AreUnmarked (set_of marks) places
+pub unmarked_next : (marks : List Bool) (nodes left rest : List ℕ) (q : ℕ) → left ≡ q ∷ rest →
+    slice_index_or marks q false ≡ false → (AreUnmarked (set_of marks) left → AreUnmarked (set_of marks) nodes) →
+    AreUnmarked (set_of marks) rest → AreUnmarked (set_of marks) nodes
 unfolding set_of
-unmarked_next marks places left rest q parts off was others =
+unmarked_next marks nodes left rest q parts off was others =
     was (λ p e. ⊎_elim (λ (same : p ≡ q). ap (λ (k : ℕ). slice_index_or marks k false) same ∙ off) (λ later. others p later) (among_cases q p rest (ap (λ (xs : List ℕ). among xs p) (sym parts) ∙ e)))
 
-pub marked_first : (marks : List Bool) (places left rest : List ℕ) (q : ℕ) → left ≡ q ∷ rest → slice_index_or marks q false ≡ true → ((p : ℕ) → among left p ≡ true → among places p ≡ true) → AreUnmarked (set_of marks) places → ⊥
+pub marked_first : (marks : List Bool) (nodes left rest : List ℕ) (q : ℕ) → left ≡ q ∷ rest →
+    slice_index_or marks q false ≡ true → ((p : ℕ) → among left p ≡ true → among nodes p ≡ true) →
+    AreUnmarked (set_of marks) nodes → ⊥
 unfolding set_of
-marked_first marks places left rest q parts on within none =
+marked_first marks nodes left rest q parts on within none =
     both_ways (slice_index_or marks q false) (none q (within q (ap (λ (xs : List ℕ). among xs q) parts ∙ among_first q rest))) on
 
-pub rest_within : (places left rest : List ℕ) (q : ℕ) → left ≡ q ∷ rest → ((p : ℕ) → among left p ≡ true → among places p ≡ true) → (p : ℕ) → among rest p ≡ true → among places p ≡ true
-rest_within places left rest q parts within p e = within p (ap (λ (xs : List ℕ). among xs p) parts ∙ among_later q p rest e)
+pub rest_within : (nodes left rest : List ℕ) (q : ℕ) → left ≡ q ∷ rest → ((p : ℕ) → among left p ≡ true → among nodes p ≡ true) → (p : ℕ) → among rest p ≡ true → among nodes p ≡ true
+rest_within nodes left rest q parts within p e = within p (ap (λ (xs : List ℕ). among xs p) parts ∙ among_later q p rest e)

@@ -1,7 +1,7 @@
 pub use Rattle.chain_core.specs.Steps
 pub use Rattle.net_core.specs.Marks
 pub use Rattle.window_theory.specs.Window
-pub use Rattle.window_theory.specs.Splice
+pub use Rattle.window_theory.specs.Substituted
 pub mod Lists
 pub mod ListsLaws
 pub mod MapLaws

@@ -1,6 +1,6 @@
 -- A window by its lists.
 use Rattle.std.specs.Prelude.{◌≡◌, ℕ, ◌<◌, Bool, true, false, List, All, None}
-use Rattle.window_theory.specs.Places.{among}
+use Rattle.window_theory.specs.Nodes.{among}
 use Rattle.window_theory.specs.Window.{Window}
 use Rattle.subst_core.specs.declared.lists.WindowLists.{WindowLists}
 
@@ -15,9 +15,9 @@ pub record HaveSameLists (w v : Window) : Type 0 where
   pub outputs : w.outputs ≡ v.outputs
 
 -- each of the nodes is below a bound
-abbrev pub AreBelow : ℕ → List ℕ → Type 0
-AreBelow bound places = All (λ (p : ℕ). p < bound) places
+abbrev pub AllBelow : ℕ → List ℕ → Type 0
+AllBelow bound nodes = All (λ (p : ℕ). p < bound) nodes
 
 -- none of the nodes is marked
 abbrev pub AreUnmarked : (ℕ → Bool) → List ℕ → Type 0
-AreUnmarked marks places = (p : ℕ) → among places p ≡ true → marks p ≡ false
+AreUnmarked marks nodes = (p : ℕ) → among nodes p ≡ true → marks p ≡ false

@@ -1,9 +1,9 @@
-//! Substitution of a chain for a window of a net. What the net becomes is said in `window_theory` (`spliced`
-//! and `IsSpliced`): first come the window's inputs with their transitive fanin, then the chain's steps, and
+//! Substitution of a chain for a window of a net. What the net becomes is said in `window_theory` (`after_substitution`
+//! and `IsSubstitution`): first come the window's inputs with their transitive fanin, then the chain's steps, and
 //! then all other nodes outside the window. The inputs of a window don't depend on its gates, so in this
 //! order each gate comes after its fanins.
 //!
-//! - `splice` substitutes any chain with as many inputs and outputs as the window has. The sinks get the
+//! - `rebuild_substituted` substitutes any chain with as many inputs and outputs as the window has. The sinks get the
 //!   values that the net gives when the window's outputs have the values of the chain's outputs.
 //! - `substitute_keeping` does so where the sinks keep their values; `replace_keeping` then removes the
 //!   dangling gates, too.
@@ -24,8 +24,8 @@
 pub mod laws;
 mod lists;
 mod marks;
+mod rebuilding;
 mod replacing;
-mod splicing;
 mod steps;
 mod substitution;
 
@@ -33,6 +33,6 @@ pub use chain_core::Chain;
 pub use lists::WindowLists;
 pub use marks::are_apart;
 pub use net_core::Net;
+pub use rebuilding::rebuild_substituted;
 pub use replacing::replace_keeping;
-pub use splicing::splice;
 pub use substitution::{substitute, substitute_keeping};

@@ -5,34 +5,34 @@ ghost use Rattle.std.specs.Prelude.{◌≡◌, ℕ, ◌<◌, ◌&&◌, not, true
 ghost use Rattle.net_theory.specs.Net.{end_of};
 ghost use Rattle.net_theory.specs.Reach.{reach};
 ghost use Rattle.net_core.specs.Marks.{set_of, no_marks};
-ghost use Rattle.window_theory.specs.Places.{among};
-ghost use Rattle.window_theory.specs.Window.{IsApart};
-ghost use Rattle.subst_core.specs.Lists.{AreBelow, AreUnmarked};
-ghost use Rattle.subst_core.specs.Placing.{with_places};
+ghost use Rattle.window_theory.specs.Nodes.{among};
+ghost use Rattle.window_theory.specs.Window.{IsOutsideFanout};
+ghost use Rattle.subst_core.specs.Lists.{AllBelow, AreUnmarked};
+ghost use Rattle.subst_core.specs.Placing.{with_nodes};
 
 use net_core::{Net, mark_reached};
 use std::alloc::{AllocError, Global};
 
 /// Marks the nodes.
-fn mark_places(marks: &mut [bool], places: &[u32])
-    requires { AreBelow (length marks.old) places.now }
-    ensures { set_of marks.new ≡ with_places (set_of marks.old) places.now }
+fn mark_nodes(marks: &mut [bool], nodes: &[u32])
+    requires { AllBelow (length marks.old) nodes.now }
+    ensures { set_of marks.new ≡ with_nodes (set_of marks.old) nodes.now }
 {
-    let mut left = places;
-    while let Some((place, rest)) = left.split_first() {
-        marks[*place as usize] = true;
+    let mut left = nodes;
+    while let Some((node, rest)) = left.split_first() {
+        marks[*node as usize] = true;
         left = rest;
     }
 }
 
 /// Marks the nodes and their transitive fanin, where nothing is marked yet.
-pub(crate) fn mark_early(marks: &mut [bool], net: &Net, places: &[u32])
+pub(crate) fn mark_early(marks: &mut [bool], net: &Net, nodes: &[u32])
     requires none { set_of marks.old ≡ no_marks }
     requires count { length marks.old ≡ end_of net.now }
-    requires below { AreBelow (end_of net.now) places.now }
-    ensures { set_of marks.new ≡ reach net.now (among places.now) }
+    requires below { AllBelow (end_of net.now) nodes.now }
+    ensures { set_of marks.new ≡ reach net.now (among nodes.now) }
 {
-    mark_places(marks, places);
+    mark_nodes(marks, nodes);
     mark_reached(marks, net);
 }
 
@@ -45,25 +45,25 @@ fn turn(marks: &mut [bool])
     }
 }
 
-/// Complements all marks, but leaves `places` unmarked.
-pub(crate) fn mark_others(marks: &mut [bool], places: &[u32])
-    requires { AreBelow (length marks.old) places.now }
+/// Complements all marks, but leaves `nodes` unmarked.
+pub(crate) fn mark_others(marks: &mut [bool], nodes: &[u32])
+    requires { AllBelow (length marks.old) nodes.now }
     ensures { (p : ℕ) → p < length marks.old →
-        set_of marks.new p ≡ (not (set_of marks.old p) && not (among places.now p)) }
+        set_of marks.new p ≡ (not (set_of marks.old p) && not (among nodes.now p)) }
 {
-    mark_places(marks, places);
+    mark_nodes(marks, nodes);
     turn(marks);
 }
 
 /// Whether none of the nodes is marked.
-fn are_unmarked(marks: &[bool], places: &[u32]) -> bool
-    requires { AreBelow (length marks.now) places.now }
-    ensures yes { result ≡ true → AreUnmarked (set_of marks.now) places.now }
-    ensures no { AreUnmarked (set_of marks.now) places.now → result ≡ true }
+fn are_unmarked(marks: &[bool], nodes: &[u32]) -> bool
+    requires { AllBelow (length marks.now) nodes.now }
+    ensures yes { result ≡ true → AreUnmarked (set_of marks.now) nodes.now }
+    ensures no { AreUnmarked (set_of marks.now) nodes.now → result ≡ true }
 {
-    let mut left = places;
-    while let Some((place, rest)) = left.split_first() {
-        if marks[*place as usize] {
+    let mut left = nodes;
+    while let Some((node, rest)) = left.split_first() {
+        if marks[*node as usize] {
             return false;
         }
         left = rest;
@@ -72,33 +72,30 @@ fn are_unmarked(marks: &[bool], places: &[u32]) -> bool
 }
 
 /// Whether the nodes don't depend on the gates; no mark is set yet.
-fn are_apart_by(marks: &mut [bool], net: &Net, gates: &[u32], places: &[u32]) -> bool
+fn are_apart_by(marks: &mut [bool], net: &Net, gates: &[u32], nodes: &[u32]) -> bool
     requires none { set_of marks.old ≡ no_marks }
     requires count { length marks.old ≡ end_of net.now }
-    requires gates { AreBelow (end_of net.now) gates.now }
-    requires places { AreBelow (end_of net.now) places.now }
-    ensures yes { result ≡ true → (p : ℕ) → among places.now p ≡ true → IsApart net.now gates.now p }
-    ensures no { ((p : ℕ) → among places.now p ≡ true → IsApart net.now gates.now p) → result ≡ true }
+    requires gates { AllBelow (end_of net.now) gates.now }
+    requires nodes { AllBelow (end_of net.now) nodes.now }
+    ensures yes { result ≡ true → (p : ℕ) → among nodes.now p ≡ true → IsOutsideFanout net.now gates.now p }
+    ensures no { ((p : ℕ) → among nodes.now p ≡ true → IsOutsideFanout net.now gates.now p) → result ≡ true }
 {
     let _gates = net.gates(); // for the prover: brings the net's invariant into the proof
-    mark_early(marks, net, places);
+    mark_early(marks, net, nodes);
     are_unmarked(marks, gates)
 }
 
 /// Whether the nodes don't depend on the gates: none is one of the gates or in their transitive fanout. No
 /// other nodes may be inputs of a window of these gates. It visits the whole net once.
-pub fn are_apart(
-    alloc: Global,
-    net: &Net,
-    gates: &[u32],
-    places: &[u32],
-) -> Result<bool, AllocError>
-    requires gates { AreBelow (end_of net.now) gates.now }
-    requires places { AreBelow (end_of net.now) places.now }
-    ensures yes { IfOk result (λ answer. answer ≡ true → (p : ℕ) → among places.now p ≡ true → IsApart net.now gates.now p) }
-    ensures no { IfOk result (λ answer. ((p : ℕ) → among places.now p ≡ true → IsApart net.now gates.now p) → answer ≡ true) }
+pub fn are_apart(alloc: Global, net: &Net, gates: &[u32], nodes: &[u32]) -> Result<bool, AllocError>
+    requires gates { AllBelow (end_of net.now) gates.now }
+    requires nodes { AllBelow (end_of net.now) nodes.now }
+    ensures yes { IfOk result (λ answer. answer ≡ true → (p : ℕ) → among nodes.now p ≡ true →
+        IsOutsideFanout net.now gates.now p) }
+    ensures no { IfOk result (λ answer. ((p : ℕ) → among nodes.now p ≡ true → IsOutsideFanout net.now gates.now p) →
+        answer ≡ true) }
 {
     let count = net.sources() as usize + 1 + net.gates().len();
     let mut marks = vec![in alloc; false; count]?;
-    Ok(are_apart_by(&mut marks, net, gates, places))
+    Ok(are_apart_by(&mut marks, net, gates, nodes))
 }

@@ -4,13 +4,16 @@ use Rattle.sat_theory.specs.Formula.{opposite}
 use Rattle.sat_theory.specs.Holding.{with_literal, IsUnitOutside, HintsHold}
 
 -- The last hint's clause is inside the set.
-pub hint_ends : (live : ℕ → Option (List ℤ)) (set : ℤ → Bool) (hint : ℕ) (more : List ℕ) (clause : List ℤ) → length more ≡ 0 → live hint ≡ Some clause → All (λ m. set m ≡ true) clause → HintsHold live set (hint ∷ more)
+pub hint_ends : (live : ℕ → Option (List ℤ)) (set : ℤ → Bool) (hint : ℕ) (more : List ℕ) (clause : List ℤ) →
+    length more ≡ 0 → live hint ≡ Some clause → All (λ m. set m ≡ true) clause → HintsHold live set (hint ∷ more)
 unfolding HintsHold
 hint_ends live set hint [] clause none is inside = (clause, is, inside)
 hint_ends live set hint (h ∷ hs) clause none is inside = absurd (omega arith)
 
 -- A hint before the last, whose clause has one literal outside, goes before the others.
-pub hint_goes : (live : ℕ → Option (List ℤ)) (set grown : ℤ → Bool) (hint : ℕ) (more : List ℕ) (clause : List ℤ) (l : ℤ) → 0 < length more → live hint ≡ Some clause → IsUnitOutside set clause l → grown ≡ with_literal set (opposite l) → HintsHold live grown more → HintsHold live set (hint ∷ more)
+pub hint_goes : (live : ℕ → Option (List ℤ)) (set grown : ℤ → Bool) (hint : ℕ) (more : List ℕ) (clause : List ℤ)
+    (l : ℤ) → 0 < length more → live hint ≡ Some clause → IsUnitOutside set clause l →
+    grown ≡ with_literal set (opposite l) → HintsHold live grown more → HintsHold live set (hint ∷ more)
 unfolding HintsHold
 hint_goes live set grown hint [] clause l some is unit grows holds = absurd (omega arith)
 hint_goes live set grown hint (h ∷ hs) clause l some is unit grows holds =

@@ -15,7 +15,8 @@ use Rattle.clause_db.specs.SortedLaws.{Contains-sorted, length-sorted}
 use Rattle.subsume_core.specs.Units.{IsUnitsOf, AreFlagged, IsFlagged}
 
 -- the flag of a list of one literal is set
-pub flagged_set : (lits : List ℤ) (flags new : List Bool) (first : ℤ) → slice_index_or lits 0 first ≡ first → code_of first < length flags → new ≡ slice_set flags (code_of first) true → IsFlagged lits flags new
+pub flagged_set : (lits : List ℤ) (flags new : List Bool) (first : ℤ) → slice_index_or lits 0 first ≡ first →
+    code_of first < length flags → new ≡ slice_set flags (code_of first) true → IsFlagged lits flags new
 flagged_set lits flags new first is low now = record {
   room = ap length now ∙ length-set flags (code_of first) true;
   kept = λ l is_on. at l ∙ with_literal-old (marked_in flags) first l is_on;
@@ -42,7 +43,10 @@ one_inside : (vars : ℕ) (lits : List ℤ) (l : ℤ) → lits ≡ l ∷ [] → 
 one_inside vars lits l is within = code_of-room l vars (All-contains (λ m. variable m ≤ vars) (l ∷ []) l (subst (λ (xs : List ℤ). IsWithin vars xs) is within) (0, omega arith, refl))
 
 -- one clause more is flagged
-pub flagged_read : (s : Stored) (n id : ℕ) (row : List ℤ) (old new : List Bool) → id ≡ n + 1 → ((clause : List ℤ) → live_in s id ≡ Some clause → length row ≡ length clause) → ((clause : List ℤ) → live_in s id ≡ Some clause → (l : ℤ) → Contains row l ↔ Contains clause l) → IsWithin s.vars row → IsFlagged row old new → AreFlagged s n old → AreFlagged s id new
+pub flagged_read : (s : Stored) (n id : ℕ) (row : List ℤ) (old new : List Bool) → id ≡ n + 1 →
+    ((clause : List ℤ) → live_in s id ≡ Some clause → length row ≡ length clause) →
+    ((clause : List ℤ) → live_in s id ≡ Some clause → (l : ℤ) → Contains row l ↔ Contains clause l) →
+    IsWithin s.vars row → IsFlagged row old new → AreFlagged s n old → AreFlagged s id new
 flagged_read s n id row old new next long same within flagged are = record {
   room = flagged.room ∙ are.room;
   flagged = λ k l low is. ⊎_elim

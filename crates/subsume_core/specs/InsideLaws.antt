@@ -11,7 +11,8 @@ use Rattle.clause_db.specs.StoredLaws.{live_added}
 
 sorted_empty : (lits : List ℤ) → sorted lits ≡ [] → lits ≡ []
 sorted_empty [] is = refl
-sorted_empty (l ∷ ls) is = absurd (let long : length (sorted (l ∷ ls)) ≡ length (l ∷ ls) = length-sorted (l ∷ ls) in let none : length (sorted (l ∷ ls)) ≡ 0 = ap length is in omega (arith, long, none))
+sorted_empty (l ∷ ls) is = absurd (let long : length (sorted (l ∷ ls)) ≡ length (l ∷ ls) = length-sorted (l ∷ ls) in
+    let none : length (sorted (l ∷ ls)) ≡ 0 = ap length is in omega (arith, long, none))
 
 -- Where no clause of a formula is empty, none is live at the start.
 pub none_empty : (clauses : List (List ℤ)) (live : ℕ → Option (List ℤ)) → live ≡ by_id (map sorted clauses) → (Contains clauses [] → ⊥) → (id : ℕ) → live id ≡ Some [] → ⊥

@@ -8,7 +8,7 @@
 //! each needs only one that was still marked then, so one that is kept or whose own hint comes before.
 ghost use Rattle.std.specs.Prelude.{◌≤◌};
 
-use crate::marks::Marks;
+use crate::marks::LitFlags;
 use clause_db::ClauseDb;
 use cnf_core::Lit;
 use std::alloc::{AllocError, Global};
@@ -24,7 +24,7 @@ const MOST_WORK: usize = 50_000_000;
 
 /// The result for one clause.
 #[derive(Clone, Copy)]
-pub enum Found {
+pub enum Simplification {
     Nothing,
     /// the id of a clause that subsumes it
     Subsumed(u32),
@@ -49,9 +49,9 @@ pub struct Finder {
     /// by literal, the id of its first unit clause; 0 if there is none
     units: Vec<u32>,
     /// by literal, the binary clauses with this literal
-    rows: Vec<Vec<Binary>>,
+    binaries: Vec<Vec<Binary>>,
     /// the literals of the current clause that aren't removed yet
-    marks: Marks,
+    marks: LitFlags,
     gone: Vec<Lit>,
     hints: Vec<u32>,
     /// the number of binary clauses that may still be read
@@ -66,8 +66,8 @@ impl Finder {
             order: by_length(alloc, clauses, given)?,
             short: count_short(clauses, given),
             units: vec![in alloc; 0u32; room]?,
-            rows: rows(alloc, room)?,
-            marks: Marks::new(alloc, clauses.vars())?,
+            binaries: binaries(alloc, room)?,
+            marks: LitFlags::new(alloc, clauses.vars())?,
             gone: Vec::new(alloc),
             hints: Vec::new(alloc),
             work: MOST_WORK,
@@ -109,8 +109,8 @@ impl Finder {
 
     fn note_binary(&mut self, lit: Lit, other: Lit, id: u32) -> Result<(), AllocError> {
         let code = lit.code();
-        if code < self.rows.len() {
-            self.rows[code].push(Binary { other, id })?;
+        if code < self.binaries.len() {
+            self.binaries[code].push(Binary { other, id })?;
         }
         Ok(())
     }
@@ -131,18 +131,18 @@ impl Finder {
     }
 
     /// Finds out whether unit and binary clauses subsume or strengthen a clause.
-    pub fn find(&mut self, clauses: &ClauseDb, id: u32) -> Result<Found, AllocError> {
+    pub fn find(&mut self, clauses: &ClauseDb, id: u32) -> Result<Simplification, AllocError> {
         self.gone.clear();
         self.hints.clear();
         if !clauses.live(id) {
-            return Ok(Found::Nothing);
+            return Ok(Simplification::Nothing);
         }
         let lits = clauses.arranged(id);
         if lits.len() > MOST_LITERALS {
-            return Ok(Found::Nothing);
+            return Ok(Simplification::Nothing);
         }
         self.marks.set_all(lits, true);
-        let found = self.look(clauses, id, lits);
+        let found = self.find_marked(clauses, id, lits);
         self.marks.set_all(lits, false);
         found
     }
@@ -159,27 +159,37 @@ impl Finder {
 
     /// Looks at the literals of a clause, which are marked. Marks are only cleared, so a second pass would
     /// find no more.
-    fn look(&mut self, clauses: &ClauseDb, id: u32, lits: &[Lit]) -> Result<Found, AllocError> {
-        let other = self.sweep(clauses, id, lits)?;
+    fn find_marked(
+        &mut self,
+        clauses: &ClauseDb,
+        id: u32,
+        lits: &[Lit],
+    ) -> Result<Simplification, AllocError> {
+        let other = self.look_at_each(clauses, id, lits)?;
         if other != 0 {
-            return Ok(Found::Subsumed(other));
+            return Ok(Simplification::Subsumed(other));
         }
-        self.tell(id)
+        self.conclude(id)
     }
 
     /// The result for a clause that isn't subsumed.
-    fn tell(&mut self, id: u32) -> Result<Found, AllocError> {
+    fn conclude(&mut self, id: u32) -> Result<Simplification, AllocError> {
         if self.gone.is_empty() {
-            return Ok(Found::Nothing);
+            return Ok(Simplification::Nothing);
         }
         self.hints.reverse();
         self.hints.push(id)?;
-        Ok(Found::Shorter)
+        Ok(Simplification::Shorter)
     }
 
     /// Looks at each literal of a clause once, and returns the id of a clause that subsumes it; 0 if none was
     /// found.
-    fn sweep(&mut self, clauses: &ClauseDb, id: u32, lits: &[Lit]) -> Result<u32, AllocError> {
+    fn look_at_each(
+        &mut self,
+        clauses: &ClauseDb,
+        id: u32,
+        lits: &[Lit],
+    ) -> Result<u32, AllocError> {
         for lit in lits {
             if self.work == 0 {
                 return Ok(0);
@@ -191,20 +201,20 @@ impl Finder {
             if self.gone.len().saturating_add(1) < lits.len() {
                 self.drop_literal(clauses, id, *lit)?;
             }
-            self.pay(*lit);
+            self.count_work(*lit);
         }
         Ok(0)
     }
 
     /// Counts the binary clauses that were read for a literal.
-    fn pay(&mut self, lit: Lit) {
+    fn count_work(&mut self, lit: Lit) {
         let count = self.count(lit).saturating_add(self.count(lit.opposite()));
         self.work = self.work.saturating_sub(count);
     }
 
     /// The number of binary clauses of a literal.
     fn count(&self, lit: Lit) -> usize {
-        match self.rows.get(lit.code()) {
+        match self.binaries.get(lit.code()) {
             Some(row) => row.len(),
             None => 0,
         }
@@ -229,7 +239,7 @@ impl Finder {
         if unit != id && clauses.live(unit) {
             return unit;
         }
-        let Some(row) = self.rows.get(lit.code()) else {
+        let Some(row) = self.binaries.get(lit.code()) else {
             return 0;
         };
         for binary in row {
@@ -250,12 +260,12 @@ fn number_at(numbers: &[u32], index: usize) -> u32 {
 }
 
 /// A number of empty lists.
-fn rows(alloc: Global, count: usize) -> Result<Vec<Vec<Binary>>, AllocError> {
-    let mut rows = Vec::with_capacity(alloc, count)?;
+fn binaries(alloc: Global, count: usize) -> Result<Vec<Vec<Binary>>, AllocError> {
+    let mut binaries = Vec::with_capacity(alloc, count)?;
     for _row in 0..count {
-        rows.push(Vec::new(alloc))?;
+        binaries.push(Vec::new(alloc))?;
     }
-    Ok(rows)
+    Ok(binaries)
 }
 
 /// The ids 1 to `given`, by increasing length of their clauses (counting sort).

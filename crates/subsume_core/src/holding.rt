@@ -93,12 +93,12 @@ pub fn keep_others(lits: &[Lit], gone: &[Lit], kept: &mut Vec<Lit>) -> Result<()
     ensures inside { OnOk result (All (Contains lits.now) kept.new.items) }
     ensures clause { IsClause lits.now → OnOk result (IsClause kept.new.items) }
 {
-    take_others(lits, gone, kept)?;
+    copy_others(lits, gone, kept)?;
     Ok(())
 }
 
 /// The same, as an equation alone.
-fn take_others(lits: &[Lit], gone: &[Lit], kept: &mut Vec<Lit>) -> Result<(), AllocError>
+fn copy_others(lits: &[Lit], gone: &[Lit], kept: &mut Vec<Lit>) -> Result<(), AllocError>
     ensures { OnOk result (kept.new.items ≡ filter (λ l. not (among gone.now l)) lits.now) }
 {
     kept.clear();

@@ -6,7 +6,7 @@
 //! A clause C is subsumed if all literals of another clause are in C, and may then be deleted. If all but one
 //! of them are in C and C has the opposite of that one, the two resolve to C without this opposite, which
 //! replaces C. The finder looks for both, and its contracts promise nothing. Before a strengthened clause is
-//! added, `holds` tests that it follows by the hints, and `is_new` that no live clause subsumes it; their
+//! added, `holds` tests that it follows by the hints, and `is_unsubsumed` that no live clause subsumes it; their
 //! contracts are what a log requires of an addition.
 //!
 //! ```text
@@ -25,8 +25,8 @@ mod marks;
 mod newness;
 mod units;
 
-pub use finder::{Finder, Found};
+pub use finder::{Finder, Simplification};
 pub use holding::{contains_all, holds, keep_others};
-pub use marks::Marks;
-pub use newness::is_new;
+pub use marks::LitFlags;
+pub use newness::is_unsubsumed;
 pub use units::Units;

@@ -9,11 +9,11 @@ use std::marker::Model;
 
 /// Which literals are marked, as a flag for each. Contracts see the list of flags.
 #[derive(Drop)]
-pub struct Marks {
+pub struct LitFlags {
     flags: Vec<bool>,
 }
 
-impl Model for Marks {
+impl Model for LitFlags {
     ghost use Rattle.std.specs.Prelude.{List, Bool};
 
     ghost Value = { List Bool };
@@ -21,10 +21,10 @@ impl Model for Marks {
     ghost view = { λ m. m.flags.items };
 }
 
-impl Marks {
+impl LitFlags {
     /// A flag for each literal of the variables 1 to `vars`, none of which is set.
-    pub fn new(alloc: Global, vars: u32) -> Result<Marks, AllocError> {
-        Ok(Marks {
+    pub fn new(alloc: Global, vars: u32) -> Result<LitFlags, AllocError> {
+        Ok(LitFlags {
             flags: vec![in alloc; false; 2 * vars as usize + 2]?,
         })
     }

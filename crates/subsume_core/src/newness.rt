@@ -4,37 +4,37 @@
 //! are marked meanwhile: a clause inside the list has only marked literals.
 ghost use Rattle.std.specs.Prelude.{◌≡◌, ℕ, ℤ, ◌≤◌, List, [], true, Some, All, IsTrue};
 ghost use Rattle.sat_theory.specs.Formula.{variable as variable_of, IsWithin};
-ghost use Rattle.sat_theory.specs.Log.{IsNew};
+ghost use Rattle.sat_theory.specs.Log.{IsUnsubsumed};
 ghost use Rattle.cdcl_theory.specs.Codes.{marked_in};
 ghost use Rattle.clause_db.specs.Stored.{live_in};
 ghost use Rattle.subsume_core.specs.Units.{IsUnitsOf};
 ghost use Rattle.subsume_core.specs.Inside.{NoneWatching, IsApart};
 
-use crate::marks::Marks;
+use crate::marks::LitFlags;
 use crate::units::Units;
 use clause_db::ClauseDb;
 use cnf_core::Lit;
 
 /// Whether no live clause subsumes a list, given that no live clause is empty. `marks` is scratch space, with
 /// no mark set.
-pub fn is_new(clauses: &ClauseDb, units: &Units, marks: &mut Marks, lits: &[Lit]) -> bool
+pub fn is_unsubsumed(clauses: &ClauseDb, units: &Units, marks: &mut LitFlags, lits: &[Lit]) -> bool
     requires units { IsUnitsOf clauses.now units.now }
     requires within { IsWithin clauses.now.vars lits.now }
     requires some { (id : ℕ) → live_in clauses.now id ≡ Some [] → ⊥ }
-    ensures { IsTrue result → IsNew (live_in clauses.now) lits.now }
+    ensures { IsTrue result → IsUnsubsumed (live_in clauses.now) lits.now }
 {
     marks.set_all(lits, true);
-    let is_new = is_new_by(clauses, units, marks, lits);
+    let is_unsubsumed = is_unsubsumed_by(clauses, units, marks, lits);
     marks.set_all(lits, false);
-    is_new
+    is_unsubsumed
 }
 
 /// The same, with the list's literals marked.
-fn is_new_by(clauses: &ClauseDb, units: &Units, marks: &Marks, lits: &[Lit]) -> bool
+fn is_unsubsumed_by(clauses: &ClauseDb, units: &Units, marks: &LitFlags, lits: &[Lit]) -> bool
     requires units { IsUnitsOf clauses.now units.now }
     requires within { IsWithin clauses.now.vars lits.now }
     requires some { (id : ℕ) → live_in clauses.now id ≡ Some [] → ⊥ }
-    ensures { IsTrue result → IsNew (live_in clauses.now) lits.now }
+    ensures { IsTrue result → IsUnsubsumed (live_in clauses.now) lits.now }
 {
     if !marks.covers(lits) {
         return false;
@@ -43,12 +43,12 @@ fn is_new_by(clauses: &ClauseDb, units: &Units, marks: &Marks, lits: &[Lit]) -> 
 }
 
 /// The same, given that all literals of the list are marked.
-fn are_apart(clauses: &ClauseDb, units: &Units, marks: &Marks, lits: &[Lit]) -> bool
+fn are_apart(clauses: &ClauseDb, units: &Units, marks: &LitFlags, lits: &[Lit]) -> bool
     requires units { IsUnitsOf clauses.now units.now }
     requires within { IsWithin clauses.now.vars lits.now }
     requires some { (id : ℕ) → live_in clauses.now id ≡ Some [] → ⊥ }
     requires marked { All (λ l. marked_in marks.now l ≡ true) lits.now }
-    ensures { IsTrue result → IsNew (live_in clauses.now) lits.now }
+    ensures { IsTrue result → IsUnsubsumed (live_in clauses.now) lits.now }
 {
     // for the prover: brings in the invariant of the clauses
     let _last = clauses.last();
@@ -62,9 +62,10 @@ fn are_apart(clauses: &ClauseDb, units: &Units, marks: &Marks, lits: &[Lit]) -> 
 
 /// Whether a literal is no unit clause, and each clause that watches it has an unmarked literal. Then none of
 /// these is inside a list whose literals are all marked.
-fn is_apart(clauses: &ClauseDb, units: &Units, marks: &Marks, lit: Lit) -> bool
+fn is_apart(clauses: &ClauseDb, units: &Units, marks: &LitFlags, lit: Lit) -> bool
     requires { variable_of lit ≤ clauses.now.vars }
-    ensures { (lits : List ℤ) → All (λ l. marked_in marks.now l ≡ true) lits → IsTrue result → IsApart clauses.now units.now lits lit }
+    ensures { (lits : List ℤ) → All (λ l. marked_in marks.now l ≡ true) lits → IsTrue result →
+        IsApart clauses.now units.now lits lit }
 {
     if units.has(lit) {
         return false;
@@ -73,9 +74,10 @@ fn is_apart(clauses: &ClauseDb, units: &Units, marks: &Marks, lit: Lit) -> bool
 }
 
 /// Whether each clause that watches a literal has an unmarked literal.
-fn none_watching(clauses: &ClauseDb, marks: &Marks, lit: Lit) -> bool
+fn none_watching(clauses: &ClauseDb, marks: &LitFlags, lit: Lit) -> bool
     requires { variable_of lit ≤ clauses.now.vars }
-    ensures { (lits : List ℤ) → All (λ l. marked_in marks.now l ≡ true) lits → IsTrue result → NoneWatching clauses.now lits lit }
+    ensures { (lits : List ℤ) → All (λ l. marked_in marks.now l ≡ true) lits → IsTrue result →
+        NoneWatching clauses.now lits lit }
 {
     let count = clauses.watching(lit).len();
     for index in 0..count {

@@ -50,7 +50,8 @@ impl Units {
 
     /// Sets the flag of a clause, if it is a live unit clause.
     fn flag_live(&mut self, clauses: &ClauseDb, id: u32)
-        ensures { (before : ℕ) → id ≡ before + 1 → AreFlagged clauses.now before self.old → AreFlagged clauses.now id self.new }
+        ensures { (before : ℕ) → id ≡ before + 1 → AreFlagged clauses.now before self.old →
+            AreFlagged clauses.now id self.new }
     {
         if !clauses.live(id) {
             return;
@@ -74,7 +75,8 @@ impl Units {
 
     /// Records a clause that was added.
     pub fn note(&mut self, lits: &[Lit])
-        ensures { (s : Stored) → IsUnitsOf s self.old → IsWithin s.vars lits.now → IsUnitsOf (added s lits.now) self.new }
+        ensures { (s : Stored) → IsUnitsOf s self.old → IsWithin s.vars lits.now →
+            IsUnitsOf (added s lits.now) self.new }
     {
         self.flag(lits);
     }

@@ -1,2 +1,2 @@
-pub mod UnderWay
+pub mod InProgress
 pub mod DepthCertified

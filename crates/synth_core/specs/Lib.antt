@@ -1,4 +1,4 @@
-pub mod Asking
+pub mod SettingsHeader
 pub mod Tables
 pub mod Certifying
 pub mod Pieces

@@ -7,12 +7,12 @@ use Rattle.tt_core.specs.Words.{Words}
 use Rattle.tt_core.specs.Tables.{Read, tables_of}
 
 -- a line after the tables is a bad row
-abbrev pub nothing_behind : Words → List Line → Result Words SpecError
-nothing_behind w [] = Ok w
-nothing_behind w (l ∷ ls) = Err (BadRow (2 + length w.on))
+abbrev pub nothing_after : Words → List Line → Result Words SpecError
+nothing_after w [] = Ok w
+nothing_after w (l ∷ ls) = Err (BadRow (2 + length w.on))
 
 abbrev pub words_alone : Result Read SpecError → Result Words SpecError
-words_alone (Ok read) = nothing_behind read.words read.rest
+words_alone (Ok read) = nothing_after read.words read.rest
 words_alone (Err fault) = Err fault
 
 -- the tables that lines spell, or the first fault

@@ -4,17 +4,17 @@ ghost use Rattle.text_core.specs.Lines.{lines_of};
 ghost use Rattle.settings.specs.declared.methods.Method.TheVariants.{Fence};
 ghost use Rattle.settings.specs.Synth.{IsInRange};
 ghost use Rattle.tt_core.specs.Gives.{Fails};
-ghost use Rattle.cert_theory.specs.Bundle.{HasOutput, IsValid};
-ghost use Rattle.cert_theory.specs.Spelling.{bundle_text};
-ghost use Rattle.depth_theory.specs.DepthBundle.{IsDepth};
+ghost use Rattle.cert_theory.specs.Certificate.{HasOutput, IsValid};
+ghost use Rattle.cert_theory.specs.Spelling.{cert_text};
+ghost use Rattle.depth_theory.specs.DepthCertificate.{IsDepth};
 ghost use Rattle.depth_theory.specs.DepthSpelling.{depth_text};
 ghost use Rattle.synth_core.specs.Tables.{tables_alone};
 ghost use Rattle.synth_core.specs.DepthCertifying.{IsCertificate};
 
 use crate::tables;
-use cert_text::write_bundle;
-use cert_theory::{Bundle, Verdict};
-use depth_core::{Deep, DepthBundle, least_depth, write_depth};
+use cert_text::write_certificate;
+use cert_theory::{Certificate, Verdict};
+use depth_core::{DepthCertificate, DepthResult, least_depth, write_depth};
 use depth_theory::DepthVerdict;
 use sat_solve::Solver;
 use settings::SynthSettings;
@@ -32,30 +32,30 @@ pub enum Found {
 
 /// A certificate as text, and its result.
 #[derive(Drop)]
-pub struct DepthCertificate {
+pub struct CertifiedDepth {
     pub text: Vec<u8>,
     pub found: Found,
 }
 
 /// The text of a depth certificate.
-fn depth_written(alloc: Global, bundle: &DepthBundle) -> Result<Vec<u8>, AllocError>
-    requires is_depth { IsDepth bundle.now }
-    requires output { HasOutput bundle.now.bundle }
-    ensures { IfOk result (λ text. text.items ≡ depth_text bundle.now) }
+fn depth_written(alloc: Global, certificate: &DepthCertificate) -> Result<Vec<u8>, AllocError>
+    requires is_depth { IsDepth certificate.now }
+    requires output { HasOutput certificate.now.certificate }
+    ensures { IfOk result (λ text. text.items ≡ depth_text certificate.now) }
 {
     let mut text = Vec::new(alloc);
-    write_depth(bundle, &mut text)?;
+    write_depth(certificate, &mut text)?;
     Ok(text)
 }
 
 /// The text of a certificate.
-fn bundle_written(alloc: Global, bundle: &Bundle) -> Result<Vec<u8>, AllocError>
-    requires valid { IsValid bundle.now }
-    requires output { HasOutput bundle.now }
-    ensures { IfOk result (λ text. text.items ≡ bundle_text bundle.now) }
+fn certificate_written(alloc: Global, certificate: &Certificate) -> Result<Vec<u8>, AllocError>
+    requires valid { IsValid certificate.now }
+    requires output { HasOutput certificate.now }
+    ensures { IfOk result (λ text. text.items ≡ cert_text certificate.now) }
 {
     let mut text = Vec::new(alloc);
-    write_bundle(bundle, &mut text)?;
+    write_certificate(certificate, &mut text)?;
     Ok(text)
 }
 
@@ -66,28 +66,34 @@ fn bundle_written(alloc: Global, bundle: &Bundle) -> Result<Vec<u8>, AllocError>
 pub fn certify_depth<S: Solver>(
     alloc: Global,
     bytes: &[u8],
-    asked: &SynthSettings,
-) -> Result<DepthCertificate, SpecError>
+    settings: &SynthSettings,
+) -> Result<CertifiedDepth, SpecError>
     requires length { length bytes.now < 2 ^ 31 }
-    requires range { IsInRange asked.now }
-    requires by_fences { asked.now.method ≡ Fence }
-    ensures certificate { IfOk result (λ c. IsCertificate bytes.now asked.now c.text.items c.found) }
+    requires range { IsInRange settings.now }
+    requires by_fences { settings.now.method ≡ Fence }
+    ensures certificate { IfOk result (λ c. IsCertificate bytes.now settings.now c.text.items c.found) }
     ensures refusal { IfErr result (λ e. Fails e (tables_alone (lines_of bytes.now))) }
 {
     let spec = tables(alloc, bytes)?;
-    match least_depth::<S>(alloc, &spec, asked.basis, asked.max, asked.conflicts)? {
-        Deep::Least(bundle) => {
-            let text = depth_written(alloc, &bundle)?;
-            Ok(DepthCertificate {
+    match least_depth::<S>(
+        alloc,
+        &spec,
+        settings.basis,
+        settings.max,
+        settings.conflicts,
+    )? {
+        DepthResult::Least(certificate) => {
+            let text = depth_written(alloc, &certificate)?;
+            Ok(CertifiedDepth {
                 text,
-                found: Found::Least(bundle.verdict),
+                found: Found::Least(certificate.verdict),
             })
         }
-        Deep::Other(bundle) => {
-            let text = bundle_written(alloc, &bundle)?;
-            Ok(DepthCertificate {
+        DepthResult::Other(certificate) => {
+            let text = certificate_written(alloc, &certificate)?;
+            Ok(CertifiedDepth {
                 text,
-                found: Found::Other(bundle.verdict),
+                found: Found::Other(certificate.verdict),
             })
         }
     }

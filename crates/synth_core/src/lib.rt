@@ -3,7 +3,7 @@
 //! `cert_text` for writing certificates. The basis, the method and the limits are `SynthSettings`. It is generic
 //! in the solver `S`.
 //!
-//! `begin` writes the header, and each call of `go_on` what one more size adds. Nothing is kept of the text handed
+//! `begin` writes the header, and each call of `next_piece` what one more size adds. Nothing is kept of the text handed
 //! out. The theorem: the texts, one after the other, are a valid certificate for the tables in the input, with the
 //! verdict that the last call returns; and `begin` refuses exactly an input that isn't tables alone.
 //!
@@ -19,7 +19,7 @@ mod reading;
 
 pub use cert_theory::Verdict;
 pub use depth_theory::DepthVerdict;
-pub use least_depth::{DepthCertificate, Found, certify_depth};
-pub use pieces::{Begun, Piece, begin, go_on};
+pub use least_depth::{CertifiedDepth, Found, certify_depth};
+pub use pieces::{BegunSynthesis, Piece, begin, next_piece};
 pub use reading::tables;
 pub use settings::SynthSettings;

@@ -5,22 +5,22 @@ ghost use Rattle.text_core.specs.Lines.{lines_of};
 ghost use Rattle.settings.specs.Synth.{IsInRange};
 ghost use Rattle.settings.specs.declared.synth.SynthSettings.{SynthSettings};
 ghost use Rattle.tt_core.specs.Gives.{Fails};
-ghost use Rattle.synth_core.specs.Pieces.{IsUnderWay, GoesOn, GoesUp};
+ghost use Rattle.synth_core.specs.Pieces.{IsInProgress, IsNextPiece, Rises};
 ghost use Rattle.synth_core.specs.Tables.{tables_alone};
 
 use crate::reading::tables;
-use cert_text::{write_ending, write_heading, write_section};
+use cert_text::{write_header, write_section, write_trailer};
 use cert_theory::Verdict;
 use sat_solve::Solver;
 use settings::SynthSettings;
-use size_loop::{Advance, Search};
+use size_loop::{Advance, SizeSearch};
 use std::alloc::{AllocError, Global};
 use tt_core::SpecError;
 
 /// A search before its first size.
 #[derive(Drop)]
-pub struct Begun {
-    pub search: Search,
+pub struct BegunSynthesis {
+    pub search: SizeSearch,
     /// The text of its certificate's header.
     pub text: Vec<u8>,
 }
@@ -29,41 +29,51 @@ pub struct Begun {
 #[derive(Drop)]
 pub enum Piece {
     /// A section, and the search that goes on after it.
-    Section { search: Search, text: Vec<u8> },
+    Section { search: SizeSearch, text: Vec<u8> },
     /// The trailer.
-    Ending { text: Vec<u8>, verdict: Verdict },
+    Trailer { text: Vec<u8>, verdict: Verdict },
 }
 
 /// Begins a search for a chain of the fewest steps that implements the tables in the input. A line after the
 /// tables is refused as `BadRow`.
-#[tactic(auto, using(crate::proofs::UnderWay::under_way))]
-pub fn begin(alloc: Global, bytes: &[u8], asked: &SynthSettings) -> Result<Begun, SpecError>
+#[tactic(auto, using(crate::proofs::InProgress::in_progress))]
+pub fn begin(
+    alloc: Global,
+    bytes: &[u8],
+    settings: &SynthSettings,
+) -> Result<BegunSynthesis, SpecError>
     requires length { length bytes.now < 2 ^ 31 }
-    requires range { IsInRange asked.now }
-    ensures begun { IfOk result (λ b. IsUnderWay bytes.now asked.now b.search b.text.items) }
+    requires range { IsInRange settings.now }
+    ensures begun { IfOk result (λ b. IsInProgress bytes.now settings.now b.search b.text.items) }
     ensures first { IfOk result (λ b. b.search.next ≡ 0) }
     ensures refusal { IfErr result (λ e. Fails e (tables_alone (lines_of bytes.now))) }
 {
     let spec = tables(alloc, bytes)?;
     let mut text = Vec::new(alloc);
-    write_heading(
+    write_header(
         &spec,
-        asked.basis,
-        asked.method,
-        asked.conflicts,
-        asked.max,
+        settings.basis,
+        settings.method,
+        settings.conflicts,
+        settings.max,
         &mut text,
     )?;
-    let search = Search::new(spec, asked.basis, asked.method, asked.max, asked.conflicts);
-    Ok(Begun { search, text })
+    let search = SizeSearch::new(
+        spec,
+        settings.basis,
+        settings.method,
+        settings.max,
+        settings.conflicts,
+    );
+    Ok(BegunSynthesis { search, text })
 }
 
 /// Searches the next size with the solver `S`, and writes what it adds.
-#[tactic(auto, using(crate::proofs::UnderWay::under_way))]
-pub fn go_on<S: Solver>(alloc: Global, search: Search) -> Result<Piece, AllocError>
-    ensures piece { IfOk result (λ piece. (bytes : List ℕ) (asked : SynthSettings) (before : List ℕ) →
-        IsUnderWay bytes asked search before → GoesOn bytes asked before piece) }
-    ensures up { IfOk result (λ piece. GoesUp search piece) }
+#[tactic(auto, using(crate::proofs::InProgress::in_progress))]
+pub fn next_piece<S: Solver>(alloc: Global, search: SizeSearch) -> Result<Piece, AllocError>
+    ensures piece { IfOk result (λ piece. (bytes : List ℕ) (settings : SynthSettings) (before : List ℕ) →
+        IsInProgress bytes settings search before → IsNextPiece bytes settings before piece) }
+    ensures up { IfOk result (λ piece. Rises search piece) }
 {
     let mut text = Vec::new(alloc);
     match search.advance::<S>(alloc)? {
@@ -72,8 +82,8 @@ pub fn go_on<S: Solver>(alloc: Global, search: Search) -> Result<Piece, AllocErr
             Ok(Piece::Section { search: rest, text })
         }
         Advance::Ended { chain, verdict } => {
-            write_ending(&chain, verdict, &mut text)?;
-            Ok(Piece::Ending { text, verdict })
+            write_trailer(&chain, verdict, &mut text)?;
+            Ok(Piece::Trailer { text, verdict })
         }
     }
 }

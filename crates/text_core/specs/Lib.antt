@@ -1,4 +1,4 @@
-pub mod Cuts
+pub mod Splits
 pub mod Items
 pub mod Lines
 pub mod Numbers

@@ -14,33 +14,33 @@ use Rattle.text_core.specs.Numbers.{number_from, number_up_to}
 
 -- ---- lines
 
-line_from_back : (front text rest : List ℕ) → is_free 10 text ≡ true → lines_from front (text ++ 10 ∷ rest) ≡ record { text = front ++ text; ended = true } ∷ lines_of rest
+line_from_back : (prefix text rest : List ℕ) → is_free 10 text ≡ true → lines_from prefix (text ++ 10 ∷ rest) ≡ record { text = prefix ++ text; ended = true } ∷ lines_of rest
 unfolding lines_from is_free
-line_from_back front [] rest free = grind (arith, common_steps)
-line_from_back front (b ∷ text) rest free = grind (arith, common_steps, line_from_back (front ++ b ∷ []) text rest)
+line_from_back prefix [] rest free = grind (arith, common_steps)
+line_from_back prefix (b ∷ text) rest free = grind (arith, common_steps, line_from_back (prefix ++ b ∷ []) text rest)
 
 -- a line that an LF ends
 pub line_back : (text rest : List ℕ) → is_free 10 text ≡ true → lines_of (text ++ 10 ∷ rest) ≡ record { text = text; ended = true } ∷ lines_of rest
 line_back text rest free = line_from_back [] text rest free
 
-last_from_back : (front text : List ℕ) → is_free 10 text ≡ true → lines_from front text ≡ last_line (front ++ text)
+last_from_back : (prefix text : List ℕ) → is_free 10 text ≡ true → lines_from prefix text ≡ last_line (prefix ++ text)
 unfolding lines_from is_free
-last_from_back front [] free = grind (arith, common_steps)
-last_from_back front (b ∷ text) free = grind (arith, common_steps, last_from_back (front ++ b ∷ []) text)
+last_from_back prefix [] free = grind (arith, common_steps)
+last_from_back prefix (b ∷ text) free = grind (arith, common_steps, last_from_back (prefix ++ b ∷ []) text)
 
 -- a last line that no LF ends
 pub last_line_back : (text : List ℕ) → is_free 10 text ≡ true → 0 < length text → lines_of text ≡ record { text = text; ended = false } ∷ []
 last_line_back [] free some = absurd (omega arith)
 last_line_back (b ∷ text) free some = last_from_back [] (b ∷ text) free
 
-last_spells : (front : List ℕ) → flat_map line_bytes (last_line front) ≡ front
+last_spells : (prefix : List ℕ) → flat_map line_bytes (last_line prefix) ≡ prefix
 last_spells [] = refl
 last_spells (b ∷ bs) = grind (arith, common_steps)
 
-lines_from_spell : (front bytes : List ℕ) → flat_map line_bytes (lines_from front bytes) ≡ front ++ bytes
+lines_from_spell : (prefix bytes : List ℕ) → flat_map line_bytes (lines_from prefix bytes) ≡ prefix ++ bytes
 unfolding lines_from
-lines_from_spell front [] = grind (arith, common_steps, last_spells front)
-lines_from_spell front (b ∷ bytes) = grind (arith, common_steps, lines_from_spell [] bytes, lines_from_spell (front ++ b ∷ []) bytes)
+lines_from_spell prefix [] = grind (arith, common_steps, last_spells prefix)
+lines_from_spell prefix (b ∷ bytes) = grind (arith, common_steps, lines_from_spell [] bytes, lines_from_spell (prefix ++ b ∷ []) bytes)
 
 -- the concatenation of the lines is the text
 pub lines_spell : (bytes : List ℕ) → flat_map line_bytes (lines_of bytes) ≡ bytes
@@ -48,24 +48,24 @@ lines_spell bytes = lines_from_spell [] bytes
 
 -- ---- items
 
-item_from_back : (front item rest : List ℕ) → is_free 32 item ≡ true → split_from front (item ++ 32 ∷ rest) ≡ record { first = front ++ item; more = items_of rest }
+item_from_back : (prefix item rest : List ℕ) → is_free 32 item ≡ true → split_from prefix (item ++ 32 ∷ rest) ≡ record { first = prefix ++ item; more = items_of rest }
 unfolding split_from is_free
-item_from_back front [] rest free = grind (arith, common_steps)
-item_from_back front (b ∷ item) rest free = grind (arith, common_steps, item_from_back (front ++ b ∷ []) item rest)
+item_from_back prefix [] rest free = grind (arith, common_steps)
+item_from_back prefix (b ∷ item) rest free = grind (arith, common_steps, item_from_back (prefix ++ b ∷ []) item rest)
 
 -- an item that a blank follows
 pub item_back : (item rest : List ℕ) → is_free 32 item ≡ true → items_of (item ++ 32 ∷ rest) ≡ item ∷ items_of rest
 item_back item rest free = grind (arith, common_steps, item_from_back [] item rest)
 
-last_item_from_back : (front item : List ℕ) → is_free 32 item ≡ true → split_from front item ≡ record { first = front ++ item; more = [] }
+last_item_from_back : (prefix item : List ℕ) → is_free 32 item ≡ true → split_from prefix item ≡ record { first = prefix ++ item; more = [] }
 unfolding split_from is_free
-last_item_from_back front [] free = grind (arith, common_steps)
-last_item_from_back front (b ∷ item) free = grind (arith, common_steps, last_item_from_back (front ++ b ∷ []) item)
+last_item_from_back prefix [] free = grind (arith, common_steps)
+last_item_from_back prefix (b ∷ item) free = grind (arith, common_steps, last_item_from_back (prefix ++ b ∷ []) item)
 
-items_from_spell : (front text : List ℕ) → join_with_byte 32 ((split_from front text).first ∷ (split_from front text).more) ≡ front ++ text
+items_from_spell : (prefix text : List ℕ) → join_with_byte 32 ((split_from prefix text).first ∷ (split_from prefix text).more) ≡ prefix ++ text
 unfolding split_from
-items_from_spell front [] = grind (arith, common_steps)
-items_from_spell front (b ∷ text) = grind (arith, common_steps, items_from_spell [] text, items_from_spell (front ++ b ∷ []) text)
+items_from_spell prefix [] = grind (arith, common_steps)
+items_from_spell prefix (b ∷ text) = grind (arith, common_steps, items_from_spell [] text, items_from_spell (prefix ++ b ∷ []) text)
 
 -- the items, with a blank between each two, are the text
 pub items_spell : (text : List ℕ) → join_with_byte 32 (items_of text) ≡ text
@@ -105,7 +105,9 @@ number_from_back limit n narrow =
     decimal_by_steps
     (λ n ds. n ≤ limit → number_from limit 0 ds ≡ Some n)
     (λ n low fits. grind (arith, common_steps))
-    (λ n ds high front fits. let whole : n / 10 * 10 + n % 10 ≡ n = omega arith in subst (λ (k : ℕ). number_from limit 0 (ds ++ (48 + n % 10) ∷ []) ≡ Some k) whole (number_push limit 0 (n / 10) (n % 10) ds (front (omega arith)) (omega arith) (omega arith)))
+    (λ n ds high prefix fits. let whole : n / 10 * 10 + n % 10 ≡ n = omega arith in
+    subst (λ (k : ℕ). number_from limit 0 (ds ++ (48 + n % 10) ∷ []) ≡ Some k) whole
+    (number_push limit 0 (n / 10) (n % 10) ds (prefix (omega arith)) (omega arith) (omega arith)))
     n
     narrow
 
@@ -182,6 +184,6 @@ free_decimal byte n low narrow =
     decimal_by_steps
     (λ n ds. is_free byte ds ≡ true)
     (λ n digit. free_digit byte n low)
-    (λ n ds high front. free_both byte ds ((48 + n % 10) ∷ []) front (free_digit byte (n % 10) low))
+    (λ n ds high prefix. free_both byte ds ((48 + n % 10) ∷ []) prefix (free_digit byte (n % 10) low))
     n
     narrow

@@ -5,7 +5,7 @@ ghost use Rattle.text_core.specs.Rest.{IsRest};
 
 /// The first line without its LF, whether an LF ends it, and the text after it; None if the text is empty.
 /// A CR is a byte like any other.
-#[tactic(auto, using(crate::specs::Cuts::cuts), unfolding(crate::specs::Lines::lines_from))]
+#[tactic(auto, using(crate::specs::Splits::splits), unfolding(crate::specs::Lines::lines_from))]
 pub fn next_line(bytes: &[u8]) -> Option<(&[u8], bool, &[u8])>
     ensures none { IfNone result (lines_of bytes.now ≡ []) }
     ensures some { IfSome result (λ x.

@@ -2,7 +2,7 @@
 //! the clause that implied it). Its invariant is that of `cdcl_theory`. The table in `cdcl_core` relates the
 //! names to those of MiniSat and CaDiCaL.
 //!
-//! A literal becomes false when its opposite is pushed. `fell` returns 1 + the trail index of that
+//! A literal becomes false when its opposite is pushed. `falsified_at` returns 1 + the trail index of that
 //! opposite, and 0 for a literal that isn't false. Backtracking removes the last literals; earlier
 //! ones keep their positions.
 //!

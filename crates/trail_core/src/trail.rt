@@ -1,9 +1,10 @@
 //! The trail as a list of literals with two tables: the position at which each literal became false, and the
 //! reason of each variable. The invariant `IsTrail` says that list and tables agree; backtracking removes the
 //! last literals one by one, with their entries.
-ghost use Rattle.std.specs.Prelude.{◌≡◌, ℤ, negsuc, ◌+◌, ◌-◌, ◌<◌, ◌≤◌, ◌↔◌, [], length, slice_index_or, IsTrue, IfOk, OnOk, OnErr};
+ghost use Rattle.std.specs.Prelude.{◌≡◌, ℤ, negsuc, ◌+◌, ◌-◌, ◌<◌, ◌≤◌, ◌↔◌, [], length, slice_index_or, IsTrue, IfOk};
+ghost use Rattle.std.specs.Prelude.{OnOk, OnErr};
 ghost use Rattle.sat_theory.specs.Formula.{variable as variable_of};
-ghost use Rattle.cdcl_theory.specs.Trails.{IsTrail, IsBack, pushed, fell as fell_of, reason_of};
+ghost use Rattle.cdcl_theory.specs.Trails.{IsTrail, IsBacktracked, pushed, falsified_at as falsified_in, reason_of};
 ghost use Rattle.trail_core.specs.Values.{IsOver, IsFree, Follows};
 
 use cnf_core::{Assign, Lit};
@@ -21,13 +22,23 @@ pub struct Trail {
 }
 
 impl Model for Trail {
-    ghost use Rattle.cdcl_theory.specs.Trails.{Trailed, IsTrail};
+    ghost use Rattle.cdcl_theory.specs.Trails.{TrailState, IsTrail};
 
-    ghost Value = { Trailed };
+    ghost Value = { TrailState };
 
-    ghost view = { λ t. record { vars = t.vars; lits = t.lits.items; table = t.table.items; reasons = t.reasons.items } };
+    ghost view = { λ t. record {
+      vars = t.vars;
+      lits = t.lits.items;
+      table = t.table.items;
+      reasons = t.reasons.items;
+    } };
 
-    ghost invariant = { λ t. IsTrail (record { vars = t.vars; lits = t.lits.items; table = t.table.items; reasons = t.reasons.items }) };
+    ghost invariant = { λ t. IsTrail (record {
+      vars = t.vars;
+      lits = t.lits.items;
+      table = t.table.items;
+      reasons = t.reasons.items;
+    }) };
 }
 
 #[tactic(auto, using(crate::proofs::Reading::reading))]
@@ -76,10 +87,10 @@ impl Trail {
     }
 
     /// 1 + the trail index of its opposite if the literal is false, else 0.
-    #[tactic(auto, using(crate::proofs::Reading::reading), unfolding(cdcl_theory::specs::Codes::place_in))]
-    pub fn fell(&self, lit: Lit) -> u32
+    #[tactic(auto, using(crate::proofs::Reading::reading), unfolding(cdcl_theory::specs::Codes::position_in))]
+    pub fn falsified_at(&self, lit: Lit) -> u32
         requires { variable_of lit ≤ self.now.vars }
-        ensures value { result ≡ fell_of self.now lit }
+        ensures value { result ≡ falsified_in self.now lit }
         ensures whole { IsTrail self.now }
     {
         self.table[lit.code()]
@@ -112,7 +123,7 @@ impl Trail {
     /// Unassigns the last literal.
     pub fn pop(&mut self)
         requires { 0 < length self.old.lits }
-        ensures back { IsBack (length self.old.lits - 1) self.old self.new }
+        ensures back { IsBacktracked (length self.old.lits - 1) self.old self.new }
         ensures whole { IsTrail self.new }
     {
         let Some(lit) = self.lits.pop() else {
@@ -126,7 +137,7 @@ impl Trail {
         requires { variable_of lit ≤ self.now.vars }
         ensures { IsTrue result ↔ IsFree self.now lit }
     {
-        self.fell(lit) == 0 && self.fell(lit.opposite()) == 0
+        self.falsified_at(lit) == 0 && self.falsified_at(lit.opposite()) == 0
     }
 
     /// The assignment in which the literals of the trail are true; a variable without a value is
@@ -136,7 +147,7 @@ impl Trail {
     {
         let mut bits = Vec::with_capacity(alloc, self.vars as usize)?;
         for index in 0..self.vars {
-            bits.push(self.fell(negative(index)) > 0)?;
+            bits.push(self.falsified_at(negative(index)) > 0)?;
         }
         Ok(Assign::new(bits))
     }

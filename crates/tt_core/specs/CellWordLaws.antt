@@ -35,7 +35,8 @@ unfolding word_of
 word_same bit [] x none = omega arith
 word_same bit (y ∷ xs) x none = omega (arith, word_same bit xs x none)
 
-set_more : (bit : ℕ → ℕ) → IsBit bit → (xs : List ℕ) (i d : ℕ) → i < length xs → i < 64 → bit (get_or xs i d) ≡ 1 → word_of bit (take (i + 1) xs) ≡ bit_or (word_of bit (take i xs)) (1 * 2 ^ i % 2 ^ 64)
+set_more : (bit : ℕ → ℕ) → IsBit bit → (xs : List ℕ) (i d : ℕ) → i < length xs → i < 64 → bit (get_or xs i d) ≡ 1 →
+    word_of bit (take (i + 1) xs) ≡ bit_or (word_of bit (take i xs)) (1 * 2 ^ i % 2 ^ 64)
 set_more bit small xs i d within low one =
     let k : length (take i xs) ≡ i = omega (arith, length-take i xs) in
     let below : word_of bit (take i xs) < 2 ^ i = rw k at (word_below bit small (take i xs)) in

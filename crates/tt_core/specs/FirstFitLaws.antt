@@ -6,7 +6,7 @@ use Rattle.std.proofs.lemmas.Option.{same_Some}
 use Rattle.chain_theory.specs.Specification.{Specification}
 use Rattle.chain_theory.specs.declared.data.Out.{Out}
 use Rattle.chain_theory.specs.declared.data.Out.TheVariants.{Zero, One, Place}
-use Rattle.tt_core.specs.Live.{fits, inputs_from, first_fit, trivial_of, IsTrivial, turn, IsFirstFit}
+use Rattle.tt_core.specs.Live.{fits, inputs_from, first_fit, trivial_of, IsTrivial, trial_order, IsFirstFit}
 
 -- where no out is found, the first one doesn't fit, and none is found after it
 none_found : (test : Bool) (out : Out) (more : Option Out) → (if test then Some out else more) ≡ None → (test ≡ false) × (more ≡ None)
@@ -30,7 +30,7 @@ no_input s h j zero e i from to = absurd (omega arith)
 no_input s h j (suc k) e i from to =
     let none = none_found (fits s h (Place j)) (Place j) (first_fit s h (inputs_from (j + 1) k)) e in
     elim (cases_lt j i) [
-      | inl behind ↦ no_input s h (j + 1) k none.1 i (omega arith) (omega arith)
+      | inl following ↦ no_input s h (j + 1) k none.1 i (omega arith) (omega arith)
       | inr up ↦ let same : i ≡ j = omega arith in rw same none.0
     ]
 
@@ -39,7 +39,8 @@ inputs_fail : (s : Specification) (h j k : ℕ) → ((i : ℕ) → j ≤ i → i
 unfolding first_fit inputs_from
 inputs_fail s h j zero each = refl
 inputs_fail s h j (suc k) each =
-    passed_over (fits s h (Place j)) (Place j) (first_fit s h (inputs_from (j + 1) k)) (each j (omega arith) (omega arith)) ∙ inputs_fail s h (j + 1) k (λ i from to. each i (omega arith) (omega arith))
+    passed_over (fits s h (Place j)) (Place j) (first_fit s h (inputs_from (j + 1) k))
+    (each j (omega arith) (omega arith)) ∙ inputs_fail s h (j + 1) k (λ i from to. each i (omega arith) (omega arith))
 
 -- the first of k inputs from input j on that fits
 record FirstInput (s : Specification) (h j k : ℕ) (out : Out) : Type 0 where
@@ -63,8 +64,8 @@ input_found s h j (suc k) out e = elim (one_found (fits s h (Place j)) (Place j)
     fitting = here.0;
     earlier = λ i from to. absurd (omega arith);
   }
-  | inr behind ↦
-      let more = input_found s h (j + 1) k out behind.1 in
+  | inr following ↦
+      let more = input_found s h (j + 1) k out following.1 in
       record {
         input = more.input;
         is = more.is;
@@ -73,7 +74,7 @@ input_found s h j (suc k) out e = elim (one_found (fits s h (Place j)) (Place j)
         fitting = more.fitting;
         earlier = λ i from to. elim (cases_lt j i) [
           | inl later ↦ more.earlier i (omega arith) to
-          | inr up ↦ let same : i ≡ j = omega arith in rw same behind.0
+          | inr up ↦ let same : i ≡ j = omega arith in rw same following.0
         ];
       }
 ]
@@ -113,7 +114,7 @@ one_first s h zero_fails fit = record {
   earlier = before_one;
 }
   where
-    before_one : (other : Out) → IsTrivial s.inputs other → turn other < turn One → fits s h other ≡ false
+    before_one : (other : Out) → IsTrivial s.inputs other → trial_order other < trial_order One → fits s h other ≡ false
     before_one Zero is before = zero_fails
     before_one One is before = absurd (omega (arith, before))
     before_one (Place i) is before = absurd (omega (arith, before, is.0))
@@ -126,7 +127,7 @@ input_first s h zero_fails one_fails out first = subst (IsFirstFit s h) first.is
   earlier = before_input;
 }
   where
-    before_input : (other : Out) → IsTrivial s.inputs other → turn other < turn (Place first.input) → fits s h other ≡ false
+    before_input : (other : Out) → IsTrivial s.inputs other → trial_order other < trial_order (Place first.input) → fits s h other ≡ false
     before_input Zero is before = zero_fails
     before_input One is before = one_fails
     before_input (Place i) is before = first.earlier i is.0 (omega (arith, before))

@@ -45,7 +45,8 @@ care_ends : (xs : List ℕ) (t : ℕ) → length xs ≤ t → digit (word_of car
 care_ends xs t past = rw (word_none care_bit care_is_bit xs t past) refl
 
 -- a relation between the numbers at each index of two lists holds after a push to both lists
-pub pairs_push : (R : ℕ → ℕ → Type 0) (xs ys : List ℕ) (x y i : ℕ) → length ys ≡ length xs → ((k : ℕ) → R (get_or xs k 0) (get_or ys k 0)) → R x y → R (get_or (xs ++ x ∷ []) i 0) (get_or (ys ++ y ∷ []) i 0)
+pub pairs_push : (R : ℕ → ℕ → Type 0) (xs ys : List ℕ) (x y i : ℕ) → length ys ≡ length xs →
+    ((k : ℕ) → R (get_or xs k 0) (get_or ys k 0)) → R x y → R (get_or (xs ++ x ∷ []) i 0) (get_or (ys ++ y ∷ []) i 0)
 pairs_push R [] [] x y zero same each last = last
 pairs_push R [] [] x y (suc i) same each last = each 0
 pairs_push R [] (b ∷ ys) x y i same each last = absurd (omega arith)
@@ -54,7 +55,9 @@ pairs_push R (a ∷ xs) (b ∷ ys) x y zero same each last = each 0
 pairs_push R (a ∷ xs) (b ∷ ys) x y (suc i) same each last = pairs_push R xs ys x y i (omega arith) (λ k. each (suc k)) last
 
 -- One more table line keeps the invariant of a specification.
-pub kept : (n : ℕ) (on care on' care' text : List ℕ) → IsSpec (record { n = n; on = on; care = care }) → length on < 8 → length text ≡ 2 ^ n → on' ≡ on ++ word_of on_bit text ∷ [] → care' ≡ care ++ word_of care_bit text ∷ [] → IsSpec (record { n = n; on = on'; care = care' })
+pub kept : (n : ℕ) (on care on' care' text : List ℕ) → IsSpec (record { n = n; on = on; care = care }) →
+    length on < 8 → length text ≡ 2 ^ n → on' ≡ on ++ word_of on_bit text ∷ [] → care' ≡ care ++
+    word_of care_bit text ∷ [] → IsSpec (record { n = n; on = on'; care = care' })
 kept n on care on' care' text spec room rows on-is care-is =
     rw (on-is, care-is) record {
       inputs = spec.inputs;

@@ -47,17 +47,17 @@ IsTrivial n One = ⊤
 IsTrivial n (Place j) = (1 ≤ j) × (j ≤ n)
 
 -- the order in which outs are tried: 0, 1, x1, x2, ..
-abbrev pub turn : Out → ℕ
-turn Zero = 0
-turn One = 1
-turn (Place j) = 1 + j
+abbrev pub trial_order : Out → ℕ
+trial_order Zero = 0
+trial_order One = 1
+trial_order (Place j) = 1 + j
 
 -- The out is trivial and meets all cells of output h, and no out that is tried before it does.
 -- Example: for the table ---- it is 0, and not x1, which meets the table too.
 pub record IsFirstFit (s : Specification) (h : ℕ) (out : Out) : Type 0 where
   pub trivial : IsTrivial s.inputs out
   pub fitting : fits s h out ≡ true
-  pub earlier : (other : Out) → IsTrivial s.inputs other → turn other < turn out → fits s h other ≡ false
+  pub earlier : (other : Out) → IsTrivial s.inputs other → trial_order other < trial_order out → fits s h other ≡ false
 
 -- an output is live where no trivial out meets all its cells
 abbrev pub is_none : Option Out → Bool

@@ -20,7 +20,8 @@ unfolding fits_rows
 fits_none s h out = refl
 
 -- one more row that is met
-pub fits_more : (w : Words) (h : ℕ) (out : Out) (t : ℕ) → fits_rows (specification w) h out t ≡ true → is_met (cell_of w h t) (trivial_value w.n t out) ≡ true → fits_rows (specification w) h out (t + 1) ≡ true
+pub fits_more : (w : Words) (h : ℕ) (out : Out) (t : ℕ) → fits_rows (specification w) h out t ≡ true →
+    is_met (cell_of w h t) (trivial_value w.n t out) ≡ true → fits_rows (specification w) h out (t + 1) ≡ true
 unfolding fits_rows
 fits_more w h out t before met = rw (add-one, before, met) refl
 
@@ -98,7 +99,9 @@ pub part_cells : (w part : Words) → part ≡ live_words w → (h t : ℕ) → 
 part_cells w part is h t some low = ap (λ (x : Words). cell_of x h t) is ∙ live_cells w h t some (omega (arith, part_count w part is))
 
 -- One more output, copied from another one, keeps the invariant of a specification.
-pub kept_copy : (w : Words) (on care on' care' : List ℕ) (h : ℕ) → IsSpec w → IsSpec (record { n = w.n; on = on; care = care }) → length on < 8 → on' ≡ on ++ slice_index w.on (h - 1) ∷ [] → care' ≡ care ++ slice_index w.care (h - 1) ∷ [] → IsSpec (record { n = w.n; on = on'; care = care' })
+pub kept_copy : (w : Words) (on care on' care' : List ℕ) (h : ℕ) → IsSpec w →
+    IsSpec (record { n = w.n; on = on; care = care }) → length on < 8 → on' ≡ on ++ slice_index w.on (h - 1) ∷ [] →
+    care' ≡ care ++ slice_index w.care (h - 1) ∷ [] → IsSpec (record { n = w.n; on = on'; care = care' })
 kept_copy w on care on' care' h whole spec room on-is care-is =
     rw (on-is, care-is) record {
       inputs = spec.inputs;

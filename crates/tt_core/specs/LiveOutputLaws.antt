@@ -51,10 +51,10 @@ live_is_among s (suc k) h some low live = elim (cases_lt h (suc k)) [
 rising_push : (xs : List ℕ) (y : ℕ) → IsStrictlyIncreasing xs → All (λ x. x < y) xs → IsStrictlyIncreasing (xs ++ y ∷ [])
 rising_push xs y rising low k within =
     let long = length_push xs y in
-    let front : get_or (xs ++ y ∷ []) k 0 ≡ get_or xs k 0 = get_or_append_left xs (y ∷ []) 0 k (omega arith) in
+    let prefix : get_or (xs ++ y ∷ []) k 0 ≡ get_or xs k 0 = get_or_append_left xs (y ∷ []) 0 k (omega arith) in
     elim (cases_lt (k + 1) (length xs)) [
-      | inl inside ↦ rw (front, get_or_append_left xs (y ∷ []) 0 (k + 1) inside) (rising k inside)
-      | inr past ↦ rw (front, get_or_push xs y 0 (k + 1) (omega arith)) (low k 0 (omega arith))
+      | inl inside ↦ rw (prefix, get_or_append_left xs (y ∷ []) 0 (k + 1) inside) (rising k inside)
+      | inr past ↦ rw (prefix, get_or_push xs y 0 (k + 1) (omega arith)) (low k 0 (omega arith))
     ]
 
 added_rises : (test : Bool) (xs : List ℕ) (y : ℕ) → IsStrictlyIncreasing xs → All (λ x. x < y) xs → IsStrictlyIncreasing (if test then xs ++ y ∷ [] else xs)
@@ -66,7 +66,9 @@ pub among_rises : (s : Specification) (k : ℕ) → IsStrictlyIncreasing (live_a
 unfolding live_among
 among_rises s zero = λ i within. absurd (omega arith)
 among_rises s (suc k) =
-    added_rises (is_live s (suc k)) (live_among s k) (suc k) (among_rises s k) (λ i d within. let low = among_live s k (get_or (live_among s k) i d) (Contains-get_or (live_among s k) i d within) in omega (arith, low.1))
+    added_rises (is_live s (suc k)) (live_among s k) (suc k) (among_rises s k) (λ i d within. let low =
+    among_live s k (get_or (live_among s k) i d) (Contains-get_or (live_among s k) i d within) in
+    omega (arith, low.1))
 
 -- a number is a live output's exactly where the list contains it
 pub contained_live : (s : Specification) (h : ℕ) → Contains (live_outputs s) h → (1 ≤ h) × (h ≤ s.outputs) × (is_live s h ≡ true)

@@ -1,5 +1,7 @@
 -- A text that spells a specification is read as it.
-use Rattle.std.proofs.Common.{◌≡◌, ℕ, suc, ◌+◌, ◌-◌, ◌^◌, ◌<◌, ◌≤◌, ◌==◌, Bool, true, false, cond, List, [], ◌∷◌, ◌++◌, length, get_or, drop, Some, None, Result, Ok, length-append, refl, sym, ap, ap₂, ◌∙◌, arith, append_assoc, append-nil, inl, inr, eqb-true, eq-eqb, nat_lt, ltb-true}
+use Rattle.std.proofs.Common.{◌≡◌, ℕ, suc, ◌+◌, ◌-◌, ◌^◌, ◌<◌, ◌≤◌, ◌==◌, Bool, true, false, cond, List, [], ◌∷◌, ◌++◌}
+use Rattle.std.proofs.Common.{length, get_or, drop, Some, None, Result, Ok, length-append, refl, sym, ap, ap₂, ◌∙◌}
+use Rattle.std.proofs.Common.{arith, append_assoc, append-nil, inl, inr, eqb-true, eq-eqb, nat_lt, ltb-true}
 use Rattle.std.specs.Prelude.{codes, decimal, slice_get, slice_index}
 use Rattle.std.specs.List.{list_all}
 use Rattle.std.specs.Int.{bit_at}
@@ -17,7 +19,7 @@ use Rattle.tt_core.specs.Cells.{is_cell, on_bit, care_bit}
 use Rattle.tt_core.specs.Words.{Words, IsSpec, cell_of, specification}
 use Rattle.tt_core.specs.declared.error.SpecError.{SpecError}
 use Rattle.tt_core.specs.Tables.{Read, inputs_of, row_fault, with_row, rows_of, tables_of}
-use Rattle.tt_core.specs.Spelling.{character, header_line, IsTableLine, EndsTables, SpellsTables}
+use Rattle.tt_core.specs.Spelling.{character, inputs_line, IsTableLine, EndsTables, SpellsTables}
 use Rattle.tt_core.specs.CellWordLaws.{on_is_bit, care_is_bit}
 use Rattle.tt_core.specs.KeepLaws.{word_bit, word_none}
 use Rattle.tt_core.specs.SpelledLaws.{IsRow, on_word, care_word}
@@ -69,13 +71,17 @@ cell_at w i t = let place : suc i - 1 ≡ i = omega arith in rw place refl
 -- the words of a table line
 care_word_back : (w : Words) (i : ℕ) (l : Line) → IsSpec w → IsTableLine (specification w) (suc i) l → care_word l ≡ slice_index w.care i
 care_word_back w i l spec table = same_from_digits _ _ (λ t. elim (cases_lt t (length l.text)) [
-  | inl within ↦ ap (λ (b : ℕ). b == 1) (word_bit care_bit care_is_bit l.text t 0 within) ∙ ap (λ (c : ℕ). care_bit c == 1) (table.cells t (omega (arith, table.rows)) ∙ ap character (cell_at w i t)) ∙ care_back _ _
+  | inl within ↦ ap (λ (b : ℕ). b == 1) (word_bit care_bit care_is_bit l.text t 0 within)
+      ∙ ap (λ (c : ℕ). care_bit c == 1) (table.cells t (omega (arith, table.rows)) ∙ ap character (cell_at w i t))
+      ∙ care_back _ _
   | inr past ↦ ap (λ (b : ℕ). b == 1) (word_none care_bit care_is_bit l.text t past) ∙ sym (spec.rows i t (omega (arith, table.rows)))
 ])
 
 on_word_back : (w : Words) (i : ℕ) (l : Line) → IsSpec w → IsTableLine (specification w) (suc i) l → on_word l ≡ slice_index w.on i
 on_word_back w i l spec table = same_from_digits _ _ (λ t. elim (cases_lt t (length l.text)) [
-  | inl within ↦ ap (λ (b : ℕ). b == 1) (word_bit on_bit on_is_bit l.text t 0 within) ∙ ap (λ (c : ℕ). on_bit c == 1) (table.cells t (omega (arith, table.rows)) ∙ ap character (cell_at w i t)) ∙ on_back _ _ (spec.inside i t)
+  | inl within ↦ ap (λ (b : ℕ). b == 1) (word_bit on_bit on_is_bit l.text t 0 within)
+      ∙ ap (λ (c : ℕ). on_bit c == 1) (table.cells t (omega (arith, table.rows)) ∙ ap character (cell_at w i t))
+      ∙ on_back _ _ (spec.inside i t)
   | inr past ↦ ap (λ (b : ℕ). b == 1) (word_none on_bit on_is_bit l.text t past) ∙ sym (on_ends w i t spec (omega (arith, table.rows)))
 ])
 
@@ -143,18 +149,26 @@ regroup : (xs : List ℕ) (x y : ℕ) (ys : List ℕ) → x ≡ y → (xs ++ x �
 regroup xs x y ys e = append_assoc xs (x ∷ []) ys ∙ ap (λ (z : ℕ). xs ++ z ∷ ys) e
 
 -- lines that spell the words still to be read
-rows_back : (n : ℕ) (on care us vs : List ℕ) (ls rest : List Line) → length vs ≡ length us → AreRows n ls us vs → rest ≡ drop (length us) ls → EndsTables rest → 0 < length on + length us → length on + length us ≤ 8 → rows_of (record { n = n; on = on; care = care }) ls ≡ Ok (record { words = record { n = n; on = on ++ us; care = care ++ vs }; rest = rest })
-rows_back n on care [] [] ls rest same rows behind end some few = rw (append-nil on, append-nil care, ← behind) (end_back (record { n = n; on = on; care = care }) rest end (omega arith))
-rows_back n on care [] (v ∷ vs) ls rest same rows behind end some few = absurd (omega arith)
-rows_back n on care (u ∷ us) [] ls rest same rows behind end some few = absurd (omega arith)
-rows_back n on care (u ∷ us) (v ∷ vs) [] rest same rows behind end some few = let (t, found, _, _, _) = rows.each 0 (omega arith) in absurd cc
-rows_back n on care (u ∷ us) (v ∷ vs) (l ∷ ls) rest same rows behind end some few =
+rows_back : (n : ℕ) (on care us vs : List ℕ) (ls rest : List Line) → length vs ≡ length us → AreRows n ls us vs →
+    rest ≡ drop (length us) ls → EndsTables rest → 0 < length on + length us → length on + length us ≤ 8 →
+    rows_of (record { n = n; on = on; care = care }) ls ≡
+    Ok (record { words = record { n = n; on = on ++ us; care = care ++ vs }; rest = rest })
+rows_back n on care [] [] ls rest same rows following end some few = rw (append-nil on, append-nil care, ← following) (end_back (record { n = n; on = on; care = care }) rest end (omega arith))
+rows_back n on care [] (v ∷ vs) ls rest same rows following end some few = absurd (omega arith)
+rows_back n on care (u ∷ us) [] ls rest same rows following end some few = absurd (omega arith)
+rows_back n on care (u ∷ us) (v ∷ vs) [] rest same rows following end some few = let (t, found, _, _, _) = rows.each 0 (omega arith) in absurd cc
+rows_back n on care (u ∷ us) (v ∷ vs) (l ∷ ls) rest same rows following end some few =
     let first = first_row n l ls u v us vs rows in
     let count : length (on ++ on_word l ∷ []) ≡ length on + 1 = length-append on (on_word l ∷ []) in
-    row_step (record { n = n; on = on; care = care }) l ls first.good (omega arith) ∙ rows_back n (on ++ on_word l ∷ []) (care ++ care_word l ∷ []) us vs ls rest (omega arith) (other_rows n l ls u v us vs rows) behind end (omega (arith, count)) (omega (arith, count)) ∙ ap₂ (λ (xs ys : List ℕ). let w : Words = record { n = n; on = xs; care = ys } in let r : Read = record { words = w; rest = rest } in let out : Result Read SpecError = Ok r in out) (regroup on (on_word l) u us first.on) (regroup care (care_word l) v vs first.care)
+    row_step (record { n = n; on = on; care = care }) l ls first.good (omega arith)
+    ∙ rows_back n (on ++ on_word l ∷ []) (care ++ care_word l ∷ []) us vs ls rest (omega arith)
+    (other_rows n l ls u v us vs rows) following end (omega (arith, count)) (omega (arith, count))
+    ∙ ap₂ (λ (xs ys : List ℕ). let w : Words = record { n = n; on = xs; care = ys } in
+    let r : Read = record { words = w; rest = rest } in let out : Result Read SpecError =
+    Ok r in out) (regroup on (on_word l) u us first.on) (regroup care (care_word l) v vs first.care)
 
 -- the header that is written for a number of inputs is read as it
-header_back : (n : ℕ) → n ≤ 6 → inputs_of (header_line n) ≡ Some n
+header_back : (n : ℕ) → n ≤ 6 → inputs_of (inputs_line n) ≡ Some n
 header_back n few = rw (word_back (codes "inputs ") (decimal n)) (number_back 999999999 n (omega arith) (omega arith))
 
 not_over : (n : ℕ) → n ≤ 6 → nat_lt 6 n ≡ false
@@ -175,6 +189,8 @@ rest_is l ls rest k e = let more : 1 + k ≡ suc k = omega arith in rw more at e
 pub tables_again : (w : Words) (ls rest : List Line) → IsSpec w → SpellsTables (specification w) ls rest → tables_of ls ≡ Ok (record { words = w; rest = rest })
 tables_again w [] rest spec spells = absurd cc
 tables_again w (l ∷ ls) rest spec spells =
-    let header : l ≡ header_line w.n = same_line l (header_line w.n) spells.header in
-    let rows = rows_back w.n [] [] w.on w.care ls rest spec.together (rows_spelled w l ls rest spec spells) (rest_is l ls rest (length w.on) spells.behind) spells.end (omega (arith, spells.output)) (omega (arith, spec.outputs)) in
-    rw (header, header_back w.n spec.inputs, not_over w.n spec.inputs) rows
+    let inputs_first : l ≡ inputs_line w.n = same_line l (inputs_line w.n) spells.inputs_first in
+    let rows = rows_back w.n [] [] w.on w.care ls rest spec.together (rows_spelled w l ls rest spec spells)
+    (rest_is l ls rest (length w.on) spells.following) spells.end (omega (arith, spells.output))
+    (omega (arith, spec.outputs)) in
+    rw (inputs_first, header_back w.n spec.inputs, not_over w.n spec.inputs) rows

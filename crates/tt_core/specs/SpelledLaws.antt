@@ -1,5 +1,7 @@
 -- The text spells what is read.
-use Rattle.std.proofs.Common.{◌≡◌, ◌⊎◌, ℕ, zero, suc, ◌+◌, ◌-◌, ◌^◌, ◌<◌, ◌≤◌, Bool, true, false, cond, List, [], ◌∷◌, ◌++◌, length, get_or, map, drop, Option, Some, None, Result, Ok, Err, refl, sym, ap, ap₂, ◌∙◌, arith, append_assoc, append-nil, inl, inr, ◌==◌, lit<}
+use Rattle.std.proofs.Common.{◌≡◌, ◌⊎◌, ℕ, zero, suc, ◌+◌, ◌-◌, ◌^◌, ◌<◌, ◌≤◌, Bool, true, false, cond, List, [], ◌∷◌}
+use Rattle.std.proofs.Common.{◌++◌, length, get_or, map, drop, Option, Some, None, Result, Ok, Err, refl, sym, ap, ap₂}
+use Rattle.std.proofs.Common.{◌∙◌, arith, append_assoc, append-nil, inl, inr, ◌==◌, lit<}
 use Rattle.std.specs.Prelude.{codes, decimal, slice_get, slice_index}
 use Rattle.std.specs.Option.{option_and_then}
 use Rattle.std.specs.List.{list_all, AllByRecursion}
@@ -13,8 +15,8 @@ use Rattle.tt_core.specs.Cells.{is_cell, on_bit, care_bit, word_of}
 use Rattle.chain_theory.specs.declared.data.Cell.TheVariants.{Zero, One, Free}
 use Rattle.tt_core.specs.Words.{Words, specification}
 use Rattle.tt_core.specs.declared.error.SpecError.{SpecError}
-use Rattle.tt_core.specs.Tables.{Read, inputs_of, row_fault, with_row, end_of, unless_fault, rows_of, behind_inputs, tables_of}
-use Rattle.tt_core.specs.Spelling.{character, header_line, IsTableLine, EndsTables, SpellsTables}
+use Rattle.tt_core.specs.Tables.{Read, inputs_of, row_fault, with_row, end_of, unless_fault, rows_of, after_inputs, tables_of}
+use Rattle.tt_core.specs.Spelling.{character, inputs_line, IsTableLine, EndsTables, SpellsTables}
 use Rattle.tt_core.specs.CellWordLaws.{on_is_bit, care_is_bit}
 use Rattle.tt_core.specs.KeepLaws.{word_bit}
 
@@ -51,8 +53,8 @@ row_ok : (n number : ℕ) (l : Line) (read : Result Read SpecError) (r : Read) �
 row_ok n number l read r e = (record { ended = grind (arith, common_steps); rows = grind (arith, common_steps); cells = grind (arith, common_steps) }, grind (arith, common_steps))
 
 -- one table line before those that were read
-row_front : (w : Words) (l : Line) (ls : List Line) (r : Read) → IsRow w.n l → ReadsRows (with_row w l.text) ls r → ReadsRows w (l ∷ ls) r
-row_front w l ls r good reads = record {
+row_prefix : (w : Words) (l : Line) (ls : List Line) (r : Read) → IsRow w.n l → ReadsRows (with_row w l.text) ls r → ReadsRows w (l ∷ ls) r
+row_prefix w l ls r good reads = record {
   tables = l ∷ reads.tables;
   lines = ap (λ (xs : List Line). l ∷ xs) reads.lines;
   inputs = reads.inputs;
@@ -86,7 +88,7 @@ rows_read w (l ∷ ls) r e =
       | inl (lower, at_end) ↦ no_row w (l ∷ ls) r lower at_end
       | inr (_, more) ↦
           let step = row_ok w.n _ l _ r (not_full _ _ _ _ more) in
-          row_front w l ls r step.0 (rows_read (with_row w l.text) ls r step.1)
+          row_prefix w l ls r step.0 (rows_read (with_row w l.text) ls r step.1)
     ]
 
 -- the value that a chain of two options gave
@@ -98,7 +100,7 @@ line_is : (l : Line) (text : List ℕ) → l.text ≡ text → l.ended ≡ true 
 line_is l text e ended = let line : List ℕ → Bool → Line = λ t b. record { text = t; ended = b } in ap₂ line e ended
 
 -- a header that is read spells its number of inputs
-header_read : (l : Line) (n : ℕ) → inputs_of l ≡ Some n → l ≡ header_line n
+header_read : (l : Line) (n : ℕ) → inputs_of l ≡ Some n → l ≡ inputs_line n
 header_read l n e =
     elim (chosen l.ended _ _ _ e) [
       | inl (ended, some) ↦
@@ -128,7 +130,7 @@ cell_back : (c : ℕ) → is_cell c ≡ true → character (cond (care_bit c == 
 cell_back c good = grind (arith, common_steps)
 
 -- a header without an error, and the lines after it
-header_ok : (o : Option ℕ) (ls : List Line) (r : Read) → behind_inputs o ls ≡ Ok r → (n : ℕ) × (o ≡ Some n) × ReadsRows (record { n = n; on = []; care = [] }) ls r
+header_ok : (o : Option ℕ) (ls : List Line) (r : Read) → after_inputs o ls ≡ Ok r → (n : ℕ) × (o ≡ Some n) × ReadsRows (record { n = n; on = []; care = [] }) ls r
 header_ok None ls r e = absurd cc
 header_ok (Some n) ls r e = (n, refl, rows_read (record { n = n; on = []; care = [] }) ls r (not_full _ _ _ _ e))
 
@@ -146,10 +148,19 @@ line_spelled w i l good on care = record {
   cells = λ t low.
       let within : t < length l.text = omega (arith, good.rows) in
       let place : suc i - 1 ≡ i = omega arith in
-      rw (place, care, on, word_bit care_bit care_is_bit l.text t 0 within, word_bit on_bit on_is_bit l.text t 0 within) (sym (cell_back (get_or l.text t 0) (pass_at is_cell l.text t within good.cells)));
+      rw (
+        place,
+        care,
+        on,
+        word_bit care_bit care_is_bit l.text t 0 within,
+        word_bit on_bit on_is_bit l.text t 0 within,
+      )
+      (sym (cell_back (get_or l.text t 0) (pass_at is_cell l.text t within good.cells)));
 }
 
-table_spelled : (l : Line) (ls : List Line) (r : Read) (n : ℕ) → ReadsRows (record { n = n; on = []; care = [] }) ls r → (h : ℕ) → 0 < h → h ≤ length r.words.on → (t : Line) × (slice_get (l ∷ ls) h ≡ Some t) × IsTableLine (specification r.words) h t
+table_spelled : (l : Line) (ls : List Line) (r : Read) (n : ℕ) →
+    ReadsRows (record { n = n; on = []; care = [] }) ls r → (h : ℕ) → 0 < h → h ≤ length r.words.on → (t : Line) ×
+    (slice_get (l ∷ ls) h ≡ Some t) × IsTableLine (specification r.words) h t
 table_spelled l ls r n reads zero some low = absurd (omega arith)
 table_spelled l ls r n reads (suc i) some low =
     let count : length r.words.on ≡ length reads.tables = ap length reads.on ∙ length-map reads.tables on_word in
@@ -159,8 +170,8 @@ table_spelled l ls r n reads (suc i) some low =
     let care : slice_index r.words.care i ≡ care_word at.line = ap (λ (xs : List ℕ). slice_index xs i) reads.care ∙ at.care in
     (at.line, ap (λ (xs : List Line). slice_get xs i) reads.lines ∙ at.found, line_spelled r.words i at.line good on care)
 
-rest_behind : (l : Line) (tables rest ls : List Line) (k : ℕ) → ls ≡ tables ++ rest → k ≡ length tables → rest ≡ drop (1 + k) (l ∷ ls)
-rest_behind l tables rest ls k e count = let more : 1 + k ≡ suc k = omega arith in rw (more, e) (sym (drop_at tables rest k (sym count)))
+rest_after : (l : Line) (tables rest ls : List Line) (k : ℕ) → ls ≡ tables ++ rest → k ≡ length tables → rest ≡ drop (1 + k) (l ∷ ls)
+rest_after l tables rest ls k e count = let more : 1 + k ≡ suc k = omega arith in rw (more, e) (sym (drop_at tables rest k (sym count)))
 
 -- Lines that are read spell what was read.
 pub tables_spelled : (ls : List Line) (r : Read) → tables_of ls ≡ Ok r → SpellsTables (specification r.words) ls r.rest
@@ -170,9 +181,9 @@ tables_spelled (l ∷ ls) r e =
     let reads = found.2 in
     let count : length r.words.on ≡ length reads.tables = ap length reads.on ∙ length-map reads.tables on_word in
     record {
-      header = ap (λ (x : Line). Some x) (header_read l r.words.n (found.1 ∙ ap (λ (k : ℕ). Some k) (sym reads.inputs)));
+      inputs_first = ap (λ (x : Line). Some x) (header_read l r.words.n (found.1 ∙ ap (λ (k : ℕ). Some k) (sym reads.inputs)));
       tables = table_spelled l ls r found.0 reads;
       output = reads.output;
-      behind = rest_behind l reads.tables r.rest ls (length r.words.on) reads.lines count;
+      following = rest_after l reads.tables r.rest ls (length r.words.on) reads.lines count;
       end = reads.end;
     }

@@ -14,8 +14,8 @@ character One = 49
 character Free = 45
 
 -- `inputs N`, and an LF
-abbrev pub header_line : ℕ → Line
-header_line n = record { text = codes "inputs " ++ decimal n; ended = true }
+abbrev pub inputs_line : ℕ → Line
+inputs_line n = record { text = codes "inputs " ++ decimal n; ended = true }
 
 -- the table of output h: character t, from 0, is the cell of row t, and an LF ends the line
 pub record IsTableLine (s : Specification) (h : ℕ) (l : Line) : Type 0 where
@@ -31,8 +31,8 @@ EndsTables (l ∷ ls) = begins_lower l.text ≡ true
 -- Lines are the text of a specification, followed by the rest: a header, the table of output h as
 -- line h + 1, and at least one table.
 pub record SpellsTables (s : Specification) (ls rest : List Line) : Type 0 where
-  pub header : slice_get ls 0 ≡ Some (header_line s.inputs)
+  pub inputs_first : slice_get ls 0 ≡ Some (inputs_line s.inputs)
   pub tables : (h : ℕ) → 0 < h → h ≤ s.outputs → (l : Line) × (slice_get ls h ≡ Some l) × IsTableLine s h l
   pub output : 0 < s.outputs
-  pub behind : rest ≡ drop (1 + s.outputs) ls
+  pub following : rest ≡ drop (1 + s.outputs) ls
   pub end : EndsTables rest

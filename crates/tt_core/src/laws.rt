@@ -28,7 +28,8 @@ pub fn fitting_is_meeting()
 /// The trivial out of an output is the first of 0, 1, x1, .., xn that fits, and there is none
 /// exactly where none of them fits.
 pub fn trivial_is_first_fit()
-    ensures none { (s : Specification) (h : ℕ) → trivial_of s h ≡ None ↔ ((out : Out) → IsTrivial s.inputs out → fits s h out ≡ false) }
+    ensures none { (s : Specification) (h : ℕ) → trivial_of s h ≡ None ↔ ((out : Out) → IsTrivial s.inputs out →
+        fits s h out ≡ false) }
     ensures first { (s : Specification) (h : ℕ) (out : Out) → trivial_of s h ≡ Some out → IsFirstFit s h out }
 {}
 
@@ -36,5 +37,6 @@ pub fn trivial_is_first_fit()
 /// outputs.
 pub fn live_outputs_are_listed()
     ensures rising { (s : Specification) → IsStrictlyIncreasing (live_outputs s) }
-    ensures live { (s : Specification) (h : ℕ) → Contains (live_outputs s) h ↔ ((1 ≤ h) × (h ≤ s.outputs) × (is_live s h ≡ true)) }
+    ensures live { (s : Specification) (h : ℕ) → Contains (live_outputs s) h ↔ ((1 ≤ h) × (h ≤ s.outputs) ×
+        (is_live s h ≡ true)) }
 {}

@@ -10,7 +10,7 @@
 //! where the grammar of tables finds an error, with the first one. `inputs`, `are_cells` and
 //! `push_row` read single lines, for readers that get their text line by line. `symmetric` decides
 //! whether two inputs are symmetric variables, `trivial` gives the first of 0, 1, x1, .., xn that
-//! implements an output, and `live_part` keeps the outputs that have no such out. `laws`
+//! implements an output, and `live_spec` keeps the outputs that have no such out. `laws`
 //! characterises the definitions without recursion.
 //!
 //! ```text
@@ -33,7 +33,7 @@ mod symmetry;
 pub use cells::are_cells;
 pub use chain_theory::{Cell, Out};
 pub use error::SpecError;
-pub use live::{live_part, trivial};
+pub use live::{live_spec, trivial};
 pub use reading::{Tables, inputs, push_row, read_tables};
 pub use spec::{MOST_INPUTS, MOST_OUTPUTS, Spec, row};
 pub use symmetry::symmetric;

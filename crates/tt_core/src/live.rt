@@ -94,7 +94,7 @@ fn push_output(
 
 /// The specification of the live outputs alone, in their order. An error means that memory ran out.
 #[tactic(auto, using(crate::specs::LiveLaws::living))]
-pub fn live_part(alloc: Global, spec: &Spec) -> Result<Spec, AllocError>
+pub fn live_spec(alloc: Global, spec: &Spec) -> Result<Spec, AllocError>
     ensures words { IfOk result (λ part. part ≡ live_words spec.now) }
     // Its output i is the i-th live output.
     ensures outputs { IfOk result (λ part. length part.on ≡ length (live_outputs (specification spec.now))) }

@@ -4,7 +4,7 @@ use Rattle.std.proofs.Common.{sym, ap, ◌∙◌, subst, arith}
 use Rattle.std.proofs.Math.Logic.{⊎_elim}
 use Rattle.std.proofs.lemmas.Bool.{cases_eq}
 use Rattle.var_heap.specs.Entries.{with_entry}
-use Rattle.var_heap.specs.Rows.{IsArranged}
+use Rattle.var_heap.specs.HeapArrays.{IsArranged}
 use Rattle.var_heap.proofs.Writing.{with_entry-same, with_entry-other}
 
 -- an entry after two writes; the later one counts
@@ -18,7 +18,9 @@ pub after_none : (f : ℕ → ℕ) (a x b y k : ℕ) → (k ≡ b → ⊥) → (
 after_none f a x b y k apart other = with_entry-other (with_entry f a x) b y k apart ∙ with_entry-other f a x k other
 
 -- The variables at two places are exchanged.
-pub arranged_swapped : (h s : ℕ → ℕ) (len bound a b : ℕ) → IsArranged h s len bound → 0 < a → a ≤ len → 0 < b → b ≤ len → (a ≡ b → ⊥) → IsArranged (with_entry (with_entry h a (h b)) b (h a)) (with_entry (with_entry s (h b) a) (h a) b) len bound
+pub arranged_swapped : (h s : ℕ → ℕ) (len bound a b : ℕ) → IsArranged h s len bound → 0 < a → a ≤ len → 0 < b →
+    b ≤ len → (a ≡ b → ⊥) → IsArranged (with_entry (with_entry h a (h b)) b (h a))
+    (with_entry (with_entry s (h b) a) (h a) b) len bound
 arranged_swapped h s len bound a b is some_a low_a some_b low_b apart = record {
   some = λ p some low. entry_at p (λ x. 0 < x) (is.some a some_a low_a) (is.some b some_b low_b) (is.some p some low);
   below = λ p some low. entry_at p (λ x. x < bound) (is.below a some_a low_a) (is.below b some_b low_b) (is.below p some low);
@@ -168,7 +170,9 @@ arranged_taken h s len bound is some = record {
     placed p some_p low_p =
         ⊎_elim
         (λ (e : p ≡ 1).
-        ap new_s (with_entry-same h 1 (h len) p e) ∙ after_first s (h len) 1 (h 1) 0 (h len) (λ same. (let z : s (h len) ≡ s (h 1) = ap s same in omega (arith, z, at_first, at_last, low_p, some_p, e))) refl ∙ sym e)
+        ap new_s (with_entry-same h 1 (h len) p e)
+        ∙ after_first s (h len) 1 (h 1) 0 (h len) (λ same. (let z : s (h len) ≡ s (h 1) = ap s same in
+        omega (arith, z, at_first, at_last, low_p, some_p, e))) refl ∙ sym e)
         (λ (apart : p ≡ 1 → ⊥).
         let back : s (h p) ≡ p = is.placed p some_p (omega arith) in
         ap new_s (with_entry-other h 1 (h len) p apart) ∙ after_none s (h len) 1 (h 1) 0 (h p)

@@ -4,12 +4,15 @@ use Rattle.std.proofs.Common.{sym, ap, ◌∙◌, subst, arith, inl, inr}
 use Rattle.std.proofs.Math.Logic.{⊎_elim}
 use Rattle.std.proofs.lemmas.Bool.{cases_eq, cases_lt}
 use Rattle.var_heap.specs.Entries.{with_entry}
-use Rattle.var_heap.specs.Rows.{IsArranged, IsUnder, IsOrdered, IsOrderedAbove, IsOrderedBelow, IsGreaterChild}
+use Rattle.var_heap.specs.HeapArrays.{IsArranged, IsUnder, IsOrdered, IsOrderedAbove, IsOrderedBelow, IsGreaterChild}
 use Rattle.var_heap.proofs.Writing.{with_entry-same, with_entry-other}
 use Rattle.var_heap.proofs.Arranging.{after_second, after_first, after_none}
 
 -- the score at a place after those at a and b were exchanged
-swapped_score : (h score : ℕ → ℕ) (a b p : ℕ) → ((p ≡ b) × (score (with_entry (with_entry h a (h b)) b (h a) p) ≡ score (h a))) ⊎ (((p ≡ b → ⊥) × (p ≡ a) × (score (with_entry (with_entry h a (h b)) b (h a) p) ≡ score (h b))) ⊎ ((p ≡ b → ⊥) × (p ≡ a → ⊥) × (score (with_entry (with_entry h a (h b)) b (h a) p) ≡ score (h p))))
+swapped_score : (h score : ℕ → ℕ) (a b p : ℕ) → ((p ≡ b) ×
+    (score (with_entry (with_entry h a (h b)) b (h a) p) ≡ score (h a))) ⊎
+    (((p ≡ b → ⊥) × (p ≡ a) × (score (with_entry (with_entry h a (h b)) b (h a) p) ≡ score (h b))) ⊎
+    ((p ≡ b → ⊥) × (p ≡ a → ⊥) × (score (with_entry (with_entry h a (h b)) b (h a) p) ≡ score (h p))))
 swapped_score h score a b p =
     ⊎_elim
     (λ (e : p ≡ b). inl (e, ap score (after_second h a (h b) b (h a) p e)))
@@ -20,7 +23,8 @@ swapped_score h score a b p =
     (cases_eq p b)
 
 -- A variable moves up: the order may then fail at its new place only.
-pub ordered_up : (h score : ℕ → ℕ) (len i q : ℕ) → IsOrderedAbove h score len i → i ≤ len → IsUnder i q → score (h q) < score (h i) → IsOrderedAbove (with_entry (with_entry h i (h q)) q (h i)) score len q
+pub ordered_up : (h score : ℕ → ℕ) (len i q : ℕ) → IsOrderedAbove h score len i → i ≤ len → IsUnder i q →
+    score (h q) < score (h i) → IsOrderedAbove (with_entry (with_entry h i (h q)) q (h i)) score len q
 ordered_up h score len i q is low (some, left, right) greater = record {
   others = λ r p low_p (some_r, left_r, right_r) apart.
       elim (swapped_score h score i q p) [
@@ -36,7 +40,9 @@ ordered_up h score len i q is low (some, left, right) greater = record {
       ];
   over = λ g p low_p (some_g, left_g, right_g) (some_q, left_q, right_q).
       let above : score (h q) ≤ score (h g) = is.others g q (omega (arith, low, left, some)) (some_g, left_g, right_g) (λ e. omega (arith, e, left, some)) in
-      let keep : score (with_entry (with_entry h i (h q)) q (h i) g) ≡ score (h g) = ap score (after_none h i (h q) q (h i) g (λ e. omega (arith, e, left_g, some_g)) (λ e. omega (arith, e, left, left_g, some, some_g))) in
+      let keep : score (with_entry (with_entry h i (h q)) q (h i) g) ≡ score (h g) =
+      ap score (after_none h i (h q) q (h i) g (λ e. omega (arith, e, left_g, some_g))
+      (λ e. omega (arith, e, left, left_g, some, some_g))) in
       elim (swapped_score h score i q p) [
         | inl a ↦ absurd (omega (arith, a.0, left_q, some))
         | inr (inl a) ↦ rw (a.2, keep) above
@@ -47,11 +53,14 @@ ordered_up h score len i q is low (some, left, right) greater = record {
 -- If it is at the top, or its parent's score isn't less, the list is a heap.
 pub ordered_above : (h score : ℕ → ℕ) (len i : ℕ) → IsOrderedAbove h score len i → ((q : ℕ) → IsUnder i q → score (h i) ≤ score (h q)) → IsOrdered h score len
 ordered_above h score len i is top = record {
-  order = λ q p low under. ⊎_elim (λ (e : p ≡ i). subst (λ (x : ℕ). score (h x) ≤ score (h q)) (sym e) (top q (subst (λ (x : ℕ). IsUnder x q) e under))) (λ (apart : p ≡ i → ⊥). is.others q p low under apart) (cases_eq p i);
+  order = λ q p low under. ⊎_elim (λ (e : p ≡ i). subst (λ (x : ℕ). score (h x) ≤ score (h q)) (sym e)
+      (top q (subst (λ (x : ℕ). IsUnder x q) e under))) (λ (apart : p ≡ i → ⊥). is.others q p low under apart)
+      (cases_eq p i);
 }
 
 -- A variable moves down: the order may then fail at the child with the greater score only.
-pub ordered_down : (h score : ℕ → ℕ) (len i c : ℕ) → IsOrderedBelow h score len i → IsGreaterChild h score len i c → score (h i) < score (h c) → IsOrderedBelow (with_entry (with_entry h i (h c)) c (h i)) score len c
+pub ordered_down : (h score : ℕ → ℕ) (len i c : ℕ) → IsOrderedBelow h score len i → IsGreaterChild h score len i c →
+    score (h i) < score (h c) → IsOrderedBelow (with_entry (with_entry h i (h c)) c (h i)) score len c
 ordered_down h score len i c is child greater = record {
   others = λ q p low_p (some_q, left_q, right_q) apart.
       elim (swapped_score h score i c q) [
@@ -91,7 +100,9 @@ ordered_down h score len i c is child greater = record {
 
 pub ordered_below : (h score : ℕ → ℕ) (len i : ℕ) → IsOrderedBelow h score len i → ((p : ℕ) → p ≤ len → IsUnder p i → score (h p) ≤ score (h i)) → IsOrdered h score len
 ordered_below h score len i is bottom = record {
-  order = λ q p low under. ⊎_elim (λ (e : q ≡ i). subst (λ (x : ℕ). score (h p) ≤ score (h x)) (sym e) (bottom p low (subst (λ (x : ℕ). IsUnder p x) e under))) (λ (apart : q ≡ i → ⊥). is.others q p low under apart) (cases_eq q i);
+  order = λ q p low under. ⊎_elim (λ (e : q ≡ i). subst (λ (x : ℕ). score (h p) ≤ score (h x)) (sym e)
+      (bottom p low (subst (λ (x : ℕ). IsUnder p x) e under))) (λ (apart : q ≡ i → ⊥). is.others q p low under apart)
+      (cases_eq q i);
 }
 
 -- The first variable has a greatest score.
@@ -129,7 +140,11 @@ ordered_risen h s score len bound v y are is held rise = record {
 pub ordered_elsewhere : (h s score : ℕ → ℕ) (len bound v y : ℕ) → IsArranged h s len bound → IsOrdered h score len → s v ≡ 0 → IsOrdered h (with_entry score v y) len
 ordered_elsewhere h s score len bound v y are is none = record {
   order = λ q p low (some, left, right).
-      rw (with_entry-other score v y (h p) (not_v p (omega (arith, some, left)) low), with_entry-other score v y (h q) (not_v q some (omega (arith, left, low)))) (is.order q p low (some, left, right));
+      rw (
+        with_entry-other score v y (h p) (not_v p (omega (arith, some, left)) low),
+        with_entry-other score v y (h q) (not_v q some (omega (arith, left, low))),
+      )
+      (is.order q p low (some, left, right));
 }
   where
     not_v : (p : ℕ) → 0 < p → p ≤ len → h p ≡ v → ⊥
@@ -144,12 +159,14 @@ pub greater_right : (h score : ℕ → ℕ) (len q : ℕ) → 0 < q → 2 * q + 
 greater_right h score len q some low less = record {
   inside = low;
   under = (some, omega arith, omega arith);
-  greater = λ p _ (_, left, right). ⊎_elim (λ (e : p ≡ 2 * q). rw e (omega (arith, less))) (λ (apart : p ≡ 2 * q → ⊥). let e : p ≡ 2 * q + 1 = omega (arith, left, right, apart) in rw e (omega arith)) (cases_eq p (2 * q));
+  greater = λ p _ (_, left, right). ⊎_elim (λ (e : p ≡ 2 * q). rw e (omega (arith, less))) (λ (apart : p ≡ 2 * q → ⊥).
+      let e : p ≡ 2 * q + 1 = omega (arith, left, right, apart) in rw e (omega arith)) (cases_eq p (2 * q));
 }
 
 pub greater_left : (h score : ℕ → ℕ) (len q : ℕ) → 0 < q → 2 * q ≤ len → score (h (2 * q + 1)) ≤ score (h (2 * q)) → IsGreaterChild h score len q (2 * q)
 greater_left h score len q some low less = record {
   inside = low;
   under = (some, omega arith, omega arith);
-  greater = λ p _ (_, left, right). ⊎_elim (λ (e : p ≡ 2 * q). rw e (omega arith)) (λ (apart : p ≡ 2 * q → ⊥). let e : p ≡ 2 * q + 1 = omega (arith, left, right, apart) in rw e less) (cases_eq p (2 * q));
+  greater = λ p _ (_, left, right). ⊎_elim (λ (e : p ≡ 2 * q). rw e (omega arith)) (λ (apart : p ≡ 2 * q → ⊥).
+      let e : p ≡ 2 * q + 1 = omega (arith, left, right, apart) in rw e less) (cases_eq p (2 * q));
 }

@@ -40,7 +40,8 @@ marks_kept xs i y some was = map-set_same (λ (x : ℕ). nat_lt 0 x) xs i y 0 (l
 pub zeros_kept : (xs : List ℕ) (i y : ℕ) → i < length xs → 0 < y → 0 < entry xs i → count_by (λ x. x == 0) (slice_set xs i y) ≡ count_by (λ x. x == 0) xs
 zeros_kept xs i y room some was =
     let here : 0 < slice_index_or xs i 0 = rw entry_read at was in
-    let moved : count_by (λ x. x == 0) (slice_set xs i y) + cond {A = ℕ} (slice_index_or xs i 0 == 0) 1 0 ≡ count_by (λ x. x == 0) xs + cond {A = ℕ} (y == 0) 1 0 = sum_by-set (λ (x : ℕ). cond (x == 0) 1 0) xs i y 0 room in
+    let moved : count_by (λ x. x == 0) (slice_set xs i y) + cond {A = ℕ} (slice_index_or xs i 0 == 0) 1 0 ≡
+    count_by (λ x. x == 0) xs + cond {A = ℕ} (y == 0) 1 0 = sum_by-set (λ (x : ℕ). cond (x == 0) 1 0) xs i y 0 room in
     let now : cond {A = ℕ} (y == 0) 1 0 ≡ 0 = rw (ne_eqb y 0 (λ e. omega arith)) refl in
     let before : cond {A = ℕ} (slice_index_or xs i 0 == 0) 1 0 ≡ 0 = rw (ne_eqb (slice_index_or xs i 0) 0 (λ e. omega arith)) refl in
     omega arith
@@ -48,7 +49,8 @@ zeros_kept xs i y room some was =
 pub zeros_less : (xs : List ℕ) (i y : ℕ) → i < length xs → 0 < y → entry xs i ≡ 0 → count_by (λ x. x == 0) (slice_set xs i y) + 1 ≡ count_by (λ x. x == 0) xs
 zeros_less xs i y room some was =
     let here : slice_index_or xs i 0 ≡ 0 = sym (entry_read xs i) ∙ was in
-    let moved : count_by (λ x. x == 0) (slice_set xs i y) + cond {A = ℕ} (slice_index_or xs i 0 == 0) 1 0 ≡ count_by (λ x. x == 0) xs + cond {A = ℕ} (y == 0) 1 0 = sum_by-set (λ (x : ℕ). cond (x == 0) 1 0) xs i y 0 room in
+    let moved : count_by (λ x. x == 0) (slice_set xs i y) + cond {A = ℕ} (slice_index_or xs i 0 == 0) 1 0 ≡
+    count_by (λ x. x == 0) xs + cond {A = ℕ} (y == 0) 1 0 = sum_by-set (λ (x : ℕ). cond (x == 0) 1 0) xs i y 0 room in
     let now : cond {A = ℕ} (y == 0) 1 0 ≡ 0 = rw (ne_eqb y 0 (λ e. omega arith)) refl in
     let before : cond {A = ℕ} (slice_index_or xs i 0 == 0) 1 0 ≡ 1 = rw (eq-eqb (slice_index_or xs i 0) 0 here) refl in
     omega arith
@@ -56,7 +58,8 @@ zeros_less xs i y room some was =
 pub zeros_more : (xs : List ℕ) (i : ℕ) → i < length xs → 0 < entry xs i → count_by (λ x. x == 0) (slice_set xs i 0) ≡ count_by (λ x. x == 0) xs + 1
 zeros_more xs i room was =
     let here : 0 < slice_index_or xs i 0 = rw entry_read at was in
-    let moved : count_by (λ x. x == 0) (slice_set xs i 0) + cond {A = ℕ} (slice_index_or xs i 0 == 0) 1 0 ≡ count_by (λ x. x == 0) xs + cond {A = ℕ} (0 == 0) 1 0 = sum_by-set (λ (x : ℕ). cond (x == 0) 1 0) xs i 0 0 room in
+    let moved : count_by (λ x. x == 0) (slice_set xs i 0) + cond {A = ℕ} (slice_index_or xs i 0 == 0) 1 0 ≡
+    count_by (λ x. x == 0) xs + cond {A = ℕ} (0 == 0) 1 0 = sum_by-set (λ (x : ℕ). cond (x == 0) 1 0) xs i 0 0 room in
     let before : cond {A = ℕ} (slice_index_or xs i 0 == 0) 1 0 ≡ 0 = rw (ne_eqb (slice_index_or xs i 0) 0 (λ e. omega arith)) refl in
     omega arith
 

@@ -1,3 +1,3 @@
 pub mod Entries
 pub mod Held
-pub mod Rows
+pub mod HeapArrays

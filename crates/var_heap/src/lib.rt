@@ -13,7 +13,7 @@
 //! ```
 #![tactic(auto)]
 
-mod row;
+mod array;
 mod var_heap;
 
 pub use var_heap::VarHeap;

@@ -1,9 +1,10 @@
 //! Variables with scores, some of them held. The first place has a greatest score, which follows from the
 //! heap order, level by level.
-ghost use Rattle.std.specs.Prelude.{◌≡◌, ℕ, ◌+◌, ◌-◌, ◌/◌, ◌<◌, ◌^◌, ◌↔◌, true, false, map, min, slice_set, IsTrue, IfOk, IfSome, IfNone};
+ghost use Rattle.std.specs.Prelude.{◌≡◌, ℕ, ◌+◌, ◌-◌, ◌/◌, ◌<◌, ◌^◌, ◌↔◌, true, false, map, min, slice_set, IsTrue};
+ghost use Rattle.std.specs.Prelude.{IfOk, IfSome, IfNone};
 ghost use Rattle.var_heap.specs.Held.{IsHeld, IsVariable, IsWhole, IsGreatest, IsFull, score_of};
 
-use crate::row::Row;
+use crate::array::HeapArray;
 use std::alloc::{AllocError, Global};
 use std::marker::Model;
 
@@ -13,7 +14,7 @@ use std::marker::Model;
 pub struct VarHeap {
     vars: u32,
     scores: Vec<u64>,
-    row: Row,
+    array: HeapArray,
 }
 
 impl Model for VarHeap {
@@ -23,11 +24,11 @@ impl Model for VarHeap {
 
     ghost use Rattle.std.specs.Prelude.{◌≡◌, ◌+◌};
     ghost use Rattle.var_heap.specs.Entries.{marks_of};
-    ghost use Rattle.var_heap.specs.Rows.{IsHeap};
+    ghost use Rattle.var_heap.specs.HeapArrays.{IsHeap};
 
-    ghost view = { λ h. record { vars = h.vars; scores = h.scores.items; marks = marks_of h.row.places.items } };
+    ghost view = { λ h. record { vars = h.vars; scores = h.scores.items; marks = marks_of h.array.places.items } };
 
-    ghost invariant = { λ h. IsHeap h.vars h.scores.items h.row };
+    ghost invariant = { λ h. IsHeap h.vars h.scores.items h.array };
 }
 
 impl VarHeap {
@@ -37,8 +38,12 @@ impl VarHeap {
         ensures whole { IfOk result IsWhole }
     {
         let scores = vec![in alloc; 0u64; vars as usize + 1]?;
-        let row = Row::new(alloc, vars)?;
-        Ok(VarHeap { vars, scores, row })
+        let array = HeapArray::new(alloc, vars)?;
+        Ok(VarHeap {
+            vars,
+            scores,
+            array,
+        })
     }
 
     /// Removes and returns a held variable of greatest score; None if none is held.
@@ -49,12 +54,12 @@ impl VarHeap {
         ensures same { IfNone result (self.new ≡ self.old) }
         ensures whole { IsWhole self.new }
     {
-        if self.row.len == 0 {
+        if self.array.len == 0 {
             return None;
         }
-        let first = self.row.take_first();
-        if self.row.len > 0 {
-            self.row.down(&self.scores, 1);
+        let first = self.array.remove_first();
+        if self.array.len > 0 {
+            self.array.down(&self.scores, 1);
         }
         Some(first)
     }
@@ -65,24 +70,27 @@ impl VarHeap {
         ensures held { self.new ≡ record self.old { marks = slice_set self.old.marks v true } }
         ensures whole { IsWhole self.new }
     {
-        if self.row.places[v as usize] > 0 {
+        if self.array.places[v as usize] > 0 {
             return;
         }
-        self.row.put(v);
-        let last = self.row.len;
-        self.row.up(&self.scores, last);
+        self.array.put(v);
+        let last = self.array.len;
+        self.array.up(&self.scores, last);
     }
 
     /// Adds `by` to the score of a variable, held or not, saturating at 64 bits.
     pub fn bump(&mut self, v: u32, by: u64)
         requires { IsVariable self.old v }
-        ensures added { self.new ≡ record self.old { scores = slice_set self.old.scores v (min (score_of self.old v + by) (2 ^ 64 - 1)) } }
+        ensures added { self.new ≡ record self.old {
+          scores =
+              slice_set self.old.scores v (min (score_of self.old v + by) (2 ^ 64 - 1));
+        } }
         ensures whole { IsWhole self.new }
     {
         self.scores[v as usize] = self.scores[v as usize].saturating_add(by);
-        let place = self.row.places[v as usize] as usize;
+        let place = self.array.places[v as usize] as usize;
         if place > 0 {
-            self.row.up(&self.scores, place);
+            self.array.up(&self.scores, place);
         }
     }
 
@@ -101,7 +109,7 @@ impl VarHeap {
         ensures value { IsTrue result ↔ IsHeld self.now v }
         ensures whole { IsWhole self.now }
     {
-        self.row.places[v as usize] != 0
+        self.array.places[v as usize] != 0
     }
 }
 

@@ -1,7 +1,7 @@
 -- Sets of gates.
 use Rattle.std.specs.Prelude.{◌≡◌, ℕ, ◌≤◌, true, List, length}
 use Rattle.net_theory.specs.Net.{Net}
-use Rattle.window_theory.specs.Places.{among, IsRising}
+use Rattle.window_theory.specs.Nodes.{among, IsRising}
 use Rattle.window_theory.specs.Paths.{IsGate}
 
 -- gates of a net in rising place, one at least

@@ -3,8 +3,8 @@ use Rattle.std.specs.Prelude.{◌≡◌, ℕ, ◌+◌, ◌≤◌, ◌<◌, true,
 use Rattle.std.proofs.Common.{arith, sym, ◌∙◌, ap, subst, ⊎_elim}
 use Rattle.std.proofs.lemmas.Grind.{common_steps}
 use Rattle.net_theory.specs.Net.{Net, end_of}
-use Rattle.window_theory.specs.Places.{IsRising}
-use Rattle.window_theory.specs.PlaceLaws.{among_cases}
+use Rattle.window_theory.specs.Nodes.{IsRising}
+use Rattle.window_theory.specs.NodeLaws.{among_cases}
 use Rattle.window_theory.specs.Paths.{IsGate}
 use Rattle.window_theory.specs.WindowLaws as windows
 use Rattle.window_core.specs.Rising.{put}

@@ -1,4 +1,4 @@
-pub mod Asked
+pub mod LocalSpecification
 pub mod AskingLaws
 pub mod ReplacingLaws
 pub mod Gates

@@ -1,17 +1,17 @@
 //! The window of a set of gates. It is one where the set is convex, so that its inputs don't depend on its gates, and there
 //! are at most six of them.
 ghost use Rattle.std.specs.Prelude.{◌≡◌, ◌≤◌, length, IfOk, IfSome, IfNone};
-ghost use Rattle.window_theory.specs.Places.{AreJust};
+ghost use Rattle.window_theory.specs.Nodes.{AreJust};
 ghost use Rattle.window_theory.specs.Window as definition;
 ghost use Rattle.window_theory.specs.Window.{IsInput, Belongs};
-ghost use Rattle.window_core.specs.Readers.{AreReaders};
+ghost use Rattle.window_core.specs.Fanouts.{AreFanouts};
 ghost use Rattle.walk_core.specs.Gates.{AreGates};
 
 use crate::growing::MOST_INPUTS;
 use net_core::Net;
 use std::alloc::{AllocError, Global};
 use subst_core::are_apart;
-use window_core::{Readers, Window, all_inputs, all_outputs};
+use window_core::{Fanouts, Window, all_inputs, all_outputs};
 
 /// The root of a set, its last gate.
 fn root_of(gates: &[u32]) -> u32 {
@@ -26,15 +26,16 @@ fn root_of(gates: &[u32]) -> u32 {
 pub fn convex_window(
     alloc: Global,
     net: &Net,
-    readers: &Readers,
+    fanouts: &Fanouts,
     gates: Vec<u32>,
 ) -> Result<Option<Window>, AllocError>
-    requires readers { AreReaders net.now readers.now }
+    requires fanouts { AreFanouts net.now fanouts.now }
     requires set { AreGates net.now gates.items }
     requires few { length gates.items ≤ 8 }
     ensures belongs { IfOk result (λ found. IfSome found (Belongs net.now)) }
     ensures gates { IfOk result (λ found. IfSome found (λ window. window.gates ≡ gates.items)) }
-    ensures inputs { IfOk result (λ found. IfSome found (λ window. AreJust (IsInput net.now gates.items) window.inputs)) }
+    ensures inputs { IfOk result (λ found. IfSome found (λ window.
+        AreJust (IsInput net.now gates.items) window.inputs)) }
     ensures none { IfOk result (λ found. IfNone found ((w : definition.Window) → w.gates ≡ gates.items →
         AreJust (IsInput net.now gates.items) w.inputs → length w.inputs ≤ 6 → Belongs net.now w → ⊥)) }
 {
@@ -47,7 +48,7 @@ pub fn convex_window(
     if !are_apart(alloc, net, &gates, &inputs)? {
         return Ok(None);
     }
-    let outputs = all_outputs(alloc, net, readers, &gates)?;
+    let outputs = all_outputs(alloc, net, fanouts, &gates)?;
     let root = root_of(&gates);
     Ok(Some(Window::new(root, None, gates, inputs, outputs)))
 }

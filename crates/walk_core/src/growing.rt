@@ -2,14 +2,14 @@
 //! operand, which shares the operand with it. No set has more than six inputs. Nothing depends on which set it is.
 ghost use Rattle.std.specs.Prelude.{◌≡◌, ◌+◌, ◌≤◌, true, length, IfOk, IfSome};
 ghost use Rattle.window_theory.specs.Paths.{IsGate};
-ghost use Rattle.window_core.specs.Readers.{AreReaders};
+ghost use Rattle.window_core.specs.Fanouts.{AreFanouts};
 ghost use Rattle.walk_core.specs.Gates.{AreGates};
 
 use net_core::Net;
 use rows::{Random, at};
 use std::alloc::{AllocError, Global};
 use window_core::{
-    MOST_GATES, Readers, all_inputs, first_reader, gate_at, has, later_of, place_of, put,
+    Fanouts, MOST_GATES, all_inputs, first_fanout, gate_at, has, later_of, node_of, put,
 };
 
 /// The most inputs of a set.
@@ -19,27 +19,27 @@ pub(crate) const MOST_INPUTS: usize = tt_core::MOST_INPUTS as usize;
 const MOST_LOOKS: u32 = 24;
 
 /// How many readers of a place are looked at.
-const MOST_READERS: u32 = 8;
+const MOST_FANOUTS: u32 = 8;
 
 /// Whether a gate stands at a place.
 #[tactic(auto, using(crate::specs::GatesLaws::placing))]
-fn has_gate(net: &Net, place: u32) -> bool
-    ensures { result ≡ true → IsGate net.now place }
+fn has_gate(net: &Net, node: u32) -> bool
+    ensures { result ≡ true → IsGate net.now node }
 {
     let gates = net.gates();
     let first = net.sources() + 1;
-    first <= place && place < first + gates.len() as u32
+    first <= node && node < first + gates.len() as u32
 }
 
-/// The next reader of a place after the gate `reader`, 0 where there is none.
-fn reader_after(net: &Net, readers: &Readers, place: u32, reader: u32) -> u32
-    requires readers { AreReaders net.now readers.now }
+/// The next reader of a place after the gate `fanout`, 0 where there is none.
+fn fanout_after(net: &Net, fanouts: &Fanouts, node: u32, fanout: u32) -> u32
+    requires fanouts { AreFanouts net.now fanouts.now }
 {
-    if !has_gate(net, reader) {
+    if !has_gate(net, fanout) {
         return 0;
     }
-    let later = later_of(net, readers, reader);
-    if place_of(gate_at(net, reader).a) == place {
+    let later = later_of(net, fanouts, fanout);
+    if node_of(gate_at(net, fanout).a) == node {
         later.first
     } else {
         later.second
@@ -47,35 +47,35 @@ fn reader_after(net: &Net, readers: &Readers, place: u32, reader: u32) -> u32
 }
 
 /// The reader of a place after `number` others, 0 where there is none.
-fn reader_of(net: &Net, readers: &Readers, place: u32, number: u32) -> u32
-    requires readers { AreReaders net.now readers.now }
+fn fanout_of(net: &Net, fanouts: &Fanouts, node: u32, number: u32) -> u32
+    requires fanouts { AreFanouts net.now fanouts.now }
 {
     let gates = net.gates();
-    if place as usize > net.sources() as usize + gates.len() {
+    if node as usize > net.sources() as usize + gates.len() {
         return 0;
     }
-    let mut reader = first_reader(readers, net, place);
+    let mut fanout = first_fanout(fanouts, net, node);
     for _passed in 0..number {
-        reader = reader_after(net, readers, place, reader);
+        fanout = fanout_after(net, fanouts, node, fanout);
     }
-    reader
+    fanout
 }
 
 /// A place beside a gate: an operand, a reader, or a reader of an operand; 0 for a constant, and where there is no such
 /// reader.
-fn place_beside(net: &Net, readers: &Readers, gate: u32, random: &mut Random) -> u32
-    requires readers { AreReaders net.now readers.now }
+fn node_beside(net: &Net, fanouts: &Fanouts, gate: u32, random: &mut Random) -> u32
+    requires fanouts { AreFanouts net.now fanouts.now }
 {
     if !has_gate(net, gate) {
         return 0;
     }
     let read = gate_at(net, gate);
-    let operand = place_of(if random.below(2) == 0 { read.a } else { read.b });
-    let number = random.below(MOST_READERS);
+    let operand = node_of(if random.below(2) == 0 { read.a } else { read.b });
+    let number = random.below(MOST_FANOUTS);
     match random.below(3) {
         0 => operand,
-        1 => reader_of(net, readers, operand, number),
-        _ => reader_of(net, readers, gate, number),
+        1 => fanout_of(net, fanouts, operand, number),
+        _ => fanout_of(net, fanouts, gate, number),
     }
 }
 
@@ -99,15 +99,15 @@ fn with_gate(alloc: Global, net: &Net, gates: Vec<u32>, gate: u32) -> Result<Vec
 
 /// The set with the gate at a place, if there is one, it isn't one of the set, and it may be.
 #[tactic(auto, using(crate::specs::GatesLaws::growing))]
-fn with_place(alloc: Global, net: &Net, gates: Vec<u32>, place: u32) -> Result<Vec<u32>, AllocError>
+fn with_node(alloc: Global, net: &Net, gates: Vec<u32>, node: u32) -> Result<Vec<u32>, AllocError>
     requires gates { AreGates net.now gates.items }
     ensures gates { IfOk result (λ new. AreGates net.now new.items) }
     ensures few { IfOk result (λ new. length new.items ≤ length gates.items + 1) }
 {
-    if !has_gate(net, place) || has(&gates, place) {
+    if !has_gate(net, node) || has(&gates, node) {
         return Ok(gates);
     }
-    let more = with_gate(alloc, net, gates, place)?;
+    let more = with_gate(alloc, net, gates, node)?;
     Ok(more)
 }
 
@@ -128,12 +128,12 @@ fn alone(alloc: Global, net: &Net, root: u32) -> Result<Vec<u32>, AllocError>
 pub(crate) fn grown(
     alloc: Global,
     net: &Net,
-    readers: &Readers,
+    fanouts: &Fanouts,
     root: u32,
     count: usize,
     random: &mut Random,
 ) -> Result<Option<Vec<u32>>, AllocError>
-    requires readers { AreReaders net.now readers.now }
+    requires fanouts { AreFanouts net.now fanouts.now }
     requires some { 1 ≤ count }
     requires few { count ≤ 8 }
     ensures gates { IfOk result (λ set. IfSome set (λ gates. AreGates net.now gates.items)) }
@@ -148,8 +148,8 @@ pub(crate) fn grown(
             break;
         }
         let from = at(&gates, random.below(gates.len() as u32));
-        let place = place_beside(net, readers, from, random);
-        gates = with_place(alloc, net, gates, place)?;
+        let node = node_beside(net, fanouts, from, random);
+        gates = with_node(alloc, net, gates, node)?;
     }
     Ok(Some(gates))
 }

@@ -29,7 +29,7 @@ mod replacing;
 mod trying;
 mod walking;
 
-pub use asking::asked_spec;
+pub use asking::local_spec;
 pub use convex::convex_window;
 pub use net_core::Net;
 pub use replacing::replaced;

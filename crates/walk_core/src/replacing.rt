@@ -3,8 +3,8 @@ ghost use Rattle.std.specs.Prelude.{◌≤◌, ◌<◌, length, IfOk};
 ghost use Rattle.chain_theory.specs.Agreement.{IsOver};
 ghost use Rattle.op_basis.specs.Basis.{members};
 ghost use Rattle.window_theory.specs.Window.{Belongs};
-ghost use Rattle.improve_theory.specs.Leading.{Leads};
-ghost use Rattle.walk_core.specs.Asked.{MeetsAsked};
+ghost use Rattle.improve_theory.specs.Leading.{IsReplacement};
+ghost use Rattle.walk_core.specs.LocalSpecification.{MeetsLocal};
 
 use chain_core::Chain;
 use net_core::Net;
@@ -24,10 +24,10 @@ pub fn replaced(
     settings: ImproveSettings,
 ) -> Result<Net, AllocError>
     requires belongs { Belongs net.now window.now }
-    requires meets { MeetsAsked settings.observe net.now window.now chain.now }
+    requires meets { MeetsLocal settings.observe net.now window.now chain.now }
     requires few { length chain.now.steps ≤ length window.now.gates }
     requires over { IsOver (members settings.basis) chain.now }
-    ensures leads { IfOk result (λ new. Leads (members settings.basis) net.now new) }
+    ensures replaces { IfOk result (λ new. IsReplacement (members settings.basis) net.now new) }
     ensures no_more { IfOk result (λ new. length new.gates ≤ length net.now.gates) }
     ensures fewer { length chain.now.steps < length window.now.gates →
         IfOk result (λ new. length new.gates < length net.now.gates) }

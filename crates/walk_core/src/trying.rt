@@ -2,12 +2,12 @@
 ghost use Rattle.std.specs.Prelude.{◌≤◌, length, IfOk, IfSome};
 ghost use Rattle.op_basis.specs.Basis.{members};
 ghost use Rattle.tt_core.specs.Words.{specification};
-ghost use Rattle.step_core.specs.Short.{IsFitting};
+ghost use Rattle.step_core.specs.LeastChains.{IsChainWithin};
 ghost use Rattle.window_theory.specs.Window.{Belongs};
-ghost use Rattle.window_core.specs.Readers.{AreReaders};
-ghost use Rattle.improve_theory.specs.Leading.{Leads};
+ghost use Rattle.window_core.specs.Fanouts.{AreFanouts};
+ghost use Rattle.improve_theory.specs.Leading.{IsReplacement};
 
-use crate::asking::asked_spec;
+use crate::asking::local_spec;
 use crate::convex::convex_window;
 use crate::growing::grown;
 use crate::replacing::replaced;
@@ -17,9 +17,9 @@ use op_basis::Basis;
 use rows::Random;
 use settings::ImproveSettings;
 use std::alloc::{AllocError, Global};
-use step_core::{few_steps, nth_chain};
+use step_core::{least_chain, nth_chain};
 use tt_core::Spec;
-use window_core::{Readers, Window};
+use window_core::{Fanouts, Window};
 
 /// The chain that is wanted for a window.
 #[derive(Clone, Copy)]
@@ -41,10 +41,11 @@ fn chain_for(
 ) -> Result<Option<Chain>, AllocError>
     requires some { 1 ≤ count }
     requires few { count ≤ 6 }
-    ensures { IfOk result (λ found. IfSome found (λ chain. IsFitting (specification spec.now) (members basis) count chain)) }
+    ensures { IfOk result (λ found. IfSome found (λ chain.
+        IsChainWithin (specification spec.now) (members basis) count chain)) }
 {
     match wanted {
-        Wanted::Fewer => Ok(few_steps(alloc, spec, basis, count - 1)?),
+        Wanted::Fewer => Ok(least_chain(alloc, spec, basis, count - 1)?),
         Wanted::Level(number) => Ok(nth_chain(alloc, spec, basis, count, number)?),
     }
 }
@@ -54,19 +55,19 @@ fn chain_for(
 fn tried_window(
     alloc: Global,
     net: &Net,
-    readers: &Readers,
+    fanouts: &Fanouts,
     window: &Window,
     settings: ImproveSettings,
     wanted: Wanted,
 ) -> Result<Option<Net>, AllocError>
-    requires readers { AreReaders net.now readers.now }
+    requires fanouts { AreFanouts net.now fanouts.now }
     requires belongs { Belongs net.now window.now }
     requires few { length window.now.gates ≤ 6 }
-    ensures leads { IfOk result (λ found. IfSome found (Leads (members settings.basis) net.now)) }
+    ensures replaces { IfOk result (λ found. IfSome found (IsReplacement (members settings.basis) net.now)) }
     ensures no_more { IfOk result (λ found. IfSome found (λ new. length new.gates ≤ length net.now.gates)) }
 {
     let count = window.gates().len() as u32;
-    let spec = asked_spec(alloc, net, readers, window, settings.observe)?;
+    let spec = local_spec(alloc, net, fanouts, window, settings.observe)?;
     match chain_for(alloc, &spec, settings.basis, count, wanted)? {
         None => Ok(None),
         Some(chain) => {
@@ -82,24 +83,24 @@ fn tried_window(
 pub(crate) fn tried(
     alloc: Global,
     net: &Net,
-    readers: &Readers,
+    fanouts: &Fanouts,
     settings: ImproveSettings,
     wanted: Wanted,
     root: u32,
     count: u32,
     random: &mut Random,
 ) -> Result<Option<Net>, AllocError>
-    requires readers { AreReaders net.now readers.now }
+    requires fanouts { AreFanouts net.now fanouts.now }
     requires some { 1 ≤ count }
     requires few { count ≤ 6 }
-    ensures leads { IfOk result (λ found. IfSome found (Leads (members settings.basis) net.now)) }
+    ensures replaces { IfOk result (λ found. IfSome found (IsReplacement (members settings.basis) net.now)) }
     ensures no_more { IfOk result (λ found. IfSome found (λ new. length new.gates ≤ length net.now.gates)) }
 {
-    let Some(gates) = grown(alloc, net, readers, root, count as usize, random)? else {
+    let Some(gates) = grown(alloc, net, fanouts, root, count as usize, random)? else {
         return Ok(None);
     };
-    match convex_window(alloc, net, readers, gates)? {
+    match convex_window(alloc, net, fanouts, gates)? {
         None => Ok(None),
-        Some(window) => tried_window(alloc, net, readers, &window, settings, wanted),
+        Some(window) => tried_window(alloc, net, fanouts, &window, settings, wanted),
     }
 }

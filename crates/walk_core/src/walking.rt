@@ -1,16 +1,16 @@
 //! Walks: windows tried at random places, one after the other.
 ghost use Rattle.std.specs.Prelude.{◌≡◌, ◌≤◌, ◌<◌, length, IfOk, IfSome};
 ghost use Rattle.op_basis.specs.Basis.{members};
-ghost use Rattle.net_theory.specs.Answers.{IsPruned};
-ghost use Rattle.window_core.specs.Readers.{AreReaders};
-ghost use Rattle.improve_theory.specs.Leading.{Leads};
+ghost use Rattle.net_theory.specs.Implements.{IsCleanedUp};
+ghost use Rattle.window_core.specs.Fanouts.{AreFanouts};
+ghost use Rattle.improve_theory.specs.Leading.{IsReplacement};
 
 use crate::trying::{Wanted, tried};
-use net_core::{Net, drop_dead};
+use net_core::{Net, remove_dangling};
 use rows::Random;
 use settings::ImproveSettings;
 use std::alloc::{AllocError, Global};
-use window_core::{Readers, readers_of};
+use window_core::{Fanouts, fanouts_of};
 
 /// A net of more gates isn't walked over: each try costs a pass over the net, by which its set is found to be convex.
 const MOST_WALKED: usize = 10_000;
@@ -77,36 +77,36 @@ fn count_next(pace: Pace, cap: u32, random: &mut Random) -> u32
 fn try_next(
     alloc: Global,
     net: &Net,
-    readers: &Readers,
+    fanouts: &Fanouts,
     settings: &ImproveSettings,
     pace: Pace,
     random: &mut Random,
 ) -> Result<Option<Net>, AllocError>
-    requires readers { AreReaders net.now readers.now }
-    ensures leads { IfOk result (λ found. IfSome found (Leads (members settings.now.basis) net.now)) }
+    requires fanouts { AreFanouts net.now fanouts.now }
+    ensures replaces { IfOk result (λ found. IfSome found (IsReplacement (members settings.now.basis) net.now)) }
     ensures no_more { IfOk result (λ found. IfSome found (λ new. length new.gates ≤ length net.now.gates)) }
 {
     let index = random.below(net.gates().len() as u32);
     let root = net.sources().wrapping_add(1).wrapping_add(index);
     let count = count_next(pace, settings.cap, random);
     let wanted = wanted_next(pace, random);
-    tried(alloc, net, readers, *settings, wanted, root, count, random)
+    tried(alloc, net, fanouts, *settings, wanted, root, count, random)
 }
 
 /// A net with its index.
 #[derive(Drop)]
 struct Indexed {
     net: Net,
-    readers: Readers,
+    fanouts: Fanouts,
 }
 
 /// Makes the index of a net.
 fn with_index(alloc: Global, net: Net) -> Result<Indexed, AllocError>
     ensures net { IfOk result (λ made. made.net ≡ net) }
-    ensures readers { IfOk result (λ made. AreReaders made.net made.readers) }
+    ensures fanouts { IfOk result (λ made. AreFanouts made.net made.fanouts) }
 {
-    let readers = readers_of(alloc, &net)?;
-    Ok(Indexed { net, readers })
+    let fanouts = fanouts_of(alloc, &net)?;
+    Ok(Indexed { net, fanouts })
 }
 
 /// The net after a window was tried, with its index.
@@ -118,12 +118,12 @@ fn next(
     pace: Pace,
     random: &mut Random,
 ) -> Result<Indexed, AllocError>
-    requires readers { AreReaders before.net before.readers }
-    ensures readers { IfOk result (λ after. AreReaders after.net after.readers) }
-    ensures leads { IfOk result (λ after. Leads (members settings.now.basis) before.net after.net) }
+    requires fanouts { AreFanouts before.net before.fanouts }
+    ensures fanouts { IfOk result (λ after. AreFanouts after.net after.fanouts) }
+    ensures replaces { IfOk result (λ after. IsReplacement (members settings.now.basis) before.net after.net) }
     ensures no_more { IfOk result (λ after. length after.net.gates ≤ length before.net.gates) }
 {
-    match try_next(alloc, &before.net, &before.readers, settings, pace, random)? {
+    match try_next(alloc, &before.net, &before.fanouts, settings, pace, random)? {
         Some(new) => {
             let after = with_index(alloc, new)?;
             Ok(after)
@@ -141,7 +141,7 @@ fn walk(
     pace: Pace,
     random: &mut Random,
 ) -> Result<Net, AllocError>
-    ensures leads { IfOk result (Leads (members settings.now.basis) net) }
+    ensures replaces { IfOk result (IsReplacement (members settings.now.basis) net) }
     ensures no_more { IfOk result (λ new. length new.gates ≤ length net.gates) }
 {
     let tries = tries_of(&net, pace);
@@ -149,7 +149,7 @@ fn walk(
     for _try in 0..tries {
         best = next(alloc, best, settings, pace, random)?;
     }
-    let Indexed { net, readers: _ } = best;
+    let Indexed { net, fanouts: _ } = best;
     Ok(net)
 }
 
@@ -161,7 +161,7 @@ fn after_rounds(
     settings: &ImproveSettings,
     rounds: u32,
 ) -> Result<Net, AllocError>
-    ensures leads { IfOk result (Leads (members settings.now.basis) net) }
+    ensures replaces { IfOk result (IsReplacement (members settings.now.basis) net) }
     ensures no_more { IfOk result (λ new. length new.gates ≤ length net.gates) }
 {
     let mut random = Random::new(1);
@@ -187,15 +187,15 @@ pub fn walked(
     settings: &ImproveSettings,
     rounds: u32,
 ) -> Result<Option<Net>, AllocError>
-    ensures pruned { IfOk result (λ found. IfSome found (IsPruned net.now)) }
-    ensures leads { IfOk result (λ found. IfSome found (Leads (members settings.now.basis) net.now)) }
+    ensures cleaned_up { IfOk result (λ found. IfSome found (IsCleanedUp net.now)) }
+    ensures replaces { IfOk result (λ found. IfSome found (IsReplacement (members settings.now.basis) net.now)) }
     ensures fewer { IfOk result (λ found. IfSome found (λ new. length new.gates < length net.now.gates)) }
 {
     let gates = net.gates().len();
     if !is_walked(net, settings.cap) {
         return Ok(None);
     }
-    let own = drop_dead(alloc, net)?;
+    let own = remove_dangling(alloc, net)?;
     let left = after_rounds(alloc, own, settings, rounds)?;
     if left.gates().len() >= gates {
         return Ok(None);

@@ -1,7 +1,7 @@
 -- The inputs of some gates, while they are being gathered.
 use Rattle.std.specs.Prelude.{◌≡◌, ℕ, true, List, ◌⊎◌}
 use Rattle.net_theory.specs.Net.{Net}
-use Rattle.window_theory.specs.Places.{among, IsRising}
+use Rattle.window_theory.specs.Nodes.{among, IsRising}
 use Rattle.window_theory.specs.Window.{IsInput, IsReadBy}
 
 -- The inputs found so far are inputs of the gates; the others are fanins of the gates `left`.

@@ -6,9 +6,9 @@ use Rattle.net_theory.specs.declared.data.Sig.{Sig}
 use Rattle.net_theory.specs.declared.data.Sig.TheVariants as sigs
 use Rattle.net_theory.specs.declared.data.Gate.{Gate}
 use Rattle.net_theory.specs.Net.{Net}
-use Rattle.net_theory.specs.Reach.{ReadsPlace}
-use Rattle.window_theory.specs.Places.{among, IsRising, AreJust}
-use Rattle.window_theory.specs.PlaceLaws.{among_cases, among_first, among_later}
+use Rattle.net_theory.specs.Reach.{ReadsNode}
+use Rattle.window_theory.specs.Nodes.{among, IsRising, AreJust}
+use Rattle.window_theory.specs.NodeLaws.{among_cases, among_first, among_later}
 use Rattle.window_theory.specs.Paths.{Reads}
 use Rattle.window_theory.specs.Window.{IsInput}
 use Rattle.window_core.specs.Gates.{IsGateOf}
@@ -20,17 +20,17 @@ use Rattle.window_core.specs.RisingLaws.{put_rising, put_own, put_only, put_kept
 -- ---- one signal
 
 -- the effect of putting in a signal
-record IsPut (gates : List ℕ) (s : Sig) (old new : List ℕ) : Type 0 where
+record IsInputPut (gates : List ℕ) (s : Sig) (old new : List ℕ) : Type 0 where
   rising : IsRising old → IsRising new
   kept : (q : ℕ) → among old q ≡ true → among new q ≡ true
-  only : (q : ℕ) → among new q ≡ true → (among old q ≡ true) ⊎ ((s ≡ sigs.Place q) × (among gates q ≡ false))
-  own : (q : ℕ) → s ≡ sigs.Place q → among gates q ≡ false → among new q ≡ true
+  only : (q : ℕ) → among new q ≡ true → (among old q ≡ true) ⊎ ((s ≡ sigs.Node q) × (among gates q ≡ false))
+  own : (q : ℕ) → s ≡ sigs.Node q → among gates q ≡ false → among new q ≡ true
 
-is_put : (gates : List ℕ) (s : Sig) (old : List ℕ) → IsPut gates s old (put_outside gates s old)
+is_put : (gates : List ℕ) (s : Sig) (old : List ℕ) → IsInputPut gates s old (put_outside gates s old)
 is_put gates sigs.Zero old = record { rising = λ r. r; kept = λ q e. e; only = λ q e. inl e; own = λ q e out. absurd cc }
 is_put gates sigs.One old = record { rising = λ r. r; kept = λ q e. e; only = λ q e. inl e; own = λ q e out. absurd cc }
-is_put gates (sigs.Place p) old =
-    cond_both (among gates p) old (put p old) (IsPut gates (sigs.Place p) old)
+is_put gates (sigs.Node p) old =
+    cond_both (among gates p) old (put p old) (IsInputPut gates (sigs.Node p) old)
     (λ inside. record {
       rising = λ r. r;
       kept = λ q e. e;
@@ -40,7 +40,7 @@ is_put gates (sigs.Place p) old =
     (λ outside. record {
       rising = put_rising p old;
       kept = λ q e. put_kept p q old e;
-      only = λ q e. ⊎_elim (λ (same : q ≡ p). inr (ap sigs.Place (sym same), ap (among gates) same ∙ outside)) (λ there. inl there) (put_only p q old e);
+      only = λ q e. ⊎_elim (λ (same : q ≡ p). inr (ap sigs.Node (sym same), ap (among gates) same ∙ outside)) (λ there. inl there) (put_only p q old e);
       own = λ q e out. let same : p ≡ q = cc in ap (among (put p old)) (sym same) ∙ put_own p old;
     })
 
@@ -58,12 +58,22 @@ found_start n gates inputs none = subst (AreFound n gates gates) (sym none) (rec
   all = λ p is. inr is.read;
 })
 
-pub found_more : (n : Net) (gates left : List ℕ) (x : ℕ) (rest : List ℕ) (g : Gate) (inputs first next : List ℕ) → left ≡ x ∷ rest → IsGateOf n x g → first ≡ put_outside gates g.a inputs → next ≡ put_outside gates g.b first → AreFound n gates left inputs → AreFound n gates rest next
+pub found_more : (n : Net) (gates left : List ℕ) (x : ℕ) (rest : List ℕ) (g : Gate) (inputs first next : List ℕ) →
+    left ≡ x ∷ rest → IsGateOf n x g → first ≡ put_outside gates g.a inputs → next ≡ put_outside gates g.b first →
+    AreFound n gates left inputs → AreFound n gates rest next
 found_more n gates left x rest g inputs first next parts of by_a by_b was =
-    let a : IsPut gates g.a inputs first = subst (IsPut gates g.a inputs) (sym by_a) (is_put gates g.a inputs) in
-    let b : IsPut gates g.b first next = subst (IsPut gates g.b first) (sym by_b) (is_put gates g.b first) in
+    let a : IsInputPut gates g.a inputs first = subst (IsInputPut gates g.a inputs) (sym by_a) (is_put gates g.a inputs) in
+    let b : IsInputPut gates g.b first next = subst (IsInputPut gates g.b first) (sym by_b) (is_put gates g.b first) in
     let here : among gates x ≡ true = was.within x (ap (λ (xs : List ℕ). among xs x) parts ∙ among_first x rest) in
-    let new_input : (q : ℕ) → ReadsPlace g q → among gates q ≡ false → IsInput n gates q = λ q reads out. record { outside = out; read = record { reader = x; inside = here; reads = of_reads n x q g of reads } } in
+    let new_input : (q : ℕ) → ReadsNode g q → among gates q ≡ false → IsInput n gates q =
+    λ q reads out. record {
+      outside = out;
+      read = record {
+        fanout = x;
+        inside = here;
+        reads = of_reads n x q g of reads;
+      };
+    } in
     record {
       within = λ q e. was.within q (ap (λ (xs : List ℕ). among xs q) parts ∙ among_later x q rest e);
       rising = b.rising (a.rising was.rising);
@@ -76,14 +86,14 @@ found_more n gates left x rest g inputs first next parts of by_a by_b was =
           ⊎_elim
           (λ old. inl (b.kept p (a.kept p old)))
           (λ read. ⊎_elim
-          (λ (own : read.reader ≡ x).
-          let reads : ReadsPlace g p = reads_of n x p g of (subst (λ (y : ℕ). Reads n y p) own read.reads) in
+          (λ (own : read.fanout ≡ x).
+          let reads : ReadsNode g p = reads_of n x p g of (subst (λ (y : ℕ). Reads n y p) own read.reads) in
           ⊎_elim
           (λ first_is. inl (b.kept p (a.own p first_is is.outside)))
           (λ second_is. inl (b.own p second_is is.outside))
           reads)
-          (λ later. inr (record { reader = read.reader; inside = later; reads = read.reads }))
-          (among_cases x read.reader rest (ap (λ (xs : List ℕ). among xs read.reader) (sym parts) ∙ read.inside)))
+          (λ later. inr (record { fanout = read.fanout; inside = later; reads = read.reads }))
+          (among_cases x read.fanout rest (ap (λ (xs : List ℕ). among xs read.fanout) (sym parts) ∙ read.inside)))
           (was.all p is);
     }
 
@@ -96,5 +106,5 @@ found_end n gates left inputs none was =
     record {
       rising = was.rising;
       only = was.only;
-      all = λ p is. ⊎_elim (λ on. on) (λ read. absurd (let e : false ≡ true = ap (λ (xs : List ℕ). among xs read.reader) (sym (no_length left none)) ∙ read.inside in cc)) (was.all p is);
+      all = λ p is. ⊎_elim (λ on. on) (λ read. absurd (let e : false ≡ true = ap (λ (xs : List ℕ). among xs read.fanout) (sym (no_length left none)) ∙ read.inside in cc)) (was.all p is);
     }

@@ -4,14 +4,14 @@ use Rattle.net_theory.specs.declared.data.Sig.{Sig}
 use Rattle.net_theory.specs.declared.data.Sig.TheVariants as sigs
 use Rattle.net_theory.specs.declared.data.Gate.{Gate}
 use Rattle.net_theory.specs.Net.{Net, end_of}
-use Rattle.window_theory.specs.Places.{among}
+use Rattle.window_theory.specs.Nodes.{among}
 use Rattle.window_theory.specs.Window.{IsRootOrPartner, IsReadBy}
 
 -- the gate of the node p is g
 pub record IsGateOf (n : Net) (p : ℕ) (g : Gate) : Type 0 where
   pub index : ℕ
   pub at : slice_get n.gates index ≡ Some g
-  pub place : n.sources + 1 + index ≡ p
+  pub node : n.sources + 1 + index ≡ p
 
 -- `result` is the greater of `best` and p, as far as p is below the bound
 pub record IsGreater (bound best p result : ℕ) : Type 0 where
@@ -27,7 +27,7 @@ IsGreaterIn bound best (Some p) result = IsGreater bound best p result
 abbrev pub IsGreaterSig : ℕ → ℕ → Sig → ℕ → Type 0
 IsGreaterSig bound best sigs.Zero result = result ≡ best
 IsGreaterSig bound best sigs.One result = result ≡ best
-IsGreaterSig bound best (sigs.Place p) result = IsGreater bound best p result
+IsGreaterSig bound best (sigs.Node p) result = IsGreater bound best p result
 
 -- the root, the partner, or a fanin of a gate that is taken
 abbrev pub IsWanted : Net → ℕ → Option ℕ → List ℕ → ℕ → Type 0

@@ -1,5 +1,7 @@
 -- The words of a window's specification are what the definition says.
-use Rattle.std.specs.Prelude.{◌≡◌, ℕ, zero, suc, ◌+◌, ◌-◌, ◌*◌, ◌≤◌, ◌<◌, ◌^◌, ◌==◌, Bool, true, false, ◌&&◌, if◌then◌else◌, List, [], ◌∷◌, ◌++◌, length, map, drop, slice_get, slice_index, slice_index_or, Some, bit_and, refl}
+use Rattle.std.specs.Prelude.{◌≡◌, ℕ, zero, suc, ◌+◌, ◌-◌, ◌*◌, ◌≤◌, ◌<◌, ◌^◌, ◌==◌, Bool, true, false, ◌&&◌}
+use Rattle.std.specs.Prelude.{if◌then◌else◌, List, [], ◌∷◌, ◌++◌, length, map, drop, slice_get, slice_index}
+use Rattle.std.specs.Prelude.{slice_index_or, Some, bit_and, refl}
 use Rattle.std.specs.Int.{bit_at}
 use Rattle.std.proofs.Common.{arith, sym, ◌∙◌, ap, subst, inl, inr, ⊎_elim}
 use Rattle.std.proofs.Math.Pow.{pow_mono}
@@ -16,25 +18,25 @@ use Rattle.net_theory.specs.declared.data.Gate.{Gate}
 use Rattle.net_theory.specs.Net.{Net, IsNet, sig_value}
 use Rattle.tt_core.specs.Words as tables
 use Rattle.tt_core.specs.Words.{IsSpec, specification}
-use Rattle.lane_sim.specs.Cone.{Cone, IsCone, IsSigAmong, places, value_in}
+use Rattle.lane_sim.specs.Cone.{Cone, IsCone, IsSigAmong, nodes, value_in}
 use Rattle.lane_sim.specs.ConeLaws.{cone_leaf}
-use Rattle.lane_sim.specs.PatternLaws.{at_behind, pattern_low}
+use Rattle.lane_sim.specs.PatternLaws.{at_after, pattern_low}
 use Rattle.lane_sim.specs.SeenLaws.{above_zero}
 use Rattle.lane_sim.specs.WordLaws.{digit_and}
 use Rattle.lane_sim.specs.Words.{Words, AreWords, ArePatterns, width_of, pattern}
-use Rattle.window_theory.specs.Places.{among, IsRising}
+use Rattle.window_theory.specs.Nodes.{among, IsRising}
 use Rattle.window_theory.specs.Window.{Window, Belongs}
-use Rattle.window_theory.specs.Surround.{LeadsTo}
+use Rattle.window_theory.specs.FaninCone.{ExpandsTo}
 use Rattle.window_theory.specs.Rows.{has_row}
 use Rattle.window_theory.specs.Care.{HasRow, IsSpecificationOf, values_with, cell_of}
 use Rattle.window_theory.specs.CarePartLaws.{row_shown, row_found}
 use Rattle.window_theory.specs.FixedLaws.{part_values}
 use Rattle.window_core.specs.Gates.{IsGateOf}
-use Rattle.window_core.specs.Surrounding.{gate_places, AreAbove, AreCovered}
-use Rattle.window_core.specs.Masking.{IsCareMask, ArePlaced, HasValues, AreMasked}
+use Rattle.window_core.specs.Expanding.{gate_nodes, AreAbove, AreLeavesOrGates}
+use Rattle.window_core.specs.Masking.{IsCareMask, AreNumbered, HasGateValues, AreMasked}
 use Rattle.window_core.specs.GrowingLaws.{of_reads}
 use Rattle.window_core.specs.NotingLaws.{at_last}
-use Rattle.window_core.specs.SurroundingLaws.{among_left, among_right}
+use Rattle.window_core.specs.ExpandingLaws.{among_left, among_right}
 use Rattle.window_core.specs.ConeLaws.{among_get, get_among, cone_part, above_cone}
 
 some_same : {A : Type 0} (x y : A) → Some x ≡ Some y → x ≡ y
@@ -47,10 +49,10 @@ get_is xs k x e = some_same (slice_index_or xs k 0) x (sym (slice_get-get_or xs 
 -- ---- patterns and rows
 
 abbrev pub named_bits : (ℕ → Bool) → List ℕ → ℕ
-named_bits bits ps = pattern (sig_value bits) (map sigs.Place ps)
+named_bits bits ps = pattern (sig_value bits) (map sigs.Node ps)
 
 pub pattern_under_power : (bits : ℕ → Bool) (ps : List ℕ) → named_bits bits ps < 2 ^ length ps
-pattern_under_power bits ps = subst (λ (n : ℕ). named_bits bits ps < 2 ^ n) (length-map ps sigs.Place) (pattern_low (sig_value bits) (map sigs.Place ps))
+pattern_under_power bits ps = subst (λ (n : ℕ). named_bits bits ps < 2 ^ n) (length-map ps sigs.Node) (pattern_low (sig_value bits) (map sigs.Node ps))
 
 first_digit : (b : Bool) (k r : ℕ) → r < 2 ^ k → digit ((if b then 2 ^ k else 0) + r) k ≡ b
 first_digit true k r low =
@@ -74,14 +76,14 @@ pattern_digit : (bits : ℕ → Bool) (ps : List ℕ) (i : ℕ) → i < length p
 unfolding pattern
 pattern_digit bits [] i low = absurd (omega (arith, low))
 pattern_digit bits (p ∷ ps) zero low =
-    let count : length (map sigs.Place ps) ≡ length ps = length-map ps sigs.Place in
-    let place : length (p ∷ ps) - (0 + 1) ≡ length (map sigs.Place ps) = omega (arith, count) in
-    ap (digit (named_bits bits (p ∷ ps))) place ∙ first_digit (bits p) (length (map sigs.Place ps)) (named_bits bits ps) (pattern_low (sig_value bits) (map sigs.Place ps))
+    let count : length (map sigs.Node ps) ≡ length ps = length-map ps sigs.Node in
+    let node : length (p ∷ ps) - (0 + 1) ≡ length (map sigs.Node ps) = omega (arith, count) in
+    ap (digit (named_bits bits (p ∷ ps))) node ∙ first_digit (bits p) (length (map sigs.Node ps)) (named_bits bits ps) (pattern_low (sig_value bits) (map sigs.Node ps))
 pattern_digit bits (p ∷ ps) (suc i) low =
-    let count : length (map sigs.Place ps) ≡ length ps = length-map ps sigs.Place in
-    let place : length (p ∷ ps) - (suc i + 1) ≡ length ps - (i + 1) = omega arith in
-    ap (digit (named_bits bits (p ∷ ps))) place
-    ∙ later_digit (bits p) (length (map sigs.Place ps)) (named_bits bits ps) (length ps - (i + 1)) (omega (arith, count, low))
+    let count : length (map sigs.Node ps) ≡ length ps = length-map ps sigs.Node in
+    let node : length (p ∷ ps) - (suc i + 1) ≡ length ps - (i + 1) = omega arith in
+    ap (digit (named_bits bits (p ∷ ps))) node
+    ∙ later_digit (bits p) (length (map sigs.Node ps)) (named_bits bits ps) (length ps - (i + 1)) (omega (arith, count, low))
     ∙ pattern_digit bits ps i (omega (arith, low))
 
 -- nodes have the bits of the row that is their pattern
@@ -113,16 +115,18 @@ pub leaf_value : (c : Cone) (row : ℕ) (given : ℕ → Bool) (q : ℕ) → IsC
 leaf_value c row given q cone has e =
     let r = among_get c.leaves q e in
     let low : r.0 < length c.leaves = slice_get_within c.leaves r.0 q r.1 in
-    let place : length c.leaves - 1 - r.0 ≡ length c.leaves - (r.0 + 1) = omega arith in
-    cone_leaf c row r.0 q cone r.1 ∙ ap (digit row) place ∙ sym (has r.0 low) ∙ ap given (get_is c.leaves r.0 q r.1)
+    let node : length c.leaves - 1 - r.0 ≡ length c.leaves - (r.0 + 1) = omega arith in
+    cone_leaf c row r.0 q cone r.1 ∙ ap (digit row) node ∙ sym (has r.0 low) ∙ ap given (get_is c.leaves r.0 q r.1)
 
-pub inside_of_cone : (c : Cone) (ps : List ℕ) → AreCovered c.leaves c.gates ps → (p : ℕ) → among ps p ≡ true → among (places c) p ≡ true
-inside_of_cone c ps covered p e = ⊎_elim (λ leaf. among_left c.leaves (gate_places c.gates) p leaf) (λ inside. among_right c.leaves (gate_places c.gates) p inside) (covered p e)
+pub inside_of_cone : (c : Cone) (ps : List ℕ) → AreLeavesOrGates c.leaves c.gates ps → (p : ℕ) → among ps p ≡ true → among (nodes c) p ≡ true
+inside_of_cone c ps covered p e = ⊎_elim (λ leaf. among_left c.leaves (gate_nodes c.gates) p leaf) (λ inside. among_right c.leaves (gate_nodes c.gates) p inside) (covered p e)
 
 -- ---- care rows
 
-pub mask_is : (n : Net) (ps : List ℕ) (c : Cone) (signals : List Sig) (mask : ℕ) → IsNet n → IsCone c → LeadsTo n ps c.leaves → AreAbove n c.leaves c.gates → AreCovered c.leaves c.gates ps → signals ≡ map sigs.Place ps → ArePatterns c signals mask → IsCareMask n ps mask
-mask_is n ps c signals mask net cone leads above covered is shown =
+pub mask_is : (n : Net) (ps : List ℕ) (c : Cone) (signals : List Sig) (mask : ℕ) → IsNet n → IsCone c →
+    ExpandsTo n ps c.leaves → AreAbove n c.leaves c.gates → AreLeavesOrGates c.leaves c.gates ps →
+    signals ≡ map sigs.Node ps → ArePatterns c signals mask → IsCareMask n ps mask
+mask_is n ps c signals mask net cone expands_to above covered is shown =
     let low : (t : ℕ) → digit mask t ≡ true → t < 2 ^ length ps = λ t e.
     let r = shown.only t e in
     subst (λ (x : ℕ). x < 2 ^ length ps) (ap (pattern (sig_value (value_in c r.0))) (sym is) ∙ r.2) (pattern_under_power (value_in c r.0) ps) in
@@ -131,53 +135,58 @@ mask_is n ps c signals mask net cone leads above covered is shown =
       only = λ t e.
           let r = shown.only t e in
           let bits : ℕ → Bool = value_in c r.0 in
-          row_shown n ps c.leaves bits (among (places c)) bits t net leads (cone_part n c r.0 bits net cone above (λ q l. refl)) (inside_of_cone c ps covered)
+          row_shown n ps c.leaves bits (among (nodes c)) bits t net expands_to (cone_part n c r.0 bits net cone above (λ q l. refl)) (inside_of_cone c ps covered)
           (pattern_row bits ps t (ap (pattern (sig_value bits)) (sym is) ∙ r.2));
       all = λ t within care.
           let row = has_row care.given c.leaves in
           let bits : ℕ → Bool = value_in c row.0 in
           let part = cone_part n c row.0 care.given net cone above (λ q l. leaf_value c row.0 care.given q cone row.2 l) in
-          let has : HasRow bits ps t = row_found n ps c.leaves (among (places c)) bits t care net leads part (inside_of_cone c ps covered) in
+          let has : HasRow bits ps t = row_found n ps c.leaves (among (nodes c)) bits t care net expands_to part (inside_of_cone c ps covered) in
           let is_t : pattern (sig_value bits) signals ≡ t = ap (pattern (sig_value bits)) is ∙ row_pattern bits ps t within has in
           ap (digit mask) (sym is_t) ∙ shown.all row.0 row.1;
     }
 
-pub signals_among : (c : Cone) (ps : List ℕ) (signals : List Sig) → AreCovered c.leaves c.gates ps → signals ≡ map sigs.Place ps → (k : ℕ) (d : Sig) → k < length signals → IsSigAmong (places c) (slice_index_or signals k d)
-signals_among c ps signals covered is k d low = subst (λ (ss : List Sig). k < length ss → IsSigAmong (places c) (slice_index_or ss k d)) (sym is) (at ps (λ p e. inside_of_cone c ps covered p e) k) low where
-  at : (qs : List ℕ) → ((p : ℕ) → among qs p ≡ true → among (places c) p ≡ true) → (j : ℕ) → j < length (map sigs.Place qs) → IsSigAmong (places c) (slice_index_or (map sigs.Place qs) j d)
-  at [] all j l = absurd (omega (arith, l))
-  at (q ∷ qs) all zero l = among_get (places c) q (all q (first q qs)) where
-    first : (x : ℕ) (xs : List ℕ) → among (x ∷ xs) x ≡ true
-    first x xs = get_among (x ∷ xs) 0 x refl
-  at (q ∷ qs) all (suc j) l = at qs (λ p e. all p (later p q qs e)) j (omega (arith, l)) where
-    later : (p x : ℕ) (xs : List ℕ) → among xs p ≡ true → among (x ∷ xs) p ≡ true
-    later p x xs e = let r = among_get xs p e in get_among (x ∷ xs) (suc r.0) p r.1
+pub signals_among : (c : Cone) (ps : List ℕ) (signals : List Sig) → AreLeavesOrGates c.leaves c.gates ps →
+    signals ≡ map sigs.Node ps → (k : ℕ) (d : Sig) → k < length signals →
+    IsSigAmong (nodes c) (slice_index_or signals k d)
+signals_among c ps signals covered is k d low = subst (λ (ss : List Sig). k < length ss →
+    IsSigAmong (nodes c) (slice_index_or ss k d)) (sym is) (at ps (λ p e. inside_of_cone c ps covered p e) k) low where
+      at : (qs : List ℕ) → ((p : ℕ) → among qs p ≡ true → among (nodes c) p ≡ true) → (j : ℕ) → j < length (map sigs.Node qs) → IsSigAmong (nodes c) (slice_index_or (map sigs.Node qs) j d)
+      at [] all j l = absurd (omega (arith, l))
+      at (q ∷ qs) all zero l = among_get (nodes c) q (all q (first q qs)) where
+        first : (x : ℕ) (xs : List ℕ) → among (x ∷ xs) x ≡ true
+        first x xs = get_among (x ∷ xs) 0 x refl
+      at (q ∷ qs) all (suc j) l = at qs (λ p e. all p (later p q qs e)) j (omega (arith, l)) where
+        later : (p x : ℕ) (xs : List ℕ) → among xs p ≡ true → among (x ∷ xs) p ≡ true
+        later p x xs e = let r = among_get xs p e in get_among (x ∷ xs) (suc r.0) p r.1
 
 -- ---- gates with their nodes
 
-one_behind : (gates : List (ℕ × Gate)) (x : ℕ × Gate) (rest : List ℕ) → gate_places (gates ++ x ∷ []) ++ rest ≡ gate_places gates ++ (x.0 ∷ rest)
-one_behind [] x rest = refl
-one_behind (g ∷ gates) x rest = ap (λ (ps : List ℕ). g.0 ∷ ps) (one_behind gates x rest)
+one_after : (gates : List (ℕ × Gate)) (x : ℕ × Gate) (rest : List ℕ) → gate_nodes (gates ++ x ∷ []) ++ rest ≡ gate_nodes gates ++ (x.0 ∷ rest)
+one_after [] x rest = refl
+one_after (g ∷ gates) x rest = ap (λ (ps : List ℕ). g.0 ∷ ps) (one_after gates x rest)
 
-pub placed_more : (n : Net) (ps left : List ℕ) (p : ℕ) (rest : List ℕ) (g : Gate) (gates new : List (ℕ × Gate)) → left ≡ p ∷ rest → IsGateOf n p g → new ≡ gates ++ (p, g) ∷ [] → ArePlaced n ps left gates → ArePlaced n ps rest new
-placed_more n ps left p rest g gates new parts of is was =
-    subst (ArePlaced n ps rest) (sym is) (record {
-      parts = one_behind gates (p, g) rest ∙ ap (λ (xs : List ℕ). gate_places gates ++ xs) (sym parts) ∙ was.parts;
+pub numbered_more : (n : Net) (ps left : List ℕ) (p : ℕ) (rest : List ℕ) (g : Gate) (gates new : List (ℕ × Gate)) →
+    left ≡ p ∷ rest → IsGateOf n p g → new ≡ gates ++ (p, g) ∷ [] → AreNumbered n ps left gates →
+    AreNumbered n ps rest new
+numbered_more n ps left p rest g gates new parts of is was =
+    subst (AreNumbered n ps rest) (sym is) (record {
+      parts = one_after gates (p, g) rest ∙ ap (λ (xs : List ℕ). gate_nodes gates ++ xs) (sym parts) ∙ was.parts;
       own = λ i x at. ⊎_elim (λ there. was.own i x there) (λ r. subst (λ (y : ℕ × Gate). IsGateOf n y.0 y.1) r.1 of) (at_last gates (p, g) i x at);
     })
 
-pub nothing_behind : (xs : List ℕ) → xs ++ [] ≡ xs
-nothing_behind [] = refl
-nothing_behind (x ∷ xs) = ap (λ (ys : List ℕ). x ∷ ys) (nothing_behind xs)
+pub nothing_after : (xs : List ℕ) → xs ++ [] ≡ xs
+nothing_after [] = refl
+nothing_after (x ∷ xs) = ap (λ (ys : List ℕ). x ∷ ys) (nothing_after xs)
 
-pub placed_places : (n : Net) (ps : List ℕ) (gates : List (ℕ × Gate)) → ArePlaced n ps [] gates → gate_places gates ≡ ps
-placed_places n ps gates are = sym (nothing_behind (gate_places gates)) ∙ are.parts
+pub numbered_nodes : (n : Net) (ps : List ℕ) (gates : List (ℕ × Gate)) → AreNumbered n ps [] gates → gate_nodes gates ≡ ps
+numbered_nodes n ps gates are = sym (nothing_after (gate_nodes gates)) ∙ are.parts
 
 -- the gates of a window are above its inputs
-pub inner_above : (n : Net) (w : Window) (inputs : List ℕ) (gates : List (ℕ × Gate)) → Belongs n w → inputs ≡ w.inputs → length w.inputs ≤ 6 → ArePlaced n w.gates [] gates → AreAbove n inputs gates
+pub inner_above : (n : Net) (w : Window) (inputs : List ℕ) (gates : List (ℕ × Gate)) → Belongs n w → inputs ≡ w.inputs → length w.inputs ≤ 6 → AreNumbered n w.gates [] gates → AreAbove n inputs gates
 inner_above n w inputs gates is same few are =
-    let own : gate_places gates ≡ w.gates = placed_places n w.gates gates are in
-    let inside : (p : ℕ) → among (gate_places gates) p ≡ true → among w.gates p ≡ true = λ p e. ap (λ (xs : List ℕ). among xs p) (sym own) ∙ e in
+    let own : gate_nodes gates ≡ w.gates = numbered_nodes n w.gates gates are in
+    let inside : (p : ℕ) → among (gate_nodes gates) p ≡ true → among w.gates p ≡ true = λ p e. ap (λ (xs : List ℕ). among xs p) (sym own) ∙ e in
     subst (λ (xs : List ℕ). AreAbove n xs gates) (sym same) (record {
       few = omega (arith, few);
       leaves_rising = is.inputs_rising;
@@ -185,17 +194,17 @@ inner_above n w inputs gates is same few are =
       apart = λ p e f. both_ways (among w.gates p) (is.apart p e).outside (inside p f);
       own = are.own;
       reads = λ i q x at reads.
-          let reader : among w.gates x.0 ≡ true = inside x.0 (placed gates i x at) in
+          let fanout : among w.gates x.0 ≡ true = inside x.0 (numbered gates i x at) in
           ⊎_elim
           (λ within. inr (ap (λ (xs : List ℕ). among xs q) own ∙ within))
-          (λ out. inl (is.read q (record { outside = out; read = record { reader = x.0; inside = reader; reads = of_reads n x.0 q x.1 (are.own i x at) reads } })))
+          (λ out. inl (is.read q (record { outside = out; read = record { fanout = x.0; inside = fanout; reads = of_reads n x.0 q x.1 (are.own i x at) reads } })))
           (cases_Bool (among w.gates q));
     })
   where
-    placed : (gs : List (ℕ × Gate)) (j : ℕ) (y : ℕ × Gate) → slice_get gs j ≡ Some y → among (gate_places gs) y.0 ≡ true
-    placed [] j y e = absurd cc
-    placed (g ∷ gs) zero y e = let f : g ≡ y = cc in subst (λ (z : ℕ × Gate). among (gate_places (g ∷ gs)) z.0 ≡ true) f (get_among (gate_places (g ∷ gs)) 0 g.0 refl)
-    placed (g ∷ gs) (suc j) y e = let r = among_get (gate_places gs) y.0 (placed gs j y e) in get_among (gate_places (g ∷ gs)) (suc r.0) y.0 r.1
+    numbered : (gs : List (ℕ × Gate)) (j : ℕ) (y : ℕ × Gate) → slice_get gs j ≡ Some y → among (gate_nodes gs) y.0 ≡ true
+    numbered [] j y e = absurd cc
+    numbered (g ∷ gs) zero y e = let f : g ≡ y = cc in subst (λ (z : ℕ × Gate). among (gate_nodes (g ∷ gs)) z.0 ≡ true) f (get_among (gate_nodes (g ∷ gs)) 0 g.0 refl)
+    numbered (g ∷ gs) (suc j) y e = let r = among_get (gate_nodes gs) y.0 (numbered gs j y e) in get_among (gate_nodes (g ∷ gs)) (suc r.0) y.0 r.1
 
 -- ---- words of a window's gates
 
@@ -211,26 +220,31 @@ index_found xs i p there is = slice_get-get_or xs i 0 (index_there xs i p there)
 one_word : (k : ℕ) → k ≤ 6 → width_of (2 ^ k) ≡ 1
 one_word k few = let most : 2 ^ k ≤ 2 ^ 6 = pow_mono few in omega (arith, most, above_zero k)
 
-pub word_index : (c : Cone) (w : Words) (inputs gates : List ℕ) (i p : ℕ) → AreWords c w → c.leaves ≡ inputs → gate_places c.gates ≡ gates → length inputs ≤ 6 → slice_get gates i ≡ Some p → length inputs + i < length w.lanes
+pub word_index : (c : Cone) (w : Words) (inputs gates : List ℕ) (i p : ℕ) → AreWords c w → c.leaves ≡ inputs →
+    gate_nodes c.gates ≡ gates → length inputs ≤ 6 → slice_get gates i ≡ Some p → length inputs + i < length w.lanes
 word_index c w inputs gates i p words leaves own few at =
     let rows : w.rows ≡ 2 ^ length inputs = words.rows ∙ ap (λ (xs : List ℕ). 2 ^ length xs) leaves in
     let width : width_of w.rows ≡ 1 = ap (λ (r : ℕ). width_of r) rows ∙ one_word (length inputs) few in
-    let count : length (places c) ≡ length inputs + length gates = length-append c.leaves (gate_places c.gates) ∙ ap (λ (xs : List ℕ). length xs + length (gate_places c.gates)) leaves ∙ ap (λ (xs : List ℕ). length inputs + length xs) own in
-    let size : length w.lanes ≡ length (places c) * 1 = words.size ∙ ap (λ (k : ℕ). length (places c) * k) width in
+    let count : length (nodes c) ≡ length inputs + length gates = length-append c.leaves (gate_nodes c.gates)
+    ∙ ap (λ (xs : List ℕ). length xs + length (gate_nodes c.gates)) leaves
+    ∙ ap (λ (xs : List ℕ). length inputs + length xs) own in
+    let size : length w.lanes ≡ length (nodes c) * 1 = words.size ∙ ap (λ (k : ℕ). length (nodes c) * k) width in
     omega (arith, count, size, slice_get_within gates i p at)
 
-pub word_values : (c : Cone) (w : Words) (inputs gates : List ℕ) (i p : ℕ) → AreWords c w → c.leaves ≡ inputs → gate_places c.gates ≡ gates → length inputs ≤ 6 → slice_get gates i ≡ Some p → HasValues c p (slice_index_or w.lanes (length inputs + i) 0)
+pub word_values : (c : Cone) (w : Words) (inputs gates : List ℕ) (i p : ℕ) → AreWords c w → c.leaves ≡ inputs →
+    gate_nodes c.gates ≡ gates → length inputs ≤ 6 → slice_get gates i ≡ Some p →
+    HasGateValues c p (slice_index_or w.lanes (length inputs + i) 0)
 word_values c w inputs gates i p words leaves own few at t low =
     let rows : w.rows ≡ 2 ^ length inputs = words.rows ∙ ap (λ (xs : List ℕ). 2 ^ length xs) leaves in
     let width : width_of w.rows ≡ 1 = ap (λ (r : ℕ). width_of r) rows ∙ one_word (length inputs) few in
     let below : t < w.rows = subst (λ (r : ℕ). t < r) (sym words.rows) low in
     let most : 2 ^ length inputs ≤ 2 ^ 6 = pow_mono few in
-    let here : slice_get (places c) (length inputs + i) ≡ Some p =
-    ap (λ (k : ℕ). slice_get (places c) (k + i)) (ap (length {A = ℕ}) (sym leaves)) ∙ at_behind c.leaves (gate_places c.gates) i p (ap (λ (xs : List ℕ). slice_get xs i) own ∙ at) in
+    let here : slice_get (nodes c) (length inputs + i) ≡ Some p =
+    ap (λ (k : ℕ). slice_get (nodes c) (k + i)) (ap (length {A = ℕ}) (sym leaves)) ∙ at_after c.leaves (gate_nodes c.gates) i p (ap (λ (xs : List ℕ). slice_get xs i) own ∙ at) in
     let k : ℕ = length inputs + i in
-    let place : k * width_of w.rows + 0 ≡ k = ap (λ (x : ℕ). k * x + 0) width ∙ omega arith in
+    let node : k * width_of w.rows + 0 ≡ k = ap (λ (x : ℕ). k * x + 0) width ∙ omega arith in
     let same : 64 * 0 + t ≡ t = omega arith in
-    ap (λ (x : ℕ). digit (slice_index_or w.lanes x 0) t) (sym place)
+    ap (λ (x : ℕ). digit (slice_index_or w.lanes x 0) t) (sym node)
     ∙ words.values k p 0 t here (omega (arith, below, rows, most)) (omega (arith, below))
     ∙ ap (λ (x : ℕ). value_in c x p) same
 
@@ -240,7 +254,9 @@ more_parts : (xs : List ℕ) (x : ℕ) (rest : List ℕ) → (xs ++ x ∷ []) ++
 more_parts [] x rest = refl
 more_parts (y ∷ ys) x rest = ap (λ (zs : List ℕ). y ∷ zs) (more_parts ys x rest)
 
-pub masked_more : (c : Cone) (mask : ℕ) (outputs left : List ℕ) (x : ℕ) (rest on care next more : List ℕ) (word : ℕ) → left ≡ x ∷ rest → HasValues c x word → next ≡ on ++ bit_and word mask ∷ [] → more ≡ care ++ mask ∷ [] → AreMasked c mask outputs left on care → AreMasked c mask outputs rest next more
+pub masked_more : (c : Cone) (mask : ℕ) (outputs left : List ℕ) (x : ℕ) (rest on care next more : List ℕ) (word : ℕ) →
+    left ≡ x ∷ rest → HasGateValues c x word → next ≡ on ++ bit_and word mask ∷ [] → more ≡ care ++ mask ∷ [] →
+    AreMasked c mask outputs left on care → AreMasked c mask outputs rest next more
 masked_more c mask outputs left x rest on care next more word parts values is also was =
     subst (λ (xs : List ℕ). AreMasked c mask outputs rest xs more) (sym is) (subst (AreMasked c mask outputs rest (on ++ bit_and word mask ∷ [])) (sym also) (record {
       done = was.done ++ x ∷ [];
@@ -255,7 +271,7 @@ masked_more c mask outputs left x rest on care next more word parts values is al
           (at_last on (bit_and word mask) i w at_w))
           (λ r. ⊎_elim
           (λ there_w. absurd (omega (arith, r.0, was.size, slice_get_within on i w there_w)))
-          (λ s. (word, sym s.1, subst (λ (q : ℕ). HasValues c q word) r.1 values))
+          (λ s. (word, sym s.1, subst (λ (q : ℕ). HasGateValues c q word) r.1 values))
           (at_last on (bit_and word mask) i w at_w))
           (at_last was.done x i p at_p);
       masks = λ i m at. ⊎_elim (λ there. was.masks i m there) (λ r. sym r.1) (at_last care mask i m at);
@@ -269,7 +285,7 @@ pub masked_end : (c : Cone) (mask : ℕ) (outputs left on care : List ℕ) → l
 masked_end c mask outputs left on care none was = subst (λ (xs : List ℕ). AreMasked c mask outputs xs on care) (no_length left none) was
 
 all_done : (c : Cone) (mask : ℕ) (outputs on care : List ℕ) (are : AreMasked c mask outputs [] on care) → are.done ≡ outputs
-all_done c mask outputs on care are = sym (nothing_behind are.done) ∙ are.parts
+all_done c mask outputs on care are = sym (nothing_after are.done) ∙ are.parts
 
 past_end : (xs : List ℕ) (i : ℕ) → length xs ≤ i → slice_index xs i ≡ 0
 past_end [] i low = refl
@@ -279,7 +295,8 @@ past_end (x ∷ xs) (suc i) low = past_end xs i (omega (arith, low))
 no_digit : (t : ℕ) → digit 0 t ≡ true → ⊥
 no_digit t e = both_ways (digit 0 t) (ap (λ (x : ℕ). x == 1) (bit_at-zero t)) e
 
-pub masked_spec : (c : Cone) (mask n : ℕ) (outputs on care : List ℕ) → AreMasked c mask outputs [] on care → n ≤ 6 → length outputs ≤ 8 → ((t : ℕ) → digit mask t ≡ true → t < 2 ^ n) → IsSpec (record { n = n; on = on; care = care })
+pub masked_spec : (c : Cone) (mask n : ℕ) (outputs on care : List ℕ) → AreMasked c mask outputs [] on care → n ≤ 6 →
+    length outputs ≤ 8 → ((t : ℕ) → digit mask t ≡ true → t < 2 ^ n) → IsSpec (record { n = n; on = on; care = care })
 masked_spec c mask n outputs on care are few_in few_out low =
     let count : length on ≡ length outputs = are.size ∙ ap (length {A = ℕ}) (all_done c mask outputs on care are) in
     record {
@@ -314,15 +331,19 @@ masked_spec c mask n outputs on care are few_in few_out low =
 -- ---- the specification
 
 -- the value of a window's gate under the bits of a row
-gate_value_is : (n : Net) (w : Window) (c : Cone) (t : ℕ) (given : ℕ → Bool) (p : ℕ) → IsNet n → c.leaves ≡ w.inputs → gate_places c.gates ≡ w.gates → AreAbove n c.leaves c.gates → HasRow given w.inputs t → among w.gates p ≡ true → value_in c t p ≡ values_with n (among w.inputs) given p
+gate_value_is : (n : Net) (w : Window) (c : Cone) (t : ℕ) (given : ℕ → Bool) (p : ℕ) → IsNet n → c.leaves ≡ w.inputs →
+    gate_nodes c.gates ≡ w.gates → AreAbove n c.leaves c.gates → HasRow given w.inputs t → among w.gates p ≡ true →
+    value_in c t p ≡ values_with n (among w.inputs) given p
 gate_value_is n w c t given p net leaves own above has inside =
     let cone : IsCone c = above_cone n c.leaves c.gates net above in
     let row : HasRow given c.leaves t = subst (λ (xs : List ℕ). HasRow given xs t) (sym leaves) has in
-    let there : among (places c) p ≡ true = among_right c.leaves (gate_places c.gates) p (ap (λ (xs : List ℕ). among xs p) own ∙ inside) in
-    part_values n (among c.leaves) given (among (places c)) (value_in c t) p net (cone_part n c t given net cone above (λ q l. leaf_value c t given q cone row l)) there
+    let there : among (nodes c) p ≡ true = among_right c.leaves (gate_nodes c.gates) p (ap (λ (xs : List ℕ). among xs p) own ∙ inside) in
+    part_values n (among c.leaves) given (among (nodes c)) (value_in c t) p net (cone_part n c t given net cone above (λ q l. leaf_value c t given q cone row l)) there
     ∙ ap (λ (xs : List ℕ). values_with n (among xs) given p) leaves
 
-pub specification_is : (n : Net) (w : Window) (c : Cone) (mask : ℕ) (s : tables.Words) → IsNet n → Belongs n w → c.leaves ≡ w.inputs → gate_places c.gates ≡ w.gates → AreAbove n c.leaves c.gates → IsCareMask n w.inputs mask → s.n ≡ length w.inputs → AreMasked c mask w.outputs [] s.on s.care → IsSpecificationOf n w (specification s)
+pub specification_is : (n : Net) (w : Window) (c : Cone) (mask : ℕ) (s : tables.Words) → IsNet n → Belongs n w →
+    c.leaves ≡ w.inputs → gate_nodes c.gates ≡ w.gates → AreAbove n c.leaves c.gates → IsCareMask n w.inputs mask →
+    s.n ≡ length w.inputs → AreMasked c mask w.outputs [] s.on s.care → IsSpecificationOf n w (specification s)
 specification_is n w c mask s net is leaves own above care_mask inputs are =
     let done : are.done ≡ w.outputs = all_done c mask w.outputs s.on s.care are in
     let count : length s.on ≡ length w.outputs = are.size ∙ ap (length {A = ℕ}) done in
@@ -342,7 +363,8 @@ specification_is n w c mask s net is leaves own above care_mask inputs are =
           let rows : t < 2 ^ length c.leaves = subst (λ (xs : List ℕ). t < 2 ^ length xs) (sym leaves) low in
           let output : among w.gates p ≡ true = (is.outputs.only p (get_among w.outputs i p (slice_get-get_or w.outputs i 0 within))).inside in
           let bit : digit (slice_index s.on i) t ≡ values_with n (among w.inputs) given p =
-          ap (λ (x : ℕ). digit x t) r.1 ∙ digit_and r.0 mask t ∙ ap (λ (b : Bool). digit r.0 t && b) on ∙ and_on (digit r.0 t) ∙ r.2 t rows ∙ gate_value_is n w c t given p net leaves own above has output in
+          ap (λ (x : ℕ). digit x t) r.1 ∙ digit_and r.0 mask t ∙ ap (λ (b : Bool). digit r.0 t && b) on
+          ∙ and_on (digit r.0 t) ∙ r.2 t rows ∙ gate_value_is n w c t given p net leaves own above has output in
           cond-true (digit (slice_index s.care i) t) (if digit (slice_index s.on i) t then One else Zero) Free (mask_at i t within ∙ on) ∙ ap {B = Cell} cell_of bit;
       free = λ h t some few low none.
           let i : ℕ = h - 1 in

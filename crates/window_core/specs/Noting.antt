@@ -4,20 +4,20 @@ use Rattle.net_theory.specs.declared.data.Sig.{Sig}
 use Rattle.net_theory.specs.declared.data.Sig.TheVariants as sigs
 use Rattle.net_theory.specs.declared.data.Gate.{Gate}
 use Rattle.net_theory.specs.Net.{Net, end_of}
-use Rattle.net_theory.specs.Reach.{is_place}
-use Rattle.window_core.specs.Readers.{IsEarlier, IsEarlierOf, IsLater, IsLaterOf}
-use Rattle.window_core.specs.declared.readers.Nearest.{Nearest}
+use Rattle.net_theory.specs.Reach.{is_node}
+use Rattle.window_core.specs.Fanouts.{IsEarlier, IsEarlierOf, IsLater, IsLaterOf}
+use Rattle.window_core.specs.declared.fanouts.Nearest.{Nearest}
 
 -- a signal that is a node is below `end`
-abbrev pub IsBefore : ℕ → Sig → Type 0
-IsBefore end sigs.Zero = Unit {0}
-IsBefore end sigs.One = Unit {0}
-IsBefore end (sigs.Place p) = p < end
+abbrev pub IsOperandBelow : ℕ → Sig → Type 0
+IsOperandBelow end sigs.Zero = Unit {0}
+IsOperandBelow end sigs.One = Unit {0}
+IsOperandBelow end (sigs.Node p) = p < end
 
 -- so are all operands of the gates
 pub record AreBefore (end : ℕ) (gs : List Gate) : Type 0 where
-  pub first : (i : ℕ) (g : Gate) → slice_get gs i ≡ Some g → IsBefore end g.a
-  pub second : (i : ℕ) (g : Gate) → slice_get gs i ≡ Some g → IsBefore end g.b
+  pub first : (i : ℕ) (g : Gate) → slice_get gs i ≡ Some g → IsOperandBelow end g.a
+  pub second : (i : ℕ) (g : Gate) → slice_get gs i ≡ Some g → IsOperandBelow end g.b
 
 -- the number of each node p in a table grew by `more p`; 255 stands for all numbers from 255 on
 pub record AreGrown (more : ℕ → ℕ) (old new : List ℕ) : Type 0 where
@@ -29,10 +29,10 @@ pub record IsCounting (all left : ℕ → ℕ) (old now : List ℕ) : Type 0 whe
   pub size : length now ≡ length old
   pub each : (p : ℕ) → p < length old → min (slice_index_or now p 0 + left p) 255 ≡ min (slice_index_or old p 0 + all p) 255
 
--- The gate `place` became the last fanout of the node that the signal names.
-pub record IsNoted (s : Sig) (place : ℕ) (old new : List ℕ) : Type 0 where
+-- The gate `node` became the last fanout of the node that the signal names.
+pub record IsNotedFanout (s : Sig) (node : ℕ) (old new : List ℕ) : Type 0 where
   pub size : length new ≡ length old
-  pub each : (p : ℕ) → p < length old → slice_index_or new p 0 ≡ (if is_place p s then place else slice_index_or old p 0)
+  pub each : (p : ℕ) → p < length old → slice_index_or new p 0 ≡ (if is_node p s then node else slice_index_or old p 0)
 
 -- The table has the last fanout of each node among the first `count` gates.
 pub record HasNoted (n : Net) (count : ℕ) (last : List ℕ) : Type 0 where

@@ -2,8 +2,8 @@
 use Rattle.std.specs.Prelude.{◌≡◌, ℕ, zero, suc, ◌+◌, ◌-◌, ◌≤◌, ◌<◌, true, false, nat_eq, nat_lt, List, [], ◌∷◌, ◌++◌, length, take, drop, slice_index_or, ◌⊎◌, refl}
 use Rattle.std.proofs.Common.{arith, sym, ◌∙◌, ap, subst, inl, inr, ⊎_elim}
 use Rattle.std.proofs.lemmas.Bool.{cond-true, cond-false, eq-eqb, ne_eqb, lt-ltb, le-ltb, cases_eq, cases_lt, cases_Bool, both_ways}
-use Rattle.window_theory.specs.Places.{among, IsRising}
-use Rattle.window_theory.specs.PlaceLaws.{among_cases, among_first, among_later}
+use Rattle.window_theory.specs.Nodes.{among, IsRising}
+use Rattle.window_theory.specs.NodeLaws.{among_cases, among_first, among_later}
 use Rattle.window_core.specs.Rising.{put}
 
 -- ---- the three cases
@@ -122,7 +122,9 @@ put_longer p xs rising =
 
 -- ---- where the code inserts
 
-pub put_at : (p i : ℕ) (xs : List ℕ) → IsRising xs → i ≤ length xs → ((k d : ℕ) → i ≤ k → k < length xs → p < slice_index_or xs k d) → ((d : ℕ) → 1 ≤ i → slice_index_or xs (i - 1) d < p) → take i xs ++ p ∷ drop i xs ≡ put p xs
+pub put_at : (p i : ℕ) (xs : List ℕ) → IsRising xs → i ≤ length xs →
+    ((k d : ℕ) → i ≤ k → k < length xs → p < slice_index_or xs k d) →
+    ((d : ℕ) → 1 ≤ i → slice_index_or xs (i - 1) d < p) → take i xs ++ p ∷ drop i xs ≡ put p xs
 unfolding put IsRising
 put_at p zero [] rising within above below = refl
 put_at p zero (q ∷ qs) rising within above below = sym (put_before p q qs (above 0 0 (omega arith) (omega arith)))
@@ -142,7 +144,9 @@ put_at p (suc i) (q ∷ qs) rising within above below =
           at (z ∷ zs) zero l = among_first z zs
           at (z ∷ zs) (suc k) l = among_later z (slice_index_or zs k 0) zs (at zs k (omega (arith, l)))
 
-    rest : (j : ℕ) (ys : List ℕ) → suc j ≤ length (q ∷ ys) → ((x : ℕ) → among ys x ≡ true → q < x) → ((d : ℕ) → 1 ≤ suc j → slice_index_or (q ∷ ys) (suc j - 1) d < p) → (d : ℕ) → 1 ≤ j → slice_index_or ys (j - 1) d < p
+    rest : (j : ℕ) (ys : List ℕ) → suc j ≤ length (q ∷ ys) → ((x : ℕ) → among ys x ≡ true → q < x) →
+        ((d : ℕ) → 1 ≤ suc j → slice_index_or (q ∷ ys) (suc j - 1) d < p) → (d : ℕ) → 1 ≤ j →
+        slice_index_or ys (j - 1) d < p
     rest zero ys low up under d some = absurd (omega (arith, some))
     rest (suc j) ys low up under d some =
         let e : suc (suc j) - 1 ≡ suc (suc j - 1) = omega arith in
@@ -157,7 +161,10 @@ pub put_found : (p i : ℕ) (xs : List ℕ) → IsRising xs → i ≤ length xs 
 put_found p i xs rising within some e =
     sym (put_old p xs rising (ap (among xs) (sym e) ∙ at_among xs (i - 1) (omega (arith, within, some))))
 
-pub put_code : (p i : ℕ) (xs first second new : List ℕ) → IsRising xs → first ≡ xs → second ≡ xs → i ≤ length first → ((k d : ℕ) → i ≤ k → k < length first → p < slice_index_or first k d) → (1 ≤ i → (d : ℕ) → slice_index_or first (i - 1) d ≤ p) → ((d : ℕ) → 1 ≤ i → slice_index_or second (i - 1) d ≡ p → ⊥) → new ≡ take i xs ++ p ∷ drop i xs → new ≡ put p xs
+pub put_code : (p i : ℕ) (xs first second new : List ℕ) → IsRising xs → first ≡ xs → second ≡ xs → i ≤ length first →
+    ((k d : ℕ) → i ≤ k → k < length first → p < slice_index_or first k d) →
+    (1 ≤ i → (d : ℕ) → slice_index_or first (i - 1) d ≤ p) → ((d : ℕ) → 1 ≤ i → slice_index_or second (i - 1) d ≡ p →
+    ⊥) → new ≡ take i xs ++ p ∷ drop i xs → new ≡ put p xs
 put_code p i xs first second new rising same also within above below other is =
     is
     ∙ put_at p i xs rising (subst (λ (ys : List ℕ). i ≤ length ys) same within)

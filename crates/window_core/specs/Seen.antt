@@ -1,9 +1,9 @@
 -- Reference counts by some gates, and outputs while they are gathered.
 use Rattle.std.specs.Prelude.{◌≡◌, ℕ, ◌+◌, ◌*◌, ◌≤◌, ◌<◌, true, if◌then◌else◌, List, length, ◌⊎◌}
 use Rattle.net_theory.specs.Net.{Net}
-use Rattle.window_theory.specs.Places.{among, IsRising}
+use Rattle.window_theory.specs.Nodes.{among, IsRising}
 use Rattle.window_theory.specs.Window.{IsOutput}
-use Rattle.window_core.specs.Readers.{named_by_gate, sum_gates}
+use Rattle.window_core.specs.Fanouts.{named_by_gate, sum_gates}
 
 -- how often the gates of a net that are among `gates` name a node
 unfoldable pub inside_of : Net → List ℕ → ℕ → ℕ

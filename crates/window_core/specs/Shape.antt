@@ -1,6 +1,6 @@
 -- The invariant of every window of the program: short ascending lists.
 use Rattle.std.specs.Prelude.{◌≤◌, length}
-use Rattle.window_theory.specs.Places.{IsRising}
+use Rattle.window_theory.specs.Nodes.{IsRising}
 use Rattle.window_theory.specs.Window.{Window}
 
 pub record IsShaped (w : Window) : Type 0 where

@@ -6,11 +6,11 @@ ghost use Rattle.std.specs.Prelude.{◌≡◌, ◌≤◌, true, length, IfOk, If
 ghost use Rattle.window_theory.specs.Paths.{IsGate};
 ghost use Rattle.window_theory.specs.Window as definition;
 ghost use Rattle.window_theory.specs.Window.{AreTaken, HasPartner, IsPartnerOrNone, IsWindow};
-ghost use Rattle.window_core.specs.Readers.{AreReaders};
+ghost use Rattle.window_core.specs.Fanouts.{AreFanouts};
 
 use crate::ends::all_inputs;
+use crate::fanouts::{Fanouts, fanouts_of};
 use crate::growing::take_gates;
-use crate::readers::{Readers, readers_of};
 use crate::rising::has;
 use crate::seen::all_outputs;
 use crate::shape::{MOST_INPUTS, Window};
@@ -23,7 +23,7 @@ fn has_partner(partner: Option<u32>, gates: &[u32]) -> bool
     ensures no { HasPartner partner gates.now → result ≡ true }
 {
     match partner {
-        Some(place) => has(gates, place),
+        Some(node) => has(gates, node),
         None => true,
     }
 }
@@ -32,17 +32,18 @@ fn has_partner(partner: Option<u32>, gates: &[u32]) -> bool
 fn window_of(
     alloc: Global,
     net: &Net,
-    readers: &Readers,
+    fanouts: &Fanouts,
     root: u32,
     partner: Option<u32>,
     gates: Vec<u32>,
 ) -> Result<Option<Window>, AllocError>
-    requires readers { AreReaders net.now readers.now }
+    requires fanouts { AreFanouts net.now fanouts.now }
     requires taken { AreTaken net.now root partner gates.items }
     requires some { 1 ≤ length gates.items }
     requires few { length gates.items ≤ 8 }
     ensures some { IfOk result (λ answer. IfSome answer (λ w. IsWindow net.now root partner (length gates.items) w)) }
-    ensures none { IfOk result (λ answer. IfNone answer ((w : definition.Window) → IsWindow net.now root partner (length gates.items) w → ⊥)) }
+    ensures none { IfOk result (λ answer. IfNone answer ((w : definition.Window) →
+        IsWindow net.now root partner (length gates.items) w → ⊥)) }
 {
     let _sources = net.sources(); // for the prover: brings the net's invariant into the proof
     if !has_partner(partner, &gates) {
@@ -52,7 +53,7 @@ fn window_of(
     if inputs.len() > MOST_INPUTS {
         return Ok(None);
     }
-    let outputs = all_outputs(alloc, net, readers, &gates)?;
+    let outputs = all_outputs(alloc, net, fanouts, &gates)?;
     Ok(Some(Window::new(root, partner, gates, inputs, outputs)))
 }
 
@@ -62,21 +63,22 @@ fn window_of(
 pub fn window_by(
     alloc: Global,
     net: &Net,
-    readers: &Readers,
+    fanouts: &Fanouts,
     root: u32,
     partner: Option<u32>,
     count: u32,
 ) -> Result<Option<Window>, AllocError>
-    requires readers { AreReaders net.now readers.now }
+    requires fanouts { AreFanouts net.now fanouts.now }
     requires root { IsGate net.now root }
     requires partner { IsPartnerOrNone net.now root partner }
     requires some { 1 ≤ count }
     requires few { count ≤ 8 }
     ensures some { IfOk result (λ answer. IfSome answer (λ w. IsWindow net.now root partner count w)) }
-    ensures none { IfOk result (λ answer. IfNone answer ((w : definition.Window) → IsWindow net.now root partner count w → ⊥)) }
+    ensures none { IfOk result (λ answer. IfNone answer ((w : definition.Window) →
+        IsWindow net.now root partner count w → ⊥)) }
 {
     match take_gates(alloc, net, root, partner, count)? {
-        Some(gates) => window_of(alloc, net, readers, root, partner, gates),
+        Some(gates) => window_of(alloc, net, fanouts, root, partner, gates),
         None => Ok(None),
     }
 }
@@ -94,8 +96,9 @@ pub fn window(
     requires some { 1 ≤ count }
     requires few { count ≤ 8 }
     ensures some { IfOk result (λ answer. IfSome answer (λ w. IsWindow net.now root partner count w)) }
-    ensures none { IfOk result (λ answer. IfNone answer ((w : definition.Window) → IsWindow net.now root partner count w → ⊥)) }
+    ensures none { IfOk result (λ answer. IfNone answer ((w : definition.Window) →
+        IsWindow net.now root partner count w → ⊥)) }
 {
-    let readers = readers_of(alloc, net)?;
-    window_by(alloc, net, &readers, root, partner, count)
+    let fanouts = fanouts_of(alloc, net)?;
+    window_by(alloc, net, &fanouts, root, partner, count)
 }

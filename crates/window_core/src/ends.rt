@@ -1,7 +1,7 @@
 //! The inputs of a set of gates: their fanins outside.
 
 ghost use Rattle.std.specs.Prelude.{◌≡◌, ℕ, true, IfOk, OnOk};
-ghost use Rattle.window_theory.specs.Places.{among, IsRising, AreJust};
+ghost use Rattle.window_theory.specs.Nodes.{among, IsRising, AreJust};
 ghost use Rattle.window_theory.specs.Paths.{IsGate};
 ghost use Rattle.window_theory.specs.Window.{IsInput};
 ghost use Rattle.window_core.specs.Rising.{put_outside};
@@ -17,9 +17,9 @@ fn put_outside(inputs: &mut Vec<u32>, gates: &[u32], sig: Sig) -> Result<(), All
     requires { IsRising inputs.old.items }
     ensures { OnOk result (inputs.new.items ≡ put_outside gates.now sig inputs.old.items) }
 {
-    if let Sig::Place(place) = sig {
-        if !has(gates, place) {
-            put(inputs, place)?;
+    if let Sig::Node(node) = sig {
+        if !has(gates, node) {
+            put(inputs, node)?;
         }
     }
     Ok(())
@@ -32,8 +32,8 @@ pub fn all_inputs(alloc: Global, net: &Net, gates: &[u32]) -> Result<Vec<u32>, A
 {
     let mut inputs = Vec::with_capacity(alloc, 2 * MOST_GATES)?;
     let mut left = gates;
-    while let Some((place, rest)) = left.split_first() {
-        let gate = gate_at(net, *place);
+    while let Some((node, rest)) = left.split_first() {
+        let gate = gate_at(net, *node);
         put_outside(&mut inputs, gates, gate.a)?;
         put_outside(&mut inputs, gates, gate.b)?;
         left = rest;

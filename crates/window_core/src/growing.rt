@@ -7,39 +7,40 @@ ghost use Rattle.net_theory.specs.Net.{IsNet};
 ghost use Rattle.window_theory.specs.Paths.{IsGate};
 ghost use Rattle.window_theory.specs.Window.{IsCandidate, IsGreatestCandidate, AreTaken, IsWindow};
 ghost use Rattle.window_theory.specs.Window as window;
-ghost use Rattle.window_theory.specs.Places.{among};
-ghost use Rattle.window_core.specs.Gates.{IsGateOf, IsGreater, IsGreaterIn, IsGreaterSig, IsSought, bound_of as bound_of_taken};
+ghost use Rattle.window_theory.specs.Nodes.{among};
+ghost use Rattle.window_core.specs.Gates.{IsGateOf, IsGreater, IsGreaterIn, IsGreaterSig, IsSought};
+ghost use Rattle.window_core.specs.Gates.{bound_of as bound_of_taken};
 
 use crate::shape::MOST_GATES;
 use net_core::{Gate, Net, Sig};
 use std::alloc::{AllocError, Global};
 
 /// The gate at a node.
-pub fn gate_at(net: &Net, place: u32) -> &Gate
-    requires { IsGate net.now place }
-    ensures gate { IsGateOf net.now place result.now }
+pub fn gate_at(net: &Net, node: u32) -> &Gate
+    requires { IsGate net.now node }
+    ensures gate { IsGateOf net.now node result.now }
     ensures net { IsNet net.now }
 {
-    &net.gates()[(place - net.sources() - 1) as usize]
+    &net.gates()[(node - net.sources() - 1) as usize]
 }
 
-/// The greater of `best` and `place` where `place` is below `bound`, and else `best`.
-fn greater(bound: u32, best: u32, place: u32) -> u32
-    ensures { IsGreater bound best place result }
+/// The greater of `best` and `node` where `node` is below `bound`, and else `best`.
+fn greater(bound: u32, best: u32, node: u32) -> u32
+    ensures { IsGreater bound best node result }
 {
-    if best < place && place < bound {
-        place
+    if best < node && node < bound {
+        node
     } else {
         best
     }
 }
 
-/// The greater of `best` and `place` where there is one below `bound`, and else `best`.
-fn greater_in(bound: u32, best: u32, place: Option<u32>) -> u32
-    ensures { IsGreaterIn bound best place result }
+/// The greater of `best` and `node` where there is one below `bound`, and else `best`.
+fn greater_in(bound: u32, best: u32, node: Option<u32>) -> u32
+    ensures { IsGreaterIn bound best node result }
 {
-    match place {
-        Some(place) => greater(bound, best, place),
+    match node {
+        Some(node) => greater(bound, best, node),
         None => best,
     }
 }
@@ -49,7 +50,7 @@ fn greater_sig(bound: u32, best: u32, sig: Sig) -> u32
     ensures { IsGreaterSig bound best sig result }
 {
     match sig {
-        Sig::Place(place) => greater(bound, best, place),
+        Sig::Node(node) => greater(bound, best, node),
         _ => best,
     }
 }
@@ -73,8 +74,8 @@ fn greatest(net: &Net, root: u32, partner: Option<u32>, taken: &[u32], bound: u3
     let first = greater(bound, net.sources(), root);
     let mut best = greater_in(bound, first, partner);
     let mut left = taken;
-    while let Some((place, rest)) = left.split_first() {
-        let gate = gate_at(net, *place);
+    while let Some((node, rest)) = left.split_first() {
+        let gate = gate_at(net, *node);
         let first = greater_sig(bound, best, gate.a);
         best = greater_sig(bound, first, gate.b);
         left = rest;
@@ -107,14 +108,15 @@ pub fn take_gates(
 ) -> Result<Option<Vec<u32>>, AllocError>
     ensures some { IfOk result (λ answer. IfSome answer (λ taken. AreTaken net.now root partner taken.items)) }
     ensures count { IfOk result (λ answer. IfSome answer (λ taken. length taken.items ≡ count)) }
-    ensures none { IfOk result (λ answer. IfNone answer ((w : window.Window) → IsWindow net.now root partner count w → ⊥)) }
+    ensures none { IfOk result (λ answer. IfNone answer ((w : window.Window) → IsWindow net.now root partner count w →
+        ⊥)) }
 {
     let mut taken = Vec::with_capacity(alloc, MOST_GATES)?;
     for _taken in 0..count {
-        let Some(place) = next_gate(net, root, partner, &taken) else {
+        let Some(node) = next_gate(net, root, partner, &taken) else {
             return Ok(None);
         };
-        taken.insert(0, place)?;
+        taken.insert(0, node)?;
     }
     Ok(Some(taken))
 }

@@ -1,7 +1,7 @@
 //! Windows of a net: small subcircuits that a shorter chain may replace, after Kulikov, Pechenev and Slezkin.
 //! What a window is, and what its specification is, is defined in `window_theory`.
 //!
-//! An index of the net (`Readers`) is made once for all its windows: the reference count of each node, and
+//! An index of the net (`Fanouts`) is made once for all its windows: the reference count of each node, and
 //! linked fanout lists. With it the time for a window and its partners grows with their size and not with the
 //! net's, and the time for a specification with the size of the window and its fanin cone. `partners` and
 //! `window` make an index of their own.
@@ -15,7 +15,7 @@
 //! |---|---|
 //! | net; source, sink | logic network of two-input nodes; CI (primary input, latch output), CO |
 //! | reads; uses | fanin; reference count |
-//! | `Readers` | fanout lists: each gate has, for both fanins, their next lower and their next higher fanout |
+//! | `Fanouts` | fanout lists: each gate has, for both fanins, their next lower and their next higher fanout |
 //! | window; root; inputs, outputs | window or subcircuit; pivot; leaves (a cut), roots |
 //! | candidate, taken | greedy growth, by the fanin of greatest index |
 //! | partner | sibling: a node that shares a fanin |
@@ -38,23 +38,23 @@
 
 mod bounding;
 mod ends;
+mod expanding;
+mod fanouts;
 mod growing;
-mod readers;
 mod rising;
 mod seen;
 mod shape;
 mod sharing;
 mod specifying;
-mod surrounding;
 
 pub use bounding::{window, window_by};
 pub use ends::all_inputs;
+pub use expanding::fanin_cone;
+pub use fanouts::{Fanouts, fanouts_of, first_fanout, later_of, node_of};
 pub use growing::gate_at;
 pub use net_core::{Gate, Net, Sig};
-pub use readers::{Readers, first_reader, later_of, place_of, readers_of};
 pub use rising::{has, put};
 pub use seen::all_outputs;
 pub use shape::{MOST_GATES, Window};
 pub use sharing::{partners, partners_by};
 pub use specifying::{signals_of, spec_of};
-pub use surrounding::surround;

@@ -32,9 +32,21 @@ impl Model for Window {
 
     ghost Value = { window.Window };
 
-    ghost view = { λ w. record { root = w.root; partner = w.partner; gates = w.gates.items; inputs = w.inputs.items; outputs = w.outputs.items } };
+    ghost view = { λ w. record {
+      root = w.root;
+      partner = w.partner;
+      gates = w.gates.items;
+      inputs = w.inputs.items;
+      outputs = w.outputs.items;
+    } };
 
-    ghost invariant = { λ w. IsShaped (record { root = w.root; partner = w.partner; gates = w.gates.items; inputs = w.inputs.items; outputs = w.outputs.items }) };
+    ghost invariant = { λ w. IsShaped (record {
+      root = w.root;
+      partner = w.partner;
+      gates = w.gates.items;
+      inputs = w.inputs.items;
+      outputs = w.outputs.items;
+    }) };
 }
 
 impl Window {
@@ -46,8 +58,20 @@ impl Window {
         inputs: Vec<u32>,
         outputs: Vec<u32>,
     ) -> Window
-        requires { IsShaped (record { root = root; partner = partner; gates = gates.items; inputs = inputs.items; outputs = outputs.items }) }
-        ensures { result ≡ record { root = root; partner = partner; gates = gates.items; inputs = inputs.items; outputs = outputs.items } }
+        requires { IsShaped (record {
+          root = root;
+          partner = partner;
+          gates = gates.items;
+          inputs = inputs.items;
+          outputs = outputs.items;
+        }) }
+        ensures { result ≡ record {
+          root = root;
+          partner = partner;
+          gates = gates.items;
+          inputs = inputs.items;
+          outputs = outputs.items;
+        } }
     {
         Window {
             root,

@@ -5,29 +5,30 @@
 ghost use Rattle.std.specs.Prelude.{ℕ, ◌≤◌, ◌<◌, IfOk};
 ghost use Rattle.window_theory.specs.Paths.{IsGate};
 ghost use Rattle.window_theory.specs.Partner.{ArePartners};
-ghost use Rattle.window_core.specs.Readers.{AreReaders, IsEarlier};
+ghost use Rattle.window_core.specs.Fanouts.{AreFanouts, IsEarlier};
 
+use crate::fanouts::{Fanouts, earlier_of, fanouts_of, node_of};
 use crate::growing::gate_at;
-use crate::readers::{Readers, earlier_of, place_of, readers_of};
 use net_core::Net;
 use std::alloc::{AllocError, Global};
 
 /// The most partners of a gate.
 const MOST_PARTNERS: usize = 8;
 
-/// The next fanout of `place` below the gate `found`: `reader`, or where that is `found` itself, the fanout
+/// The next fanout of `node` below the gate `found`: `fanout`, or where that is `found` itself, the fanout
 /// below it.
-fn onward(net: &Net, readers: &Readers, place: u32, reader: u32, found: u32) -> u32
-    requires index { AreReaders net.now readers.now }
+fn onward(net: &Net, fanouts: &Fanouts, node: u32, fanout: u32, found: u32) -> u32
+    requires index { AreFanouts net.now fanouts.now }
     requires found { IsGate net.now found }
-    ensures { (bound : ℕ) → IsEarlier net.now bound place reader → reader ≤ found → found < bound → IsEarlier net.now found place result }
+    ensures { (bound : ℕ) → IsEarlier net.now bound node fanout → fanout ≤ found → found < bound →
+        IsEarlier net.now found node result }
 {
-    if reader != found {
-        return reader;
+    if fanout != found {
+        return fanout;
     }
     let gate = gate_at(net, found);
-    let earlier = earlier_of(net, readers, found);
-    if place_of(gate.a) == place {
+    let earlier = earlier_of(net, fanouts, found);
+    if node_of(gate.a) == node {
         earlier.first
     } else {
         earlier.second
@@ -38,17 +39,17 @@ fn onward(net: &Net, readers: &Readers, place: u32, reader: u32, found: u32) -> 
 pub fn partners_by(
     alloc: Global,
     net: &Net,
-    readers: &Readers,
+    fanouts: &Fanouts,
     root: u32,
 ) -> Result<Vec<u32>, AllocError>
-    requires readers { AreReaders net.now readers.now }
+    requires fanouts { AreFanouts net.now fanouts.now }
     requires root { IsGate net.now root }
     ensures { IfOk result (λ partners. ArePartners net.now root partners.items) }
 {
     let gate = gate_at(net, root);
-    let first = place_of(gate.a);
-    let second = place_of(gate.b);
-    let earlier = earlier_of(net, readers, root);
+    let first = node_of(gate.a);
+    let second = node_of(gate.b);
+    let earlier = earlier_of(net, fanouts, root);
     let mut a = earlier.first;
     let mut b = earlier.second;
     let mut partners = Vec::with_capacity(alloc, MOST_PARTNERS)?;
@@ -57,8 +58,8 @@ pub fn partners_by(
         if next == 0 {
             return Ok(partners);
         }
-        a = onward(net, readers, first, a, next);
-        b = onward(net, readers, second, b, next);
+        a = onward(net, fanouts, first, a, next);
+        b = onward(net, fanouts, second, b, next);
         partners.push(next)?;
     }
     Ok(partners)
@@ -69,6 +70,6 @@ pub fn partners(alloc: Global, net: &Net, root: u32) -> Result<Vec<u32>, AllocEr
     requires { IsGate net.now root }
     ensures { IfOk result (λ partners. ArePartners net.now root partners.items) }
 {
-    let readers = readers_of(alloc, net)?;
-    partners_by(alloc, net, &readers, root)
+    let fanouts = fanouts_of(alloc, net)?;
+    partners_by(alloc, net, &fanouts, root)
 }

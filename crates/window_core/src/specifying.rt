@@ -7,64 +7,64 @@ ghost use Rattle.chain_theory.specs.Operator.{digit};
 ghost use Rattle.net_theory.specs.declared.data.Sig.TheVariants as sigs;
 ghost use Rattle.net_theory.specs.Net.{end_of};
 ghost use Rattle.tt_core.specs.Words.{specification};
-ghost use Rattle.lane_sim.specs.Cone.{IsSigAmong, places as places_in};
+ghost use Rattle.lane_sim.specs.Cone.{IsSigAmong, nodes as nodes_in};
 ghost use Rattle.lane_sim.specs.Words.{AreWords, ArePatterns};
-ghost use Rattle.window_theory.specs.Places.{among, IsRising};
+ghost use Rattle.window_theory.specs.Nodes.{among, IsRising};
 ghost use Rattle.window_theory.specs.Paths.{IsGate};
 ghost use Rattle.window_theory.specs.Window.{Belongs};
 ghost use Rattle.window_theory.specs.Care.{IsSpecificationOf};
-ghost use Rattle.window_core.specs.Surrounding.{AreAbove, gate_places};
-ghost use Rattle.window_core.specs.Masking.{IsCareMask, ArePlaced, HasValues, AreMasked};
+ghost use Rattle.window_core.specs.Expanding.{AreAbove, gate_nodes};
+ghost use Rattle.window_core.specs.Masking.{IsCareMask, AreNumbered, HasGateValues, AreMasked};
 
+use crate::expanding::fanin_cone;
 use crate::growing::gate_at;
 use crate::shape::{MOST_INPUTS, MOST_OUTPUTS, Window};
-use crate::surrounding::surround;
 use lane_sim::{Cone, Words, cone_words, lanes_of, patterns};
 use net_core::{Gate, Net, Sig};
 use std::alloc::{AllocError, Global};
 use tt_core::Spec;
 
-/// The signals that name `places`.
-pub fn signals_of(alloc: Global, places: &[u32]) -> Result<Vec<Sig>, AllocError>
-    ensures { IfOk result (λ signals. signals.items ≡ map sigs.Place places.now) }
+/// The signals that name `nodes`.
+pub fn signals_of(alloc: Global, nodes: &[u32]) -> Result<Vec<Sig>, AllocError>
+    ensures { IfOk result (λ signals. signals.items ≡ map sigs.Node nodes.now) }
 {
-    places.iter().map(|place| Sig::Place(*place)).collect(alloc)
+    nodes.iter().map(|node| Sig::Node(*node)).collect(alloc)
 }
 
 /// The patterns that some nodes take in a cone, as the bits of a mask.
-fn shown_by(alloc: Global, cone: &Cone, places: &[u32]) -> Result<u64, AllocError>
-    requires few { length places.now ≤ 6 }
-    requires known { All (IsSigAmong (places_in cone.now)) (map sigs.Place places.now) }
-    ensures { IfOk result (λ mask. ArePatterns cone.now (map sigs.Place places.now) mask) }
+fn shown_by(alloc: Global, cone: &Cone, nodes: &[u32]) -> Result<u64, AllocError>
+    requires few { length nodes.now ≤ 6 }
+    requires known { All (IsSigAmong (nodes_in cone.now)) (map sigs.Node nodes.now) }
+    ensures { IfOk result (λ mask. ArePatterns cone.now (map sigs.Node nodes.now) mask) }
 {
     let words = cone_words(alloc, cone)?;
-    let signals = signals_of(alloc, places)?;
+    let signals = signals_of(alloc, nodes)?;
     Ok(patterns(&words, cone, &signals))
 }
 
 /// The care rows of some nodes, as the bits of a mask.
-fn care_rows(alloc: Global, net: &Net, places: &[u32]) -> Result<u64, AllocError>
-    requires rising { IsRising places.now }
-    requires few { length places.now ≤ 6 }
-    requires within { (p : ℕ) → among places.now p ≡ true → p < end_of net.now }
-    ensures { IfOk result (λ mask. IsCareMask net.now places.now mask) }
+fn care_rows(alloc: Global, net: &Net, nodes: &[u32]) -> Result<u64, AllocError>
+    requires rising { IsRising nodes.now }
+    requires few { length nodes.now ≤ 6 }
+    requires within { (p : ℕ) → among nodes.now p ≡ true → p < end_of net.now }
+    ensures { IfOk result (λ mask. IsCareMask net.now nodes.now mask) }
 {
     let _sources = net.sources(); // for the prover: brings the net's invariant into the proof
-    let cone = surround(alloc, net, places)?;
-    shown_by(alloc, &cone, places)
+    let cone = fanin_cone(alloc, net, nodes)?;
+    shown_by(alloc, &cone, nodes)
 }
 
 /// The gates at some nodes, with their nodes.
-fn placed_gates(alloc: Global, net: &Net, places: &[u32]) -> Result<Vec<(u32, Gate)>, AllocError>
-    requires { (p : ℕ) → among places.now p ≡ true → IsGate net.now p }
-    ensures { IfOk result (λ gates. ArePlaced net.now places.now [] gates.items) }
+fn numbered_gates(alloc: Global, net: &Net, nodes: &[u32]) -> Result<Vec<(u32, Gate)>, AllocError>
+    requires { (p : ℕ) → among nodes.now p ≡ true → IsGate net.now p }
+    ensures { IfOk result (λ gates. AreNumbered net.now nodes.now [] gates.items) }
 {
-    let mut gates = Vec::with_capacity(alloc, places.len())?;
-    let mut left = places;
-    while let Some((place, rest)) = left.split_first() {
-        let gate = gate_at(net, *place);
+    let mut gates = Vec::with_capacity(alloc, nodes.len())?;
+    let mut left = nodes;
+    while let Some((node, rest)) = left.split_first() {
+        let gate = gate_at(net, *node);
         gates.push((
-            *place,
+            *node,
             Gate {
                 op: gate.op,
                 a: gate.a,
@@ -80,39 +80,39 @@ fn placed_gates(alloc: Global, net: &Net, places: &[u32]) -> Result<Vec<(u32, Ga
 fn inner_cone(alloc: Global, net: &Net, window: &Window) -> Result<Cone, AllocError>
     requires { Belongs net.now window.now }
     ensures leaves { IfOk result (λ cone. cone.leaves ≡ window.now.inputs) }
-    ensures places { IfOk result (λ cone. gate_places cone.gates ≡ window.now.gates) }
+    ensures nodes { IfOk result (λ cone. gate_nodes cone.gates ≡ window.now.gates) }
     ensures gates { IfOk result (λ cone. AreAbove net.now cone.leaves cone.gates) }
 {
     let _sources = net.sources(); // for the prover: brings the net's invariant into the proof
     let mut inputs = Vec::with_capacity(alloc, MOST_INPUTS)?;
     inputs.extend_from_slice(window.inputs())?;
-    let gates = placed_gates(alloc, net, window.gates())?;
+    let gates = numbered_gates(alloc, net, window.gates())?;
     Ok(Cone::new(inputs, gates))
 }
 
-/// The index of `place` in `places`.
-fn index_of(places: &[u32], place: u32) -> usize
-    requires { among places.now place ≡ true }
-    ensures { slice_get places.now result ≡ Some place }
+/// The index of `node` in `nodes`.
+fn index_of(nodes: &[u32], node: u32) -> usize
+    requires { among nodes.now node ≡ true }
+    ensures { slice_get nodes.now result ≡ Some node }
 {
     let mut index = 0;
-    while places[index] != place {
+    while nodes[index] != node {
         index += 1;
     }
     index
 }
 
 /// The word of one of a window's gates: its values on all rows of the inputs.
-fn gate_word(window: &Window, cone: &Cone, words: &Words, place: u32) -> u64
+fn gate_word(window: &Window, cone: &Cone, words: &Words, node: u32) -> u64
     requires words { AreWords cone.now words.now }
     requires leaves { cone.now.leaves ≡ window.now.inputs }
-    requires gates { gate_places cone.now.gates ≡ window.now.gates }
+    requires gates { gate_nodes cone.now.gates ≡ window.now.gates }
     requires few { length window.now.inputs ≤ 6 }
-    requires place { among window.now.gates place ≡ true }
-    ensures { HasValues cone.now place result }
+    requires node { among window.now.gates node ≡ true }
+    ensures { HasGateValues cone.now node result }
 {
     let inputs = window.inputs().len();
-    lanes_of(words)[inputs + index_of(window.gates(), place)]
+    lanes_of(words)[inputs + index_of(window.gates(), node)]
 }
 
 /// The specification with these care rows, from the words of all gates.
@@ -125,17 +125,18 @@ fn masked_spec(
 ) -> Result<Spec, AllocError>
     requires words { AreWords cone.now words.now }
     requires leaves { cone.now.leaves ≡ window.now.inputs }
-    requires gates { gate_places cone.now.gates ≡ window.now.gates }
+    requires gates { gate_nodes cone.now.gates ≡ window.now.gates }
     requires outputs { (p : ℕ) → among window.now.outputs p ≡ true → among window.now.gates p ≡ true }
     requires low { (t : ℕ) → digit mask t ≡ true → t < 2 ^ length window.now.inputs }
-    ensures { IfOk result (λ s. (s.n ≡ length window.now.inputs) × AreMasked cone.now mask window.now.outputs [] s.on s.care) }
+    ensures { IfOk result (λ s. (s.n ≡ length window.now.inputs) ×
+        AreMasked cone.now mask window.now.outputs [] s.on s.care) }
 {
     let mut on = Vec::with_capacity(alloc, MOST_OUTPUTS)?;
     let mut cares = Vec::with_capacity(alloc, MOST_OUTPUTS)?;
     let inputs = window.inputs().len();
     let mut left = window.outputs();
-    while let Some((place, rest)) = left.split_first() {
-        on.push(gate_word(window, cone, words, *place) & mask)?;
+    while let Some((node, rest)) = left.split_first() {
+        on.push(gate_word(window, cone, words, *node) & mask)?;
         cares.push(mask)?;
         left = rest;
     }
@@ -145,10 +146,11 @@ fn masked_spec(
 /// The specification with these care rows, from a cone that has all gates.
 fn spec_by(alloc: Global, window: &Window, cone: &Cone, mask: u64) -> Result<Spec, AllocError>
     requires leaves { cone.now.leaves ≡ window.now.inputs }
-    requires gates { gate_places cone.now.gates ≡ window.now.gates }
+    requires gates { gate_nodes cone.now.gates ≡ window.now.gates }
     requires outputs { (p : ℕ) → among window.now.outputs p ≡ true → among window.now.gates p ≡ true }
     requires low { (t : ℕ) → digit mask t ≡ true → t < 2 ^ length window.now.inputs }
-    ensures { IfOk result (λ s. (s.n ≡ length window.now.inputs) × AreMasked cone.now mask window.now.outputs [] s.on s.care) }
+    ensures { IfOk result (λ s. (s.n ≡ length window.now.inputs) ×
+        AreMasked cone.now mask window.now.outputs [] s.on s.care) }
 {
     let words = cone_words(alloc, cone)?;
     masked_spec(alloc, window, cone, &words, mask)

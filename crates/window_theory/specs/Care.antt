@@ -8,16 +8,16 @@ use Rattle.chain_theory.specs.declared.data.Cell.{Cell}
 use Rattle.chain_theory.specs.declared.data.Cell.TheVariants.{Zero, One, Free}
 use Rattle.net_theory.specs.declared.data.Gate.{Gate}
 use Rattle.net_theory.specs.Net.{Net, gate_value}
-use Rattle.window_theory.specs.Places.{among}
+use Rattle.window_theory.specs.Nodes.{among}
 use Rattle.window_theory.specs.Paths.{IsGate, Reads}
 use Rattle.window_theory.specs.Window.{Window}
-use Rattle.window_theory.specs.Surround.{LeadsTo}
+use Rattle.window_theory.specs.FaninCone.{ExpandsTo}
 
 -- ---- values where the bits of some nodes are fixed
 
 unfoldable pub fixed_after : (ℕ → Bool) → (ℕ → Bool) → (ℕ → Bool) → ℕ → List Gate → ℕ → Bool
-fixed_after fixed given bits place [] = bits
-fixed_after fixed given bits place (g ∷ gs) = fixed_after fixed given (extended bits place (if fixed place then given place else gate_value bits g)) (place + 1) gs
+fixed_after fixed given bits node [] = bits
+fixed_after fixed given bits node (g ∷ gs) = fixed_after fixed given (extended bits node (if fixed node then given node else gate_value bits g)) (node + 1) gs
 
 -- The bits of the nodes where the sources and the nodes of `fixed` have the bits of `given`, and each other
 -- gate has its operator's value.
@@ -42,14 +42,14 @@ pub record IsComputed (n : Net) (fixed inside bits : ℕ → Bool) (p : ℕ) : T
 -- `bits` are those of the part `inside`: each of its nodes is either given or computed from nodes of the
 -- part.
 -- Example: gate 4 reads gate 3 and the source 1. With 3 fixed, the nodes 1, 3 and 4 are a part.
-abbrev pub IsPart : Net → (ℕ → Bool) → (ℕ → Bool) → (ℕ → Bool) → (ℕ → Bool) → Type 0
-IsPart n fixed given inside bits = (p : ℕ) → inside p ≡ true → (IsGiven n fixed p × (bits p ≡ given p)) ⊎ IsComputed n fixed inside bits p
+abbrev pub IsEvaluatedPart : Net → (ℕ → Bool) → (ℕ → Bool) → (ℕ → Bool) → (ℕ → Bool) → Type 0
+IsEvaluatedPart n fixed given inside bits = (p : ℕ) → inside p ≡ true → (IsGiven n fixed p × (bits p ≡ given p)) ⊎ IsComputed n fixed inside bits p
 
 -- ---- rows
 
 -- the nodes have the bits of row t, with the first node as the most significant bit
 abbrev pub HasRow : (ℕ → Bool) → List ℕ → ℕ → Type 0
-HasRow bits places t = (i : ℕ) → i < length places → bits (slice_index_or places i 0) ≡ input (length places) t (i + 1)
+HasRow bits nodes t = (i : ℕ) → i < length nodes → bits (slice_index_or nodes i 0) ≡ input (length nodes) t (i + 1)
 
 -- ---- care rows (minterms)
 
@@ -58,25 +58,27 @@ HasRow bits places t = (i : ℕ) → i < length places → bits (slice_index_or 
 -- the last k digits count, but no use of this goes beyond rows.)
 -- Example: for gate 3 = AND(1, 2) and gate 4 = OR(1, 2) the row 10 is no care row, since no bits of 1 and 2
 -- give it.
-pub record IsCareRow (n : Net) (places : List ℕ) (t : ℕ) : Type 0 where
+pub record IsCareRow (n : Net) (nodes : List ℕ) (t : ℕ) : Type 0 where
   pub leaves : List ℕ
-  pub surround : LeadsTo n places leaves
+  pub fanin_cone : ExpandsTo n nodes leaves
   pub given : ℕ → Bool
-  pub bits : HasRow (values_with n (among leaves) given) places t
+  pub bits : HasRow (values_with n (among leaves) given) nodes t
 
 abbrev pub cell_of : Bool → Cell
 cell_of b = if b then One else Zero
 
 -- the node of output h, where outputs are numbered from 1
-abbrev pub output_place : Window → ℕ → ℕ
-output_place w h = slice_index_or w.outputs (h - 1) 0
+abbrev pub output_node : Window → ℕ → ℕ
+output_node w h = slice_index_or w.outputs (h - 1) 0
 
 -- The specification of a window: on a care row of its inputs the cells are the values of its outputs, and on
 -- all other rows they are don't-cares.
 pub record IsSpecificationOf (n : Net) (w : Window) (s : Specification) : Type 0 where
   pub inputs : s.inputs ≡ length w.inputs
   pub outputs : s.outputs ≡ length w.outputs
-  pub care : (h t : ℕ) (given : ℕ → Bool) → 1 ≤ h → h ≤ length w.outputs → t < 2 ^ length w.inputs → IsCareRow n w.inputs t → HasRow given w.inputs t → s.cell h t ≡ cell_of (values_with n (among w.inputs) given (output_place w h))
+  pub care : (h t : ℕ) (given : ℕ → Bool) → 1 ≤ h → h ≤ length w.outputs → t < 2 ^ length w.inputs →
+      IsCareRow n w.inputs t → HasRow given w.inputs t →
+      s.cell h t ≡ cell_of (values_with n (among w.inputs) given (output_node w h))
   pub free : (h t : ℕ) → 1 ≤ h → h ≤ length w.outputs → t < 2 ^ length w.inputs → (IsCareRow n w.inputs t → ⊥) → s.cell h t ≡ Free
 
 -- No chain over the basis of fewer than `count` steps implements the window. It doesn't matter for which

@@ -4,18 +4,18 @@ use Rattle.std.proofs.Common.{arith, sym, subst, inl, ⊎_elim}
 use Rattle.std.proofs.lemmas.Bool.{eq-eqb, or_left}
 use Rattle.chain_theory.specs.Chain.{Chain}
 use Rattle.chain_theory.specs.declared.data.Out.TheVariants as outs
-use Rattle.net_theory.specs.declared.data.Sig.TheVariants.{One, Place}
+use Rattle.net_theory.specs.declared.data.Sig.TheVariants.{One, Node}
 use Rattle.net_theory.specs.Net.{Net}
 use Rattle.net_theory.specs.Reach.{marked}
 use Rattle.net_theory.specs.Expansion.{gate_of}
 use Rattle.net_theory.specs.Moving.{kept_after}
-use Rattle.window_theory.specs.Places.{IsFalling}
-use Rattle.window_theory.specs.PlaceLaws.{among_cases}
+use Rattle.window_theory.specs.Nodes.{IsFalling}
+use Rattle.window_theory.specs.NodeLaws.{among_cases}
 use Rattle.window_theory.specs.Paths.{Reads}
 use Rattle.window_theory.specs.Partner.{SharesBelow, ArePartners}
 use Rattle.window_theory.specs.Window.{Window}
 use Rattle.window_theory.specs.WindowLaws.{gate_high}
-use Rattle.window_theory.specs.Splice.{with_sigs, spliced}
+use Rattle.window_theory.specs.Substituted.{with_sigs, after_substitution}
 
 abbrev window_of : ℕ → List ℕ → List ℕ → List ℕ → Window
 window_of root gates inputs outputs = record { root = root; partner = None; gates = gates; inputs = inputs; outputs = outputs }
@@ -24,7 +24,7 @@ window_of root gates inputs outputs = record { root = root; partner = None; gate
 
 -- the gates at 3 and 4 over two sources; the second is the sink
 abbrev pub nand_not : Net
-nand_not = record { sources = 2; gates = gate_of 14 (Place 1) (Place 2) ∷ gate_of 14 (Place 3) (Place 3) ∷ []; sinks = Place 4 ∷ [] }
+nand_not = record { sources = 2; gates = gate_of 14 (Node 1) (Node 2) ∷ gate_of 14 (Node 3) (Node 3) ∷ []; sinks = Node 4 ∷ [] }
 
 abbrev pub both_gates : Window
 both_gates = window_of 4 (3 ∷ 4 ∷ []) (1 ∷ 2 ∷ []) (4 ∷ [])
@@ -33,14 +33,14 @@ abbrev pub and_chain : Chain
 and_chain = record { n = 2; steps = record { j = 1; k = 2; op = 1 } ∷ []; outs = outs.Place 3 ∷ [] }
 
 abbrev pub and_net : Net
-and_net = record { sources = 2; gates = gate_of 1 (Place 1) (Place 2) ∷ []; sinks = Place 3 ∷ [] }
+and_net = record { sources = 2; gates = gate_of 1 (Node 1) (Node 2) ∷ []; sinks = Node 3 ∷ [] }
 
 -- the first gate by itself, with the second, which reads it, as an input
 abbrev pub input_above : Window
 input_above = window_of 3 (3 ∷ []) (1 ∷ 2 ∷ 4 ∷ []) (3 ∷ [])
 
-pub nand_not_is_and : spliced nand_not both_gates and_chain ≡ and_net
-unfolding spliced kept_after marked with_sigs
+pub nand_not_is_and : after_substitution nand_not both_gates and_chain ≡ and_net
+unfolding after_substitution kept_after marked with_sigs
 nand_not_is_and = refl
 
 -- ---- a gate with a gate and a sink as fanouts
@@ -48,7 +48,7 @@ nand_not_is_and = refl
 -- AND at 3, OR of the first source and it at 4, XOR of the sources at 5; all three are sinks, and so is a
 -- source
 abbrev pub three_gates : Net
-three_gates = record { sources = 2; gates = gate_of 1 (Place 1) (Place 2) ∷ gate_of 7 (Place 1) (Place 3) ∷ gate_of 6 (Place 1) (Place 2) ∷ []; sinks = Place 4 ∷ Place 5 ∷ Place 3 ∷ Place 2 ∷ [] }
+three_gates = record { sources = 2; gates = gate_of 1 (Node 1) (Node 2) ∷ gate_of 7 (Node 1) (Node 3) ∷ gate_of 6 (Node 1) (Node 2) ∷ []; sinks = Node 4 ∷ Node 5 ∷ Node 3 ∷ Node 2 ∷ [] }
 
 abbrev pub first_gate : Window
 first_gate = window_of 3 (3 ∷ []) (1 ∷ 2 ∷ []) (3 ∷ [])
@@ -61,24 +61,24 @@ abbrev pub one_chain : Chain
 one_chain = record { n = 2; steps = []; outs = outs.One ∷ [] }
 
 abbrev pub with_input : Net
-with_input = record { sources = 2; gates = gate_of 7 (Place 1) (Place 1) ∷ gate_of 6 (Place 1) (Place 2) ∷ []; sinks = Place 3 ∷ Place 4 ∷ Place 1 ∷ Place 2 ∷ [] }
+with_input = record { sources = 2; gates = gate_of 7 (Node 1) (Node 1) ∷ gate_of 6 (Node 1) (Node 2) ∷ []; sinks = Node 3 ∷ Node 4 ∷ Node 1 ∷ Node 2 ∷ [] }
 
 abbrev pub with_one : Net
-with_one = record { sources = 2; gates = gate_of 7 (Place 1) One ∷ gate_of 6 (Place 1) (Place 2) ∷ []; sinks = Place 3 ∷ Place 4 ∷ One ∷ Place 2 ∷ [] }
+with_one = record { sources = 2; gates = gate_of 7 (Node 1) One ∷ gate_of 6 (Node 1) (Node 2) ∷ []; sinks = Node 3 ∷ Node 4 ∷ One ∷ Node 2 ∷ [] }
 
-pub out_is_input : spliced three_gates first_gate input_chain ≡ with_input
-unfolding spliced kept_after marked with_sigs
+pub out_is_input : after_substitution three_gates first_gate input_chain ≡ with_input
+unfolding after_substitution kept_after marked with_sigs
 out_is_input = refl
 
-pub out_is_constant : spliced three_gates first_gate one_chain ≡ with_one
-unfolding spliced kept_after marked with_sigs
+pub out_is_constant : after_substitution three_gates first_gate one_chain ≡ with_one
+unfolding after_substitution kept_after marked with_sigs
 out_is_constant = refl
 
 -- ---- two gates side by side
 
 -- AND at 3 and at 4
 abbrev pub two_ands : Net
-two_ands = record { sources = 2; gates = gate_of 1 (Place 1) (Place 2) ∷ gate_of 1 (Place 1) (Place 2) ∷ []; sinks = Place 3 ∷ Place 4 ∷ [] }
+two_ands = record { sources = 2; gates = gate_of 1 (Node 1) (Node 2) ∷ gate_of 1 (Node 1) (Node 2) ∷ []; sinks = Node 3 ∷ Node 4 ∷ [] }
 
 -- one step has both outputs
 abbrev pub one_for_two : Chain
@@ -88,10 +88,10 @@ abbrev pub both_ands : Window
 both_ands = window_of 4 (3 ∷ 4 ∷ []) (1 ∷ 2 ∷ []) (3 ∷ 4 ∷ [])
 
 abbrev pub one_and : Net
-one_and = record { sources = 2; gates = gate_of 1 (Place 1) (Place 2) ∷ []; sinks = Place 3 ∷ Place 3 ∷ [] }
+one_and = record { sources = 2; gates = gate_of 1 (Node 1) (Node 2) ∷ []; sinks = Node 3 ∷ Node 3 ∷ [] }
 
-pub two_are_one : spliced two_ands both_ands one_for_two ≡ one_and
-unfolding spliced kept_after marked with_sigs
+pub two_are_one : after_substitution two_ands both_ands one_for_two ≡ one_and
+unfolding after_substitution kept_after marked with_sigs
 two_are_one = refl
 
 -- the second by itself, with the first as a further input
@@ -102,18 +102,18 @@ wide_second = window_of 4 (4 ∷ []) (1 ∷ 2 ∷ 3 ∷ []) (4 ∷ [])
 abbrev pub third_input : Chain
 third_input = record { n = 3; steps = []; outs = outs.Place 3 ∷ [] }
 
-pub second_is_first : spliced two_ands wide_second third_input ≡ one_and
-unfolding spliced kept_after marked with_sigs
+pub second_is_first : after_substitution two_ands wide_second third_input ≡ one_and
+unfolding after_substitution kept_after marked with_sigs
 second_is_first = refl
 
-reads_first : (h index : ℕ) → slice_get two_ands.gates index ≡ Some (gate_of 1 (Place 1) (Place 2)) → 3 + index ≡ h → Reads two_ands h 1
-reads_first h index at place = record { reader = record { index = index; gate = gate_of 1 (Place 1) (Place 2); at = at; place = place }; reads = inl refl }
+reads_first : (h index : ℕ) → slice_get two_ands.gates index ≡ Some (gate_of 1 (Node 1) (Node 2)) → 3 + index ≡ h → Reads two_ands h 1
+reads_first h index at node = record { fanout = record { index = index; gate = gate_of 1 (Node 1) (Node 2); at = at; node = node }; reads = inl refl }
 
 shares_three : SharesBelow two_ands 4 3
 shares_three = record { below = omega arith; shared = 1; first = reads_first 4 1 refl refl; second = reads_first 3 0 refl refl }
 
 is_three : (h : ℕ) → SharesBelow two_ands 4 h → h ≡ 3
-is_three h s = let high = gate_high two_ands h s.second.reader in omega (arith, high.0, s.below)
+is_three h s = let high = gate_high two_ands h s.second.fanout in omega (arith, high.0, s.below)
 
 -- the partner of 4 is 3 alone
 pub partner_of_four : ArePartners two_ands 4 (3 ∷ [])
@@ -134,5 +134,5 @@ partner_of_three =
       falling = tt;
       share = λ h e. absurd (let x : false ≡ true = e in cc);
       few = omega arith;
-      others = λ h s. absurd (let high = gate_high two_ands h s.second.reader in omega (arith, high.0, s.below));
+      others = λ h s. absurd (let high = gate_high two_ands h s.second.fanout in omega (arith, high.0, s.below));
     }

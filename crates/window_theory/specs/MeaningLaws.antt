@@ -8,19 +8,23 @@ use Rattle.chain_theory.specs.Chain.{Chain}
 use Rattle.chain_theory.specs.Agreement.{output_value, is_met, Agrees, HasChain}
 use Rattle.chain_theory.specs.declared.data.Cell.{Cell}
 use Rattle.net_theory.specs.Net.{Net}
-use Rattle.window_theory.specs.Places.{among}
+use Rattle.window_theory.specs.Nodes.{among}
 use Rattle.window_theory.specs.Window.{Window}
 use Rattle.window_theory.specs.Care.{values_with, IsCareRow, IsSpecificationOf, HasNoFewer}
 
 -- on a care row two specifications have the same cell
-care_same : (n : Net) (w : Window) (s z : Specification) (h t : ℕ) → IsSpecificationOf n w s → IsSpecificationOf n w z → 1 ≤ h → h ≤ length w.outputs → t < 2 ^ length w.inputs → IsCareRow n w.inputs t → s.cell h t ≡ z.cell h t
+care_same : (n : Net) (w : Window) (s z : Specification) (h t : ℕ) → IsSpecificationOf n w s →
+    IsSpecificationOf n w z → 1 ≤ h → h ≤ length w.outputs → t < 2 ^ length w.inputs → IsCareRow n w.inputs t →
+    s.cell h t ≡ z.cell h t
 care_same n w s z h t a b low high row care =
     let given : ℕ → Bool = values_with n (among care.leaves) care.given in
     a.care h t given low high row care care.bits ∙ sym (b.care h t given low high row care care.bits)
 
 -- A bit that meets a cell of s meets the same cell of z: otherwise the row couldn't be a care row, and the
 -- cell of z would be a don't-care.
-met_same : (n : Net) (w : Window) (s z : Specification) (h t : ℕ) (bit : Bool) → IsSpecificationOf n w s → IsSpecificationOf n w z → 1 ≤ h → h ≤ length w.outputs → t < 2 ^ length w.inputs → is_met (s.cell h t) bit ≡ true → is_met (z.cell h t) bit ≡ true
+met_same : (n : Net) (w : Window) (s z : Specification) (h t : ℕ) (bit : Bool) → IsSpecificationOf n w s →
+    IsSpecificationOf n w z → 1 ≤ h → h ≤ length w.outputs → t < 2 ^ length w.inputs → is_met (s.cell h t) bit ≡ true →
+    is_met (z.cell h t) bit ≡ true
 met_same n w s z h t bit a b low high row met =
     ⊎_elim
     (λ on. on)

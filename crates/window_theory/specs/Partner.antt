@@ -1,7 +1,7 @@
 -- Partners of a gate: gates below it that share a fanin with it (siblings).
 use Rattle.std.specs.Prelude.{◌≡◌, ℕ, ◌≤◌, ◌<◌, true, List, length, ◌⊎◌}
 use Rattle.net_theory.specs.Net.{Net}
-use Rattle.window_theory.specs.Places.{among, IsFalling}
+use Rattle.window_theory.specs.Nodes.{among, IsFalling}
 use Rattle.window_theory.specs.Paths.{Reads}
 
 -- h is below g and shares a fanin with it

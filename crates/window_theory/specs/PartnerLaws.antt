@@ -2,16 +2,18 @@
 use Rattle.std.specs.Prelude.{◌≡◌, ℕ, ◌<◌, true, false, List, [], ◌∷◌, length, ◌⊎◌, refl}
 use Rattle.std.proofs.Common.{arith, sym, ◌∙◌, ap, inl, inr, ⊎_elim}
 use Rattle.net_theory.specs.Net.{Net}
-use Rattle.window_theory.specs.Places.{among, IsFalling}
-use Rattle.window_theory.specs.PlaceLaws.{among_cases, among_first, among_later}
+use Rattle.window_theory.specs.Nodes.{among, IsFalling}
+use Rattle.window_theory.specs.NodeLaws.{among_cases, among_first, among_later}
 use Rattle.window_theory.specs.Partner.{ArePartners}
 
 -- ---- descending lists
 
 -- A descending list within another one with a greater head is within the rest of the other one.
-behind_head : (x y : ℕ) (xs ys : List ℕ) → IsFalling (x ∷ xs) → IsFalling (y ∷ ys) → x < y → ((p : ℕ) → among (x ∷ xs) p ≡ true → among (y ∷ ys) p ≡ true) → (p : ℕ) → among (x ∷ xs) p ≡ true → among ys p ≡ true
+after_head : (x y : ℕ) (xs ys : List ℕ) → IsFalling (x ∷ xs) → IsFalling (y ∷ ys) → x < y →
+    ((p : ℕ) → among (x ∷ xs) p ≡ true → among (y ∷ ys) p ≡ true) → (p : ℕ) → among (x ∷ xs) p ≡ true →
+    among ys p ≡ true
 unfolding IsFalling
-behind_head x y xs ys falling_x falling_y low within p e =
+after_head x y xs ys falling_x falling_y low within p e =
     ⊎_elim
     (λ (own : p ≡ y). ⊎_elim
     (λ (same : p ≡ x). absurd (omega (arith, own, same, low)))
@@ -20,9 +22,9 @@ behind_head x y xs ys falling_x falling_y low within p e =
     (λ later. later)
     (among_cases y p ys (within p e))
 
-behind_both : (x y : ℕ) (xs ys : List ℕ) → IsFalling (x ∷ xs) → x ≡ y → ((p : ℕ) → among (x ∷ xs) p ≡ true → among (y ∷ ys) p ≡ true) → (p : ℕ) → among xs p ≡ true → among ys p ≡ true
+after_both : (x y : ℕ) (xs ys : List ℕ) → IsFalling (x ∷ xs) → x ≡ y → ((p : ℕ) → among (x ∷ xs) p ≡ true → among (y ∷ ys) p ≡ true) → (p : ℕ) → among xs p ≡ true → among ys p ≡ true
 unfolding IsFalling
-behind_both x y xs ys falling same within p e =
+after_both x y xs ys falling same within p e =
     ⊎_elim
     (λ (own : p ≡ y). let below : p < x = falling.0 p e in absurd (omega (arith, own, below, same)))
     (λ later. later)
@@ -34,7 +36,9 @@ unfolding IsFalling
 head_low x y ys falling e = ⊎_elim (λ same. inl same) (λ later. inr (falling.0 x later)) (among_cases y x ys e)
 
 -- A descending list with all elements of another, and a lower one, is longer.
-falling_longer : (xs ys : List ℕ) (h : ℕ) → IsFalling xs → IsFalling ys → ((p : ℕ) → among xs p ≡ true → among ys p ≡ true) → among ys h ≡ true → ((p : ℕ) → among xs p ≡ true → h < p) → length xs < length ys
+falling_longer : (xs ys : List ℕ) (h : ℕ) → IsFalling xs → IsFalling ys →
+    ((p : ℕ) → among xs p ≡ true → among ys p ≡ true) → among ys h ≡ true → ((p : ℕ) → among xs p ≡ true → h < p) →
+    length xs < length ys
 unfolding IsFalling
 falling_longer xs [] h falling_x falling_y within on low = absurd (let e : false ≡ true = on in cc)
 falling_longer [] (y ∷ ys) h falling_x falling_y within on low = omega arith
@@ -43,11 +47,11 @@ falling_longer (x ∷ xs) (y ∷ ys) h falling_x falling_y within on low =
     ⊎_elim
     (λ (same : x ≡ y).
     let later : among ys h ≡ true = ⊎_elim (λ (own : h ≡ y). absurd (omega (arith, own, below, same))) (λ l. l) (among_cases y h ys on) in
-    let rest : length xs < length ys = falling_longer xs ys h falling_x.1 falling_y.1 (behind_both x y xs ys falling_x same within) later (λ p e. low p (among_later x p xs e)) in
+    let rest : length xs < length ys = falling_longer xs ys h falling_x.1 falling_y.1 (after_both x y xs ys falling_x same within) later (λ p e. low p (among_later x p xs e)) in
     omega (arith, rest))
     (λ (less : x < y).
     let later : among ys h ≡ true = ⊎_elim (λ (own : h ≡ y). absurd (omega (arith, own, below, less))) (λ l. l) (among_cases y h ys on) in
-    let rest : length (x ∷ xs) < length ys = falling_longer (x ∷ xs) ys h falling_x falling_y.1 (behind_head x y xs ys falling_x falling_y less within) later low in
+    let rest : length (x ∷ xs) < length ys = falling_longer (x ∷ xs) ys h falling_x falling_y.1 (after_head x y xs ys falling_x falling_y less within) later low in
     omega (arith, rest))
     (head_low x y ys falling_y (within x (among_first x xs)))
 
@@ -61,7 +65,7 @@ falling_same (x ∷ xs) (y ∷ ys) falling_x falling_y there back =
     (λ s. s)
     (λ (less : x < y). ⊎_elim (λ (s : y ≡ x). sym s) (λ (more : y < x). absurd (omega (arith, less, more))) (head_low y x xs falling_x (back y (among_first y ys))))
     (head_low x y ys falling_y (there x (among_first x xs))) in
-    let rest : xs ≡ ys = falling_same xs ys falling_x.1 falling_y.1 (behind_both x y xs ys falling_x same there) (behind_both y x ys xs falling_y (sym same) back) in
+    let rest : xs ≡ ys = falling_same xs ys falling_x.1 falling_y.1 (after_both x y xs ys falling_x same there) (after_both y x ys xs falling_y (sym same) back) in
     ap (λ (z : ℕ). z ∷ xs) same ∙ ap (λ (zs : List ℕ). y ∷ zs) rest
 
 -- ---- partners

@@ -3,8 +3,8 @@
 use Rattle.std.specs.Prelude.{◌≡◌, ℕ, ◌≤◌, ◌<◌, true, false, List, [], ◌∷◌, length, Option, Some, None, ◌⊎◌}
 use Rattle.net_theory.specs.Net.{Net, end_of}
 use Rattle.net_theory.specs.Reach.{is_sink}
-use Rattle.window_theory.specs.Places.{among, IsRising, AreJust}
-use Rattle.window_theory.specs.Paths.{IsGate, Reads, LeadsUp}
+use Rattle.window_theory.specs.Nodes.{among, IsRising, AreJust}
+use Rattle.window_theory.specs.Paths.{IsGate, Reads, HasPath}
 use Rattle.window_theory.specs.Partner.{IsPartner}
 
 -- a window, a small subcircuit, by its nodes: its gates, its inputs and its outputs
@@ -23,9 +23,9 @@ IsRootOrPartner root (Some h) p = (p ≡ root) ⊎ (p ≡ h)
 
 -- the node is a fanin of some gate of `gates`
 pub record IsReadBy (n : Net) (gates : List ℕ) (p : ℕ) : Type 0 where
-  pub reader : ℕ
-  pub inside : among gates reader ≡ true
-  pub reads : Reads n reader p
+  pub fanout : ℕ
+  pub inside : among gates fanout ≡ true
+  pub reads : Reads n fanout p
 
 -- a gate that isn't taken, and is the root, the partner, or a fanin of a gate that is taken
 pub record IsCandidate (n : Net) (root : ℕ) (partner : Option ℕ) (taken : List ℕ) (p : ℕ) : Type 0 where
@@ -52,9 +52,9 @@ pub record IsInput (n : Net) (gates : List ℕ) (p : ℕ) : Type 0 where
   pub read : IsReadBy n gates p
 
 pub record IsReadOutside (n : Net) (gates : List ℕ) (p : ℕ) : Type 0 where
-  pub reader : ℕ
-  pub outside : among gates reader ≡ false
-  pub reads : Reads n reader p
+  pub fanout : ℕ
+  pub outside : among gates fanout ≡ false
+  pub reads : Reads n fanout p
 
 -- an output: a gate inside with a sink or a gate outside as fanout
 pub record IsOutput (n : Net) (gates : List ℕ) (p : ℕ) : Type 0 where
@@ -62,9 +62,9 @@ pub record IsOutput (n : Net) (gates : List ℕ) (p : ℕ) : Type 0 where
   pub seen : IsReadOutside n gates p ⊎ (is_sink n p ≡ true)
 
 -- a node outside the gates and outside their transitive fanout (TFO)
-pub record IsApart (n : Net) (gates : List ℕ) (p : ℕ) : Type 0 where
+pub record IsOutsideFanout (n : Net) (gates : List ℕ) (p : ℕ) : Type 0 where
   pub outside : among gates p ≡ false
-  pub above : (g : ℕ) → among gates g ≡ true → LeadsUp n g p → ⊥
+  pub above : (g : ℕ) → among gates g ≡ true → HasPath n g p → ⊥
 
 -- A window belongs to a net where its inputs are nodes of the net that don't depend on its gates, among them
 -- each node outside that a gate inside reads, and its outputs are exactly those of its gates. So its gates
@@ -80,7 +80,7 @@ pub record Belongs (n : Net) (w : Window) : Type 0 where
   pub gates : (p : ℕ) → among w.gates p ≡ true → IsGate n p
   pub inputs_rising : IsRising w.inputs
   pub read : (p : ℕ) → IsInput n w.gates p → among w.inputs p ≡ true
-  pub apart : (p : ℕ) → among w.inputs p ≡ true → IsApart n w.gates p
+  pub apart : (p : ℕ) → among w.inputs p ≡ true → IsOutsideFanout n w.gates p
   pub within : (p : ℕ) → among w.inputs p ≡ true → (1 ≤ p) × (p < end_of n)
   pub outputs : AreJust (IsOutput n w.gates) w.outputs
 

@@ -3,13 +3,13 @@
 use Rattle.std.specs.Prelude.{◌≡◌, ℕ, zero, suc, ◌≤◌, ◌<◌, true, false, [], ◌∷◌, slice_get, Some, refl}
 use Rattle.std.proofs.Common.{arith, sym, ◌∙◌, ap, subst, inl, inr, ⊎_elim, ◌≢◌}
 use Rattle.std.proofs.lemmas.Bool.{cases_Bool}
-use Rattle.net_theory.specs.declared.data.Sig.TheVariants.{Place}
+use Rattle.net_theory.specs.declared.data.Sig.TheVariants.{Node}
 use Rattle.net_theory.specs.declared.data.Gate.{Gate}
-use Rattle.net_theory.specs.Reach.{ReadsPlace, is_sink}
+use Rattle.net_theory.specs.Reach.{ReadsNode, is_sink}
 use Rattle.net_theory.specs.Expansion.{gate_of}
-use Rattle.window_theory.specs.Places.{among, IsRising, AreJust}
-use Rattle.window_theory.specs.PlaceLaws.{among_cases}
-use Rattle.window_theory.specs.Paths.{IsGate, Reads, LeadsUp, at_once, by_way_of}
+use Rattle.window_theory.specs.Nodes.{among, IsRising, AreJust}
+use Rattle.window_theory.specs.NodeLaws.{among_cases}
+use Rattle.window_theory.specs.Paths.{IsGate, Reads, HasPath, at_once, by_way_of}
 use Rattle.window_theory.specs.Window.{Window, IsGreatestCandidate, AreTaken, IsInput, IsOutput, Belongs, IsWindow}
 use Rattle.window_theory.specs.WindowLaws.{gate_high}
 use Rattle.window_theory.specs.Examples.{two_ands, wide_second, nand_not, input_above}
@@ -22,44 +22,44 @@ side_by_side = record { root = 4; partner = Some 3; gates = 3 ∷ 4 ∷ []; inpu
 -- ---- the gates
 
 abbrev first : IsGate two_ands 3
-first = record { index = 0; gate = gate_of 1 (Place 1) (Place 2); at = refl; place = refl }
+first = record { index = 0; gate = gate_of 1 (Node 1) (Node 2); at = refl; node = refl }
 
 abbrev second : IsGate two_ands 4
-second = record { index = 1; gate = gate_of 1 (Place 1) (Place 2); at = refl; place = refl }
+second = record { index = 1; gate = gate_of 1 (Node 1) (Node 2); at = refl; node = refl }
 
 -- ---- the inputs
 
-one_or_two : (q p : ℕ) → Place q ≡ Place p → q ≡ p
+one_or_two : (q p : ℕ) → Node q ≡ Node p → q ≡ p
 one_or_two q p e = cc
 
-and_reads : (g : Gate) (p : ℕ) → gate_of 1 (Place 1) (Place 2) ≡ g → ReadsPlace g p → (1 ≤ p) × (p < 3)
+and_reads : (g : Gate) (p : ℕ) → gate_of 1 (Node 1) (Node 2) ≡ g → ReadsNode g p → (1 ≤ p) × (p < 3)
 and_reads g p same reads =
     ⊎_elim
     (λ a. let one : 1 ≡ p = one_or_two 1 p (ap (λ (x : Gate). x.a) same ∙ a) in (omega (arith, one), omega (arith, one)))
     (λ b. let two : 2 ≡ p = one_or_two 2 p (ap (λ (x : Gate). x.b) same ∙ b) in (omega (arith, two), omega (arith, two)))
     reads
 
-same_gate : (g : Gate) → Some (gate_of 1 (Place 1) (Place 2)) ≡ Some g → gate_of 1 (Place 1) (Place 2) ≡ g
+same_gate : (g : Gate) → Some (gate_of 1 (Node 1) (Node 2)) ≡ Some g → gate_of 1 (Node 1) (Node 2) ≡ g
 same_gate g e = cc
 
-reads_in_turn : (i : ℕ) (g : Gate) (p : ℕ) → slice_get two_ands.gates i ≡ Some g → ReadsPlace g p → (1 ≤ p) × (p < 3)
+reads_in_turn : (i : ℕ) (g : Gate) (p : ℕ) → slice_get two_ands.gates i ≡ Some g → ReadsNode g p → (1 ≤ p) × (p < 3)
 reads_in_turn zero g p at reads = and_reads g p (same_gate g at) reads
 reads_in_turn (suc zero) g p at reads = and_reads g p (same_gate g at) reads
 reads_in_turn (suc (suc i)) g p at reads = absurd cc
 
 -- the gates read the sources alone
 reads_sources : (h p : ℕ) → Reads two_ands h p → (1 ≤ p) × (p < 3)
-reads_sources h p r = reads_in_turn r.reader.index r.reader.gate p r.reader.at r.reads
+reads_sources h p r = reads_in_turn r.fanout.index r.fanout.gate p r.fanout.at r.reads
 
 sources_are_inputs : AreJust (IsInput two_ands (3 ∷ 4 ∷ [])) (1 ∷ 2 ∷ [])
 sources_are_inputs =
     record {
       rising = rising_two;
       only = λ p e. ⊎_elim
-          (λ one. subst (IsInput two_ands (3 ∷ 4 ∷ [])) (sym one) (record { outside = refl; read = record { reader = 3; inside = refl; reads = record { reader = first; reads = inl refl } } }))
-          (λ two. subst (IsInput two_ands (3 ∷ 4 ∷ [])) (sym two) (record { outside = refl; read = record { reader = 3; inside = refl; reads = record { reader = first; reads = inr refl } } }))
+          (λ one. subst (IsInput two_ands (3 ∷ 4 ∷ [])) (sym one) (record { outside = refl; read = record { fanout = 3; inside = refl; reads = record { fanout = first; reads = inl refl } } }))
+          (λ two. subst (IsInput two_ands (3 ∷ 4 ∷ [])) (sym two) (record { outside = refl; read = record { fanout = 3; inside = refl; reads = record { fanout = first; reads = inr refl } } }))
           (two_cases 1 2 p e);
-      all = λ p is. let low = reads_sources is.read.reader p is.read.reads in low_two p low.0 low.1;
+      all = λ p is. let low = reads_sources is.read.fanout p is.read.reads in low_two p low.0 low.1;
     }
 
 -- ---- the outputs
@@ -142,7 +142,7 @@ four_is_output =
     }
 
 -- paths begin at the sources
-from_sources : (p g : ℕ) → LeadsUp two_ands p g → p < 3
+from_sources : (p g : ℕ) → HasPath two_ands p g → p < 3
 from_sources _ _ (at_once p g reads) = (reads_sources g p reads).1
 from_sources _ _ (by_way_of p q g before reads) = from_sources p q before
 
@@ -162,7 +162,7 @@ wide_belongs =
       rising = rising_four;
       gates = λ p e. subst (IsGate two_ands) (sym (just_four p e)) second;
       inputs_rising = rising_three;
-      read = λ p is. let low = reads_sources is.read.reader p is.read.reads in low_three p low.0 (omega (arith, low.1));
+      read = λ p is. let low = reads_sources is.read.fanout p is.read.reads in low_three p low.0 (omega (arith, low.1));
       apart = λ p e. record {
         outside = four_outside p (one_to_three p e).1;
         above = λ g inside up. let low : g < 3 = from_sources g p up in absurd (omega (arith, low, just_four g inside));
@@ -173,4 +173,4 @@ wide_belongs =
 
 -- A gate that reads a window's gate is none of the window's inputs.
 pub above_is_refused : Belongs nand_not input_above → ⊥
-above_is_refused is = (is.apart 4 refl).above 3 refl (at_once 3 4 (record { reader = record { index = 1; gate = gate_of 14 (Place 3) (Place 3); at = refl; place = refl }; reads = inl refl }))
+above_is_refused is = (is.apart 4 refl).above 3 refl (at_once 3 4 (record { fanout = record { index = 1; gate = gate_of 14 (Node 3) (Node 3); at = refl; node = refl }; reads = inl refl }))

@@ -6,10 +6,10 @@ use Rattle.std.proofs.lemmas.Bool.{eq-eqb, or_left, or_parts, both_ways, cases_B
 use Rattle.std.proofs.lemmas.Option.{slice_get_within}
 use Rattle.net_theory.specs.Net.{Net, IsNet, end_of}
 use Rattle.net_theory.specs.MovingLaws.{reads_below}
-use Rattle.window_theory.specs.Places.{among, IsRising, AreJust}
-use Rattle.window_theory.specs.PlaceLaws.{among_cases, just_same}
-use Rattle.window_theory.specs.Paths.{IsGate, Reads, LeadsUp, at_once, by_way_of, IsConvex}
-use Rattle.window_theory.specs.Window.{Window, IsReadBy, IsCandidate, IsGreatestCandidate, AreTaken, IsInput, IsOutput, IsApart, Takes, Belongs, IsWindow}
+use Rattle.window_theory.specs.Nodes.{among, IsRising, AreJust}
+use Rattle.window_theory.specs.NodeLaws.{among_cases, just_same}
+use Rattle.window_theory.specs.Paths.{IsGate, Reads, HasPath, at_once, by_way_of, IsConvex}
+use Rattle.window_theory.specs.Window.{Window, IsReadBy, IsCandidate, IsGreatestCandidate, AreTaken, IsInput, IsOutput, IsOutsideFanout, Takes, Belongs, IsWindow}
 
 -- ---- fanins
 
@@ -21,11 +21,11 @@ some_there (x ∷ xs) (suc i) low = some_there xs i (omega arith)
 -- a fanin of a gate is a node below it
 pub reads_low : (n : Net) (g p : ℕ) → IsNet n → Reads n g p → (1 ≤ p) × (p < g)
 reads_low n g p net r =
-    let low = reads_below (n.sources + 1 + r.reader.index) p r.reader.gate (net.gates.each r.reader.index r.reader.gate r.reader.at) r.reads in
-    (low.0, omega (arith, low.1, r.reader.place))
+    let low = reads_below (n.sources + 1 + r.fanout.index) p r.fanout.gate (net.gates.each r.fanout.index r.fanout.gate r.fanout.at) r.reads in
+    (low.0, omega (arith, low.1, r.fanout.node))
 
 pub gate_high : (n : Net) (g : ℕ) → IsGate n g → (n.sources < g) × (g < n.sources + 1 + length n.gates)
-gate_high n g is = (omega (arith, is.place), omega (arith, is.place, slice_get_within n.gates is.index is.gate is.at))
+gate_high n g is = (omega (arith, is.node), omega (arith, is.node, slice_get_within n.gates is.index is.gate is.at))
 
 -- each node after the sources and below the end has a gate
 pub gate_at : (n : Net) (p : ℕ) → n.sources + 1 ≤ p → p < n.sources + 1 + length n.gates → IsGate n p
@@ -33,34 +33,34 @@ gate_at n p above within =
     let index : ℕ = p - (n.sources + 1) in
     let low : index < length n.gates = omega arith in
     let at = some_there n.gates index low in
-    record { index = index; gate = at.0; at = at.1; place = omega arith }
+    record { index = index; gate = at.0; at = at.1; node = omega arith }
 
 -- a fanin is a source or a gate
 pub source_or_gate : (n : Net) (g p : ℕ) → IsNet n → Reads n g p → (p ≤ n.sources) ⊎ IsGate n p
 source_or_gate n g p net r =
     let low = reads_low n g p net r in
-    let high = gate_high n g r.reader in
+    let high = gate_high n g r.fanout in
     ⊎_elim
     (λ (source : p < n.sources + 1). inl (omega arith))
     (λ (above : n.sources + 1 ≤ p).
     let index : ℕ = p - (n.sources + 1) in
     let within : index < length n.gates = omega (arith, low.1, high.1) in
     let at = some_there n.gates index within in
-    inr (record { index = index; gate = at.0; at = at.1; place = omega arith }))
+    inr (record { index = index; gate = at.0; at = at.1; node = omega arith }))
     (cases_lt p (n.sources + 1))
 
 -- a path goes up
-pub up_low : (n : Net) (p g : ℕ) → IsNet n → LeadsUp n p g → p < g
+pub up_low : (n : Net) (p g : ℕ) → IsNet n → HasPath n p g → p < g
 up_low n _ _ net (at_once p g r) = (reads_low n g p net r).1
 up_low n _ _ net (by_way_of p q g before r) = omega (arith, up_low n p q net before, (reads_low n g q net r).1)
 
 -- ---- gates that are taken
 
-not_first : (p q : ℕ) (places : List ℕ) → among (p ∷ places) q ≡ false → q ≢ p
-not_first p q places e same = both_ways (among (p ∷ places) q) e (or_left (nat_eq q p) (among places q) (eq-eqb q p same))
+not_first : (p q : ℕ) (nodes : List ℕ) → among (p ∷ nodes) q ≡ false → q ≢ p
+not_first p q nodes e same = both_ways (among (p ∷ nodes) q) e (or_left (nat_eq q p) (among nodes q) (eq-eqb q p same))
 
-not_later : (p q : ℕ) (places : List ℕ) → among (p ∷ places) q ≡ false → among places q ≡ false
-not_later p q places e = (or_parts (nat_eq q p) (among places q) e).1
+not_later : (p q : ℕ) (nodes : List ℕ) → among (p ∷ nodes) q ≡ false → among nodes q ≡ false
+not_later p q nodes e = (or_parts (nat_eq q p) (among nodes q) e).1
 
 -- a candidate that isn't taken is below the gate that was taken last
 pub below_last : (n : Net) (root : ℕ) (partner : Option ℕ) (t : ℕ) (before : List ℕ) (p : ℕ) → IsNet n → IsGreatestCandidate n root partner before t → IsCandidate n root partner (t ∷ before) p → p < t
@@ -70,9 +70,9 @@ below_last n root partner t before p net greatest is =
     ⊎_elim
     (λ root_is. was (record { gate = is.gate; outside = not_later t p before is.outside; why = inl root_is }))
     (λ read. ⊎_elim
-    (λ (own : read.reader ≡ t). omega (arith, (reads_low n read.reader p net read.reads).1))
-    (λ earlier. was (record { gate = is.gate; outside = not_later t p before is.outside; why = inr (record { reader = read.reader; inside = earlier; reads = read.reads }) }))
-    (among_cases t read.reader before read.inside))
+    (λ (own : read.fanout ≡ t). omega (arith, (reads_low n read.fanout p net read.reads).1))
+    (λ earlier. was (record { gate = is.gate; outside = not_later t p before is.outside; why = inr (record { fanout = read.fanout; inside = earlier; reads = read.reads }) }))
+    (among_cases t read.fanout before read.inside))
     is.why
 
 -- So the gates are taken in descending order,
@@ -96,7 +96,8 @@ taken_gate n root partner (t ∷ before) p are e =
     (among_cases t p before e)
 
 -- A node that isn't taken and is a fanin of a gate that is taken is below all gates that are taken.
-pub outside_low : (n : Net) (root : ℕ) (partner : Option ℕ) (taken : List ℕ) (p q : ℕ) → IsNet n → AreTaken n root partner taken → among taken p ≡ false → IsReadBy n taken p → among taken q ≡ true → p < q
+pub outside_low : (n : Net) (root : ℕ) (partner : Option ℕ) (taken : List ℕ) (p q : ℕ) → IsNet n →
+    AreTaken n root partner taken → among taken p ≡ false → IsReadBy n taken p → among taken q ≡ true → p < q
 unfolding AreTaken IsRising
 outside_low n root partner [] p q net are outside read inside = absurd cc
 outside_low n root partner (t ∷ before) p q net are outside read inside =
@@ -104,29 +105,30 @@ outside_low n root partner (t ∷ before) p q net are outside read inside =
     let low : p < t = ⊎_elim
     (λ (source : p ≤ n.sources). omega (arith, (gate_high n t are.0.candidate.gate).0))
     (λ gate. below_last n root partner t before p net are.0 (record { gate = gate; outside = outside; why = inr read }))
-    (source_or_gate n read.reader p net read.reads) in
+    (source_or_gate n read.fanout p net read.reads) in
     ⊎_elim (λ (same : q ≡ t). omega arith) (λ later. omega (arith, low, rising.0 q later)) (among_cases t q before inside)
 
 -- ---- windows
 
 read_taken : (n : Net) (taken gates : List ℕ) (p : ℕ) → AreJust (λ x. among taken x ≡ true) gates → IsReadBy n gates p → IsReadBy n taken p
-read_taken n taken gates p just read = record { reader = read.reader; inside = just.only read.reader read.inside; reads = read.reads }
+read_taken n taken gates p just read = record { fanout = read.fanout; inside = just.only read.fanout read.inside; reads = read.reads }
 
 not_taken : (taken gates : List ℕ) (p : ℕ) → AreJust (λ x. among taken x ≡ true) gates → among gates p ≡ false → among taken p ≡ false
 not_taken taken gates p just outside = ⊎_elim (λ inside. absurd (both_ways (among gates p) outside (just.all p inside))) (λ out. out) (cases_Bool (among taken p))
 
 pub input_low : (n : Net) (root : ℕ) (partner : Option ℕ) (count : ℕ) (gates : List ℕ) (p q : ℕ) → IsNet n → Takes n root partner count gates → IsInput n gates p → among gates q ≡ true → p < q
 input_low n root partner count gates p q net takes is inside =
-    outside_low n root partner takes.taken p q net takes.are (not_taken takes.taken gates p takes.gates_are is.outside) (read_taken n takes.taken gates p takes.gates_are is.read) (takes.gates_are.only q inside)
+    outside_low n root partner takes.taken p q net takes.are (not_taken takes.taken gates p takes.gates_are is.outside)
+    (read_taken n takes.taken gates p takes.gates_are is.read) (takes.gates_are.only q inside)
 
 -- a path into a set of gates enters it from a node outside
-entered : (n : Net) (gates : List ℕ) (q r : ℕ) → IsNet n → LeadsUp n q r → among gates q ≡ false → among gates r ≡ true → (x : ℕ) × (q ≤ x) × IsInput n gates x
+entered : (n : Net) (gates : List ℕ) (q r : ℕ) → IsNet n → HasPath n q r → among gates q ≡ false → among gates r ≡ true → (x : ℕ) × (q ≤ x) × IsInput n gates x
 entered n gates _ _ net (at_once q r reads) outside inside =
-    (q, omega arith, record { outside = outside; read = record { reader = r; inside = inside; reads = reads } })
+    (q, omega arith, record { outside = outside; read = record { fanout = r; inside = inside; reads = reads } })
 entered n gates _ _ net (by_way_of q m r before reads) outside inside =
     ⊎_elim
     (λ within. entered n gates q m net before outside within)
-    (λ out. (m, omega (arith, up_low n q m net before), record { outside = out; read = record { reader = r; inside = inside; reads = reads } }))
+    (λ out. (m, omega (arith, up_low n q m net before), record { outside = out; read = record { fanout = r; inside = inside; reads = reads } }))
     (cases_Bool (among gates m))
 
 pub taken_convex : (n : Net) (root : ℕ) (partner : Option ℕ) (count : ℕ) (gates : List ℕ) → IsNet n → Takes n root partner count gates → IsConvex n (among gates)
@@ -146,18 +148,20 @@ window_low n root partner count w p q net is input inside = input_low n root par
 pub read_there : (n : Net) (g p : ℕ) → IsNet n → Reads n g p → (1 ≤ p) × (p < end_of n)
 read_there n g p net r =
     let low = reads_low n g p net r in
-    (low.0, omega (arith, low.1, (gate_high n g r.reader).1))
+    (low.0, omega (arith, low.1, (gate_high n g r.fanout).1))
 
 -- An input of a convex set of gates doesn't depend on them.
-pub input_apart : (n : Net) (gates : List ℕ) (p : ℕ) → IsConvex n (among gates) → IsInput n gates p → IsApart n gates p
+pub input_apart : (n : Net) (gates : List ℕ) (p : ℕ) → IsConvex n (among gates) → IsInput n gates p → IsOutsideFanout n gates p
 input_apart n gates p convex is =
     record {
       outside = is.outside;
-      above = λ g inside up. both_ways (among gates p) is.outside (convex g p is.read.reader inside is.read.inside up (at_once p is.read.reader is.read.reads));
+      above = λ g inside up. both_ways (among gates p) is.outside (convex g p is.read.fanout inside is.read.inside up (at_once p is.read.fanout is.read.reads));
     }
 
 -- So a convex set of gates, with exactly its inputs and outputs, belongs to the net.
-pub convex_belongs : (n : Net) (w : Window) → IsNet n → IsRising w.gates → ((p : ℕ) → among w.gates p ≡ true → IsGate n p) → IsConvex n (among w.gates) → AreJust (IsInput n w.gates) w.inputs → AreJust (IsOutput n w.gates) w.outputs → Belongs n w
+pub convex_belongs : (n : Net) (w : Window) → IsNet n → IsRising w.gates →
+    ((p : ℕ) → among w.gates p ≡ true → IsGate n p) → IsConvex n (among w.gates) →
+    AreJust (IsInput n w.gates) w.inputs → AreJust (IsOutput n w.gates) w.outputs → Belongs n w
 convex_belongs n w net rising gates convex inputs outputs =
     record {
       rising = rising;
@@ -165,7 +169,7 @@ convex_belongs n w net rising gates convex inputs outputs =
       inputs_rising = inputs.rising;
       read = inputs.all;
       apart = λ p on. input_apart n w.gates p convex (inputs.only p on);
-      within = λ p on. let read = (inputs.only p on).read in read_there n read.reader p net read.reads;
+      within = λ p on. let read = (inputs.only p on).read in read_there n read.fanout p net read.reads;
       outputs = outputs;
     }
 

@@ -1,6 +1,6 @@
 pub use Rattle.improve_theory.specs.Settled
 pub mod PartnerLaws
-pub mod Trying
+pub mod Attempting
 pub mod AskingLaws
-pub mod TryingLaws
+pub mod AttemptingLaws
 pub mod MergedLaws

@@ -3,7 +3,7 @@
 //!
 //! It stands on `window_core` for the windows, on `walk_core` for their local specifications and for
 //! replacing a window by a chain, on `decide_core` for the search of a shorter chain, on `merge_core` and
-//! `table_merge` for equal gates, and on any `Solver` of `sat_solve`; it implements the trait `Trial` of
+//! `table_merge` for equal gates, and on any `Solver` of `sat_solve`; it implements the trait `Attempts` of
 //! `resyn_core`. The net is kept with its index, which is made anew when the net changes.
 //!
 //! What is proved of `improve_net`: the net that it returns implements the given one, and if it is settled,
@@ -17,10 +17,10 @@
 //! ```
 #![tactic(auto)]
 
+mod attempting;
 mod merging;
 mod partners;
 mod tables;
-mod trying;
 
+pub use attempting::WindowAttempts;
 pub use tables::many_merged;
-pub use trying::WindowTrial;

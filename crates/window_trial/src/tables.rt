@@ -1,10 +1,10 @@
 //! Functional hashing with cleanup, in a net of few sources.
 ghost use Rattle.std.specs.Prelude.{◌≤◌, length, IfOk};
 ghost use Rattle.chain_theory.specs.Operator.{Basis};
-ghost use Rattle.improve_theory.specs.Leading.{Leads};
+ghost use Rattle.improve_theory.specs.Leading.{IsReplacement};
 
-use merge_core::merge_equal;
-use net_core::{Net, drop_dead};
+use merge_core::functional_reduction;
+use net_core::{Net, remove_dangling};
 use std::alloc::{AllocError, Global};
 
 /// A net of at most this many gates is left to moves and windows.
@@ -13,11 +13,11 @@ const MANY_EQUAL: usize = 1000;
 /// The net in which gates with the same value under every assignment are merged, without dangling gates.
 /// Where it has more than 12 sources there is only the cleanup.
 fn equal_merged(alloc: Global, net: &Net) -> Result<Net, AllocError>
-    ensures leads { (basis : Basis) → IfOk result (Leads basis net.now) }
+    ensures replaces { (basis : Basis) → IfOk result (IsReplacement basis net.now) }
     ensures fewer { IfOk result (λ left. length left.gates ≤ length net.now.gates) }
 {
-    let merged = merge_equal(alloc, net)?;
-    let left = drop_dead(alloc, &merged)?;
+    let merged = functional_reduction(alloc, net)?;
+    let left = remove_dangling(alloc, &merged)?;
     Ok(left)
 }
 
@@ -25,7 +25,7 @@ fn equal_merged(alloc: Global, net: &Net) -> Result<Net, AllocError>
 /// since each of them alone needs a step.
 #[tactic(auto, using(crate::specs::MergedLaws::merging))]
 pub fn many_merged(alloc: Global, net: Net, cap: u32) -> Result<Net, AllocError>
-    ensures leads { (basis : Basis) → IfOk result (Leads basis net) }
+    ensures replaces { (basis : Basis) → IfOk result (IsReplacement basis net) }
     ensures fewer { IfOk result (λ left. length left.gates ≤ length net.gates) }
 {
     if cap < 2 || net.gates().len() <= MANY_EQUAL {

@@ -11,7 +11,7 @@ pub record GrownNet : Type 0 where
 
 pub record IsGrownNet (b : GrownNet) : Type 0 where
   pub gates : AreGates b.sources b.gates
-  pub places : b.sources + length b.gates < 2 ^ 31
+  pub nodes : b.sources + length b.gates < 2 ^ 31
 
 -- as many sinks as signals, each of them in the net
 pub record HasSignals (b : GrownNet) (signals sinks : List Sig) : Type 0 where

@@ -29,16 +29,16 @@ pub record IsXag (x : Xag) : Type 0 where
   pub nodes : x.sources + length x.gates < 2 ^ 31
 
 -- a graph without sinks, as it grows
-pub record Grown : Type 0 where
+pub record GrownXag : Type 0 where
   pub sources : ℕ
   pub gates : List XagGate
 
-pub record IsGrown (b : Grown) : Type 0 where
+pub record IsGrownXag (b : GrownXag) : Type 0 where
   pub gates : AreXagGates b.sources b.gates
   pub nodes : b.sources + length b.gates < 2 ^ 31
 
 -- as many sinks as literals, each of a node of the graph
-pub record HasSinks (b : Grown) (literals sinks : List ℕ) : Type 0 where
+pub record HasSinks (b : GrownXag) (literals sinks : List ℕ) : Type 0 where
   pub count : length sinks ≡ length literals
   pub below : All (IsLiteralBelow (b.sources + 1 + length b.gates)) sinks
 

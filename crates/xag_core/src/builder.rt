@@ -2,7 +2,7 @@
 //! with a constant operand, or with the same operand twice, aren't made at all. XOR gates read their operands
 //! uncomplemented.
 ghost use Rattle.std.specs.Prelude.{◌≡◌, ◌+◌, OnOk, IfOk, length};
-ghost use Rattle.xag_core.specs.Xag.{IsGrown, HasSinks, IsLiteralBelow};
+ghost use Rattle.xag_core.specs.Xag.{IsGrownXag, HasSinks, IsLiteralBelow};
 
 use crate::xag::{Xag, XagGate};
 use rows::{at, put};
@@ -20,13 +20,13 @@ pub struct Builder {
 
 impl Model for Builder {
     ghost use Rattle.xag_core.specs.Xag as xag;
-    ghost use Rattle.xag_core.specs.Xag.{IsGrown};
+    ghost use Rattle.xag_core.specs.Xag.{IsGrownXag};
 
-    ghost Value = { xag.Grown };
+    ghost Value = { xag.GrownXag };
 
     ghost view = { λ b. record { sources = b.sources; gates = b.gates.items } };
 
-    ghost invariant = { λ b. IsGrown (record { sources = b.sources; gates = b.gates.items }) };
+    ghost invariant = { λ b. IsGrownXag (record { sources = b.sources; gates = b.gates.items }) };
 }
 
 /// The size of the hash table: the least power of two from 16 on that is greater than twice `gates`, at most
@@ -45,8 +45,8 @@ fn table_size(gates: usize) -> usize {
 /// A hash of a gate: multiplicative hashing by 2^64 divided by the golden ratio.
 fn hash_of(gate: XagGate) -> u32 {
     let pair = u64::from(gate.first).wrapping_shl(32) | u64::from(gate.second);
-    let turned = if gate.is_xor { !pair } else { pair };
-    let mixed = (turned ^ (turned >> 29)).wrapping_mul(0x9E37_79B9_7F4A_7C15);
+    let complemented = if gate.is_xor { !pair } else { pair };
+    let mixed = (complemented ^ (complemented >> 29)).wrapping_mul(0x9E37_79B9_7F4A_7C15);
     ((mixed >> 32) & 0xFFFF_FFFF) as u32
 }
 
@@ -150,16 +150,16 @@ impl Builder {
     fn xor(&mut self, first: u32, second: u32) -> Result<u32, AllocError>
         ensures { OnOk result (self.new.sources ≡ self.old.sources) }
     {
-        let turned = (first ^ second) & 1;
+        let complemented = (first ^ second) & 1;
         let low = (first | 1).min(second | 1) ^ 1;
         let high = (first | 1).max(second | 1) ^ 1;
         if low == high {
-            return Ok(turned);
+            return Ok(complemented);
         }
         if low == 0 {
-            return Ok(high ^ turned);
+            return Ok(high ^ complemented);
         }
-        Ok(self.hashed(low, high, true)? ^ turned)
+        Ok(self.hashed(low, high, true)? ^ complemented)
     }
 
     /// AND of two literals.

@@ -5,21 +5,21 @@ use crate::xag::{Xag, mark_sinks};
 use rows::{at, bit_at, put, raise};
 use std::alloc::{AllocError, Global};
 
-/// The most gates of an MFFC whose operands `cone_of` visits.
-const LARGEST_CONE: usize = 200;
+/// The most gates of an MFFC whose operands `mffc_of` visits.
+const LARGEST_MFFC: usize = 200;
 
 /// The fanouts of all nodes in one row, those of a node from its start to the start of the next; the
 /// reference counts; and whether a sink reads each node.
 #[derive(Drop)]
 pub struct Context {
     starts: Vec<u32>,
-    readers: Vec<u32>,
+    fanouts: Vec<u32>,
     references: Vec<u32>,
     feeds_sink: Vec<bool>,
 }
 
 /// The number of fanouts of each node, at the entry of the next node.
-fn reader_counts(alloc: Global, xag: &Xag) -> Result<Vec<u32>, AllocError> {
+fn fanout_counts(alloc: Global, xag: &Xag) -> Result<Vec<u32>, AllocError> {
     let mut counts = vec![in alloc; 0u32; xag.nodes() as usize + 2]?;
     for gate in xag.gates() {
         raise(&mut counts, (gate.first >> 1) + 1);
@@ -40,30 +40,34 @@ fn add_up(row: &mut [u32]) {
 }
 
 /// Writes a fanout of `node` at its next free entry.
-fn note_reader(next: &mut [u32], readers: &mut [u32], node: u32, reader: u32) {
-    put(readers, at(next, node), reader);
+fn note_fanout(next: &mut [u32], fanouts: &mut [u32], node: u32, fanout: u32) {
+    put(fanouts, at(next, node), fanout);
     raise(next, node);
 }
 
 /// The fanouts of all nodes, in one row.
-fn reader_row(alloc: Global, xag: &Xag, starts: &[u32]) -> Result<Vec<u32>, AllocError> {
+fn fanout_row(alloc: Global, xag: &Xag, starts: &[u32]) -> Result<Vec<u32>, AllocError> {
     let mut next = Vec::from_slice(alloc, starts)?;
-    let mut readers = vec![in alloc; 0u32; xag.gates().len() * 2]?;
-    let mut reader = xag.sources() + 1;
+    let mut fanouts = vec![in alloc; 0u32; xag.gates().len() * 2]?;
+    let mut fanout = xag.sources() + 1;
     for gate in xag.gates() {
-        note_reader(&mut next, &mut readers, gate.first >> 1, reader);
+        note_fanout(&mut next, &mut fanouts, gate.first >> 1, fanout);
         if gate.first >> 1 != gate.second >> 1 {
-            note_reader(&mut next, &mut readers, gate.second >> 1, reader);
+            note_fanout(&mut next, &mut fanouts, gate.second >> 1, fanout);
         }
-        reader = reader.saturating_add(1);
+        fanout = fanout.saturating_add(1);
     }
-    Ok(readers)
+    Ok(fanouts)
 }
 
 /// The reference count of each node: its fanouts, whose number is at the entry of the next node, and the
 /// sinks that read it.
-fn reference_counts(alloc: Global, xag: &Xag, fanouts: &[u32]) -> Result<Vec<u32>, AllocError> {
-    let mut references = Vec::from_slice(alloc, fanouts.get(1..).unwrap_or(&[]))?;
+fn reference_counts(
+    alloc: Global,
+    xag: &Xag,
+    fanout_numbers: &[u32],
+) -> Result<Vec<u32>, AllocError> {
+    let mut references = Vec::from_slice(alloc, fanout_numbers.get(1..).unwrap_or(&[]))?;
     for sink in xag.sinks() {
         raise(&mut references, sink >> 1);
     }
@@ -73,25 +77,25 @@ fn reference_counts(alloc: Global, xag: &Xag, fanouts: &[u32]) -> Result<Vec<u32
 impl Context {
     /// The context of a graph.
     pub fn new(alloc: Global, xag: &Xag) -> Result<Context, AllocError> {
-        let mut starts = reader_counts(alloc, xag)?;
+        let mut starts = fanout_counts(alloc, xag)?;
         let references = reference_counts(alloc, xag, &starts)?;
         add_up(&mut starts);
-        let readers = reader_row(alloc, xag, &starts)?;
+        let fanouts = fanout_row(alloc, xag, &starts)?;
         let mut feeds_sink = vec![in alloc; false; xag.nodes() as usize]?;
         mark_sinks(xag, &mut feeds_sink);
         Ok(Context {
             starts,
-            readers,
+            fanouts,
             references,
             feeds_sink,
         })
     }
 
     /// The fanouts of a node, ascending.
-    pub fn readers(&self, node: u32) -> &[u32] {
+    pub fn fanouts(&self, node: u32) -> &[u32] {
         let first = at(&self.starts, node) as usize;
         let end = at(&self.starts, node.saturating_add(1)) as usize;
-        self.readers.get(first..end).unwrap_or(&[])
+        self.fanouts.get(first..end).unwrap_or(&[])
     }
 
     /// The reference count of a node: how many gates and sinks read it.
@@ -112,34 +116,34 @@ impl Context {
     }
 
     /// Takes one reference from an operand; a gate without references left joins the MFFC.
-    fn release(&mut self, xag: &Xag, literal: u32, cone: &mut Vec<u32>) -> Result<(), AllocError> {
+    fn release(&mut self, xag: &Xag, literal: u32, mffc: &mut Vec<u32>) -> Result<(), AllocError> {
         let node = literal >> 1;
         if !xag.is_gate(node) {
             return Ok(());
         }
         if self.lower(node) == 0 {
-            cone.push(node)?;
+            mffc.push(node)?;
         }
         Ok(())
     }
 
     /// Grows an MFFC by the operands that nothing else reads, and returns how many of its gates released
     /// their operands.
-    fn grow_cone(&mut self, xag: &Xag, cone: &mut Vec<u32>) -> Result<usize, AllocError> {
-        for index in 0..LARGEST_CONE {
-            let Some(member) = cone.get(index) else {
+    fn grow_mffc(&mut self, xag: &Xag, mffc: &mut Vec<u32>) -> Result<usize, AllocError> {
+        for index in 0..LARGEST_MFFC {
+            let Some(member) = mffc.get(index) else {
                 return Ok(index);
             };
             let gate = xag.gate(*member);
-            self.release(xag, gate.first, cone)?;
-            self.release(xag, gate.second, cone)?;
+            self.release(xag, gate.first, mffc)?;
+            self.release(xag, gate.second, mffc)?;
         }
-        Ok(LARGEST_CONE)
+        Ok(LARGEST_MFFC)
     }
 
     /// Undoes the release: the first `count` gates of the MFFC reference their operands again.
-    fn take_back(&mut self, xag: &Xag, cone: &[u32], count: usize) {
-        for member in cone.iter().take(count) {
+    fn take_back(&mut self, xag: &Xag, mffc: &[u32], count: usize) {
+        for member in mffc.iter().take(count) {
             let gate = xag.gate(*member);
             raise(&mut self.references, gate.first >> 1);
             raise(&mut self.references, gate.second >> 1);
@@ -148,17 +152,17 @@ impl Context {
 
     /// Lists the maximum fanout-free cone of a gate, the gate first: the gates that would dangle without it.
     /// Of a large one only some 200 gates are listed.
-    pub fn cone_of(&mut self, xag: &Xag, node: u32, cone: &mut Vec<u32>) -> Result<(), AllocError> {
-        cone.clear();
-        cone.push(node)?;
-        let count = self.grow_cone(xag, cone)?;
-        self.take_back(xag, cone, count);
+    pub fn mffc_of(&mut self, xag: &Xag, node: u32, mffc: &mut Vec<u32>) -> Result<(), AllocError> {
+        mffc.clear();
+        mffc.push(node)?;
+        let count = self.grow_mffc(xag, mffc)?;
+        self.take_back(xag, mffc, count);
         Ok(())
     }
 
     /// The listed MFFC of a gate is about to be removed: its operands lose a reference for each gate.
-    pub fn give_up(&mut self, xag: &Xag, cone: &[u32]) {
-        for member in cone.iter().take(LARGEST_CONE) {
+    pub fn release_mffc(&mut self, xag: &Xag, mffc: &[u32]) {
+        for member in mffc.iter().take(LARGEST_MFFC) {
             let gate = xag.gate(*member);
             self.lower(gate.first >> 1);
             self.lower(gate.second >> 1);
@@ -166,12 +170,12 @@ impl Context {
     }
 
     /// Adds a reference: a new gate reads the node.
-    pub fn hold(&mut self, node: u32) {
+    pub fn add_reference(&mut self, node: u32) {
         raise(&mut self.references, node);
     }
 
     /// Excludes the node from all MFFCs listed later.
-    pub fn pin(&mut self, node: u32) {
+    pub fn exclude(&mut self, node: u32) {
         put(&mut self.references, node, u32::MAX);
     }
 }

@@ -17,20 +17,20 @@
 
 mod builder;
 mod context;
-mod edit;
 mod net_builder;
 mod net_in;
 mod net_out;
-mod walk;
+mod substitution;
+mod traversal;
 mod words;
 mod xag;
 
 pub use builder::Builder;
 pub use context::Context;
-pub use edit::{Edit, NONE};
 pub use net_builder::NetBuilder;
 pub use net_in::from_net;
 pub use net_out::{into_net, operator};
-pub use walk::rebuild;
+pub use substitution::{NONE, Substitution};
+pub use traversal::rebuild;
 pub use words::{complement_mask, put_word, word_at};
 pub use xag::{Xag, XagGate};

@@ -31,9 +31,9 @@ fn below(end: u64, sig: Sig) -> Sig
     ensures { IsSigBelow end result }
 {
     match sig {
-        Sig::Place(place) => {
-            if place >= 1 && u64::from(place) < end {
-                Sig::Place(place)
+        Sig::Node(net_node) => {
+            if net_node >= 1 && u64::from(net_node) < end {
+                Sig::Node(net_node)
             } else {
                 Sig::Zero
             }
@@ -69,8 +69,8 @@ impl NetBuilder {
         if end >= 0x8000_0000 {
             return Err(AllocError);
         }
-        let a = below(end, Sig::Place(first));
-        let b = below(end, Sig::Place(second));
+        let a = below(end, Sig::Node(first));
+        let b = below(end, Sig::Node(second));
         self.gates.push(Gate { op, a, b })?;
         Ok(end as u32)
     }

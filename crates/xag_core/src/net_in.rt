@@ -1,17 +1,17 @@
 //! A net as a graph: each operator becomes AND or XOR with complements, or no gate at all.
 ghost use Rattle.std.specs.Prelude.{◌≡◌, OnOk, IfOk, length};
 
-use crate::{Builder, Edit, Xag, rebuild};
+use crate::{Builder, Substitution, Xag, rebuild};
 use net_core::{Net, Op, Sig};
 use rows::at;
 use std::alloc::{AllocError, Global};
 
 /// The literal of a signal, by the literals of the nodes.
-fn literal_of(places: &[u32], sig: Sig) -> u32 {
+fn literal_of(nodes: &[u32], sig: Sig) -> u32 {
     match sig {
         Sig::Zero => 0,
         Sig::One => 1,
-        Sig::Place(place) => at(places, place),
+        Sig::Node(net_node) => at(nodes, net_node),
     }
 }
 
@@ -45,30 +45,30 @@ fn joined(builder: &mut Builder, op: Op, a: u32, b: u32) -> Result<u32, AllocErr
 }
 
 /// The literals of the nodes.
-fn place_literals(alloc: Global, net: &Net, builder: &mut Builder) -> Result<Vec<u32>, AllocError>
+fn node_literals(alloc: Global, net: &Net, builder: &mut Builder) -> Result<Vec<u32>, AllocError>
     ensures { OnOk result (builder.new.sources ≡ builder.old.sources) }
 {
     let count = net.sources() as usize + 1 + net.gates().len();
-    let mut places = Vec::with_capacity(alloc, count)?;
+    let mut nodes = Vec::with_capacity(alloc, count)?;
     for source in 0..=net.sources() {
-        places.push(source.wrapping_mul(2))?;
+        nodes.push(source.wrapping_mul(2))?;
     }
     for gate in net.gates() {
-        let first = literal_of(&places, gate.a);
-        let second = literal_of(&places, gate.b);
+        let first = literal_of(&nodes, gate.a);
+        let second = literal_of(&nodes, gate.b);
         let literal = joined(builder, gate.op, first, second)?;
-        places.push(literal)?;
+        nodes.push(literal)?;
     }
-    Ok(places)
+    Ok(nodes)
 }
 
 /// The literals of the sinks.
-fn sink_literals(alloc: Global, places: &[u32], sinks: &[Sig]) -> Result<Vec<u32>, AllocError>
+fn sink_literals(alloc: Global, nodes: &[u32], sinks: &[Sig]) -> Result<Vec<u32>, AllocError>
     ensures { IfOk result (λ literals. length literals.items ≡ length sinks.now) }
 {
     let mut literals = Vec::with_capacity(alloc, sinks.len())?;
     for sink in sinks {
-        literals.push(literal_of(places, *sink))?;
+        literals.push(literal_of(nodes, *sink))?;
     }
     Ok(literals)
 }
@@ -79,8 +79,8 @@ fn whole_graph(alloc: Global, net: &Net) -> Result<Xag, AllocError>
     ensures sinks { IfOk result (λ xag. length xag.sinks ≡ length net.now.sinks) }
 {
     let mut builder = Builder::new(alloc, net.sources(), net.gates().len())?;
-    let places = place_literals(alloc, net, &mut builder)?;
-    let sinks = sink_literals(alloc, &places, net.sinks())?;
+    let nodes = node_literals(alloc, net, &mut builder)?;
+    let sinks = sink_literals(alloc, &nodes, net.sinks())?;
     builder.finish(alloc, &sinks)
 }
 
@@ -92,7 +92,7 @@ pub fn from_net(alloc: Global, net: &Net, keeps_order: bool) -> Result<Xag, Allo
     ensures sinks { IfOk result (λ xag. length xag.sinks ≡ length net.now.sinks) }
 {
     let whole = whole_graph(alloc, net)?.with_order(keeps_order);
-    let unchanged = Edit::new(alloc, &whole);
+    let unchanged = Substitution::new(alloc, &whole);
     match rebuild(alloc, &whole, &unchanged)? {
         Some(live) => Ok(live),
         None => Ok(whole),

@@ -3,30 +3,30 @@
 ghost use Rattle.std.specs.Prelude.{◌≡◌, OnOk, IfOk, length};
 
 use crate::net_builder::NetBuilder;
-use crate::{Edit, Xag, XagGate, rebuild};
+use crate::{Substitution, Xag, XagGate, rebuild};
 use net_core::{Net, Op, Sig};
 use rows::{at, bit_at, put};
 use std::alloc::{AllocError, Global};
 
 /// Which nodes become complemented: the gates that some sinks read, all of them complemented.
-fn turned_nodes(alloc: Global, xag: &Xag) -> Result<Vec<bool>, AllocError> {
-    let mut turned = vec![in alloc; false; xag.nodes() as usize]?;
+fn complemented_nodes(alloc: Global, xag: &Xag) -> Result<Vec<bool>, AllocError> {
+    let mut complemented = vec![in alloc; false; xag.nodes() as usize]?;
     for sink in xag.sinks() {
         if xag.is_gate(sink >> 1) && sink & 1 == 1 {
-            put(&mut turned, sink >> 1, true);
+            put(&mut complemented, sink >> 1, true);
         }
     }
     for sink in xag.sinks() {
         if sink & 1 == 0 {
-            put(&mut turned, sink >> 1, false);
+            put(&mut complemented, sink >> 1, false);
         }
     }
-    Ok(turned)
+    Ok(complemented)
 }
 
 /// Whether a literal is the complement of the net's signal for its node.
-fn is_turned(turned: &[bool], literal: u32) -> bool {
-    bit_at(turned, literal >> 1) != (literal & 1 == 1)
+fn is_complemented(complemented: &[bool], literal: u32) -> bool {
+    bit_at(complemented, literal >> 1) != (literal & 1 == 1)
 }
 
 /// The operator of a gate, by which operands it reads complemented and whether its own value is complemented
@@ -45,16 +45,16 @@ pub fn operator(gate: XagGate, first: bool, second: bool, all: bool) -> Op {
 }
 
 /// Appends the gates, each with the number of its node.
-fn append_gates(net: &mut NetBuilder, xag: &Xag, turned: &[bool]) -> Result<(), AllocError>
+fn append_gates(net: &mut NetBuilder, xag: &Xag, complemented: &[bool]) -> Result<(), AllocError>
     ensures { OnOk result (net.new.sources ≡ net.old.sources) }
 {
     let mut node = xag.sources().wrapping_add(1);
     for gate in xag.gates() {
         let op = operator(
             *gate,
-            is_turned(turned, gate.first),
-            is_turned(turned, gate.second),
-            bit_at(turned, node),
+            is_complemented(complemented, gate.first),
+            is_complemented(complemented, gate.second),
+            bit_at(complemented, node),
         );
         net.append(op, gate.first >> 1, gate.second >> 1)?;
         node = node.wrapping_add(1);
@@ -65,7 +65,7 @@ fn append_gates(net: &mut NetBuilder, xag: &Xag, turned: &[bool]) -> Result<(), 
 /// The signal of a sink. `opposites` has the nodes of the NOT gates made so far, 0 for none.
 fn sink_signal(
     net: &mut NetBuilder,
-    turned: &[bool],
+    complemented: &[bool],
     opposites: &mut [u32],
     literal: u32,
 ) -> Result<Sig, AllocError>
@@ -75,16 +75,16 @@ fn sink_signal(
     if node == 0 {
         return Ok(if literal == 0 { Sig::Zero } else { Sig::One });
     }
-    if !is_turned(turned, literal) {
-        return Ok(Sig::Place(node));
+    if !is_complemented(complemented, literal) {
+        return Ok(Sig::Node(node));
     }
     let known = at(opposites, node);
     if known != 0 {
-        return Ok(Sig::Place(known));
+        return Ok(Sig::Node(known));
     }
     let opposite = net.append(Op::new(12), node, node)?;
     put(opposites, node, opposite);
-    Ok(Sig::Place(opposite))
+    Ok(Sig::Node(opposite))
 }
 
 /// The signals of the sinks.
@@ -92,7 +92,7 @@ fn sink_signals(
     alloc: Global,
     net: &mut NetBuilder,
     xag: &Xag,
-    turned: &[bool],
+    complemented: &[bool],
 ) -> Result<Vec<Sig>, AllocError>
     ensures sources { OnOk result (net.new.sources ≡ net.old.sources) }
     ensures count { IfOk result (λ sinks. length sinks.items ≡ length xag.now.sinks) }
@@ -100,7 +100,7 @@ fn sink_signals(
     let mut opposites = vec![in alloc; 0u32; xag.nodes() as usize]?;
     let mut signals = Vec::with_capacity(alloc, xag.sinks().len())?;
     for sink in xag.sinks() {
-        let signal = sink_signal(net, turned, &mut opposites, *sink)?;
+        let signal = sink_signal(net, complemented, &mut opposites, *sink)?;
         signals.push(signal)?;
     }
     Ok(signals)
@@ -111,10 +111,10 @@ fn whole_net(alloc: Global, xag: &Xag) -> Result<Net, AllocError>
     ensures sources { IfOk result (λ net. net.sources ≡ xag.now.sources) }
     ensures sinks { IfOk result (λ net. length net.sinks ≡ length xag.now.sinks) }
 {
-    let turned = turned_nodes(alloc, xag)?;
+    let complemented = complemented_nodes(alloc, xag)?;
     let mut net = NetBuilder::new(alloc, xag.sources())?;
-    append_gates(&mut net, xag, &turned)?;
-    let signals = sink_signals(alloc, &mut net, xag, &turned)?;
+    append_gates(&mut net, xag, &complemented)?;
+    let signals = sink_signals(alloc, &mut net, xag, &complemented)?;
     net.finish(alloc, &signals)
 }
 
@@ -124,7 +124,7 @@ pub fn into_net(alloc: Global, xag: &Xag) -> Result<Net, AllocError>
     ensures sources { IfOk result (λ net. net.sources ≡ xag.now.sources) }
     ensures sinks { IfOk result (λ net. length net.sinks ≡ length xag.now.sinks) }
 {
-    let unchanged = Edit::new(alloc, xag);
+    let unchanged = Substitution::new(alloc, xag);
     match rebuild(alloc, xag, &unchanged)? {
         Some(live) => whole_net(alloc, &live),
         None => whole_net(alloc, xag),

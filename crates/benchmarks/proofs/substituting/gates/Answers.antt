@@ -10,6 +10,12 @@ loop-index-preserved c =
     let old = c.loop-index.gates in
     let size : vec_len old ≡ length old.items = old.ok.0 in
     record {
-      gates = push_gate c.args.sources c.loop-index.index old.items c.push.new.self.items _ c.loop-index.invariant.gates (sym size ∙ c.loop-index.invariant.count) c.in_ok-push.ensures.items (record { operator = omega (arith, c.new.ensures); first = c.place_below.ensures; second = c.place_below-in-loop-index.ensures });
+      gates = push_gate c.args.sources c.loop-index.index old.items c.push.new.self.items _
+          c.loop-index.invariant.gates (sym size ∙ c.loop-index.invariant.count) c.in_ok-push.ensures.items
+          (record {
+            operator = omega (arith, c.new.ensures);
+            first = c.node_below.ensures;
+            second = c.node_below-in-loop-index.ensures;
+          });
       count = omega (arith, c.in_ok-push.ensures.len, c.loop-index.invariant.count);
     }

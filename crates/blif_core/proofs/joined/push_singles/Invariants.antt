@@ -5,5 +5,5 @@ use Rattle.blif_core.specs.Spelling.{row_text}
 use Rattle.blif_core.proofs.JoinedRows.{lines_left}
 use Rattle.blif_core.proofs.joined.push_singles.Given as goal
 
-abbrev pub invariant-loop-place : goal.invariant-loop-place
-invariant-loop-place l = l.text.items ++ lines_left (row_text l.on) l.width l.place ≡ l.initial.text.items ++ flat_map (row_text l.on) (single_ones l.width)
+abbrev pub invariant-loop-index : goal.invariant-loop-index
+invariant-loop-index l = l.text.items ++ lines_left (row_text l.on) l.width l.index ≡ l.initial.text.items ++ flat_map (row_text l.on) (single_ones l.width)

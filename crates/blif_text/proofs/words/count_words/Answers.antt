@@ -13,7 +13,8 @@ none_left count left all none was = omega arith
 
 pub loop-rest-preserved : goal.loop-rest-preserved
 loop-rest-preserved c = record {
-  count = one_more c.loop-rest.count (length (words_of c.loop-rest.left.now)) (length (words_of c.in-Some.rest.now)) (length (words_of c.args.text.now)) (ap (length {A = List ℕ}) c.in-Some.ensures.words) c.loop-rest.invariant.count;
+  count = one_more c.loop-rest.count (length (words_of c.loop-rest.left.now)) (length (words_of c.in-Some.rest.now))
+      (length (words_of c.args.text.now)) (ap (length {A = List ℕ}) c.in-Some.ensures.words) c.loop-rest.invariant.count;
   within = still_within c.loop-rest.count (length c.loop-rest.left.now) (length c.in-Some.rest.now) (length c.args.text.now) c.in-Some.ensures.shorter c.loop-rest.invariant.within;
 }
 

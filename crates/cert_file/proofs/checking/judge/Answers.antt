@@ -1,6 +1,6 @@
 -- The fault of the text is that of the piece.
 use Rattle.std.proofs.Common.{[]}
-use Rattle.cert_file.proofs.Standing.{gives_refused}
+use Rattle.cert_file.proofs.StageAnswers.{gives_refused}
 use Rattle.cert_file.proofs.checking.judge.Goals as goal
 
 pub returns-in_err-reader : goal.returns-in_err-reader

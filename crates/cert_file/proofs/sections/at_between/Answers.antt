@@ -2,5 +2,5 @@
 use Rattle.std.proofs.Common.{◌+◌}
 use Rattle.cert_file.proofs.sections.at_between.Goals as goal
 
-pub returns-clause-tells : goal.returns-clause-tells
-returns-clause-tells c = λ ls all place asked. c.due.ensures.tells (c.args.line.now.number + 1) ls all asked
+pub returns-clause-keeps_claim : goal.returns-clause-keeps_claim
+returns-clause-keeps_claim c = λ ls all place kept. c.due.ensures.keeps_claim (c.args.line.now.number + 1) ls all kept

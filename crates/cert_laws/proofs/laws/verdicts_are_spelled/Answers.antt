@@ -1,5 +1,5 @@
-use Rattle.cert_laws.specs.BundleSpellings.{verdict_spelled}
-use Rattle.cert_laws.specs.BundlesAgain.{text_again}
+use Rattle.cert_laws.specs.CertificateSpellings.{verdict_spelled}
+use Rattle.cert_laws.specs.CertificatesAgain.{text_again}
 use Rattle.cert_laws.proofs.laws.verdicts_are_spelled.Goals as goal
 
 pub returns-clause-only : goal.returns-clause-only

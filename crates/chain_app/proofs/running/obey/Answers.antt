@@ -25,4 +25,4 @@ pub returns-in-Equiv : goal.returns-in-Equiv
 returns-in-Equiv g c = obeyed c.args.command (Equiv c.in-Equiv.budget) _ c.in-Equiv.is c.perform-in-Equiv.ensures.run
 
 pub returns-in-Gen : goal.returns-in-Gen
-returns-in-Gen g c = obeyed c.args.command (Gen c.in-Gen.blocks c.in-Gen.deed) _ c.in-Gen.is c.perform-in-Gen.ensures.run
+returns-in-Gen g c = obeyed c.args.command (Gen c.in-Gen.blocks c.in-Gen.action) _ c.in-Gen.is c.perform-in-Gen.ensures.run

@@ -1,6 +1,6 @@
 use Rattle.std.proofs.Common.{refl}
 use Rattle.command_line.specs.CommandLine.{spelled}
-use Rattle.frame_core.specs.Told.{usage}
+use Rattle.frame_core.specs.Reported.{usage}
 use Rattle.frame_core.specs.Views.{line_value}
 use Rattle.frame_core.specs.PerformingLaws.{named_as}
 use Rattle.chain_app.specs.Ending.{Idle, Ran}
@@ -17,7 +17,7 @@ returns-in_default g c =
       status_is = refl;
       on_source = refl;
       on_out = refl;
-      on_note = named_as _ _ (line_value c.plain.result) usage c.plain.ensures c.tell_error.ensures.line;
+      on_note = named_as _ _ (line_value c.plain.result) usage c.plain.ensures c.report_error.ensures.line;
     })
 
 -- a command

@@ -13,5 +13,6 @@ loop-step-preserved c =
     record {
       steps = other_steps _ _ _ (rw split at c.loop-step.invariant.steps);
       room = omega (arith, ap length split);
-      values = values_after-set c.loop-step.values c.loop-step.last (step_of c.in-Some.step.now) (steps_of c.in-Some.rest.now) c.apply.result inside c.apply.ensures ∙ rw split at c.loop-step.invariant.values;
+      values = values_after-set c.loop-step.values c.loop-step.last (step_of c.in-Some.step.now)
+          (steps_of c.in-Some.rest.now) c.apply.result inside c.apply.ensures ∙ rw split at c.loop-step.invariant.values;
     }

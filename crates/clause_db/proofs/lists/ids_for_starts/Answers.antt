@@ -4,4 +4,10 @@ use Rattle.clause_db.proofs.Entries.{mapped_all}
 use Rattle.clause_db.proofs.lists.ids_for_starts.Goals as goal
 
 pub returns : goal.returns
-returns c = mapped_all (named c.args.blocks.now.starts) c.args.entries.now c.loop-index.entries c.loop-index.index c.loop-index.invariant (omega (arith, c.loop-index-test.false, c.loop-index.auto.entries, c.loop-index.invariant.long))
+returns c = mapped_all (named c.args.arena.now.starts) c.args.entries.now c.loop-index.entries c.loop-index.index
+    c.loop-index.invariant (omega (
+      arith,
+      c.loop-index-test.false,
+      c.loop-index.auto.entries,
+      c.loop-index.invariant.long,
+    ))

@@ -4,4 +4,10 @@ use Rattle.clause_db.proofs.Entries.{mapped_all}
 use Rattle.clause_db.proofs.watches.all_ids_for_starts.Goals as goal
 
 pub returns : goal.returns
-returns c = mapped_all (map (named c.args.blocks.now.starts)) c.args.lists.now c.loop-index.lists c.loop-index.index c.loop-index.invariant (omega (arith, c.loop-index-test.false, c.loop-index.auto.lists, c.loop-index.invariant.long))
+returns c = mapped_all (map (named c.args.arena.now.starts)) c.args.lists.now c.loop-index.lists c.loop-index.index
+    c.loop-index.invariant (omega (
+      arith,
+      c.loop-index-test.false,
+      c.loop-index.auto.lists,
+      c.loop-index.invariant.long,
+    ))

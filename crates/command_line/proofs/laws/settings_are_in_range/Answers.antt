@@ -15,4 +15,4 @@ pub returns-clause-equiv : goal.returns-clause-equiv
 returns-clause-equiv c words budget = command_range words (Equiv budget)
 
 pub returns-clause-blocks : goal.returns-clause-blocks
-returns-clause-blocks c words blocks deed = command_range words (Gen blocks deed)
+returns-clause-blocks c words blocks action = command_range words (Gen blocks action)

@@ -8,9 +8,9 @@ use Rattle.decide_core.proofs.deciding.search_from.Goals as goal
 
 pub loop-size-preserved : goal.loop-size-preserved
 loop-size-preserved g c =
-    let h = c.args.question.heading.now in
+    let h = c.args.question.header.now in
     let sized = subst (λ (outcome : SizeOutcome). IsSized h c.loop-size.size outcome) c.in-Logged.is c.in_ok-chain.ensures in
-    let few : c.loop-size.size ≤ c.args.question.heading.now.max = omega (arith, c.loop-size-test.true) in
+    let few : c.loop-size.size ≤ c.args.question.header.now.max = omega (arith, c.loop-size-test.true) in
     size_refuted h c.loop-size.size c.in-Logged.section c.args.question.checked few sized.0 (sym c.is_open.ensures ∙ c.if-is_open.false) c.loop-size.invariant
 
 pub returns : goal.returns

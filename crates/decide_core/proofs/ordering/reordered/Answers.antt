@@ -2,16 +2,16 @@
 use Rattle.std.proofs.Common.{◌≡◌, sym, subst}
 use Rattle.std.proofs.lemmas.Result.{IfOk-weaker}
 use Rattle.chain_theory.specs.Chain.{Chain}
-use Rattle.cert_theory.specs.declared.data.Heading.{Heading}
-use Rattle.spec_cache.specs.OrderLaws.{turned_chain}
+use Rattle.cert_theory.specs.declared.data.Header.{Header}
+use Rattle.spec_cache.specs.OrderLaws.{permuted_chain}
 use Rattle.decide_core.specs.Decided.{IsShorter}
-use Rattle.decide_core.specs.Ordered.{IsTurnedTo}
-use Rattle.decide_core.specs.OrderedLaws.{shorter_turned}
+use Rattle.decide_core.specs.Ordered.{IsPermutedTo}
+use Rattle.decide_core.specs.OrderedLaws.{shorter_permuted}
 use Rattle.decide_core.proofs.ordering.reordered.Goals as goal
 
 pub returns : goal.returns
 returns c =
-    IfOk-weaker c.turned_chain.result (λ (turned : Chain). turned ≡ turned_chain c.args.order.now c.args.chain.now)
-    (λ (turned : Chain). (h k : Heading) → IsTurnedTo h k c.args.order.now → IsShorter h c.args.chain.now → IsShorter k turned)
-    (λ turned is h k t short. subst (IsShorter k) (sym is) (shorter_turned h k c.args.order.now c.args.chain.now t short))
-    c.turned_chain.ensures
+    IfOk-weaker c.permuted_chain.result (λ (permuted : Chain). permuted ≡ permuted_chain c.args.order.now c.args.chain.now)
+    (λ (permuted : Chain). (h k : Header) → IsPermutedTo h k c.args.order.now → IsShorter h c.args.chain.now → IsShorter k permuted)
+    (λ permuted is h k t short. subst (IsShorter k) (sym is) (shorter_permuted h k c.args.order.now c.args.chain.now t short))
+    c.permuted_chain.ensures

@@ -1,6 +1,6 @@
 -- The whole text is one piece.
 use Rattle.std.proofs.Common.{[]}
-use Rattle.depth_file.proofs.Standing.{gives_refused}
+use Rattle.depth_file.proofs.StageAnswers.{gives_refused}
 use Rattle.depth_file.proofs.checking.judge.Goals as goal
 
 pub returns-in_err-reader : goal.returns-in_err-reader

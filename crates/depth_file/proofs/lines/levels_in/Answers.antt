@@ -7,24 +7,24 @@ use Rattle.depth_theory.specs.declared.data.DepthVerdict.{DepthVerdict}
 use Rattle.depth_theory.specs.declared.data.DepthVerdict.TheVariants.{Levels, Bounded}
 use Rattle.cert_theory.specs.Judging.{numbered_in}
 use Rattle.depth_theory.specs.DepthJudging.{levels_in}
-use Rattle.cert_file.specs.declared.lines.Numbered.{Numbered}
-use Rattle.cert_file.specs.declared.lines.Numbered.TheVariants as numbers
+use Rattle.cert_file.specs.declared.lines.VerdictNumbers.{VerdictNumbers}
+use Rattle.cert_file.specs.declared.lines.VerdictNumbers.TheVariants as numbers
 use Rattle.cert_file.specs.NumberedLaws.{numbered_is}
 use Rattle.depth_file.proofs.lines.levels_in.Goals as goal
 
-as_verdict : Numbered → DepthVerdict
+as_verdict : VerdictNumbers → DepthVerdict
 as_verdict (numbers.One number) = Levels number
 as_verdict (numbers.Two low most) = Bounded low most
 
-spelled : Line → Option Numbered
+spelled : Line → Option VerdictNumbers
 spelled l = numbered_in (λ number. numbers.One number) (λ low most. numbers.Two low most) (codes "levels ") (codes "levels-bounded ") l
 
-in_line : (l : Line) (o : Option Numbered) → o ≡ spelled l → option_map as_verdict o ≡ levels_in l
+in_line : (l : Line) (o : Option VerdictNumbers) → o ≡ spelled l → option_map as_verdict o ≡ levels_in l
 unfolding levels_in spelled as_verdict
 in_line l o is = numbered_is as_verdict (λ number. numbers.One number) (λ low most. numbers.Two low most) (codes "levels ") (codes "levels-bounded ") l o is
 
-some_in_line : (l : Line) (n m : Numbered) → n ≡ m → Some n ≡ spelled l → Some (as_verdict m) ≡ levels_in l
-some_in_line l n m same is = in_line l (Some m) (subst (λ (x : Numbered). Some x ≡ spelled l) same is)
+some_in_line : (l : Line) (n m : VerdictNumbers) → n ≡ m → Some n ≡ spelled l → Some (as_verdict m) ≡ levels_in l
+some_in_line l n m same is = in_line l (Some m) (subst (λ (x : VerdictNumbers). Some x ≡ spelled l) same is)
 
 pub returns-in_default : goal.returns-in_default
 unfolding spelled

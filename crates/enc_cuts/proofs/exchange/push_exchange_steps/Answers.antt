@@ -29,7 +29,10 @@ loop-step-preserved c =
     record {
       vars = vars ∙ c.loop-step.invariant.vars;
       clauses = exchanged p q before c.push_readers_without.new.raws.items old.clauses new.clauses _ left later step piece split more c.loop-step.invariant.clauses;
-      before = subst (λ (v : ℕ). All (IsWithin v) c.push_readers_without.new.raws.items) (sym vars) (All-same (IsWithin old.vars) c.push_readers_without.new.raws.items (before ++ readers_without p q step) more
-          (All-append (IsWithin old.vars) before (readers_without p q step) c.loop-step.invariant.before (without_within old.vars p q step (all_first (HaveVars old.vars) left later step split c.loop-step.invariant.slots))));
+      before = subst (λ (v : ℕ). All (IsWithin v) c.push_readers_without.new.raws.items) (sym vars)
+          (All-same (IsWithin old.vars) c.push_readers_without.new.raws.items (before ++ readers_without p q step) more
+          (All-append (IsWithin old.vars) before (readers_without p q step) c.loop-step.invariant.before
+          (without_within old.vars p q step (all_first
+          (HaveVars old.vars) left later step split c.loop-step.invariant.slots))));
       slots = subst (λ (v : ℕ). All (HaveVars v) later) (sym vars) (all_rest (HaveVars old.vars) left later step split c.loop-step.invariant.slots);
     }

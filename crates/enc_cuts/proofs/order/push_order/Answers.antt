@@ -16,6 +16,7 @@ loop-step-preserved c =
     let split = c.in-Some.ensures.cases.0 in
     record {
       vars = ap (λ (f : Formula). f.vars) is ∙ c.loop-step.invariant.vars;
-      clauses = walked order (order_with step later) old.clauses c.push_order_with.new.list.clauses _ left later step (ap (λ (f : Formula). f.clauses) is) split (order-step step later) c.loop-step.invariant.clauses;
+      clauses = walked order (order_with step later) old.clauses c.push_order_with.new.list.clauses _ left later step
+          (ap (λ (f : Formula). f.clauses) is) split (order-step step later) c.loop-step.invariant.clauses;
       slots = subst (λ (v : ℕ). All (HaveVars v) later) (sym (ap (λ (f : Formula). f.vars) is)) (all_rest (HaveVars old.vars) left later step split c.loop-step.invariant.slots);
     }

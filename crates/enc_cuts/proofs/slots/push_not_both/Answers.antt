@@ -1,4 +1,4 @@
-use Rattle.clause_core.specs.declared.raw.Raw.TheVariants.{Var}
+use Rattle.clause_core.specs.declared.raw.RawLit.TheVariants.{Var}
 use Rattle.clause_core.specs.Clauses.{IsWithin}
 use Rattle.clause_core.specs.WithinLaws.{within_var, two}
 use Rattle.enc_theory.specs.Cuts.{not_both}

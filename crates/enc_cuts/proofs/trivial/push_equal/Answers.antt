@@ -1,4 +1,4 @@
-use Rattle.clause_core.specs.declared.raw.Raw.TheVariants.{Var}
+use Rattle.clause_core.specs.declared.raw.RawLit.TheVariants.{Var}
 use Rattle.clause_core.specs.Clauses.{IsWithin}
 use Rattle.std.proofs.Common.{◌≡◌, append_assoc, ap}
 use Rattle.sat_theory.specs.Formula.{Formula}

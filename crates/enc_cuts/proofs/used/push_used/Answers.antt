@@ -16,6 +16,8 @@ loop-step-preserved c =
     let split = c.in-Some.ensures.cases.0 in
     record {
       vars = ap (λ (f : Formula). f.vars) is ∙ c.loop-step.invariant.vars;
-      clauses = walked (used c.args.z) (used_by c.args.z step later) old.clauses c.push_used_by.new.list.clauses _ left later step (ap (λ (f : Formula). f.clauses) is) split (used-step c.args.z step later) c.loop-step.invariant.clauses;
+      clauses = walked (used c.args.z) (used_by c.args.z step later) old.clauses c.push_used_by.new.list.clauses _ left
+          later step (ap (λ (f : Formula). f.clauses) is) split
+          (used-step c.args.z step later) c.loop-step.invariant.clauses;
       slots = subst (λ (v : ℕ). All (HasSlots c.args.z v) later) (sym (ap (λ (f : Formula). f.vars) is)) (all_rest (HasSlots c.args.z old.vars) left later step split c.loop-step.invariant.slots);
     }

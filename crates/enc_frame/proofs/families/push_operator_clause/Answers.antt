@@ -1,5 +1,5 @@
 use Rattle.std.proofs.Common.{sym}
-use Rattle.clause_core.specs.declared.raw.Raw.TheVariants.{Var}
+use Rattle.clause_core.specs.declared.raw.RawLit.TheVariants.{Var}
 use Rattle.clause_core.specs.Clauses.{IsWithin}
 use Rattle.enc_frame.specs.RoomLaws.{within_first}
 use Rattle.clause_core.specs.WithinLaws.{four}
@@ -20,4 +20,13 @@ pub returns : goal.returns
 unfolding operator_clause operator_raw
 returns c =
     rw (sym c.contains.ensures, c.if-contains.false)
-    (rw (c.f_var.ensures.value, c.f_var-2.ensures.value, c.f_var-3.ensures.value, c.f_var-4.ensures.value, c.apply.ensures, c.apply-2.ensures, c.apply-3.ensures, c.apply-4.ensures) at c.push.ensures.written)
+    (rw (
+      c.f_var.ensures.value,
+      c.f_var-2.ensures.value,
+      c.f_var-3.ensures.value,
+      c.f_var-4.ensures.value,
+      c.apply.ensures,
+      c.apply-2.ensures,
+      c.apply-3.ensures,
+      c.apply-4.ensures,
+    ) at c.push.ensures.written)

@@ -1,4 +1,4 @@
-use Rattle.clause_core.specs.declared.raw.Raw.TheVariants.{Var}
+use Rattle.clause_core.specs.declared.raw.RawLit.TheVariants.{Var}
 use Rattle.clause_core.specs.Clauses.{IsWithin}
 use Rattle.enc_frame.specs.RoomLaws.{within_first}
 use Rattle.clause_core.specs.WithinLaws.{two}

@@ -16,7 +16,17 @@ push-requires-3 c =
     let k = c.args.k in
     let room = c.requires.room in
     let place = c.requires.place in
-    let is : c.deref.result.now ≡ operator_raw z i c.args.op ++ not_these z i j k = rw (c.deref.ensures.value, c.in_ok-push-2.ensures.items, c.in_ok-push.ensures.items, c.in_ok-push_operator.ensures, c.new-raws.ensures.items, c.choice.ensures.value, c.choice-2.ensures.value, append_assoc) refl in
+    let is : c.deref.result.now ≡ operator_raw z i c.args.op ++ not_these z i j k =
+    rw (
+      c.deref.ensures.value,
+      c.in_ok-push-2.ensures.items,
+      c.in_ok-push.ensures.items,
+      c.in_ok-push_operator.ensures,
+      c.new-raws.ensures.items,
+      c.choice.ensures.value,
+      c.choice-2.ensures.value,
+      append_assoc,
+    ) refl in
     All-same (IsWithin vars) c.deref.result.now (operator_raw z i c.args.op ++ not_these z i j k) is
     (All-append (IsWithin vars) (operator_raw z i c.args.op) (not_these z i j k)
     (operator_within z vars i c.args.op room.room place)

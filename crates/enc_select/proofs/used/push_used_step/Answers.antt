@@ -4,9 +4,9 @@ use Rattle.std.proofs.lemmas.List.Elements.{All-same, All-append}
 use Rattle.std.specs.List.{flat_map}
 use Rattle.clause_core.specs.Clauses.{IsWithin}
 use Rattle.enc_theory.specs.Numbering.{outputs}
-use Rattle.enc_theory.specs.Cuts.{bears}
+use Rattle.enc_theory.specs.Cuts.{drives}
 use Rattle.enc_theory.specs.Select.{above, choosers}
-use Rattle.enc_cuts.specs.LiteralLaws.{bearers_within}
+use Rattle.enc_cuts.specs.LiteralLaws.{drivers_within}
 use Rattle.enc_select.proofs.Within.{choosers_within}
 use Rattle.enc_select.proofs.used.push_used_step.Goals as goal
 
@@ -16,8 +16,8 @@ push-requires c =
     let vars = c.args.list.now.vars in
     let i = c.args.i in
     let room = c.requires.room in
-    let is : c.deref.result.now ≡ map (bears z i) (outputs z) ++ flat_map (choosers z i) (above z i) = grind (arith, common_steps) in
-    All-same (IsWithin vars) c.deref.result.now (map (bears z i) (outputs z) ++ flat_map (choosers z i) (above z i)) is
-    (All-append (IsWithin vars) (map (bears z i) (outputs z)) (flat_map (choosers z i) (above z i))
-    (bearers_within z vars i room.room c.requires.place)
+    let is : c.deref.result.now ≡ map (drives z i) (outputs z) ++ flat_map (choosers z i) (above z i) = grind (arith, common_steps) in
+    All-same (IsWithin vars) c.deref.result.now (map (drives z i) (outputs z) ++ flat_map (choosers z i) (above z i)) is
+    (All-append (IsWithin vars) (map (drives z i) (outputs z)) (flat_map (choosers z i) (above z i))
+    (drivers_within z vars i room.room c.requires.place)
     (choosers_within z vars i room c.requires.place))

@@ -14,7 +14,14 @@ returns c =
     let none = rw (c.sources-sources.ensures.sources, c.gates.ensures.gates, c.gates-2.ensures.gates, c.sinks.ensures.sinks) at c.in_ok-list.ensures in
     let one = rw (c.gates-3.ensures.gates, c.sources-sources.ensures.sources, c.gates.ensures.gates) at c.in_ok-push_gates.ensures in
     let two = rw (c.gates-4.ensures.gates, c.sources-others.ensures.sources, c.gates.ensures.gates) at c.in_ok-push_gates-2.ensures in
-    let three = rw (c.sinks-2.ensures.sinks, c.sinks-3.ensures.sinks, c.sources-sources.ensures.sources, c.sources-others.ensures.sources, c.gates.ensures.gates, c.gates-2.ensures.gates) at c.in_ok-push_sinks.ensures in
+    let three = rw (
+      c.sinks-2.ensures.sinks,
+      c.sinks-3.ensures.sinks,
+      c.sources-sources.ensures.sources,
+      c.sources-others.ensures.sources,
+      c.gates.ensures.gates,
+      c.gates-2.ensures.gates,
+    ) at c.in_ok-push_sinks.ensures in
     let row = rw (c.sources-sources.ensures.sources, c.gates.ensures.gates, c.gates-2.ensures.gates, c.sinks.ensures.sinks) at (c.deref.ensures.value ∙ c.in_ok-row.ensures) in
     let four = rw row at (added_one _ _ _ c.in_ok-push.ensures.written) in
     miter_added c.args.first.now c.args.second.now _ _ _ _ _ none one two three four

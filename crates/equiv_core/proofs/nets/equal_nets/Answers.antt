@@ -1,4 +1,4 @@
-use Rattle.equiv_core.specs.AlikeLaws.{equal_values, difference_shown, none_undecided}
+use Rattle.equiv_core.specs.EquivalenceLaws.{equal_values, difference_shown, none_undecided}
 use Rattle.equiv_core.proofs.nets.equal_nets.Goals as goal
 
 pub returns-in-Equal-clause-same : goal.returns-in-Equal-clause-same

@@ -8,10 +8,10 @@ use Rattle.equiv_core.proofs.rows.push_gates.Given as goal
 abbrev pub invariant-loop-gate : goal.invariant-loop-gate
 invariant-loop-gate l = record {
   room : HasRoom l.numbering l.list.vars;
-  some : 1 ≤ l.place;
-  end : l.place + length l.left ≤ l.numbering.end;
-  stand : AreAt l.place l.left;
-  added : (c : Formula) → IsAdded l.list c (gates_rows (numbered l.numbering) l.place l.left) → IsAdded l.initial.list c (gates_rows (numbered l.numbering) l.first l.gates);
+  some : 1 ≤ l.node;
+  end : l.node + length l.left ≤ l.numbering.end;
+  stand : AreAt l.node l.left;
+  added : (c : Formula) → IsAdded l.list c (gates_rows (numbered l.numbering) l.node l.left) → IsAdded l.initial.list c (gates_rows (numbered l.numbering) l.first l.gates);
 }
 
 abbrev pub decreases-loop-gate : goal.decreases-loop-gate

@@ -13,7 +13,10 @@ invariant-loop-signal l = record {
   room : l.difference + length l.left ≤ l.list.vars + 1;
   signals : All (IsSigBelow l.numberings.0.end) l.left;
   others : All (IsSigBelow l.numberings.1.end) l.right;
-  added : (f : Formula) → IsAdded l.list f (sinks_rows (numbered l.numberings.0) (numbered l.numberings.1) l.difference l.left l.right) → IsAdded l.initial.list f (sinks_rows (numbered l.numberings.0) (numbered l.numberings.1) l.fn.first l.sinks l.others);
+  added : (f : Formula) → IsAdded l.list f (sinks_rows (numbered l.numberings.0)
+      (numbered l.numberings.1) l.difference l.left l.right) →
+      IsAdded l.initial.list f (sinks_rows (numbered l.numberings.0) (numbered l.numberings.1) l.fn.first l.sinks
+      l.others);
 }
 
 abbrev pub decreases-loop-signal : goal.decreases-loop-signal

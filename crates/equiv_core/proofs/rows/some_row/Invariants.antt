@@ -1,6 +1,6 @@
 use Rattle.std.proofs.Common.{◌≡◌, ◌-◌, map, true}
 use Rattle.std.specs.List.{range_with_len}
-use Rattle.clause_core.specs.declared.raw.Raw.TheVariants.{Var}
+use Rattle.clause_core.specs.declared.raw.RawLit.TheVariants.{Var}
 use Rattle.equiv_core.proofs.rows.some_row.Given as goal
 
 abbrev pub invariant-loop-variable : goal.invariant-loop-variable

@@ -6,6 +6,6 @@ use Rattle.equiv_core.proofs.values.signal_bits.Goals as goal
 
 pub loop-signal-preserved : goal.loop-signal-preserved
 loop-signal-preserved c = record {
-  below = all_rest (IsSigBelow (length c.args.places.now + 1)) c.loop-signal.left.now c.in-Some.rest.now c.in-Some.signal.now c.in-Some.ensures.cases.0 c.loop-signal.invariant.below;
-  done = one_more (bit_of c.args.places.now) _ _ _ _ _ _ _ c.in-Some.ensures.cases.0 c.in_ok-push.ensures.items c.signal_bit.ensures c.loop-signal.invariant.done;
+  below = all_rest (IsSigBelow (length c.args.nodes.now + 1)) c.loop-signal.left.now c.in-Some.rest.now c.in-Some.signal.now c.in-Some.ensures.cases.0 c.loop-signal.invariant.below;
+  done = one_more (bit_of c.args.nodes.now) _ _ _ _ _ _ _ c.in-Some.ensures.cases.0 c.in_ok-push.ensures.items c.signal_bit.ensures c.loop-signal.invariant.done;
 }

@@ -4,8 +4,8 @@ use Rattle.equiv_core.proofs.values.signal_bits.Given as goal
 
 abbrev pub invariant-loop-signal : goal.invariant-loop-signal
 invariant-loop-signal l = record {
-  below : All (IsSigBelow (length l.places + 1)) l.left;
-  done : l.bits.items ++ map (sig_value (bit_of l.places)) l.left ≡ map (sig_value (bit_of l.places)) l.signals;
+  below : All (IsSigBelow (length l.nodes + 1)) l.left;
+  done : l.bits.items ++ map (sig_value (bit_of l.nodes)) l.left ≡ map (sig_value (bit_of l.nodes)) l.signals;
 }
 
 abbrev pub decreases-loop-signal : goal.decreases-loop-signal

@@ -1,12 +1,12 @@
 use Rattle.std.proofs.Common.{◌≡◌, ◌-◌, length}
 use Rattle.text_core.specs.Lines.{lines_of}
 use Rattle.equiv_run.specs.Split.{split_from, split_of}
-use Rattle.equiv_run.specs.Walking.{IsWalked}
+use Rattle.equiv_run.specs.Scanning.{IsScanned}
 use Rattle.equiv_run.proofs.splitting.split.Given as goal
 
 abbrev pub invariant-loop-line : goal.invariant-loop-line
 invariant-loop-line l = record {
-  walked : IsWalked l.bytes l.left l.first;
+  scanned : IsScanned l.bytes l.left l.first;
   same : split_from (length l.bytes - length l.left) l.first (lines_of l.left) ≡ split_of l.bytes;
 }
 

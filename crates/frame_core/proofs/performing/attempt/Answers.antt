@@ -14,20 +14,20 @@ returns-in-Err-ReadFault g c =
 pub returns-in-Err-TooLong : goal.returns-in-Err-TooLong
 returns-in-Err-TooLong g c =
     let long : (input : List ℕ) → g.S.Source.left c.args.source.now ≡ Some input → IsBeyond (Some c.in-Some.most) input = search (rules, common_steps) in
-    let quiet : g.S.Source.faults c.read_pieces.new.source ≡ g.S.Source.faults c.args.source.now = search (rules, common_steps) in
-    long_read (g.J.StreamJob.task c.args.job.now) c.in-Some.most _ _ _ (sym c.in-Some.is ∙ c.reads.ensures) long quiet refl refl
+    let faultless : g.S.Source.faults c.read_pieces.new.source ≡ g.S.Source.faults c.args.source.now = search (rules, common_steps) in
+    long_read (g.J.StreamJob.task c.args.job.now) c.in-Some.most _ _ _ (sym c.in-Some.is ∙ c.reads.ensures) long faultless refl refl
 
 pub returns-in-Err-Memory : goal.returns-in-Err-Memory
 returns-in-Err-Memory g c =
-    let quiet : g.S.Source.faults c.read_pieces.new.source ≡ g.S.Source.faults c.args.source.now = search (rules, common_steps) in
-    want_read (g.J.StreamJob.task c.args.job.now) c.in-Some.most _ _ _ (sym c.in-Some.is ∙ c.reads.ensures) quiet refl refl
+    let faultless : g.S.Source.faults c.read_pieces.new.source ≡ g.S.Source.faults c.args.source.now = search (rules, common_steps) in
+    want_read (g.J.StreamJob.task c.args.job.now) c.in-Some.most _ _ _ (sym c.in-Some.is ∙ c.reads.ensures) faultless refl refl
 
 pub returns : goal.returns
 returns g c =
     let task = g.J.StreamJob.task c.args.job.now in
     let reads = sym c.in-Some.is ∙ c.reads.ensures in
     let taken = c.in-Ok.ensures.taken in
-    let quiet : g.S.Source.faults c.read_pieces.new.source ≡ g.S.Source.faults c.args.source.now = search (rules, common_steps) in
+    let faultless : g.S.Source.faults c.read_pieces.new.source ≡ g.S.Source.faults c.args.source.now = search (rules, common_steps) in
     performed task (Some c.in-Some.most) taken.bytes c.answer-2.result _ _ _ reads
-    (taken_whole c.in-Some.most _ _ _ taken) (record { end = taken_to_end c.in-Some.most _ _ _ taken; quiet = quiet })
+    (taken_whole c.in-Some.most _ _ _ taken) (record { end = taken_to_end c.in-Some.most _ _ _ taken; faultless = faultless })
     (c.answer-2.ensures taken.bytes taken.holds (subst (λ (r : Option ℕ). IsWithin r taken.bytes) reads taken.within))

@@ -8,7 +8,7 @@ abbrev pub invariant-loop-part : goal.invariant-loop-part
 invariant-loop-part g l = record {
   writing : IsWriting (g.N.Sink.written l.initial.note) (g.N.Sink.written l.note) (texts_of l.parts) (texts_of l.left);
   never_falls : g.N.Sink.faults l.initial.note ≤ g.N.Sink.faults l.note;
-  quiet : g.N.Sink.faults l.note ≡ g.N.Sink.faults l.initial.note;
+  faultless : g.N.Sink.faults l.note ≡ g.N.Sink.faults l.initial.note;
 }
 
 abbrev pub decreases-loop-part : goal.decreases-loop-part

@@ -25,13 +25,15 @@ loop-turn-init g c = record {
   turns = omega arith;
   counted = let none = c.begin-kept.ensures.count in omega (arith, none);
   never_falls = omega arith;
-  quiet = refl;
+  faultless = refl;
 }
 
 pub returns-in_err-piece-clause-too_long : goal.returns-in_err-piece-clause-too_long
-returns-in_err-piece-clause-too_long g c = λ input told of.
+returns-in_err-piece-clause-too_long g c = λ input reported of.
     let more = c.in_err-piece.ensures.too_long (ap Err (error_is c.from_residual.result c.in_err-piece.field-0.0 TooLong c.from_residual.ensures.1 of)) in
-    taking_long c.args.most c.loop-turn.room _ (g.S.Source.left c.loop-turn.source) (g.S.Source.left c.read_piece.new.source) more.taken input _ more.consumes more.beyond c.loop-turn.invariant.taking told
+    taking_long c.args.most c.loop-turn.room _ (g.S.Source.left c.loop-turn.source)
+    (g.S.Source.left c.read_piece.new.source) more.taken input _ more.consumes more.beyond
+    c.loop-turn.invariant.taking reported
 
 pub returns-then-is_empty-clause-taken : goal.returns-then-is_empty-clause-taken
 returns-then-is_empty-clause-taken g c =
@@ -54,5 +56,5 @@ loop-turn-preserved g c =
       turns = let before = c.loop-turn.invariant.turns in omega (arith, before, fits, more);
       counted = let before = c.loop-turn.invariant.counted in let next = c.in_ok-kept.ensures.count in omega (arith, before, next, fits);
       never_falls = let before = c.loop-turn.invariant.never_falls in let next = c.read_piece.ensures.never_falls in omega (arith, before, next);
-      quiet = c.in_ok-piece.ensures.quiet (λ of. cc) ∙ c.loop-turn.invariant.quiet;
+      faultless = c.in_ok-piece.ensures.faultless (λ of. cc) ∙ c.loop-turn.invariant.faultless;
     }

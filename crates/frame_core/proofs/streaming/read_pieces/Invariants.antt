@@ -11,5 +11,5 @@ invariant-loop-turn g l =
       turns : l._turn + l.room ≤ l.most;
       counted : g.J.StreamJob.count l.job l.kept + l.room ≤ l.most;
       never_falls : g.S.Source.faults l.initial.source ≤ g.S.Source.faults l.source;
-      quiet : g.S.Source.faults l.source ≡ g.S.Source.faults l.initial.source;
+      faultless : g.S.Source.faults l.source ≡ g.S.Source.faults l.initial.source;
     }

@@ -9,7 +9,7 @@ abbrev pub invariant-loop-byte : goal.invariant-loop-byte
 invariant-loop-byte g l = record {
   writing : IsWriting (g.O.Sink.written l.initial.out) (g.O.Sink.written l.out) (map line_of l.bytes) (map line_of l.left);
   never_falls : g.O.Sink.faults l.initial.out ≤ g.O.Sink.faults l.out;
-  quiet : g.O.Sink.faults l.out ≡ g.O.Sink.faults l.initial.out;
+  faultless : g.O.Sink.faults l.out ≡ g.O.Sink.faults l.initial.out;
 }
 
 abbrev pub decreases-loop-byte : goal.decreases-loop-byte

@@ -7,5 +7,5 @@ use Rattle.graph_core.proofs.cycles.is_apart.Goals as goal
 pub returns : goal.returns
 returns c = λ e.
     apart c.args.graph.now c.args.numbers.now c.args.node c.requires
-    (subst (λ (rs : List ℕ). (u : ℕ) → has_ended rs u ≡ true → slice_index c.args.numbers.now u < slice_index c.args.numbers.now c.args.node) c.reads_of.ensures
-    (subst (λ (n : ℕ). (u : ℕ) → has_ended c.reads_of.result.now u ≡ true → slice_index c.args.numbers.now u < n) c.number_of.ensures (c.are_below.ensures e)))
+    (subst (λ (rs : List ℕ). (u : ℕ) → has_ended rs u ≡ true → slice_index c.args.numbers.now u < slice_index c.args.numbers.now c.args.node) c.fanins_of.ensures
+    (subst (λ (n : ℕ). (u : ℕ) → has_ended c.fanins_of.result.now u ≡ true → slice_index c.args.numbers.now u < n) c.number_of.ensures (c.are_below.ensures e)))

@@ -19,5 +19,6 @@ loop-gate-preserved c =
     let size : length c.loop-gate.left.now ≡ length c.in-Some.rest.now + 1 = ap (length {A = Gate}) c.in-Some.ensures.cases.0 ∙ length-append c.in-Some.rest.now (c.in-Some.gate.now ∷ []) in
     record {
       size = omega (arith, size, c.loop-gate.invariant.size);
-      all = λ are. c.loop-gate.invariant.all (subst (AreGates c.args.sources) (sym c.in-Some.ensures.cases.0) (gates_push c.args.sources c.in-Some.rest.now c.in-Some.gate.now are (c.if-not-is_gate_at.ensures refl)));
+      all = λ are. c.loop-gate.invariant.all (subst (AreGates c.args.sources) (sym c.in-Some.ensures.cases.0)
+          (gates_push c.args.sources c.in-Some.rest.now c.in-Some.gate.now are (c.if-not-is_gate_at.ensures refl)));
     }

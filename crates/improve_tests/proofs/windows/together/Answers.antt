@@ -1,5 +1,5 @@
 use Rattle.std.proofs.Common.{◌∙◌, ap, arith}
-use Rattle.window_theory.specs.Places.{among}
+use Rattle.window_theory.specs.Nodes.{among}
 use Rattle.window_theory.specs.PairLaws.{among_at}
 use Rattle.improve_tests.proofs.windows.together.Goals as goal
 

@@ -7,10 +7,15 @@ returns-in_err-circuit-clause-complete g c = err_complete bench_format c.args.by
 
 pub returns-clause-improved : goal.returns-clause-improved
 returns-clause-improved g c =
-    bench_improved c.args.settings c.args.bytes.now _ _ c.in_ok-circuit.circuit c.in_ok-improved.field-0.improved.circuit _ _ _ _ c.bench_is_a_format.ensures c.circuits_cost_the_same.ensures c.requires.basis c.in_ok-circuit.ensures.circuit c.in_ok-improved.ensures.circuit c.in_ok-improved.ensures.better c.in_ok-improved.ensures.room
+    bench_improved c.args.settings c.args.bytes.now _ _ c.in_ok-circuit.circuit
+    c.in_ok-improved.field-0.improved.circuit _ _ _ _ c.bench_is_a_format.ensures c.circuits_cost_the_same.ensures
+    c.requires.basis c.in_ok-circuit.ensures.circuit c.in_ok-improved.ensures.circuit c.in_ok-improved.ensures.better
+    c.in_ok-improved.ensures.room
     c.in_ok-text.ensures
     c.in_ok-report.ensures
 
 pub gates_of-requires-clause-fits : goal.gates_of-requires-clause-fits
 gates_of-requires-clause-fits g c =
-    bench_fits c.args.settings c.args.bytes.now c.in_ok-circuit.circuit c.in_ok-improved.field-0.improved.circuit _ _ _ _ c.bench_is_a_format.ensures c.requires.basis c.in_ok-circuit.ensures.circuit c.in_ok-improved.ensures.circuit c.in_ok-improved.ensures.better c.in_ok-improved.ensures.room
+    bench_fits c.args.settings c.args.bytes.now c.in_ok-circuit.circuit c.in_ok-improved.field-0.improved.circuit _ _ _
+    _ c.bench_is_a_format.ensures c.requires.basis c.in_ok-circuit.ensures.circuit c.in_ok-improved.ensures.circuit
+    c.in_ok-improved.ensures.better c.in_ok-improved.ensures.room

@@ -9,6 +9,8 @@ returns-in_err-circuit-clause-complete g c = err_complete blif_format c.args.byt
 
 pub returns-clause-improved : goal.returns-clause-improved
 returns-clause-improved g c =
-    blif_improved c.args.settings c.args.bytes.now _ _ c.in_ok-circuit.circuit c.in_ok-improved.field-0.improved.circuit _ _ _ _ c.blif_is_a_format.ensures c.in_ok-circuit.ensures.circuit c.in_ok-improved.ensures.better c.in_ok-improved.ensures.room
+    blif_improved c.args.settings c.args.bytes.now _ _ c.in_ok-circuit.circuit
+    c.in_ok-improved.field-0.improved.circuit _ _ _ _ c.blif_is_a_format.ensures c.in_ok-circuit.ensures.circuit
+    c.in_ok-improved.ensures.better c.in_ok-improved.ensures.room
     (c.in_ok-text.ensures ∙ ap spelled c.in_ok-improved.ensures.document)
     c.in_ok-report.ensures

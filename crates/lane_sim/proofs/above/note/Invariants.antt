@@ -1,8 +1,8 @@
 use Rattle.std.proofs.Common.{◌≡◌, ◌++◌, length}
 use Rattle.lane_sim.proofs.above.note.Given as goal
 
-abbrev pub invariant-loop-place : goal.invariant-loop-place
-invariant-loop-place l = l.places.keys ++ l.left ≡ l.initial.places.keys ++ l.more
+abbrev pub invariant-loop-node : goal.invariant-loop-node
+invariant-loop-node l = l.nodes.keys ++ l.left ≡ l.initial.nodes.keys ++ l.more
 
-abbrev pub decreases-loop-place : goal.decreases-loop-place
-decreases-loop-place l = length l.left
+abbrev pub decreases-loop-node : goal.decreases-loop-node
+decreases-loop-node l = length l.left

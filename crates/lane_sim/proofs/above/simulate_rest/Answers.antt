@@ -13,7 +13,9 @@ push_row-requires-clause-first c =
     let rest = c.in-Some.rest.now in
     let done : AreDone whole c.args.width ls (x ∷ rest) = subst (AreDone whole c.args.width ls) c.in-Some.ensures.cases.0 c.loop-first.invariant in
     next_ends whole c.args.width rows done.0 ls (x ∷ rest) x.1.a c.operand-a.result done.1
-    (next_operand whole c.args.width rows done.0 ls c.args.places.now.keys x rest x.1.a c.operand-a.result done.1 c.requires.places (omega (arith, c.loop-first.lanes.ok.0)) (gate_over whole c.args.width rows done.0 ls x rest c.requires.cone done.1).first c.operand-a.ensures)
+    (next_operand whole c.args.width rows done.0 ls c.args.nodes.now.keys x rest x.1.a c.operand-a.result done.1
+    c.requires.nodes (omega (arith, c.loop-first.lanes.ok.0))
+    (gate_over whole c.args.width rows done.0 ls x rest c.requires.cone done.1).first c.operand-a.ensures)
 
 pub push_row-requires-clause-second : goal.push_row-requires-clause-second
 push_row-requires-clause-second c =
@@ -24,7 +26,9 @@ push_row-requires-clause-second c =
     let rest = c.in-Some.rest.now in
     let done : AreDone whole c.args.width ls (x ∷ rest) = subst (AreDone whole c.args.width ls) c.in-Some.ensures.cases.0 c.loop-first.invariant in
     next_ends whole c.args.width rows done.0 ls (x ∷ rest) x.1.b c.operand-b.result done.1
-    (next_operand whole c.args.width rows done.0 ls c.args.places.now.keys x rest x.1.b c.operand-b.result done.1 c.requires.places (omega (arith, c.loop-first.lanes.ok.0)) (gate_over whole c.args.width rows done.0 ls x rest c.requires.cone done.1).second c.operand-b.ensures)
+    (next_operand whole c.args.width rows done.0 ls c.args.nodes.now.keys x rest x.1.b c.operand-b.result done.1
+    c.requires.nodes (omega (arith, c.loop-first.lanes.ok.0))
+    (gate_over whole c.args.width rows done.0 ls x rest c.requires.cone done.1).second c.operand-b.ensures)
 
 pub loop-first-preserved : goal.loop-first-preserved
 loop-first-preserved c =
@@ -37,6 +41,6 @@ loop-first-preserved c =
     let over = gate_over whole c.args.width rows done.0 ls x rest c.requires.cone done.1 in
     let small : length ls < 2 ^ 64 = omega (arith, c.loop-first.lanes.ok.0) in
     done_more whole c.args.width rows done.0 ls x rest c.push_row.new.lanes.items c.operand-a.result c.operand-b.result c.requires.rows c.requires.cone done.1
-    (next_operand whole c.args.width rows done.0 ls c.args.places.now.keys x rest x.1.a c.operand-a.result done.1 c.requires.places small over.first c.operand-a.ensures)
-    (next_operand whole c.args.width rows done.0 ls c.args.places.now.keys x rest x.1.b c.operand-b.result done.1 c.requires.places small over.second c.operand-b.ensures)
+    (next_operand whole c.args.width rows done.0 ls c.args.nodes.now.keys x rest x.1.a c.operand-a.result done.1 c.requires.nodes small over.first c.operand-a.ensures)
+    (next_operand whole c.args.width rows done.0 ls c.args.nodes.now.keys x rest x.1.b c.operand-b.result done.1 c.requires.nodes small over.second c.operand-b.ensures)
     c.in_ok-push_row.ensures

@@ -19,6 +19,8 @@ pub returns : goal.returns
 returns c =
     let six : length c.fill_operands.new.operands ≡ 6 = c.fill_operands.ensures.count in
     of_all c.args.cone.now c.args.signals.now c.seen_chosen.result
-    (chosen_shown c.args.cone.now c.args.words.now c.args.signals.now c.fill_operands.new.operands c.split_at.result.0.now c.lanes_of-lanes.result.now (chosen_at c.lanes_of-lanes.result.now One) (λ row. true) c.rows_of-rows.result c.width_of-width.result c.seen_chosen.result
+    (chosen_shown c.args.cone.now c.args.words.now c.args.signals.now c.fill_operands.new.operands
+    c.split_at.result.0.now c.lanes_of-lanes.result.now (chosen_at c.lanes_of-lanes.result.now One)
+    (λ row. true) c.rows_of-rows.result c.width_of-width.result c.seen_chosen.result
     c.requires.words c.rows_of-rows.ensures c.lanes_of-lanes.ensures.value c.width_of-width.ensures c.fill_operands.ensures.each (omega (arith, six, c.requires.few)) c.split_at.ensures.front
     (λ j b low within. all_chosen j b low) c.seen_chosen.ensures)

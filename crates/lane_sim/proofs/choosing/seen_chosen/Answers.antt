@@ -11,4 +11,7 @@ seen-found-requires-clause-ends c =
 
 pub loop-j-preserved : goal.loop-j-preserved
 loop-j-preserved c =
-    chosen_more (length c.args.operands.now) (pattern_at c.args.lanes.now c.args.operands.now) c.args.words.now c.args.chosen c.args.rows c.loop-j.j c.width_of-j-end.result c.loop-j.found c.word_mask.result c.word.result c.seen-found.result c.requires.rows c.loop-j-test.true c.width_of-j-end.ensures c.word_mask.ensures c.word.ensures.value c.loop-j.invariant c.seen-found.ensures
+    chosen_more (length c.args.operands.now) (pattern_at c.args.lanes.now c.args.operands.now) c.args.words.now
+    c.args.chosen c.args.rows c.loop-j.j c.width_of-j-end.result c.loop-j.found c.word_mask.result c.word.result
+    c.seen-found.result c.requires.rows c.loop-j-test.true c.width_of-j-end.ensures c.word_mask.ensures
+    c.word.ensures.value c.loop-j.invariant c.seen-found.ensures

@@ -17,15 +17,27 @@ ones-requires-clause-few c = step_few (length c.args.operands.now) c.requires.fe
 
 pub returns-then-found-ones : goal.returns-then-found-ones
 returns-then-found-ones c =
-    chosen_full c.args.lanes.now c.args.operands.now (chosen_at c.args.words.now c.args.chosen) c.args.rows (c.loop-block.block * 4 + 4) (width_of c.args.rows / 4 * 4) (bit_or c.loop-block.found c.seen_four-found.result) c.requires.few (c.if-found-ones.true ∙ c.ones.ensures)
-    (four_more (length c.args.operands.now) (pattern_at c.args.lanes.now c.args.operands.now) c.args.words.now c.args.chosen c.args.rows (c.loop-block.block * 4) c.width_of-block-end.result c.loop-block.found c.word_mask-mask.result
-    c.four_words-w.result.first c.four_words-w.result.second c.four_words-w.result.third c.four_words-w.result.fourth c.seen_four-found.result c.requires.rows (omega (arith, c.loop-block-test.true)) c.width_of-block-end.ensures c.word_mask-mask.ensures
+    chosen_full c.args.lanes.now c.args.operands.now (chosen_at c.args.words.now c.args.chosen) c.args.rows
+    (c.loop-block.block * 4 + 4) (width_of c.args.rows / 4 * 4) (bit_or c.loop-block.found c.seen_four-found.result)
+    c.requires.few (c.if-found-ones.true ∙ c.ones.ensures)
+    (four_more (length c.args.operands.now) (pattern_at c.args.lanes.now c.args.operands.now) c.args.words.now
+    c.args.chosen c.args.rows (c.loop-block.block * 4) c.width_of-block-end.result c.loop-block.found
+    c.word_mask-mask.result
+    c.four_words-w.result.first c.four_words-w.result.second c.four_words-w.result.third c.four_words-w.result.fourth
+    c.seen_four-found.result c.requires.rows (omega (arith, c.loop-block-test.true)) c.width_of-block-end.ensures
+    c.word_mask-mask.ensures
     c.four_words-w.ensures.first c.four_words-w.ensures.second c.four_words-w.ensures.third c.four_words-w.ensures.fourth c.loop-block.invariant c.seen_four-found.ensures)
 
 pub loop-block-preserved : goal.loop-block-preserved
 loop-block-preserved c =
     let next : c.loop-block.block * 4 + 4 ≡ (c.loop-block.block + 1) * 4 = omega arith in
-    subst (λ (k : ℕ). AreChosenBelow (length c.args.operands.now) (pattern_at c.args.lanes.now c.args.operands.now) (chosen_at c.args.words.now c.args.chosen) c.args.rows k (bit_or c.loop-block.found c.seen_four-found.result)) next
-    (four_more (length c.args.operands.now) (pattern_at c.args.lanes.now c.args.operands.now) c.args.words.now c.args.chosen c.args.rows (c.loop-block.block * 4) c.width_of-block-end.result c.loop-block.found c.word_mask-mask.result
-    c.four_words-w.result.first c.four_words-w.result.second c.four_words-w.result.third c.four_words-w.result.fourth c.seen_four-found.result c.requires.rows (omega (arith, c.loop-block-test.true)) c.width_of-block-end.ensures c.word_mask-mask.ensures
+    subst (λ (k : ℕ). AreChosenBelow (length c.args.operands.now) (pattern_at c.args.lanes.now c.args.operands.now)
+    (chosen_at c.args.words.now c.args.chosen) c.args.rows k (bit_or c.loop-block.found c.seen_four-found.result))
+    next
+    (four_more (length c.args.operands.now) (pattern_at c.args.lanes.now c.args.operands.now) c.args.words.now
+    c.args.chosen c.args.rows (c.loop-block.block * 4) c.width_of-block-end.result c.loop-block.found
+    c.word_mask-mask.result
+    c.four_words-w.result.first c.four_words-w.result.second c.four_words-w.result.third c.four_words-w.result.fourth
+    c.seen_four-found.result c.requires.rows (omega (arith, c.loop-block-test.true)) c.width_of-block-end.ensures
+    c.word_mask-mask.ensures
     c.four_words-w.ensures.first c.four_words-w.ensures.second c.four_words-w.ensures.third c.four_words-w.ensures.fourth c.loop-block.invariant c.seen_four-found.ensures)

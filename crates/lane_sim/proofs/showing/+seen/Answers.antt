@@ -14,15 +14,27 @@ pub seen-high-requires : goal.seen-high-requires
 seen-high-requires t c =
     let at : length c.args.operands.now ≡ t = c.decreases in
     let count : length c.args.operands.now ≡ length c.in-Some.rest.now + 1 = ap length c.in-Some.ensures.cases.0 ∙ omega arith in
-    let less : length c.in-Some.rest.now < t = omega (arith, at, count) in
-    (less, (omega (arith, count, c.requires.few), all_end_rest (length c.args.lanes.now) (c.args.j + 1) c.args.operands.now c.in-Some.operand.now c.in-Some.rest.now c.in-Some.ensures.cases.0 c.requires.ends))
+    let less : length c.in-Some.rest.now < t = omega (arith, at, count) in (
+      less,
+      (
+        omega (arith, count, c.requires.few),
+        all_end_rest (length c.args.lanes.now) (c.args.j + 1) c.args.operands.now c.in-Some.operand.now
+            c.in-Some.rest.now c.in-Some.ensures.cases.0 c.requires.ends,
+      ),
+    )
 
 pub seen-low-requires : goal.seen-low-requires
 seen-low-requires t c =
     let at : length c.args.operands.now ≡ t = c.decreases in
     let count : length c.args.operands.now ≡ length c.in-Some.rest.now + 1 = ap length c.in-Some.ensures.cases.0 ∙ omega arith in
-    let less : length c.in-Some.rest.now < t = omega (arith, at, count) in
-    (less, (omega (arith, count, c.requires.few), all_end_rest (length c.args.lanes.now) (c.args.j + 1) c.args.operands.now c.in-Some.operand.now c.in-Some.rest.now c.in-Some.ensures.cases.0 c.requires.ends))
+    let less : length c.in-Some.rest.now < t = omega (arith, at, count) in (
+      less,
+      (
+        omega (arith, count, c.requires.few),
+        all_end_rest (length c.args.lanes.now) (c.args.j + 1) c.args.operands.now c.in-Some.operand.now
+            c.in-Some.rest.now c.in-Some.ensures.cases.0 c.requires.ends,
+      ),
+    )
 
 pub overflow_shl-result : goal.overflow_shl-result
 overflow_shl-result t c =

@@ -7,7 +7,9 @@ use Rattle.lane_sim.specs.ShownLaws.{step_is}
 use Rattle.lane_sim.proofs.showing.+seen_four.Goals as goal
 
 pub returns-then-first-second-eq0 : goal.returns-then-first-second-eq0
-returns-then-first-second-eq0 t c = four_none (length c.args.operands.now) (pattern_at c.args.lanes.now c.args.operands.now) c.args.j c.args.first c.args.second c.args.third c.args.fourth c.if-first-second-eq0.true
+returns-then-first-second-eq0 t c = four_none (length c.args.operands.now)
+    (pattern_at c.args.lanes.now c.args.operands.now) c.args.j c.args.first c.args.second c.args.third c.args.fourth
+    c.if-first-second-eq0.true
 
 pub returns-in_default : goal.returns-in_default
 returns-in_default t c =
@@ -21,15 +23,27 @@ pub seen_four-high-requires : goal.seen_four-high-requires
 seen_four-high-requires t c =
     let at : length c.args.operands.now ≡ t = c.decreases in
     let count : length c.args.operands.now ≡ length c.in-Some.rest.now + 1 = ap length c.in-Some.ensures.cases.0 ∙ omega arith in
-    let less : length c.in-Some.rest.now < t = omega (arith, at, count) in
-    (less, (omega (arith, count, c.requires.few), all_end_rest (length c.args.lanes.now) (c.args.j + 4) c.args.operands.now c.in-Some.operand.now c.in-Some.rest.now c.in-Some.ensures.cases.0 c.requires.ends))
+    let less : length c.in-Some.rest.now < t = omega (arith, at, count) in (
+      less,
+      (
+        omega (arith, count, c.requires.few),
+        all_end_rest (length c.args.lanes.now) (c.args.j + 4) c.args.operands.now c.in-Some.operand.now
+            c.in-Some.rest.now c.in-Some.ensures.cases.0 c.requires.ends,
+      ),
+    )
 
 pub seen_four-low-requires : goal.seen_four-low-requires
 seen_four-low-requires t c =
     let at : length c.args.operands.now ≡ t = c.decreases in
     let count : length c.args.operands.now ≡ length c.in-Some.rest.now + 1 = ap length c.in-Some.ensures.cases.0 ∙ omega arith in
-    let less : length c.in-Some.rest.now < t = omega (arith, at, count) in
-    (less, (omega (arith, count, c.requires.few), all_end_rest (length c.args.lanes.now) (c.args.j + 4) c.args.operands.now c.in-Some.operand.now c.in-Some.rest.now c.in-Some.ensures.cases.0 c.requires.ends))
+    let less : length c.in-Some.rest.now < t = omega (arith, at, count) in (
+      less,
+      (
+        omega (arith, count, c.requires.few),
+        all_end_rest (length c.args.lanes.now) (c.args.j + 4) c.args.operands.now c.in-Some.operand.now
+            c.in-Some.rest.now c.in-Some.ensures.cases.0 c.requires.ends,
+      ),
+    )
 
 pub overflow_shl-result : goal.overflow_shl-result
 overflow_shl-result t c =

@@ -16,5 +16,8 @@ simulate_gates-requires-clause-width c =
 pub returns : goal.returns
 returns c =
     let few : length c.leaves.result.now ≤ 12 = omega (arith, c.leaves.ensures.whole.few, ap length c.leaves.ensures.value) in
-    let rows : 1 * 2 ^ length c.leaves.result.now % 4294967296 ≡ 2 ^ length c.args.cone.now.leaves = cone_rows (length c.leaves.result.now) few ∙ ap (λ (n : ℕ). 2 ^ n) (ap length c.leaves.ensures.value) in
-    all_words c.args.cone.now c.width_of-width.result (64 * c.width_of-width.result) _ c.simulate_gates.new.lanes.items (record { lanes = c.simulate_gates.new.lanes.items; rows = 1 * 2 ^ length c.leaves.result.now % 4294967296 }) c.in_ok-simulate_gates.ensures refl rows c.width_of-width.ensures (omega (arith, c.width_of-width.ensures))
+    let rows : 1 * 2 ^ length c.leaves.result.now % 4294967296 ≡ 2 ^ length c.args.cone.now.leaves =
+    cone_rows (length c.leaves.result.now) few ∙ ap (λ (n : ℕ). 2 ^ n) (ap length c.leaves.ensures.value) in
+    all_words c.args.cone.now c.width_of-width.result (64 * c.width_of-width.result) _ c.simulate_gates.new.lanes.items
+    (record { lanes = c.simulate_gates.new.lanes.items; rows = 1 * 2 ^ length c.leaves.result.now % 4294967296 })
+    c.in_ok-simulate_gates.ensures refl rows c.width_of-width.ensures (omega (arith, c.width_of-width.ensures))

@@ -2,8 +2,8 @@
 use Rattle.std.proofs.Common.{false, List, [], subst, sym, rules}
 use Rattle.std.proofs.lemmas.Grind.{common_steps}
 use Rattle.text_core.specs.Lines.{Line, last_line}
-use Rattle.line_reader.specs.Cuts.{HasNoEnd, IsPlace}
-use Rattle.line_reader.specs.CuttingLaws.{last_none, last_by, place_on}
+use Rattle.line_reader.specs.Splits.{HasNoEnd, IsPlace}
+use Rattle.line_reader.specs.SplittingLaws.{last_none, last_by, place_on}
 use Rattle.line_reader.proofs.reader.close.Goals as goal
 
 pub returns-then-is_empty-clause-stands : goal.returns-then-is_empty-clause-stands
@@ -13,7 +13,9 @@ returns-then-is_empty-clause-stands g c = λ all free place stands.
 
 pub returns-in-Err-clause-stands : goal.returns-in-Err-clause-stands
 returns-in-Err-clause-stands g c = λ all free place stands.
-    c.in-Err.ensures.stands (last_line c.args.unfinished.now.items) [] all (subst HasNoEnd (sym c.deref.ensures.value) free) place stands (last_by c.args.unfinished.now.items c.deref.result.now c.deref.ensures.value (search (rules, common_steps)))
+    c.in-Err.ensures.stands (last_line c.args.unfinished.now.items) [] all
+    (subst HasNoEnd (sym c.deref.ensures.value) free) place stands
+    (last_by c.args.unfinished.now.items c.deref.result.now c.deref.ensures.value (search (rules, common_steps)))
 
 pub returns-in-Ok-clause-stands : goal.returns-in-Ok-clause-stands
 returns-in-Ok-clause-stands g c = λ all free place stands.

@@ -3,7 +3,7 @@ use Rattle.std.specs.Prelude.{All}
 use Rattle.std.proofs.lemmas.List.{take_all}
 use Rattle.std.proofs.lemmas.List.Elements.{All-more}
 use Rattle.cnf_core.specs.Bounds.{IsLit}
-use Rattle.log_core.proofs.Behind.{packed}
+use Rattle.log_core.proofs.After.{packed}
 use Rattle.log_core.proofs.packing.put_literals.Goals as goal
 
 pub loop-lit-preserved : goal.loop-lit-preserved

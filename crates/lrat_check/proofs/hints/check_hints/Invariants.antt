@@ -1,5 +1,5 @@
 use Rattle.std.proofs.Common.{◌≡◌, length}
-use Rattle.lrat_check.specs.Marks.{marked, HasRoom}
+use Rattle.lrat_check.specs.LiteralMarks.{marked, HasRoom}
 use Rattle.lrat_check.specs.Live.{live_at}
 use Rattle.lrat_check.specs.Hints.{hints_fault}
 use Rattle.lrat_check.proofs.hints.check_hints.Given as goal

@@ -1,6 +1,6 @@
 use Rattle.std.proofs.Common.{◌≡◌, take, IfSome, Contains}
 use Rattle.std.specs.Option.{option_to_list}
-use Rattle.lrat_check.specs.Marks.{marked}
+use Rattle.lrat_check.specs.LiteralMarks.{marked}
 use Rattle.lrat_check.specs.Hints.{outside}
 use Rattle.lrat_check.proofs.hints.scan_clause.Given as goal
 

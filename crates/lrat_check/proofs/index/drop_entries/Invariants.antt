@@ -1,4 +1,4 @@
-use Rattle.lrat_check.specs.Index.{DropsEntries}
+use Rattle.lrat_check.specs.OccurrenceIndex.{DropsEntries}
 use Rattle.lrat_check.proofs.index.drop_entries.Given as goal
 
 abbrev pub invariant-loop-lit : goal.invariant-loop-lit

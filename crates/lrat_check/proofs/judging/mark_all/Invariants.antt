@@ -1,6 +1,6 @@
 use Rattle.std.proofs.Common.{◌≡◌, take}
 use Rattle.sat_theory.specs.Holding.{among}
-use Rattle.lrat_check.specs.Marks.{marked, HasRoom}
+use Rattle.lrat_check.specs.LiteralMarks.{marked, HasRoom}
 use Rattle.lrat_check.proofs.judging.mark_all.Given as goal
 
 abbrev pub invariant-loop-lit : goal.invariant-loop-lit

@@ -1,5 +1,5 @@
 use Rattle.std.proofs.Common.{◌<◌, ◌+◌, ◌-◌, ◌*◌, arith, sym, ◌∙◌}
-use Rattle.lrat_text.proofs.Fronts.{digits_other, digits_above}
+use Rattle.lrat_text.proofs.Prefixes.{digits_other, digits_above}
 use Rattle.lrat_text.proofs.numbers.digits.Goals as goal
 
 pub returns-then-not-is_ascii_digit-clause-none : goal.returns-then-not-is_ascii_digit-clause-none

@@ -10,4 +10,6 @@ use Rattle.net_build.proofs.building.net_over.Goals as goal
 pub with_sinks-requires : goal.with_sinks-requires
 with_sinks-requires c =
     subst (λ (ss : List Sig). All (IsSigBelow (end_of c.add_tables.new.net)) ss) (sym c.in_ok-sinks.ensures)
-    (signals_below c.add_tables.new.net (get is_same c.add_tables.new.signals) (sink_names c.args.document.now) (begun_below c.args.document.now c.add_tables.new.net (get is_same c.add_tables.new.signals) [] c.in_ok-add_tables.ensures.begun))
+    (signals_below c.add_tables.new.net (get is_same c.add_tables.new.signals) (sink_names c.args.document.now)
+    (begun_below c.args.document.now c.add_tables.new.net
+    (get is_same c.add_tables.new.signals) [] c.in_ok-add_tables.ensures.begun))

@@ -13,12 +13,16 @@ visit_all-requires c = omega (arith, c.in_ok-graph.ensures.count, c.requires.few
 pub grow-requires-clause-order : goal.grow-requires-clause-order
 grow-requires-clause-order c =
     let f = rw c.in-Some.is at c.in_ok-found.ensures in
-    let e : order_of (graph_of c.args.document.now.tables) ≡ Some c.deref-2.result.now = ap order_of (sym (c.deref.ensures.value ∙ c.in_ok-graph.ensures.graph)) ∙ sym f ∙ ap Some (sym c.deref-2.ensures.value) in
+    let e : order_of (graph_of c.args.document.now.tables) ≡ Some c.deref-2.result.now =
+    ap order_of (sym (c.deref.ensures.value ∙ c.in_ok-graph.ensures.graph)) ∙ sym f
+    ∙ ap Some (sym c.deref-2.ensures.value) in
     order_good c.args.document.now c.deref-2.result.now e
 
 pub returns-clause-circuit : goal.returns-clause-circuit
 returns-clause-circuit c =
     let f = rw c.in-Some.is at c.in_ok-found.ensures in
-    let e : order_of (graph_of c.args.document.now.tables) ≡ Some c.deref-2.result.now = ap order_of (sym (c.deref.ensures.value ∙ c.in_ok-graph.ensures.graph)) ∙ sym f ∙ ap Some (sym c.deref-2.ensures.value) in
+    let e : order_of (graph_of c.args.document.now.tables) ≡ Some c.deref-2.result.now =
+    ap order_of (sym (c.deref.ensures.value ∙ c.in_ok-graph.ensures.graph)) ∙ sym f
+    ∙ ap Some (sym c.deref-2.ensures.value) in
     subst (λ (n : Net). IsCircuitOf c.args.document.now (circuit_of c.args.document.now n)) (sym c.in_ok-net.ensures)
     (circuit_is c.args.document.now c.deref-2.result.now (c.requires.ready c.deref-2.result.now e) e c.requires.small)

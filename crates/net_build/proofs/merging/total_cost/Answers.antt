@@ -9,6 +9,12 @@ use Rattle.net_build.proofs.merging.total_cost.Goals as goal
 
 pub loop-table-preserved : goal.loop-table-preserved
 loop-table-preserved c = record {
-  sum = omega (arith, c.loop-table.invariant.sum, ap (λ (ts : List Table). sum_by table_cost ts) c.in-Some.ensures.cases.0, sum_by-cons table_cost c.in-Some.table.now c.in-Some.rest.now, c.in_ok-total.ensures);
+  sum = omega (
+    arith,
+    c.loop-table.invariant.sum,
+    ap (λ (ts : List Table). sum_by table_cost ts) c.in-Some.ensures.cases.0,
+    sum_by-cons table_cost c.in-Some.table.now c.in-Some.rest.now,
+    c.in_ok-total.ensures,
+  );
   tables = All-rest IsTable c.in-Some.table.now c.in-Some.rest.now c.loop-table.left.now c.in-Some.ensures.cases.0 c.loop-table.invariant.tables;
 }

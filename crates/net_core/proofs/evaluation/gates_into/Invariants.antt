@@ -5,9 +5,9 @@ use Rattle.net_core.proofs.evaluation.gates_into.Given as goal
 
 abbrev pub invariant-loop-gate : goal.invariant-loop-gate
 invariant-loop-gate l = record {
-  room : l.place + length l.left ≡ length l.places;
-  stand : AreAt (l.place + 1) l.left;
-  same : values_after (bit_of l.places) (l.place + 1) l.left ≡ values_of (bit_of l.initial.places) l.sources l.gates;
+  room : l.node + length l.left ≡ length l.nodes;
+  stand : AreAt (l.node + 1) l.left;
+  same : values_after (bit_of l.nodes) (l.node + 1) l.left ≡ values_of (bit_of l.initial.nodes) l.sources l.gates;
 }
 
 abbrev pub decreases-loop-gate : goal.decreases-loop-gate

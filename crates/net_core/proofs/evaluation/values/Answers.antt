@@ -6,7 +6,7 @@ use Rattle.net_core.proofs.evaluation.values.Goals as goal
 
 pub returns : goal.returns
 returns c = λ p from low.
-    let mid : ℕ → Bool = bit_of c.sources_into.new.places in
+    let mid : ℕ → Bool = bit_of c.sources_into.new.nodes in
     ap (λ (f : ℕ → Bool). f p) c.gates_into.ensures
     ∙ ap (λ (gs : List Gate). values_of mid (length c.args.sources.now) gs p) c.gates.ensures.gates
     ∙ ap (λ k. values_of mid k c.args.net.now.gates p) c.requires.sources

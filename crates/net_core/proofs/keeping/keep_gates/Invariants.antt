@@ -5,11 +5,11 @@ use Rattle.net_core.proofs.keeping.keep_gates.Given as goal
 
 abbrev pub invariant-loop-gate : goal.invariant-loop-gate
 invariant-loop-gate l = record {
-  kept : kept_after (set_of l.marks) l.sources (kept l.places l.new.items) l.place l.left ≡ kept_after (set_of l.marks) l.sources (kept l.initial.places l.initial.new.items) l.first l.gates;
-  stand : AreAt l.place l.left;
-  marks : l.place + length l.left ≡ length l.marks;
-  places : length l.places ≡ length l.marks;
-  room : l.sources + vec_len l.new + marked_count (set_of l.marks) l.place l.left < 2 ^ 31;
+  kept : kept_after (set_of l.marks) l.sources (kept l.nodes l.new.items) l.node l.left ≡ kept_after (set_of l.marks) l.sources (kept l.initial.nodes l.initial.new.items) l.first l.gates;
+  stand : AreAt l.node l.left;
+  marks : l.node + length l.left ≡ length l.marks;
+  nodes : length l.nodes ≡ length l.marks;
+  room : l.sources + vec_len l.new + marked_count (set_of l.marks) l.node l.left < 2 ^ 31;
 }
 
 abbrev pub decreases-loop-gate : goal.decreases-loop-gate

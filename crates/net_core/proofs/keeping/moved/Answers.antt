@@ -1,7 +1,7 @@
 use Rattle.std.proofs.Common.{refl}
-use Rattle.net_core.specs.Marks.{places_of}
+use Rattle.net_core.specs.Marks.{nodes_of}
 use Rattle.net_core.proofs.keeping.moved.Goals as goal
 
-pub returns-in-Place : goal.returns-in-Place
-unfolding places_of
-returns-in-Place c = rw c.in-Place.is refl
+pub returns-in-Node : goal.returns-in-Node
+unfolding nodes_of
+returns-in-Node c = rw c.in-Node.is refl

@@ -21,10 +21,14 @@ loop-number-preserved c =
 
 pub returns-clause-first : goal.returns-clause-first
 returns-clause-first c =
-    let none : free_names c.args.taken.now.keys c.args.next (c.args.end - c.args.next) ≡ [] = sym c.loop-number.invariant ∙ free_names-none c.args.taken.now.keys c.loop-number.number c.args.end (omega arith) in
+    let none : free_names c.args.taken.now.keys c.args.next (c.args.end - c.args.next) ≡ [] =
+    sym c.loop-number.invariant ∙ free_names-none c.args.taken.now.keys c.loop-number.number c.args.end
+    (omega arith) in
     rw none (c.new-2.ensures ∙ c.new.ensures.items)
 
 pub returns-clause-rest : goal.returns-clause-rest
 returns-clause-rest c =
-    let none : free_names c.args.taken.now.keys c.args.next (c.args.end - c.args.next) ≡ [] = sym c.loop-number.invariant ∙ free_names-none c.args.taken.now.keys c.loop-number.number c.args.end (omega arith) in
+    let none : free_names c.args.taken.now.keys c.args.next (c.args.end - c.args.next) ≡ [] =
+    sym c.loop-number.invariant ∙ free_names-none c.args.taken.now.keys c.loop-number.number c.args.end
+    (omega arith) in
     rw none (free_names-none c.args.taken.now.keys c.args.end c.args.end (omega arith))

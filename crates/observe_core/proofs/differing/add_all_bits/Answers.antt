@@ -1,10 +1,18 @@
 use Rattle.std.proofs.Common.{◌≡◌, ℕ, ◌^◌, arith, subst, length}
 use Rattle.lane_sim.specs.SeenLaws.{above_zero}
-use Rattle.observe_core.specs.Forcing.{Tell}
+use Rattle.observe_core.specs.Forcing.{Distinguish}
 use Rattle.observe_core.specs.DifferingLaws.{all_numbers}
 use Rattle.observe_core.proofs.differing.add_all_bits.Goals as goal
 
-pub returns-clause-told : goal.returns-clause-told
-returns-clause-told c =
-    let end : c.loop-bits.bits ≡ 2 ^ length c.args.forced.outputs.now = omega (arith, c.loop-bits-test.false, c.loop-bits.auto.bits-end, all_numbers (length c.args.forced.outputs.now) c.args.forced.few, above_zero (length c.args.forced.outputs.now)) in
-    subst (λ (k : ℕ). Tell c.args.forced k c.loop-bits.differ) end c.loop-bits.invariant.0
+pub returns-clause-distinguished : goal.returns-clause-distinguished
+returns-clause-distinguished c =
+    let end : c.loop-bits.bits ≡ 2 ^ length c.args.forced.outputs.now =
+    omega (
+      arith,
+      c.loop-bits-test.false,
+      c.loop-bits.auto.bits-end,
+      all_numbers (length c.args.forced.outputs.now) c.args.forced.few,
+      above_zero (length c.args.forced.outputs.now),
+    )
+    in
+    subst (λ (k : ℕ). Distinguish c.args.forced k c.loop-bits.differ) end c.loop-bits.invariant.0

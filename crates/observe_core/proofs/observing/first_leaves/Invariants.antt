@@ -2,8 +2,8 @@ use Rattle.std.proofs.Common.{length}
 use Rattle.observe_core.specs.Observing.{ArePutTogether}
 use Rattle.observe_core.proofs.observing.first_leaves.Given as goal
 
-abbrev pub invariant-loop-place : goal.invariant-loop-place
-invariant-loop-place l = ArePutTogether l.inputs l.sides l.left l.first.items
+abbrev pub invariant-loop-node : goal.invariant-loop-node
+invariant-loop-node l = ArePutTogether l.inputs l.side_inputs l.left l.first.items
 
-abbrev pub decreases-loop-place : goal.decreases-loop-place
-decreases-loop-place l = length l.left
+abbrev pub decreases-loop-node : goal.decreases-loop-node
+decreases-loop-node l = length l.left

@@ -7,6 +7,6 @@ use Rattle.observe_core.proofs.putting.put_gates.Goals as goal
 
 pub returns : goal.returns
 returns c =
-    let has = c.in_ok-put_tail.ensures in
-    subst (ArePutGates c.args.net.now c.args.outputs.now c.args.bits c.args.tail.now) (sym (has.new_is ∙ ap (λ (gs : List (ℕ × Gate)). gs ++ has.put) c.in_ok-gates.ensures.items))
-    (put_all c.args.net.now c.args.outputs.now c.args.bits c.args.tail.now c.in_ok-gates.gates.items c.put_tail.new.gates.items has)
+    let has = c.in_ok-put_fanout_cone.ensures in
+    subst (ArePutGates c.args.net.now c.args.outputs.now c.args.bits c.args.fanout_cone.now) (sym (has.new_is ∙ ap (λ (gs : List (ℕ × Gate)). gs ++ has.put) c.in_ok-gates.ensures.items))
+    (put_all c.args.net.now c.args.outputs.now c.args.bits c.args.fanout_cone.now c.in_ok-gates.gates.items c.put_fanout_cone.new.gates.items has)

@@ -5,10 +5,11 @@ use Rattle.port_io.specs.declared.reading.ReadError.TheVariants.{TooLong}
 use Rattle.port_io.proofs.reading.read_all.Goals as goal
 
 -- if more bytes came than there was room for, the input is too long
-beyond : (old mid new : Option (List ℕ)) (text input : List ℕ) (room limit : ℕ) → Consumes old mid text → TakesBeyond room mid new → limit ≤ length text + room → old ≡ Some input → limit < length input
-beyond old mid new text input room limit taken more full told =
+beyond : (old mid new : Option (List ℕ)) (text input : List ℕ) (room limit : ℕ) → Consumes old mid text →
+    TakesBeyond room mid new → limit ≤ length text + room → old ≡ Some input → limit < length input
+beyond old mid new text input room limit taken more full known =
     let both : Consumes old new (text ++ more.taken) = taken ∙ ap (prepended text) more.consumes ∙ prepended-twice text more.taken new in
-    let least = length_taken old new (text ++ more.taken) input both told in
+    let least = length_taken old new (text ++ more.taken) input both known in
     omega (arith, least, length-append text more.taken, more.beyond, full)
 
 -- the error that is handed on
@@ -22,19 +23,21 @@ ended old mid new text [] taken none last = taken ∙ ap (prepended text) (last 
 ended old mid new text (x ∷ xs) taken none last = absurd (omega (arith, none))
 
 pub returns-in_err-piece-clause-too_long : goal.returns-in_err-piece-clause-too_long
-returns-in_err-piece-clause-too_long g c = λ input told of.
+returns-in_err-piece-clause-too_long g c = λ input known of.
     let long : c.len.result ≡ length c.loop-turn.all.items = search rules in
     let within = c.loop-turn.invariant.within in
     beyond _ _ _ c.loop-turn.all.items input (c.args.limit - c.len.result) c.args.limit c.loop-turn.invariant.taken
     (c.in_err-piece.ensures.too_long (ap Err (error_is c.from_residual.result c.in_err-piece.field-0.0 TooLong c.from_residual.ensures.1 of)))
-    (omega (arith, long, within)) told
+    (omega (arith, long, within)) known
 
 pub returns-then-is_empty-clause-all : goal.returns-then-is_empty-clause-all
-returns-then-is_empty-clause-all g c = λ input told.
+returns-then-is_empty-clause-all g c = λ input known.
     let none : length c.in_ok-piece.piece.now ≡ 0 = search rules in
-    all_taken _ _ c.loop-turn.all.items input (ended _ _ _ c.loop-turn.all.items c.in_ok-piece.piece.now c.loop-turn.invariant.taken none c.in_ok-piece.ensures.taken) (c.in_ok-piece.ensures.end none) told
+    all_taken _ _ c.loop-turn.all.items input (ended _ _ _ c.loop-turn.all.items c.in_ok-piece.piece.now
+    c.loop-turn.invariant.taken none c.in_ok-piece.ensures.taken) (c.in_ok-piece.ensures.end none) known
 
 pub returns-then-is_empty-clause-to_the_end : goal.returns-then-is_empty-clause-to_the_end
-returns-then-is_empty-clause-to_the_end g c = λ input told.
+returns-then-is_empty-clause-to_the_end g c = λ input known.
     let none : length c.in_ok-piece.piece.now ≡ 0 = search rules in
-    none_left _ _ c.loop-turn.all.items input (ended _ _ _ c.loop-turn.all.items c.in_ok-piece.piece.now c.loop-turn.invariant.taken none c.in_ok-piece.ensures.taken) (c.in_ok-piece.ensures.end none) told
+    none_left _ _ c.loop-turn.all.items input (ended _ _ _ c.loop-turn.all.items c.in_ok-piece.piece.now
+    c.loop-turn.invariant.taken none c.in_ok-piece.ensures.taken) (c.in_ok-piece.ensures.end none) known

@@ -10,5 +10,5 @@ invariant-loop-turn g l =
       turns : l._turn ≤ vec_len l.all;
       within : vec_len l.all ≤ l.limit;
       never_falls : g.S.Source.faults l.initial.source ≤ g.S.Source.faults l.source;
-      quiet : g.S.Source.faults l.source ≡ g.S.Source.faults l.initial.source;
+      faultless : g.S.Source.faults l.source ≡ g.S.Source.faults l.initial.source;
     }

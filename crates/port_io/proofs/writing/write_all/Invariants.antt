@@ -8,7 +8,7 @@ invariant-loop-at g l = record {
   within : l.at ≤ length l.bytes;
   gone : Appends (g.O.Sink.written l.initial.sink) (g.O.Sink.written l.sink) (take l.at l.bytes);
   never_falls : g.O.Sink.faults l.initial.sink ≤ g.O.Sink.faults l.sink;
-  quiet : g.O.Sink.faults l.sink ≡ g.O.Sink.faults l.initial.sink;
+  faultless : g.O.Sink.faults l.sink ≡ g.O.Sink.faults l.initial.sink;
 }
 
 abbrev pub decreases-loop-at : goal.decreases-loop-at

@@ -1,16 +1,19 @@
 -- Structurally equal gates were merged, and all candidates attempted.
-use Rattle.resyn_core.specs.Swept.{stage}
-use Rattle.resyn_core.specs.SweptLaws.{asked_cap}
+use Rattle.resyn_core.specs.Resynthesized.{loop_state}
+use Rattle.resyn_core.specs.ResynthesizedLaws.{asked_cap}
 use Rattle.resyn_core.specs.RoundLaws.{round_made}
 use Rattle.resyn_core.proofs.round.make_round.Goals as goal
 
-pub visit_all-requires : goal.visit_all-requires
-visit_all-requires g c = record { cap = asked_cap (g.T.Trial.settings_of c.args.trial.now) (g.T.Trial.settings_of c.merge_gates.new.trial) c.in_ok-merge_gates.ensures.asked c.requires.cap }
+pub attempt_all-requires : goal.attempt_all-requires
+attempt_all-requires g c = record {
+  cap = asked_cap (g.T.Attempts.settings_of c.args.attempts.now)
+      (g.T.Attempts.settings_of c.merge_gates.new.attempts) c.in_ok-merge_gates.ensures.asked c.requires.cap;
+}
 
 pub returns : goal.returns
 returns g c =
     round_made
-    (stage (g.T.Trial.settings_of c.args.trial.now) (g.T.Trial.net_of c.args.trial.now) c.args.round.now)
-    (stage (g.T.Trial.settings_of c.merge_gates.new.trial) (g.T.Trial.net_of c.merge_gates.new.trial) c.merge_gates.new.round)
-    (stage (g.T.Trial.settings_of c.visit_all.new.trial) (g.T.Trial.net_of c.visit_all.new.trial) c.visit_all.new.round)
-    c.in_ok-merge_gates.ensures c.in_ok-visit_all.ensures
+    (loop_state (g.T.Attempts.settings_of c.args.attempts.now) (g.T.Attempts.net_of c.args.attempts.now) c.args.round.now)
+    (loop_state (g.T.Attempts.settings_of c.merge_gates.new.attempts) (g.T.Attempts.net_of c.merge_gates.new.attempts) c.merge_gates.new.round)
+    (loop_state (g.T.Attempts.settings_of c.attempt_all.new.attempts) (g.T.Attempts.net_of c.attempt_all.new.attempts) c.attempt_all.new.round)
+    c.in_ok-merge_gates.ensures c.in_ok-attempt_all.ensures

@@ -1,5 +1,5 @@
-use Rattle.sat_sweep.specs.Stays.{Stays}
+use Rattle.sat_sweep.specs.KeepsFormula.{KeepsFormula}
 use Rattle.sat_sweep.proofs.gates.visit_gates.Given as goal
 
 abbrev pub invariant-loop-x : goal.invariant-loop-x
-invariant-loop-x g l = Stays g.S.Solver.IsSolverOf g.S.Solver.vars_of l.initial.solver l.solver
+invariant-loop-x g l = KeepsFormula g.S.Solver.IsSolverOf g.S.Solver.vars_of l.initial.solver l.solver

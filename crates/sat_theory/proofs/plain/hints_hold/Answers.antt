@@ -20,6 +20,17 @@ loop-hint-preserved c =
     let fits : SFits w32 c.opposite.result = search rules in
     let lit_fits : SFits w32 lit = search rules in
     let lit_is : c.opposite.result ≡ opposite lit = c.opposite.ensures ∙ ap opposite (to_z-of_z w32 lit lit_fits) in
-    let pushed : c.push.new.self.items ≡ before ++ opposite lit ∷ [] = subst (λ (x : ℤ). c.push.new.self.items ≡ before ++ x ∷ []) (to_z-of_z w32 c.opposite.result fits ∙ lit_is) c.in_ok-push.ensures.items in
-    let taken : HintsHold live (among c.push.new.self.items) c.in-Some.more.now ↔ HintsHold live (among before) (c.in-Some.hint.now ∷ c.in-Some.more.now) = hint_taken live (among before) (among c.push.new.self.items) c.in-Some.hint.now c.in-Some.more.now c.in-Some-find.clause.now.lits lit some (search rules) (search rules) (ap among pushed ∙ among-push before (opposite lit)) in
-    (λ rest. c.loop-hint.invariant.0 (subst (λ (hs : List ℕ). HintsHold live (among before) hs) (sym c.in-Some.ensures.cases.0) (taken.0 rest)), λ holds. taken.1 (subst (λ (hs : List ℕ). HintsHold live (among before) hs) c.in-Some.ensures.cases.0 (c.loop-hint.invariant.1 holds)))
+    let pushed : c.push.new.self.items ≡ before ++ opposite lit ∷ [] =
+    subst (λ (x : ℤ). c.push.new.self.items ≡ before ++ x ∷ []) (to_z-of_z w32 c.opposite.result fits
+    ∙ lit_is) c.in_ok-push.ensures.items in
+    let taken : HintsHold live (among c.push.new.self.items) c.in-Some.more.now ↔ HintsHold live (among before)
+    (c.in-Some.hint.now ∷ c.in-Some.more.now) =
+    hint_taken live (among before) (among c.push.new.self.items) c.in-Some.hint.now c.in-Some.more.now
+    c.in-Some-find.clause.now.lits lit some (search rules) (search rules) (ap among pushed
+    ∙ among-push before (opposite lit)) in (
+      λ rest. c.loop-hint.invariant.0 (subst (λ (hs : List ℕ). HintsHold live (among before) hs)
+          (sym c.in-Some.ensures.cases.0) (taken.0 rest)),
+      λ holds.
+          taken.1 (subst (λ (hs : List ℕ). HintsHold live (among before) hs) c.in-Some.ensures.cases.0
+          (c.loop-hint.invariant.1 holds)),
+    )

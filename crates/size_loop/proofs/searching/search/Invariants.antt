@@ -5,7 +5,7 @@ use Rattle.size_loop.proofs.searching.search.Given as goal
 
 abbrev pub invariant-loop-sections : goal.invariant-loop-sections
 invariant-loop-sections g l =
-    (l.search.heading ≡ record { spec = l.spec; basis = l.basis; method = l.method; conflicts = l.budget; max = l.max })
+    (l.search.header ≡ record { spec = l.spec; basis = l.basis; method = l.method; conflicts = l.budget; max = l.max })
     × HasSearched l.search l.sections.items
 
 abbrev pub decreases-loop-sections : goal.decreases-loop-sections

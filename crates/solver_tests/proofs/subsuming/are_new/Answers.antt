@@ -7,7 +7,11 @@ not_both : (b : Bool) → b ≡ true → b ≡ false → ⊥
 not_both b on off = cc
 
 pub all_new-well-requires-clause-some : goal.all_new-well-requires-clause-some
-all_new-well-requires-clause-some c = none_empty c.in_ok-cnf.cnf.clauses (live_in c.in_ok-clauses.clauses) c.in_ok-clauses.ensures.clauses (λ there. not_both c.has_empty.result (c.has_empty.ensures.value.1 there) c.if-has_empty.false)
+all_new-well-requires-clause-some c = none_empty c.in_ok-cnf.cnf.clauses
+    (live_in c.in_ok-clauses.clauses) c.in_ok-clauses.ensures.clauses (λ there.
+    not_both c.has_empty.result (c.has_empty.ensures.value.1 there) c.if-has_empty.false)
 
 pub comes-requires-clause-some : goal.comes-requires-clause-some
-comes-requires-clause-some c = none_empty c.in_ok-cnf.cnf.clauses (live_in c.in_ok-clauses.clauses) c.in_ok-clauses.ensures.clauses (λ there. not_both c.has_empty.result (c.has_empty.ensures.value.1 there) c.if-has_empty.false)
+comes-requires-clause-some c = none_empty c.in_ok-cnf.cnf.clauses
+    (live_in c.in_ok-clauses.clauses) c.in_ok-clauses.ensures.clauses (λ there.
+    not_both c.has_empty.result (c.has_empty.ensures.value.1 there) c.if-has_empty.false)

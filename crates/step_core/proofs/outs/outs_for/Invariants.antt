@@ -5,5 +5,5 @@ use Rattle.step_core.proofs.outs.outs_for.Given as goal
 abbrev pub invariant-loop-before : goal.invariant-loop-before
 invariant-loop-before l = record {
   count : length l.outs.items ≡ l.before;
-  each : AreOuts l.spec l.trail.steps l.outs.items;
+  each : AreOuts l.spec l.stack.steps l.outs.items;
 }

@@ -5,6 +5,6 @@ use Rattle.step_core.proofs.waits.waiting.Given as goal
 
 abbrev pub invariant-loop-before : goal.invariant-loop-before
 invariant-loop-before l = record {
-  count : l.count ≡ count_below (waits l.spec l.trail.steps) l.before;
+  count : l.count ≡ count_below (waits l.spec l.stack.steps) l.before;
   few : l.count ≤ l.before;
 }

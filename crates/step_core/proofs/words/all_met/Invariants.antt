@@ -4,4 +4,4 @@ use Rattle.step_core.specs.Steps.{is_missing}
 use Rattle.step_core.proofs.words.all_met.Given as goal
 
 abbrev pub invariant-loop-output : goal.invariant-loop-output
-invariant-loop-output l = some_below (is_missing l.spec l.trail.steps) l.output ≡ false
+invariant-loop-output l = some_below (is_missing l.spec l.stack.steps) l.output ≡ false

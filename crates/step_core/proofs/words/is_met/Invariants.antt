@@ -4,4 +4,4 @@ use Rattle.step_core.specs.Steps.{meets_at}
 use Rattle.step_core.proofs.words.is_met.Given as goal
 
 abbrev pub invariant-loop-index : goal.invariant-loop-index
-invariant-loop-index l = some_below (meets_at l.spec l.trail.steps l.output) l.index ≡ false
+invariant-loop-index l = some_below (meets_at l.spec l.stack.steps l.output) l.index ≡ false

@@ -1,4 +1,4 @@
-use Rattle.subst_core.specs.SubstitutionLaws.{substituted_is, agrees_keeps, kept_substituted, substituted_stands, pruned_on, spliced_operators}
+use Rattle.subst_core.specs.SubstitutionLaws.{substituted_is, agrees_keeps, kept_substituted, substituted_stands, cleaned_up_on, substituted_operators}
 use Rattle.subst_core.specs.WatchLaws.{outputs_keep}
 use Rattle.subst_core.proofs.laws.substitution_keeps_the_sinks.Goals as goal
 
@@ -14,11 +14,11 @@ returns-clause-outputs c = outputs_keep
 pub returns-clause-kept : goal.returns-clause-kept
 returns-clause-kept c = kept_substituted
 
-pub returns-clause-answers : goal.returns-clause-answers
-returns-clause-answers c = substituted_stands
+pub returns-clause-implements : goal.returns-clause-implements
+returns-clause-implements c = substituted_stands
 
-pub returns-clause-pruned : goal.returns-clause-pruned
-returns-clause-pruned c = pruned_on
+pub returns-clause-cleaned_up : goal.returns-clause-cleaned_up
+returns-clause-cleaned_up c = cleaned_up_on
 
 pub returns-clause-operators : goal.returns-clause-operators
-returns-clause-operators c = spliced_operators
+returns-clause-operators c = substituted_operators

@@ -18,7 +18,9 @@ returns-then-is_empty c =
     let none : length c.in-Some.more.now ≡ 0 = grind (arith, nat_tests) in
     λ yes_.
     let inside : All (λ l. among set l ≡ true) lits = subst (λ (xs : List ℤ). All (λ l. among xs l ≡ true) lits) c.deref.ensures.value (c.all_among.ensures.0 yes_) in
-    c.loop-hint.invariant (subst (λ (hs : List ℕ). HintsHold live (among set) hs) (sym c.in-Some.ensures.cases.0) (hint_ends live (among set) c.in-Some.hint.now c.in-Some.more.now row.clause none row.is_live (all_of_members (λ l. among set l ≡ true) lits row.clause row.same inside)))
+    c.loop-hint.invariant (subst (λ (hs : List ℕ). HintsHold live (among set) hs) (sym c.in-Some.ensures.cases.0)
+    (hint_ends live (among set) c.in-Some.hint.now c.in-Some.more.now row.clause none row.is_live
+    (all_of_members (λ l. among set l ≡ true) lits row.clause row.same inside)))
 
 -- the opposite of the one literal outside joins the set, and the other hints decide
 pub loop-hint-preserved : goal.loop-hint-preserved
@@ -32,4 +34,7 @@ loop-hint-preserved c =
     let unit : IsUnitOutside (among set) lits lit = subst (λ (xs : List ℤ). IsUnitOutside (among xs) lits lit) c.deref-in-Some.ensures.value c.in-Some-unit_outside.ensures in
     let pushed : c.push.new.self.items ≡ set ++ opposite lit ∷ [] = c.in_ok-push.ensures.items ∙ ap (λ (l : ℤ). set ++ l ∷ []) c.opposite.ensures.value in
     let grows : among c.push.new.self.items ≡ with_literal (among set) (opposite lit) = ap among pushed ∙ among-push set (opposite lit) in
-    λ rest. c.loop-hint.invariant (subst (λ (hs : List ℕ). HintsHold live (among set) hs) (sym c.in-Some.ensures.cases.0) (hint_goes live (among set) (among c.push.new.self.items) c.in-Some.hint.now c.in-Some.more.now row.clause lit some row.is_live (unit_of_members (among set) lits row.clause lit row.same unit) grows rest))
+    λ rest. c.loop-hint.invariant (subst (λ (hs : List ℕ). HintsHold live (among set) hs)
+    (sym c.in-Some.ensures.cases.0) (hint_goes live (among set) (among c.push.new.self.items) c.in-Some.hint.now
+    c.in-Some.more.now row.clause lit some row.is_live
+    (unit_of_members (among set) lits row.clause lit row.same unit) grows rest))

@@ -5,7 +5,9 @@ use Rattle.subsume_core.proofs.Subsuming.{apart_more, new_by_literals}
 use Rattle.subsume_core.proofs.newness.are_apart.Goals as goal
 
 pub loop-lit-preserved : goal.loop-lit-preserved
-loop-lit-preserved c = apart_more c.args.clauses.now c.args.units.now c.args.lits.now c.args.lits.now c.loop-lit.lit-index c.lit-item.result c.loop-lit-test.true (sym c.lit-item.is) (c.is_apart.ensures c.args.lits.now c.requires.marked c.if-not-is_apart.false) c.loop-lit.invariant
+loop-lit-preserved c = apart_more c.args.clauses.now c.args.units.now c.args.lits.now c.args.lits.now
+    c.loop-lit.lit-index c.lit-item.result c.loop-lit-test.true (sym c.lit-item.is)
+    (c.is_apart.ensures c.args.lits.now c.requires.marked c.if-not-is_apart.false) c.loop-lit.invariant
 
 pub returns : goal.returns
 returns c =

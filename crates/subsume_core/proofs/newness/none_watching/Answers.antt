@@ -14,13 +14,18 @@ loop-index-preserved c = λ lits marked.
     let index : ℕ = c.loop-index.index in
     let id : ℕ = slice_index_or list index 0 in
     let block : List ℤ = c.arranged_at.result.now in
-    let same : (clause : List ℤ) → live_in c.args.clauses.now id ≡ Some clause → (l : ℤ) → Contains block l → Contains clause l = λ clause is l there. (c.arranged_at.ensures.same clause is l).0 there in
+    let same : (clause : List ℤ) → live_in c.args.clauses.now id ≡ Some clause → (l : ℤ) → Contains block l →
+    Contains clause l = λ clause is l there. (c.arranged_at.ensures.same clause is l).0 there in
     let P : ℤ → Type 0 = λ (l : ℤ). marked_in c.args.marks.now l ≡ true in
-    let out : All (Contains lits) block → ⊥ = λ inside. not_both c.covers.result (c.covers.ensures.1 (All-weaker (Contains lits) P (λ l there. All-contains P lits l marked there) block inside)) c.if-covers.false in
+    let out : All (Contains lits) block → ⊥ = λ inside.
+    not_both c.covers.result (c.covers.ensures.1
+    (All-weaker (Contains lits) P (λ l there. All-contains P lits l marked there) block inside)) c.if-covers.false in
     below_more (λ (k : ℕ). NotInside c.args.clauses.now lits (slice_index_or list k 0)) index (c.loop-index.invariant lits marked) (not_inside_of c.args.clauses.now lits block id same out)
   where
     not_both : (b : Bool) → b ≡ true → b ≡ false → ⊥
     not_both b on off = cc
 
 pub returns : goal.returns
-returns c = λ lits marked _. none_at c.args.clauses.now lits c.args.lit (λ id watches. (c.watching-count.ensures.exact id).1 watches) (λ k low. c.loop-index.invariant lits marked k (omega (arith, low, c.loop-index-test.false, c.watching-count.ensures.long)))
+returns c = λ lits marked _. none_at c.args.clauses.now lits c.args.lit (λ id watches.
+    (c.watching-count.ensures.exact id).1 watches) (λ k low.
+    c.loop-index.invariant lits marked k (omega (arith, low, c.loop-index-test.false, c.watching-count.ensures.long)))

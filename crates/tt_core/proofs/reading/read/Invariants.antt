@@ -6,7 +6,9 @@ use Rattle.tt_core.specs.Words.{IsSpec}
 use Rattle.tt_core.proofs.reading.read.Given as goal
 
 abbrev pub invariant-loop-text : goal.invariant-loop-text
-invariant-loop-text l = (rows_of (record { n = l.n; on = l.on.items; care = l.care.items }) (lines_of l.left) ≡ tables_of (lines_of l.bytes)) × IsSpec (record { n = l.n; on = l.on.items; care = l.care.items }) × IsRest l.bytes l.left
+invariant-loop-text l = (rows_of (record { n = l.n; on = l.on.items; care = l.care.items }) (lines_of l.left) ≡
+    tables_of (lines_of l.bytes)) × IsSpec (record { n = l.n; on = l.on.items; care = l.care.items }) ×
+    IsRest l.bytes l.left
 
 abbrev pub decreases-loop-text : goal.decreases-loop-text
 decreases-loop-text l = length l.left

@@ -1,7 +1,7 @@
 use Rattle.std.specs.Prelude.{None}
 use Rattle.std.proofs.Common.{◌∙◌, ℕ, List, length, ap, sym, subst, arith}
-use Rattle.window_theory.specs.Places.{among, IsRising, AreJust}
-use Rattle.window_theory.specs.Window.{IsInput, IsOutput, IsApart, Belongs}
+use Rattle.window_theory.specs.Nodes.{among, IsRising, AreJust}
+use Rattle.window_theory.specs.Window.{IsInput, IsOutput, IsOutsideFanout, Belongs}
 use Rattle.walk_core.specs.Gates.{AreGates}
 use Rattle.walk_core.specs.ConvexLaws.{set_below, inputs_below, set_shaped, set_belongs, many_in_set}
 use Rattle.walk_core.proofs.convex.convex_window.Goals as goal
@@ -13,8 +13,8 @@ all_inputs-requires c = λ p e.
 pub are_apart-requires-clause-gates : goal.are_apart-requires-clause-gates
 are_apart-requires-clause-gates c = set_below c.args.net.now c.deref-2.result.now (subst (AreGates c.args.net.now) (sym c.deref-2.ensures.value) c.requires.set)
 
-pub are_apart-requires-clause-places : goal.are_apart-requires-clause-places
-are_apart-requires-clause-places c =
+pub are_apart-requires-clause-nodes : goal.are_apart-requires-clause-nodes
+are_apart-requires-clause-nodes c =
     inputs_below c.args.net.now c.args.gates.items c.deref-3.result.now c.gates-gates.ensures.net
     (subst (AreJust (IsInput c.args.net.now c.args.gates.items)) (sym c.deref-3.ensures.value)
     (subst (λ (gs : List ℕ). AreJust (IsInput c.args.net.now gs) c.in_ok-inputs.inputs.items) c.deref.ensures.value c.in_ok-inputs.ensures))
@@ -45,6 +45,6 @@ returns-clause-belongs c =
     subst (Belongs c.args.net.now) (sym c.new.ensures)
     (set_belongs c.args.net.now c.root_of-root.result None c.args.gates.items c.in_ok-inputs.inputs.items c.in_ok-outputs.outputs.items c.gates-gates.ensures.net c.requires.set
     (subst (λ (gs : List ℕ). AreJust (IsInput c.args.net.now gs) c.in_ok-inputs.inputs.items) c.deref.ensures.value c.in_ok-inputs.ensures)
-    (λ p e. subst (λ (gs : List ℕ). IsApart c.args.net.now gs p) c.deref-2.ensures.value
+    (λ p e. subst (λ (gs : List ℕ). IsOutsideFanout c.args.net.now gs p) c.deref-2.ensures.value
     (c.in_ok-are_apart.ensures.yes c.if-not-branch.false p (ap (λ (xs : List ℕ). among xs p) c.deref-3.ensures.value ∙ e)))
     (subst (λ (gs : List ℕ). AreJust (IsOutput c.args.net.now gs) c.in_ok-outputs.outputs.items) c.deref-4.ensures.value c.in_ok-outputs.ensures.outputs))

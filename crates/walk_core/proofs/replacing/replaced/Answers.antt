@@ -3,7 +3,7 @@ use Rattle.op_basis.specs.Basis.{members}
 use Rattle.subst_core.specs.Lists.{window_of}
 use Rattle.subst_core.specs.ListsLaws.{same_belongs, same_fits, same_keeps, same_room}
 use Rattle.walk_core.specs.AskingLaws.{asked_keeps, asked_fits}
-use Rattle.walk_core.specs.ReplacingLaws.{room_there, replaced_leads, replaced_no_more, replaced_fewer}
+use Rattle.walk_core.specs.ReplacingLaws.{room_there, replaced_replaces, replaced_no_more, replaced_fewer}
 use Rattle.walk_core.proofs.replacing.replaced.Goals as goal
 
 pub replace_keeping-requires-clause-belongs : goal.replace_keeping-requires-clause-belongs
@@ -25,10 +25,10 @@ replace_keeping-requires-clause-room c =
     same_room c.args.net.now c.args.window.now (window_of c.lists_of-lists.result) c.args.chain.now c.lists_of-lists.ensures
     (room_there c.args.net.now c.args.window.now c.args.chain.now c.gates-gates.ensures.net c.requires.few)
 
-pub returns-clause-leads : goal.returns-clause-leads
-returns-clause-leads c =
-    replaced_leads (members c.args.settings.basis) c.args.net.now c.in_ok-new.new c.args.chain.now c.args.window.now (window_of c.lists_of-lists.result) c.lists_of-lists.ensures
-    c.in_ok-new.ensures.pruned c.requires.few c.requires.over c.in_ok-new.ensures.operators
+pub returns-clause-replaces : goal.returns-clause-replaces
+returns-clause-replaces c =
+    replaced_replaces (members c.args.settings.basis) c.args.net.now c.in_ok-new.new c.args.chain.now c.args.window.now (window_of c.lists_of-lists.result) c.lists_of-lists.ensures
+    c.in_ok-new.ensures.cleaned_up c.requires.few c.requires.over c.in_ok-new.ensures.operators
 
 pub returns-clause-no_more : goal.returns-clause-no_more
 returns-clause-no_more c =

@@ -7,10 +7,12 @@ greatest-best-requires c = taken_gates c.args.net.now c.args.root c.args.partner
 
 pub returns-then-best-sources-clause-none : goal.returns-then-best-sources-clause-none
 returns-then-best-sources-clause-none c =
-    sought_none c.args.net.now c.args.root c.args.partner c.args.taken.now c.bound_of-bound.result c.greatest-best.result c.sources.ensures.net c.requires c.bound_of-bound.ensures c.greatest-best.ensures
+    sought_none c.args.net.now c.args.root c.args.partner c.args.taken.now c.bound_of-bound.result
+    c.greatest-best.result c.sources.ensures.net c.requires c.bound_of-bound.ensures c.greatest-best.ensures
     (c.if-best-sources.true ∙ c.sources.ensures.sources)
 
 pub returns-clause-some : goal.returns-clause-some
 returns-clause-some c =
-    sought_some c.args.net.now c.args.root c.args.partner c.args.taken.now c.bound_of-bound.result c.greatest-best.result c.sources.ensures.net c.requires c.bound_of-bound.ensures c.greatest-best.ensures
+    sought_some c.args.net.now c.args.root c.args.partner c.args.taken.now c.bound_of-bound.result
+    c.greatest-best.result c.sources.ensures.net c.requires c.bound_of-bound.ensures c.greatest-best.ensures
     (λ e. c.if-best-sources.false (e ∙ sym c.sources.ensures.sources))

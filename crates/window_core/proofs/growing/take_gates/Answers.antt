@@ -17,7 +17,7 @@ returns-in_default-clause-none c = λ w.
 
 pub loop-taken-preserved : goal.loop-taken-preserved
 loop-taken-preserved c = record {
-  are = one_more c.args.net.now c.args.root c.args.partner c.loop-taken.taken.items c.insert.new.self.items c.in-Some.place c.in_ok-insert.ensures.items c.loop-taken.invariant.are
-      (subst (λ (xs : List ℕ). IsGreatestCandidate c.args.net.now c.args.root c.args.partner xs c.in-Some.place) c.deref.ensures.value c.in-Some.ensures.some);
+  are = one_more c.args.net.now c.args.root c.args.partner c.loop-taken.taken.items c.insert.new.self.items c.in-Some.node c.in_ok-insert.ensures.items c.loop-taken.invariant.are
+      (subst (λ (xs : List ℕ). IsGreatestCandidate c.args.net.now c.args.root c.args.partner xs c.in-Some.node) c.deref.ensures.value c.in-Some.ensures.some);
   count = ap (length {A = ℕ}) c.in_ok-insert.ensures.items ∙ omega (arith, c.loop-taken.invariant.count);
 }

@@ -4,8 +4,8 @@ use Rattle.window_core.proofs.rising.rank.Given as goal
 
 abbrev pub invariant-loop-count : goal.invariant-loop-count
 invariant-loop-count l = record {
-  within : l.count ≤ length l.places;
-  above : (k d : ℕ) → l.count ≤ k → k < length l.places → l.place < slice_index_or l.places k d;
+  within : l.count ≤ length l.nodes;
+  above : (k d : ℕ) → l.count ≤ k → k < length l.nodes → l.node < slice_index_or l.nodes k d;
 }
 
 abbrev pub decreases-loop-count : goal.decreases-loop-count

@@ -5,10 +5,13 @@ use Rattle.window_core.proofs.seen.is_output.Goals as goal
 
 pub returns-clause-yes : goal.returns-clause-yes
 returns-clause-yes c = λ e.
-    more_seen c.args.net.now c.args.gates.now c.args.place c.inside_uses-inside.result c.from.result c.inside_uses-inside.ensures.value c.inside_uses-inside.ensures.few (c.from.ensures ∙ c.uses_at-all.ensures) c.requires.inside
+    more_seen c.args.net.now c.args.gates.now c.args.node c.inside_uses-inside.result c.from.result
+    c.inside_uses-inside.ensures.value c.inside_uses-inside.ensures.few (c.from.ensures
+    ∙ c.uses_at-all.ensures) c.requires.inside
     (ltb-true c.inside_uses-inside.result c.from.result e)
 
 pub returns-clause-no : goal.returns-clause-no
 returns-clause-no c = λ is.
     lt-ltb c.inside_uses-inside.result c.from.result
-    (seen_more c.args.net.now c.args.gates.now c.args.place c.inside_uses-inside.result c.from.result c.inside_uses-inside.ensures.value c.inside_uses-inside.ensures.few (c.from.ensures ∙ c.uses_at-all.ensures) is)
+    (seen_more c.args.net.now c.args.gates.now c.args.node c.inside_uses-inside.result c.from.result
+    c.inside_uses-inside.ensures.value c.inside_uses-inside.ensures.few (c.from.ensures ∙ c.uses_at-all.ensures) is)

@@ -9,13 +9,13 @@ use Rattle.window_core.proofs.specifying.care_rows.Goals as goal
 
 pub shown_by-requires-clause-known : goal.shown_by-requires-clause-known
 shown_by-requires-clause-known c =
-    signals_among c.in_ok-cone.cone c.args.places.now (map sigs.Place c.args.places.now) c.in_ok-cone.ensures.covered refl
+    signals_among c.in_ok-cone.cone c.args.nodes.now (map sigs.Node c.args.nodes.now) c.in_ok-cone.ensures.covered refl
 
 pub returns : goal.returns
 returns c =
-    IfOk-weaker c.shown_by.result (λ (mask : ℕ). ArePatterns c.in_ok-cone.cone (map sigs.Place c.args.places.now) mask) (λ (mask : ℕ). IsCareMask c.args.net.now c.args.places.now mask)
+    IfOk-weaker c.shown_by.result (λ (mask : ℕ). ArePatterns c.in_ok-cone.cone (map sigs.Node c.args.nodes.now) mask) (λ (mask : ℕ). IsCareMask c.args.net.now c.args.nodes.now mask)
     (λ mask is.
-    mask_is c.args.net.now c.args.places.now c.in_ok-cone.cone (map sigs.Place c.args.places.now) mask c.sources-sources.ensures.net
+    mask_is c.args.net.now c.args.nodes.now c.in_ok-cone.cone (map sigs.Node c.args.nodes.now) mask c.sources-sources.ensures.net
     (above_cone c.args.net.now c.in_ok-cone.cone.leaves c.in_ok-cone.cone.gates c.sources-sources.ensures.net c.in_ok-cone.ensures.gates)
     c.in_ok-cone.ensures.leaves c.in_ok-cone.ensures.gates c.in_ok-cone.ensures.covered refl is)
     c.shown_by.ensures

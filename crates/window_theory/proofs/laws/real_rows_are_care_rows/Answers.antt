@@ -1,4 +1,4 @@
-use Rattle.window_theory.specs.SurroundLaws.{has_leaves, leaves_one}
+use Rattle.window_theory.specs.FaninConeLaws.{has_leaves, leaves_one}
 use Rattle.window_theory.specs.CareLaws.{values_real, care_real, window_real}
 use Rattle.window_theory.proofs.laws.real_rows_are_care_rows.Goals as goal
 

@@ -1,5 +1,5 @@
 use Rattle.std.proofs.Common.{refl}
-use Rattle.cdcl_core.proofs.Standing.{covered_first}
+use Rattle.cdcl_core.proofs.Replacing.{covered_first}
 use Rattle.cdcl_core.proofs.search.Search.begin_shorter.Goals as goal
 
 pub returns-clause-logged : goal.returns-clause-logged

@@ -3,10 +3,10 @@ use Rattle.cdcl_core.proofs.UnderWay.{searching_scoped, visited_scoped, restarte
 use Rattle.cdcl_core.proofs.search.Search.close.Goals as goal
 
 pub returns-clause-searching : goal.returns-clause-searching
-returns-clause-searching c = searching_scoped c.descend.new.self None c.descend.ensures.searching
+returns-clause-searching c = searching_scoped c.go_to_root.new.self None c.go_to_root.ensures.searching
 
 pub returns-clause-visited : goal.returns-clause-visited
-returns-clause-visited c = visited_scoped c.descend.new.self None c.descend.ensures.visited
+returns-clause-visited c = visited_scoped c.go_to_root.new.self None c.go_to_root.ensures.visited
 
 pub returns-clause-restarted : goal.returns-clause-restarted
-returns-clause-restarted c = restarted_scoped c.args.self.now c.descend.new.self None c.descend.ensures.restarted
+returns-clause-restarted c = restarted_scoped c.args.self.now c.go_to_root.new.self None c.go_to_root.ensures.restarted

@@ -1,5 +1,5 @@
-use Rattle.cdcl_core.proofs.Losing.{no_reason}
-use Rattle.cdcl_core.proofs.Shedding.{is_reason}
+use Rattle.cdcl_core.proofs.DeletingOne.{no_reason}
+use Rattle.cdcl_core.proofs.DeletingToBound.{is_reason}
 use Rattle.cdcl_core.proofs.search.Search.is_reason.Goals as goal
 
 pub returns-clause-none : goal.returns-clause-none

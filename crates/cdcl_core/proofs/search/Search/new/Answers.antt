@@ -24,7 +24,7 @@ returns-clause-searching c =
       vars = ap (λ (s : Stored). s.vars) is ∙ all_added-vars (none_stored f.vars) f.clauses ∙ sym trail_vars;
       layered = layered_begun (live_in c.in_ok-clauses.clauses) c.in_ok-trail.trail c.new-6.result.items c.in_ok-trail.ensures.whole c.in_ok-trail.ensures.empty c.new-6.ensures.items;
       ready = subst (λ (n : ℕ). IsReady n c.in_ok-analysis.analysis) (sym c.in_ok-trail.ensures.vars) c.in_ok-analysis.ensures;
-      choosing = c.in_ok-choice.ensures c.in_ok-trail.trail c.in_ok-trail.ensures.vars;
+      deciding = c.in_ok-decision_heap.ensures c.in_ok-trail.trail c.in_ok-trail.ensures.vars;
     }
 
 pub returns-clause-clauses : goal.returns-clause-clauses

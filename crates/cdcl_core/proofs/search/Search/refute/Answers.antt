@@ -11,7 +11,9 @@ returns-clause-refuted c = λ f logged.
     let lines_are = c.in_ok-add.ensures.ok ∙ ap (λ (xs : List ℕ). s.lines ++ theory.Add c.in_ok-id.id [] xs ∷ []) c.deref.ensures.value in
     record {
       accounted = record {
-        log = rw (c.in_ok-id.ensures.ok, lines_are) (log_refuted f s.clauses s.lines c.in_ok-id.id c.in_ok-hints.hints.items s.deleted s.least logged.log c.requires.searching.stored small c.in_ok-id.ensures.id c.in_ok-hints.ensures.hints);
+        log = rw (c.in_ok-id.ensures.ok, lines_are)
+            (log_refuted f s.clauses s.lines c.in_ok-id.id c.in_ok-hints.hints.items s.deleted s.least logged.log
+            c.requires.searching.stored small c.in_ok-id.ensures.id c.in_ok-hints.ensures.hints);
         given = logged.given;
       };
       reaches = rw lines_are (log_reaches f s.lines c.in_ok-id.id c.in_ok-hints.hints.items);

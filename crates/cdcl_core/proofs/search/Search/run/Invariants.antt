@@ -1,12 +1,12 @@
 use Rattle.std.proofs.Common.{◌≡◌, ◌+◌, ◌*◌, ◌-◌, ◌≤◌, length}
 use Rattle.sat_theory.specs.Formula.{Formula}
-use Rattle.cdcl_core.specs.Searching.{IsSearching, IsVisited, IsLogged}
+use Rattle.cdcl_core.specs.Searching.{IsSearching, HasWatchInvariant, IsLogged}
 use Rattle.cdcl_core.proofs.search.Search.run.Given as goal
 
 abbrev pub invariant-loop-conflict : goal.invariant-loop-conflict
 invariant-loop-conflict l = record {
   searching : IsSearching l.self;
-  visited : IsVisited l.self;
+  visited : HasWatchInvariant l.self;
   logged : (f : Formula) → IsLogged f l.initial.self → IsLogged f l.self;
   given : l.self.given ≡ l.initial.self.given;
   least : l.self.least ≡ l.initial.self.least;

@@ -1,5 +1,5 @@
 use Rattle.std.proofs.Common.{◌∙◌, refl}
-use Rattle.cdcl_core.proofs.Standing.{strengthened_self, strengthened_trans}
+use Rattle.cdcl_core.proofs.Replacing.{strengthened_self, strengthened_trans}
 use Rattle.cdcl_core.proofs.search.Search.strengthen_all.Goals as goal
 
 pub loop-turn-init : goal.loop-turn-init

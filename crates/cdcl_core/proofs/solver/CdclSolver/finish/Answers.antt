@@ -1,21 +1,21 @@
 use Rattle.std.proofs.Common.{sym, subst}
-use Rattle.cdcl_core.specs.Solving.{Solving, IsStagedOf}
+use Rattle.cdcl_core.specs.Solving.{Solving, FitsStatusOf}
 use Rattle.cdcl_core.proofs.solver.CdclSolver.finish.Goals as goal
 
 pub returns-clause-bits : goal.returns-clause-bits
-returns-clause-bits c = λ f least of. c.conclude.ensures.bits f least (subst (λ (s : Solving). IsStagedOf f least s.search s.stage) (sym c.self.view_is) of)
+returns-clause-bits c = λ f least of. c.conclude.ensures.bits f least (subst (λ (s : Solving). FitsStatusOf f least s.search s.status) (sym c.self.view_is) of)
 
 pub returns-clause-sat : goal.returns-clause-sat
-returns-clause-sat c = λ f least of. c.conclude.ensures.sat f least (subst (λ (s : Solving). IsStagedOf f least s.search s.stage) (sym c.self.view_is) of)
+returns-clause-sat c = λ f least of. c.conclude.ensures.sat f least (subst (λ (s : Solving). FitsStatusOf f least s.search s.status) (sym c.self.view_is) of)
 
 pub returns-clause-unsat : goal.returns-clause-unsat
-returns-clause-unsat c = λ f least of. c.conclude.ensures.unsat f least (subst (λ (s : Solving). IsStagedOf f least s.search s.stage) (sym c.self.view_is) of)
+returns-clause-unsat c = λ f least of. c.conclude.ensures.unsat f least (subst (λ (s : Solving). FitsStatusOf f least s.search s.status) (sym c.self.view_is) of)
 
 pub returns-clause-open : goal.returns-clause-open
-returns-clause-open c = λ f least of. c.conclude.ensures.open f least (subst (λ (s : Solving). IsStagedOf f least s.search s.stage) (sym c.self.view_is) of)
+returns-clause-open c = λ f least of. c.conclude.ensures.open f least (subst (λ (s : Solving). FitsStatusOf f least s.search s.status) (sym c.self.view_is) of)
 
 pub returns-clause-kept : goal.returns-clause-kept
-returns-clause-kept c = λ f least of. c.conclude.ensures.kept f least (subst (λ (s : Solving). IsStagedOf f least s.search s.stage) (sym c.self.view_is) of)
+returns-clause-kept c = λ f least of. c.conclude.ensures.kept f least (subst (λ (s : Solving). FitsStatusOf f least s.search s.status) (sym c.self.view_is) of)
 
 pub returns-clause-thinned : goal.returns-clause-thinned
-returns-clause-thinned c = λ f least of. c.conclude.ensures.thinned f least (subst (λ (s : Solving). IsStagedOf f least s.search s.stage) (sym c.self.view_is) of)
+returns-clause-thinned c = λ f least of. c.conclude.ensures.thinned f least (subst (λ (s : Solving). FitsStatusOf f least s.search s.status) (sym c.self.view_is) of)

@@ -10,7 +10,8 @@ loop-clause-preserved c =
     let step = c.in-Some.ensures.steps in
     let all = into_iter_items c.loop-clause.clause-iterator in
     let rest = into_iter_items c.next.new.self in
-    let kept : length c.push.new.self.clauses + length rest ≡ length c.loop-clause.cnf.clauses + length all = moved-length c.loop-clause.cnf.clauses c.push.new.self.clauses all rest c.in-Some.clause pushed step.0 in
+    let kept : length c.push.new.self.clauses + length rest ≡ length c.loop-clause.cnf.clauses + length all =
+    moved-length c.loop-clause.cnf.clauses c.push.new.self.clauses all rest c.in-Some.clause pushed step.0 in
     record {
       next = tt;
       finite = tt;

@@ -10,7 +10,8 @@ returns-clause-value c =
     block_value c.self.inside.vars c.self.inside.live.items c.self.inside.watches c.args.self.now c.args.id c.block.result.now c.self.view_is c.self.invariant.2 c.block.ensures c.requires.live
 
 pub returns-clause-long : goal.returns-clause-long
-returns-clause-long c = λ clause is. block_long c.self.inside.vars c.self.inside.live.items c.self.inside.watches c.args.self.now c.args.id c.block.result.now clause c.self.view_is c.self.invariant.2 c.block.ensures is
+returns-clause-long c = λ clause is. block_long c.self.inside.vars c.self.inside.live.items c.self.inside.watches
+    c.args.self.now c.args.id c.block.result.now clause c.self.view_is c.self.invariant.2 c.block.ensures is
 
 pub returns-clause-same : goal.returns-clause-same
 returns-clause-same c = λ clause is l.

@@ -29,14 +29,17 @@ returns-then-arranged-lt2-clause-whole c = (invariant_of-self c).0
 pub index_mut-requires-2 : goal.index_mut-requires-2
 index_mut-requires-2 c =
     let found : (clause : List ℤ) × (live_in c.args.self.now c.args.id ≡ Some clause) = some_live (live_in c.args.self.now c.args.id) c.requires in
-    subst (λ (n : ℕ). c.args.id - 1 < n) (sym c.self.inside.live.ok.0) (live_room c.self.inside.vars c.self.inside.live.items c.self.inside.watches c.args.self.now c.args.id found.0 c.self.view_is c.self.invariant.2 found.1)
+    subst (λ (n : ℕ). c.args.id - 1 < n) (sym c.self.inside.live.ok.0)
+    (live_room c.self.inside.vars c.self.inside.live.items c.self.inside.watches c.args.self.now c.args.id found.0
+    c.self.view_is c.self.invariant.2 found.1)
 
 pub invariant_of-self-2 : goal.invariant_of-self-2
 invariant_of-self-2 c =
     let found : (clause : List ℤ) × (live_in c.args.self.now c.args.id ≡ Some clause) = some_live (live_in c.args.self.now c.args.id) c.requires in
     let one = c.watched-first.result.0 in
     let other = c.watched-first.result.1 in
-    rw c.leave.ensures (gone_left c.self.inside.vars c.self.inside.live.items c.self.inside.watches c.args.self.now c.args.id found.0 one other c.find-index.result c.find-place.result c.self.view_is c.self.invariant found.1
+    rw c.leave.ensures (gone_left c.self.inside.vars c.self.inside.live.items c.self.inside.watches c.args.self.now
+    c.args.id found.0 one other c.find-index.result c.find-place.result c.self.view_is c.self.invariant found.1
     c.watched-first.ensures.first c.watched-first.ensures.second c.watched-first.ensures.differ c.watched-first.ensures.only
     c.find-index.ensures.inside c.find-index.ensures.there
     c.find-place.ensures.inside c.find-place.ensures.there).0
@@ -46,7 +49,8 @@ returns-clause-deleted c =
     let found : (clause : List ℤ) × (live_in c.args.self.now c.args.id ≡ Some clause) = some_live (live_in c.args.self.now c.args.id) c.requires in
     let one = c.watched-first.result.0 in
     let other = c.watched-first.result.1 in
-    rw c.leave.ensures (gone_left c.self.inside.vars c.self.inside.live.items c.self.inside.watches c.args.self.now c.args.id found.0 one other c.find-index.result c.find-place.result c.self.view_is c.self.invariant found.1
+    rw c.leave.ensures (gone_left c.self.inside.vars c.self.inside.live.items c.self.inside.watches c.args.self.now
+    c.args.id found.0 one other c.find-index.result c.find-place.result c.self.view_is c.self.invariant found.1
     c.watched-first.ensures.first c.watched-first.ensures.second c.watched-first.ensures.differ c.watched-first.ensures.only
     c.find-index.ensures.inside c.find-index.ensures.there
     c.find-place.ensures.inside c.find-place.ensures.there).1

@@ -1,9 +1,9 @@
 use Rattle.std.proofs.Common.{◌≡◌, ℕ, ℤ, List, length, slice_index_or, slice_set, Contains, ap, refl, sym, subst, arith}
-use Rattle.clause_db.specs.Watching.{listed_in}
-use Rattle.clause_db.specs.Lists.{Listed, AreDirect}
+use Rattle.clause_db.specs.Watching.{watch_list_in}
+use Rattle.clause_db.specs.Lists.{WatchEntries, AreDirect}
 use Rattle.clause_db.specs.Arranging.{Arranged, block_at, exchanged_at}
 use Rattle.clause_db.specs.Deleting.{arranged_left}
-use Rattle.clause_db.proofs.Listed.{shown_lists}
+use Rattle.clause_db.proofs.WatchEntries.{shown_lists}
 use Rattle.clause_db.proofs.Direct.{entry_inside, entry_direct}
 use Rattle.clause_db.proofs.Arranging.{IsMoved, low_high, all_moved}
 use Rattle.clause_db.proofs.Handing.{IsEntryOf, entry_read, arranged_pushed, leaving_inside, handed_on}
@@ -11,19 +11,20 @@ use Rattle.clause_db.proofs.watches.Watches.move_to.Goals as goal
 use Rattle.clause_db.proofs.watches.Watches.move_to.Goals.{After-read-block, After-take_out}
 
 -- the entry of the clause, and its literals
-read : (c : After-read-block) → IsEntryOf c.self.inside.blocks c.args.self.now c.at-start.result.start (slice_index_or (listed_in c.args.self.now.lists c.args.from) c.args.index 0) c.read-block.result.now
+read : (c : After-read-block) → IsEntryOf c.self.inside.arena c.args.self.now c.at-start.result.start
+    (slice_index_or (watch_list_in c.args.self.now.lists c.args.from) c.args.index 0) c.read-block.result.now
 read c =
-    entry_read c.self.inside.blocks c.self.inside.lists.items c.args.self.now c.args.from c.code.result c.index.result.now c.args.index c.at-start.result c.read-block.result.now
+    entry_read c.self.inside.arena c.self.inside.lists.items c.args.self.now c.args.from c.code.result c.index.result.now c.args.index c.at-start.result c.read-block.result.now
     c.self.view_is c.code.ensures.value c.requires.rooms.0 c.index.ensures c.requires.inside c.at-start.ensures c.read-block.ensures c.self.invariant
 
 pub at-start-requires : goal.at-start-requires
 at-start-requires c =
-    entry_inside c.self.inside.blocks c.self.inside.lists.items c.args.self.now c.args.from c.code.result c.index.result.now c.args.index
+    entry_inside c.self.inside.arena c.self.inside.lists.items c.args.self.now c.args.from c.code.result c.index.result.now c.args.index
     c.self.view_is c.code.ensures.value c.requires.rooms.0 c.index.ensures c.requires.inside
 
 pub read-block-requires : goal.read-block-requires
 read-block-requires c =
-    entry_direct c.self.inside.blocks c.self.inside.lists.items c.args.self.now c.args.from c.code.result c.index.result.now c.args.index c.at-start.result
+    entry_direct c.self.inside.arena c.self.inside.lists.items c.args.self.now c.args.from c.code.result c.index.result.now c.args.index c.at-start.result
     c.self.view_is c.code.ensures.value c.requires.rooms.0 c.index.ensures c.requires.inside c.at-start.ensures c.self.invariant
 
 pub place_of_watch-low-requires : goal.place_of_watch-low-requires
@@ -40,26 +41,27 @@ exchange-requires-clause-there c = (read (goal.at.exchange-requires-clause-there
 
 pub exchange-requires-clause-order : goal.exchange-requires-clause-order
 exchange-requires-clause-order c =
-    let block : c.read-block.result.now ≡ block_at c.args.self.now.blocks (slice_index_or (listed_in c.args.self.now.lists c.args.from) c.args.index 0) =
+    let block : c.read-block.result.now ≡ block_at c.args.self.now.arena (slice_index_or (watch_list_in c.args.self.now.lists c.args.from) c.args.index 0) =
     (read (goal.at.exchange-requires-clause-order c).After-read-block).2 in
-    low_high c.read-block.result.now c.args.from c.args.to c.place_of_watch-low.result c.place_of-high.result c.place_of_watch-low.ensures.found c.place_of-high.ensures.there (rw block c.requires.other)
+    low_high c.read-block.result.now c.args.from c.args.to c.place_of_watch-low.result c.place_of-high.result
+    c.place_of_watch-low.ensures.found c.place_of-high.ensures.there (rw block c.requires.other)
 
 pub take_out-requires : goal.take_out-requires
 take_out-requires c =
-    let id : ℕ = slice_index_or (listed_in c.args.self.now.lists c.args.from) c.args.index 0 in
-    leaving_inside c.self.inside.blocks c.exchange.new.self c.self.inside.lists.items c.args.self.now c.args.from c.args.to c.index-block-low.result c.code-2.result c.code-3.result
+    let id : ℕ = slice_index_or (watch_list_in c.args.self.now.lists c.args.from) c.args.index 0 in
+    leaving_inside c.self.inside.arena c.exchange.new.self c.self.inside.lists.items c.args.self.now c.args.from c.args.to c.index-block-low.result c.code-2.result c.code-3.result
     c.at-start.result.start id c.args.index c.place_of_watch-low.result c.place_of-high.result c.index_mut.result.now c.push.new.self c.index_mut-2.result.now
     c.self.view_is c.code-2.ensures.value c.code-3.ensures.value c.requires.rooms c.requires.apart c.index_mut.ensures.value c.in_ok-push.ensures.ok
     (read (goal.at.take_out-requires c).After-read-block).0 c.exchange.ensures.lists c.exchange.ensures.starts c.index_mut-2.ensures.value c.requires.inside
 
 -- at the end: the id, what was read of its entry, the lists, and what the list of `to` got
 abbrev id_moved : After-take_out → ℕ
-id_moved c = slice_index_or (listed_in c.args.self.now.lists c.args.from) c.args.index 0
+id_moved c = slice_index_or (watch_list_in c.args.self.now.lists c.args.from) c.args.index 0
 
 abbrev WasRead : After-take_out → Type 0
-WasRead c = IsEntryOf c.self.inside.blocks c.args.self.now c.at-start.result.start (id_moved c) c.read-block.result.now
+WasRead c = IsEntryOf c.self.inside.arena c.args.self.now c.at-start.result.start (id_moved c) c.read-block.result.now
 
-abbrev lists_new : After-take_out → List Listed
+abbrev lists_new : After-take_out → List WatchEntries
 lists_new c = slice_set (slice_set c.self.inside.lists.items c.code-2.result c.push.new.self) c.code-3.result c.take_out.new.self
 
 abbrev pushed : After-take_out → Arranged
@@ -69,7 +71,7 @@ pushed c = arranged_pushed c.args.self.now c.args.to (id_moved c) c.index-block-
 handed : (c : After-take_out) → WasRead c → AreDirect c.exchange.new.self (lists_new c)
     × (shown_lists c.exchange.new.self (lists_new c) ≡ exchanged_at (arranged_left (pushed c) c.args.from c.args.index) (id_moved c) c.place_of_watch-low.result c.place_of-high.result)
 handed c read_is =
-    handed_on c.self.inside.blocks c.exchange.new.self c.self.inside.lists.items c.args.self.now c.args.from c.args.to c.index-block-low.result c.code-2.result c.code-3.result
+    handed_on c.self.inside.arena c.exchange.new.self c.self.inside.lists.items c.args.self.now c.args.from c.args.to c.index-block-low.result c.code-2.result c.code-3.result
     c.at-start.result.start (id_moved c) c.args.index c.place_of_watch-low.result c.place_of-high.result c.index_mut.result.now c.push.new.self c.index_mut-2.result.now c.take_out.new.self
     c.self.view_is c.code-2.ensures.value c.code-3.ensures.value c.requires.rooms c.requires.apart c.index_mut.ensures.value c.in_ok-push.ensures.ok
     read_is.0 c.exchange.ensures.lists c.exchange.ensures.starts c.index_mut-2.ensures.value c.requires.inside c.take_out.ensures read_is.1 c.self.invariant
@@ -77,7 +79,9 @@ handed c read_is =
 -- and the clause watches the other literal.
 moved : (c : After-take_out) → WasRead c → IsMoved c.args.self.now (shown_lists c.exchange.new.self (lists_new c)) (id_moved c) c.args.from c.args.to c.args.index
 moved c read_is =
-    all_moved c.args.self.now (pushed c) (arranged_left (pushed c) c.args.from c.args.index) (shown_lists c.exchange.new.self (lists_new c)) c.args.from c.args.to c.index-block-low.result c.read-block.result.now
+    all_moved c.args.self.now (pushed c) (arranged_left (pushed c) c.args.from c.args.index)
+    (shown_lists c.exchange.new.self (lists_new c)) c.args.from c.args.to c.index-block-low.result
+    c.read-block.result.now
     (id_moved c) c.args.index c.place_of_watch-low.result c.place_of-high.result refl refl (handed c read_is).1 c.requires.apart c.requires.id
     read_is.2 c.place_of_watch-low.ensures.found c.place_of-high.ensures.inside c.place_of-high.ensures.there c.requires.two c.index-block-low.is c.requires.other
 

@@ -5,4 +5,6 @@ use Rattle.cmd_recheck.proofs.job.RecheckStreamJob.answer.Goals as goal
 -- Writing the result answers the input.
 pub returns : goal.returns
 returns g c bytes keeps within =
-    answered (g.K.Kind.task c.args.self.now.0) bytes c.tell.result c.finish.result _ _ (c.tell.ensures bytes keeps (is_within (g.K.Kind.task c.args.self.now.0).reads bytes (g.K.Kind.reads c.args.self.now.0) within)) c.finish.ensures
+    answered (g.K.CertificateKind.task c.args.self.now.0) bytes c.reply_of.result c.finish.result _ _
+    (c.reply_of.ensures bytes keeps (is_within (g.K.CertificateKind.task c.args.self.now.0).reads bytes
+    (g.K.CertificateKind.reads c.args.self.now.0) within)) c.finish.ensures

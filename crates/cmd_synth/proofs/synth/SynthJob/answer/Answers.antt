@@ -7,10 +7,10 @@ use Rattle.cmd_synth.proofs.synth.SynthJob.answer.Goals as goal
 
 pub returns-in-Ok : goal.returns-in-Ok
 returns-in-Ok g c =
-    let asked : SynthSettings = c.args.self.now.settings in
-    went_out asked c.args.bytes.now c.write_certificate.result _ _ (c.write_certificate.ensures asked c.args.bytes.now c.requires.within c.in-Ok.ensures.begun) refl
+    let settings : SynthSettings = c.args.self.now.settings in
+    went_out settings c.args.bytes.now c.write_certificate.result _ _ (c.write_certificate.ensures settings c.args.bytes.now c.requires.within c.in-Ok.ensures.begun) refl
 
 pub returns-in-Err : goal.returns-in-Err
 returns-in-Err g c =
-    let asked : SynthSettings = c.args.self.now.settings in
-    answered _ _ (Err c.stop_of.result) _ _ _ (c.stop_of.ensures asked c.args.bytes.now c.requires.within c.in-Err.ensures.refusal) c.finish.ensures
+    let settings : SynthSettings = c.args.self.now.settings in
+    answered _ _ (Err c.stop_of.result) _ _ _ (c.stop_of.ensures settings c.args.bytes.now c.requires.within c.in-Err.ensures.refusal) c.finish.ensures

@@ -2,4 +2,5 @@ use Rattle.std.proofs.Common.{◌∙◌}
 use Rattle.conflict_core.proofs.analysis.Analysis.refute.Goals as goal
 
 pub returns-clause-ready : goal.returns-clause-ready
-returns-clause-ready c = c.clear.ensures c.args.trail.now.vars (c.walk_down-hints.ensures.marks ∙ c.requires.ready.clear.room) (c.walk_down-hints.ensures.verdicts ∙ c.requires.ready.verdicts)
+returns-clause-ready c = c.clear.ensures c.args.trail.now.vars (c.refutation_hints-hints.ensures.marks
+    ∙ c.requires.ready.clear.room) (c.refutation_hints-hints.ensures.verdicts ∙ c.requires.ready.verdicts)

@@ -1,6 +1,6 @@
 -- Each answer of all lines.
 use Rattle.std.proofs.Common.{◌+◌}
-use Rattle.depth_file.proofs.Standing.{taken_each}
+use Rattle.depth_file.proofs.StageAnswers.{taken_each}
 use Rattle.depth_file.proofs.line_stage.StageLineStage.take.Goals as goal
 
 pub returns-clause-stands : goal.returns-clause-stands

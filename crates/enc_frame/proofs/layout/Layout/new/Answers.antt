@@ -20,7 +20,9 @@ loop-place-preserved g c =
     let slots : slot_count c.push.new.self.items ≡ slot_count old + length step.slots = rw push (slot_count-push old step) in
     let steps : length c.push.new.self.items ≡ length old + 1 = rw push (length-append old (step ∷ [])) in
     record {
-      same = laid_on pairs c.loop-place.next c.len.result place (c.args.z.n + 1 + c.args.z.r) own c.in_ok-slots.slots.items old c.push.new.self.items (layout pairs c.args.z) (omega arith) is c.in_ok-slots.ensures.slots long push c.loop-place.invariant.same;
+      same = laid_on pairs c.loop-place.next c.len.result place
+          (c.args.z.n + 1 + c.args.z.r) own c.in_ok-slots.slots.items old c.push.new.self.items (layout pairs c.args.z)
+          (omega arith) is c.in_ok-slots.ensures.slots long push c.loop-place.invariant.same;
       next = omega arith;
       count = omega arith;
       few = omega arith;
@@ -34,4 +36,6 @@ returns-clause-slots g c =
     let pairs = g.P.Pairs.pairs_of c.args.pairs.now in
     let all : c.loop-place.steps.items ≡ layout pairs c.args.z = laid_all pairs c.loop-place.next c.loop-place.place (c.args.z.n + 1 + c.args.z.r) _ _ (omega arith) c.loop-place.invariant.same in
     let count : c.loop-place.next - 1 ≡ vars_of c.args.z c.loop-place.steps.items = omega (arith, c.loop-place.invariant.next) in
-    layout_within pairs (g.met.P.Pairs.below c.args.pairs.now) c.args.z (c.loop-place.next - 1) c.loop-place.steps.items (omega (arith, c.s_first-next.ensures.value, c.s_first-next.ensures.few)) all count
+    layout_within pairs (g.met.P.Pairs.below c.args.pairs.now) c.args.z
+    (c.loop-place.next - 1) c.loop-place.steps.items
+    (omega (arith, c.s_first-next.ensures.value, c.s_first-next.ensures.few)) all count

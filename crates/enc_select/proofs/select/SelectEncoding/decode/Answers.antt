@@ -6,7 +6,7 @@ use Rattle.sat_theory.specs.Formula.{bits_of}
 use Rattle.tt_core.specs.Words.{specification}
 use Rattle.enc_theory.specs.Select.{select_decoded}
 use Rattle.enc_laws.specs.Select.{select_decodes}
-use Rattle.enc_theory.specs.Parts.{FitsPart}
+use Rattle.enc_theory.specs.Subproblems.{FitsSubproblem}
 use Rattle.enc_laws.specs.WholeLaws.{whole_fits}
 use Rattle.enc_cuts.specs.ChainLaws.{if_ok}
 use Rattle.enc_select.proofs.Formulas.{select_is_small}
@@ -18,17 +18,26 @@ decode_chosen-requires-clause-chain c = select_is_small c.args.spec.now c.args._
 pub returns-clause-size : goal.returns-clause-size
 returns-clause-size c =
     let is = select_decodes c.args.spec.now c.args._basis c.args.r (bits_of c.args.assign.now) c.requires.satisfied in
-    if_ok (λ (chain : Chain). chain ≡ select_decoded c.args.spec.now c.args.r (bits_of c.args.assign.now)) (λ (chain : Chain). length chain.steps ≡ c.args.r) c.decode_chosen.result (λ chain e. rw e is.size) c.decode_chosen.ensures
+    if_ok (λ (chain : Chain). chain ≡ select_decoded c.args.spec.now c.args.r (bits_of c.args.assign.now))
+    (λ (chain : Chain). length chain.steps ≡ c.args.r) c.decode_chosen.result (λ chain e.
+    rw e is.size) c.decode_chosen.ensures
 
 pub returns-clause-over : goal.returns-clause-over
 returns-clause-over c =
     let is = select_decodes c.args.spec.now c.args._basis c.args.r (bits_of c.args.assign.now) c.requires.satisfied in
-    if_ok (λ (chain : Chain). chain ≡ select_decoded c.args.spec.now c.args.r (bits_of c.args.assign.now)) (λ (chain : Chain). IsOver (members c.args._basis) chain) c.decode_chosen.result (λ chain e. subst (λ (d : Chain). IsOver (members c.args._basis) d) (sym e) is.is_over) c.decode_chosen.ensures
+    if_ok (λ (chain : Chain). chain ≡ select_decoded c.args.spec.now c.args.r (bits_of c.args.assign.now))
+    (λ (chain : Chain). IsOver (members c.args._basis) chain) c.decode_chosen.result (λ chain e.
+    subst (λ (d : Chain). IsOver (members c.args._basis) d) (sym e) is.is_over) c.decode_chosen.ensures
 
 pub returns-clause-agrees : goal.returns-clause-agrees
 returns-clause-agrees c =
     let is = select_decodes c.args.spec.now c.args._basis c.args.r (bits_of c.args.assign.now) c.requires.satisfied in
-    if_ok (λ (chain : Chain). chain ≡ select_decoded c.args.spec.now c.args.r (bits_of c.args.assign.now)) (λ (chain : Chain). Agrees chain (specification c.args.spec.now)) c.decode_chosen.result (λ chain e. subst (λ (d : Chain). Agrees d (specification c.args.spec.now)) (sym e) is.agrees) c.decode_chosen.ensures
+    if_ok (λ (chain : Chain). chain ≡ select_decoded c.args.spec.now c.args.r (bits_of c.args.assign.now))
+    (λ (chain : Chain). Agrees chain (specification c.args.spec.now)) c.decode_chosen.result (λ chain e.
+    subst (λ (d : Chain). Agrees d (specification c.args.spec.now)) (sym e) is.agrees) c.decode_chosen.ensures
 
 pub returns-clause-fits : goal.returns-clause-fits
-returns-clause-fits c = if_ok (λ (chain : Chain). chain ≡ select_decoded c.args.spec.now c.args.r (bits_of c.args.assign.now)) (λ (chain : Chain). FitsPart c.args._part.now chain) c.decode_chosen.result (λ chain e. whole_fits c.args._part.now chain c.requires.part) c.decode_chosen.ensures
+returns-clause-fits c = if_ok (λ (chain : Chain). chain ≡
+    select_decoded c.args.spec.now c.args.r (bits_of c.args.assign.now)) (λ (chain : Chain).
+    FitsSubproblem c.args._subproblem.now chain) c.decode_chosen.result (λ chain e.
+    whole_fits c.args._subproblem.now chain c.requires.subproblem) c.decode_chosen.ensures

@@ -5,7 +5,7 @@ use Rattle.op_basis.specs.Basis.{members}
 use Rattle.sat_theory.specs.Formula.{bits_of}
 use Rattle.tt_core.specs.Words.{specification}
 use Rattle.enc_ssv.specs.Spelled.{spelled}
-use Rattle.enc_theory.specs.Parts.{FitsPart}
+use Rattle.enc_theory.specs.Subproblems.{FitsSubproblem}
 use Rattle.enc_laws.specs.WholeLaws.{whole_fits}
 use Rattle.enc_cuts.specs.ChainLaws.{if_ok}
 use Rattle.enc_ssv.proofs.Chains.{plain_is_for, plain_is_small}
@@ -17,17 +17,26 @@ decode_pairs-requires-clause-chain c = plain_is_small c.args.spec.now c.args._ba
 pub returns-clause-size : goal.returns-clause-size
 returns-clause-size c =
     let is = plain_is_for c.args.spec.now c.args._basis c.args.r (bits_of c.args.assign.now) c.n-n.ensures.whole c.requires.size c.requires.satisfied in
-    if_ok (λ (chain : Chain). chain ≡ spelled false c.args.spec.now c.args.r (bits_of c.args.assign.now)) (λ (chain : Chain). length chain.steps ≡ c.args.r) c.decode_pairs.result (λ chain e. rw e is.size) c.decode_pairs.ensures
+    if_ok (λ (chain : Chain). chain ≡ spelled false c.args.spec.now c.args.r (bits_of c.args.assign.now))
+    (λ (chain : Chain). length chain.steps ≡ c.args.r) c.decode_pairs.result (λ chain e.
+    rw e is.size) c.decode_pairs.ensures
 
 pub returns-clause-over : goal.returns-clause-over
 returns-clause-over c =
     let is = plain_is_for c.args.spec.now c.args._basis c.args.r (bits_of c.args.assign.now) c.n-n.ensures.whole c.requires.size c.requires.satisfied in
-    if_ok (λ (chain : Chain). chain ≡ spelled false c.args.spec.now c.args.r (bits_of c.args.assign.now)) (λ (chain : Chain). IsOver (members c.args._basis) chain) c.decode_pairs.result (λ chain e. subst (λ (d : Chain). IsOver (members c.args._basis) d) (sym e) is.is_over) c.decode_pairs.ensures
+    if_ok (λ (chain : Chain). chain ≡ spelled false c.args.spec.now c.args.r (bits_of c.args.assign.now))
+    (λ (chain : Chain). IsOver (members c.args._basis) chain) c.decode_pairs.result (λ chain e.
+    subst (λ (d : Chain). IsOver (members c.args._basis) d) (sym e) is.is_over) c.decode_pairs.ensures
 
 pub returns-clause-agrees : goal.returns-clause-agrees
 returns-clause-agrees c =
     let is = plain_is_for c.args.spec.now c.args._basis c.args.r (bits_of c.args.assign.now) c.n-n.ensures.whole c.requires.size c.requires.satisfied in
-    if_ok (λ (chain : Chain). chain ≡ spelled false c.args.spec.now c.args.r (bits_of c.args.assign.now)) (λ (chain : Chain). Agrees chain (specification c.args.spec.now)) c.decode_pairs.result (λ chain e. subst (λ (d : Chain). Agrees d (specification c.args.spec.now)) (sym e) is.agrees) c.decode_pairs.ensures
+    if_ok (λ (chain : Chain). chain ≡ spelled false c.args.spec.now c.args.r (bits_of c.args.assign.now))
+    (λ (chain : Chain). Agrees chain (specification c.args.spec.now)) c.decode_pairs.result (λ chain e.
+    subst (λ (d : Chain). Agrees d (specification c.args.spec.now)) (sym e) is.agrees) c.decode_pairs.ensures
 
 pub returns-clause-fits : goal.returns-clause-fits
-returns-clause-fits c = if_ok (λ (chain : Chain). chain ≡ spelled false c.args.spec.now c.args.r (bits_of c.args.assign.now)) (λ (chain : Chain). FitsPart c.args._part.now chain) c.decode_pairs.result (λ chain e. whole_fits c.args._part.now chain c.requires.part) c.decode_pairs.ensures
+returns-clause-fits c = if_ok (λ (chain : Chain). chain ≡
+    spelled false c.args.spec.now c.args.r (bits_of c.args.assign.now)) (λ (chain : Chain).
+    FitsSubproblem c.args._subproblem.now chain) c.decode_pairs.result (λ chain e.
+    whole_fits c.args._subproblem.now chain c.requires.subproblem) c.decode_pairs.ensures

@@ -2,7 +2,7 @@
 use Rattle.std.proofs.Common.{◌≡◌, ◌+◌, List, ℕ, ◌++◌, length}
 use Rattle.line_reader.specs.Reader.{IsReader, StandsFor}
 use Rattle.line_reader.specs.Seen.{seen}
-use Rattle.line_reader.proofs.Cutting.{IsBefore}
+use Rattle.line_reader.proofs.Splitting.{IsBefore}
 use Rattle.line_reader.proofs.reader.PieceReader.feed.Given as goal
 
 abbrev pub invariant-loop-text : goal.invariant-loop-text

@@ -1,5 +1,5 @@
 -- Before anything was fed, the stage represents the empty text.
-use Rattle.line_reader.proofs.Cutting.{stands_new}
+use Rattle.line_reader.proofs.Splitting.{stands_new}
 use Rattle.line_reader.proofs.reader.PieceReader.new.Goals as goal
 
 pub returns-clause-stands : goal.returns-clause-stands

@@ -1,7 +1,7 @@
 use Rattle.std.proofs.Common.{List, filter, rules, ap, ◌∙◌}
 use Rattle.std.proofs.lemmas.Fn.{filter_same}
 use Rattle.lrat_check.specs.declared.index.Entry.{Entry}
-use Rattle.lrat_check.specs.Index.{has_other_id}
+use Rattle.lrat_check.specs.OccurrenceIndex.{has_other_id}
 use Rattle.lrat_check.proofs.index.Entries.drop_id.Goals as goal
 
 pub returns : goal.returns

@@ -1,7 +1,7 @@
 use Rattle.std.proofs.Common.{ℕ, List, filter, nat_eq, rules, ap, ◌∙◌}
 use Rattle.std.specs.HashMap.{get}
 use Rattle.std.proofs.lemmas.Fn.{filter_same}
-use Rattle.lrat_check.specs.Index.{is_live}
+use Rattle.lrat_check.specs.OccurrenceIndex.{is_live}
 use Rattle.lrat_check.proofs.index.Ids.sweep.Goals as goal
 
 pub returns : goal.returns

@@ -3,10 +3,12 @@ use Rattle.var_heap.proofs.Holding.{full_heap, full_shown, heap_whole}
 use Rattle.var_heap.proofs.var_heap.VarHeap.new.Goals as goal
 
 pub invariant_of-result : goal.invariant_of-result
-invariant_of-result c = full_heap c.args.vars c.in_ok-scores.scores.items c.in_ok-row.row (search rules) c.in_ok-row.ensures.row c.in_ok-row.ensures.room
+invariant_of-result c = full_heap c.args.vars c.in_ok-scores.scores.items c.in_ok-array.array (search rules) c.in_ok-array.ensures.array c.in_ok-array.ensures.room
 
 pub returns-clause-full : goal.returns-clause-full
-returns-clause-full c = full_shown c.args.vars c.in_ok-scores.scores.items c.in_ok-row.row (search rules) c.in_ok-row.ensures.row c.in_ok-row.ensures.room c.in_ok-row.ensures.filled
+returns-clause-full c = full_shown c.args.vars c.in_ok-scores.scores.items c.in_ok-array.array (search rules) c.in_ok-array.ensures.array c.in_ok-array.ensures.room c.in_ok-array.ensures.filled
 
 pub returns-clause-whole : goal.returns-clause-whole
-returns-clause-whole c = heap_whole c.args.vars c.in_ok-scores.scores.items c.in_ok-row.row (full_heap c.args.vars c.in_ok-scores.scores.items c.in_ok-row.row (search rules) c.in_ok-row.ensures.row c.in_ok-row.ensures.room)
+returns-clause-whole c = heap_whole c.args.vars c.in_ok-scores.scores.items c.in_ok-array.array
+    (full_heap c.args.vars c.in_ok-scores.scores.items c.in_ok-array.array (search rules) c.in_ok-array.ensures.array
+    c.in_ok-array.ensures.room)

@@ -1,5 +1,0 @@
-use Rattle.bound_core.specs.Needed.{inputs_few}
-use Rattle.bound_core.proofs.laws.inputs_in_use_ask_for_steps.Goals as goal
-
-pub returns : goal.returns
-returns c = inputs_few

@@ -1,5 +1,0 @@
-use Rattle.bound_core.specs.Different.{outputs_few}
-use Rattle.bound_core.proofs.laws.live_outputs_ask_for_steps.Goals as goal
-
-pub returns : goal.returns
-returns c = outputs_few

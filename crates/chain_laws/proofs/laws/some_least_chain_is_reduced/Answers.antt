@@ -1,5 +1,0 @@
-use Rattle.chain_laws.specs.Least.{least}
-use Rattle.chain_laws.proofs.laws.some_least_chain_is_reduced.Goals as goal
-
-pub returns : goal.returns
-returns c = least

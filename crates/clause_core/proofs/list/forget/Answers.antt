@@ -1,5 +1,0 @@
-use Rattle.clause_core.proofs.Marks.{forgotten_all}
-use Rattle.clause_core.proofs.list.forget.Goals as goal
-
-pub returns : goal.returns
-returns c = forgotten_all c.args.lits.now c.loop-lit.lit-index c.args.seen.now c.loop-lit.seen c.requires c.loop-lit.invariant c.loop-lit-test.false

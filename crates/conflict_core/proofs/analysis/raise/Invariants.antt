@@ -1,9 +1,0 @@
-use Rattle.std.proofs.Common.{◌≡◌, ◌≢◌, ◌<◌, ℕ, ℤ, slice_index_or}
-use Rattle.cdcl_theory.specs.Trails.{fell}
-use Rattle.conflict_core.proofs.analysis.raise.Given as goal
-
-abbrev pub invariant-loop-index : goal.invariant-loop-index
-invariant-loop-index l = record {
-  same : l.lits.items ≡ l.initial.lits.items;
-  none : (k : ℕ) (d : ℤ) → k < l.index → fell l.trail (slice_index_or l.lits.items k d) ≢ l.back;
-}

@@ -1,7 +1,0 @@
-use Rattle.std.proofs.Common.{◌≡◌, ◌++◌, take}
-use Rattle.std.specs.List.{flat_map}
-use Rattle.enc_theory.specs.Cuts.{again_pair}
-use Rattle.enc_cuts.proofs.again.push_again_slot.Given as goal
-
-abbrev pub invariant-loop-v : goal.invariant-loop-v
-invariant-loop-v l = l.list ≡ record l.initial.list { clauses = l.initial.list.clauses ++ flat_map (again_pair l.place l.u) (take l.v-index l.reading) }

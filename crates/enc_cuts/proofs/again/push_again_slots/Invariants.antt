@@ -1,7 +1,0 @@
-use Rattle.std.proofs.Common.{◌≡◌, ◌++◌, take}
-use Rattle.std.specs.List.{flat_map}
-use Rattle.enc_theory.specs.Cuts.{again_slot}
-use Rattle.enc_cuts.proofs.again.push_again_slots.Given as goal
-
-abbrev pub invariant-loop-u : goal.invariant-loop-u
-invariant-loop-u l = l.list ≡ record l.initial.list { clauses = l.initial.list.clauses ++ flat_map (again_slot l.place l.reading) (take l.u-index l.slots) }

@@ -1,7 +1,0 @@
-use Rattle.std.proofs.Common.{◌++◌, ◌+◌, ◌-◌, ◌≡◌}
-use Rattle.std.specs.List.{range_with_len, flat_map}
-use Rattle.enc_theory.specs.Select.{again_after}
-use Rattle.enc_select.proofs.again.push_again_step.Given as goal
-
-abbrev pub invariant-loop-later : goal.invariant-loop-later
-invariant-loop-later l = l.list ≡ record l.initial.list { clauses = l.initial.list.clauses ++ flat_map (again_after l.ordered l.z l.i) (range_with_len (l.i + 1) (l.later - (l.i + 1))) }

@@ -1,7 +1,0 @@
-use Rattle.std.proofs.Common.{◌≡◌, ℕ, ◌<◌, ◌≤◌, true}
-use Rattle.std.specs.Prelude.{slice_index}
-use Rattle.graph_core.specs.Visit.{reads_of, has_ended}
-use Rattle.graph_core.proofs.cycles.fall.Given as goal
-
-abbrev pub invariant-loop-node : goal.invariant-loop-node
-invariant-loop-node l = (t u : ℕ) → t < l.node → has_ended (reads_of l.graph t) u ≡ true → slice_index l.numbers u ≤ slice_index l.numbers t

@@ -1,6 +1,0 @@
-use Rattle.net_core.proofs.DeadGates.{set_of-none}
-use Rattle.net_core.proofs.dead.live_marks.Goals as goal
-
-pub mark_live-requires-clause-none : goal.mark_live-requires-clause-none
-mark_live-requires-clause-none c =
-    rw (c.deref_mut.ensures.value, c.in_ok-marks.ensures.items_if_clones_equal (λ y e. e)) (set_of-none _)

@@ -1,0 +1,40 @@
+-- A round that changed nothing settles; one that did counts.
+use Rattle.std.specs.Prelude.{◌≡◌, true, false}
+use Rattle.std.proofs.Common.{refl, ap}
+use Rattle.settings.specs.declared.improve.ImproveSettings.{ImproveSettings}
+use Rattle.resyn_core.specs.ResynthesizedLaws.{resynthesis_more, resynthesis_settles, resynthesis_names, resynthesis_rises}
+use Rattle.resyn_core.proofs.resynthesizing.resynthesize.Goals as goal
+
+pub returns-then-not-changed-clause-settled : goal.returns-then-not-changed-clause-settled
+returns-then-not-changed-clause-settled g c = λ e.
+    let off : c.round.inside.changed ≡ false = c.if-not-changed.true in
+    resynthesis_settles c.loop-round._round (g.T.Attempts.settings_of c.args.attempts.now) (g.T.Attempts.settings_of c.loop-round.attempts) (g.T.Attempts.settings_of c.make_round.new.attempts)
+    (g.T.Attempts.net_of c.args.attempts.now) (g.T.Attempts.net_of c.loop-round.attempts) (g.T.Attempts.net_of c.make_round.new.attempts)
+    (record { changed = false; named = c.new.result.items }) c.make_round.new.round c.round.inside.changed
+    c.round.inside.named.items c.loop-round.invariant.0 c.in_ok-make_round.ensures c.round.view_is off
+
+pub returns-then-not-changed-clause-undecided : goal.returns-then-not-changed-clause-undecided
+returns-then-not-changed-clause-undecided g c =
+    let off : c.round.inside.changed ≡ false = c.if-not-changed.true in
+    resynthesis_names c.loop-round._round (g.T.Attempts.settings_of c.args.attempts.now) (g.T.Attempts.settings_of c.loop-round.attempts) (g.T.Attempts.settings_of c.make_round.new.attempts)
+    (g.T.Attempts.net_of c.args.attempts.now) (g.T.Attempts.net_of c.loop-round.attempts) (g.T.Attempts.net_of c.make_round.new.attempts)
+    (record { changed = false; named = c.new.result.items }) c.make_round.new.round c.round.inside.changed
+    c.round.inside.named.items c.loop-round.invariant.0 c.new.ensures.items c.in_ok-make_round.ensures
+    c.round.view_is off
+
+pub returns-then-not-changed-clause-rising : goal.returns-then-not-changed-clause-rising
+returns-then-not-changed-clause-rising g c =
+    let off : c.round.inside.changed ≡ false = c.if-not-changed.true in
+    resynthesis_rises (g.T.Attempts.settings_of c.loop-round.attempts) (g.T.Attempts.settings_of c.make_round.new.attempts)
+    (g.T.Attempts.net_of c.loop-round.attempts) (g.T.Attempts.net_of c.make_round.new.attempts)
+    (record { changed = false; named = c.new.result.items }) c.make_round.new.round c.round.inside.changed c.round.inside.named.items c.new.ensures.items c.in_ok-make_round.ensures c.round.view_is off
+
+pub loop-round-preserved : goal.loop-round-preserved
+loop-round-preserved g c =
+    let on : c.round.inside.changed ≡ true = c.if-not-changed.false in (
+      resynthesis_more _ c.loop-round._round (g.T.Attempts.settings_of c.args.attempts.now) (g.T.Attempts.settings_of c.loop-round.attempts) (g.T.Attempts.settings_of c.make_round.new.attempts)
+          (g.T.Attempts.net_of c.args.attempts.now) (g.T.Attempts.net_of c.loop-round.attempts) (g.T.Attempts.net_of c.make_round.new.attempts)
+          (record { changed = false; named = c.new.result.items }) c.make_round.new.round c.round.inside.changed
+          c.round.inside.named.items c.loop-round.invariant.0 refl c.in_ok-make_round.ensures c.round.view_is on,
+      ap (λ (s : ImproveSettings). s.rounds) c.settings-rounds.ensures.value,
+    )

@@ -1,0 +1,5 @@
+use Rattle.sat_sweep.specs.KeepsFormula.{KeepsFormula}
+use Rattle.sat_sweep.proofs.gates.derive_binary.Given as goal
+
+abbrev pub invariant-loop-second : goal.invariant-loop-second
+invariant-loop-second g l = KeepsFormula g.S.Solver.IsSolverOf g.S.Solver.vars_of l.initial.solver l.solver

@@ -1,8 +1,0 @@
-use Rattle.std.proofs.Common.{◌≡◌, ◌-◌, ◌^◌}
-use Rattle.chain_theory.specs.Operator.{digit}
-use Rattle.chain_theory.specs.Rows.{row_of}
-use Rattle.spec_cache.specs.Order.{turned_row}
-use Rattle.spec_cache.proofs.turning.turned_word.Given as goal
-
-abbrev pub invariant-loop-before : goal.invariant-loop-before
-invariant-loop-before l = l.turned ≡ row_of l.before (λ i. digit l.word (turned_row l.n l.order (2 ^ l.n - i)))

@@ -1,7 +1,0 @@
-use Rattle.std.proofs.Common.{◌≡◌, false}
-use Rattle.bound_core.specs.Counts.{some_below}
-use Rattle.step_core.specs.Cuts.{meets}
-use Rattle.step_core.proofs.cuts.meets_some.Given as goal
-
-abbrev pub invariant-loop-output : goal.invariant-loop-output
-invariant-loop-output l = some_below (meets l.spec l.word) l.output ≡ false

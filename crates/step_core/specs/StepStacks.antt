@@ -1,0 +1,21 @@
+-- The stack of the steps that the enumeration has placed.
+use Rattle.std.specs.Prelude.{◌≡◌, ℕ, ◌+◌, ◌-◌, ◌≤◌, List, length, slice_index}
+use Rattle.chain_theory.specs.Chain.{Step, AreSteps}
+use Rattle.step_core.specs.Steps.{word_in}
+
+-- steps over n inputs
+pub record StackView : Type 0 where
+  pub n : ℕ
+  pub steps : List Step
+
+-- at most six inputs and six steps
+pub record IsStepStack (t : StackView) : Type 0 where
+  pub inputs : t.n ≤ 6
+  pub few : length t.steps ≤ 6
+  pub are : AreSteps t.n t.steps
+
+-- with the truth table of each place: the inputs' first, then the steps'
+pub record HasStepWords (t : StackView) (words : List ℕ) : Type 0 where
+  pub stack : IsStepStack t
+  pub count : length words ≡ t.n + length t.steps
+  pub each : (p : ℕ) → 1 ≤ p → p ≤ t.n + length t.steps → slice_index words (p - 1) ≡ word_in t.n t.steps p

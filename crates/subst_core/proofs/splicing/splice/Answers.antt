@@ -1,6 +1,0 @@
-use Rattle.subst_core.proofs.Marking.{none_marked}
-use Rattle.subst_core.proofs.splicing.splice.Goals as goal
-
-pub splice_in-requires-clause-marks : goal.splice_in-requires-clause-marks
-splice_in-requires-clause-marks c =
-    rw (c.deref_mut.ensures.value, c.in_ok-marks.ensures.items_if_clones_equal (λ y e. e)) (none_marked _)
