@@ -5,7 +5,7 @@ use Rattle.equiv_run.proofs.reading.compare_texts.Goals as goal
 
 pub compare_circuits-requires-clause-small : goal.compare_circuits-requires-clause-small
 compare_circuits-requires-clause-small g c = small_circuit _ c.in_ok-first.first
-    (omega (arith, c.split_at.ensures.prefix_len, c.in-Some.ensures.within, c.requires.small))
+    (omega (arith, c.split_at.ensures.front_len, c.in-Some.ensures.within, c.requires.small))
     c.in_ok-first.ensures.circuit
 
 pub compare_circuits-requires-clause-other : goal.compare_circuits-requires-clause-other
