@@ -15,7 +15,7 @@
 //! }
 //! ```
 //!
-//! - `src/rows.rt`, `src/mitering.rt`: the clauses. `src/interface.rt`: whether two circuits have one interface.
+//! - `src/miter_rows.rt`, `src/mitering.rt`: the clauses. `src/interface.rt`: whether two circuits have one interface.
 //! - `src/values.rt`: where two nets differ. `src/comparing.rt`: the three answers. `src/nets.rt`: the answer for
 //!   nets, without a log. `src/exhaustive.rt`: nets with few sources, compared exhaustively.
 #![tactic(auto)]
@@ -24,10 +24,10 @@ mod answer;
 mod comparing;
 mod exhaustive;
 mod interface;
+mod miter_rows;
 mod mitering;
 mod nets;
 mod numbering;
-mod rows;
 mod values;
 
 pub use answer::{Equiv, EquivError};

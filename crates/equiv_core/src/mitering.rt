@@ -5,8 +5,8 @@ ghost use Rattle.equiv_theory.specs.Miter.{miter as miter_of};
 ghost use Rattle.equiv_theory.specs.Counterexample.{AreComparable, HaveSameInterface};
 ghost use Rattle.equiv_core.specs.Limits.{AreSmall, IsSmall};
 
+use crate::miter_rows::{push_gates, push_sinks, some_row};
 use crate::numbering::NetNumbering;
-use crate::rows::{push_gates, push_sinks, some_row};
 use clause_core::ClauseList;
 use cnf_core::Cnf;
 use net_core::{Circuit, Net};

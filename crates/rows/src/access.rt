@@ -1,32 +1,34 @@
-//! Total reads and writes of slices: beyond the end a read gives 0, and a write does nothing, so that
-//! heuristics need no proof of bounds.
+//! Reading and writing arrays at any index. Reading past the end gives a default, and writing past the end does nothing,
+//! so that a search needs no bounds of its own.
 
-/// The number at an index; 0 beyond the end.
-pub fn at(row: &[u32], place: u32) -> u32 {
-    match row.get(place as usize) {
-        Some(number) => *number,
-        None => 0,
+/// The entry at `index`, or `other` past the end.
+pub fn entry<T: Copy>(row: &[T], index: u32, other: T) -> T {
+    match row.get(index as usize) {
+        Some(value) => *value,
+        None => other,
     }
 }
 
-/// The bit at an index; false beyond the end.
-pub fn bit_at(row: &[bool], place: u32) -> bool {
-    match row.get(place as usize) {
-        Some(bit) => *bit,
-        None => false,
+/// The number at `index`, 0 past the end.
+pub fn at(row: &[u32], index: u32) -> u32 {
+    entry(row, index, 0)
+}
+
+/// The mark at `index`, false past the end.
+pub fn bit_at(row: &[bool], index: u32) -> bool {
+    entry(row, index, false)
+}
+
+/// Writes `value` at `index`.
+pub fn put<T: Copy>(row: &mut [T], index: u32, value: T) {
+    if let Some(slot) = row.get_mut(index as usize) {
+        *slot = value;
     }
 }
 
-/// Writes a value at an index; nothing beyond the end.
-pub fn put<T: Copy>(row: &mut [T], place: u32, value: T) {
-    if let Some(entry) = row.get_mut(place as usize) {
-        *entry = value;
-    }
-}
-
-/// Adds 1 to the number at an index, up to the greatest number; nothing beyond the end.
-pub fn raise(row: &mut [u32], place: u32) {
-    if let Some(number) = row.get_mut(place as usize) {
+/// Adds 1 to the number at `index`, up to the greatest number.
+pub fn raise(row: &mut [u32], index: u32) {
+    if let Some(number) = row.get_mut(index as usize) {
         *number = number.saturating_add(1);
     }
 }

@@ -12,5 +12,5 @@
 mod access;
 mod random;
 
-pub use access::{at, bit_at, put, raise};
+pub use access::{at, bit_at, entry, put, raise};
 pub use random::Random;

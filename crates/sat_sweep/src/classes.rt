@@ -3,8 +3,8 @@
 //! later assignment tells apart stay in one list, but their signatures differ.
 
 use crate::patterns::Patterns;
-use crate::rows::{entry, put};
 use indexmap::IndexSet;
+use rows::{entry, put};
 use std::alloc::{AllocError, Global};
 
 /// Not a node: the end of a list.

@@ -5,7 +5,7 @@
 //! fanin cones of a pair down to what the two share, and no further.
 
 use crate::nodes::Nodes;
-use crate::rows::put;
+use rows::put;
 use sat_solve::Cones;
 use std::alloc::{AllocError, Global};
 

@@ -34,7 +34,6 @@ mod patience;
 mod patterns;
 mod queries;
 mod random;
-mod rows;
 mod sinks;
 mod state;
 mod strash;

@@ -4,9 +4,8 @@
 
 use crate::nodes::{Edge, Nodes};
 use crate::random::{generator, sparse};
-use crate::rows::{entry, put};
 use op_basis::on_words;
-use rows::Random;
+use rows::{Random, entry, put};
 use sat_solve::Solver;
 use std::alloc::{AllocError, Global};
 

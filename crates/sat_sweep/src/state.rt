@@ -5,9 +5,9 @@ use crate::cones::ConeRows;
 use crate::nodes::{Edge, Nodes};
 use crate::patience::Patience;
 use crate::patterns::Patterns;
-use crate::rows::{entry, put};
 use crate::strash::StrashTable;
 use net_core::Net;
+use rows::{entry, put};
 use sat_solve::Solver;
 use std::alloc::{AllocError, Global};
 

@@ -1,5 +1,5 @@
 use Rattle.equiv_core.specs.RowLaws.{sink_literals}
-use Rattle.equiv_core.proofs.rows.push_sink_row.Goals as goal
+use Rattle.equiv_core.proofs.miter_rows.push_sink_row.Goals as goal
 use Rattle.std.proofs.Common.{refl}
 
 pub push-requires : goal.push-requires

@@ -3,7 +3,7 @@ use Rattle.sat_theory.specs.Formula.{Formula}
 use Rattle.net_theory.specs.Net.{IsSigBelow}
 use Rattle.equiv_theory.specs.Miter.{sinks_rows}
 use Rattle.equiv_core.specs.Rows.{numbered, HasRoom, IsAdded}
-use Rattle.equiv_core.proofs.rows.push_sinks.Given as goal
+use Rattle.equiv_core.proofs.miter_rows.push_sinks.Given as goal
 
 abbrev pub invariant-loop-signal : goal.invariant-loop-signal
 invariant-loop-signal l = record {

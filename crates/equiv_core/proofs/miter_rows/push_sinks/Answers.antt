@@ -4,7 +4,7 @@ use Rattle.net_theory.specs.declared.data.Sig.{Sig}
 use Rattle.net_theory.specs.Net.{IsSigBelow}
 use Rattle.equiv_core.specs.Rows.{HasRoom}
 use Rattle.equiv_core.specs.RowLaws.{sinks_more, sinks_none, others_none}
-use Rattle.equiv_core.proofs.rows.push_sinks.Goals as goal
+use Rattle.equiv_core.proofs.miter_rows.push_sinks.Goals as goal
 
 pub returns-in_default-split_first : goal.returns-in_default-split_first
 returns-in_default-split_first c = c.loop-signal.invariant.added c.loop-signal.list

@@ -3,7 +3,7 @@ use Rattle.sat_theory.specs.Formula.{Formula}
 use Rattle.net_core.specs.Marks.{AreAt}
 use Rattle.equiv_theory.specs.Miter.{gates_rows}
 use Rattle.equiv_core.specs.Rows.{numbered, HasRoom, IsAdded}
-use Rattle.equiv_core.proofs.rows.push_gates.Given as goal
+use Rattle.equiv_core.proofs.miter_rows.push_gates.Given as goal
 
 abbrev pub invariant-loop-gate : goal.invariant-loop-gate
 invariant-loop-gate l = record {

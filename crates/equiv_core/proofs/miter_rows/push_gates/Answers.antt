@@ -2,7 +2,7 @@ use Rattle.std.proofs.Common.{◌≡◌, suc, ap, length, arith, subst, sym}
 use Rattle.net_theory.specs.declared.data.Gate.{Gate}
 use Rattle.equiv_core.specs.Rows.{HasRoom}
 use Rattle.equiv_core.specs.RowLaws.{gate_at, gates_after, gates_more, gates_none}
-use Rattle.equiv_core.proofs.rows.push_gates.Goals as goal
+use Rattle.equiv_core.proofs.miter_rows.push_gates.Goals as goal
 
 pub push_gate-requires-clause-gate : goal.push_gate-requires-clause-gate
 push_gate-requires-clause-gate c = gate_at _ _ _ _ c.in-Some.ensures.cases.0 c.loop-gate.invariant.stand

@@ -1,7 +1,7 @@
 use Rattle.std.proofs.Common.{◌≡◌, ◌-◌, map, true}
 use Rattle.std.specs.List.{range_with_len}
 use Rattle.clause_core.specs.declared.raw.RawLit.TheVariants.{Var}
-use Rattle.equiv_core.proofs.rows.some_row.Given as goal
+use Rattle.equiv_core.proofs.miter_rows.some_row.Given as goal
 
 abbrev pub invariant-loop-variable : goal.invariant-loop-variable
 invariant-loop-variable l = record {

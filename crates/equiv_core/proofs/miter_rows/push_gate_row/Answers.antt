@@ -1,6 +1,6 @@
 use Rattle.std.proofs.Common.{refl}
 use Rattle.equiv_core.specs.RowLaws.{gate_literals}
-use Rattle.equiv_core.proofs.rows.push_gate_row.Goals as goal
+use Rattle.equiv_core.proofs.miter_rows.push_gate_row.Goals as goal
 
 pub push-requires : goal.push-requires
 push-requires c =
