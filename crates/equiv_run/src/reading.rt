@@ -7,7 +7,8 @@ ghost use Rattle.blif_core.specs.Blif.{blif_format};
 ghost use Rattle.equiv_core.specs.Limits.{IsSmall};
 ghost use Rattle.equiv_run.specs.declared.answer.CompareError.TheVariants.{NoSecond};
 ghost use Rattle.equiv_run.specs.Split.{split_of};
-ghost use Rattle.equiv_run.specs.Pairs.{most_of_two, IsAnswer, IsRefusedPair};
+ghost use Rattle.equiv_run.specs.Pairs.{IsAnswer, IsRefusedPair};
+ghost use Rattle.net_theory.specs.Limits.{most_of_two};
 ghost use Rattle.equiv_run.specs.CircuitAnswers.{IsCircuitAnswer, IsOther, IsFirstRefused, IsSecondRefused};
 
 use crate::answer::{CompareError, Compared, EquivOutcome};

@@ -17,6 +17,7 @@ use Rattle.gen_core.specs.Generated.{name_of, block_inputs, block_outputs, block
 use Rattle.gen_core.proofs.BlockLaws.{of_all, of_length, of_has, of_found}
 use Rattle.gen_core.proofs.Inputs.{names_are, inputs_names, inputs_differ}
 use Rattle.gen_core.proofs.Tables.{all_layered, all_spelled, block_few, all_narrow, tables_cheap, output_driven}
+use Rattle.net_theory.specs.Limits.{most_gates}
 
 outputs_names : (n : ℕ) → n ≤ 2 ^ 64 → All IsName (of_blocks block_outputs n)
 outputs_names n low = of_all IsName block_outputs n (λ k below. names_are k (codes "y") (omega (arith, low, below)) refl)
@@ -77,7 +78,7 @@ used_is n m low there =
 
 -- ---- the document
 
-cost_low : (n : ℕ) → n ≤ 10000 → cost (generated n) ≤ 100000
+cost_low : (n : ℕ) → n ≤ 10000 → cost (generated n) ≤ most_gates
 unfolding cost generated
 cost_low n few = omega (arith, tables_cheap (tables_of n) (all_narrow n (omega (arith, few))), of_length block_tables 4 n block_few, few)
 

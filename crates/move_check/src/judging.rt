@@ -16,7 +16,7 @@ use sat_solve::Solver;
 use std::alloc::{AllocError, Global};
 
 /// The most gates of nets that are compared (`AreSmall`).
-const MOST_GATES: usize = 100_000;
+const MOST_GATES: usize = net_theory::MOST_GATES as usize;
 
 /// The most sources, and the most sinks, of nets that are compared: fewer than 300,000,000 (`IsSmall`).
 const MOST_SOURCES_OR_SINKS: usize = 299_999_999;
