@@ -22,6 +22,7 @@ use Rattle.op_basis.specs.Word.{operator_in}
 use Rattle.chain_core.specs.declared.error.ChainError.{ChainError}
 use Rattle.chain_core.specs.declared.error.ChainError.TheVariants.{BadStep, ForwardPlace, BadOut, TooManySteps, BadCount}
 use Rattle.chain_core.specs.declared.frame.Frame.{Frame}
+use Rattle.text_core.specs.Limits.{most_number}
 
 infixl 10 ◌>>=◌
 -- monadic bind: the function is applied to a value, and an error stays
@@ -33,7 +34,7 @@ abbrev pub ◌>>=◌ : {A B : Type 0} → Result A ChainError → (A → Result 
 
 -- a number of at most nine digits
 abbrev pub number_in : List ℕ → Option ℕ
-number_in text = number_up_to 999999999 text
+number_in text = number_up_to most_number text
 
 -- the place that an item names, as in x12
 unfoldable pub place_in : List ℕ → Option ℕ
