@@ -12,7 +12,7 @@ use Rattle.chain_core.specs.Steps.{steps_of}
 use Rattle.chain_core.specs.declared.frame.Frame.{Frame}
 use Rattle.chain_core.specs.declared.step.Step.{Step}
 use Rattle.chain_core.specs.declared.error.ChainError.{ChainError}
-use Rattle.settings.specs.Synth.{most_steps}
+use Rattle.chain_theory.specs.Limits.{most_steps}
 use Rattle.cert_theory.specs.declared.data.Header.{Header}
 use Rattle.cert_theory.specs.declared.data.Verdict.{Verdict}
 use Rattle.cert_theory.specs.declared.data.CertificateError.{CertificateError}

@@ -30,7 +30,8 @@ use Rattle.cert_theory.specs.Spelling.{max_line, header_lines, log_line, section
 use Rattle.cert_theory.specs.Spelling.{trailer_lines, certificate_lines, cert_text, IsCertificateText, name_lines}
 use Rattle.cert_theory.specs.Spelling.{subproblem_lines}
 use Rattle.cert_theory.specs.Gives.{◌>>=◌}
-use Rattle.settings.specs.Synth.{most_steps, most_conflicts}
+use Rattle.sat_theory.specs.Limits.{most_conflicts}
+use Rattle.chain_theory.specs.Limits.{most_steps}
 use Rattle.cert_theory.specs.Judging.{or_syntax, beginning, sections_of, after_conflicts, after_method, after_basis, after_tables, with_tables, certificate_of}
 use Rattle.cert_laws.specs.LineSpellings.{is_line_back, some_is}
 use Rattle.cert_laws.specs.LinesAgain.{basis_again, method_again, conflicts_again, max_again}
