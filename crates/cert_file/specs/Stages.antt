@@ -50,7 +50,7 @@ pub record IsFrame (h : Header) (f : Frame) : Type 0 where
   pub known : IsKnown h
   pub n : f.n ≡ h.spec.n
   pub outputs : f.outputs ≡ length h.spec.on
-  pub steps : f.steps ≤ 16
+  pub steps : f.steps ≤ most_steps
 
 -- these steps were read, and at least one more is due
 pub record AreRead (h : Header) (f : Frame) (steps : List Step) (number : ℕ) : Type 0 where

@@ -67,7 +67,7 @@ pub max_again : (x : ℕ) → x ≤ most_steps → max_in (line (max_line x)) �
 unfolding max_in max_line
 max_again x fits = number_at_back most_steps (codes "max ") x (omega arith) fits
 
-pub size_again : (h : Header) (number size : ℕ) → size ≤ h.max → size ≤ 16 → size_at h number size (line (size_line size)) ≡ Ok tt
+pub size_again : (h : Header) (number size : ℕ) → size ≤ h.max → size ≤ most_steps → size_at h number size (line (size_line size)) ≡ Ok tt
 unfolding size_at size_line
 size_again h number size fits few =
     rw (number_at_back most_number (codes "size ") size (omega arith) (omega arith)) (rw (eq_same size, le_back size h.max fits) refl)

@@ -43,6 +43,7 @@ use Rattle.cert_laws.specs.BlockReads.{chain_read}
 use Rattle.cert_laws.specs.DifferenceLaws.{difference_compares}
 use Rattle.cert_laws.specs.LineSpellings.{chosen, both_true, some_is, as_ok, is_line_spells, value_spells, number_at}
 use Rattle.text_core.specs.Limits.{most_number}
+use Rattle.chain_theory.specs.Limits.{most_steps}
 
 -- ---- verdicts
 
@@ -226,7 +227,7 @@ following_are number size low [] v e = absurd cc
 following_are number size low (l ∷ ls) v e = (last_by number true (found size low) v l ls (found_in l) (found_spells l) e).1
 
 -- the number of steps on the first line
-count_is : (number k r : ℕ) → k ≤ 16 → count_at number (line (count_text k)) ≡ Ok r → k ≡ r
+count_is : (number k r : ℕ) → k ≤ most_steps → count_at number (line (count_text k)) ≡ Ok r → k ≡ r
 unfolding count_at
 count_is number k r few e =
     let read : option_and_then number_in (after (codes "chain ") (count_text k)) ≡ Some k = count_back k few in

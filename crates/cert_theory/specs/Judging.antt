@@ -200,7 +200,7 @@ is_fence_name l = is_list_in (value_of (codes "fence") l)
 -- whether a chain block may have this many steps
 abbrev pub is_count : Option ℕ → Bool
 is_count None = false
-is_count (Some r) = nat_le r 16
+is_count (Some r) = nat_le r most_steps
 
 -- Whether a line could be right where a fence's name is due: the name of another fence, or a line that may
 -- follow a section, which is a size, the first line of a chain, or a verdict. Then the fault is NotRefuted

@@ -23,6 +23,7 @@ use Rattle.chain_core.specs.declared.error.ChainError.{ChainError}
 use Rattle.chain_core.specs.declared.error.ChainError.TheVariants.{BadStep, ForwardPlace, BadOut, TooManySteps, BadCount}
 use Rattle.chain_core.specs.declared.frame.Frame.{Frame}
 use Rattle.text_core.specs.Limits.{most_number}
+use Rattle.chain_theory.specs.Limits.{most_steps}
 
 infixl 10 ◌>>=◌
 -- monadic bind: the function is applied to a value, and an error stays
@@ -44,7 +45,7 @@ place_in item = option_and_then number_in (after (codes "x") item)
 
 abbrev pub counted : ℕ → Option ℕ → Result ℕ ChainError
 counted number None = Err (BadCount number)
-counted number (Some r) = if nat_lt 16 r then Err (TooManySteps number) else Ok r
+counted number (Some r) = if nat_lt most_steps r then Err (TooManySteps number) else Ok r
 
 -- the number of steps
 unfoldable pub count_at : ℕ → Line → Result ℕ ChainError

@@ -18,6 +18,7 @@ use Rattle.op_basis.specs.MemberLaws.{item_spelled}
 use Rattle.chain_core.specs.Block.{number_in, place_in, step_from, step_in, is_byte, named_in, out_in}
 use Rattle.chain_core.specs.Spelling.{place_text, step_text, named_text, out_text, count_text}
 use Rattle.text_core.specs.Limits.{most_number}
+use Rattle.chain_theory.specs.Limits.{most_steps}
 
 -- ---- places
 
@@ -226,7 +227,7 @@ free_out o last fits named = free_both 10 (codes "out ") (named_text o) free_out
 -- ---- the first line
 
 -- the spelling of a number of steps is read
-pub count_back : (r : ℕ) → r ≤ 16 → option_and_then number_in (after (codes "chain ") (count_text r)) ≡ Some r
+pub count_back : (r : ℕ) → r ≤ most_steps → option_and_then number_in (after (codes "chain ") (count_text r)) ≡ Some r
 unfolding count_text
 count_back r few = rw (word_back (codes "chain ") (decimal r)) (number_back most_number r (omega arith) (omega arith))
 
@@ -243,6 +244,6 @@ unfolding is_free
 free_chain_word = refl
 
 -- no LF is in the line of a number of steps
-pub free_count : (r : ℕ) → r ≤ 16 → is_free 10 (count_text r) ≡ true
+pub free_count : (r : ℕ) → r ≤ most_steps → is_free 10 (count_text r) ≡ true
 unfolding count_text
 free_count r few = free_both 10 (codes "chain ") (decimal r) free_chain_word (free_decimal 10 r (omega arith) (omega arith))

@@ -9,6 +9,7 @@ ghost use Rattle.chain_theory.specs.Chain.{IsStepAt, NamesPlace};
 ghost use Rattle.chain_core.specs.Steps.{step_of};
 ghost use Rattle.chain_core.specs.Block as block;
 ghost use Rattle.chain_core.specs.Reading.{Gives};
+ghost use Rattle.chain_theory.specs.Limits.{most_steps};
 
 use crate::error::ChainError;
 use crate::frame::Frame;
@@ -69,7 +70,7 @@ fn out_in(text: &[u8]) -> Option<Out>
 #[tactic(auto, unfolding(crate::specs::Block::count_at))]
 pub fn count_at(first_line: u32, text: &[u8], ended: bool) -> Result<u32, ChainError>
     ensures exact { Gives (λ r. r) result (block.count_at first_line (record { text = text.now; ended = ended })) }
-    ensures few { IfOk result (λ r. r ≤ 16) }
+    ensures few { IfOk result (λ r. r ≤ most_steps) }
 {
     if !ended {
         return Err(ChainError::BadCount(first_line));
