@@ -3,7 +3,7 @@ ghost use Rattle.std.specs.Prelude.{◌≡◌, ◌+◌, ◌<◌, ◌≤◌, List
 ghost use Rattle.text_core.specs.Lines.{Line};
 ghost use Rattle.tt_core.specs.Words.{IsSpec};
 ghost use Rattle.tt_core.specs.Tables as tables;
-ghost use Rattle.settings.specs.Synth.{most_steps};
+ghost use Rattle.chain_theory.specs.Limits.{most_steps};
 ghost use Rattle.cert_theory.specs.Judging as judging;
 ghost use Rattle.line_reader.specs.TextLines.{line_of};
 ghost use Rattle.cert_file.specs.HeaderLines.{with_max, with_conflicts, with_method, header_by, header_in};

@@ -2,7 +2,7 @@
 ghost use Rattle.std.specs.Prelude.{◌≡◌, ◌≤◌, ℕ, List, IfOk};
 ghost use Rattle.gen_core.specs.Generated.{generated_text};
 ghost use Rattle.command_line.specs.declared.command.GenAction.TheVariants.{Write, Improve};
-ghost use Rattle.command_line.specs.Options.{most_blocks};
+ghost use Rattle.settings.specs.Limits.{most_blocks};
 ghost use Rattle.frame_core.specs.Views.{reply_value, Judges};
 ghost use Rattle.cmd_gen.specs.GenReport.{gen_reply, gen_task};
 

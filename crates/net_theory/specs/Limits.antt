@@ -1,0 +1,32 @@
+-- The limits of netlists that are read, improved, compared or written. Nets as such have none.
+use Rattle.std.specs.Prelude.{ℕ}
+
+-- The most gates of a netlist, so that nodes and the variables and clauses of formulas on two netlists have numbers
+-- of 32 bits.
+abbrev pub most_gates : ℕ
+most_gates = 100000
+
+-- The most inputs of a table, and operands of a gate of a `.bench` text: a table that is wider decomposes into too
+-- many gates.
+abbrev pub most_table_inputs : ℕ
+most_table_inputs = 256
+
+-- the most cover lines (cubes) of a table, for the same reason
+abbrev pub most_cubes : ℕ
+most_cubes = 4096
+
+-- the most bytes of a name or another word, so that a line with one name isn't too long
+abbrev pub most_name_bytes : ℕ
+most_name_bytes = 1024
+
+-- The most bytes of a line: a table with the most inputs, each with the longest name, fits in a line.
+abbrev pub most_line_bytes : ℕ
+most_line_bytes = 1048576
+
+-- the most bytes of a netlist that is read: 16 MiB, more than 100,000 gates need
+abbrev pub most_of_netlist : ℕ
+most_of_netlist = 16777216
+
+-- the most bytes of two netlists that are compared: 32 MiB, twice as many
+abbrev pub most_of_two : ℕ
+most_of_two = 33554432
