@@ -14,6 +14,7 @@ use blif_laws::documents_are_read_back;
 pub fn generated_netlists_are_netlists()
     ensures { (blocks : ℕ) → blocks ≤ most_blocks → IsNetlist blif_format (generated_text blocks) }
 {
+    // for the prover: this follows from the law of documents
     documents_are_read_back();
 }
 
