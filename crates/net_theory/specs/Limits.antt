@@ -30,3 +30,8 @@ most_of_netlist = 16777216
 -- the most bytes of two netlists that are compared: 32 MiB, twice as many
 abbrev pub most_of_two : ℕ
 most_of_two = 33554432
+
+-- The most leaves of a cone that is simulated on all rows: each signal then has 2 ^ 12 bits, 64 words. A net with as
+-- many sources is simulated as a whole.
+abbrev pub most_leaves : ℕ
+most_leaves = 12
