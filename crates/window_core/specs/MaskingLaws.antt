@@ -184,7 +184,8 @@ pub numbered_nodes : (n : Net) (ps : List ℕ) (gates : List (ℕ × Gate)) → 
 numbered_nodes n ps gates are = sym (nothing_after (gate_nodes gates)) ∙ are.parts
 
 -- the gates of a window are above its inputs
-pub inner_above : (n : Net) (w : Window) (inputs : List ℕ) (gates : List (ℕ × Gate)) → Belongs n w → inputs ≡ w.inputs → length w.inputs ≤ most_inputs → AreNumbered n w.gates [] gates → AreAbove n inputs gates
+pub inner_above : (n : Net) (w : Window) (inputs : List ℕ) (gates : List (ℕ × Gate)) → Belongs n w →
+    inputs ≡ w.inputs → length w.inputs ≤ most_inputs → AreNumbered n w.gates [] gates → AreAbove n inputs gates
 inner_above n w inputs gates is same few are =
     let own : gate_nodes gates ≡ w.gates = numbered_nodes n w.gates gates are in
     let inside : (p : ℕ) → among (gate_nodes gates) p ≡ true → among w.gates p ≡ true = λ p e. ap (λ (xs : List ℕ). among xs p) (sym own) ∙ e in
