@@ -5,10 +5,10 @@ use Rattle.std.specs.Prelude.{ℕ}
 abbrev pub most_inputs : ℕ
 most_inputs = 6
 
--- the most outputs of tables, so that the variables of a formula are few enough to be numbered by layout
+-- the most outputs of tables, which bounds the clauses of a formula
 abbrev pub most_outputs : ℕ
 most_outputs = 8
 
--- the most steps of a chain: larger searches don't end, and 16 steps have at most 16,000 pairs of operands
+-- the most steps of a chain, which bounds a formula: at most 16,000 pairs of operands
 abbrev pub most_steps : ℕ
 most_steps = 16

@@ -23,7 +23,6 @@ mod reporting;
 mod texts;
 
 pub use blif_core::{Circuit, NetError};
-pub use circuits::{Improved, improve_circuit};
 pub use improve_theory::{Candidate, Undecided};
 pub use passes::{ImprovedNet, improve_net};
 pub use settings::ImproveSettings;

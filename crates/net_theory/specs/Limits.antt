@@ -6,8 +6,7 @@ use Rattle.std.specs.Prelude.{ℕ}
 abbrev pub most_gates : ℕ
 most_gates = 100000
 
--- The most inputs of a table, and operands of a gate of a `.bench` text: a table that is wider decomposes into too
--- many gates.
+-- the most inputs of a table, and operands of a gate of a `.bench` text, so that the literals of a table can be counted
 abbrev pub most_table_inputs : ℕ
 most_table_inputs = 256
 
@@ -15,18 +14,23 @@ most_table_inputs = 256
 abbrev pub most_cubes : ℕ
 most_cubes = 4096
 
--- the most bytes of a name or another word, so that a line with one name isn't too long
+-- the most bytes of a name or another word
 abbrev pub most_name_bytes : ℕ
 most_name_bytes = 1024
 
--- The most bytes of a line: a table with the most inputs, each with the longest name, fits in a line.
+-- the most bytes of a line: the names of a table with the most inputs fit in one, each as long as names may be
 abbrev pub most_line_bytes : ℕ
 most_line_bytes = 1048576
 
--- the most bytes of a netlist that is read: 16 MiB, more than 100,000 gates need
+-- the most bytes of a netlist that is read, 16 MiB, so that its names, sources and sinks can be counted
 abbrev pub most_of_netlist : ℕ
 most_of_netlist = 16777216
 
 -- the most bytes of two netlists that are compared: 32 MiB, twice as many
 abbrev pub most_of_two : ℕ
 most_of_two = 33554432
+
+-- The most leaves of a cone that is simulated on all rows: each signal then has 2 ^ 12 bits, 64 words. A net with as
+-- many sources is simulated as a whole.
+abbrev pub most_leaves : ℕ
+most_leaves = 12

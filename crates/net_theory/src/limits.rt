@@ -4,7 +4,8 @@
 /// numbers of 32 bits.
 pub const MOST_GATES: u32 = 100_000;
 
-/// The most inputs of a table, and operands of a gate of a `.bench` text: a wider one decomposes into too many gates.
+/// The most inputs of a table, and operands of a gate of a `.bench` text, so that the literals of a table can be
+/// counted.
 pub const MOST_TABLE_INPUTS: usize = 256;
 
 /// The most cover lines (cubes) of a table, for the same reason.
@@ -13,10 +14,10 @@ pub const MOST_CUBES: usize = 4096;
 /// The most bytes of a name or another word.
 pub const MOST_NAME_BYTES: usize = 1024;
 
-/// The most bytes of a line: a table with the most inputs fits in a line, each name as long as names may be.
+/// The most bytes of a line: the names of a table with the most inputs fit in one, each as long as names may be.
 pub const MOST_LINE_BYTES: usize = 1_048_576;
 
-/// The most bytes of a netlist that is read: 16 MiB.
+/// The most bytes of a netlist that is read, 16 MiB, so that its names, sources and sinks can be counted.
 pub const MOST_OF_NETLIST: usize = 16_777_216;
 
 /// The most bytes of two netlists that are compared: 32 MiB, twice as many.

@@ -13,7 +13,7 @@ most_variable = 2147483647
 abbrev pub most_conflicts : ℕ
 most_conflicts = 10000000
 
--- how many clauses a log may keep beside three quarters of its additions and one for each variable: so few that they cost
--- nothing, and a short search deletes nothing
+-- How many clauses a log may keep beside three quarters of its additions and one for each variable, so that a log of
+-- at most four times as many additions needs to delete none.
 abbrev pub slack : ℕ
 slack = 2000

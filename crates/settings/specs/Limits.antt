@@ -1,15 +1,15 @@
 -- The limits and defaults of settings.
 use Rattle.std.specs.Prelude.{ℕ}
 
--- the conflict limit of a formula where none is asked for: most tables of four inputs end within it
+-- the conflict limit of a formula where none is asked for
 abbrev pub default_conflicts : ℕ
 default_conflicts = 100000
 
--- the most gates of a window: its inputs and outputs are then as few as those of tables may be
+-- the most gates of a window: each may be an output, and tables have at most 8 outputs
 abbrev pub most_gates_of_window : ℕ
 most_gates_of_window = 8
 
--- the most rounds over all windows; each round removes a gate or lowers what is counted, so that few netlists need more
+-- the most rounds over all windows: each that changes something removes a gate, and a netlist has no more gates
 abbrev pub most_rounds : ℕ
 most_rounds = 100000
 

@@ -19,6 +19,7 @@ pub mod laws;
 mod limits;
 mod methods;
 mod synth;
+pub mod thresholds;
 
 pub use chain_theory::MOST_STEPS;
 pub use improve::ImproveSettings;

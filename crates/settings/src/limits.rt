@@ -3,10 +3,10 @@
 /// The conflict limit of a formula where none is asked for.
 pub const DEFAULT_CONFLICTS: u32 = 100_000;
 
-/// The most gates of a window.
+/// The most gates of a window: each may be an output, and tables have at most 8 outputs.
 pub const MOST_GATES_OF_WINDOW: u32 = 8;
 
-/// The most rounds over all windows.
+/// The most rounds over all windows: each that changes something removes a gate, and a netlist has no more gates.
 pub const MOST_ROUNDS: u32 = 100_000;
 
 /// The most rounds of size-preserving moves.

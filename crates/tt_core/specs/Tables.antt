@@ -41,14 +41,15 @@ unless_fault (Some fault) read = Err fault
 -- the result for the table lines that are left, after those of w
 unfoldable pub rows_of : Words → List Line → Result Read SpecError
 rows_of w [] = end_of w []
-rows_of w (l ∷ ls) = if begins_lower l.text then end_of w
-    (l ∷ ls) else (if length w.on == most_outputs then Err TooManyOutputs else unless_fault (row_fault w.n (2 + length w.on) l)
-    (rows_of (with_row w l.text) ls))
+rows_of w (l ∷ ls) = if begins_lower l.text then end_of w (l ∷ ls)
+    else (if length w.on == most_outputs then Err TooManyOutputs
+    else unless_fault (row_fault w.n (2 + length w.on) l) (rows_of (with_row w l.text) ls))
 
 -- the result for the lines after the header
 abbrev pub after_inputs : Option ℕ → List Line → Result Read SpecError
 after_inputs None ls = Err (BadHeader 1)
-after_inputs (Some n) ls = if nat_lt most_inputs n then Err TooManyInputs else rows_of (record { n = n; on = []; care = [] }) ls
+after_inputs (Some n) ls = if nat_lt most_inputs n then Err TooManyInputs
+    else rows_of (record { n = n; on = []; care = [] }) ls
 
 -- Lines are checked from the top. Errors of the header come in the order BadHeader, TooManyInputs, and
 -- those of a table line in the order TooManyOutputs, BadRow, WrongLength. Lines are numbered from 1.
