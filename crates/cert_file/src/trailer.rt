@@ -362,3 +362,16 @@ pub(crate) fn at_end(claim: Claim, line: &TextLine) -> Result<Stage, Certificate
     }
     Ok(Stage::Done { claim })
 }
+
+/// A line after the last one, which is a fault.
+pub(crate) fn at_done(claim: Claim, line: &TextLine) -> Result<Stage, CertificateError>
+    ensures keeps { IfOk result (λ s. IsStage s (line.now.number + 1)) }
+    ensures answer { (ls : List Line) (answer : Answer) →
+        answer ≡ judging.nothing_after line.now.number claim.verdict (line_of line.now ∷ ls) →
+        Judged result (line.now.number + 1) ls answer }
+    ensures keeps_claim { (ls all : List Line) → IfOk result (λ s. KeepsClaim s (line.now.number + 1) ls all) }
+{
+    // for the prover: dropped here at once; left to the exit, each of its fields would be
+    drop(claim);
+    Err(CertificateError::Syntax(line.number))
+}
