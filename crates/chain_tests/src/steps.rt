@@ -50,12 +50,14 @@ const ONE_STEP: &[(&str, &[u8], &[u8], &[u8])] = &[
         b"inputs 2\n1010\n",
         b"chain 1\nx3 x2 x2 1110\nout x3\n",
     ),
+    // though an operator on two inputs would do
     (
         "a negation over all operators",
         b"all",
         b"inputs 2\n1010\n",
         b"chain 1\nx3 x2 x2 1000\nout x3\n",
     ),
+    // since the basis needs it
     (
         "operands in the other order",
         b"0010",

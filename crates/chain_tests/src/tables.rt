@@ -85,6 +85,7 @@ const TABLES: &[(&str, &[u8], u32, u32, usize, u32, &[u8])] = &[
         7,
         b"-0",
     ),
+    // the tables end before a line that begins with a lower-case letter
     (
         "a chain after the tables",
         b"inputs 2\n0110\nchain 1\nx3 x1 x2 0110\n",

@@ -8,8 +8,8 @@ use std::alloc::{AllocError, Global};
 /// The numbers of the calls that fail.
 type Fails = &'static [u64];
 
-/// The name, the input, which reads, writes and calls of the notes fail, the status, how many reads failed, the output and
-/// the notes.
+/// The name, the input, which reads, writes and calls of the notes fail, the status, how many reads failed, the
+/// output and the notes.
 type Run = (
     &'static str,
     &'static [u8],

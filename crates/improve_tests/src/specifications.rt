@@ -121,6 +121,7 @@ const WORDS: &[(&str, &Plan, u32, u32, bool, u64, u64)] = &[
         0b1111,
     ),
     ("AND of two sources", &HALVES, 3, 1, false, 0b1000, 0b1111),
+    // constants alone have one row
     (
         "XOR of constants, alone",
         &CONSTANTS,
@@ -148,6 +149,8 @@ const WORDS: &[(&str, &Plan, u32, u32, bool, u64, u64)] = &[
         0b1,
         0b1,
     ),
+    // the first source is 1 on the rows 2 and 3, counted from 0; where XNOR is a sink itself all
+    // rows are observed
     (
         "a gate that one source hides",
         &HIDDEN,
