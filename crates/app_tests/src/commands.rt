@@ -163,7 +163,7 @@ const RUNS: &[(&str, &str, u8, &str, &str)] = &[
 ];
 
 #[test]
-fn commands_tell(rt: HostRuntime) {
+fn commands_write_these_outputs_and_notes(rt: HostRuntime) {
     for &(line, input, status, out, note) in RUNS {
         let well = reports(rt.alloc(), line, input.as_bytes(), status, out, note);
         assert!(rt; well, "{line} {input}");
@@ -218,7 +218,7 @@ const PAIRS: &[(&str, &str, u8, &str, &str)] = &[
 ];
 
 #[test]
-fn equiv_reports(rt: HostRuntime) {
+fn equiv_reports_differences_and_refusals(rt: HostRuntime) {
     for &(first, second, status, out, note) in PAIRS {
         let well = are_judged(rt.alloc(), first, second, status, out, note);
         assert!(rt; well, "{first} {second}");
@@ -265,7 +265,7 @@ const LOGS: &[(&str, &str, &str, u8, &str)] = &[
 ];
 
 #[test]
-fn equiv_reports_its_log(rt: HostRuntime) {
+fn equiv_writes_a_log_of_equal_and_undecided_netlists(rt: HostRuntime) {
     for &(line, first, second, status, word) in LOGS {
         let well = reports_log(rt.alloc(), line, first, second, status, word);
         assert!(rt; well, "{line} {word}");

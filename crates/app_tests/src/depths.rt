@@ -71,16 +71,16 @@ const FOUND: &[(&str, &str)] = &[
 ];
 
 #[test]
-fn fewest_levels_are_found(rt: HostRuntime) {
+fn synth_writes_valid_certificates_of_fewest_levels(rt: HostRuntime) {
     for &(input, ending) in FOUND {
         assert!(rt; is_found(rt.alloc(), input, ending), "{input}");
     }
 }
 
 /// The first lines of a bundle, its line of the depth, its logs and its ending; the status, and what is reported.
-const JUDGED: &[(&str, &str, &str, &str, u8, &str, &str)] = &[
-    // a budget that is reached leaves levels open
+const JUDGED: &[(&str, &str, &str, &str, &str, u8, &str, &str)] = &[
     (
+        "open levels",
         OPEN,
         "",
         "",
@@ -90,6 +90,7 @@ const JUDGED: &[(&str, &str, &str, &str, u8, &str, &str)] = &[
         "",
     ),
     (
+        "levels, beside open ones",
         OPEN,
         "",
         "",
@@ -99,6 +100,7 @@ const JUDGED: &[(&str, &str, &str, &str, u8, &str, &str)] = &[
         "error: WrongLevels 30\n",
     ),
     (
+        "refuted levels",
         PREFIX,
         "depth 2\n",
         FLATTER,
@@ -108,6 +110,7 @@ const JUDGED: &[(&str, &str, &str, &str, u8, &str, &str)] = &[
         "",
     ),
     (
+        "no log of the lower level",
         PREFIX,
         "depth 2\n",
         "",
@@ -117,6 +120,7 @@ const JUDGED: &[(&str, &str, &str, &str, u8, &str, &str)] = &[
         "error: NotRefuted 26\n",
     ),
     (
+        "a depth that isn't the chain's",
         PREFIX,
         "depth 3\n",
         FLATTER,
@@ -126,6 +130,7 @@ const JUDGED: &[(&str, &str, &str, &str, u8, &str, &str)] = &[
         "error: WrongDepth 25\n",
     ),
     (
+        "a depth without its number",
         PREFIX,
         "depth\n",
         FLATTER,
@@ -135,6 +140,7 @@ const JUDGED: &[(&str, &str, &str, &str, u8, &str, &str)] = &[
         "error: Syntax 25\n",
     ),
     (
+        "fewer levels than the chain has",
         PREFIX,
         "depth 2\n",
         FLATTER,
@@ -144,6 +150,7 @@ const JUDGED: &[(&str, &str, &str, &str, u8, &str, &str)] = &[
         "error: WrongLevels 37\n",
     ),
     (
+        "open levels, beside refuted ones",
         PREFIX,
         "depth 2\n",
         FLATTER,
@@ -153,6 +160,7 @@ const JUDGED: &[(&str, &str, &str, &str, u8, &str, &str)] = &[
         "error: WrongLevels 37\n",
     ),
     (
+        "another fence after the last",
         PREFIX,
         "depth 2\n",
         FLATTER,
@@ -162,6 +170,7 @@ const JUDGED: &[(&str, &str, &str, &str, u8, &str, &str)] = &[
         "error: NotRefuted 37\n",
     ),
     (
+        "no end",
         PREFIX,
         "depth 2\n",
         FLATTER,
@@ -171,6 +180,7 @@ const JUDGED: &[(&str, &str, &str, &str, u8, &str, &str)] = &[
         "error: Syntax 38\n",
     ),
     (
+        "a line after the end",
         PREFIX,
         "depth 2\n",
         FLATTER,
@@ -180,6 +190,7 @@ const JUDGED: &[(&str, &str, &str, &str, u8, &str, &str)] = &[
         "error: Syntax 39\n",
     ),
     (
+        "a fence that isn't one of this depth",
         PREFIX,
         "depth 2\n",
         "fence 1 1\n",
@@ -189,6 +200,7 @@ const JUDGED: &[(&str, &str, &str, &str, u8, &str, &str)] = &[
         "error: NotRefuted 26\n",
     ),
     (
+        "a line that doesn't hold",
         PREFIX,
         "depth 2\n",
         "fence 2\nrefuted\n276 0 0\n",
@@ -198,6 +210,7 @@ const JUDGED: &[(&str, &str, &str, &str, u8, &str, &str)] = &[
         "error: StepRefused 28 NoConflict\n",
     ),
     (
+        "a log without the empty clause",
         PREFIX,
         "depth 2\n",
         "fence 2\nrefuted\ndone\n",
@@ -207,6 +220,7 @@ const JUDGED: &[(&str, &str, &str, &str, u8, &str, &str)] = &[
         "error: NotRefuted 28\n",
     ),
     (
+        "an open log without a clause",
         PREFIX,
         "depth 2\n",
         "fence 2\nopen\ndone\n",
@@ -215,10 +229,29 @@ const JUDGED: &[(&str, &str, &str, &str, u8, &str, &str)] = &[
         "",
         "error: OpenTooShort 28\n",
     ),
-    (PREFIX, "", "", "", 2, "", "error: Syntax 25\n"),
-    ("chains 1\n", "", "", "", 2, "", "error: Bundle Syntax 2\n"),
-    ("", "", "", "", 2, "", "error: Bundle Syntax 1\n"),
+    ("no depth", PREFIX, "", "", "", 2, "", "error: Syntax 25\n"),
     (
+        "a certificate that is cut off",
+        "chains 1\n",
+        "",
+        "",
+        "",
+        2,
+        "",
+        "error: Bundle Syntax 2\n",
+    ),
+    (
+        "the empty text",
+        "",
+        "",
+        "",
+        "",
+        2,
+        "",
+        "error: Bundle Syntax 1\n",
+    ),
+    (
+        "another method",
         "chains 1\ninputs 1\n01\nbasis all\nmethod ssv\nconflicts 7\nmax 0\nchain 0\nout x1\nminimum 0\nend\n",
         "",
         "",
@@ -230,9 +263,9 @@ const JUDGED: &[(&str, &str, &str, &str, u8, &str, &str)] = &[
 ];
 
 #[test]
-fn depth_certificates_are_judged(rt: HostRuntime) {
-    for &(prefix, depth, logs, ending, status, out, note) in JUDGED {
+fn recheck_reports_the_levels_or_the_first_fault(rt: HostRuntime) {
+    for &(name, prefix, depth, logs, ending, status, out, note) in JUDGED {
         let well = is_judged(rt.alloc(), [prefix, depth, logs, ending], status, out, note);
-        assert!(rt; well, "{note}");
+        assert!(rt; well, "{name}");
     }
 }

@@ -146,9 +146,9 @@ const PIECES: &[(u64, &str)] = &[
 ];
 
 #[test]
-fn certificates_go_out_in_pieces(rt: HostRuntime) {
+fn a_certificate_whose_write_fails_ends_with_a_whole_piece(rt: HostRuntime) {
     for &(call, end) in PIECES {
-        assert!(rt; leaves_pieces(rt.alloc(), call, end), "{call}");
+        assert!(rt; leaves_pieces(rt.alloc(), call, end), "call {call}");
     }
 }
 
@@ -184,7 +184,7 @@ const LONG: &[(&str, &str)] = &[
 #[test]
 fn reads_that_fail_after_a_refused_line_are_reported(rt: HostRuntime) {
     for &(line, prefix) in LONG {
-        assert!(rt; is_read_on(rt.alloc(), line, prefix), "{line} {front}");
+        assert!(rt; is_read_on(rt.alloc(), line, prefix), "{line} {prefix}");
     }
 }
 

@@ -150,88 +150,149 @@ fn notes(alloc: Global, line: &str, text: Made, status: u8, note: &str) -> bool 
 /// The report on a netlist without gates.
 const EMPTY: &str = "gates 0 -> 0\nsettled\n";
 
-/// Command lines, texts, the status, and the notes.
-type Runs = &'static [(&'static str, Made, u8, &'static str)];
+/// Names, command lines, texts, the status, and the notes.
+type Runs = &'static [(&'static str, &'static str, Made, u8, &'static str)];
 
 const LIMITS: Runs = &[
     (
+        "tables of the most bytes",
         "synth",
         Made::Long(BARE, b'0', 65_536),
         2,
         "error: BadHeader 1\n",
     ),
     (
+        "tables of a byte more",
         "synth",
         Made::Long(BARE, b'0', 65_537),
         3,
         "error: TooLong\n",
     ),
-    (BLIF, Made::Long(NAME, b'n', 1_024), 0, EMPTY),
     (
+        "BLIF: a name of the most bytes",
+        BLIF,
+        Made::Long(NAME, b'n', 1_024),
+        0,
+        EMPTY,
+    ),
+    (
+        "BLIF: a name of a byte more",
         BLIF,
         Made::Long(NAME, b'n', 1_025),
         3,
         "error: NameTooLong 2\n",
     ),
-    (BLIF, Made::Long(COMMENT, b'#', 1_048_575), 0, EMPTY),
     (
+        "BLIF: a line of the most bytes",
+        BLIF,
+        Made::Long(COMMENT, b'#', 1_048_575),
+        0,
+        EMPTY,
+    ),
+    (
+        "BLIF: a line of a byte more",
         BLIF,
         Made::Long(COMMENT, b'#', 1_048_576),
         3,
         "error: LineTooLong 2\n",
     ),
-    (BENCH, Made::Long(BENCH_NAME, b'n', 1_024), 0, EMPTY),
     (
+        "BENCH: a name of the most bytes",
+        BENCH,
+        Made::Long(BENCH_NAME, b'n', 1_024),
+        0,
+        EMPTY,
+    ),
+    (
+        "BENCH: a name of a byte more",
         BENCH,
         Made::Long(BENCH_NAME, b'n', 1_025),
         3,
         "error: NameTooLong 2\n",
     ),
-    (BENCH, Made::Long(BENCH_COMMENT, b'#', 1_048_575), 0, EMPTY),
     (
+        "BENCH: a line of the most bytes",
+        BENCH,
+        Made::Long(BENCH_COMMENT, b'#', 1_048_575),
+        0,
+        EMPTY,
+    ),
+    (
+        "BENCH: a line of a byte more",
         BENCH,
         Made::Long(BENCH_COMMENT, b'#', 1_048_576),
         3,
         "error: LineTooLong 2\n",
     ),
-    (BLIF, Made::Inputs(256), 0, EMPTY),
-    (BLIF, Made::Inputs(257), 3, "error: TooWide 3\n"),
-    (BENCH, Made::Operands(256), 0, "gates 255 -> 254\nsettled\n"),
-    (BENCH, Made::Operands(257), 3, "error: TooWide 3\n"),
     (
+        "the most inputs of a table",
+        BLIF,
+        Made::Inputs(256),
+        0,
+        EMPTY,
+    ),
+    (
+        "one input more",
+        BLIF,
+        Made::Inputs(257),
+        3,
+        "error: TooWide 3\n",
+    ),
+    (
+        "the most operands of a gate",
+        BENCH,
+        Made::Operands(256),
+        0,
+        "gates 255 -> 254\nsettled\n",
+    ),
+    (
+        "one operand more",
+        BENCH,
+        Made::Operands(257),
+        3,
+        "error: TooWide 3\n",
+    ),
+    (
+        "the most rows of a table",
         BLIF,
         Made::Rows(4_096),
         0,
         "gates 49151 -> 49151\nsettled\n",
     ),
-    (BLIF, Made::Rows(4_097), 3, "error: TooManyRows 4100\n"),
+    (
+        "one row more",
+        BLIF,
+        Made::Rows(4_097),
+        3,
+        "error: TooManyRows 4100\n",
+    ),
 ];
 
 #[test]
-fn texts_have_limits(rt: HostRuntime) {
-    for &(line, text, status, note) in LIMITS {
-        assert!(rt;
-            notes(rt.alloc(), line, text, status, note),
-            "{line} {note}"
-        );
+fn texts_at_their_limits_are_read_and_longer_ones_refused(rt: HostRuntime) {
+    for &(name, line, text, status, note) in LIMITS {
+        assert!(rt; notes(rt.alloc(), line, text, status, note), "{name}");
     }
 }
 
 /// The same for the number of gates, which takes the longest, and the result for a thousand blocks.
 const GATES: Runs = &[
     (
+        "the most gates",
         BLIF,
         Made::Gates(100_000),
         0,
         "gates 100000 -> 100000\nsettled\n",
     ),
     (
+        "one gate more",
         BLIF,
         Made::Gates(100_001),
         3,
         "error: TooManyGates 100001\n",
     ),
     (
+        "a thousand blocks",
         "gen --blocks 1000 --run improve",
         Made::Text(""),
         0,
@@ -240,60 +301,65 @@ const GATES: Runs = &[
 ];
 
 #[test]
-fn netlists_have_a_greatest_number_of_gates(rt: HostRuntime) {
-    for &(line, text, status, note) in GATES {
-        assert!(rt;
-            notes(rt.alloc(), line, text, status, note),
-            "{line} {note}"
-        );
+fn netlists_of_100000_gates_are_read_and_larger_ones_refused(rt: HostRuntime) {
+    for &(name, line, text, status, note) in GATES {
+        assert!(rt; notes(rt.alloc(), line, text, status, note), "{name}");
     }
 }
 
 /// Lines, netlists with a loop or with one name for two, the status, and what is reported on the notes.
 const LOOPS: Runs = &[
     (
+        "BLIF: a gate that reads itself",
         "improve",
         Made::Text(".inputs a\n.outputs n\n.names a n n\n11 1\n"),
         2,
         "error: Cycle n\n",
     ),
     (
+        "BLIF: a latch that reads itself",
         "improve",
         Made::Text(".inputs a\n.outputs q\n.latch q q 0\n"),
         0,
         "gates 0 -> 0\nsettled\n",
     ),
     (
+        "BLIF: a latch and a gate of one name",
         "improve",
         Made::Text(".inputs a\n.outputs q\n.latch a q 0\n.names a q\n1 1\n"),
         2,
         "error: DrivenTwice q\n",
     ),
     (
+        "BLIF: a continued line that doesn't go on",
         "improve",
         Made::Text(".inputs a\\ b\n"),
         2,
         "error: Syntax 1\n",
     ),
     (
+        "BENCH: a gate that reads itself",
         "improve --format bench",
         Made::Text("INPUT(a)\nOUTPUT(y)\ny = AND(y, a)\n"),
         2,
         "error: Cycle y\n",
     ),
     (
+        "BENCH: an input listed twice",
         "improve --format bench",
         Made::Text("INPUT(a)\nINPUT(a)\nOUTPUT(a)\n"),
         2,
         "error: DrivenTwice a\n",
     ),
     (
+        "BENCH: a latch that reads itself",
         "improve --format bench",
         Made::Text("INPUT(a)\nOUTPUT(q)\nq = DFF(q)\n"),
         0,
         "gates 0 -> 0\nsettled\n",
     ),
     (
+        "BENCH: a latch and a gate of one name",
         "improve --format bench",
         Made::Text("INPUT(a)\nOUTPUT(q)\nq = DFF(a)\nq = NOT(a)\n"),
         2,
@@ -302,11 +368,8 @@ const LOOPS: Runs = &[
 ];
 
 #[test]
-fn netlists_that_depend_on_themselves_are_refused(rt: HostRuntime) {
-    for &(line, text, status, note) in LOOPS {
-        assert!(rt;
-            notes(rt.alloc(), line, text, status, note),
-            "{line} {note}"
-        );
+fn cycles_and_names_of_two_drivers_are_refused(rt: HostRuntime) {
+    for &(name, line, text, status, note) in LOOPS {
+        assert!(rt; notes(rt.alloc(), line, text, status, note), "{name}");
     }
 }

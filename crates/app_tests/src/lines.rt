@@ -57,7 +57,7 @@ const COMMANDS: &[(&str, Bare)] = &[
 ];
 
 #[test]
-fn lines_ask_for_commands(rt: HostRuntime) {
+fn commands_without_settings_are_read(rt: HostRuntime) {
     for &(line, command) in COMMANDS {
         assert!(rt; asks(rt.alloc(), line, Ok(command_of(command))), "{line}");
     }
@@ -128,7 +128,7 @@ const SYNTHS: &[(&str, Synth)] = &[
 ];
 
 #[test]
-fn synth_is_asked_with_settings(rt: HostRuntime) {
+fn options_of_synth_are_read(rt: HostRuntime) {
     for &(line, settings) in SYNTHS {
         assert!(rt; asks(rt.alloc(), line, Ok(synth_of(settings))), "{line}");
     }
@@ -281,7 +281,7 @@ const IMPROVES: &[(&str, Improve)] = &[
 ];
 
 #[test]
-fn improve_is_asked_with_settings(rt: HostRuntime) {
+fn options_of_improve_are_read(rt: HostRuntime) {
     for &(line, settings) in IMPROVES {
         assert!(rt; asks(rt.alloc(), line, Ok(improve_of(settings))), "{line}");
     }
@@ -347,14 +347,14 @@ const NOTHING: &[&str] = &[
 ];
 
 #[test]
-fn other_words_ask_for_none(rt: HostRuntime) {
+fn other_lines_are_refused(rt: HostRuntime) {
     for &line in NOTHING {
         assert!(rt; asks(rt.alloc(), line, Err(WordsError::Usage)), "{line}");
     }
 }
 
 #[test]
-fn no_words_are_no_command(rt: HostRuntime) {
+fn an_empty_line_is_refused(rt: HostRuntime) {
     let none: Vec<String> = Vec::new(rt.alloc());
     assert!(rt; read_words(&none) == Err(WordsError::Usage));
 }

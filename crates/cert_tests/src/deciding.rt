@@ -111,16 +111,16 @@ fn is_found_again(alloc: Global, first: &[u8], second: &[u8], max: u32, wanted: 
 
 /// Tables, the same tables with their inputs permuted, the greatest number of steps, and the answer. Fewer than
 /// five steps are enumerated without a search.
-const PERMUTED: &[(&[u8], &[u8], u32, Answer)] = &[
-    // the full adder beside the AND of x1 and x2; beside that of x1 and x3
+const PERMUTED: &[(&str, &[u8], &[u8], u32, Answer)] = &[
     (
+        "a full adder beside an AND: five steps",
         b"inputs 3\n01101001\n00010111\n00000011\n",
         b"inputs 3\n01101001\n00010111\n00000101\n",
         5,
         Answer::Shorter,
     ),
-    // and beside the OR of the two
     (
+        "and beside an OR: no five steps",
         b"inputs 3\n01101001\n00010111\n00000011\n00111111\n",
         b"inputs 3\n01101001\n00010111\n00000101\n01011111\n",
         5,
@@ -130,10 +130,10 @@ const PERMUTED: &[(&[u8], &[u8], u32, Answer)] = &[
 
 #[test]
 fn decided_specifications_are_found_in_any_order_of_inputs(rt: HostRuntime) {
-    for &(first, second, max, wanted) in PERMUTED {
+    for &(name, first, second, max, wanted) in PERMUTED {
         assert!(rt;
             is_found_again(rt.alloc(), first, second, max, wanted),
-            "{max}"
+            "{name}"
         );
     }
 }

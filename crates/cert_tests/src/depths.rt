@@ -20,37 +20,58 @@ fn text_of(alloc: Global, certificate: &[u8], following: &[u8]) -> Result<Vec<u8
 }
 
 /// Certificates, the lines after them, and the answer.
-const JUDGED: &[(&[u8], &[u8], Result<DepthVerdict, DepthError>)] = &[
+const JUDGED: &[(&str, &[u8], &[u8], Result<DepthVerdict, DepthError>)] = &[
     (
+        "a lower level open",
         CERTIFICATE,
         b"depth 2\nfence 2\nopen\n276 -1 0 3 19 274 0\ndone\nlevels-bounded 1 2\nend\n",
         Ok(DepthVerdict::Bounded { low: 1, levels: 2 }),
     ),
     (
+        "levels for an open level",
         CERTIFICATE,
         b"depth 2\nfence 2\nopen\n276 -1 0 3 19 274 0\ndone\nlevels 2\nend\n",
         Err(DepthError::WrongLevels(30)),
     ),
     (
+        "no end",
         CERTIFICATE,
         b"depth 2\nfence 2\nopen\n276 -1 0 3 19 274 0\ndone\nlevels-bounded 1 2\n",
         Err(DepthError::Syntax(31)),
     ),
-    (CERTIFICATE, b"depth 3\n", Err(DepthError::WrongDepth(25))),
-    (CERTIFICATE, b"depth 2", Err(DepthError::Syntax(25))),
     (
+        "a depth that isn't the chain's",
+        CERTIFICATE,
+        b"depth 3\n",
+        Err(DepthError::WrongDepth(25)),
+    ),
+    (
+        "a line without its end",
+        CERTIFICATE,
+        b"depth 2",
+        Err(DepthError::Syntax(25)),
+    ),
+    (
+        "no log of the lower level",
         CERTIFICATE,
         b"depth 2\nlevels 2\nend\n",
         Err(DepthError::NotRefuted(26)),
     ),
     (
+        "an open log without a clause",
         CERTIFICATE,
         b"depth 2\nfence 2\nopen\ndone\n",
         Err(DepthError::OpenTooShort(28)),
     ),
-    (CERTIFICATE, b"", Err(DepthError::Syntax(25))),
-    (BY_PAIRS, b"depth 0\n", Err(DepthError::NotLeastForm)),
+    ("no depth", CERTIFICATE, b"", Err(DepthError::Syntax(25))),
     (
+        "another method",
+        BY_PAIRS,
+        b"depth 0\n",
+        Err(DepthError::NotLeastForm),
+    ),
+    (
+        "a certificate that is cut off",
         b"chains 1\ninputs 3\n",
         b"",
         Err(DepthError::Certificate(cert_file::CertificateError::Syntax(3))),
@@ -75,8 +96,11 @@ fn is_judged(
 }
 
 #[test]
-fn depth_certificates_come_in_pieces(rt: HostRuntime) {
-    for &(certificate, following, answer) in JUDGED {
-        assert!(rt; is_judged(rt.alloc(), certificate, following, answer));
+fn depth_certificates_are_judged_alike_whole_and_in_pieces(rt: HostRuntime) {
+    for &(name, certificate, following, answer) in JUDGED {
+        assert!(rt;
+            is_judged(rt.alloc(), certificate, following, answer),
+            "{name}"
+        );
     }
 }

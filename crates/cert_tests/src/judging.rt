@@ -118,94 +118,115 @@ fn text_of(alloc: Global, lines: &[&[u8]], first: Put, second: Put) -> Result<Ve
 }
 
 /// Certificates, the replacements of two of their lines, and the answer.
-const JUDGED: &[(&[&[u8]], Put, Put, Result<Verdict, CertificateError>)] = &[
+const JUDGED: &[(&str, &[&[u8]], Put, Put, Result<Verdict, CertificateError>)] = &[
     // refutations
-    (NOT_BY_AND, NOTHING, NOTHING, Ok(Verdict::NoChain(1))),
     (
+        "NOT by AND: none of one step",
+        NOT_BY_AND,
+        NOTHING,
+        NOTHING,
+        Ok(Verdict::NoChain(1)),
+    ),
+    (
+        "a hint is missing",
         NOT_BY_AND,
         (13, b"24 -5 0 1 2 3 4 6 7 20 0\n"),
         NOTHING,
         Err(CertificateError::StepRefused(13, CheckError::NoConflict)),
     ),
     (
+        "a hint too few makes another one not unit",
         NOT_BY_AND,
         (13, b"24 -5 0 1 2 3 4 6 22 20 0\n"),
         NOTHING,
         Err(CertificateError::StepRefused(13, CheckError::NotUnit(22))),
     ),
     (
+        "a deleted clause as a hint",
         NOT_BY_AND,
         (13, b"24 -5 0 1 2 3 4 6 7 22 20 0\n25 d 16 0\n"),
         NOTHING,
         Err(CertificateError::StepRefused(15, CheckError::UnknownId(16))),
     ),
     (
+        "a size is skipped",
         NOT_BY_AND,
         (11, b"size 2\n"),
         NOTHING,
         Err(CertificateError::SizeOutOfOrder(11)),
     ),
     (
+        "no empty clause",
         NOT_BY_AND,
         (14, b""),
         NOTHING,
         Err(CertificateError::NotRefuted(14)),
     ),
     (
+        "an open log that is too short",
         NOT_BY_AND,
         (12, b"open\n"),
         (14, b""),
         Err(CertificateError::OpenTooShort(14)),
     ),
     (
+        "an open log with the empty clause",
         NOT_BY_AND,
         (12, b"open\n"),
         NOTHING,
         Err(CertificateError::WrongVerdict(15)),
     ),
     (
+        "an open log with a clause that isn't new",
         NOT_BY_AND,
         (12, b"open\n"),
         (14, b"25 -5 3 0 1 0\n"),
         Err(CertificateError::NotNew(14)),
     ),
     (
+        "none of fewer steps",
         NOT_BY_AND,
         (16, b"none 0\n"),
         NOTHING,
         Err(CertificateError::WrongVerdict(16)),
     ),
     (
+        "no verdict",
         NOT_BY_AND,
         (16, b""),
         (17, b""),
         Err(CertificateError::Syntax(16)),
     ),
     (
+        "an empty line after the end",
         NOT_BY_AND,
         (17, b"end\n\n"),
         NOTHING,
         Err(CertificateError::Syntax(18)),
     ),
     (
+        "an unknown method",
         NOT_BY_AND,
         (5, b"method fences\n"),
         NOTHING,
         Err(CertificateError::Syntax(5)),
     ),
     (
+        "too many inputs",
         NOT_BY_AND,
         (2, b"inputs 7\n"),
         NOTHING,
         Err(CertificateError::Syntax(2)),
     ),
     (
+        "no row",
         NOT_BY_AND,
         (3, b""),
         NOTHING,
         Err(CertificateError::Syntax(3)),
     ),
     (
+        "a basis out of order",
         NOT_BY_AND,
         (4, b"basis 0110,0001\n"),
         NOTHING,
@@ -213,6 +234,7 @@ const JUDGED: &[(&[&[u8]], Put, Put, Result<Verdict, CertificateError>)] = &[
     ),
     // with `ssv` three symmetry-breaking clauses come after the plain ones, and take the next three ids
     (
+        "ssv: its clauses come before the log's",
         NOT_YET,
         (5, b"method ssv\n"),
         (
@@ -222,126 +244,170 @@ const JUDGED: &[(&[&[u8]], Put, Put, Result<Verdict, CertificateError>)] = &[
         Ok(Verdict::NoChain(1)),
     ),
     (
+        "ssv: an id of its clauses",
         NOT_YET,
         (5, b"method ssv\n"),
         (13, b"26 -5 0 1 2 3 4 6 7 22 20 0\n"),
         Err(CertificateError::StepRefused(13, CheckError::IdNotGreater(26))),
     ),
     // chains
-    (XOR, NOTHING, NOTHING, Ok(Verdict::Minimum(1))),
-    (XOR, (5, b"method ssv\n"), NOTHING, Ok(Verdict::Minimum(1))),
     (
+        "XOR in one step",
+        XOR,
+        NOTHING,
+        NOTHING,
+        Ok(Verdict::Minimum(1)),
+    ),
+    (
+        "XOR with ssv",
+        XOR,
+        (5, b"method ssv\n"),
+        NOTHING,
+        Ok(Verdict::Minimum(1)),
+    ),
+    (
+        "XOR with select",
         XOR,
         (5, b"method select\n"),
         NOTHING,
         Ok(Verdict::Minimum(1)),
     ),
     (
+        "a chain that differs",
         XOR,
         (12, b"x3 x1 x2 1001\n"),
         NOTHING,
         Err(CertificateError::ChainDiffers(1, 0)),
     ),
     (
+        "an operator outside the basis",
         XOR,
         (4, b"basis 0001\n"),
         NOTHING,
         Err(CertificateError::OperatorNotInBasis(3)),
     ),
     (
+        "a minimum that isn't the chain's",
         XOR,
         (14, b"minimum 2\n"),
         NOTHING,
         Err(CertificateError::WrongVerdict(14)),
     ),
     (
+        "none, beside a chain",
         XOR,
         (14, b"none 1\n"),
         NOTHING,
         Err(CertificateError::Syntax(14)),
     ),
     (
+        "a chain of another size",
         XOR,
         (11, b"chain 2\n"),
         NOTHING,
         Err(CertificateError::SizeOutOfOrder(11)),
     ),
     (
+        "a chain that is too long",
         XOR,
         (11, b"chain 17\n"),
         NOTHING,
         Err(CertificateError::Syntax(11)),
     ),
-    (XOR, (15, b""), NOTHING, Err(CertificateError::Syntax(15))),
     (
+        "no end",
+        XOR,
+        (15, b""),
+        NOTHING,
+        Err(CertificateError::Syntax(15)),
+    ),
+    (
+        "a line after the end",
         XOR,
         (15, b"end\n\n"),
         NOTHING,
         Err(CertificateError::Syntax(16)),
     ),
     // the names of fences are compared
-    (NOT_BY_FENCES, NOTHING, NOTHING, Ok(Verdict::NoChain(1))),
     (
+        "fences: none of one step",
+        NOT_BY_FENCES,
+        NOTHING,
+        NOTHING,
+        Ok(Verdict::NoChain(1)),
+    ),
+    (
+        "a fence for a size",
         NOT_BY_FENCES,
         (8, b"fence\n"),
         NOTHING,
         Err(CertificateError::Syntax(8)),
     ),
     (
+        "a size without its fence",
         NOT_BY_FENCES,
         (9, b""),
         NOTHING,
         Err(CertificateError::Syntax(9)),
     ),
     (
+        "the next size for a fence",
         NOT_BY_FENCES,
         (9, b"size 1\n"),
         NOTHING,
         Err(CertificateError::NotRefuted(9)),
     ),
     (
+        "a verdict for a fence",
         NOT_BY_FENCES,
         (9, b"none 1\n"),
         NOTHING,
         Err(CertificateError::NotRefuted(9)),
     ),
     (
+        "a chain for a fence",
         NOT_BY_FENCES,
         (9, b"chain 17\n"),
         NOTHING,
         Err(CertificateError::Syntax(9)),
     ),
     (
+        "another fence",
         NOT_BY_FENCES,
         (13, b"fence 0\n"),
         NOTHING,
         Err(CertificateError::NotRefuted(13)),
     ),
     (
+        "a number with a leading zero",
         NOT_BY_FENCES,
         (13, b"fence 01\n"),
         NOTHING,
         Err(CertificateError::Syntax(13)),
     ),
     (
+        "a blank at the end of a line",
         NOT_BY_FENCES,
         (13, b"fence 1 \n"),
         NOTHING,
         Err(CertificateError::Syntax(13)),
     ),
     (
+        "the fence again",
         NOT_BY_FENCES,
         (18, b"fence 1\n"),
         NOTHING,
         Err(CertificateError::NotRefuted(18)),
     ),
     (
+        "a verdict of more steps",
         NOT_BY_FENCES,
         (18, b"none 2\n"),
         NOTHING,
         Err(CertificateError::WrongVerdict(18)),
     ),
     (
+        "a fence with another method",
         NOT_BY_FENCES,
         (5, b"method ssv\n"),
         NOTHING,
@@ -368,9 +434,9 @@ fn is_judged(
 }
 
 #[test]
-fn certificates_are_judged(rt: HostRuntime) {
-    for &(lines, first, second, answer) in JUDGED {
+fn certificates_are_judged_alike_whole_and_in_pieces(rt: HostRuntime) {
+    for &(name, lines, first, second, answer) in JUDGED {
         let well = is_judged(rt.alloc(), lines, first, second, answer);
-        assert!(rt; well, "{}", first.0);
+        assert!(rt; well, "{name}");
     }
 }

@@ -52,25 +52,52 @@ const ADDER: &[u8] = b"inputs 3\n01101001\n00010111\n";
 const XORS: u16 = 576;
 
 /// Tables, the basis, the method, and the fewest steps, which is the number of sections.
-const FOUND: &[(&[u8], u16, Method, u32)] = &[
-    (XOR, ALL, Method::Plain, 1),
-    (XOR, ALL, Method::Ssv, 1),
-    (XOR, NAND, Method::Plain, 4),
-    (XOR, NAND, Method::Ssv, 4),
-    (NOT, NAND, Method::Ssv, 1),
-    (NOT, XORS, Method::Ssv, 2),
-    (AND, ALL, Method::Ssv, 2),
-    (AND, ALL, Method::Select, 2),
-    (AND, ALL, Method::Fence, 2),
-    (FREE, ALL, Method::Plain, 0),
+const FOUND: &[(&str, &[u8], u16, Method, u32)] = &[
+    ("XOR, plain", XOR, ALL, Method::Plain, 1),
+    ("XOR, ssv", XOR, ALL, Method::Ssv, 1),
+    ("XOR by NAND, plain", XOR, NAND, Method::Plain, 4),
+    ("XOR by NAND, ssv", XOR, NAND, Method::Ssv, 4),
+    ("NOT by NAND", NOT, NAND, Method::Ssv, 1),
+    ("NOT by XOR and XNOR", NOT, XORS, Method::Ssv, 2),
+    ("AND of three, ssv", AND, ALL, Method::Ssv, 2),
+    ("AND of three, select", AND, ALL, Method::Select, 2),
+    ("AND of three, fence", AND, ALL, Method::Fence, 2),
+    ("cells that are all free", FREE, ALL, Method::Plain, 0),
 ];
 
 /// Tables, the basis, the method, the most steps, the budget of learnt clauses, the verdict, and the number of
 /// sections. In the last row the budget is one clause.
-const LIMITED: &[(&[u8], u16, Method, u32, u32, Verdict, usize)] = &[
-    (XOR, NAND, Method::Plain, 3, 100_000, Verdict::NoChain(3), 4),
-    (AND, ALL, Method::Ssv, 1, 100_000, Verdict::NoChain(1), 2),
-    (ADDER, ALL, Method::Plain, 2, 1, Verdict::Open { low: 2 }, 3),
+const LIMITED: &[(&str, &[u8], u16, Method, u32, u32, Verdict, usize)] = &[
+    (
+        "XOR by NAND in three steps",
+        XOR,
+        NAND,
+        Method::Plain,
+        3,
+        100_000,
+        Verdict::NoChain(3),
+        4,
+    ),
+    (
+        "AND of three in one step",
+        AND,
+        ALL,
+        Method::Ssv,
+        1,
+        100_000,
+        Verdict::NoChain(1),
+        2,
+    ),
+    (
+        "a full adder with a budget of one clause",
+        ADDER,
+        ALL,
+        Method::Plain,
+        2,
+        1,
+        Verdict::Open { low: 2 },
+        3,
+    ),
 ];
 
 /// Whether a search ends with a verdict and a number of sections.
@@ -89,20 +116,20 @@ fn ends_in(
 }
 
 #[test]
-fn fewest_steps_are_found(rt: HostRuntime) {
-    for &(text, basis, method, steps) in FOUND {
+fn a_search_ends_with_the_fewest_steps(rt: HostRuntime) {
+    for &(name, text, basis, method, steps) in FOUND {
         let end = (Verdict::Minimum(steps), steps as usize);
         let well = ends_in(rt.alloc(), text, basis, method, (16, 100_000), end);
-        assert!(rt; well, "{text:?} {basis}");
+        assert!(rt; well, "{name}");
     }
 }
 
 #[test]
-fn limits_end_a_search(rt: HostRuntime) {
-    for &(text, basis, method, max, budget, verdict, sections) in LIMITED {
+fn the_most_steps_and_the_budget_end_a_search(rt: HostRuntime) {
+    for &(name, text, basis, method, max, budget, verdict, sections) in LIMITED {
         let end = (verdict, sections);
         let well = ends_in(rt.alloc(), text, basis, method, (max, budget), end);
-        assert!(rt; well, "{text:?} {basis}");
+        assert!(rt; well, "{name}");
     }
 }
 
@@ -135,6 +162,6 @@ fn goes_on(alloc: Global) -> bool {
 }
 
 #[test]
-fn search_advances_size_by_size(rt: HostRuntime) {
+fn a_search_has_a_section_for_each_size_without_a_chain(rt: HostRuntime) {
     assert!(rt; goes_on(rt.alloc()));
 }

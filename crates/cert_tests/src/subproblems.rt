@@ -56,19 +56,40 @@ fn second(
 }
 
 /// How a log ends, how many additions an open one needs, two lines, and whether the log continues after them.
-const LOGS: &[(Ended, u32, &[u8], &[u8], Result<bool, SubproblemError>)] = &[
-    // a refutation, and a log without the empty clause
-    (Ended::Refuted, 9, b"4 0 3 1 2 0", b"done", Ok(false)),
+const LOGS: &[(
+    &str,
+    Ended,
+    u32,
+    &[u8],
+    &[u8],
+    Result<bool, SubproblemError>,
+)] = &[
     (
+        "refuted",
+        Ended::Refuted,
+        9,
+        b"4 0 3 1 2 0",
+        b"done",
+        Ok(false),
+    ),
+    (
+        "refuted without the empty clause",
         Ended::Refuted,
         9,
         b"4 2 0 1 2 0",
         b"done",
         Err(SubproblemError::NotRefuted),
     ),
-    // an open subproblem: enough additions, too few, the empty clause, a clause that isn't new
-    (Ended::Open, 1, b"4 2 0 1 2 0", b"done", Ok(false)),
     (
+        "open with enough additions",
+        Ended::Open,
+        1,
+        b"4 2 0 1 2 0",
+        b"done",
+        Ok(false),
+    ),
+    (
+        "open with too few additions",
         Ended::Open,
         2,
         b"4 2 0 1 2 0",
@@ -76,6 +97,7 @@ const LOGS: &[(Ended, u32, &[u8], &[u8], Result<bool, SubproblemError>)] = &[
         Err(SubproblemError::TooShort),
     ),
     (
+        "open with the empty clause",
         Ended::Open,
         1,
         b"4 0 3 1 2 0",
@@ -83,15 +105,23 @@ const LOGS: &[(Ended, u32, &[u8], &[u8], Result<bool, SubproblemError>)] = &[
         Err(SubproblemError::EmptyClauseDerived),
     ),
     (
+        "open with a clause that isn't new",
         Ended::Open,
         1,
         b"4 2 0 1 2 0",
         b"5 2 0 4 0",
         Err(SubproblemError::NotNew),
     ),
-    // one line more, one that doesn't hold, and one that isn't a line of a log
-    (Ended::Refuted, 1, b"4 2 0 1 2 0", b"5 2 0 4 0", Ok(true)),
     (
+        "refuted, with one line more",
+        Ended::Refuted,
+        1,
+        b"4 2 0 1 2 0",
+        b"5 2 0 4 0",
+        Ok(true),
+    ),
+    (
+        "refuted, with a line that doesn't hold",
         Ended::Refuted,
         1,
         b"4 2 0 1 2 0",
@@ -99,6 +129,7 @@ const LOGS: &[(Ended, u32, &[u8], &[u8], Result<bool, SubproblemError>)] = &[
         Err(SubproblemError::StepRefused(CheckError::UnknownId(9))),
     ),
     (
+        "refuted, with a line that isn't one of a log",
         Ended::Refuted,
         1,
         b"4 2 0 1 2 0",
@@ -124,11 +155,11 @@ fn is_read(
 }
 
 #[test]
-fn logs_are_read(rt: HostRuntime) {
-    for &(end, conflicts, first, line, answer) in LOGS {
+fn logs_of_subproblems_are_accepted_or_refused_by_line(rt: HostRuntime) {
+    for &(name, end, conflicts, first, line, answer) in LOGS {
         assert!(rt;
             is_read(rt.alloc(), end, conflicts, first, line, answer),
-            "{line:?}"
+            "{name}"
         );
     }
 }

@@ -114,48 +114,51 @@ fn is_refusal(error: SpecError, wanted: Wanted) -> bool {
 }
 
 /// Texts, the basis, the method, and the expected result.
-const CERTIFIED: &[(&[u8], u16, Method, Wanted)] = &[
+const CERTIFIED: &[(&str, &[u8], u16, Method, Wanted)] = &[
     (
+        "XOR",
         b"inputs 2\n0110\n",
         ALL,
         Method::Ssv,
         Wanted::Ends(b"\nchain 1\nx3 x1 x2 0110\nout x3\nminimum 1\nend\n"),
     ),
-    // the symmetry-breaking constraints leave this chain alone
     (
+        "AND of three: symmetry breaking leaves one chain",
         b"inputs 3\n00000001\n",
         ALL,
         Method::Ssv,
         Wanted::Ends(b"\nchain 2\nx4 x1 x2 0001\nx5 x3 x4 0001\nout x5\nminimum 2\nend\n"),
     ),
-    // a complemented output needs a step
     (
+        "XOR and XNOR: a complemented output needs a step",
         b"inputs 2\n0110\n1001\n",
         ALL,
         Method::Ssv,
         Wanted::Ends(b"\nminimum 2\nend\n"),
     ),
-    // NOT by NAND, cells that are all don't-cares, a basis that isn't closed under exchange of the operands
     (
+        "NOT by NAND",
         b"inputs 1\n10\n",
         NAND,
         Method::Plain,
         Wanted::Ends(b"\nchain 1\nx2 x1 x1 1110\nout x2\nminimum 1\nend\n"),
     ),
     (
+        "cells that are all don't-cares",
         b"inputs 2\n----\n",
         ALL,
         Method::Select,
         Wanted::Ends(b"\nchain 0\nout 0\nminimum 0\nend\n"),
     ),
     (
+        "operands that can't be exchanged",
         b"inputs 2\n0100\n",
         4,
         Method::Ssv,
         Wanted::Ends(b"\nchain 1\nx3 x2 x1 0010\nout x3\nminimum 1\nend\n"),
     ),
-    // a whole certificate
     (
+        "the whole certificate of an input",
         b"inputs 2\n0--1\n",
         ALL,
         Method::Ssv,
@@ -163,26 +166,29 @@ const CERTIFIED: &[(&[u8], u16, Method, Wanted)] = &[
             b"chains 1\ninputs 2\n0--1\nbasis all\nmethod ssv\nconflicts 100000\nmax 16\nchain 0\nout x1\nminimum 0\nend\n",
         ),
     ),
-    // texts that aren't tables
     (
+        "the empty text",
         b"",
         ALL,
         Method::Ssv,
         Wanted::Refused(SpecError::BadHeader(1)),
     ),
     (
+        "a cell that is none",
         b"inputs 2\n01a0\n",
         ALL,
         Method::Ssv,
         Wanted::Refused(SpecError::BadRow(2)),
     ),
     (
+        "a line that is no row",
         b"inputs 2\n0110\nend\n",
         ALL,
         Method::Ssv,
         Wanted::Refused(SpecError::BadRow(3)),
     ),
     (
+        "too many inputs",
         b"inputs 7\n0110\n",
         ALL,
         Method::Ssv,
@@ -199,11 +205,11 @@ fn is_certified(alloc: Global, text: &[u8], basis: u16, method: Method, wanted: 
 }
 
 #[test]
-fn certificates_are_written(rt: HostRuntime) {
-    for &(text, basis, method, wanted) in CERTIFIED {
+fn certificates_end_with_least_chains(rt: HostRuntime) {
+    for &(name, text, basis, method, wanted) in CERTIFIED {
         assert!(rt;
             is_certified(rt.alloc(), text, basis, method, wanted),
-            "{text:?}"
+            "{name}"
         );
     }
 }

@@ -32,7 +32,7 @@ fn section(alloc: Global) -> Result<Section, AllocError> {
 }
 
 #[test]
-fn pieces_are_spelled(rt: HostRuntime) -> Result<(), Fail> {
+fn pieces_make_one_certificate(rt: HostRuntime) -> Result<(), Fail> {
     let alloc = rt.alloc();
     let Ok(tables) = read_tables(alloc, b"inputs 2\n01-0\n1001\n") else {
         return Err(Fail::from("tables"));

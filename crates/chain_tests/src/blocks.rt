@@ -13,14 +13,14 @@ const FULL_ADDER: &[u8] = b"chain 5\nx4 x1 x2 0110\nx5 x1 x2 0001\nx6 x4 x3 0110
 const MIXED: &[u8] = b"chain 2\nx2 x1 x1 1110\nx3 x2 x1 0010\nout 1\nout x3\nout 0\nout x1\n";
 
 /// The greatest number of steps that a chain may have, and one more.
-const SIXTEEN_STEPS: &[u8] = b"chain 16\n\
+const SIXTEEN_STEPS: &str = "chain 16\n\
     x3 x1 x2 0110\nx4 x1 x3 0110\nx5 x1 x4 0110\nx6 x1 x5 0110\n\
     x7 x1 x6 0110\nx8 x1 x7 0110\nx9 x1 x8 0110\nx10 x1 x9 0110\n\
     x11 x1 x10 0110\nx12 x1 x11 0110\nx13 x1 x12 0110\nx14 x1 x13 0110\n\
     x15 x1 x14 0110\nx16 x1 x15 0110\nx17 x1 x16 0110\nx18 x1 x17 0110\n\
     out x18\n";
 
-const SEVENTEEN_STEPS: &[u8] = b"chain 17\n\
+const SEVENTEEN_STEPS: &str = "chain 17\n\
     x3 x1 x2 0110\nx4 x1 x3 0110\nx5 x1 x4 0110\nx6 x1 x5 0110\n\
     x7 x1 x6 0110\nx8 x1 x7 0110\nx9 x1 x8 0110\nx10 x1 x9 0110\n\
     x11 x1 x10 0110\nx12 x1 x11 0110\nx13 x1 x12 0110\nx14 x1 x13 0110\n\
@@ -59,23 +59,51 @@ const ONE_OR: &[u8] = b"chain 1\nx3 x1 x2 0111\nout x3\n";
 const XOR_TWICE: &[u8] = b"chain 1\nx3 x1 x2 0110\nout x3\nout x3\n";
 
 /// Truth tables, blocks, and the first output and row on which they differ.
-const DIFFERENCES: &[(&[u8], &[u8], Option<(u32, u32)>)] = &[
-    (b"inputs 2\n0110\n", ONE_XOR, None),
-    (b"inputs 2\n0110\n", ONE_OR, Some((1, 3))),
-    (b"inputs 2\n011-\n", ONE_OR, None),
-    (b"inputs 2\n0110\n", b"chain 0\nout 1\n", Some((1, 0))),
-    (b"inputs 2\n0110\n0010\n", XOR_TWICE, Some((2, 1))),
-    (b"inputs 2\n0111\n0010\n", XOR_TWICE, Some((1, 3))),
-    // the sum and the carry of three bits
-    (b"inputs 3\n01101001\n00010111\n", FULL_ADDER, None),
-    // a constant, AND NOT over a negation, a constant, and the input
-    (b"inputs 1\n11\n10\n00\n01\n", MIXED, None),
+const DIFFERENCES: &[(&str, &[u8], &[u8], Option<(u32, u32)>)] = &[
+    ("XOR", b"inputs 2\n0110\n", ONE_XOR, None),
+    ("OR for XOR", b"inputs 2\n0110\n", ONE_OR, Some((1, 3))),
+    (
+        "OR where a don't-care allows it",
+        b"inputs 2\n011-\n",
+        ONE_OR,
+        None,
+    ),
+    (
+        "a constant for XOR",
+        b"inputs 2\n0110\n",
+        b"chain 0\nout 1\n",
+        Some((1, 0)),
+    ),
+    (
+        "a wrong second output",
+        b"inputs 2\n0110\n0010\n",
+        XOR_TWICE,
+        Some((2, 1)),
+    ),
+    (
+        "a wrong first output",
+        b"inputs 2\n0111\n0010\n",
+        XOR_TWICE,
+        Some((1, 3)),
+    ),
+    (
+        "a full adder",
+        b"inputs 3\n01101001\n00010111\n",
+        FULL_ADDER,
+        None,
+    ),
+    (
+        "constants, a negation and an input",
+        b"inputs 1\n11\n10\n00\n01\n",
+        MIXED,
+        None,
+    ),
 ];
 
 #[test]
 fn the_first_difference_is_found(rt: HostRuntime) {
-    for &(tables, block, difference) in DIFFERENCES {
-        assert!(rt; differs_at(rt.alloc(), tables, block, difference));
+    for &(name, tables, block, difference) in DIFFERENCES {
+        assert!(rt; differs_at(rt.alloc(), tables, block, difference), "{name}");
     }
 }
 
@@ -99,62 +127,62 @@ const BAD_OUT: Result<usize, ChainError> = Err(ChainError::BadOut(6));
 
 /// Texts for two inputs and one output, with the first line numbered 4, and the number of bytes read
 /// or the error.
-const READ: &[(&[u8], Result<usize, ChainError>)] = &[
-    (b"chain 1\nx3 x1 x2 0110\nout x3\nend\n", Ok(29)),
-    (b"chain 1\nx3 x2 x2 1110\nout x2\n", Ok(29)),
-    (b"chain 0\nout 0\n", Ok(14)),
-    (b"chain 0\nout 0\nout 1", Ok(14)),
+const READ: &[(&str, Result<usize, ChainError>)] = &[
+    ("chain 1\nx3 x1 x2 0110\nout x3\nend\n", Ok(29)),
+    ("chain 1\nx3 x2 x2 1110\nout x2\n", Ok(29)),
+    ("chain 0\nout 0\n", Ok(14)),
+    ("chain 0\nout 0\nout 1", Ok(14)),
     // the whole text
     (SIXTEEN_STEPS, Ok(258)),
-    (b"", BAD_COUNT),
-    (b"chain 1", BAD_COUNT),
-    (b"chain 17", BAD_COUNT),
-    (b"chain\nout x1\n", BAD_COUNT),
-    (b"chain \nout x1\n", BAD_COUNT),
-    (b"chain 01\nx3 x1 x2 0110\nout x3\n", BAD_COUNT),
-    (b"chain  1\nx3 x1 x2 0110\nout x3\n", BAD_COUNT),
-    (b"Chain 1\nx3 x1 x2 0110\nout x3\n", BAD_COUNT),
-    (b"chain 1\r\nx3 x1 x2 0110\nout x3\n", BAD_COUNT),
-    (b"chain 1000000000\n", BAD_COUNT),
-    (b"chain 999999999\n", Err(ChainError::TooManySteps(4))),
+    ("", BAD_COUNT),
+    ("chain 1", BAD_COUNT),
+    ("chain 17", BAD_COUNT),
+    ("chain\nout x1\n", BAD_COUNT),
+    ("chain \nout x1\n", BAD_COUNT),
+    ("chain 01\nx3 x1 x2 0110\nout x3\n", BAD_COUNT),
+    ("chain  1\nx3 x1 x2 0110\nout x3\n", BAD_COUNT),
+    ("Chain 1\nx3 x1 x2 0110\nout x3\n", BAD_COUNT),
+    ("chain 1\r\nx3 x1 x2 0110\nout x3\n", BAD_COUNT),
+    ("chain 1000000000\n", BAD_COUNT),
+    ("chain 999999999\n", Err(ChainError::TooManySteps(4))),
     (SEVENTEEN_STEPS, Err(ChainError::TooManySteps(4))),
-    (b"chain 2\n", BAD_STEP),
-    (b"chain 2\nx3 x1 x2 0110\n", Err(ChainError::BadStep(6))),
+    ("chain 2\n", BAD_STEP),
+    ("chain 2\nx3 x1 x2 0110\n", Err(ChainError::BadStep(6))),
     (
-        b"chain 2\nx3 x1 x2 0110\nout x3\n",
+        "chain 2\nx3 x1 x2 0110\nout x3\n",
         Err(ChainError::BadStep(6)),
     ),
-    (b"chain 1\nx3 x1 x2 0110", BAD_STEP),
-    (b"chain 1\nx3 x3 x2 0110", BAD_STEP),
-    (b"chain 1\nx4 x1 x2 0110\nout x3\n", BAD_STEP),
-    (b"chain 1\nx4 x3 x2 0110\nout x3\n", BAD_STEP),
-    (b"chain 1\nx3 x0 x2 0110\nout x3\n", BAD_STEP),
-    (b"chain 1\nx3 x3 x0 0110\nout x3\n", BAD_STEP),
-    (b"chain 1\nx3 x1  x2 0110\nout x3\n", BAD_STEP),
-    (b"chain 1\nx3 x1 x2 0110 \nout x3\n", BAD_STEP),
-    (b"chain 1\nx3 x1 x2 011\nout x3\n", BAD_STEP),
-    (b"chain 1\nx3 x1 x2 0120\nout x3\n", BAD_STEP),
-    (b"chain 1\nx3 x01 x2 0110\nout x3\n", BAD_STEP),
-    (b"chain 1\nx3 x1000000000 x2 0110\nout x3\n", BAD_STEP),
-    (b"chain 1\nx3 x999999999 x2 0110\nout x3\n", FORWARD),
-    (b"chain 1\nx3 x3 x2 0110\nout x3\n", FORWARD),
+    ("chain 1\nx3 x1 x2 0110", BAD_STEP),
+    ("chain 1\nx3 x3 x2 0110", BAD_STEP),
+    ("chain 1\nx4 x1 x2 0110\nout x3\n", BAD_STEP),
+    ("chain 1\nx4 x3 x2 0110\nout x3\n", BAD_STEP),
+    ("chain 1\nx3 x0 x2 0110\nout x3\n", BAD_STEP),
+    ("chain 1\nx3 x3 x0 0110\nout x3\n", BAD_STEP),
+    ("chain 1\nx3 x1  x2 0110\nout x3\n", BAD_STEP),
+    ("chain 1\nx3 x1 x2 0110 \nout x3\n", BAD_STEP),
+    ("chain 1\nx3 x1 x2 011\nout x3\n", BAD_STEP),
+    ("chain 1\nx3 x1 x2 0120\nout x3\n", BAD_STEP),
+    ("chain 1\nx3 x01 x2 0110\nout x3\n", BAD_STEP),
+    ("chain 1\nx3 x1000000000 x2 0110\nout x3\n", BAD_STEP),
+    ("chain 1\nx3 x999999999 x2 0110\nout x3\n", FORWARD),
+    ("chain 1\nx3 x3 x2 0110\nout x3\n", FORWARD),
     (
-        b"chain 2\nx3 x1 x2 0110\nx4 x1 x5 0110\n",
+        "chain 2\nx3 x1 x2 0110\nx4 x1 x5 0110\n",
         Err(ChainError::ForwardPlace(6)),
     ),
-    (b"chain 0\n", Err(ChainError::BadOut(5))),
-    (b"chain 1\nx3 x1 x2 0110\n", BAD_OUT),
-    (b"chain 1\nx3 x1 x2 0110\nend\n", BAD_OUT),
-    (b"chain 1\nx3 x1 x2 0110\nout x4\n", BAD_OUT),
-    (b"chain 1\nx3 x1 x2 0110\nout x0\n", BAD_OUT),
-    (b"chain 1\nx3 x1 x2 0110\nout 2\n", BAD_OUT),
-    (b"chain 1\nx3 x1 x2 0110\nout x3", BAD_OUT),
+    ("chain 0\n", Err(ChainError::BadOut(5))),
+    ("chain 1\nx3 x1 x2 0110\n", BAD_OUT),
+    ("chain 1\nx3 x1 x2 0110\nend\n", BAD_OUT),
+    ("chain 1\nx3 x1 x2 0110\nout x4\n", BAD_OUT),
+    ("chain 1\nx3 x1 x2 0110\nout x0\n", BAD_OUT),
+    ("chain 1\nx3 x1 x2 0110\nout 2\n", BAD_OUT),
+    ("chain 1\nx3 x1 x2 0110\nout x3", BAD_OUT),
 ];
 
 #[test]
 fn blocks_are_read_or_refused_at_the_first_fault(rt: HostRuntime) {
     for &(text, wanted) in READ {
-        assert!(rt; taken(rt.alloc(), text) == wanted);
+        assert!(rt; taken(rt.alloc(), text.as_bytes()) == wanted, "{text}");
     }
 }
 
@@ -184,12 +212,16 @@ fn is_written_again(alloc: Global, block: &[u8], n: u32, outputs: u32) -> bool {
 }
 
 /// Blocks with their numbers of inputs and outputs.
-const WRITTEN: &[(&[u8], u32, u32)] = &[(FULL_ADDER, 3, 2), (MIXED, 1, 4), (b"chain 0\n", 6, 0)];
+const WRITTEN: &[(&str, &[u8], u32, u32)] = &[
+    ("a full adder", FULL_ADDER, 3, 2),
+    ("constants, a negation and an input", MIXED, 1, 4),
+    ("no step and no output", b"chain 0\n", 6, 0),
+];
 
 #[test]
-fn blocks_are_written(rt: HostRuntime) {
-    for &(block, n, outputs) in WRITTEN {
-        assert!(rt; is_written_again(rt.alloc(), block, n, outputs), "{n}");
+fn blocks_are_written_as_they_are_read(rt: HostRuntime) {
+    for &(name, block, n, outputs) in WRITTEN {
+        assert!(rt; is_written_again(rt.alloc(), block, n, outputs), "{name}");
     }
 }
 
@@ -214,20 +246,50 @@ fn is_outside_at(
 
 /// Blocks with their numbers of inputs and outputs, bases by their bits, and the first places
 /// outside them. The full adder has the operators 6, 1, 6, 1 and 7, and the mixed chain 14 and 2.
-const OUTSIDE: &[(&[u8], (u32, u32), u16, Option<u32>)] = &[
-    (FULL_ADDER, (3, 2), 65535, None),
-    (FULL_ADDER, (3, 2), 2 + 64 + 128, None),
-    (FULL_ADDER, (3, 2), 2 + 64, Some(8)),
-    (FULL_ADDER, (3, 2), 64, Some(5)),
-    (FULL_ADDER, (3, 2), 16384, Some(4)),
-    (MIXED, (1, 4), 16384, Some(3)),
-    (b"chain 0\nout x1\n", (1, 1), 0, None),
+const OUTSIDE: &[(&str, &[u8], (u32, u32), u16, Option<u32>)] = &[
+    (
+        "a full adder, all operators",
+        FULL_ADDER,
+        (3, 2),
+        65535,
+        None,
+    ),
+    (
+        "a full adder, its operators",
+        FULL_ADDER,
+        (3, 2),
+        2 + 64 + 128,
+        None,
+    ),
+    ("a full adder, no OR", FULL_ADDER, (3, 2), 2 + 64, Some(8)),
+    ("a full adder, XOR alone", FULL_ADDER, (3, 2), 64, Some(5)),
+    (
+        "a full adder, NAND alone",
+        FULL_ADDER,
+        (3, 2),
+        16384,
+        Some(4),
+    ),
+    (
+        "NAND and AND NOT, NAND alone",
+        MIXED,
+        (1, 4),
+        16384,
+        Some(3),
+    ),
+    (
+        "no step, no operator",
+        b"chain 0\nout x1\n",
+        (1, 1),
+        0,
+        None,
+    ),
 ];
 
 #[test]
 fn the_first_place_outside_a_basis_is_found(rt: HostRuntime) {
-    for &(block, widths, bits, place) in OUTSIDE {
+    for &(name, block, widths, bits, place) in OUTSIDE {
         let found = is_outside_at(rt.alloc(), block, widths, bits, place);
-        assert!(rt; found, "{bits}");
+        assert!(rt; found, "{name}");
     }
 }

@@ -30,25 +30,28 @@ fn is_operator(alloc: Global, word: &[u8], number: Option<u8>, values: [bool; 4]
 }
 
 /// Words with their operators and their values.
-const OPERATORS: &[(&[u8], Option<u8>, [bool; 4])] = &[
-    (b"0001", Some(1), [false, false, false, true]),
-    (b"0010", Some(2), [false, false, true, false]),
-    (b"0110", Some(6), [false, true, true, false]),
-    (b"0111", Some(7), [false, true, true, true]),
-    (b"1000", Some(8), [true, false, false, false]),
-    (b"1001", Some(9), [true, false, false, true]),
-    (b"1100", Some(12), [true, true, false, false]),
-    (b"1110", Some(14), [true, true, true, false]),
-    (b"011", None, [false; 4]),
-    (b"01101", None, [false; 4]),
-    (b"0120", None, [false; 4]),
-    (b"", None, [false; 4]),
+const OPERATORS: &[(&str, Option<u8>, [bool; 4])] = &[
+    ("0001", Some(1), [false, false, false, true]),
+    ("0010", Some(2), [false, false, true, false]),
+    ("0110", Some(6), [false, true, true, false]),
+    ("0111", Some(7), [false, true, true, true]),
+    ("1000", Some(8), [true, false, false, false]),
+    ("1001", Some(9), [true, false, false, true]),
+    ("1100", Some(12), [true, true, false, false]),
+    ("1110", Some(14), [true, true, true, false]),
+    ("011", None, [false; 4]),
+    ("01101", None, [false; 4]),
+    ("0120", None, [false; 4]),
+    ("", None, [false; 4]),
 ];
 
 #[test]
 fn operators_have_the_values_of_their_words(rt: HostRuntime) {
     for &(word, number, values) in OPERATORS {
-        assert!(rt; is_operator(rt.alloc(), word, number, values));
+        assert!(rt;
+            is_operator(rt.alloc(), word.as_bytes(), number, values),
+            "{word}"
+        );
     }
 }
 
@@ -77,76 +80,68 @@ fn is_basis(alloc: Global, word: &[u8], tests: [bool; 5], text: &[u8]) -> bool {
 }
 
 /// Bases by their words, their five properties, and their texts.
-const BASES: &[(&[u8], [bool; 5], &[u8])] = &[
-    (b"all", [true; 5], b"all"),
-    (b"u2", [true; 5], b"u2"),
-    (b"bench", [true, true, true, false, false], b"bench"),
-    (b"nand", [true, true, true, false, false], b"nand"),
-    (b"0001", [true, false, true, false, true], b"0001"),
+const BASES: &[(&str, [bool; 5], &str)] = &[
+    ("all", [true; 5], "all"),
+    ("u2", [true; 5], "u2"),
+    ("bench", [true, true, true, false, false], "bench"),
+    ("nand", [true, true, true, false, false], "nand"),
+    ("0001", [true, false, true, false, true], "0001"),
+    ("1001,0110", [true, false, false, true, false], "0110,1001"),
+    ("0010", [false; 5], "0010"),
     (
-        b"1001,0110",
-        [true, false, false, true, false],
-        b"0110,1001",
-    ),
-    (b"0010", [false; 5], b"0010"),
-    (
-        b"0010,0001,0000",
+        "0010,0001,0000",
         [false, false, false, false, true],
-        b"0000,0001,0010",
+        "0000,0001,0010",
     ),
-    (b"0011", [false, false, true, false, true], b"0011"),
-    (
-        b"0010,1000",
-        [false, true, true, false, false],
-        b"0010,1000",
-    ),
-    (b"1010", [false, true, true, false, true], b"1010"),
-    (b"1010,0101", [false, true, true, true, true], b"0101,1010"),
-    (
-        b"0010,0100",
-        [true, false, false, false, false],
-        b"0010,0100",
-    ),
-    (b"0110", [true, false, false, false, true], b"0110"),
-    (b"1000", [true, true, true, false, false], b"1000"),
-    (b"0000,1111", [true, false, true, true, true], b"0000,1111"),
-    (b"1010,1100", [true, true, true, false, true], b"1010,1100"),
-    (b"1110", [true, true, true, false, false], b"nand"),
+    ("0011", [false, false, true, false, true], "0011"),
+    ("0010,1000", [false, true, true, false, false], "0010,1000"),
+    ("1010", [false, true, true, false, true], "1010"),
+    ("1010,0101", [false, true, true, true, true], "0101,1010"),
+    ("0010,0100", [true, false, false, false, false], "0010,0100"),
+    ("0110", [true, false, false, false, true], "0110"),
+    ("1000", [true, true, true, false, false], "1000"),
+    ("0000,1111", [true, false, true, true, true], "0000,1111"),
+    ("1010,1100", [true, true, true, false, true], "1010,1100"),
+    ("1110", [true, true, true, false, false], "nand"),
 ];
 
 /// At least one basis for each of the fourteen combinations of the five properties that occur. An
 /// independent program found these combinations among all 65535 bases.
 #[test]
-fn bases_are_closed(rt: HostRuntime) {
+fn bases_have_their_five_properties(rt: HostRuntime) {
     for &(word, tests, text) in BASES {
-        assert!(rt; is_basis(rt.alloc(), word, tests, text));
+        let well = is_basis(rt.alloc(), word.as_bytes(), tests, text.as_bytes());
+        assert!(rt; well, "{word}");
     }
 }
 
 /// Texts that aren't bases, and their errors.
-const REFUSALS: &[(&[u8], BasisError)] = &[
-    (b"nor", BasisError::UnknownName),
-    (b"All", BasisError::UnknownName),
-    (b"nand,0110", BasisError::UnknownName),
-    (b"x", BasisError::UnknownName),
-    (b"0110,nand", BasisError::BadOperator),
-    (b"011", BasisError::BadOperator),
-    (b"01101", BasisError::BadOperator),
-    (b"0120", BasisError::BadOperator),
-    (b" 0110", BasisError::BadOperator),
-    (b"0110,0110,0120", BasisError::Repeated),
-    (b"0110,0120,0110", BasisError::BadOperator),
-    (b"", BasisError::Empty),
-    (b",", BasisError::Empty),
-    (b"0110,", BasisError::Empty),
-    (b"0110,,0120", BasisError::Empty),
-    (b"0110,1001,0110,", BasisError::Repeated),
+const REFUSALS: &[(&str, BasisError)] = &[
+    ("nor", BasisError::UnknownName),
+    ("All", BasisError::UnknownName),
+    ("nand,0110", BasisError::UnknownName),
+    ("x", BasisError::UnknownName),
+    ("0110,nand", BasisError::BadOperator),
+    ("011", BasisError::BadOperator),
+    ("01101", BasisError::BadOperator),
+    ("0120", BasisError::BadOperator),
+    (" 0110", BasisError::BadOperator),
+    ("0110,0110,0120", BasisError::Repeated),
+    ("0110,0120,0110", BasisError::BadOperator),
+    ("", BasisError::Empty),
+    (",", BasisError::Empty),
+    ("0110,", BasisError::Empty),
+    ("0110,,0120", BasisError::Empty),
+    ("0110,1001,0110,", BasisError::Repeated),
 ];
 
 #[test]
-fn other_words_are_refused(rt: HostRuntime) {
+fn words_that_name_no_basis_are_refused(rt: HostRuntime) {
     for &(word, refusal) in REFUSALS {
-        assert!(rt; read_basis(word).err() == Some(refusal));
+        assert!(rt;
+            read_basis(word.as_bytes()).err() == Some(refusal),
+            "{word}"
+        );
     }
 }
 

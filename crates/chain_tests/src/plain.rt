@@ -77,22 +77,44 @@ const BOTH: [Out; 2] = [Out::Place(5), Out::Place(8)];
 
 const CONSTANTS: [Out; 2] = [Out::Zero, Out::One];
 
-/// Two outs, their tables, and whether the chain implements the tables: sum and carry; one cell
-/// changed; this cell a don't-care; the tables exchanged; constants.
-const TABLES: &[([Out; 2], &[u8; 16], bool)] = &[
-    (BOTH, b"0110100100010111", true),
-    (BOTH, b"0110100100010110", false),
-    (BOTH, b"011010010001011-", true),
-    (BOTH, b"0010100100010111", false),
-    (BOTH, b"0-10100100010111", true),
-    (BOTH, b"0001011101101001", false),
-    (CONSTANTS, b"00-0000-111-1111", true),
-    (CONSTANTS, b"0000000111111111", false),
+/// Two outs, their tables, and whether the chain implements the tables.
+const TABLES: &[(&str, [Out; 2], &[u8; 16], bool)] = &[
+    ("sum and carry", BOTH, b"0110100100010111", true),
+    ("one cell changed", BOTH, b"0110100100010110", false),
+    (
+        "the changed cell a don't-care",
+        BOTH,
+        b"011010010001011-",
+        true,
+    ),
+    (
+        "a changed cell of the sum",
+        BOTH,
+        b"0010100100010111",
+        false,
+    ),
+    ("that cell a don't-care", BOTH, b"0-10100100010111", true),
+    ("carry and sum", BOTH, b"0001011101101001", false),
+    (
+        "constants with don't-cares",
+        CONSTANTS,
+        b"00-0000-111-1111",
+        true,
+    ),
+    (
+        "constants with a wrong cell",
+        CONSTANTS,
+        b"0000000111111111",
+        false,
+    ),
 ];
 
 #[test]
 fn a_full_adder_agrees_with_its_tables(rt: HostRuntime) {
-    for &(outs, tables, wanted) in TABLES {
-        assert!(rt; agrees(3, FULL_ADDER, &outs, &cells(tables)) == wanted);
+    for &(name, outs, tables, wanted) in TABLES {
+        assert!(rt;
+            agrees(3, FULL_ADDER, &outs, &cells(tables)) == wanted,
+            "{name}"
+        );
     }
 }

@@ -85,7 +85,7 @@ const READ: &[(usize, u64, usize, Option<ReadError>, u64)] = &[
 ];
 
 #[test]
-fn reads_memory(rt: HostRuntime) {
+fn memory_is_read_up_to_a_limit_or_a_fault(rt: HostRuntime) {
     for &(length, failing, limit, error, faults) in READ {
         let reported = is_read(rt.alloc(), length, failing, limit, error, faults);
         let steady = is_read_steadily(rt.alloc(), length, limit);
@@ -120,7 +120,7 @@ const WRITTEN: &[(u64, &[u8], u64)] = &[
 ];
 
 #[test]
-fn writes_memory(rt: HostRuntime) {
+fn memory_has_what_was_written_before_a_fault(rt: HostRuntime) {
     for &(failing, text, faults) in WRITTEN {
         assert!(rt;
             is_written(rt.alloc(), failing, text, faults),
@@ -174,7 +174,7 @@ fn is_read_after_a_fault(alloc: Global) -> bool {
 }
 
 #[test]
-fn reads_port(rt: HostRuntime) {
+fn a_port_is_read_on_after_a_fault(rt: HostRuntime) {
     assert!(rt; is_read_after_a_fault(rt.alloc()));
 }
 
@@ -221,18 +221,15 @@ fn is_taken(alloc: Global, most: usize, failing: u8, text: &[u8], faults: u64) -
 
 /// How many bytes a port takes a call, the number of the call that fails, the text in the end, and
 /// the number of failed calls.
-const TAKEN: &[(usize, u8, &[u8], u64)] = &[
-    (2, 0, b"abcde", 0),
-    (2, 3, b"abcd", 1),
-    (0, 0, b"", 1),
+const TAKEN: &[(&str, usize, u8, &[u8], u64)] = &[
+    ("two bytes a call", 2, 0, b"abcde", 0),
+    ("the third call fails", 2, 3, b"abcd", 1),
+    ("no byte a call", 0, 0, b"", 1),
 ];
 
 #[test]
-fn writes_port(rt: HostRuntime) {
-    for &(most, failing, text, faults) in TAKEN {
-        assert!(rt;
-            is_taken(rt.alloc(), most, failing, text, faults),
-            "{most} {failing}"
-        );
+fn a_port_is_written_in_pieces_up_to_a_fault(rt: HostRuntime) {
+    for &(name, most, failing, text, faults) in TAKEN {
+        assert!(rt; is_taken(rt.alloc(), most, failing, text, faults), "{name}");
     }
 }

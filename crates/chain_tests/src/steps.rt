@@ -31,49 +31,50 @@ fn has(alloc: Global, basis: &[u8], tables: &[u8], wanted: &[u8]) -> bool {
 }
 
 /// Bases, truth tables, and their least chains of at most one step. An empty text: there is none.
-const ONE_STEP: &[(&[u8], &[u8], &[u8])] = &[
-    // no step: constants and inputs, also by don't-cares
+const ONE_STEP: &[(&str, &[u8], &[u8], &[u8])] = &[
     (
+        "no step",
         b"nand",
         b"inputs 2\n0000\n1111\n0101\n0--1\n",
         b"chain 0\nout 0\nout 1\nout x2\nout x1\n",
     ),
-    // one step, and another output that needs none
     (
+        "one step, and an output that needs none",
         b"all",
         b"inputs 2\n0110\n0011\n",
         b"chain 1\nx3 x1 x2 0110\nout x3\nout x1\n",
     ),
-    // a negation reads one input
     (
+        "a negation over NAND",
         b"nand",
         b"inputs 2\n1010\n",
         b"chain 1\nx3 x2 x2 1110\nout x3\n",
     ),
-    // a negation of one input, though an operator on two inputs would do
+    // though an operator on two inputs would do
     (
+        "a negation over all operators",
         b"all",
         b"inputs 2\n1010\n",
         b"chain 1\nx3 x2 x2 1000\nout x3\n",
     ),
-    // operands in the other order, if the basis needs it
+    // since the basis needs it
     (
+        "operands in the other order",
         b"0010",
         b"inputs 2\n0100\n",
         b"chain 1\nx3 x2 x1 0010\nout x3\n",
     ),
-    // outputs that can be the same step
     (
+        "outputs that can be the same step",
         b"bench",
         b"inputs 3\n0-0001-1\n0000-101\n",
         b"chain 1\nx4 x1 x3 0001\nout x4\nout x4\n",
     ),
-    // none of one step: over this basis, for two outputs, for three inputs
-    (b"nand", b"inputs 2\n0110\n", b""),
-    (b"all", b"inputs 2\n0110\n0111\n", b""),
-    (b"all", b"inputs 3\n01101001\n", b""),
-    // the last input of six
+    ("XOR over NAND", b"nand", b"inputs 2\n0110\n", b""),
+    ("two outputs", b"all", b"inputs 2\n0110\n0111\n", b""),
+    ("XOR of three", b"all", b"inputs 3\n01101001\n", b""),
     (
+        "the last input of six",
         b"all",
         b"inputs 6\n0000000000000000000000000000000001010101010101010101010101010101\n",
         b"chain 1\nx7 x1 x6 0001\nout x7\n",
@@ -81,9 +82,9 @@ const ONE_STEP: &[(&[u8], &[u8], &[u8])] = &[
 ];
 
 #[test]
-fn chains_of_one_step_are_found(rt: HostRuntime) {
-    for &(basis, tables, wanted) in ONE_STEP {
-        assert!(rt; has(rt.alloc(), basis, tables, wanted));
+fn least_chains_of_at_most_one_step_are_found(rt: HostRuntime) {
+    for &(name, basis, tables, wanted) in ONE_STEP {
+        assert!(rt; has(rt.alloc(), basis, tables, wanted), "{name}");
     }
 }
 
@@ -108,28 +109,65 @@ fn needs(alloc: Global, basis: &[u8], tables: &[u8], most: u32, wanted: Option<u
 
 /// Bases, truth tables, the bound on the steps, and the size of the least chain (TAOCP 7.1.2 has most of these
 /// sizes).
-const FEWEST: &[(&[u8], &[u8], u32, Option<u32>)] = &[
-    // the exclusive or of two inputs over NAND
-    (b"nand", b"inputs 2\n0110\n", 3, None),
-    (b"nand", b"inputs 2\n0110\n", 4, Some(4)),
-    // a half adder, and the exclusive or of three inputs
-    (b"all", b"inputs 2\n0110\n0001\n", 2, Some(2)),
-    (b"all", b"inputs 3\n01101001\n", 4, Some(2)),
-    // a multiplexer
-    (b"all", b"inputs 3\n01010011\n", 2, None),
-    (b"all", b"inputs 3\n01010011\n", 3, Some(3)),
-    // the majority of three inputs
-    (b"all", b"inputs 3\n00010111\n", 3, None),
-    (b"all", b"inputs 3\n00010111\n", 4, Some(4)),
-    // a full adder
-    (b"all", b"inputs 3\n01101001\n00010111\n", 4, None),
-    (b"all", b"inputs 3\n01101001\n00010111\n", 5, Some(5)),
+const FEWEST: &[(&str, &[u8], &[u8], u32, Option<u32>)] = &[
+    (
+        "XOR over NAND, three steps",
+        b"nand",
+        b"inputs 2\n0110\n",
+        3,
+        None,
+    ),
+    ("XOR over NAND", b"nand", b"inputs 2\n0110\n", 4, Some(4)),
+    (
+        "a half adder",
+        b"all",
+        b"inputs 2\n0110\n0001\n",
+        2,
+        Some(2),
+    ),
+    ("XOR of three", b"all", b"inputs 3\n01101001\n", 4, Some(2)),
+    (
+        "a multiplexer, two steps",
+        b"all",
+        b"inputs 3\n01010011\n",
+        2,
+        None,
+    ),
+    ("a multiplexer", b"all", b"inputs 3\n01010011\n", 3, Some(3)),
+    (
+        "the majority of three, three steps",
+        b"all",
+        b"inputs 3\n00010111\n",
+        3,
+        None,
+    ),
+    (
+        "the majority of three",
+        b"all",
+        b"inputs 3\n00010111\n",
+        4,
+        Some(4),
+    ),
+    (
+        "a full adder, four steps",
+        b"all",
+        b"inputs 3\n01101001\n00010111\n",
+        4,
+        None,
+    ),
+    (
+        "a full adder",
+        b"all",
+        b"inputs 3\n01101001\n00010111\n",
+        5,
+        Some(5),
+    ),
 ];
 
 #[test]
-fn fewest_steps_are_found(rt: HostRuntime) {
-    for &(basis, tables, most, wanted) in FEWEST {
-        assert!(rt; needs(rt.alloc(), basis, tables, most, wanted));
+fn least_chains_have_their_known_sizes(rt: HostRuntime) {
+    for &(name, basis, tables, most, wanted) in FEWEST {
+        assert!(rt; needs(rt.alloc(), basis, tables, most, wanted), "{name}");
     }
 }
 
@@ -156,10 +194,11 @@ fn has_after(alloc: Global, basis: &[u8], tables: &[u8], most: u32, number: u32)
 }
 
 #[test]
-fn chains_come_one_after_the_other(rt: HostRuntime) {
+fn a_multiplexer_has_several_chains_but_no_million(rt: HostRuntime) {
     // a multiplexer
     for number in 0..3u32 {
-        assert!(rt; has_after(rt.alloc(), b"all", b"inputs 3\n01010011\n", 3, number));
+        let has = has_after(rt.alloc(), b"all", b"inputs 3\n01010011\n", 3, number);
+        assert!(rt; has, "{number}");
     }
     assert!(rt; !has_after(rt.alloc(), b"all", b"inputs 3\n01010011\n", 3, 1_000_000));
 }

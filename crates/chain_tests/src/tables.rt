@@ -54,15 +54,30 @@ fn is_read(
 }
 
 /// Texts with their numbers of inputs and outputs, where the tables end, and the cells of one output.
-const TABLES: &[(&[u8], u32, u32, usize, u32, &[u8])] = &[
-    // XOR of two inputs
-    (b"inputs 2\n0110\n", 2, 1, 14, 1, b"0110"),
-    // a full adder: the sum and the carry of three bits
-    (b"inputs 3\n01101001\n00010111\n", 3, 2, 27, 1, b"01101001"),
-    (b"inputs 3\n01101001\n00010111\n", 3, 2, 27, 2, b"00010111"),
-    (b"inputs 2\n0--1\n", 2, 1, 14, 1, b"0--1"),
-    (b"inputs 0\n1\n-\n", 0, 2, 13, 2, b"-"),
+const TABLES: &[(&str, &[u8], u32, u32, usize, u32, &[u8])] = &[
+    ("XOR", b"inputs 2\n0110\n", 2, 1, 14, 1, b"0110"),
     (
+        "a full adder's sum",
+        b"inputs 3\n01101001\n00010111\n",
+        3,
+        2,
+        27,
+        1,
+        b"01101001",
+    ),
+    (
+        "a full adder's carry",
+        b"inputs 3\n01101001\n00010111\n",
+        3,
+        2,
+        27,
+        2,
+        b"00010111",
+    ),
+    ("don't-cares", b"inputs 2\n0--1\n", 2, 1, 14, 1, b"0--1"),
+    ("no input", b"inputs 0\n1\n-\n", 0, 2, 13, 2, b"-"),
+    (
+        "eight outputs",
         b"inputs 1\n00\n01\n10\n11\n0-\n1-\n-0\n--\n",
         1,
         8,
@@ -72,6 +87,7 @@ const TABLES: &[(&[u8], u32, u32, usize, u32, &[u8])] = &[
     ),
     // the tables end before a line that begins with a lower-case letter
     (
+        "a chain after the tables",
         b"inputs 2\n0110\nchain 1\nx3 x1 x2 0110\n",
         2,
         1,
@@ -79,8 +95,17 @@ const TABLES: &[(&[u8], u32, u32, usize, u32, &[u8])] = &[
         1,
         b"0110",
     ),
-    (b"inputs 2\n0110\nz", 2, 1, 14, 1, b"0110"),
     (
+        "a lower-case letter after the tables",
+        b"inputs 2\n0110\nz",
+        2,
+        1,
+        14,
+        1,
+        b"0110",
+    ),
+    (
+        "six inputs",
         b"inputs 6\n0000000000000000000000000000000100000000000000000000000000000001\n",
         6,
         1,
@@ -91,48 +116,59 @@ const TABLES: &[(&[u8], u32, u32, usize, u32, &[u8])] = &[
 ];
 
 #[test]
-fn tables_are_read(rt: HostRuntime) {
-    for &(text, n, outputs, used, h, cells) in TABLES {
+fn tables_are_read_up_to_their_end(rt: HostRuntime) {
+    for &(name, text, n, outputs, used, h, cells) in TABLES {
         let read = is_read(rt.alloc(), text, (n, outputs), used, h, cells);
-        assert!(rt; read, "{used}");
+        assert!(rt; read, "{name}");
     }
 }
 
+/// The error of a text; None where it is read.
+fn refusal_of(alloc: Global, text: &[u8]) -> Option<SpecError> {
+    if text.len() > 1000 {
+        return None;
+    }
+    read_tables(alloc, text).err()
+}
+
 /// Texts and their errors.
-const REFUSALS: &[(&[u8], SpecError)] = &[
-    (b"", SpecError::BadHeader(1)),
-    (b"\n0110\n", SpecError::BadHeader(1)),
-    (b"inputs 2", SpecError::BadHeader(1)),
-    (b"inputs 02\n0110\n", SpecError::BadHeader(1)),
-    (b"inputs  2\n0110\n", SpecError::BadHeader(1)),
-    (b"inputs 2 \n0110\n", SpecError::BadHeader(1)),
-    (b"inputs 2\r\n0110\n", SpecError::BadHeader(1)),
-    (b"inputs -1\n0110\n", SpecError::BadHeader(1)),
-    (b"inputs 1000000000\n0110\n", SpecError::BadHeader(1)),
-    (b"Inputs 2\n0110\n", SpecError::BadHeader(1)),
-    (b"inputs 7\n0\n", SpecError::TooManyInputs),
-    (b"inputs 999999999\nx\n", SpecError::TooManyInputs),
-    (b"inputs 2\n", SpecError::NoOutput),
-    (b"inputs 2\nchain 1\n", SpecError::NoOutput),
-    (b"inputs 2\n0110", SpecError::BadRow(2)),
-    (b"inputs 2\n011", SpecError::BadRow(2)),
-    (b"inputs 2\n\n", SpecError::BadRow(2)),
-    (b"inputs 2\n0110\n\n", SpecError::BadRow(3)),
-    (b"inputs 2\n011x\n", SpecError::BadRow(2)),
-    (b"inputs 2\n0110\n01x\n", SpecError::BadRow(3)),
-    (b"inputs 2\n 0110\n", SpecError::BadRow(2)),
-    (b"inputs 2\n011\n", SpecError::WrongLength(2)),
-    (b"inputs 2\n0110\n1001\n01100\n", SpecError::WrongLength(4)),
+const REFUSALS: &[(&str, SpecError)] = &[
+    ("", SpecError::BadHeader(1)),
+    ("\n0110\n", SpecError::BadHeader(1)),
+    ("inputs 2", SpecError::BadHeader(1)),
+    ("inputs 02\n0110\n", SpecError::BadHeader(1)),
+    ("inputs  2\n0110\n", SpecError::BadHeader(1)),
+    ("inputs 2 \n0110\n", SpecError::BadHeader(1)),
+    ("inputs 2\r\n0110\n", SpecError::BadHeader(1)),
+    ("inputs -1\n0110\n", SpecError::BadHeader(1)),
+    ("inputs 1000000000\n0110\n", SpecError::BadHeader(1)),
+    ("Inputs 2\n0110\n", SpecError::BadHeader(1)),
+    ("inputs 7\n0\n", SpecError::TooManyInputs),
+    ("inputs 999999999\nx\n", SpecError::TooManyInputs),
+    ("inputs 2\n", SpecError::NoOutput),
+    ("inputs 2\nchain 1\n", SpecError::NoOutput),
+    ("inputs 2\n0110", SpecError::BadRow(2)),
+    ("inputs 2\n011", SpecError::BadRow(2)),
+    ("inputs 2\n\n", SpecError::BadRow(2)),
+    ("inputs 2\n0110\n\n", SpecError::BadRow(3)),
+    ("inputs 2\n011x\n", SpecError::BadRow(2)),
+    ("inputs 2\n0110\n01x\n", SpecError::BadRow(3)),
+    ("inputs 2\n 0110\n", SpecError::BadRow(2)),
+    ("inputs 2\n011\n", SpecError::WrongLength(2)),
+    ("inputs 2\n0110\n1001\n01100\n", SpecError::WrongLength(4)),
     (
-        b"inputs 0\n0\n0\n0\n0\n0\n0\n0\n0\n01x",
+        "inputs 0\n0\n0\n0\n0\n0\n0\n0\n0\n01x",
         SpecError::TooManyOutputs,
     ),
 ];
 
 #[test]
-fn refusals_have_their_lines(rt: HostRuntime) {
+fn the_first_fault_of_tables_is_reported_with_its_line(rt: HostRuntime) {
     for &(text, refusal) in REFUSALS {
-        assert!(rt; read_tables(rt.alloc(), text).err() == Some(refusal));
+        assert!(rt;
+            refusal_of(rt.alloc(), text.as_bytes()) == Some(refusal),
+            "{text}"
+        );
     }
 }
 
@@ -165,8 +201,18 @@ fn is_row(alloc: Global, text: &[u8; 4], on: u64, care: u64) -> bool {
 }
 
 #[test]
-fn lines_are_read_by_themselves(rt: HostRuntime) {
-    assert!(rt; are_reported() && are_kept(rt.alloc()) && is_row(rt.alloc(), b"01-1", 10, 11));
+fn header_lines_and_rows_are_told_apart(rt: HostRuntime) {
+    assert!(rt; are_reported());
+}
+
+#[test]
+fn a_specification_may_have_no_outputs(rt: HostRuntime) {
+    assert!(rt; are_kept(rt.alloc()));
+}
+
+#[test]
+fn a_row_is_stored_as_values_and_cares(rt: HostRuntime) {
+    assert!(rt; is_row(rt.alloc(), b"01-1", 10, 11));
 }
 
 /// Whether the tables of `text` are reported as symmetric in the inputs p and q exactly where
@@ -184,24 +230,52 @@ fn is_symmetric(alloc: Global, text: &[u8], p: u32, q: u32, wanted: bool) -> boo
 }
 
 /// Truth tables, two inputs, and whether these may be exchanged.
-const EXCHANGES: &[(&[u8], u32, u32, bool)] = &[
-    (b"inputs 2\n0110\n", 1, 2, true),
-    (b"inputs 2\n0010\n", 1, 2, false),
-    (b"inputs 2\n0--1\n", 1, 2, true),
-    (b"inputs 2\n0-11\n", 1, 2, false),
-    (b"inputs 2\n0110\n0010\n", 1, 2, false),
-    // the median of three bits
-    (b"inputs 3\n00010111\n", 1, 3, true),
-    // x1 AND x2, beside x3
-    (b"inputs 3\n00000011\n", 1, 2, true),
-    (b"inputs 3\n00000011\n", 2, 3, false),
-    (b"inputs 3\n00000011\n", 1, 3, false),
+const EXCHANGES: &[(&str, &[u8], u32, u32, bool)] = &[
+    ("XOR", b"inputs 2\n0110\n", 1, 2, true),
+    ("AND NOT", b"inputs 2\n0010\n", 1, 2, false),
+    (
+        "a don't-care that allows it",
+        b"inputs 2\n0--1\n",
+        1,
+        2,
+        true,
+    ),
+    (
+        "a don't-care that doesn't",
+        b"inputs 2\n0-11\n",
+        1,
+        2,
+        false,
+    ),
+    ("XOR and AND NOT", b"inputs 2\n0110\n0010\n", 1, 2, false),
+    ("the median, 1 and 3", b"inputs 3\n00010111\n", 1, 3, true),
+    (
+        "AND of the first two, 1 and 2",
+        b"inputs 3\n00000011\n",
+        1,
+        2,
+        true,
+    ),
+    (
+        "AND of the first two, 2 and 3",
+        b"inputs 3\n00000011\n",
+        2,
+        3,
+        false,
+    ),
+    (
+        "AND of the first two, 1 and 3",
+        b"inputs 3\n00000011\n",
+        1,
+        3,
+        false,
+    ),
 ];
 
 #[test]
-fn inputs_are_exchanged(rt: HostRuntime) {
-    for &(text, p, q, wanted) in EXCHANGES {
-        assert!(rt; is_symmetric(rt.alloc(), text, p, q, wanted), "{p} {q}");
+fn inputs_are_symmetric_where_the_tables_allow_it(rt: HostRuntime) {
+    for &(name, text, p, q, wanted) in EXCHANGES {
+        assert!(rt; is_symmetric(rt.alloc(), text, p, q, wanted), "{name}");
     }
 }
 
@@ -241,14 +315,16 @@ fn is_live_part(
 }
 
 /// Truth tables of four outputs, their trivial outputs, and the words of the others.
-const LIVE: &[(&[u8], [Option<Out>; 4], &[u64], &[u64])] = &[
+const LIVE: &[(&str, &[u8], [Option<Out>; 4], &[u64], &[u64])] = &[
     (
+        "inputs and don't-cares beside two gates",
         b"inputs 2\n0--1\n0110\n----\n0001\n",
         [Some(Out::Place(1)), None, Some(Out::Zero), None],
         &[6, 8],
         &[15, 15],
     ),
     (
+        "constants and an input twice beside a NOT",
         b"inputs 2\n11-1\n0101\n1100\n-10-\n",
         [
             Some(Out::One),
@@ -260,6 +336,7 @@ const LIVE: &[(&[u8], [Option<Out>; 4], &[u64], &[u64])] = &[
         &[15],
     ),
     (
+        "constants without inputs",
         b"inputs 0\n0\n1\n-\n1\n",
         [
             Some(Out::Zero),
@@ -273,8 +350,8 @@ const LIVE: &[(&[u8], [Option<Out>; 4], &[u64], &[u64])] = &[
 ];
 
 #[test]
-fn live_outputs_are_kept(rt: HostRuntime) {
-    for (text, outs, on, care) in LIVE {
-        assert!(rt; is_live_part(rt.alloc(), text, outs, on, care));
+fn trivial_outputs_are_left_out(rt: HostRuntime) {
+    for (name, text, outs, on, care) in LIVE {
+        assert!(rt; is_live_part(rt.alloc(), text, outs, on, care), "{name}");
     }
 }

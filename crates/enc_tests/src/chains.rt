@@ -120,22 +120,50 @@ const THREE: Case = Case {
 };
 
 /// Cases, and the bits of the variables of a formula of theirs.
-const CHAINS: &[(Method, &Case, &[u8])] = &[
-    // both orders of the operands are true, and the first is taken
-    (Method::Plain, &XOR, b"0110101100011"),
-    (Method::Plain, &AND_NOT, b"0100100100001"),
-    (Method::Plain, &THREE, b"0110101100010"),
-    // with symmetry breaking the operands come in one order
-    (Method::Ssv, &XOR, b"011010110001"),
-    (Method::Select, &AND_NOT, b"010010010011001010011"),
-    (Method::Select, &THREE, b"011010110100100110101"),
-    (Method::Fence, &XOR, b"011010110001"),
+const CHAINS: &[(&str, Method, &Case, &[u8])] = &[
+    (
+        "plain: both orders of the operands are true, and the first is taken",
+        Method::Plain,
+        &XOR,
+        b"0110101100011",
+    ),
+    (
+        "plain: operands that can't be exchanged",
+        Method::Plain,
+        &AND_NOT,
+        b"0100100100001",
+    ),
+    (
+        "plain: trivial outputs around one step",
+        Method::Plain,
+        &THREE,
+        b"0110101100010",
+    ),
+    (
+        "ssv: operands in one order",
+        Method::Ssv,
+        &XOR,
+        b"011010110001",
+    ),
+    (
+        "select: operands that can't be exchanged",
+        Method::Select,
+        &AND_NOT,
+        b"010010010011001010011",
+    ),
+    (
+        "select: trivial outputs around one step",
+        Method::Select,
+        &THREE,
+        b"011010110100100110101",
+    ),
+    ("fence: one step", Method::Fence, &XOR, b"011010110001"),
 ];
 
 #[test]
-fn chains_are_decoded(rt: HostRuntime) {
-    for &(method, case, bits) in CHAINS {
+fn solutions_spell_their_chains(rt: HostRuntime) {
+    for &(name, method, case, bits) in CHAINS {
         let chain = decoded(rt.alloc(), method, case.tables, case.basis, bits);
-        assert!(rt; is_chain_of(case, chain), "{} {}", case.j, case.op);
+        assert!(rt; is_chain_of(case, chain), "{name}");
     }
 }

@@ -35,7 +35,7 @@ fn write_some(alloc: Global, list: &mut ClauseList) -> Result<(), AllocError>
 }
 
 #[test]
-fn clauses_are_simplified(rt: HostRuntime) {
+fn constants_repetitions_and_tautologies_are_dropped(rt: HostRuntime) {
     let Ok(mut list) = ClauseList::new(rt.alloc(), 4) else {
         assert!(rt; false);
         return;
@@ -62,27 +62,27 @@ fn cuts_of(basis: &[u8]) -> Option<CutSet> {
 }
 
 /// Bases, and the constraints they allow: ordered operands, no constants, normal steps, no re-application.
-const CUTS: &[(&[u8], bool, bool, bool, bool)] = &[
-    (b"all", true, true, true, true),
-    (b"u2", true, true, true, true),
-    (b"bench", true, true, false, false),
-    (b"nand", true, true, false, false),
-    (b"0001", true, true, false, true),
-    (b"0110,1001", true, false, true, false),
-    (b"0010", false, false, false, false),
-    (b"0011", false, true, false, true),
+const CUTS: &[(&str, &[u8], bool, bool, bool, bool)] = &[
+    ("all", b"all", true, true, true, true),
+    ("u2", b"u2", true, true, true, true),
+    ("bench", b"bench", true, true, false, false),
+    ("nand", b"nand", true, true, false, false),
+    ("AND", b"0001", true, true, false, true),
+    ("XOR and XNOR", b"0110,1001", true, false, true, false),
+    ("AND NOT", b"0010", false, false, false, false),
+    ("the first operand", b"0011", false, true, false, true),
 ];
 
 #[test]
-fn bases_allow_cuts(rt: HostRuntime) {
-    for &(basis, swap, constants, polarity, reapply) in CUTS {
+fn bases_allow_the_cuts_of_their_closures(rt: HostRuntime) {
+    for &(name, basis, swap, constants, polarity, reapply) in CUTS {
         let wanted = CutSet {
             swap,
             constants,
             polarity,
             reapply,
         };
-        assert!(rt; cuts_of(basis) == Some(wanted));
+        assert!(rt; cuts_of(basis) == Some(wanted), "{name}");
     }
 }
 
@@ -107,9 +107,9 @@ fn are_laid(alloc: Global, ordered: bool, vars: u32, slots: &[(u32, u32, u32)]) 
 }
 
 #[test]
-fn pairs_are_laid_out(rt: HostRuntime) {
+fn each_pair_of_operands_has_a_variable(rt: HostRuntime) {
     let all = [(1, 1, 10), (2, 2, 11), (1, 2, 12), (2, 1, 13)];
     let ordered = [(1, 1, 10), (2, 2, 11), (1, 2, 12)];
-    assert!(rt; are_laid(rt.alloc(), false, 13, &all));
-    assert!(rt; are_laid(rt.alloc(), true, 12, &ordered));
+    assert!(rt; are_laid(rt.alloc(), false, 13, &all), "all pairs");
+    assert!(rt; are_laid(rt.alloc(), true, 12, &ordered), "ordered pairs");
 }

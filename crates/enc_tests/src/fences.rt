@@ -11,7 +11,7 @@ use std::alloc::Global;
 use tt_core::read_tables;
 
 #[test]
-fn levels_are_kept(rt: HostRuntime) {
+fn a_fence_has_the_levels_that_it_was_made_of(rt: HostRuntime) {
     match Vec::from_slice(rt.alloc(), &[2, 1]) {
         Ok(levels) => {
             let fence = Fence::new(levels);
@@ -39,14 +39,33 @@ fn are_listed(alloc: Global, r: u32, outputs: u32, numbers: &[u32]) -> bool
     left.is_empty()
 }
 
+/// Sizes, numbers of outputs, and the fences of the size, each followed by a 0.
+const LISTED: &[(&str, u32, u32, &[u32])] = &[
+    ("no step", 0, 1, &[0]),
+    ("three steps", 3, 1, &[1, 1, 1, 0, 2, 1, 0]),
+    (
+        "three steps, two outputs",
+        3,
+        2,
+        &[1, 1, 1, 0, 1, 2, 0, 2, 1, 0],
+    ),
+    ("four steps", 4, 1, &[1, 1, 1, 1, 0, 1, 2, 1, 0, 2, 1, 1, 0]),
+    (
+        "a step that drives no output is read by one on a higher level",
+        2,
+        0,
+        &[],
+    ),
+];
+
 #[test]
-fn fences_come_in_order(rt: HostRuntime) {
-    assert!(rt; are_listed(rt.alloc(), 0, 1, &[0]));
-    assert!(rt; are_listed(rt.alloc(), 3, 1, &[1, 1, 1, 0, 2, 1, 0]));
-    assert!(rt; are_listed(rt.alloc(), 3, 2, &[1, 1, 1, 0, 1, 2, 0, 2, 1, 0]));
-    assert!(rt; are_listed(rt.alloc(), 4, 1, &[1, 1, 1, 1, 0, 1, 2, 1, 0, 2, 1, 1, 0]));
-    // a step that drives no output is read by one on a higher level
-    assert!(rt; are_listed(rt.alloc(), 2, 0, &[]));
+fn fences_are_listed_in_lexicographic_order(rt: HostRuntime) {
+    for &(name, r, outputs, numbers) in LISTED {
+        assert!(rt;
+            r <= 16 && are_listed(rt.alloc(), r, outputs, numbers),
+            "{name}"
+        );
+    }
 }
 
 /// How many fences a size has; 0 also if memory runs out.
@@ -61,7 +80,7 @@ fn count(alloc: Global, r: u32, outputs: u32) -> usize {
 }
 
 #[test]
-fn fences_are_counted(rt: HostRuntime) {
+fn sizes_have_as_many_fences_as_another_program_counts(rt: HostRuntime) {
     // counted by another program, for one output and for three
     for (r, one, three) in [
         (4, 3, 7),
@@ -74,7 +93,7 @@ fn fences_are_counted(rt: HostRuntime) {
     ] {
         let first = count(rt.alloc(), r, 1);
         let second = count(rt.alloc(), r, 3);
-        assert!(rt; first == one && second == three);
+        assert!(rt; first == one && second == three, "{r} steps");
     }
 }
 
@@ -89,25 +108,28 @@ fn subproblems_of_size(alloc: Global, tables: &[u8], r: u32) -> Option<usize> {
 }
 
 #[test]
-fn live_outputs_decide_the_subproblems(rt: HostRuntime) {
-    for (tables, r, wanted) in [
-        (b"inputs 2\n0110\n" as &[u8], 3, 2),
-        (b"inputs 2\n0110\n1001\n", 3, 3),
-        // one of two outputs is trivial
-        (b"inputs 2\n0110\n0011\n", 3, 2),
-        // no step is needed, and no fence is listed
-        (b"inputs 2\n0011\n", 0, 1),
-        (b"inputs 2\n0011\n", 1, 0),
+fn a_size_has_a_subproblem_for_each_fence_of_its_live_outputs(rt: HostRuntime) {
+    for (name, tables, r, wanted) in [
+        ("one live output", b"inputs 2\n0110\n" as &[u8], 3, 2),
+        ("two live outputs", b"inputs 2\n0110\n1001\n", 3, 3),
+        (
+            "a live and a trivial output",
+            b"inputs 2\n0110\n0011\n",
+            3,
+            2,
+        ),
+        ("no live output, no step", b"inputs 2\n0011\n", 0, 1),
+        ("no live output, one step", b"inputs 2\n0011\n", 1, 0),
     ] {
         assert!(rt;
             subproblems_of_size(rt.alloc(), tables, r) == Some(wanted),
-            "{wanted}"
+            "{name}"
         );
     }
 }
 
 #[test]
-fn other_sizes_have_one_subproblem(rt: HostRuntime) {
+fn without_fences_a_size_is_one_subproblem(rt: HostRuntime) {
     let Ok(read) = read_tables(rt.alloc(), b"inputs 2\n0110\n") else {
         assert!(rt; false);
         return;
@@ -133,19 +155,20 @@ fn have_levels(alloc: Global, block: &[u8], wanted: &[u32]) -> bool {
 }
 
 #[test]
-fn steps_have_levels(rt: HostRuntime) {
-    // the AND of three inputs; two steps on level 1 under a third; and no step
-    for (block, wanted) in [
+fn a_step_is_one_level_above_its_operands(rt: HostRuntime) {
+    for (name, block, wanted) in [
         (
+            "AND of three inputs",
             b"chain 2\nx4 x1 x2 0001\nx5 x3 x4 0001\nout x5\n" as &[u8],
             &[1u32, 2] as &[u32],
         ),
         (
+            "two steps under a third",
             b"chain 3\nx4 x1 x2 0001\nx5 x3 x3 1100\nx6 x5 x4 0110\nout x6\n",
             &[1, 1, 2],
         ),
-        (b"chain 0\nout x2\n", &[]),
+        ("no step", b"chain 0\nout x2\n", &[]),
     ] {
-        assert!(rt; have_levels(rt.alloc(), block, wanted));
+        assert!(rt; have_levels(rt.alloc(), block, wanted), "{name}");
     }
 }

@@ -113,10 +113,31 @@ const THREE: &[u8] = b"inputs 4\n0110100110010110\n0000000000000001\n0----------
 const XOR: &[u8] = b"inputs 2\n0110\n";
 
 /// Formulas of subproblems, with the numbers of variables and clauses and the checksums of another program.
-const SUMS: &[(Method, &[u8], &[u8], u32, usize, u32, usize, u32)] = &[
-    (Method::Plain, LIGHTS, b"all", 3, 0, 140, 3572, 599009576),
-    (Method::Ssv, LIGHTS, b"all", 3, 0, 109, 2433, 2276029920),
+const SUMS: &[(&str, Method, &[u8], &[u8], u32, usize, u32, usize, u32)] = &[
     (
+        "plain, one output",
+        Method::Plain,
+        LIGHTS,
+        b"all",
+        3,
+        0,
+        140,
+        3572,
+        599009576,
+    ),
+    (
+        "ssv, one output",
+        Method::Ssv,
+        LIGHTS,
+        b"all",
+        3,
+        0,
+        109,
+        2433,
+        2276029920,
+    ),
+    (
+        "plain, three outputs",
         Method::Plain,
         THREE,
         b"0001,0110,1000",
@@ -127,6 +148,7 @@ const SUMS: &[(Method, &[u8], &[u8], u32, usize, u32, usize, u32)] = &[
         2724648464,
     ),
     (
+        "ssv, three outputs",
         Method::Ssv,
         THREE,
         b"0001,0110,1000",
@@ -136,10 +158,41 @@ const SUMS: &[(Method, &[u8], &[u8], u32, usize, u32, usize, u32)] = &[
         2443,
         3735524217,
     ),
-    (Method::Fence, b"inputs 1\n10\n", b"0001", 0, 0, 0, 1, 0),
-    (Method::Fence, LIGHTS, b"all", 3, 0, 84, 1231, 1713344511),
-    (Method::Fence, LIGHTS, b"all", 3, 1, 94, 1629, 2901222639),
     (
+        "fence, no step",
+        Method::Fence,
+        b"inputs 1\n10\n",
+        b"0001",
+        0,
+        0,
+        0,
+        1,
+        0,
+    ),
+    (
+        "first fence of one output",
+        Method::Fence,
+        LIGHTS,
+        b"all",
+        3,
+        0,
+        84,
+        1231,
+        1713344511,
+    ),
+    (
+        "second fence of one output",
+        Method::Fence,
+        LIGHTS,
+        b"all",
+        3,
+        1,
+        94,
+        1629,
+        2901222639,
+    ),
+    (
+        "first fence of three outputs",
         Method::Fence,
         THREE,
         b"0001,0110,1000",
@@ -150,6 +203,7 @@ const SUMS: &[(Method, &[u8], &[u8], u32, usize, u32, usize, u32)] = &[
         1473757573,
     ),
     (
+        "second fence of three outputs",
         Method::Fence,
         THREE,
         b"0001,0110,1000",
@@ -160,6 +214,7 @@ const SUMS: &[(Method, &[u8], &[u8], u32, usize, u32, usize, u32)] = &[
         1444629802,
     ),
     (
+        "third fence of three outputs",
         Method::Fence,
         THREE,
         b"0001,0110,1000",
@@ -172,43 +227,162 @@ const SUMS: &[(Method, &[u8], &[u8], u32, usize, u32, usize, u32)] = &[
 ];
 
 #[test]
-fn formulas_are_those_of_another_program(rt: HostRuntime) {
-    for &(method, tables, basis, r, which, vars, clauses, sum) in SUMS {
+fn formulas_have_the_checksums_of_another_program(rt: HostRuntime) {
+    for &(name, method, tables, basis, r, which, vars, clauses, sum) in SUMS {
         let formula = formula(rt.alloc(), method, tables, basis, r, which);
         let alike = is_like(rt.alloc(), formula, vars, clauses, sum);
-        assert!(rt; alike, "{r} steps");
+        assert!(rt; alike, "{name}");
     }
 }
 
 /// Formulas of two steps for XOR over sets of operators, for nine combinations of the five properties of a
 /// basis.
-const SUMS_OF_BASES: &[(Method, &[u8], u32, usize, u32)] = &[
-    (Method::Ssv, b"0000,0011,0110", 31, 211, 141350951),
-    (Method::Select, b"0000,0011,0110", 44, 172, 3144029014),
-    (Method::Ssv, b"0000,0011,1111", 31, 220, 2272156084),
-    (Method::Select, b"0000,0011,1111", 44, 181, 1642880629),
-    (Method::Ssv, b"0000,0011,1000", 31, 206, 1967670986),
-    (Method::Select, b"0000,0011,1000", 44, 167, 3118167463),
-    (Method::Ssv, b"0000,0011,1010", 31, 220, 1890792365),
-    (Method::Select, b"0000,0011,1010", 44, 187, 2937158271),
-    (Method::Ssv, b"0000,0101,1010,1111", 31, 222, 4002883182),
-    (Method::Select, b"0000,0101,1010,1111", 44, 189, 3453105558),
-    (Method::Ssv, b"0011,0101,0110", 27, 150, 4086971746),
-    (Method::Select, b"0011,0101,0110", 44, 167, 926684078),
-    (Method::Ssv, b"0000,0011,0101,0110", 27, 152, 296785563),
-    (Method::Select, b"0000,0011,0101,0110", 44, 169, 1325322310),
-    (Method::Ssv, b"0000,1111", 27, 163, 3411101679),
-    (Method::Select, b"0000,1111", 44, 180, 1631859616),
-    (Method::Ssv, b"0000,1010,1100", 27, 161, 2726093368),
-    (Method::Select, b"0000,1010,1100", 44, 190, 2185277293),
+const SUMS_OF_BASES: &[(&str, Method, &[u8], u32, usize, u32)] = &[
+    (
+        "ssv: 0, first, XOR",
+        Method::Ssv,
+        b"0000,0011,0110",
+        31,
+        211,
+        141350951,
+    ),
+    (
+        "select: 0, first, XOR",
+        Method::Select,
+        b"0000,0011,0110",
+        44,
+        172,
+        3144029014,
+    ),
+    (
+        "ssv: 0, first, 1",
+        Method::Ssv,
+        b"0000,0011,1111",
+        31,
+        220,
+        2272156084,
+    ),
+    (
+        "select: 0, first, 1",
+        Method::Select,
+        b"0000,0011,1111",
+        44,
+        181,
+        1642880629,
+    ),
+    (
+        "ssv: 0, first, NOR",
+        Method::Ssv,
+        b"0000,0011,1000",
+        31,
+        206,
+        1967670986,
+    ),
+    (
+        "select: 0, first, NOR",
+        Method::Select,
+        b"0000,0011,1000",
+        44,
+        167,
+        3118167463,
+    ),
+    (
+        "ssv: 0, first, NOT second",
+        Method::Ssv,
+        b"0000,0011,1010",
+        31,
+        220,
+        1890792365,
+    ),
+    (
+        "select: 0, first, NOT second",
+        Method::Select,
+        b"0000,0011,1010",
+        44,
+        187,
+        2937158271,
+    ),
+    (
+        "ssv: 0, second, NOT second, 1",
+        Method::Ssv,
+        b"0000,0101,1010,1111",
+        31,
+        222,
+        4002883182,
+    ),
+    (
+        "select: 0, second, NOT second, 1",
+        Method::Select,
+        b"0000,0101,1010,1111",
+        44,
+        189,
+        3453105558,
+    ),
+    (
+        "ssv: first, second, XOR",
+        Method::Ssv,
+        b"0011,0101,0110",
+        27,
+        150,
+        4086971746,
+    ),
+    (
+        "select: first, second, XOR",
+        Method::Select,
+        b"0011,0101,0110",
+        44,
+        167,
+        926684078,
+    ),
+    (
+        "ssv: 0, first, second, XOR",
+        Method::Ssv,
+        b"0000,0011,0101,0110",
+        27,
+        152,
+        296785563,
+    ),
+    (
+        "select: 0, first, second, XOR",
+        Method::Select,
+        b"0000,0011,0101,0110",
+        44,
+        169,
+        1325322310,
+    ),
+    ("ssv: 0, 1", Method::Ssv, b"0000,1111", 27, 163, 3411101679),
+    (
+        "select: 0, 1",
+        Method::Select,
+        b"0000,1111",
+        44,
+        180,
+        1631859616,
+    ),
+    (
+        "ssv: 0, NOT second, NOT first",
+        Method::Ssv,
+        b"0000,1010,1100",
+        27,
+        161,
+        2726093368,
+    ),
+    (
+        "select: 0, NOT second, NOT first",
+        Method::Select,
+        b"0000,1010,1100",
+        44,
+        190,
+        2185277293,
+    ),
 ];
 
 #[test]
-fn tests_of_bases_decide_the_cuts(rt: HostRuntime) {
-    for &(method, basis, vars, clauses, sum) in SUMS_OF_BASES {
+fn formulas_have_the_cuts_that_their_bases_allow(rt: HostRuntime) {
+    for &(name, method, basis, vars, clauses, sum) in SUMS_OF_BASES {
         let formula = formula(rt.alloc(), method, XOR, basis, 2, 0);
         let alike = is_like(rt.alloc(), formula, vars, clauses, sum);
-        assert!(rt; alike, "{sum}");
+        assert!(rt; alike, "{name}");
     }
 }
 
@@ -258,8 +432,9 @@ const TWO_CUTS: &[i32] = &[
 ];
 
 /// Formulas with the number of variables, whether all their clauses follow, and their last clauses.
-const WRITTEN: &[(Method, &[u8], &[u8], u32, u32, bool, &[i32])] = &[
+const WRITTEN: &[(&str, Method, &[u8], &[u8], u32, u32, bool, &[i32])] = &[
     (
+        "ssv: NOT by AND",
         Method::Ssv,
         b"inputs 1\n10\n",
         b"0001",
@@ -269,6 +444,7 @@ const WRITTEN: &[(Method, &[u8], &[u8], u32, u32, bool, &[i32])] = &[
         NOT_BY_AND,
     ),
     (
+        "select: NOT by AND",
         Method::Select,
         b"inputs 1\n10\n",
         b"0001",
@@ -277,10 +453,28 @@ const WRITTEN: &[(Method, &[u8], &[u8], u32, u32, bool, &[i32])] = &[
         true,
         NOT_BY_AND_SELECTED,
     ),
-    // no input: no step, no clause; a step has no pair and no operands
-    (Method::Plain, b"inputs 0\n1\n", b"all", 0, 0, true, &[]),
-    (Method::Plain, b"inputs 0\n1\n", b"all", 1, 5, true, &[0]),
     (
+        "plain: no input, no step",
+        Method::Plain,
+        b"inputs 0\n1\n",
+        b"all",
+        0,
+        0,
+        true,
+        &[],
+    ),
+    (
+        "plain: no input, a step has no pair",
+        Method::Plain,
+        b"inputs 0\n1\n",
+        b"all",
+        1,
+        5,
+        true,
+        &[0],
+    ),
+    (
+        "select: no input, a step has no operands",
         Method::Select,
         b"inputs 0\n1\n",
         b"all",
@@ -289,8 +483,8 @@ const WRITTEN: &[(Method, &[u8], &[u8], u32, u32, bool, &[i32])] = &[
         true,
         NO_INPUT,
     ),
-    // live outputs need at least one step
     (
+        "plain: live outputs need a step",
         Method::Plain,
         b"inputs 2\n0110\n1001\n",
         b"all",
@@ -300,6 +494,7 @@ const WRITTEN: &[(Method, &[u8], &[u8], u32, u32, bool, &[i32])] = &[
         &[0, 0],
     ),
     (
+        "select: live outputs need a step",
         Method::Select,
         b"inputs 2\n0110\n1001\n",
         b"all",
@@ -308,8 +503,8 @@ const WRITTEN: &[(Method, &[u8], &[u8], u32, u32, bool, &[i32])] = &[
         true,
         &[0, 0],
     ),
-    // trivial outputs need no clauses
     (
+        "ssv: trivial outputs need no clause",
         Method::Ssv,
         b"inputs 2\n0011\n0--1\n----\n",
         b"nand",
@@ -319,6 +514,7 @@ const WRITTEN: &[(Method, &[u8], &[u8], u32, u32, bool, &[i32])] = &[
         &[],
     ),
     (
+        "select: trivial outputs need no clause",
         Method::Select,
         b"inputs 2\n0011\n0--1\n----\n",
         b"nand",
@@ -327,8 +523,8 @@ const WRITTEN: &[(Method, &[u8], &[u8], u32, u32, bool, &[i32])] = &[
         true,
         &[],
     ),
-    // the constraints come last
     (
+        "ssv: the cuts of XOR come last",
         Method::Ssv,
         b"inputs 2\n0110\n",
         b"all",
@@ -338,6 +534,7 @@ const WRITTEN: &[(Method, &[u8], &[u8], u32, u32, bool, &[i32])] = &[
         XOR_CUTS,
     ),
     (
+        "ssv: the cuts of two outputs come last",
         Method::Ssv,
         b"inputs 2\n0-10\n1100\n",
         b"0010,1101",
@@ -349,11 +546,11 @@ const WRITTEN: &[(Method, &[u8], &[u8], u32, u32, bool, &[i32])] = &[
 ];
 
 #[test]
-fn formulas_are_written(rt: HostRuntime) {
-    for &(method, tables, basis, r, vars, all, numbers) in WRITTEN {
+fn small_formulas_have_these_clauses(rt: HostRuntime) {
+    for &(name, method, tables, basis, r, vars, all, numbers) in WRITTEN {
         let formula = formula(rt.alloc(), method, tables, basis, r, 0);
         let written = ends_with(rt.alloc(), formula, vars, all, numbers);
-        assert!(rt; written, "{r} steps");
+        assert!(rt; written, "{name}");
     }
 }
 

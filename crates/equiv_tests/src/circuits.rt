@@ -19,7 +19,7 @@ fn is_small(circuit: &Circuit) -> bool
 }
 
 /// The circuit of a short text, if it has few sources and sinks.
-fn circuit(alloc: Global, text: &[u8]) -> Option<Circuit>
+pub fn circuit(alloc: Global, text: &[u8]) -> Option<Circuit>
     ensures proper { IfSome result IsProper }
     ensures small { IfSome result (λ c. IsSmall c.net) }
 {
@@ -140,9 +140,9 @@ fn are_compared(alloc: Global, first: &[u8], second: &[u8], budget: u32, wanted:
 }
 
 /// Two netlists, the budget, and the expected result.
-const COMPARED: &[(&[u8], &[u8], u32, Wanted)] = &[
-    // miters: AND of two sources beside the constant 0
+const COMPARED: &[(&str, &[u8], &[u8], u32, Wanted)] = &[
     (
+        "the miter of AND and 0",
         b".inputs a b\n.outputs y\n.names a b y\n11 1\n.end\n",
         b".inputs a b\n.outputs y\n.names y\n.end\n",
         100,
@@ -158,8 +158,8 @@ const COMPARED: &[(&[u8], &[u8], u32, Wanted)] = &[
             ],
         ),
     ),
-    // a copy beside the constant 1, and NOT, whose operands are one source, beside a copy
     (
+        "the miter of a copy and 1, and of NOT and a copy",
         b".inputs a\n.outputs x y\n.names a x\n1 1\n.names a y\n0 1\n.end\n",
         b".inputs a\n.outputs x y\n.names x\n1\n.names a y\n1 1\n.end\n",
         100,
@@ -175,120 +175,128 @@ const COMPARED: &[(&[u8], &[u8], u32, Wanted)] = &[
             ],
         ),
     ),
-    // no sink
     (
+        "the miter without sinks",
         b".inputs a\n.end\n",
         b".inputs a\n.end\n",
         100,
         Wanted::Miter(1, &[&[]]),
     ),
     (
+        "AND and 0 differ",
         b".inputs a b\n.outputs y\n.names a b y\n11 1\n.end\n",
         b".inputs a b\n.outputs y\n.names y\n.end\n",
         100,
         Wanted::Differ(1, &[true, true]),
     ),
-    // the second output, and a next state, which comes after the outputs
     (
+        "the second output differs",
         b".inputs a\n.outputs a y\n.names y\n.end\n",
         b".inputs a\n.outputs a y\n.names a y\n1 1\n.end\n",
         100,
         Wanted::Differ(2, &[true]),
     ),
     (
+        "a next state, which comes after the outputs, differs",
         b".inputs a\n.outputs a\n.latch d q\n.names a q d\n10 0\n.end\n",
         b".inputs a\n.outputs a\n.latch d q\n.names d\n1\n.end\n",
         100,
         Wanted::Differ(2, &[true, false]),
     ),
-    // a AND b by NOR of complements, whose internal names don't matter
     (
+        "AND, and NOR of complements",
         b".inputs a b\n.outputs y\n.names a b y\n11 1\n.end\n",
         b".inputs a b\n.outputs y\n.names a p\n0 1\n.names b q\n0 1\n.names p q y\n00 1\n.end\n",
         100,
         Wanted::Equal,
     ),
-    // the names of latch inputs aren't part of the interface
     (
+        "other names of latch inputs",
         b".latch d q\n.names q d\n0 1\n.end\n",
         b".latch e q\n.names q e\n0 1\n.end\n",
         100,
         Wanted::Equal,
     ),
-    // other interfaces: inputs in another order, one output more, one clock
     (
+        "inputs in another order",
         b".inputs a b\n.end\n",
         b".inputs b a\n.end\n",
         100,
         Wanted::DifferentInterface,
     ),
     (
+        "one output more",
         b".inputs a\n.outputs a\n.end\n",
         b".inputs a\n.outputs a a\n.end\n",
         100,
         Wanted::DifferentInterface,
     ),
     (
+        "one clock less",
         b".clock c\n.end\n",
         b".end\n",
         100,
         Wanted::DifferentInterface,
     ),
-    // latches: their order, their number, the kind and the name of the control, an initial value
     (
+        "latches in another order",
         b".latch p p\n.latch q q\n.end\n",
         b".latch q q\n.latch p p\n.end\n",
         100,
         Wanted::DifferentInterface,
     ),
     (
+        "one latch less",
         b".latch p p\n.end\n",
         b".end\n",
         100,
         Wanted::DifferentInterface,
     ),
     (
+        "another kind of control",
         b".clock c\n.latch p p re c 0\n.end\n",
         b".clock c\n.latch p p fe c 0\n.end\n",
         100,
         Wanted::DifferentInterface,
     ),
     (
+        "another control",
         b".clock b c\n.latch p p re b 0\n.end\n",
         b".clock b c\n.latch p p re c 0\n.end\n",
         100,
         Wanted::DifferentInterface,
     ),
     (
+        "another initial value",
         b".latch p p\n.end\n",
         b".latch p p 3\n.end\n",
         100,
         Wanted::DifferentInterface,
     ),
-    // XOR of four inputs as a tree and as a row, whose internal equivalences take few conflicts
     (
+        "XOR of four as a tree and as a chain",
         b".inputs a b c d\n.outputs y\n.names a b p\n10 1\n01 1\n.names c d q\n10 1\n01 1\n.names p q y\n10 1\n01 1\n.end\n",
         b".inputs a b c d\n.outputs y\n.names a b p\n10 1\n01 1\n.names p c q\n10 1\n01 1\n.names q d y\n10 1\n01 1\n.end\n",
         10,
         Wanted::Equal,
     ),
-    // XOR of six inputs in two orders without internal equivalences, on a budget that is spent
     (
+        "XOR of six in two orders, on a budget that is spent",
         b".inputs a b c d e f\n.outputs y\n.names a b p\n10 1\n01 1\n.names p c q\n10 1\n01 1\n.names q d r\n10 1\n01 1\n.names r e s\n10 1\n01 1\n.names s f y\n10 1\n01 1\n.end\n",
         b".inputs a b c d e f\n.outputs y\n.names f b p\n10 1\n01 1\n.names p d q\n10 1\n01 1\n.names q a r\n10 1\n01 1\n.names r e s\n10 1\n01 1\n.names s c y\n10 1\n01 1\n.end\n",
         1,
         Wanted::Undecided,
     ),
-    // a node that is the complement of one of the other netlist, and one that is constant
     (
+        "a node that is a complement, and one that is constant",
         b".inputs a b c\n.outputs y\n.names a b p\n11 1\n.names p c y\n01 1\n10 1\n.end\n",
         b".inputs a b c\n.outputs y\n.names a b p\n0- 1\n-0 1\n.names a r\n0 1\n.names a r q\n11 1\n\
             .names p c s\n00 1\n11 1\n.names s q y\n1- 1\n-1 1\n.end\n",
         10,
         Wanted::Equal,
     ),
-    // a last sink that differs under one assignment of 8192
     (
+        "a last sink that differs under one assignment of 8192",
         b".inputs a b c d e f g h i j k l m\n.outputs x y\n.names a b x\n11 1\n.names a b c d e f g h i j k l m y\n1111111111111 1\n.end\n",
         b".inputs a b c d e f g h i j k l m\n.outputs x y\n.names a b x\n11 1\n.names y\n.end\n",
         2,
@@ -302,8 +310,9 @@ const COMPARED: &[(&[u8], &[u8], u32, Wanted)] = &[
 ];
 
 #[test]
-fn circuits_are_compared(rt: HostRuntime) {
-    for &(first, second, budget, wanted) in COMPARED {
-        assert!(rt; are_compared(rt.alloc(), first, second, budget, wanted));
+fn circuits_have_these_miters_and_answers(rt: HostRuntime) {
+    for &(name, first, second, budget, wanted) in COMPARED {
+        let well = are_compared(rt.alloc(), first, second, budget, wanted);
+        assert!(rt; well, "{name}");
     }
 }

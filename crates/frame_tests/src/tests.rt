@@ -8,9 +8,10 @@ use std::alloc::{AllocError, Global};
 /// The numbers of the calls that fail.
 type Fails = &'static [u64];
 
-/// The input, which reads, writes and calls of the notes fail, the status, how many reads failed, the output and
-/// the notes.
+/// The name, the input, which reads, writes and calls of the notes fail, the status, how many reads failed, the
+/// output and the notes.
 type Run = (
+    &'static str,
     &'static [u8],
     (Fails, Fails, Fails),
     u8,
@@ -40,9 +41,9 @@ fn sink(alloc: Global, fails: Fails) -> Result<MemorySink, AllocError> {
 
 /// The source and the sinks before a run.
 fn ports(alloc: Global, run: &Run) -> Result<Outside, AllocError> {
-    let source = source(alloc, run.0, run.1.0)?;
-    let out = sink(alloc, run.1.1)?;
-    let note = sink(alloc, run.1.2)?;
+    let source = source(alloc, run.1, run.2.0)?;
+    let out = sink(alloc, run.2.1)?;
+    let note = sink(alloc, run.2.2)?;
     Ok(Outside { source, out, note })
 }
 
@@ -60,18 +61,51 @@ fn is_run(alloc: Global, greets: bool, run: &Run) -> bool {
     let Ok(mut ports) = ports(alloc, run) else {
         return false;
     };
-    let reported = performed(alloc, greets, &mut ports) == run.2 && ports.source.faults() == run.3;
-    reported && ports.out.written() == run.4 && ports.note.written() == run.5
+    let reported = performed(alloc, greets, &mut ports) == run.3 && ports.source.faults() == run.4;
+    reported && ports.out.written() == run.5 && ports.note.written() == run.6
 }
 
 /// Runs of the lines.
 const LINES: &[Run] = &[
-    (b"", (&[], &[], &[]), 0, 0, b"", b""),
-    (b"abc", (&[], &[], &[]), 0, 0, b"a\nb\nc\n", b""),
-    (b"abcd", (&[], &[], &[]), 3, 0, b"", b"error: TooLong\n"),
-    (b"abc", (&[2], &[], &[]), 5, 1, b"", b"error: ReadFault\n"),
-    (b"abc", (&[], &[1], &[]), 6, 0, b"", b"error: WriteFault\n"),
+    ("the empty text", b"", (&[], &[], &[]), 0, 0, b"", b""),
     (
+        "three lines",
+        b"abc",
+        (&[], &[], &[]),
+        0,
+        0,
+        b"a\nb\nc\n",
+        b"",
+    ),
+    (
+        "a text that is too long",
+        b"abcd",
+        (&[], &[], &[]),
+        3,
+        0,
+        b"",
+        b"error: TooLong\n",
+    ),
+    (
+        "the second read fails",
+        b"abc",
+        (&[2], &[], &[]),
+        5,
+        1,
+        b"",
+        b"error: ReadFault\n",
+    ),
+    (
+        "the first write fails",
+        b"abc",
+        (&[], &[1], &[]),
+        6,
+        0,
+        b"",
+        b"error: WriteFault\n",
+    ),
+    (
+        "the third write fails",
         b"abc",
         (&[], &[3], &[]),
         6,
@@ -79,11 +113,44 @@ const LINES: &[Run] = &[
         b"a\nb\n",
         b"error: WriteFault\n",
     ),
-    (b"abc", (&[], &[4], &[1]), 0, 0, b"a\nb\nc\n", b""),
-    (b"!", (&[], &[], &[]), 7, 0, b"", b"error: Memory\n"),
-    (b"ab!", (&[], &[], &[]), 7, 0, b"a\nb\n", b"error: Memory\n"),
-    (b"ab!", (&[], &[], &[1]), 7, 0, b"a\nb\n", b""),
     (
+        "a call of the notes that isn't made",
+        b"abc",
+        (&[], &[4], &[1]),
+        0,
+        0,
+        b"a\nb\nc\n",
+        b"",
+    ),
+    (
+        "out of memory at once",
+        b"!",
+        (&[], &[], &[]),
+        7,
+        0,
+        b"",
+        b"error: Memory\n",
+    ),
+    (
+        "out of memory after two lines",
+        b"ab!",
+        (&[], &[], &[]),
+        7,
+        0,
+        b"a\nb\n",
+        b"error: Memory\n",
+    ),
+    (
+        "out of memory, and the notes fail",
+        b"ab!",
+        (&[], &[], &[1]),
+        7,
+        0,
+        b"a\nb\n",
+        b"",
+    ),
+    (
+        "the second write fails before memory runs out",
         b"ab!",
         (&[], &[2], &[]),
         6,
@@ -94,15 +161,16 @@ const LINES: &[Run] = &[
 ];
 
 #[test]
-fn a_text_goes_out_in_pieces(rt: HostRuntime) {
+fn lines_are_written_until_a_call_fails(rt: HostRuntime) {
     for run in LINES {
-        assert!(rt; is_run(rt.alloc(), false, run));
+        assert!(rt; is_run(rt.alloc(), false, run), "{}", run.0);
     }
 }
 
 /// Runs of the greeting. The first call of the source would fail, but none is made.
 const GREETINGS: &[Run] = &[
     (
+        "no call fails",
         b"unread",
         (&[1], &[], &[]),
         0,
@@ -111,6 +179,7 @@ const GREETINGS: &[Run] = &[
         b"2 parts\none\ntwo\ndone\n",
     ),
     (
+        "the write fails",
         b"unread",
         (&[1], &[1], &[]),
         6,
@@ -119,6 +188,7 @@ const GREETINGS: &[Run] = &[
         b"error: WriteFault\n",
     ),
     (
+        "the first call of the notes fails",
         b"unread",
         (&[1], &[], &[1]),
         6,
@@ -127,6 +197,7 @@ const GREETINGS: &[Run] = &[
         b"error: WriteFault\n",
     ),
     (
+        "the second call of the notes fails",
         b"unread",
         (&[1], &[], &[2]),
         6,
@@ -135,6 +206,7 @@ const GREETINGS: &[Run] = &[
         b"2 parts\nerror: WriteFault\n",
     ),
     (
+        "the third call of the notes fails",
         b"unread",
         (&[1], &[], &[3]),
         6,
@@ -143,6 +215,7 @@ const GREETINGS: &[Run] = &[
         b"2 parts\none\nerror: WriteFault\n",
     ),
     (
+        "the fourth call of the notes fails",
         b"unread",
         (&[1], &[], &[4]),
         6,
@@ -151,6 +224,7 @@ const GREETINGS: &[Run] = &[
         b"2 parts\none\ntwo\nerror: WriteFault\n",
     ),
     (
+        "the fourth call of the notes and the report of it fail",
         b"unread",
         (&[1], &[], &[4, 5]),
         6,
@@ -159,6 +233,7 @@ const GREETINGS: &[Run] = &[
         b"2 parts\none\ntwo\n",
     ),
     (
+        "the fifth call of the notes isn't made",
         b"unread",
         (&[1], &[], &[5]),
         0,
@@ -169,8 +244,8 @@ const GREETINGS: &[Run] = &[
 ];
 
 #[test]
-fn a_report_goes_out_in_parts(rt: HostRuntime) {
+fn notes_of_a_greeting_are_written_until_a_call_fails(rt: HostRuntime) {
     for run in GREETINGS {
-        assert!(rt; is_run(rt.alloc(), true, run));
+        assert!(rt; is_run(rt.alloc(), true, run), "{}", run.0);
     }
 }

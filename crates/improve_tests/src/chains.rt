@@ -47,6 +47,7 @@ fn pair_of(alloc: Global, net: &Net, root: u32, count: u32, block: &[u8]) -> Opt
 /// A net, a window, a chain for it, the net after substitution, and, where the chain implements the window,
 /// that net without dangling gates.
 struct Row {
+    name: &'static str,
     plan: &'static Plan,
     root: u32,
     count: u32,
@@ -242,8 +243,8 @@ const LIVE: Plan = Plan {
 
 /// Nets, windows and chains, and the nets after substitution.
 const ROWS: &[Row] = &[
-    // one step replaces two gates
     Row {
+        name: "one step replaces two gates",
         plan: &TWO,
         root: 4,
         count: 2,
@@ -251,8 +252,8 @@ const ROWS: &[Row] = &[
         left: &AND,
         live: None,
     },
-    // an output of a chain may be an input
     Row {
+        name: "an output of a chain may be an input",
         plan: &THREE,
         root: 3,
         count: 1,
@@ -260,8 +261,8 @@ const ROWS: &[Row] = &[
         left: &THREE_LEFT,
         live: None,
     },
-    // a window may have no input
     Row {
+        name: "a window may have no input",
         plan: &CONSTANT,
         root: 2,
         count: 1,
@@ -269,8 +270,8 @@ const ROWS: &[Row] = &[
         left: &NO_GATE,
         live: None,
     },
-    // gates follow the steps
     Row {
+        name: "gates follow the steps",
         plan: &AROUND,
         root: 5,
         count: 1,
@@ -278,8 +279,8 @@ const ROWS: &[Row] = &[
         left: &AROUND_LEFT,
         live: None,
     },
-    // a chain that implements the window may leave dangling gates
     Row {
+        name: "a chain that implements the window may leave dangling gates",
         plan: &DANGLING,
         root: 4,
         count: 2,
@@ -290,8 +291,8 @@ const ROWS: &[Row] = &[
 ];
 
 #[test]
-fn chains_take_the_places_of_windows(rt: HostRuntime) {
+fn chains_replace_the_gates_of_windows(rt: HostRuntime) {
     for row in ROWS {
-        assert!(rt; is_left(rt.alloc(), row));
+        assert!(rt; is_left(rt.alloc(), row), "{}", row.name);
     }
 }

@@ -5,16 +5,17 @@ use merge_core::functional_reduction;
 use net_core::Sig::{Node, One, Zero};
 use std::alloc::Global;
 
-/// A net, and the net after merging.
+/// A net with its name, and the net after merging.
 struct Row {
+    name: &'static str,
     net: Plan,
     left: Plan,
 }
 
 /// Nets and their merged nets, worked out by hand.
 const ROWS: &[Row] = &[
-    // AND, NOR of the complements, and XOR of the two, which is 0
     Row {
+        name: "NOR of complements is AND, and XOR of equal gates is 0",
         net: Plan {
             sources: 2,
             gates: &[
@@ -36,8 +37,8 @@ const ROWS: &[Row] = &[
             sinks: &[Node(5), Zero, Node(4), Node(1)],
         },
     },
-    // NOT of NOT is the source, and XNOR of a node with itself is 1
     Row {
+        name: "NOT of NOT is the source, and XNOR of a node with itself is 1",
         net: Plan {
             sources: 1,
             gates: &[
@@ -54,8 +55,8 @@ const ROWS: &[Row] = &[
             sinks: &[Node(1), One, Node(2)],
         },
     },
-    // no source: constants alone
     Row {
+        name: "constants alone",
         net: Plan {
             sources: 0,
             gates: &[(7, Zero, One), (1, Node(1), One)],
@@ -67,8 +68,8 @@ const ROWS: &[Row] = &[
             sinks: &[One],
         },
     },
-    // two words a node; a gate that read a merged gate reads the one that remains
     Row {
+        name: "two words a node, and a gate that read a merged gate",
         net: Plan {
             sources: 7,
             gates: &[
@@ -89,8 +90,8 @@ const ROWS: &[Row] = &[
             sinks: &[Node(10), Node(9)],
         },
     },
-    // 13 sources: the net stays as it is
     Row {
+        name: "13 sources: the net stays as it is",
         net: Plan {
             sources: 13,
             gates: &[(1, Node(1), Node(2)), (1, Node(2), Node(1))],
@@ -118,6 +119,6 @@ fn is_left(alloc: Global, row: &Row) -> bool {
 #[test]
 fn gates_with_equal_tables_become_one(rt: HostRuntime) {
     for row in ROWS {
-        assert!(rt; is_left(rt.alloc(), row));
+        assert!(rt; is_left(rt.alloc(), row), "{}", row.name);
     }
 }

@@ -51,24 +51,25 @@ const MANY_SHORT: &[u8] =
 const MANY_OTHER: &[u8] =
     b".inputs a b c d e f g h i j k l m\n.outputs y\n.names a b y\n1- 1\n-1 1\n.end\n";
 
-#[test]
-fn candidates_are_judged_by_miters(rt: HostRuntime) {
-    let alloc = rt.alloc();
-    let smaller = left(alloc, MANY, MANY_SHORT, 64);
-    assert!(rt; smaller == Some(1));
-    let not_equivalent = left(alloc, MANY, MANY_OTHER, 128);
-    assert!(rt; not_equivalent == None);
-}
+/// A net, another one, the basis, and the number of gates if the other one may replace it.
+const JUDGED: &[(&str, &[u8], &[u8], u16, Option<usize>)] = &[
+    ("a smaller one", LONG, SHORT, 64, Some(1)),
+    ("one beyond the basis", LONG, SHORT, 16_384, None),
+    ("one that isn't equivalent", LONG, OTHER, 128, None),
+    ("a larger one", SHORT, LONG, 65_535, None),
+    ("a smaller one, by a miter", MANY, MANY_SHORT, 64, Some(1)),
+    (
+        "one that isn't equivalent, by a miter",
+        MANY,
+        MANY_OTHER,
+        128,
+        None,
+    ),
+];
 
 #[test]
-fn candidates_are_judged(rt: HostRuntime) {
-    let alloc = rt.alloc();
-    let smaller = left(alloc, LONG, SHORT, 64);
-    assert!(rt; smaller == Some(1));
-    let beyond_the_basis = left(alloc, LONG, SHORT, 16_384);
-    assert!(rt; beyond_the_basis == None);
-    let not_equivalent = left(alloc, LONG, OTHER, 128);
-    assert!(rt; not_equivalent == None);
-    let larger = left(alloc, SHORT, LONG, 65_535);
-    assert!(rt; larger == None);
+fn equivalent_nets_of_no_more_gates_may_replace_a_net(rt: HostRuntime) {
+    for &(name, net, candidate, basis, wanted) in JUDGED {
+        assert!(rt; left(rt.alloc(), net, candidate, basis) == wanted, "{name}");
+    }
 }

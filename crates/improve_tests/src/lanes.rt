@@ -79,14 +79,32 @@ const SEVEN: &[Step] = &[
 
 /// Leaves, steps, signals, and the mask of the patterns that the signals take: constants and leaves, and the
 /// one assignment of seven leaves, and of twelve, under which AND is 1.
-const SHOWN: &[(&[u32], &[Step], &[Sig], u64)] = &[
-    (&[], &[], &[Sig::One], 2),
-    (&[], &[], &[], 1),
-    (&[1, 2, 3], &[], &[Sig::Node(1), Sig::Node(3)], 15),
-    // nodes after the first word of a set
-    (&[63, 64, 97], &[], &[Sig::Node(64), Sig::Node(97)], 15),
-    (&[1, 2, 3, 4, 5, 6, 7], SEVEN, &[Sig::Node(13)], 3),
+const SHOWN: &[(&str, &[u32], &[Step], &[Sig], u64)] = &[
+    ("a constant", &[], &[], &[Sig::One], 2),
+    ("no signal", &[], &[], &[], 1),
     (
+        "two of three leaves",
+        &[1, 2, 3],
+        &[],
+        &[Sig::Node(1), Sig::Node(3)],
+        15,
+    ),
+    (
+        "nodes after the first word of a set",
+        &[63, 64, 97],
+        &[],
+        &[Sig::Node(64), Sig::Node(97)],
+        15,
+    ),
+    (
+        "AND of seven leaves",
+        &[1, 2, 3, 4, 5, 6, 7],
+        SEVEN,
+        &[Sig::Node(13)],
+        3,
+    ),
+    (
+        "AND of twelve leaves",
         &[1, 2, 3, 4, 5, 6, 7, 8, 9, 10, 11, 12],
         TWELVE,
         &[Sig::Node(23)],
@@ -103,11 +121,11 @@ fn is_shown(alloc: Global, leaves: &[u32], steps: &[Step], signals: &[Sig], mask
 }
 
 #[test]
-fn signals_show_patterns(rt: HostRuntime) {
-    for &(leaves, steps, signals, mask) in SHOWN {
+fn signals_take_these_patterns_and_no_others(rt: HostRuntime) {
+    for &(name, leaves, steps, signals, mask) in SHOWN {
         assert!(rt;
             is_shown(rt.alloc(), leaves, steps, signals, mask),
-            "{mask}"
+            "{name}"
         );
     }
 }
@@ -238,7 +256,7 @@ fn is_plain(alloc: Global, state: &mut u32, leaves: u32) -> bool {
 fn cones_have_the_words_of_the_plain_program(rt: HostRuntime) {
     let mut state = 1;
     for &leaves in LEAVES {
-        assert!(rt; is_plain(rt.alloc(), &mut state, leaves));
+        assert!(rt; is_plain(rt.alloc(), &mut state, leaves), "{leaves} leaves");
     }
 }
 

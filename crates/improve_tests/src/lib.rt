@@ -1,6 +1,7 @@
 //! Tests of `improve`: netlists with cap 0, netlists that shrink, by a window and by one with a partner,
 //! netlists that settings leave unchanged, a window that stays undecided, refusals; nets that are judged,
-//! under all assignments or by a miter; and walks over convex windows. The searches are those of `cdcl_core`.
+//! under all assignments or by a miter; walks over convex windows; and moves over the graph of a net. The
+//! searches are those of `cdcl_core`.
 #![tactic(auto)]
 
 #[cfg(test)]
@@ -23,6 +24,8 @@ mod nets;
 mod observed;
 #[cfg(test)]
 mod plain;
+#[cfg(test)]
+mod restructuring;
 #[cfg(test)]
 mod shrinking;
 #[cfg(test)]

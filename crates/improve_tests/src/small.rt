@@ -180,8 +180,8 @@ fn is_plain_next(alloc: Global, state: &mut u32) -> bool {
 #[test]
 fn small_nets_have_the_windows_of_the_plain_program(rt: HostRuntime) {
     let mut state = 1;
-    for _net in 0..200u32 {
-        assert!(rt; is_plain_next(rt.alloc(), &mut state));
+    for net in 0..200u32 {
+        assert!(rt; is_plain_next(rt.alloc(), &mut state), "net {net}");
     }
 }
 
@@ -220,6 +220,6 @@ fn are_outputs(alloc: Global) -> bool {
 }
 
 #[test]
-fn eight_gates_may_be_outputs(rt: HostRuntime) {
+fn all_eight_gates_of_a_window_may_be_outputs(rt: HostRuntime) {
     assert!(rt; are_outputs(rt.alloc()));
 }

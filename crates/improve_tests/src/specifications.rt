@@ -101,19 +101,74 @@ const DIRECTLY_OBSERVABLE: Plan = Plan {
 };
 
 /// Nets, roots, counts, whether with observability don't-cares, the values, and the care rows.
-const WORDS: &[(&Plan, u32, u32, bool, u64, u64)] = &[
-    // satisfiability don't-cares
-    (&HALVES, 5, 1, false, 0b0010, 0b1011),
-    (&HALVES, 5, 3, false, 0b0110, 0b1111),
-    (&HALVES, 3, 1, false, 0b1000, 0b1111),
+const WORDS: &[(&str, &Plan, u32, u32, bool, u64, u64)] = &[
+    (
+        "XOR of AND and OR, alone",
+        &HALVES,
+        5,
+        1,
+        false,
+        0b0010,
+        0b1011,
+    ),
+    (
+        "XOR of AND and OR, with both",
+        &HALVES,
+        5,
+        3,
+        false,
+        0b0110,
+        0b1111,
+    ),
+    ("AND of two sources", &HALVES, 3, 1, false, 0b1000, 0b1111),
     // constants alone have one row
-    (&CONSTANTS, 4, 1, false, 0b10, 0b10),
-    (&CONSTANTS, 4, 2, false, 0b1, 0b1),
-    (&CONSTANTS, 4, 3, false, 0b1, 0b1),
+    (
+        "XOR of constants, alone",
+        &CONSTANTS,
+        4,
+        1,
+        false,
+        0b10,
+        0b10,
+    ),
+    (
+        "XOR of constants, with one",
+        &CONSTANTS,
+        4,
+        2,
+        false,
+        0b1,
+        0b1,
+    ),
+    (
+        "XOR of constants, with both",
+        &CONSTANTS,
+        4,
+        3,
+        false,
+        0b1,
+        0b1,
+    ),
     // the first source is 1 on the rows 2 and 3, counted from 0; where XNOR is a sink itself all
     // rows are observed
-    (&HIDDEN, 3, 1, true, 0b1000, 0b1100),
-    (&DIRECTLY_OBSERVABLE, 3, 1, true, 0b1001, 0b1111),
+    (
+        "a gate that one source hides",
+        &HIDDEN,
+        3,
+        1,
+        true,
+        0b1000,
+        0b1100,
+    ),
+    (
+        "a hidden gate that is a sink too",
+        &DIRECTLY_OBSERVABLE,
+        3,
+        1,
+        true,
+        0b1001,
+        0b1111,
+    ),
 ];
 
 /// Whether the window in the net of `plan` has these words.
@@ -133,10 +188,10 @@ fn has_planned_words(
 }
 
 #[test]
-fn dont_care_rows_are_free(rt: HostRuntime) {
-    for &(plan, root, count, observed, on, care) in WORDS {
+fn specifications_have_these_values_and_care_rows(rt: HostRuntime) {
+    for &(name, plan, root, count, observed, on, care) in WORDS {
         let well = has_planned_words(rt.alloc(), plan, root, count, observed, on, care);
-        assert!(rt; well, "{root}");
+        assert!(rt; well, "{name}");
     }
 }
 
@@ -208,6 +263,9 @@ const ROWS: &[(u32, u32, u64, u64)] = &[
 #[test]
 fn a_fanin_cone_has_no_more_than_twelve_leaves(rt: HostRuntime) {
     for &(sources, count, on, care) in ROWS {
-        assert!(rt; has_row(rt.alloc(), sources, count, on, care), "{sources}");
+        assert!(rt;
+            has_row(rt.alloc(), sources, count, on, care),
+            "{sources} sources"
+        );
     }
 }

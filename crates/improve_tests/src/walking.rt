@@ -13,11 +13,15 @@ const LEAST: &[u8] =
     b".model x\n.inputs a b c\n.outputs y\n.names a b p\n11 1\n.names p c y\n01 1\n10 1\n.end\n";
 
 /// Netlists, rounds of level walks, and the number of gates that walks leave, where they find fewer.
-const WALKED: &[(&[u8], u32, Option<usize>)] = &[
-    // the listed windows of five gates would leave six
-    (ADDER, 0, Some(5)),
-    (ADDER, 2, Some(5)),
-    (LEAST, 2, None),
+const WALKED: &[(&str, &[u8], u32, Option<usize>)] = &[
+    (
+        "a full adder of seven gates: the listed windows of five would leave six",
+        ADDER,
+        0,
+        Some(5),
+    ),
+    ("a full adder after level walks", ADDER, 2, Some(5)),
+    ("two gates that one can't replace", LEAST, 2, None),
 ];
 
 /// The number of gates that walks leave, where they find fewer.
@@ -37,8 +41,8 @@ fn gates_left(alloc: Global, bytes: &[u8], rounds: u32) -> Option<usize> {
 }
 
 #[test]
-fn walks_leave_fewer_gates(rt: HostRuntime) {
-    for &(text, rounds, wanted) in WALKED {
-        assert!(rt; gates_left(rt.alloc(), text, rounds) == wanted);
+fn walks_leave_a_full_adder_of_five_gates(rt: HostRuntime) {
+    for &(name, text, rounds, wanted) in WALKED {
+        assert!(rt; gates_left(rt.alloc(), text, rounds) == wanted, "{name}");
     }
 }

@@ -87,11 +87,16 @@ const TEN: Plan = Plan {
 };
 
 /// Nets, roots and their partners, of which there are at most eight.
-const PARTNERS: &[(&Plan, u32, &[u32])] = &[
-    (&TWINS, 4, &[3]),
-    (&TWINS, 3, &[]),
-    (&TEN, 12, &[11, 10, 9, 8, 7, 6, 5, 4]),
-    (&TEN, 6, &[5, 4, 3]),
+const PARTNERS: &[(&str, &Plan, u32, &[u32])] = &[
+    ("two gates on the same fanins", &TWINS, 4, &[3]),
+    ("the first of two gates", &TWINS, 3, &[]),
+    (
+        "the last of ten gates",
+        &TEN,
+        12,
+        &[11, 10, 9, 8, 7, 6, 5, 4],
+    ),
+    ("the fourth of ten gates", &TEN, 6, &[5, 4, 3]),
 ];
 
 /// Whether `root` in the net of `plan` has the partners `wanted`.
@@ -106,9 +111,9 @@ fn has_partners(alloc: Global, plan: &Plan, root: u32, wanted: &[u32]) -> bool {
 }
 
 #[test]
-fn gates_side_by_side_are_partners(rt: HostRuntime) {
-    for &(plan, root, wanted) in PARTNERS {
-        assert!(rt; has_partners(rt.alloc(), plan, root, wanted), "{root}");
+fn the_last_eight_gates_that_share_a_fanin_are_partners(rt: HostRuntime) {
+    for &(name, plan, root, wanted) in PARTNERS {
+        assert!(rt; has_partners(rt.alloc(), plan, root, wanted), "{name}");
     }
 }
 
@@ -130,6 +135,7 @@ const ROW: Plan = Plan {
 /// The window of `root` with `count` gates in the net of `plan`, with its first partner or alone:
 /// its gates, inputs and outputs; without gates where there is none.
 struct Found {
+    name: &'static str,
     plan: &'static Plan,
     root: u32,
     paired: bool,
@@ -142,6 +148,7 @@ struct Found {
 /// Windows; at most six inputs.
 const WINDOWS: &[Found] = &[
     Found {
+        name: "two gates on the same fanins",
         plan: &TWINS,
         root: 4,
         paired: true,
@@ -151,6 +158,7 @@ const WINDOWS: &[Found] = &[
         outputs: &[3, 4],
     },
     Found {
+        name: "five gates of a chain, six inputs",
         plan: &ROW,
         root: 13,
         paired: false,
@@ -160,6 +168,7 @@ const WINDOWS: &[Found] = &[
         outputs: &[13],
     },
     Found {
+        name: "six gates of a chain would have seven inputs",
         plan: &ROW,
         root: 13,
         paired: false,
@@ -169,6 +178,7 @@ const WINDOWS: &[Found] = &[
         outputs: &[],
     },
     Found {
+        name: "no three gates are in a cone of two",
         plan: &ROW,
         root: 9,
         paired: false,
@@ -211,8 +221,8 @@ fn is_found(alloc: Global, found: &Found) -> bool {
 }
 
 #[test]
-fn windows_have_their_parts(rt: HostRuntime) {
+fn windows_have_these_gates_inputs_and_outputs(rt: HostRuntime) {
     for found in WINDOWS {
-        assert!(rt; is_found(rt.alloc(), found), "{}", found.root);
+        assert!(rt; is_found(rt.alloc(), found), "{}", found.name);
     }
 }

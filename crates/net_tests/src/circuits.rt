@@ -42,49 +42,74 @@ fn is_refused(alloc: Global, bytes: &[u8], word: &str, name: &[u8]) -> bool {
 }
 
 /// Texts, and the texts of their circuits.
-const WRITTEN: &[(&[u8], &[u8])] = &[
-    // more than two operands are joined from the left, and the last gate has the key
+const WRITTEN: &[(&str, &[u8], &[u8])] = &[
     (
+        "NAND of three operands, joined from the left",
         b"INPUT(a)\nINPUT(b)\nINPUT(c)\nOUTPUT(y)\ny = nand(a, b, c)\n",
         b"INPUT(a)\nINPUT(b)\nINPUT(c)\nOUTPUT(y)\ng1 = AND(a, b)\ny = NAND(g1, c)\n",
     ),
     (
+        "XNOR of three operands",
         b"INPUT(a)\nINPUT(b)\nINPUT(c)\nOUTPUT(y)\ny = XNOR(a, b, c)\n",
         b"INPUT(a)\nINPUT(b)\nINPUT(c)\nOUTPUT(y)\ng1 = XOR(a, b)\ny = XNOR(g1, c)\n",
     ),
-    // a latch, and a NOT that only the latch reads
     (
+        "a latch, and a NOT that only it reads",
         b"INPUT(a)\nOUTPUT(q)\nq = DFF(d)\nd = NOT(a)\n",
         b"INPUT(a)\nOUTPUT(q)\nq = DFF(g1)\ng1 = NOT(a)\n",
     ),
-    // the same operand twice, a constant, a copy, a CR, blanks and a comment
     (
+        "an operand twice, a copy, a CR, blanks and a comment",
         b"INPUT ( a )\r\nOUTPUT(y)\nOUTPUT(z)\t# two outputs\ny=XOR(a,a)\nz = BUFF(a)\n",
         b"INPUT(a)\nOUTPUT(y)\nOUTPUT(z)\ny = XOR(a, a)\nz = BUFF(a)\n",
     ),
-    // the empty text, and a latch that reads itself
-    (b"", b""),
-    (b"OUTPUT(q)\nq = DFF(q)\n", b"OUTPUT(q)\nq = DFF(q)\n"),
+    ("the empty text", b"", b""),
+    (
+        "a latch that reads itself",
+        b"OUTPUT(q)\nq = DFF(q)\n",
+        b"OUTPUT(q)\nq = DFF(q)\n",
+    ),
 ];
 
 #[test]
-fn circuits_are_written_again(rt: HostRuntime) {
-    for &(text, wanted) in WRITTEN {
-        assert!(rt; matches!(is_written(rt.alloc(), text, wanted), Ok(true)));
+fn gates_of_more_operands_are_written_as_gates_of_two(rt: HostRuntime) {
+    for &(name, text, wanted) in WRITTEN {
+        let written = is_written(rt.alloc(), text, wanted);
+        assert!(rt; matches!(written, Ok(true)), "{name}");
     }
 }
 
 /// Documents that are refused, with the error and the name.
-const REFUSED: &[(&[u8], &str, &[u8])] = &[
-    (b"INPUT(a)\nOUTPUT(y)\ny = AND(y, a)\n", "Cycle", b"y"),
-    (b"INPUT(a)\nINPUT(a)\nOUTPUT(a)\n", "DrivenTwice", b"a"),
-    (b"INPUT(a)\nOUTPUT(y)\ny = OR(a, b)\n", "Undriven", b"b"),
-    (b"INPUT(a)\nOUTPUT(y)\n", "Undriven", b"y"),
+const REFUSED: &[(&str, &[u8], &str, &[u8])] = &[
+    (
+        "a gate that reads itself",
+        b"INPUT(a)\nOUTPUT(y)\ny = AND(y, a)\n",
+        "Cycle",
+        b"y",
+    ),
+    (
+        "an input listed twice",
+        b"INPUT(a)\nINPUT(a)\nOUTPUT(a)\n",
+        "DrivenTwice",
+        b"a",
+    ),
+    (
+        "an operand without a driver",
+        b"INPUT(a)\nOUTPUT(y)\ny = OR(a, b)\n",
+        "Undriven",
+        b"b",
+    ),
+    (
+        "an output without a driver",
+        b"INPUT(a)\nOUTPUT(y)\n",
+        "Undriven",
+        b"y",
+    ),
 ];
 
 #[test]
-fn documents_are_refused(rt: HostRuntime) {
-    for &(text, word, name) in REFUSED {
-        assert!(rt; is_refused(rt.alloc(), text, word, name), "{word}");
+fn cycles_and_wrong_drivers_are_refused_by_name(rt: HostRuntime) {
+    for &(case, text, word, name) in REFUSED {
+        assert!(rt; is_refused(rt.alloc(), text, word, name), "{case}");
     }
 }

@@ -38,7 +38,7 @@ const LISTED: &[(&str, [usize; 5])] = &[
 ];
 
 #[test]
-fn lines_are_listed(rt: HostRuntime) {
+fn signals_and_gates_of_bench_lines_are_listed(rt: HostRuntime) {
     for &(text, counts) in LISTED {
         assert!(rt; is_listed(rt.alloc(), text.as_bytes(), counts), "{text}");
     }
@@ -68,7 +68,7 @@ const FAULTS: &[(&str, &str, u32)] = &[
 ];
 
 #[test]
-fn faults_are_reported_with_their_lines(rt: HostRuntime) {
+fn first_faults_of_bench_texts_are_reported_with_their_lines(rt: HostRuntime) {
     for &(text, word, line) in FAULTS {
         assert!(rt;
             is_refused(rt.alloc(), text.as_bytes(), word, line),
@@ -112,7 +112,7 @@ fn is_longest(alloc: Global, bytes: u32) -> Result<bool, AllocError> {
 }
 
 #[test]
-fn limits_are_exact(rt: HostRuntime) {
+fn gates_have_at_most_256_operands_and_names_1024_bytes(rt: HostRuntime) {
     let widest = matches!(is_widest(rt.alloc(), 256), Ok(true));
     let longest = matches!(is_longest(rt.alloc(), 1024), Ok(true));
     assert!(rt; widest && longest);

@@ -25,16 +25,21 @@ fn is_ordered(alloc: Global, graph: &[&[u32]], order: Option<&[u32]>) -> Result<
 }
 
 /// Graphs by the fanins of each node, and their orders.
-const GRAPHS: &[(&[&[u32]], Option<&[u32]>)] = &[
-    (&[&[1], &[2], &[]], Some(&[2, 1, 0])),
-    (&[&[2, 1], &[], &[1]], Some(&[1, 2, 0])),
-    (&[&[1], &[0]], None),
-    (&[], Some(&[])),
+const GRAPHS: &[(&str, &[&[u32]], Option<&[u32]>)] = &[
+    ("a chain", &[&[1], &[2], &[]], Some(&[2, 1, 0])),
+    (
+        "a node with two fanouts",
+        &[&[2, 1], &[], &[1]],
+        Some(&[1, 2, 0]),
+    ),
+    ("a cycle", &[&[1], &[0]], None),
+    ("no node", &[], Some(&[])),
 ];
 
 #[test]
-fn nodes_are_ordered(rt: HostRuntime) {
-    for &(graph, order) in GRAPHS {
-        assert!(rt; matches!(is_ordered(rt.alloc(), graph, order), Ok(true)));
+fn fanins_come_first_unless_there_is_a_cycle(rt: HostRuntime) {
+    for &(name, graph, order) in GRAPHS {
+        let ordered = is_ordered(rt.alloc(), graph, order);
+        assert!(rt; matches!(ordered, Ok(true)), "{name}");
     }
 }

@@ -1,6 +1,7 @@
 //! Tests of the public functions of the netlist crates, from `graph_core` to `bench_core` and `gen_core`: values
 //! computed from the definitions, topological orders, decomposition of tables, cleanup of dangling gates, the
-//! lines of BLIF and BENCH texts, reading and writing whole netlists, and the first blocks of the generator.
+//! lines of BLIF and BENCH texts, reading and writing whole netlists, the first blocks of the generator, and the
+//! gates that conversion to XAGs and sharing of pairs leave.
 #![tactic(auto)]
 
 #[cfg(test)]
@@ -20,4 +21,8 @@ mod plain;
 #[cfg(test)]
 mod refusals;
 #[cfg(test)]
+mod sharing;
+#[cfg(test)]
 mod tables;
+#[cfg(test)]
+mod xags;

@@ -104,7 +104,7 @@ const LISTED: &[(&str, [usize; 5], usize)] = &[
 ];
 
 #[test]
-fn texts_are_listed(rt: HostRuntime) {
+fn signals_tables_and_cubes_of_blif_lines_are_listed(rt: HostRuntime) {
     for &(text, counts, lines) in LISTED {
         assert!(rt;
             is_listed(rt.alloc(), text.as_bytes(), counts, lines),
@@ -143,7 +143,7 @@ const FAULTS: &[(&str, &str, u32)] = &[
 ];
 
 #[test]
-fn faults_are_reported(rt: HostRuntime) {
+fn first_faults_of_blif_texts_are_reported_with_their_lines(rt: HostRuntime) {
     for &(text, word, line) in FAULTS {
         assert!(rt;
             is_refused(rt.alloc(), text.as_bytes(), word, line),

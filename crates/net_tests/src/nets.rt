@@ -56,6 +56,6 @@ fn dangling_gates_go_from(alloc: Global) -> Result<bool, AllocError> {
 }
 
 #[test]
-fn dangling_gates_go(rt: HostRuntime) {
+fn gates_that_no_sink_depends_on_are_removed(rt: HostRuntime) {
     assert!(rt; matches!(dangling_gates_go_from(rt.alloc()), Ok(true)));
 }

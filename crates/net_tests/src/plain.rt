@@ -13,7 +13,7 @@ const MATCHED: &[(&str, [bool; 3], bool)] = &[
 ];
 
 #[test]
-fn cubes_match(rt: HostRuntime) {
+fn a_cube_covers_its_minterms_alone(rt: HostRuntime) {
     for (name, bits, wanted) in MATCHED {
         assert!(rt; matches_bits(b"1-0", bits) == *wanted, "{name}");
     }

@@ -52,7 +52,7 @@ pub fn cover(alloc: Global, cubes: &[&[u8]], on: bool) -> Result<Cover, AllocErr
 }
 
 /// The value of a signal, as a digit.
-fn digit(sig: Sig, nodes: &[bool]) -> u8 {
+pub fn digit(sig: Sig, nodes: &[bool]) -> u8 {
     let value = match sig {
         Sig::Zero => false,
         Sig::One => true,
@@ -123,26 +123,44 @@ fn is_built(
 }
 
 /// Covers: their cubes, whether these are of the on-set, the values, and the numbers of gates.
-const COVERS: &[(&[&[u8]], bool, &str, usize)] = &[
-    (&[b"1-0", b"-11"], true, "00011011", 3),
-    (&[b"000"], false, "01111111", 2),
-    (&[b"1--"], true, "00001111", 0),
-    (&[b"0--"], true, "11110000", 1),
-    (&[b"1--"], false, "11110000", 1),
-    (&[b"0--"], false, "00001111", 0),
-    (&[b"01-", b"10-"], true, "00111100", 3),
-    (&[b"01-", b"10-"], false, "11000011", 3),
-    (&[b"111", b"---"], true, "11111111", 0),
-    (&[b"---"], false, "00000000", 0),
-    (&[], true, "00000000", 0),
-    (&[], false, "00000000", 0),
+const COVERS: &[(&str, &[&[u8]], bool, &str, usize)] = &[
+    ("a multiplexer", &[b"1-0", b"-11"], true, "00011011", 3),
+    ("OR by its off-set", &[b"000"], false, "01111111", 2),
+    ("an input", &[b"1--"], true, "00001111", 0),
+    ("NOT", &[b"0--"], true, "11110000", 1),
+    ("NOT by its off-set", &[b"1--"], false, "11110000", 1),
+    ("an input by its off-set", &[b"0--"], false, "00001111", 0),
+    ("XOR", &[b"01-", b"10-"], true, "00111100", 3),
+    (
+        "XNOR by its off-set",
+        &[b"01-", b"10-"],
+        false,
+        "11000011",
+        3,
+    ),
+    (
+        "1 by a cube without literals",
+        &[b"111", b"---"],
+        true,
+        "11111111",
+        0,
+    ),
+    (
+        "0 by a cube without literals",
+        &[b"---"],
+        false,
+        "00000000",
+        0,
+    ),
+    ("0 by no cube", &[], true, "00000000", 0),
+    ("0 by no cube of the off-set", &[], false, "00000000", 0),
 ];
 
 #[test]
-fn tables_become_gates(rt: HostRuntime) {
-    for &(cubes, on, digits, gates) in COVERS {
+fn covers_become_gates_of_the_same_values(rt: HostRuntime) {
+    for &(name, cubes, on, digits, gates) in COVERS {
         let built = is_built(rt.alloc(), cubes, on, digits.as_bytes(), gates);
-        assert!(rt; matches!(built, Ok(true)), "{on} {digits}");
+        assert!(rt; matches!(built, Ok(true)), "{name}");
     }
 }
 
@@ -161,13 +179,13 @@ fn is_joined(alloc: Global, whole: Whole, digits: &[u8]) -> Result<bool, AllocEr
 }
 
 /// The connective that joins three inputs, whether the result isn't complemented, and the values.
-const JOINED: &[(Connective, bool, &str)] = &[
-    (Connective::And, true, "00000001"),
-    (Connective::And, false, "11111110"),
-    (Connective::Or, true, "01111111"),
-    (Connective::Or, false, "10000000"),
-    (Connective::Xor, true, "01101001"),
-    (Connective::Xor, false, "10010110"),
+const JOINED: &[(&str, Connective, bool, &str)] = &[
+    ("AND", Connective::And, true, "00000001"),
+    ("NAND", Connective::And, false, "11111110"),
+    ("OR", Connective::Or, true, "01111111"),
+    ("NOR", Connective::Or, false, "10000000"),
+    ("XOR", Connective::Xor, true, "01101001"),
+    ("XNOR", Connective::Xor, false, "10010110"),
 ];
 
 /// Whether `whole` has the value of `digits` at 1, 1 and 0.
@@ -179,8 +197,8 @@ fn is_valued(whole: Whole, digits: &[u8]) -> bool
 }
 
 #[test]
-fn inputs_are_joined(rt: HostRuntime) {
-    for &(connective, on, digits) in JOINED {
+fn three_operands_are_joined_by_two_gates(rt: HostRuntime) {
+    for &(name, connective, on, digits) in JOINED {
         let whole = Whole {
             connective,
             width: 3,
@@ -188,6 +206,6 @@ fn inputs_are_joined(rt: HostRuntime) {
         };
         let joined = is_joined(rt.alloc(), whole, digits.as_bytes());
         let well = is_valued(whole, digits.as_bytes());
-        assert!(rt; well && matches!(joined, Ok(true)), "{digits}");
+        assert!(rt; well && matches!(joined, Ok(true)), "{name}");
     }
 }

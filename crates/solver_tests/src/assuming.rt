@@ -9,6 +9,7 @@ use std::alloc::{AllocError, Global};
 /// A call under assumptions, with the fanins of `CONES`, and its expected results.
 #[derive(Clone, Copy)]
 struct Query {
+    name: &'static str,
     clauses: &'static [&'static [u8]],
     vars: u32,
     assumptions: &'static [u8],
@@ -44,6 +45,7 @@ const CONTRADICTION: &[&[u8]] = &[b"1 1 2 0 0", b"2 -1 2 0 0", b"3 1 -2 0 0", b"
 
 const QUERIES: &[Query] = &[
     Query {
+        name: "two equal nodes can't differ",
         clauses: MITER,
         vars: 5,
         assumptions: b"1 3 -4 0 0",
@@ -53,6 +55,7 @@ const QUERIES: &[Query] = &[
         satisfiable: true,
     },
     Query {
+        name: "a node can be 1",
         clauses: MITER,
         vars: 5,
         assumptions: b"1 4 0 0",
@@ -62,6 +65,7 @@ const QUERIES: &[Query] = &[
         satisfiable: true,
     },
     Query {
+        name: "a node can be 0",
         clauses: MITER,
         vars: 5,
         assumptions: b"1 -4 0 0",
@@ -71,6 +75,7 @@ const QUERIES: &[Query] = &[
         satisfiable: true,
     },
     Query {
+        name: "a limit of 0 conflicts",
         clauses: MITER,
         vars: 5,
         assumptions: b"1 5 0 0",
@@ -80,6 +85,7 @@ const QUERIES: &[Query] = &[
         satisfiable: true,
     },
     Query {
+        name: "a contradiction",
         clauses: CONTRADICTION,
         vars: 2,
         assumptions: b"1 1 0 0",
@@ -121,19 +127,17 @@ fn is_as_expected<S: Solver>(
     }
 }
 
-/// Whether all calls have the expected results.
-fn are_as_expected(alloc: Global) -> Result<bool, AllocError> {
-    for row in QUERIES {
-        let cnf = formula(alloc, row.vars, row.clauses)?;
-        let assumptions = clause(alloc, row.assumptions);
-        if !is_as_expected::<Cdcl>(alloc, &cnf, &assumptions, row)? {
-            return Ok(false);
-        }
-    }
-    Ok(true)
+/// Whether the call of a row has the expected results.
+fn is_answered(alloc: Global, row: &Query) -> Result<bool, AllocError> {
+    let cnf = formula(alloc, row.vars, row.clauses)?;
+    let assumptions = clause(alloc, row.assumptions);
+    is_as_expected::<Cdcl>(alloc, &cnf, &assumptions, row)
 }
 
 #[test]
-fn assumptions_have_their_results(rt: HostRuntime) {
-    assert!(rt; matches!(are_as_expected(rt.alloc()), Ok(true)));
+fn calls_under_assumptions_keep_the_answer_to_the_formula(rt: HostRuntime) {
+    for row in QUERIES {
+        let answered = is_answered(rt.alloc(), row);
+        assert!(rt; matches!(answered, Ok(true)), "{}", row.name);
+    }
 }

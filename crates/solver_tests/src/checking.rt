@@ -46,59 +46,59 @@ fn is_answer(
 }
 
 /// Lines that the checker of the contradiction accepts.
-const HOLDING: &[&[u8]] = &[
-    b"5 2 0 1 2 0",
-    b"5 2 0 2 1 0",
-    b"5 -2 0 3 4 0",
-    b"5 2 1 0 1 0",
-    b"4294967295 2 0 1 2 0",
-    b"5 d 1 0",
-    b"1 d 4 2 1 3 0",
-    b"1 d 0",
+const HOLDING: &[&str] = &[
+    "5 2 0 1 2 0",
+    "5 2 0 2 1 0",
+    "5 -2 0 3 4 0",
+    "5 2 1 0 1 0",
+    "4294967295 2 0 1 2 0",
+    "5 d 1 0",
+    "1 d 4 2 1 3 0",
+    "1 d 0",
 ];
 
 #[test]
-fn lines_hold(rt: HostRuntime) -> Result<(), AllocError> {
+fn lines_that_hold_are_accepted(rt: HostRuntime) -> Result<(), AllocError> {
     for &text in HOLDING {
-        let holds = is_answer(rt.alloc(), text, Ok(()))?;
-        assert!(rt; holds, "{text:?}");
+        let holds = is_answer(rt.alloc(), text.as_bytes(), Ok(()))?;
+        assert!(rt; holds, "{text}");
     }
     Ok(())
 }
 
 /// Lines that it refuses, and why.
-const FAULTS: &[(&[u8], CheckError)] = &[
-    (b"5 2 0 2 0", CheckError::NoConflict),
-    (b"5 2 0 3 4 0", CheckError::NotUnit(3)),
-    (b"5 2 0 9 0", CheckError::UnknownId(9)),
-    (b"4 2 0 1 2 0", CheckError::IdNotGreater(4)),
-    (b"5 3 0 1 2 0", CheckError::UnknownVariable(3)),
-    (b"5 d 7 0", CheckError::UnknownDelete(7)),
-    (b"5 d 1 1 0", CheckError::UnknownDelete(1)),
+const FAULTS: &[(&str, CheckError)] = &[
+    ("5 2 0 2 0", CheckError::NoConflict),
+    ("5 2 0 3 4 0", CheckError::NotUnit(3)),
+    ("5 2 0 9 0", CheckError::UnknownId(9)),
+    ("4 2 0 1 2 0", CheckError::IdNotGreater(4)),
+    ("5 3 0 1 2 0", CheckError::UnknownVariable(3)),
+    ("5 d 7 0", CheckError::UnknownDelete(7)),
+    ("5 d 1 1 0", CheckError::UnknownDelete(1)),
     // no hint, one too many, a repeated one, and the line's own id
-    (b"5 2 0 0", CheckError::NoConflict),
-    (b"5 0 0", CheckError::NoConflict),
-    (b"5 2 0 1 2 3 0", CheckError::NotUnit(2)),
-    (b"5 2 0 1 1 0", CheckError::NoConflict),
-    (b"5 2 0 5 0", CheckError::UnknownId(5)),
-    (b"5 2 0 4294967295 0", CheckError::UnknownId(4294967295)),
-    (b"5 0 1 2 0", CheckError::NotUnit(1)),
+    ("5 2 0 0", CheckError::NoConflict),
+    ("5 0 0", CheckError::NoConflict),
+    ("5 2 0 1 2 3 0", CheckError::NotUnit(2)),
+    ("5 2 0 1 1 0", CheckError::NoConflict),
+    ("5 2 0 5 0", CheckError::UnknownId(5)),
+    ("5 2 0 4294967295 0", CheckError::UnknownId(4294967295)),
+    ("5 0 1 2 0", CheckError::NotUnit(1)),
     (
-        b"5 2147483647 0 1 0",
+        "5 2147483647 0 1 0",
         CheckError::UnknownVariable(2147483647),
     ),
     // the first of several
-    (b"4 3 0 9 0", CheckError::IdNotGreater(4)),
-    (b"5 -7 3 0 9 0", CheckError::UnknownVariable(7)),
-    (b"5 2 0 1 9 0", CheckError::UnknownId(9)),
-    (b"5 d 4 9 4 0", CheckError::UnknownDelete(9)),
+    ("4 3 0 9 0", CheckError::IdNotGreater(4)),
+    ("5 -7 3 0 9 0", CheckError::UnknownVariable(7)),
+    ("5 2 0 1 9 0", CheckError::UnknownId(9)),
+    ("5 d 4 9 4 0", CheckError::UnknownDelete(9)),
 ];
 
 #[test]
-fn faults_are_reported(rt: HostRuntime) -> Result<(), AllocError> {
+fn the_first_fault_of_a_line_is_reported(rt: HostRuntime) -> Result<(), AllocError> {
     for &(text, fault) in FAULTS {
-        let reported = is_answer(rt.alloc(), text, Err(fault))?;
-        assert!(rt; reported, "{text:?}");
+        let reported = is_answer(rt.alloc(), text.as_bytes(), Err(fault))?;
+        assert!(rt; reported, "{text}");
     }
     Ok(())
 }
@@ -144,15 +144,15 @@ const DELETION: [(&[u8], Result<(), CheckError>, bool); 5] = [
 ];
 
 #[test]
-fn logs_go_on(rt: HostRuntime) -> Result<(), AllocError> {
-    for (indexed, lines) in [
-        (false, REFUTATION.as_slice()),
-        (true, REFUTATION.as_slice()),
-        (false, DELETION.as_slice()),
-        (true, DELETION.as_slice()),
+fn logs_continue_after_refusals_and_refutations(rt: HostRuntime) -> Result<(), AllocError> {
+    for (name, indexed, lines) in [
+        ("a refutation", false, REFUTATION.as_slice()),
+        ("a refutation, indexed", true, REFUTATION.as_slice()),
+        ("deletions", false, DELETION.as_slice()),
+        ("deletions, indexed", true, DELETION.as_slice()),
     ] {
         let well = is_log(rt.alloc(), indexed, lines)?;
-        assert!(rt; well, "{indexed}");
+        assert!(rt; well, "{name}");
     }
     Ok(())
 }
@@ -169,74 +169,111 @@ fn is_refuted(
 }
 
 #[test]
-fn formulas_have_the_empty_clause(rt: HostRuntime) -> Result<(), AllocError> {
-    for (indexed, clauses, refuted) in [
-        (false, [b"1 1 0 0" as &[u8], b"2 0 0"].as_slice(), true),
-        (true, [b"1 1 0 0" as &[u8], b"2 0 0"].as_slice(), true),
-        (false, [].as_slice(), false),
-        (true, [b"1 1 0 0" as &[u8]].as_slice(), false),
+fn a_formula_with_the_empty_clause_is_refuted(rt: HostRuntime) -> Result<(), AllocError> {
+    for (name, indexed, clauses, refuted) in [
+        (
+            "the empty clause",
+            false,
+            [b"1 1 0 0" as &[u8], b"2 0 0"].as_slice(),
+            true,
+        ),
+        (
+            "the empty clause, indexed",
+            true,
+            [b"1 1 0 0" as &[u8], b"2 0 0"].as_slice(),
+            true,
+        ),
+        ("no clause", false, [].as_slice(), false),
+        (
+            "a unit clause, indexed",
+            true,
+            [b"1 1 0 0" as &[u8]].as_slice(),
+            false,
+        ),
     ] {
         let reported = is_refuted(rt.alloc(), indexed, 2, clauses)?;
-        assert!(rt; reported == refuted, "{indexed} {refuted}");
+        assert!(rt; reported == refuted, "{name}");
     }
     Ok(())
 }
 
-/// Whether clauses are unsubsumed in a checker as the rows say.
-fn are_so_new(alloc: Global, checker: &Checker, rows: &[(&[u8], bool)]) -> bool {
-    rows.iter().all(|(text, new)| checker.is_unsubsumed(clause(alloc, text).lits()) == *new)
+/// The first row that isn't so: whether its clause is unsubsumed in a checker; empty if all are so.
+fn first_wrong(
+    alloc: Global,
+    checker: &Checker,
+    rows: &[(&'static str, &[u8], bool)],
+) -> &'static str {
+    for &(name, text, new) in rows {
+        if checker.is_unsubsumed(clause(alloc, text).lits()) != new {
+            return name;
+        }
+    }
+    ""
 }
 
 /// Clauses, and whether they are unsubsumed by `1 2` and `-1 3`.
-const NEW: [(&[u8], bool); 8] = [
-    (b"1 1 2 0 0", false),
-    (b"1 2 1 3 0 0", false),
-    (b"1 3 -1 0 0", false),
-    (b"1 1 3 0 0", true),
-    (b"1 -1 2 0 0", true),
-    (b"1 1 0 0", true),
-    (b"1 2 3 0 0", true),
-    (b"1 0 0", true),
+const NEW: [(&str, &[u8], bool); 8] = [
+    ("a clause", b"1 1 2 0 0", false),
+    ("a clause and a literal", b"1 2 1 3 0 0", false),
+    ("a clause in another order", b"1 3 -1 0 0", false),
+    ("literals of both", b"1 1 3 0 0", true),
+    ("a complement", b"1 -1 2 0 0", true),
+    ("a part of a clause", b"1 1 0 0", true),
+    ("the resolvent", b"1 2 3 0 0", true),
+    ("the empty clause", b"1 0 0", true),
 ];
 
 /// The same after `2 3` was added.
-const NO_LONGER_NEW: [(&[u8], bool); 3] = [
-    (b"1 2 3 0 0", false),
-    (b"1 3 2 -1 0 0", false),
-    (b"1 1 3 0 0", true),
+const NO_LONGER_NEW: [(&str, &[u8], bool); 3] = [
+    ("the added clause", b"1 2 3 0 0", false),
+    ("the added clause and a literal", b"1 3 2 -1 0 0", false),
+    ("literals of both, after the addition", b"1 1 3 0 0", true),
 ];
 
 /// The same after both it and `1 2` were deleted.
-const NEW_AGAIN: [(&[u8], bool); 3] = [
-    (b"1 2 3 0 0", true),
-    (b"1 1 2 3 0 0", true),
-    (b"1 3 2 -1 0 0", false),
+const NEW_AGAIN: [(&str, &[u8], bool); 3] = [
+    ("the deleted clause", b"1 2 3 0 0", true),
+    ("both deleted clauses", b"1 1 2 3 0 0", true),
+    ("the clause that is left", b"1 3 2 -1 0 0", false),
 ];
 
-/// Feeds a line to a checker, and returns whether it was accepted and clauses are then unsubsumed as the rows say.
-fn goes_on(alloc: Global, checker: &mut Checker, line: &[u8], rows: &[(&[u8], bool)]) -> bool {
-    match read_line(alloc, line) {
-        Ok(line) => checker.feed(line).is_ok() && are_so_new(alloc, checker, rows),
-        Err(_) => false,
+/// Feeds a line to a checker. Returns the first row that isn't so then; empty if all are so.
+fn wrong_after(
+    alloc: Global,
+    checker: &mut Checker,
+    line: &[u8],
+    rows: &[(&'static str, &[u8], bool)],
+) -> &'static str {
+    let Ok(line) = read_line(alloc, line) else {
+        return "a line that can't be read";
+    };
+    if checker.feed(line).is_err() {
+        return "a line that isn't accepted";
     }
+    first_wrong(alloc, checker, rows)
 }
 
-/// Whether clauses are unsubsumed, then subsumed, and then unsubsumed again, as the rows say.
-fn are_new(alloc: Global, indexed: bool) -> Result<bool, AllocError> {
+/// The first row that isn't so, where clauses are unsubsumed, then subsumed, and then unsubsumed again.
+fn wrongly_new(alloc: Global, indexed: bool) -> Result<&'static str, AllocError> {
     let mut checker = checker(alloc, indexed, 3, &[b"1 1 2 0 0", b"2 -1 3 0 0"])?;
-    if !are_so_new(alloc, &checker, &NEW) {
-        return Ok(false);
+    let first = first_wrong(alloc, &checker, &NEW);
+    if !first.is_empty() {
+        return Ok(first);
     }
-    let added = goes_on(alloc, &mut checker, b"3 2 3 0 1 2 0", &NO_LONGER_NEW);
-    let deleted = goes_on(alloc, &mut checker, b"3 d 1 3 0", &NEW_AGAIN);
-    Ok(added && deleted)
+    let added = wrong_after(alloc, &mut checker, b"3 2 3 0 1 2 0", &NO_LONGER_NEW);
+    if !added.is_empty() {
+        return Ok(added);
+    }
+    Ok(wrong_after(alloc, &mut checker, b"3 d 1 3 0", &NEW_AGAIN))
 }
 
 #[test]
-fn clauses_are_new(rt: HostRuntime) -> Result<(), AllocError> {
-    for indexed in [false, true] {
-        let well = are_new(rt.alloc(), indexed)?;
-        assert!(rt; well, "{indexed}");
+fn clauses_are_unsubsumed_until_added_and_after_deletion(
+    rt: HostRuntime,
+) -> Result<(), AllocError> {
+    for (name, indexed) in [("without an index", false), ("with an index", true)] {
+        let wrong = wrongly_new(rt.alloc(), indexed)?;
+        assert!(rt; wrong.is_empty(), "{name}: {wrong}");
     }
     Ok(())
 }

@@ -31,38 +31,49 @@ fn database(alloc: Global, clauses: &[&[u8]]) -> Result<ClauseDb, AllocError> {
 }
 
 /// The literals of each id, in their stored order.
-const HELD: &[(u32, &[i32])] = &[(1, &[-2, 1]), (2, &[]), (3, &[3])];
+const HELD: &[(&str, u32, &[i32])] = &[
+    ("a tautology's distinct literals", 1, &[-2, 1]),
+    ("the empty clause", 2, &[]),
+    ("the added clause", 3, &[3]),
+];
 
-/// Whether the clauses have these ids, and their literals are in the order in which they were added.
-fn all_held(clauses: &ClauseDb) -> bool {
-    for &(id, numbers) in HELD {
+/// The first row that isn't so: the clauses have these ids, and their literals this order; empty if all are so.
+fn wrongly_held(clauses: &ClauseDb) -> &'static str {
+    for &(name, id, numbers) in HELD {
         if !stands(clauses, id, numbers) {
-            return false;
+            return name;
         }
     }
-    !clauses.live(0) && !clauses.live(4) && !clauses.live(4294967295)
+    if clauses.live(0) || clauses.live(4) || clauses.live(4294967295) {
+        return "an id that no clause has";
+    }
+    ""
 }
 
-/// Whether two clauses have the ids 1 and 2, and an added one the next id.
-fn have_ids(clauses: &mut ClauseDb) -> Result<bool, AllocError> {
+/// The first thing that isn't so, if two clauses have the ids 1 and 2, and an added one the next id.
+fn wrong_id(clauses: &mut ClauseDb) -> Result<&'static str, AllocError> {
     if clauses.vars() != 3 || clauses.last() != 2 {
-        return Ok(false);
+        return Ok("the ids of the first two clauses");
     }
     let id = clauses.add(&[Lit::new(3)])?;
-    Ok(id == 3 && clauses.last() == 3 && all_held(clauses))
+    if id != 3 || clauses.last() != 3 {
+        return Ok("the id of the added clause");
+    }
+    Ok(wrongly_held(clauses))
 }
 
 /// The same for a database of two clauses.
-fn are_counted(alloc: Global) -> Result<bool, AllocError> {
+fn wrongly_counted(alloc: Global) -> Result<&'static str, AllocError> {
     let mut clauses = database(alloc, &[b"1 -2 1 0 0", b"2 0 0"])?;
-    let well = have_ids(&mut clauses);
+    let wrong = wrong_id(&mut clauses);
     drop(clauses);
-    well
+    wrong
 }
 
 #[test]
-fn clauses_have_ids(rt: HostRuntime) {
-    assert!(rt; matches!(are_counted(rt.alloc()), Ok(true)));
+fn clauses_are_numbered_from_one_on(rt: HostRuntime) {
+    let wrong = wrongly_counted(rt.alloc()).unwrap_or("out of memory");
+    assert!(rt; wrong.is_empty(), "{wrong}");
 }
 
 /// The literal of a number, if the formula has its variable.
@@ -148,50 +159,62 @@ fn rewatch(clauses: &mut ClauseDb, id: u32, from: i32, place: usize) -> Result<b
 }
 
 /// Literals, each with the clauses that watch it and their blocking literals.
-const FIRST: &[(i32, &[u32], &[i32])] = &[
-    (1, &[1, 2, 3], &[2, 3, 2]),
-    (2, &[1, 3], &[1, 1]),
-    (3, &[2], &[1]),
-    (-1, &[], &[]),
+const FIRST: &[(&str, i32, &[u32], &[i32])] = &[
+    ("1 at first", 1, &[1, 2, 3], &[2, 3, 2]),
+    ("2 at first", 2, &[1, 3], &[1, 1]),
+    ("3 at first", 3, &[2], &[1]),
+    ("-1 at first", -1, &[], &[]),
 ];
 
 /// The same after the first clause watches 3 instead of 1.
-const THEN: &[(i32, &[u32], &[i32])] = &[
-    (1, &[3, 2], &[2, 3]),
-    (2, &[1, 3], &[1, 1]),
-    (3, &[2, 1], &[1, 2]),
+const THEN: &[(&str, i32, &[u32], &[i32])] = &[
+    ("1 then", 1, &[3, 2], &[2, 3]),
+    ("2 then", 2, &[1, 3], &[1, 1]),
+    ("3 then", 3, &[2, 1], &[1, 2]),
 ];
 
-/// Whether the watch lists are these.
-fn all_watching(clauses: &ClauseDb, rows: &[(i32, &[u32], &[i32])]) -> bool {
-    for &(number, ids, beside) in rows {
+/// The first row whose watch list isn't that; empty if all are.
+fn wrongly_watching(
+    clauses: &ClauseDb,
+    rows: &[(&'static str, i32, &[u32], &[i32])],
+) -> &'static str {
+    for &(name, number, ids, beside) in rows {
         if !watching(clauses, number, ids, beside) {
-            return false;
+            return name;
         }
     }
-    true
+    ""
 }
 
-/// Whether clauses watch their first two literals, the first one then watches 3 instead of 1, and a second
-/// replacement by the same literal is refused.
-fn are_watched(clauses: &mut ClauseDb) -> Result<bool, AllocError> {
-    let first = all_watching(clauses, FIRST);
-    let goes = rewatch(clauses, 1, 1, 2)?;
-    let again = rewatch(clauses, 1, 1, 0)?;
-    let kept = stands(clauses, 1, &[3, 2, 1]);
-    let gone = first && goes && !again && watches(clauses, 1, 3, 2);
-    Ok(gone && kept && all_watching(clauses, THEN))
+/// The first thing that isn't so, if clauses watch their first two literals, the first one then watches 3 instead of
+/// 1, and a second replacement by the same literal is refused.
+fn wrong_watch(clauses: &mut ClauseDb) -> Result<&'static str, AllocError> {
+    let first = wrongly_watching(clauses, FIRST);
+    if !first.is_empty() {
+        return Ok(first);
+    }
+    if !rewatch(clauses, 1, 1, 2)? {
+        return Ok("a replacement");
+    }
+    if rewatch(clauses, 1, 1, 0)? {
+        return Ok("a second replacement by the same literal");
+    }
+    if !stands(clauses, 1, &[3, 2, 1]) || !watches(clauses, 1, 3, 2) {
+        return Ok("the order of the literals then");
+    }
+    Ok(wrongly_watching(clauses, THEN))
 }
 
 /// The same for a database of these three clauses.
-fn three_are_watched(alloc: Global) -> Result<bool, AllocError> {
+fn wrong_watch_of_three(alloc: Global) -> Result<&'static str, AllocError> {
     let mut clauses = database(alloc, THREE)?;
-    let well = are_watched(&mut clauses);
+    let wrong = wrong_watch(&mut clauses);
     drop(clauses);
-    well
+    wrong
 }
 
 #[test]
 fn clauses_watch_their_first_two_literals_and_then_another(rt: HostRuntime) {
-    assert!(rt; matches!(three_are_watched(rt.alloc()), Ok(true)));
+    let wrong = wrong_watch_of_three(rt.alloc()).unwrap_or("out of memory");
+    assert!(rt; wrong.is_empty(), "{wrong}");
 }

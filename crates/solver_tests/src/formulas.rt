@@ -23,22 +23,12 @@ fn satisfies(alloc: Global, cnf: &Cnf, bits: &[bool; 3]) -> Result<bool, AllocEr
     Ok(well)
 }
 
-/// Whether exactly those assignments satisfy the formula.
-fn all_satisfy(alloc: Global, cnf: &Cnf) -> Result<bool, AllocError> {
-    for (bits, yes) in ASSIGNMENTS {
-        if satisfies(alloc, cnf, bits)? != *yes {
-            return Ok(false);
-        }
-    }
-    Ok(!cnf.has_empty())
-}
-
-/// The same for that formula.
-fn are_judged(alloc: Global) -> Result<bool, AllocError> {
+/// Whether an assignment satisfies that formula exactly if `yes`.
+fn is_judged(alloc: Global, bits: &[bool; 3], yes: bool) -> Result<bool, AllocError> {
     let cnf = formula(alloc, 3, &[b"1 1 -2 0 0", b"2 2 3 0 0"])?;
-    let well = all_satisfy(alloc, &cnf);
+    let well = satisfies(alloc, &cnf, bits)? == yes && !cnf.has_empty();
     drop(cnf);
-    well
+    Ok(well)
 }
 
 /// Whether a formula with the empty clause is found to have it.
@@ -47,10 +37,16 @@ fn is_empty(alloc: Global) -> Result<bool, AllocError> {
 }
 
 #[test]
-fn assignments_satisfy_and_empty_clauses_are_reported(rt: HostRuntime) {
-    let judged = matches!(are_judged(rt.alloc()), Ok(true));
-    let reported = matches!(is_empty(rt.alloc()), Ok(true));
-    assert!(rt; judged && reported);
+fn formulas_are_satisfied_by_their_models_alone(rt: HostRuntime) {
+    for (bits, yes) in ASSIGNMENTS {
+        let judged = is_judged(rt.alloc(), bits, *yes);
+        assert!(rt; matches!(judged, Ok(true)), "{bits:?}");
+    }
+}
+
+#[test]
+fn the_empty_clause_is_found_in_a_formula(rt: HostRuntime) {
+    assert!(rt; matches!(is_empty(rt.alloc()), Ok(true)));
 }
 
 /// DIMACS numbers of literals, each with its variable, whether it is positive, and its table index.

@@ -47,8 +47,11 @@ fn back_again(alloc: Global) -> Result<bool, AllocError> {
 }
 
 #[test]
-fn greatest_scores_come_first_and_variables_come_back(rt: HostRuntime) {
-    let come = matches!(greatest_first(rt.alloc()), Ok(true));
-    let back = matches!(back_again(rt.alloc()), Ok(true));
-    assert!(rt; come && back);
+fn variables_come_by_decreasing_score(rt: HostRuntime) {
+    assert!(rt; matches!(greatest_first(rt.alloc()), Ok(true)));
+}
+
+#[test]
+fn a_popped_variable_comes_once_more_after_it_is_pushed_twice(rt: HostRuntime) {
+    assert!(rt; matches!(back_again(rt.alloc()), Ok(true)));
 }

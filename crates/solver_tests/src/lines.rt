@@ -17,23 +17,23 @@ fn is_written_again(alloc: Global, text: &[u8]) -> Result<bool, AllocError> {
 }
 
 /// Lines, with their LFs.
-const LINES: &[&[u8]] = &[
-    b"5 2 0 1 2 0\n",
-    b"6 0 5 3 4 0\n",
-    b"5 0 0\n",
-    b"5 d 7 0\n",
-    b"5 d 1 1 0\n",
-    b"5 d 0\n",
-    b"4294967295 -2147483647 2147483646 0 1 4294967295 0\n",
-    b"1 d 4294967295 0\n",
+const LINES: &[&str] = &[
+    "5 2 0 1 2 0\n",
+    "6 0 5 3 4 0\n",
+    "5 0 0\n",
+    "5 d 7 0\n",
+    "5 d 1 1 0\n",
+    "5 d 0\n",
+    "4294967295 -2147483647 2147483646 0 1 4294967295 0\n",
+    "1 d 4294967295 0\n",
 ];
 
 #[test]
-fn lines_are_read_and_written(rt: HostRuntime) -> Result<(), AllocError> {
+fn lines_are_written_as_they_are_read(rt: HostRuntime) -> Result<(), AllocError> {
     let alloc = rt.alloc();
     for &text in LINES {
-        let again = is_written_again(alloc, text)?;
-        assert!(rt; again, "{text:?}");
+        let again = is_written_again(alloc, text.as_bytes())?;
+        assert!(rt; again, "{text}");
     }
     Ok(())
 }
@@ -44,50 +44,50 @@ fn fault_of(alloc: Global, text: &[u8]) -> Option<LineError> {
 }
 
 /// Texts that aren't lines, and why.
-const FAULTS: &[(&[u8], LineError)] = &[
-    (b"5 2 -2 0 1 0", LineError::RepeatedVariable),
-    (b"5 2 0 -1 0", LineError::RatHint),
-    (b"5 2 0 1", LineError::NoEnd),
-    (b"5 x 0 1 0", LineError::BadNumber),
+const FAULTS: &[(&str, LineError)] = &[
+    ("5 2 -2 0 1 0", LineError::RepeatedVariable),
+    ("5 2 0 -1 0", LineError::RatHint),
+    ("5 2 0 1", LineError::NoEnd),
+    ("5 x 0 1 0", LineError::BadNumber),
     // numbers and their ranges
-    (b"", LineError::BadNumber),
-    (b"0 2 0 1 0", LineError::BadNumber),
-    (b"05 2 0 1 0", LineError::BadNumber),
-    (b"-5 2 0 1 0", LineError::BadNumber),
-    (b"4294967296 2 0 1 0", LineError::BadNumber),
-    (b"5 2147483648 0 1 0", LineError::BadNumber),
-    (b"5 -2147483648 0 1 0", LineError::BadNumber),
-    (b"5 -0 0 1 0", LineError::BadNumber),
-    (b"5 +2 0 1 0", LineError::BadNumber),
-    (b"5 2 0 4294967296 0", LineError::BadNumber),
-    (b"5 d -1 0", LineError::BadNumber),
-    (b"5 2 d 0", LineError::BadNumber),
-    (b"d 5 0", LineError::BadNumber),
+    ("", LineError::BadNumber),
+    ("0 2 0 1 0", LineError::BadNumber),
+    ("05 2 0 1 0", LineError::BadNumber),
+    ("-5 2 0 1 0", LineError::BadNumber),
+    ("4294967296 2 0 1 0", LineError::BadNumber),
+    ("5 2147483648 0 1 0", LineError::BadNumber),
+    ("5 -2147483648 0 1 0", LineError::BadNumber),
+    ("5 -0 0 1 0", LineError::BadNumber),
+    ("5 +2 0 1 0", LineError::BadNumber),
+    ("5 2 0 4294967296 0", LineError::BadNumber),
+    ("5 d -1 0", LineError::BadNumber),
+    ("5 2 d 0", LineError::BadNumber),
+    ("d 5 0", LineError::BadNumber),
     // empty items
-    (b"5  2 0 1 0", LineError::BadNumber),
-    (b"5 2 0 1 ", LineError::BadNumber),
-    (b" 5 2 0 1 0", LineError::BadNumber),
-    (b"5\t2 0 1 0", LineError::BadNumber),
+    ("5  2 0 1 0", LineError::BadNumber),
+    ("5 2 0 1 ", LineError::BadNumber),
+    (" 5 2 0 1 0", LineError::BadNumber),
+    ("5\t2 0 1 0", LineError::BadNumber),
     // ends
-    (b"5", LineError::NoEnd),
-    (b"5 2", LineError::NoEnd),
-    (b"5 2 0", LineError::NoEnd),
-    (b"5 d", LineError::NoEnd),
-    (b"5 2 0 1 0 ", LineError::NoEnd),
-    (b"5 2 0 1 0 0", LineError::NoEnd),
-    (b"5 2 0 0 0", LineError::NoEnd),
-    (b"5 d 1 0 x", LineError::NoEnd),
+    ("5", LineError::NoEnd),
+    ("5 2", LineError::NoEnd),
+    ("5 2 0", LineError::NoEnd),
+    ("5 d", LineError::NoEnd),
+    ("5 2 0 1 0 ", LineError::NoEnd),
+    ("5 2 0 1 0 0", LineError::NoEnd),
+    ("5 2 0 0 0", LineError::NoEnd),
+    ("5 d 1 0 x", LineError::NoEnd),
     // the first of several
-    (b"5 2 2 x", LineError::RepeatedVariable),
-    (b"5 x 2 2", LineError::BadNumber),
-    (b"5 2 0 -x 0 0", LineError::RatHint),
-    (b"5 2 0 1 -1 0 0", LineError::RatHint),
+    ("5 2 2 x", LineError::RepeatedVariable),
+    ("5 x 2 2", LineError::BadNumber),
+    ("5 2 0 -x 0 0", LineError::RatHint),
+    ("5 2 0 1 -1 0 0", LineError::RatHint),
 ];
 
 #[test]
-fn faults_are_reported_from_the_left(rt: HostRuntime) {
+fn the_leftmost_fault_of_a_line_is_reported(rt: HostRuntime) {
     for &(text, error) in FAULTS {
-        let reported = fault_of(rt.alloc(), text);
-        assert!(rt; reported == Some(error), "{text:?}");
+        let reported = fault_of(rt.alloc(), text.as_bytes());
+        assert!(rt; reported == Some(error), "{text}");
     }
 }

@@ -37,7 +37,7 @@ fn two_clauses(alloc: Global) -> Result<Vec<PlainClause>, AllocError> {
 }
 
 #[test]
-fn assignments_satisfy(rt: HostRuntime) -> Result<(), AllocError> {
+fn clauses_are_satisfied_by_their_models_alone(rt: HostRuntime) -> Result<(), AllocError> {
     let alloc = rt.alloc();
     let clauses = two_clauses(alloc)?;
     for (bits, yes) in [
@@ -67,7 +67,7 @@ const ADDITIONS: &[(u32, i32, &[u32], bool)] = &[
 ];
 
 #[test]
-fn additions_hold(rt: HostRuntime) -> Result<(), AllocError> {
+fn additions_hold_by_new_ids_and_unit_propagation(rt: HostRuntime) -> Result<(), AllocError> {
     let alloc = rt.alloc();
     let state = contradiction(alloc)?;
     for &(id, lit, hints, yes) in ADDITIONS {
@@ -86,7 +86,7 @@ const DELETIONS: &[(&[u32], bool)] = &[
 ];
 
 #[test]
-fn deletions_hold(rt: HostRuntime) -> Result<(), AllocError> {
+fn deletions_hold_for_distinct_live_ids(rt: HostRuntime) -> Result<(), AllocError> {
     let state = contradiction(rt.alloc())?;
     for &(ids, yes) in DELETIONS {
         assert!(rt; state.deletion_holds(ids) == yes, "{ids:?}");

@@ -352,7 +352,7 @@ fn are_answered(
 }
 
 #[test]
-fn formulas_are_answered(rt: HostRuntime) {
+fn small_formulas_are_answered_within_one_conflict(rt: HostRuntime) {
     for (name, vars, clauses, expected) in FORMULAS {
         let answered = are_answered(rt.alloc(), *vars, clauses, expected);
         assert!(rt; matches!(answered, Ok(true)), "{name}");
@@ -369,18 +369,18 @@ fn are_expected_pigeons(alloc: Global, expected: ExpectedPigeons) -> Result<bool
 ///
 /// If a number of additions is given, an independent program that takes the same steps makes as many: this
 /// tests scores, phases, restarts and the order of watched literals, about which no contract says anything.
-const PIGEONS: &[(u32, u32, bool, Option<u64>)] = &[
-    (3, 1, false, None),
-    (3, 1000000, true, None),
-    (4, 3, false, None),
-    (4, 1000000, true, Some(33)),
-    (5, 1000000, true, None),
-    (6, 1000000, true, Some(391)),
+const PIGEONS: &[(&str, u32, u32, bool, Option<u64>)] = &[
+    ("three holes, budget 1", 3, 1, false, None),
+    ("three holes", 3, 1000000, true, None),
+    ("four holes, budget 3", 4, 3, false, None),
+    ("four holes", 4, 1000000, true, Some(33)),
+    ("five holes", 5, 1000000, true, None),
+    ("six holes", 6, 1000000, true, Some(391)),
 ];
 
 #[test]
-fn pigeons_have_no_holes(rt: HostRuntime) {
-    for &(holes, budget, refuted, added) in PIGEONS {
+fn pigeonhole_formulas_are_refuted_or_use_up_the_budget(rt: HostRuntime) {
+    for &(name, holes, budget, refuted, added) in PIGEONS {
         let expected = ExpectedPigeons {
             holes,
             budget,
@@ -388,12 +388,12 @@ fn pigeons_have_no_holes(rt: HostRuntime) {
             added,
         };
         let reported = are_expected_pigeons(rt.alloc(), expected);
-        assert!(rt; matches!(reported, Ok(true)), "{holes} {budget}");
+        assert!(rt; matches!(reported, Ok(true)), "{name}");
     }
 }
 
 #[test]
-fn ten_pigeons_have_a_log(rt: HostRuntime) {
+fn the_log_of_ten_pigeons_is_accepted(rt: HostRuntime) {
     // refuted or not
     let expected = ExpectedPigeons {
         holes: 9,
@@ -424,6 +424,6 @@ fn is_followed(alloc: Global) -> Result<bool, AllocError> {
 }
 
 #[test]
-fn long_rows_are_followed(rt: HostRuntime) {
+fn a_chain_of_4000_implications_is_refuted_by_one_line(rt: HostRuntime) {
     assert!(rt; matches!(is_followed(rt.alloc()), Ok(true)));
 }

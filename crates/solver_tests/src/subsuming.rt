@@ -52,11 +52,23 @@ fn comes_in_order(finder: &Finder) -> bool {
 }
 
 /// By clause, the one that subsumes it or 0, the literals that are removed, and the hints for that.
-const FOUND: &[(u32, u32, &[i32], &[u32])] = &[
-    (1, 0, &[2], &[4, 1]),
-    (2, 0, &[-1, 2], &[4, 1, 2]),
-    (3, 1, &[], &[]),
-    (4, 0, &[], &[]),
+const FOUND: &[(&str, u32, u32, &[i32], &[u32])] = &[
+    (
+        "a clause whose second literal is false",
+        1,
+        0,
+        &[2],
+        &[4, 1],
+    ),
+    (
+        "one whose complements are false or removed",
+        2,
+        0,
+        &[-1, 2],
+        &[4, 1, 2],
+    ),
+    ("a subsumed clause", 3, 1, &[], &[]),
+    ("a unit clause", 4, 0, &[], &[]),
 ];
 
 /// The id of the clause that was found to subsume another one; 0 for other results.
@@ -67,15 +79,15 @@ fn subsuming(found: Simplification) -> u32 {
     }
 }
 
-/// Whether the finder has these results.
-fn all_found(finder: &mut Finder, clauses: &ClauseDb) -> Result<bool, AllocError> {
-    for &(id, other, gone, hints) in FOUND {
+/// The first row that isn't the finder's result; empty if all are.
+fn wrongly_found(finder: &mut Finder, clauses: &ClauseDb) -> Result<&'static str, AllocError> {
+    for &(name, id, other, gone, hints) in FOUND {
         let found = subsuming(finder.find(clauses, id)?);
         if found != other || !are(finder.gone(), gone) || finder.hints() != hints {
-            return Ok(false);
+            return Ok(name);
         }
     }
-    Ok(true)
+    Ok("")
 }
 
 /// Whether an added unit clause is found to subsume the second clause.
@@ -88,62 +100,64 @@ fn finds_added(finder: &mut Finder, clauses: &mut ClauseDb) -> Result<bool, Allo
     Ok(subsuming(finder.find(clauses, 2)?) == 5)
 }
 
-/// Whether the finder has the right turns and results, also after an addition.
-fn finds(alloc: Global, clauses: &mut ClauseDb) -> Result<bool, AllocError> {
+/// What the finder has wrong: its turns, its results, or the result after an addition; empty if nothing.
+fn wrong_finding(alloc: Global, clauses: &mut ClauseDb) -> Result<&'static str, AllocError> {
     let mut finder = Finder::new(alloc, clauses, 4)?;
-    let well = comes_in_order(&finder) && all_found(&mut finder, clauses)?;
-    let added = finds_added(&mut finder, clauses);
-    drop(finder);
-    Ok(well && added?)
+    if !comes_in_order(&finder) {
+        return Ok("the order of the clauses");
+    }
+    let wrong = wrongly_found(&mut finder, clauses)?;
+    if !wrong.is_empty() {
+        return Ok(wrong);
+    }
+    if !finds_added(&mut finder, clauses)? {
+        return Ok("a clause that an added unit clause subsumes");
+    }
+    Ok("")
 }
 
 /// The same for a database of these clauses.
-fn are_found(alloc: Global) -> Result<bool, AllocError> {
+fn wrong_finding_of_four(alloc: Global) -> Result<&'static str, AllocError> {
     let mut clauses = ClauseDb::new(alloc, &formula(alloc, 3, CLAUSES)?)?;
-    let well = finds(alloc, &mut clauses);
+    let wrong = wrong_finding(alloc, &mut clauses);
     drop(clauses);
-    well
+    wrong
 }
 
 #[test]
-fn clauses_are_subsumed_and_shortened(rt: HostRuntime) {
-    assert!(rt; matches!(are_found(rt.alloc()), Ok(true)));
+fn clauses_are_subsumed_or_strengthened(rt: HostRuntime) {
+    let wrong = wrong_finding_of_four(rt.alloc()).unwrap_or("out of memory");
+    assert!(rt; wrong.is_empty(), "{wrong}");
 }
 
 /// Lists of literals with hints, and whether they follow by these.
-const HINTED: &[(&[i32], &[u32], bool)] = &[
-    (&[3], &[4, 1, 2], true),
-    (&[3], &[1, 4, 2], false),
-    (&[3], &[4, 1], false),
-    (&[3], &[4, 9, 2], false),
-    (&[3], &[], false),
-    (&[2, 3], &[1, 2], true),
-    (&[2, 3], &[1], false),
+const HINTED: &[(&str, &[i32], &[u32], bool)] = &[
+    ("all hints in order", &[3], &[4, 1, 2], true),
+    ("a hint that isn't unit yet", &[3], &[1, 4, 2], false),
+    ("no conflict", &[3], &[4, 1], false),
+    ("an unknown id", &[3], &[4, 9, 2], false),
+    ("no hint", &[3], &[], false),
+    ("a second literal, with its hints", &[2, 3], &[1, 2], true),
+    ("a second literal, without conflict", &[2, 3], &[1], false),
 ];
 
-/// Whether `holds` returns this.
-fn all_hold(alloc: Global, clauses: &ClauseDb) -> Result<bool, AllocError> {
-    let mut known = Vec::new(alloc);
-    for &(numbers, hints, yes) in HINTED {
-        let lits = literals(alloc, numbers)?;
-        if holds(clauses, &lits, hints, &mut known)? != yes {
-            return Ok(false);
-        }
-    }
-    Ok(true)
-}
-
-/// The same for a database of these clauses.
-fn are_held(alloc: Global) -> Result<bool, AllocError> {
+/// What `holds` returns for a list of literals over these clauses.
+fn is_held(alloc: Global, numbers: &[i32], hints: &[u32]) -> Result<bool, AllocError> {
     let clauses = ClauseDb::new(alloc, &formula(alloc, 3, CLAUSES)?)?;
-    let well = all_hold(alloc, &clauses);
+    let mut known = Vec::new(alloc);
+    let lits = literals(alloc, numbers)?;
+    let held = holds(&clauses, &lits, hints, &mut known);
     drop(clauses);
-    well
+    held
 }
 
 #[test]
-fn hints_hold_in_their_order(rt: HostRuntime) {
-    assert!(rt; matches!(are_held(rt.alloc()), Ok(true)));
+fn hints_derive_a_clause_only_in_their_order(rt: HostRuntime) -> Result<(), AllocError> {
+    for &(name, numbers, hints, yes) in HINTED {
+        let held = is_held(rt.alloc(), numbers, hints)?;
+        assert!(rt; held == yes, "{name}");
+    }
+    Ok(())
 }
 
 /// The literal of a number, if the clauses have its variable.
@@ -161,7 +175,12 @@ fn over(clauses: &ClauseDb, number: i32) -> Option<Lit>
 }
 
 /// Pairs of literals, and whether no clause subsumes them.
-const PAIRS: &[(i32, i32, bool)] = &[(1, 3, true), (1, 2, false), (2, 1, false), (1, -2, false)];
+const PAIRS: &[(&str, i32, i32, bool)] = &[
+    ("a new pair", 1, 3, true),
+    ("a clause", 1, 2, false),
+    ("a clause in another order", 2, 1, false),
+    ("a pair with a unit clause", 1, -2, false),
+];
 
 /// Whether no live clause subsumes a pair.
 fn is_new_pair(
@@ -183,17 +202,17 @@ fn is_new_pair(
     is_unsubsumed(clauses, units, marks, &[one, other])
 }
 
-/// Whether `is_unsubsumed` returns this for all pairs.
-fn all_new(clauses: &ClauseDb, units: &Units, marks: &mut LitFlags) -> bool
+/// The first pair for which `is_unsubsumed` returns something else; empty if there is none.
+fn wrongly_new(clauses: &ClauseDb, units: &Units, marks: &mut LitFlags) -> &'static str
     requires units { IsUnitsOf clauses.now units.now }
     requires some { (id : ℕ) → live_in clauses.now id ≡ Some [] → ⊥ }
 {
-    for &(one, other, yes) in PAIRS {
+    for &(name, one, other, yes) in PAIRS {
         if is_new_pair(clauses, units, marks, one, other) != yes {
-            return false;
+            return name;
         }
     }
-    true
+    ""
 }
 
 /// Whether no live clause subsumes a unit clause, until it is added.
@@ -216,25 +235,32 @@ fn comes(
     Ok(new && !is_unsubsumed(clauses, units, marks, &[lit]))
 }
 
-/// The same for a database of these clauses, with the pairs before.
-fn are_new(alloc: Global) -> Result<bool, AllocError> {
+/// What is wrong for a database of these clauses: one of the pairs, or that; empty if nothing.
+fn are_new(alloc: Global) -> Result<&'static str, AllocError> {
     let cnf = formula(alloc, 3, CLAUSES)?;
     if cnf.has_empty() {
-        return Ok(false);
+        return Ok("the formula");
     }
     let mut clauses = ClauseDb::new(alloc, &cnf)?;
     let mut units = Units::new(alloc, &clauses)?;
     let mut marks = LitFlags::new(alloc, 3)?;
     let Some(lit) = over(&clauses, 3) else {
-        return Ok(false);
+        return Ok("the literal");
     };
-    let well = all_new(&clauses, &units, &mut marks);
-    Ok(well && comes(&mut clauses, &mut units, &mut marks, lit)?)
+    let wrong = wrongly_new(&clauses, &units, &mut marks);
+    if !wrong.is_empty() {
+        return Ok(wrong);
+    }
+    if !comes(&mut clauses, &mut units, &mut marks, lit)? {
+        return Ok("a unit clause before and after it is added");
+    }
+    Ok("")
 }
 
 #[test]
-fn lists_are_new_until_they_are_added(rt: HostRuntime) {
-    assert!(rt; matches!(are_new(rt.alloc()), Ok(true)));
+fn clauses_are_unsubsumed_until_they_are_added(rt: HostRuntime) {
+    let wrong = are_new(rt.alloc()).unwrap_or("out of memory");
+    assert!(rt; wrong.is_empty(), "{wrong}");
 }
 
 /// Whether a list without some of its literals is right, and inside the list.
@@ -248,6 +274,6 @@ fn is_kept(alloc: Global) -> Result<bool, AllocError> {
 }
 
 #[test]
-fn others_are_kept(rt: HostRuntime) {
+fn a_strengthened_clause_lacks_the_removed_literals_alone(rt: HostRuntime) {
     assert!(rt; matches!(is_kept(rt.alloc()), Ok(true)));
 }

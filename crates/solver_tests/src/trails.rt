@@ -47,16 +47,21 @@ fn falsified_at(trail: &Trail, places: &[(i32, u32)]) -> bool {
 }
 
 /// Literals with their reasons, and whether they can be pushed.
-const PUSHED: &[(i32, u32, bool)] = &[(2, 0, true), (-1, 7, true), (1, 8, false), (4, 9, false)];
+const PUSHED: &[(&str, i32, u32, bool)] = &[
+    ("pushing 2", 2, 0, true),
+    ("pushing -1", -1, 7, true),
+    ("pushing 1, which is false", 1, 8, false),
+    ("pushing 4, which is no variable", 4, 9, false),
+];
 
-/// Whether exactly the literals that can be pushed are.
-fn goes_on(trail: &mut Trail) -> Result<bool, AllocError> {
-    for &(number, reason, pushed) in PUSHED {
+/// The first row that isn't so: exactly the literals that can be pushed are; empty if all are so.
+fn wrongly_pushed(trail: &mut Trail) -> Result<&'static str, AllocError> {
+    for &(name, number, reason, pushed) in PUSHED {
         if push_free(trail, number, reason)? != pushed {
-            return Ok(false);
+            return Ok(name);
         }
     }
-    Ok(true)
+    Ok("")
 }
 
 /// The positions of the literals after that.
@@ -82,22 +87,31 @@ fn goes_back(trail: &mut Trail) -> bool {
     trail.len() == 1 && falsified_at(trail, &[(1, 0)])
 }
 
-/// Whether a trail is right after assignments and after backtracking.
-fn goes(alloc: Global, trail: &mut Trail) -> Result<bool, AllocError> {
-    let on = goes_on(trail)?;
-    let reported = reports(alloc, trail)?;
-    Ok(on && reported && goes_back(trail))
+/// What is wrong after assignments and after backtracking; empty if nothing.
+fn wrong_trail(alloc: Global, trail: &mut Trail) -> Result<&'static str, AllocError> {
+    let wrong = wrongly_pushed(trail)?;
+    if !wrong.is_empty() {
+        return Ok(wrong);
+    }
+    if !reports(alloc, trail)? {
+        return Ok("the assignment and the positions");
+    }
+    if !goes_back(trail) {
+        return Ok("backtracking");
+    }
+    Ok("")
 }
 
 /// The same for a trail of three variables.
-fn three_go(alloc: Global) -> Result<bool, AllocError> {
+fn wrong_trail_of_three(alloc: Global) -> Result<&'static str, AllocError> {
     let mut trail = Trail::new(alloc, 3)?;
-    let well = goes(alloc, &mut trail);
+    let wrong = wrong_trail(alloc, &mut trail);
     drop(trail);
-    well
+    wrong
 }
 
 #[test]
-fn trail_goes_on_and_back(rt: HostRuntime) {
-    assert!(rt; matches!(three_go(rt.alloc()), Ok(true)));
+fn trails_have_the_pushed_literals_until_they_are_popped(rt: HostRuntime) {
+    let wrong = wrong_trail_of_three(rt.alloc()).unwrap_or("out of memory");
+    assert!(rt; wrong.is_empty(), "{wrong}");
 }

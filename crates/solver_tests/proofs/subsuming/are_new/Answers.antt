@@ -6,8 +6,8 @@ use Rattle.solver_tests.proofs.subsuming.are_new.Goals as goal
 not_both : (b : Bool) → b ≡ true → b ≡ false → ⊥
 not_both b on off = cc
 
-pub all_new-well-requires-clause-some : goal.all_new-well-requires-clause-some
-all_new-well-requires-clause-some c = none_empty c.in_ok-cnf.cnf.clauses
+pub wrongly_new-wrong-requires-clause-some : goal.wrongly_new-wrong-requires-clause-some
+wrongly_new-wrong-requires-clause-some c = none_empty c.in_ok-cnf.cnf.clauses
     (live_in c.in_ok-clauses.clauses) c.in_ok-clauses.ensures.clauses (λ there.
     not_both c.has_empty.result (c.has_empty.ensures.value.1 there) c.if-has_empty.false)
 
