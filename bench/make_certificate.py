@@ -1,9 +1,9 @@
 #!/usr/bin/env python3
 """Writes a valid certificate by the method `plain` over all operators, for the benchmark of `recheck`.
 
-    make_bundle.py MAX TABLE..             a log for each size from 0 to MAX, verdict `none MAX`
-    make_bundle.py MAX --open K TABLE..    the same; a log that adds K clauses ends there, and leaves its size open
-    make_bundle.py MAX --log K TABLE..     the formula of size MAX alone with that log, in the form of make_log.py
+    make_certificate.py MAX TABLE..             a log for each size from 0 to MAX, verdict `none MAX`
+    make_certificate.py MAX --open K TABLE..    the same; a log that adds K clauses ends there, and leaves its size open
+    make_certificate.py MAX --log K TABLE..     the formula of size MAX alone with that log, in the form of make_log.py
 
 No chain of at most MAX steps may agree with the tables, and no table may be an input or a constant. The
 formulas are built from their description, not by the program; each log is a depth-first search, as in
@@ -65,7 +65,7 @@ def logged(tables, size, budget):
     return variables, clauses, log.lines, True
 
 
-def write_bundle(inputs, tables, greatest, budget, out):
+def write_certificate(inputs, tables, greatest, budget, out):
     out.write(f"chains 1\ninputs {inputs}\n" + "".join(table + "\n" for table in tables))
     out.write(f"basis all\nmethod plain\nconflicts {max(budget, 1)}\nmax {greatest}\n")
     low = None
@@ -92,7 +92,7 @@ def main():
     tables = words if kind is None else words[2:]
     sys.setrecursionlimit(10000)
     inputs = len(tables[0]).bit_length() - 1
-    write = write_log if kind == "--log" else write_bundle
+    write = write_log if kind == "--log" else write_certificate
     write(inputs, tables, greatest, int(budget), sys.stdout)
 
 
