@@ -1,5 +1,6 @@
 -- Tables of at most two inputs, as all tables of a circuit's document, written as gates of the same function.
-use Rattle.std.specs.Prelude.{ℕ, Bool, true, false, not, ◌==◌, if◌then◌else◌, List, [], ◌∷◌, map, slice_index_or, Option, Some, None, option_to_list}
+use Rattle.std.specs.Prelude.{ℕ, Bool, true, false, not, ◌==◌, if◌then◌else◌, List, [], ◌∷◌, map, slice_index_or}
+use Rattle.std.specs.Prelude.{Option, Some, None, option_to_list}
 use Rattle.net_theory.specs.Cover.{cover_value}
 use Rattle.net_theory.specs.Expansion.{binary_word}
 use Rattle.net_theory.specs.Document.{Name, Table, Document}
@@ -22,7 +23,12 @@ key_by connective on is_single = record { connective = connective; on = on; is_s
 
 -- XOR of a name with itself is 0, and XNOR is 1.
 abbrev pub constant_line : Name → Name → Bool → GateLine
-constant_line output name bit = record { output = output; key = key_by Xor (not bit) false; first = name; second = Some name }
+constant_line output name bit = record {
+  output = output;
+  key = key_by Xor (not bit) false;
+  first = name;
+  second = Some name;
+}
 
 -- a function of one input, by its values at 0 and 1: a copy is BUFF, the complement is NOT
 abbrev pub unary_line : Name → Name → Bool → Bool → GateLine
@@ -40,7 +46,12 @@ binary_key word = if word == 1 then key_by And true false
     false))))
 
 abbrev pub binary_line : Name → Name → Name → ℕ → GateLine
-binary_line output first second word = record { output = output; key = binary_key word; first = first; second = Some second }
+binary_line output first second word = record {
+  output = output;
+  key = binary_key word;
+  first = first;
+  second = Some second;
+}
 
 -- A table without inputs becomes a gate over a source.
 abbrev pub line_by : Name → Table → List Name → GateLine
@@ -63,7 +74,14 @@ first_source c = slice_index_or (sources_of c) 0 []
 
 -- a document with its tables replaced by the tables of gates
 abbrev pub as_gates : Name → Document → Document
-as_gates source d = record { model = d.model; inputs = d.inputs; outputs = d.outputs; clocks = d.clocks; latches = d.latches; tables = map (λ t. line_table (line_of source t)) d.tables }
+as_gates source d = record {
+  model = d.model;
+  inputs = d.inputs;
+  outputs = d.outputs;
+  clocks = d.clocks;
+  latches = d.latches;
+  tables = map (λ t. line_table (line_of source t)) d.tables;
+}
 
 -- The document that the writer makes of a circuit: gates in the order of their nodes, constants that latches
 -- read, and outputs that no source or gate names.

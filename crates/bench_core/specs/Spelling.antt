@@ -50,7 +50,9 @@ pub record IsSmallTable (t : Table) : Type 0 where
 
 -- inputs, outputs, latches and gates, each on a line of its own
 unfoldable pub spelled : Name → Document → List ℕ
-spelled source d = flat_map (port_text (codes "INPUT(")) d.inputs ++ flat_map (port_text (codes "OUTPUT(")) d.outputs ++ flat_map latch_text d.latches ++ flat_map (table_text source) d.tables
+spelled source d = flat_map (port_text (codes "INPUT(")) d.inputs ++
+    flat_map (port_text (codes "OUTPUT(")) d.outputs ++ flat_map latch_text d.latches ++
+    flat_map (table_text source) d.tables
 
 -- the text of a circuit
 abbrev pub circuit_text : Circuit → List ℕ

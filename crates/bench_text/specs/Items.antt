@@ -10,7 +10,8 @@ is_mark b = b == 40 || b == 41 || b == 44 || b == 61
 -- the items of `prefix` ++ `text`; `prefix` has no blank and no mark
 unfoldable pub items_from : List ℕ → List ℕ → List (List ℕ)
 items_from prefix [] = word_then prefix []
-items_from prefix (b ∷ bs) = if is_blank b then word_then prefix (items_from [] bs) else (if is_mark b then word_then prefix ((b ∷ []) ∷ items_from [] bs) else items_from (prefix ++ b ∷ []) bs)
+items_from prefix (b ∷ bs) = if is_blank b then word_then prefix (items_from [] bs)
+    else (if is_mark b then word_then prefix ((b ∷ []) ∷ items_from [] bs) else items_from (prefix ++ b ∷ []) bs)
 
 -- The items of a text: each mark, and the nonempty runs between marks and blanks.
 -- Example: `y = NAND(a, b)` has the eight items `y`, `=`, `NAND`, `(`, `a`, `,`, `b` and `)`.

@@ -283,7 +283,9 @@ names_by_fine : (line : ℕ) (r : Option (List Name)) (room : ℕ) → ((ns : Li
 names_by_fine line None room h = tt
 names_by_fine line (Some ns) room h =
     let is = h ns refl in
-    cond_both (nat_lt most_table_inputs (length ns)) (Err (TooWide line)) (if list_all is_name ns then Ok ns else Err (Syntax line)) (λ (r : Result (List Name) NetError). IfOk r (λ xs. AreOperandNames xs room))
+    cond_both (nat_lt most_table_inputs (length ns)) (Err (TooWide line))
+    (if list_all is_name ns then Ok ns else Err (Syntax line)) (λ (r : Result (List Name) NetError).
+    IfOk r (λ xs. AreOperandNames xs room))
     (λ wide. tt)
     (λ narrow. cond_both (list_all is_name ns) (Ok ns) (Err (Syntax line)) (λ (r : Result (List Name) NetError). IfOk r (λ xs. AreOperandNames xs room))
     (λ named.

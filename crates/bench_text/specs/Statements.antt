@@ -1,6 +1,7 @@
 -- The grammar of BENCH (the ISCAS benchmark files): the document after the lines of a text, or the first fault.
 -- Each line is checked in the order of the tests below. A line without items is skipped.
-use Rattle.std.specs.Prelude.{ℕ, ◌+◌, Bool, true, false, not, ◌&&◌, ◌||◌, ◌==◌, nat_lt, nat_le, if◌then◌else◌, List, [], ◌∷◌, ◌++◌, length, map, Option, Some, None, Result, Ok, Err, codes}
+use Rattle.std.specs.Prelude.{ℕ, ◌+◌, Bool, true, false, not, ◌&&◌, ◌||◌, ◌==◌, nat_lt, nat_le, if◌then◌else◌, List, []}
+use Rattle.std.specs.Prelude.{◌∷◌, ◌++◌, length, map, Option, Some, None, Result, Ok, Err, codes}
 use Rattle.std.specs.List.{list_all}
 use Rattle.text_core.specs.Lines.{Line, lines_of}
 use Rattle.net_theory.specs.Document.{Name, is_name, is_same, Table, LatchLine}
@@ -16,7 +17,8 @@ use Rattle.net_document.specs.Limits.{is_long_line}
 use Rattle.blif_text.specs.Words.{has_long}
 use Rattle.bench_text.specs.declared.keywords.GateKey.{GateKey}
 use Rattle.bench_text.specs.declared.keywords.BenchKeyword.{BenchKeyword}
-use Rattle.bench_text.specs.declared.keywords.BenchKeyword.TheVariants.{Input, Output, Gate, Dff, Lut, Constant, Unknown}
+use Rattle.bench_text.specs.declared.keywords.BenchKeyword.TheVariants.{Input, Output, Gate, Dff, Lut, Constant}
+use Rattle.bench_text.specs.declared.keywords.BenchKeyword.TheVariants.{Unknown}
 use Rattle.bench_text.specs.Items.{is_mark_item, items_of}
 use Rattle.net_theory.specs.Limits.{most_table_inputs}
 
@@ -24,19 +26,43 @@ use Rattle.net_theory.specs.Limits.{most_table_inputs}
 
 -- The document before the first line. The model's name is `top`, and there are no clocks.
 abbrev pub nothing : Listed
-nothing = record { document = record { model = codes "top"; inputs = []; outputs = []; clocks = []; latches = []; tables = [] }; driven = []; used = [] }
+nothing = record {
+  document = record {
+    model = codes "top";
+    inputs = [];
+    outputs = [];
+    clocks = [];
+    latches = [];
+    tables = [];
+  };
+  driven = [];
+  used = [];
+}
 
 abbrev pub with_input : Listed → Name → Listed
-with_input s n = record s { document = record s.document { inputs = s.document.inputs ++ n ∷ [] }; driven = s.driven ++ n ∷ [] }
+with_input s n = record s {
+  document = record s.document { inputs = s.document.inputs ++ n ∷ [] };
+  driven = s.driven ++
+      n ∷ [];
+}
 
 abbrev pub with_output : Listed → Name → Listed
 with_output s n = record s { document = record s.document { outputs = s.document.outputs ++ n ∷ [] } }
 
 abbrev pub with_latch : Listed → LatchLine → Listed
-with_latch s l = record s { document = record s.document { latches = s.document.latches ++ l ∷ [] }; driven = s.driven ++ l.latch.output ∷ []; used = s.used ++ l.input ∷ [] }
+with_latch s l = record s {
+  document = record s.document { latches = s.document.latches ++ l ∷ [] };
+  driven = s.driven ++ l.latch.output ∷ [];
+  used = s.used ++ l.input ∷ [];
+}
 
 abbrev pub with_table : Listed → Table → Listed
-with_table s t = record s { document = record s.document { tables = s.document.tables ++ t ∷ [] }; driven = s.driven ++ t.output ∷ []; used = s.used ++ t.inputs }
+with_table s t = record s {
+  document = record s.document { tables = s.document.tables ++ t ∷ [] };
+  driven = s.driven ++
+      t.output ∷ [];
+  used = s.used ++ t.inputs;
+}
 
 -- ---- keywords
 
@@ -85,7 +111,8 @@ operands_of (m ∷ rest) = if is_same m (codes "(") then operands_from [] rest e
 -- too many operands are reported first, then a word that isn't a name
 abbrev pub names_by : ℕ → Option (List Name) → Result (List Name) NetError
 names_by line None = Err (Syntax line)
-names_by line (Some names) = if nat_lt most_table_inputs (length names) then Err (TooWide line) else (if list_all is_name names then Ok names else Err (Syntax line))
+names_by line (Some names) = if nat_lt most_table_inputs (length names) then Err (TooWide line)
+    else (if list_all is_name names then Ok names else Err (Syntax line))
 
 unfoldable pub names_of : ℕ → List (List ℕ) → Result (List Name) NetError
 names_of line items = names_by line (operands_of items)
@@ -101,17 +128,23 @@ abbrev pub is_counted : GateKey → List Name → Bool
 is_counted key inputs = not key.is_single || length inputs == 1
 
 abbrev pub gate_table : GateKey → Name → List Name → Table
-gate_table key output inputs = record { inputs = inputs; output = output; cover = joined_cover key.connective (length inputs) key.on }
+gate_table key output inputs = record {
+  inputs = inputs;
+  output = output;
+  cover = joined_cover key.connective (length inputs) key.on;
+}
 
 unfoldable pub table_of : ℕ → GateKey → Name → List Name → Result Table NetError
-table_of line key output inputs = if is_name output && is_counted key inputs then Ok (gate_table key output inputs) else Err (Syntax line)
+table_of line key output inputs = if is_name output && is_counted key inputs then Ok (gate_table key output inputs)
+    else Err (Syntax line)
 
 -- a latch without a control and an initial value
 abbrev pub plain_latch : Name → Name → LatchLine
 plain_latch output input = record { input = input; latch = record { output = output; control = None; init = None } }
 
 unfoldable pub latch_of : ℕ → Name → List Name → Result LatchLine NetError
-latch_of line output inputs = alone line inputs >>= λ n. (if is_name output then Ok (plain_latch output n) else Err (Syntax line))
+latch_of line output inputs = alone line inputs >>= λ n.
+    (if is_name output then Ok (plain_latch output n) else Err (Syntax line))
 
 -- ---- lines
 
@@ -135,8 +168,10 @@ ported line s items Unknown = Err (Syntax line)
 -- A line `output = word ..`. `LUT` isn't supported, whatever follows it; `vdd` and `gnd` aren't supported if
 -- nothing follows.
 unfoldable pub driven : ℕ → Listed → Name → Name → List (List ℕ) → BenchKeyword → Result Listed NetError
-driven line s output word items (Gate key) = names_of line items >>= λ inputs. table_of line key output inputs >>= λ t. Ok (with_table s t)
-driven line s output word items Dff = names_of line items >>= λ inputs. latch_of line output inputs >>= λ l. Ok (with_latch s l)
+driven line s output word items (Gate key) = names_of line items >>= λ inputs. table_of line key output inputs >>= λ t.
+    Ok (with_table s t)
+driven line s output word items Dff = names_of line items >>= λ inputs. latch_of line output inputs >>= λ l.
+    Ok (with_latch s l)
 driven line s output word items Lut = Err (NotSupported line word)
 driven line s output word items Constant = if is_nothing items then Err (NotSupported line word) else Err (Syntax line)
 driven line s output word items Input = Err (Syntax line)
@@ -150,10 +185,13 @@ driven_by line s output (w ∷ items) = driven line s output w items (keyword_of
 unfoldable pub stated : ℕ → Listed → List (List ℕ) → Result Listed NetError
 stated line s [] = Ok s
 stated line s (w ∷ []) = Err (Syntax line)
-stated line s (w ∷ m ∷ items) = if is_mark_item w then Err (Syntax line) else (if is_same m (codes "=") then driven_by line s w items else ported line s (m ∷ items) (keyword_of w))
+stated line s (w ∷ m ∷ items) = if is_mark_item w then Err (Syntax line)
+    else (if is_same m (codes "=") then driven_by line s w items else ported line s (m ∷ items) (keyword_of w))
 
 unfoldable pub step : ℕ → Listed → Line → Result Listed NetError
-step line s l = if is_long_line (length l.text) then Err (LineTooLong line) else (if has_long (items_of (content_of l)) then Err (NameTooLong line) else stated line s (items_of (content_of l)))
+step line s l = if is_long_line (length l.text) then Err (LineTooLong line)
+    else (if has_long (items_of (content_of l)) then Err (NameTooLong line)
+    else stated line s (items_of (content_of l)))
 
 -- all lines; the first one has the given number
 unfoldable pub steps : ℕ → Listed → List Line → Result Listed NetError

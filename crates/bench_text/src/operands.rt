@@ -6,7 +6,8 @@ ghost use Rattle.net_theory.specs.Document.{is_name as is_name_of};
 ghost use Rattle.blif_text.specs.Reading.{Gives};
 ghost use Rattle.bench_text.specs.Items.{items_of};
 ghost use Rattle.bench_text.specs.Statements.{operands_of as operands_of_items, operands_from};
-ghost use Rattle.bench_text.specs.Statements.{names_of as names_of_items, port_of as port_of_items, alone as alone_of};
+ghost use Rattle.bench_text.specs.Statements.{names_of as names_of_items, port_of as port_of_items};
+ghost use Rattle.bench_text.specs.Statements.{alone as alone_of};
 ghost use Rattle.std.specs.Option.{option_map};
 ghost use Rattle.net_theory.specs.Limits.{most_table_inputs};
 

@@ -1,5 +1,6 @@
 -- The text of a document in BLIF.
-use Rattle.std.specs.Prelude.{ℕ, ◌+◌, Bool, true, false, ◌==◌, if◌then◌else◌, List, [], ◌∷◌, ◌++◌, codes, Option, Some, None}
+use Rattle.std.specs.Prelude.{ℕ, ◌+◌, Bool, true, false, ◌==◌, if◌then◌else◌, List, [], ◌∷◌, ◌++◌, codes, Option, Some}
+use Rattle.std.specs.Prelude.{None}
 use Rattle.std.specs.List.{flat_map}
 use Rattle.net_theory.specs.declared.data.Trigger.{Trigger}
 use Rattle.net_theory.specs.declared.data.Trigger.TheVariants.{Fe, Re, Ah, Al, As}
@@ -18,7 +19,8 @@ words_text names = flat_map word_text names
 -- Names after a keyword, 16 on a line; the current line already has `count` of them.
 unfoldable pub rest_text : List ℕ → ℕ → List Name → List ℕ
 rest_text keyword count [] = 10 ∷ []
-rest_text keyword count (n ∷ ns) = if count == 16 then 10 ∷ (keyword ++ word_text n ++ rest_text keyword 1 ns) else word_text n ++ rest_text keyword (count + 1) ns
+rest_text keyword count (n ∷ ns) = if count == 16 then 10 ∷ (keyword ++ word_text n ++ rest_text keyword 1 ns)
+    else word_text n ++ rest_text keyword (count + 1) ns
 
 -- Example: `.inputs a b`; without names it is `.inputs`.
 abbrev pub list_text : List ℕ → List Name → List ℕ
@@ -49,7 +51,8 @@ HasInit l = IsInit l.latch.init
 
 -- Example: `.latch d q re clk 2`.
 abbrev pub latch_text : LatchLine → List ℕ
-latch_text l = codes ".latch" ++ word_text l.input ++ word_text l.latch.output ++ control_text l.latch.control ++ init_text l.latch.init ++ 10 ∷ []
+latch_text l = codes ".latch" ++ word_text l.input ++ word_text l.latch.output ++ control_text l.latch.control ++
+    init_text l.latch.init ++ 10 ∷ []
 
 abbrev pub digit_text : Bool → ℕ
 digit_text true = 49
@@ -66,14 +69,16 @@ row_text on cube = cube_text cube ++ digit_text on ∷ 10 ∷ []
 
 -- Example: `.names a b y` with `01 1` and `10 1`.
 abbrev pub table_text : Table → List ℕ
-table_text t = codes ".names" ++ words_text t.inputs ++ word_text t.output ++ 10 ∷ [] ++ flat_map (row_text t.cover.on) t.cover.cubes
+table_text t = codes ".names" ++ words_text t.inputs ++ word_text t.output ++ 10 ∷ [] ++
+    flat_map (row_text t.cover.on) t.cover.cubes
 
 abbrev pub model_text : Name → List ℕ
 model_text model = codes ".model" ++ word_text model ++ 10 ∷ []
 
 -- model, inputs, outputs and clocks
 abbrev pub header_text : Document → List ℕ
-header_text d = model_text d.model ++ list_text (codes ".inputs") d.inputs ++ list_text (codes ".outputs") d.outputs ++ clocks_text d.clocks
+header_text d = model_text d.model ++ list_text (codes ".inputs") d.inputs ++ list_text (codes ".outputs") d.outputs ++
+    clocks_text d.clocks
 
 -- the whole text: model, inputs, outputs, clocks, latches, tables and `.end`
 unfoldable pub spelled : Document → List ℕ

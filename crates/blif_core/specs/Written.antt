@@ -17,7 +17,11 @@ row_if true row = row ∷ []
 row_if false row = []
 
 abbrev pub table_with : List Name → List (List ℕ) → Name → Table
-table_with inputs cubes output = record { inputs = inputs; output = output; cover = record { width = length inputs; cubes = cubes; on = true; parity = false } }
+table_with inputs cubes output = record {
+  inputs = inputs;
+  output = output;
+  cover = record { width = length inputs; cubes = cubes; on = true; parity = false };
+}
 
 -- a table without inputs
 abbrev pub constant_table : Bool → Name → Table
@@ -25,7 +29,8 @@ constant_table bit output = table_with [] (row_if bit []) output
 
 -- a table of one input, by its values at 0 and 1
 abbrev pub unary_table : Bool → Bool → Name → Name → Table
-unary_table at_zero at_one input output = table_with (input ∷ []) (row_if at_zero (48 ∷ []) ++ row_if at_one (49 ∷ [])) output
+unary_table at_zero at_one input output = table_with (input ∷ []) (row_if at_zero (48 ∷ []) ++
+    row_if at_one (49 ∷ [])) output
 
 -- the rows 00, 01, 10 and 11 on which an operator is 1
 unfoldable pub binary_cubes : ℕ → List (List ℕ)
@@ -39,7 +44,8 @@ binary_table op first second output = table_with (first ∷ second ∷ []) (bina
 
 -- a gate whose first operand is a node
 abbrev pub with_node : (ℕ → Name) → Name → ℕ → ℕ → Sig → Table
-with_node name output op p (Node q) = if p == q then unary_table (apply op false false) (apply op true true) (name p) output else binary_table op (name p) (name q) output
+with_node name output op p (Node q) = if p == q then unary_table (apply op false false) (apply op true true)
+    (name p) output else binary_table op (name p) (name q) output
 with_node name output op p Zero = unary_table (apply op false false) (apply op true false) (name p) output
 with_node name output op p One = unary_table (apply op false true) (apply op true true) (name p) output
 
@@ -94,7 +100,8 @@ table_if true t = t ∷ []
 table_if false t = []
 
 unfoldable pub constant_tables : Circuit → List Table
-constant_tables c = table_if (list_any is_zero (next_states c)) (constant_table false (first_spare c)) ++ table_if (list_any is_one (next_states c)) (constant_table true (one_name c))
+constant_tables c = table_if (list_any is_zero (next_states c)) (constant_table false (first_spare c)) ++
+    table_if (list_any is_one (next_states c)) (constant_table true (one_name c))
 
 unfoldable pub latch_lines : (Sig → Name) → List Latch → List Sig → List LatchLine
 latch_lines name [] sinks = []
@@ -113,7 +120,9 @@ output_table name output (Node p) = unary_table false true (name p) output
 unfoldable pub output_tables : (ℕ → Name) → List Name → List Name → List Sig → List Table
 output_tables name written [] sinks = []
 output_tables name written (o ∷ os) [] = []
-output_tables name written (o ∷ os) (s ∷ sinks) = if has written o then output_tables name written os sinks else output_table name o s ∷ output_tables name (written ++ o ∷ []) os sinks
+output_tables name written (o ∷ os) (s ∷ sinks) =
+    if has written o then output_tables name written os sinks
+    else output_table name o s ∷ output_tables name (written ++ o ∷ []) os sinks
 
 -- ---- the document
 
@@ -122,11 +131,19 @@ abbrev pub driven_before : Circuit → List Name
 driven_before c = each_once [] (sources_of c ++ gate_names c)
 
 abbrev pub tables_of : Circuit → List Table
-tables_of c = gate_tables (node_name c) c.net.gates (gate_names c) ++ constant_tables c ++ output_tables (node_name c) (driven_before c) c.outputs c.net.sinks
+tables_of c = gate_tables (node_name c) c.net.gates (gate_names c) ++ constant_tables c ++
+    output_tables (node_name c) (driven_before c) c.outputs c.net.sinks
 
 -- the document of a circuit, without its latches and tables
 abbrev pub header : Circuit → Document
-header c = record { model = c.model; inputs = c.inputs; outputs = c.outputs; clocks = c.clocks; latches = []; tables = [] }
+header c = record {
+  model = c.model;
+  inputs = c.inputs;
+  outputs = c.outputs;
+  clocks = c.clocks;
+  latches = [];
+  tables = [];
+}
 
 -- The gates in the order of their nodes, then the constants that latches read, then the outputs that no source or
 -- gate names. A gate that drives outputs has the name of the first of them.

@@ -1,5 +1,6 @@
 -- Cover lines: `1-0 1` in a table of three inputs, or the output value alone in one without inputs.
-use Rattle.std.specs.Prelude.{ℕ, Bool, true, false, not, ◌||◌, ◌==◌, nat_le, if◌then◌else◌, List, [], ◌∷◌, ◌++◌, length, Option, Some, None, Result, Ok, Err}
+use Rattle.std.specs.Prelude.{ℕ, Bool, true, false, not, ◌||◌, ◌==◌, nat_le, if◌then◌else◌, List, [], ◌∷◌, ◌++◌, length}
+use Rattle.std.specs.Prelude.{Option, Some, None, Result, Ok, Err}
 use Rattle.net_theory.specs.Cover.{is_cube}
 use Rattle.net_theory.specs.Document.{Table}
 use Rattle.net_document.specs.Contents.{is_nothing}

@@ -1,6 +1,7 @@
 -- The grammar of BLIF: the state after the logical lines of a text, or the first fault. Lines are checked in
 -- order, and each line in the order of the tests below. A line without words is skipped.
-use Rattle.std.specs.Prelude.{ℕ, Bool, true, false, not, ◌&&◌, ◌==◌, nat_lt, if◌then◌else◌, List, [], ◌∷◌, ◌++◌, length, map, Option, Some, None, Result, Ok, Err, codes, option_to_list}
+use Rattle.std.specs.Prelude.{ℕ, Bool, true, false, not, ◌&&◌, ◌==◌, nat_lt, if◌then◌else◌, List, [], ◌∷◌, ◌++◌, length}
+use Rattle.std.specs.Prelude.{map, Option, Some, None, Result, Ok, Err, codes, option_to_list}
 use Rattle.std.specs.List.{list_all}
 use Rattle.net_theory.specs.declared.data.Trigger.{Trigger}
 use Rattle.net_theory.specs.Document.{Name, is_name, is_same, has, Table, LatchLine, table_output}
@@ -8,7 +9,8 @@ use Rattle.net_core.specs.declared.error.NetError.{NetError}
 use Rattle.net_core.specs.declared.error.NetError.TheVariants.{Syntax, NotSupported, TooWide, LineTooLong, NameTooLong}
 use Rattle.net_document.specs.Listed.{Listed}
 use Rattle.blif_text.specs.declared.keywords.BlifKeyword.{BlifKeyword}
-use Rattle.blif_text.specs.declared.keywords.BlifKeyword.TheVariants.{Model, Inputs, Outputs, Clock, Names, Latch, End, Unknown}
+use Rattle.blif_text.specs.declared.keywords.BlifKeyword.TheVariants.{Model, Inputs, Outputs, Clock, Names, Latch, End}
+use Rattle.blif_text.specs.declared.keywords.BlifKeyword.TheVariants.{Unknown}
 use Rattle.net_document.specs.Contents.{is_nothing}
 use Rattle.net_document.specs.Limits.{is_long_line}
 use Rattle.blif_text.specs.Logical.{Logical, logical_of}
@@ -93,12 +95,17 @@ last_of w [] = w
 last_of w (v ∷ ws) = last_of v ws
 
 abbrev pub empty_table : List Name → Name → Table
-empty_table inputs output = record { inputs = inputs; output = output; cover = record { width = length inputs; cubes = []; on = true; parity = false } }
+empty_table inputs output = record {
+  inputs = inputs;
+  output = output;
+  cover = record { width = length inputs; cubes = []; on = true; parity = false };
+}
 
 -- `.names INPUTS OUTPUT`
 unfoldable pub table_of : ℕ → List (List ℕ) → Result Table NetError
 table_of line [] = Err (Syntax line)
-table_of line (w ∷ ws) = if nat_lt most_table_inputs (length ws) then Err (TooWide line) else (if are_names (w ∷ ws) then Ok (empty_table (prefix_of w ws) (last_of w ws)) else Err (Syntax line))
+table_of line (w ∷ ws) = if nat_lt most_table_inputs (length ws) then Err (TooWide line)
+    else (if are_names (w ∷ ws) then Ok (empty_table (prefix_of w ws) (last_of w ws)) else Err (Syntax line))
 
 -- adds the names that a table drives and reads
 abbrev pub with_table_names : Said → Table → Said
@@ -114,14 +121,19 @@ control_at line (Some c) = record { line = line; name = c.1 } ∷ []
 
 -- adds the names that a latch drives and reads, and its control
 abbrev pub with_latch_names : ℕ → Said → LatchLine → Said
-with_latch_names line s l = record s { driven = s.driven ++ l.latch.output ∷ []; used = s.used ++ l.input ∷ []; controls = s.controls ++ control_at line l.latch.control }
+with_latch_names line s l = record s {
+  driven = s.driven ++ l.latch.output ∷ [];
+  used = s.used ++ l.input ∷ [];
+  controls = s.controls ++ control_at line l.latch.control;
+}
 
 abbrev pub with_latch : ℕ → Said → LatchLine → Said
 with_latch line s l = record (with_latch_names line s l) { latches = s.latches ++ l ∷ [] }
 
 -- `.inputs NAMES` (these are driven), `.outputs NAMES` and `.clock NAMES`
 abbrev pub with_inputs : ℕ → Said → List (List ℕ) → Result Said NetError
-with_inputs line s ws = if are_names ws then Ok (record s { inputs = s.inputs ++ ws; driven = s.driven ++ ws }) else Err (Syntax line)
+with_inputs line s ws = if are_names ws then Ok (record s { inputs = s.inputs ++ ws; driven = s.driven ++ ws })
+    else Err (Syntax line)
 
 abbrev pub with_outputs : ℕ → Said → List (List ℕ) → Result Said NetError
 with_outputs line s ws = if are_names ws then Ok (record s { outputs = s.outputs ++ ws }) else Err (Syntax line)
@@ -142,7 +154,8 @@ with_end line s ws = if is_nothing ws then Ok (record s { is_ended = true }) els
 
 -- a line that begins with a dot; `first` tells whether it is the first statement
 unfoldable pub directed : ℕ → Said → Bool → List ℕ → List (List ℕ) → BlifKeyword → Result Said NetError
-directed line s first word ws Model = if s.has_model then Err (NotSupported line word) else (if first then with_model line s ws else Err (Syntax line))
+directed line s first word ws Model = if s.has_model then Err (NotSupported line word)
+    else (if first then with_model line s ws else Err (Syntax line))
 directed line s first word ws Inputs = with_inputs line s ws
 directed line s first word ws Outputs = with_outputs line s ws
 directed line s first word ws Clock = with_clocks line s ws
@@ -158,15 +171,19 @@ covered line s (Some t) words = row_of line t words >>= λ u. Ok (record s { cur
 
 -- nothing may follow `.end`; a second model is reported as unsupported
 abbrev pub after_end : ℕ → Said → List ℕ → Result Said NetError
-after_end line s word = if is_same word (codes ".model") && s.has_model then Err (NotSupported line word) else Err (Syntax line)
+after_end line s word = if is_same word (codes ".model") && s.has_model then Err (NotSupported line word)
+    else Err (Syntax line)
 
 abbrev pub stated : ℕ → Said → List (List ℕ) → Result Said NetError
 stated line s [] = Ok s
-stated line s (w ∷ ws) = if s.is_ended then after_end line s w else (if begins_dot w then directed line (closed s) (not s.is_begun) w ws (keyword_of w) else covered line s s.current (w ∷ ws))
+stated line s (w ∷ ws) = if s.is_ended then after_end line s w
+    else (if begins_dot w then directed line (closed s) (not s.is_begun) w ws (keyword_of w)
+    else covered line s s.current (w ∷ ws))
 
 -- a logical line
 unfoldable pub step : Said → Logical → Result Said NetError
-step s l = if is_long_line l.size then Err (LineTooLong l.first) else (if has_long (words_of l.text) then Err (NameTooLong l.first) else stated l.first s (words_of l.text))
+step s l = if is_long_line l.size then Err (LineTooLong l.first)
+    else (if has_long (words_of l.text) then Err (NameTooLong l.first) else stated l.first s (words_of l.text))
 
 unfoldable pub steps : Said → List Logical → Result Said NetError
 steps s [] = Ok (closed s)
@@ -179,7 +196,18 @@ said_of bytes = steps nothing (logical_of 1 bytes)
 -- ---- the document
 
 abbrev pub listed_by : Said → Listed
-listed_by s = record { document = record { model = s.model; inputs = s.inputs; outputs = s.outputs; clocks = s.clocks; latches = s.latches; tables = s.tables }; driven = s.driven; used = s.used }
+listed_by s = record {
+  document = record {
+    model = s.model;
+    inputs = s.inputs;
+    outputs = s.outputs;
+    clocks = s.clocks;
+    latches = s.latches;
+    tables = s.tables;
+  };
+  driven = s.driven;
+  used = s.used;
+}
 
 -- the error for the first control whose name a table drives
 unfoldable pub control_fault : List Name → List Control → Option NetError

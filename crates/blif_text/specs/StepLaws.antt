@@ -358,7 +358,9 @@ stated_fine line s (w ∷ ws) size more is short low h =
 step_fine : (s : Said) (l : Logical) (size : ℕ) → IsSaid s size → Fine (size + length l.text) (step s l)
 unfolding step
 step_fine s l size is =
-    cond_both (nat_lt most_line_bytes l.size) (Err (LineTooLong l.first)) (if has_long (words_of l.text) then Err (NameTooLong l.first) else stated l.first s (words_of l.text)) (Fine (size + length l.text))
+    cond_both (nat_lt most_line_bytes l.size) (Err (LineTooLong l.first))
+    (if has_long (words_of l.text) then Err (NameTooLong l.first) else stated l.first s (words_of l.text))
+    (Fine (size + length l.text))
     (λ e. tt)
     (λ e. cond_both (has_long (words_of l.text)) (Err (NameTooLong l.first)) (stated l.first s (words_of l.text)) (Fine (size + length l.text))
     (λ f. tt)

@@ -11,7 +11,8 @@ word_then (b ∷ bs) ws = (b ∷ bs) ∷ ws
 -- the words of `prefix` ++ `text`; `prefix` has no blank
 unfoldable pub words_from : List ℕ → List ℕ → List (List ℕ)
 words_from prefix [] = word_then prefix []
-words_from prefix (b ∷ bs) = if is_blank b then word_then prefix (words_from [] bs) else words_from (prefix ++ b ∷ []) bs
+words_from prefix (b ∷ bs) = if is_blank b then word_then prefix (words_from [] bs)
+    else words_from (prefix ++ b ∷ []) bs
 
 -- the words of a text: the non-empty runs between blanks
 abbrev pub words_of : List ℕ → List (List ℕ)

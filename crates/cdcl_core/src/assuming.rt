@@ -107,7 +107,8 @@ impl Search {
         ensures visited { IfOk result (λ _. HasWatchInvariant self.new) }
         ensures decided { IfOk result (λ ended. IfNone ended (HasDecided self.old self.new)) }
         ensures under { IfOk result (λ ended. IfNone ended (length self.old.clauses.clauses < end)) }
-        ensures same { IfOk result (λ ended. IfSome ended (λ _. self.new ≡ record self.old { scope = self.new.scope })) }
+        ensures same { IfOk result (λ ended. IfSome ended (λ _. self.new ≡
+            record self.old { scope = self.new.scope })) }
     {
         if has_false_assumption(&self.trail, assumptions) {
             return Ok(Some(AssumptionResult::Unsat));

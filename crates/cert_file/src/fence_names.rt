@@ -121,7 +121,8 @@ pub(crate) fn at_due(
     ensures keeps { IfOk result (λ s. IsStage s (line.now.number + 1)) }
     ensures answer { (ls : List Line) (answer : Answer) →
         answer ≡ judging.sections_of running.header line.now.number
-        (judging.before running.size running.low (drop running.at running.subproblems.items)) (line_of line.now ∷ ls) →
+        (judging.before running.size running.low (drop running.at running.subproblems.items))
+        (line_of line.now ∷ ls) →
         Judged result (line.now.number + 1) ls answer }
     ensures keeps_claim { (ls all : List Line) → header_in all ≡ Some running.header →
         IfOk result (λ s. KeepsClaim s (line.now.number + 1) ls all) }

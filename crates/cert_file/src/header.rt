@@ -43,7 +43,8 @@ pub(crate) fn at_inputs(alloc: Global, line: &TextLine) -> Result<Stage, Certifi
     ensures answer { (ls : List Line) (answer : Answer) →
         answer ≡ judging.with_tables (tables.tables_of (line_of line.now ∷ ls)) →
         Judged result (line.now.number + 1) ls answer }
-    ensures keeps_claim { (ls all : List Line) → header_in all ≡ header_by (tables.tables_of (line_of line.now ∷ ls)) →
+    ensures keeps_claim { (ls all : List Line) →
+        header_in all ≡ header_by (tables.tables_of (line_of line.now ∷ ls)) →
         IfOk result (λ s. KeepsClaim s (line.now.number + 1) ls all) }
 {
     let Some(n) = inputs(line.text, line.ended) else {

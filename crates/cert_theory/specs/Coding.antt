@@ -29,7 +29,10 @@ select_coding = record { subproblems = λ w r. Whole ∷ []; formula = λ w basi
 
 -- one subproblem for each listed fence
 abbrev pub fence_coding : Coding
-fence_coding = record { subproblems = λ w r. subproblems_for w r; formula = λ w basis r subproblem. fence_formula w basis r (fence_in subproblem) }
+fence_coding = record {
+  subproblems = λ w r. subproblems_for w r;
+  formula = λ w basis r subproblem. fence_formula w basis r (fence_in subproblem);
+}
 
 -- only the fence method names its subproblems
 abbrev pub has_fence_names : Method → Bool

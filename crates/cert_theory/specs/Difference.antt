@@ -7,7 +7,8 @@ use Rattle.chain_theory.specs.Agreement.{is_met, output_value}
 -- the first row from `t` on where an output differs, among `rows` rows
 unfoldable pub missed_row : Chain → Specification → ℕ → ℕ → ℕ → Option ℕ
 missed_row c s h t zero = None
-missed_row c s h t (suc rows) = if is_met (s.cell h t) (output_value c h t) then missed_row c s h (t + 1) rows else Some t
+missed_row c s h t (suc rows) = if is_met (s.cell h t) (output_value c h t) then missed_row c s h (t + 1) rows
+    else Some t
 
 abbrev pub or_later : ℕ → Option ℕ → Option (ℕ × ℕ) → Option (ℕ × ℕ)
 or_later h None later = later

@@ -35,7 +35,9 @@ use Rattle.cert_theory.specs.declared.data.Ended.TheVariants as ends
 use Rattle.cert_theory.specs.declared.data.Verdict.{Verdict}
 use Rattle.cert_theory.specs.declared.data.Verdict.TheVariants as verdicts
 use Rattle.cert_theory.specs.declared.data.CertificateError.{CertificateError}
-use Rattle.cert_theory.specs.declared.data.CertificateError.TheVariants.{Syntax, SizeOutOfOrder, StepRefused, NotRefuted, ChainDiffers, OperatorNotInBasis, OpenTooShort, NotNew, WrongVerdict, Memory}
+use Rattle.cert_theory.specs.declared.data.CertificateError.TheVariants.{Syntax, SizeOutOfOrder, StepRefused}
+use Rattle.cert_theory.specs.declared.data.CertificateError.TheVariants.{NotRefuted, ChainDiffers, OperatorNotInBasis}
+use Rattle.cert_theory.specs.declared.data.CertificateError.TheVariants.{OpenTooShort, NotNew, WrongVerdict, Memory}
 use Rattle.cert_theory.specs.declared.data.SubproblemError.{SubproblemError}
 use Rattle.cert_theory.specs.declared.data.SubproblemError.TheVariants as subproblem_errors
 use Rattle.cert_theory.specs.Coding.{has_fence_names}
@@ -91,7 +93,8 @@ abbrev pub from_one : ℕ → Option ℕ
 from_one n = if n == 0 then None else Some n
 
 unfoldable pub conflicts_in : Line → Option ℕ
-conflicts_in l = option_and_then from_one (option_and_then (number_up_to most_conflicts) (value_of (codes "conflicts ") l))
+conflicts_in l = option_and_then from_one (option_and_then (number_up_to most_conflicts)
+    (value_of (codes "conflicts ") l))
 
 unfoldable pub max_in : Line → Option ℕ
 max_in l = option_and_then (number_up_to most_steps) (value_of (codes "max ") l)
@@ -135,7 +138,8 @@ numbered_in one bounded first second l =
 
 -- the verdict on a line that follows a chain
 unfoldable pub found_in : Line → Option Verdict
-found_in l = numbered_in (λ r. verdicts.Minimum r) (λ low r. verdicts.Bounded low r) (codes "minimum ") (codes "bounded ") l
+found_in l = numbered_in (λ r. verdicts.Minimum r) (λ low r. verdicts.Bounded low r) (codes "minimum ")
+    (codes "bounded ") l
 
 -- the verdict on a line, where there is no chain
 unfoldable pub not_found_in : Line → Option Verdict
@@ -206,18 +210,28 @@ is_count (Some r) = nat_le r most_steps
 -- follow a section, which is a size, the first line of a chain, or a verdict. Then the fault is NotRefuted
 -- instead of Syntax.
 unfoldable pub may_follow : Line → Bool
-may_follow l = is_fence_name l || is_some (number_after (codes "size ") l) || is_count (number_after (codes "chain ") l) || is_some (not_found_in l)
+may_follow l = is_fence_name l || is_some (number_after (codes "size ") l) ||
+    is_count (number_after (codes "chain ") l) || is_some (not_found_in l)
 
 -- the state after a line of a log, or after its end
-abbrev pub after_line : ℕ → Option ℕ → Subproblem → List Subproblem → Ended → List theory.Line → Option theory.Line → Progress
+abbrev pub after_line : ℕ → Option ℕ → Subproblem → List Subproblem → Ended → List theory.Line → Option theory.Line →
+    Progress
 after_line size low subproblem later ended log None = before size (low_with low ended size) later
-after_line size low subproblem later ended log (Some line) = record { size = size; low = low; place = Within subproblem later ended (log ++ line ∷ []) }
+after_line size low subproblem later ended log (Some line) =
+    record { size = size; low = low; place = Within subproblem later ended (log ++ line ∷ []) }
 
 -- the state after one more line of a section
 abbrev pub section_at : Header → ℕ → ℕ → Option ℕ → SectionState → Line → Result Progress CertificateError
-section_at h number size low Between l = size_at h number size l >>= λ begun. Ok (before size low (subproblems_of h size))
-section_at h number size low (Due sizes later) l = at_line number (name_in (may_follow l) sizes l) >>= λ is_named. Ok (record { size = size; low = low; place = Begun (Levels sizes) later })
-section_at h number size low (Begun subproblem later) l = or_syntax number (ended_in l) >>= λ ended. Ok (record { size = size; low = low; place = Within subproblem later ended [] })
+section_at h number size low Between l = size_at h number size l >>= λ begun.
+    Ok (before size low (subproblems_of h size))
+section_at h number size low (Due sizes later) l = at_line number (name_in (may_follow l) sizes l) >>= λ is_named.
+    Ok (record { size = size; low = low; place = Begun (Levels sizes) later })
+section_at h number size low (Begun subproblem later) l =
+    or_syntax number (ended_in l) >>= λ ended. Ok (record {
+      size = size;
+      low = low;
+      place = Within subproblem later ended [];
+    })
 section_at h number size low (Within subproblem later ended log) l =
     at_line number (subproblem_in (formula_of h size subproblem) h.conflicts ended log l) >>= λ step.
     Ok (after_line size low subproblem later ended log step)
@@ -286,7 +300,8 @@ or_outside (Some place) next = Err (OperatorNotInBasis place)
 
 -- checks of a chain: first its operators, then its values
 unfoldable pub chain_judged : Header → Chain → Result Unit CertificateError
-chain_judged h c = or_outside (outside_from (members h.basis) (c.n + 1) c.steps) (or_differs (difference_of c (specification h.spec)))
+chain_judged h c = or_outside (outside_from (members h.basis) (c.n + 1) c.steps)
+    (or_differs (difference_of c (specification h.spec)))
 
 -- the rest of the trailer, after a chain block
 unfoldable pub with_block : Header → Frame → Option ℕ → Result block.Read ChainError → Result Verdict CertificateError
@@ -296,11 +311,13 @@ with_block h f low read = do
   after_chain (f.first_line + 1 + f.steps + f.outputs) f.steps low r.rest
 
 abbrev pub chain_at : Header → ℕ → ℕ → Option ℕ → Line → List Line → Result Verdict CertificateError
-chain_at h number size low l ls = steps_at h number size l >>= λ steps. with_block h (frame_of h number steps) low (block.body_from (frame_of h number steps) ls)
+chain_at h number size low l ls = steps_at h number size l >>= λ steps.
+    with_block h (frame_of h number steps) low (block.body_from (frame_of h number steps) ls)
 
 -- With fences, a fence's name after the last subproblem of a section is reported as NotRefuted.
 abbrev pub verdict_at : Bool → ℕ → Line → Result Verdict CertificateError
-verdict_at is_named number l = if is_named && is_fence_name l then Err (NotRefuted number) else or_syntax number (not_found_in l)
+verdict_at is_named number l = if is_named && is_fence_name l then Err (NotRefuted number)
+    else or_syntax number (not_found_in l)
 
 -- the verdict without a chain: all sizes must have a section
 abbrev pub no_chain_at : Header → ℕ → ℕ → Option ℕ → Line → List Line → Result Verdict CertificateError
@@ -310,7 +327,8 @@ no_chain_at h number size low l ls = do
   end_of (number + 1) v ls
 
 abbrev pub trailer_at : Header → ℕ → ℕ → Option ℕ → Line → List Line → Result Verdict CertificateError
-trailer_at h number size low l ls = if begins (codes "chain ") l then chain_at h number size low l ls else no_chain_at h number size low l ls
+trailer_at h number size low l ls = if begins (codes "chain ") l then chain_at h number size low l ls
+    else no_chain_at h number size low l ls
 
 -- ---- the whole
 
@@ -325,15 +343,23 @@ sections_of h number p (l ∷ ls) =
 unfoldable pub after_conflicts : Words → ℕ → Method → ℕ → ℕ → List Line → Result Verdict CertificateError
 after_conflicts w basis method conflicts number [] = Err (Syntax number)
 after_conflicts w basis method conflicts number (l ∷ ls) =
-    or_syntax number (max_in l) >>= λ max. sections_of (record { spec = w; basis = basis; method = method; conflicts = conflicts; max = max }) (number + 1) beginning ls
+    or_syntax number (max_in l) >>= λ max. sections_of (record {
+      spec = w;
+      basis = basis;
+      method = method;
+      conflicts = conflicts;
+      max = max;
+    }) (number + 1) beginning ls
 
 unfoldable pub after_method : Words → ℕ → Method → ℕ → List Line → Result Verdict CertificateError
 after_method w basis method number [] = Err (Syntax number)
-after_method w basis method number (l ∷ ls) = or_syntax number (conflicts_in l) >>= λ conflicts. after_conflicts w basis method conflicts (number + 1) ls
+after_method w basis method number (l ∷ ls) = or_syntax number (conflicts_in l) >>= λ conflicts.
+    after_conflicts w basis method conflicts (number + 1) ls
 
 unfoldable pub after_basis : Words → ℕ → ℕ → List Line → Result Verdict CertificateError
 after_basis w basis number [] = Err (Syntax number)
-after_basis w basis number (l ∷ ls) = or_syntax number (method_in l) >>= λ method. after_method w basis method (number + 1) ls
+after_basis w basis number (l ∷ ls) = or_syntax number (method_in l) >>= λ method.
+    after_method w basis method (number + 1) ls
 
 unfoldable pub after_tables : Words → ℕ → List Line → Result Verdict CertificateError
 after_tables w number [] = Err (Syntax number)

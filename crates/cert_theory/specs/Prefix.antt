@@ -21,4 +21,5 @@ pub record IsBegun (h : Header) (sections : List Section) (written : List ℕ) :
 -- A prefix with a given header: the text of a valid certificate, or a header followed by some whole sections.
 -- Example: of the example in `Spelling`, the first seven lines, the first ten, and all fifteen.
 abbrev pub IsPrefix : Header → List ℕ → Type 0
-IsPrefix h text = ((b : Certificate) × IsCertificateText text b × (b.header ≡ h)) ⊎ ((sections : List Section) × IsBegun h sections text)
+IsPrefix h text = ((b : Certificate) × IsCertificateText text b × (b.header ≡ h)) ⊎
+    ((sections : List Section) × IsBegun h sections text)

@@ -65,7 +65,9 @@ abbrev pub first_text : List ℕ
 first_text = codes "chains 1"
 
 abbrev pub header_lines : Header → List Line
-header_lines h = line first_text ∷ (tables_lines h.spec ++ line (basis_line h.basis) ∷ line (method_line h.method) ∷ line (conflicts_line h.conflicts) ∷ line (max_line h.max) ∷ [])
+header_lines h = line first_text ∷ (tables_lines h.spec ++
+    line (basis_line h.basis) ∷ line (method_line h.method) ∷ line (conflicts_line h.conflicts) ∷ line
+    (max_line h.max) ∷ [])
 
 -- ---- sections
 
@@ -91,7 +93,8 @@ abbrev pub log_line : theory.Line → Line
 log_line l = line (line_body l)
 
 unfoldable pub subproblem_lines : SubproblemLog → List Line
-subproblem_lines p = name_lines p.subproblem ++ (line (ended_text p.ended) ∷ (map log_line p.log ++ line done_text ∷ []))
+subproblem_lines p = name_lines p.subproblem ++ (line (ended_text p.ended) ∷ (map log_line p.log ++
+    line done_text ∷ []))
 
 unfoldable pub section_lines : Section → List Line
 section_lines s = line (size_line s.size) ∷ flat_map subproblem_lines s.subproblems

@@ -1,6 +1,7 @@
 -- The lines of one subproblem: its name, how its log ends, the log, and the line `done`; and the first fault in
 -- them. These definitions don't depend on the subproblem's place in a text, nor on what may follow it.
-use Rattle.std.specs.Prelude.{ℕ, zero, suc, ◌+◌, Bool, true, false, not, ◌&&◌, ◌||◌, nat_le, if◌then◌else◌, List, length, codes, Option, Some, None, Result, Ok, Err, ℤ}
+use Rattle.std.specs.Prelude.{ℕ, zero, suc, ◌+◌, Bool, true, false, not, ◌&&◌, ◌||◌, nat_le, if◌then◌else◌, List}
+use Rattle.std.specs.Prelude.{length, codes, Option, Some, None, Result, Ok, Err, ℤ}
 use Rattle.std.specs.List.{list_all, list_any}
 use Rattle.std.specs.Str.{bytes_eq}
 use Rattle.text_core.specs.Lines.{Line}
@@ -17,7 +18,8 @@ use Rattle.lrat_check.specs.declared.error.CheckError.{CheckError}
 use Rattle.cert_theory.specs.declared.data.Ended.{Ended}
 use Rattle.cert_theory.specs.declared.data.Ended.TheVariants.{Refuted, Open}
 use Rattle.cert_theory.specs.declared.data.SubproblemError.{SubproblemError}
-use Rattle.cert_theory.specs.declared.data.SubproblemError.TheVariants.{Syntax, StepRefused, NotNew, NotRefuted, TooShort, EmptyClauseDerived}
+use Rattle.cert_theory.specs.declared.data.SubproblemError.TheVariants.{Syntax, StepRefused, NotNew, NotRefuted}
+use Rattle.cert_theory.specs.declared.data.SubproblemError.TheVariants.{TooShort, EmptyClauseDerived}
 use Rattle.cert_theory.specs.Spelling.{fence_text, done_text}
 use Rattle.cert_theory.specs.Gives.{◌>>=◌}
 
@@ -29,12 +31,14 @@ is_line text l = l.ended && bytes_eq l.text text
 
 -- The name that is due; `follows` says whether the line could be right if the subproblem were absent.
 unfoldable pub name_in : Bool → List ℕ → Line → Result Unit SubproblemError
-name_in follows sizes l = if is_line (fence_text sizes) l then Ok tt else (if follows then Err NotRefuted else Err Syntax)
+name_in follows sizes l = if is_line (fence_text sizes) l then Ok tt
+    else (if follows then Err NotRefuted else Err Syntax)
 
 -- ---- how the log ends, by its first line
 
 unfoldable pub ended_in : Line → Option Ended
-ended_in l = if is_line (codes "refuted") l then Some Refuted else (if is_line (codes "open") l then Some Open else None)
+ended_in l = if is_line (codes "refuted") l then Some Refuted
+    else (if is_line (codes "open") l then Some Open else None)
 
 -- ---- subsumption
 
@@ -99,7 +103,8 @@ unfoldable pub done_in : Formula → ℕ → Ended → List theory.Line → Resu
 done_in f conflicts ended log = closed (has_empty f log) (nat_le conflicts (length (logs.added_ids log))) ended
 
 -- One more line: a line of the log, or None where it is the log's end.
-unfoldable pub subproblem_in : Formula → ℕ → Ended → List theory.Line → Line → Result (Option theory.Line) SubproblemError
+unfoldable pub subproblem_in : Formula → ℕ → Ended → List theory.Line → Line →
+    Result (Option theory.Line) SubproblemError
 subproblem_in f conflicts ended log l =
     if is_line done_text l
     then (done_in f conflicts ended log >>= λ done. Ok None)

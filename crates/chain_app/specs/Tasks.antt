@@ -1,6 +1,7 @@
 -- The task of each command.
 use Rattle.command_line.specs.declared.command.Command.{Command}
-use Rattle.command_line.specs.declared.command.Command.TheVariants.{Agree, Recheck, RecheckDepth, Synth, LeastDepth, Improve, Equiv, Gen}
+use Rattle.command_line.specs.declared.command.Command.TheVariants.{Agree, Recheck, RecheckDepth, Synth, LeastDepth}
+use Rattle.command_line.specs.declared.command.Command.TheVariants.{Improve, Equiv, Gen}
 use Rattle.frame_core.specs.Task.{Task}
 use Rattle.cmd_agree.specs.AgreeReport.{agree_task}
 use Rattle.cmd_recheck.specs.RecheckReport.{recheck_task}

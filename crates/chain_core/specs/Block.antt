@@ -9,7 +9,8 @@
 -- The first line names the number of steps. Then comes a line for each step: its own place, the places
 -- of its operands, and its operator's word. Then comes a line for each output. Numbers are decimal,
 -- without a sign and without a leading 0.
-use Rattle.std.specs.Prelude.{ℕ, ◌+◌, Bool, true, false, ◌&&◌, ◌==◌, nat_lt, nat_le, if◌then◌else◌, List, [], ◌∷◌, ◌++◌, length, Option, Some, None, Result, Ok, Err, codes, option_and_then}
+use Rattle.std.specs.Prelude.{ℕ, ◌+◌, Bool, true, false, ◌&&◌, ◌==◌, nat_lt, nat_le, if◌then◌else◌, List, [], ◌∷◌, ◌++◌}
+use Rattle.std.specs.Prelude.{length, Option, Some, None, Result, Ok, Err, codes, option_and_then}
 use Rattle.std.specs.Option.{option_map}
 use Rattle.text_core.specs.Lines.{Line}
 use Rattle.text_core.specs.Items.{items_of}
@@ -20,7 +21,8 @@ use Rattle.chain_theory.specs.declared.data.Out.TheVariants as outs
 use Rattle.chain_theory.specs.Chain.{Step, Chain}
 use Rattle.op_basis.specs.Word.{operator_in}
 use Rattle.chain_core.specs.declared.error.ChainError.{ChainError}
-use Rattle.chain_core.specs.declared.error.ChainError.TheVariants.{BadStep, ForwardPlace, BadOut, TooManySteps, BadCount}
+use Rattle.chain_core.specs.declared.error.ChainError.TheVariants.{BadStep, ForwardPlace, BadOut, TooManySteps}
+use Rattle.chain_core.specs.declared.error.ChainError.TheVariants.{BadCount}
 use Rattle.chain_core.specs.declared.frame.Frame.{Frame}
 use Rattle.text_core.specs.Limits.{most_number}
 use Rattle.chain_theory.specs.Limits.{most_steps}
@@ -49,7 +51,8 @@ counted number (Some r) = if nat_lt most_steps r then Err (TooManySteps number) 
 
 -- the number of steps
 unfoldable pub count_at : ℕ → Line → Result ℕ ChainError
-count_at number l = if l.ended then counted number (option_and_then number_in (after (codes "chain ") l.text)) else Err (BadCount number)
+count_at number l = if l.ended then counted number (option_and_then number_in (after (codes "chain ") l.text))
+    else Err (BadCount number)
 
 -- ---- steps
 
@@ -71,12 +74,15 @@ judged_step place number (Some x) = if x.0 == place && nat_lt 0 x.1.j &&
 
 -- the result for the line of the step after `done` other steps
 unfoldable pub step_at : Frame → ℕ → Line → Result Step ChainError
-step_at f done l = if l.ended then judged_step (f.n + 1 + done) (f.first_line + 1 + done) (step_in (items_of l.text)) else Err (BadStep (f.first_line + 1 + done))
+step_at f done l = if l.ended then judged_step (f.n + 1 + done) (f.first_line + 1 + done) (step_in (items_of l.text))
+    else Err (BadStep (f.first_line + 1 + done))
 
 -- the steps that were read so far followed by those of the next lines, and the lines after them
 unfoldable pub steps_from : Frame → List Step → List Line → Result (List Step × List Line) ChainError
-steps_from f steps [] = if length steps == f.steps then Ok (steps, []) else Err (BadStep (f.first_line + 1 + length steps))
-steps_from f steps (l ∷ ls) = if length steps == f.steps then Ok (steps, l ∷ ls) else (step_at f (length steps) l >>= λ s. steps_from f (steps ++ s ∷ []) ls)
+steps_from f steps [] = if length steps == f.steps then Ok (steps, [])
+    else Err (BadStep (f.first_line + 1 + length steps))
+steps_from f steps (l ∷ ls) = if length steps == f.steps then Ok (steps, l ∷ ls)
+    else (step_at f (length steps) l >>= λ s. steps_from f (steps ++ s ∷ []) ls)
 
 -- ---- outs
 
@@ -87,7 +93,8 @@ is_byte byte other = false
 
 -- the out that an item names: 0, 1 or a place
 unfoldable pub named_in : List ℕ → Option Out
-named_in item = if is_byte 48 item then Some outs.Zero else (if is_byte 49 item then Some outs.One else option_map (λ p. outs.Place p) (place_in item))
+named_in item = if is_byte 48 item then Some outs.Zero
+    else (if is_byte 49 item then Some outs.One else option_map (λ p. outs.Place p) (place_in item))
 
 -- the out of an output's line
 unfoldable pub out_in : List ℕ → Option Out
@@ -105,12 +112,15 @@ judged_out last number (Some o) = if is_named last o then Ok o else Err (BadOut 
 
 -- the result for the line of the output after `done` other outputs
 unfoldable pub out_at : Frame → ℕ → Line → Result Out ChainError
-out_at f done l = if l.ended then judged_out (f.n + f.steps) (f.first_line + 1 + f.steps + done) (out_in l.text) else Err (BadOut (f.first_line + 1 + f.steps + done))
+out_at f done l = if l.ended then judged_out (f.n + f.steps) (f.first_line + 1 + f.steps + done) (out_in l.text)
+    else Err (BadOut (f.first_line + 1 + f.steps + done))
 
 -- the outs that were read so far followed by those of the next lines, and the lines after them
 unfoldable pub outs_from : Frame → List Out → List Line → Result (List Out × List Line) ChainError
-outs_from f os [] = if length os == f.outputs then Ok (os, []) else Err (BadOut (f.first_line + 1 + f.steps + length os))
-outs_from f os (l ∷ ls) = if length os == f.outputs then Ok (os, l ∷ ls) else (out_at f (length os) l >>= λ o. outs_from f (os ++ o ∷ []) ls)
+outs_from f os [] = if length os == f.outputs then Ok (os, [])
+    else Err (BadOut (f.first_line + 1 + f.steps + length os))
+outs_from f os (l ∷ ls) = if length os == f.outputs then Ok (os, l ∷ ls)
+    else (out_at f (length os) l >>= λ o. outs_from f (os ++ o ∷ []) ls)
 
 -- ---- the block
 

@@ -1,5 +1,6 @@
 -- The first step of a chain whose operator is outside a basis.
-use Rattle.std.specs.Prelude.{◌≡◌, ℕ, ◌+◌, true, false, if◌then◌else◌, List, [], ◌∷◌, ◌++◌, length, Option, Some, None, All}
+use Rattle.std.specs.Prelude.{◌≡◌, ℕ, ◌+◌, true, false, if◌then◌else◌, List, [], ◌∷◌, ◌++◌, length, Option, Some, None}
+use Rattle.std.specs.Prelude.{All}
 use Rattle.chain_theory.specs.Operator.{Basis}
 use Rattle.chain_theory.specs.Chain.{Step, Chain}
 use Rattle.chain_theory.specs.Agreement.{IsOver}

@@ -1,5 +1,6 @@
 -- How a raw clause is simplified, and what adding clauses does to a formula.
-use Rattle.std.specs.Prelude.{◌≡◌, ℕ, ◌≤◌, ℤ, Bool, true, false, not, List, [], ◌∷◌, ◌++◌, Option, Some, None, if◌then◌else◌}
+use Rattle.std.specs.Prelude.{◌≡◌, ℕ, ◌≤◌, ℤ, Bool, true, false, not, List, [], ◌∷◌, ◌++◌, Option, Some, None}
+use Rattle.std.specs.Prelude.{if◌then◌else◌}
 use Rattle.std.specs.List.{list_any}
 use Rattle.std.specs.Ordering.{int_eq}
 use Rattle.sat_theory.specs.Formula.{Formula, Assignment, Satisfies, signed}
@@ -18,7 +19,8 @@ simplified lits [] = Some lits
 simplified lits (Fixed true ∷ raws) = None
 simplified lits (Fixed false ∷ raws) = simplified lits raws
 simplified lits (Var v bit ∷ raws) =
-    if has lits (signed v (not bit)) then None else (if has lits (signed v bit) then simplified lits raws else simplified (lits ++ signed v bit ∷ []) raws)
+    if has lits (signed v (not bit)) then None else (if has lits (signed v bit) then simplified lits raws
+    else simplified (lits ++ signed v bit ∷ []) raws)
 
 -- a clause as a list of one clause, a tautology as the empty list
 abbrev pub listed : Option (List ℤ) → List (List ℤ)

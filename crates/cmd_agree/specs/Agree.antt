@@ -43,7 +43,8 @@ nothing_in number (l ∷ ls) = Err (BadEnd number)
 -- the line `end`, with nothing after it
 unfoldable pub end_in : ℕ → List Line → Result Unit AgreeError
 end_in number [] = Err (BadEnd number)
-end_in number (l ∷ ls) = if l.ended && bytes_eq l.text (codes "end") then nothing_in (number + 1) ls else Err (BadEnd number)
+end_in number (l ∷ ls) = if l.ended && bytes_eq l.text (codes "end") then nothing_in (number + 1) ls
+    else Err (BadEnd number)
 
 -- the chain block after the tables, followed by the line `end`
 unfoldable pub chain_following : tables.Read → Result Chain AgreeError

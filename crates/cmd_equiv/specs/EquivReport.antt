@@ -3,7 +3,8 @@ use Rattle.std.specs.Prelude.{ℕ, ◌≤◌, List, ◌∷◌, length, None, cod
 use Rattle.equiv_run.specs.declared.answer.EquivOutcome.{EquivOutcome}
 use Rattle.equiv_run.specs.declared.answer.EquivOutcome.TheVariants as standings
 use Rattle.equiv_run.specs.declared.answer.CompareError.{CompareError}
-use Rattle.equiv_run.specs.declared.answer.CompareError.TheVariants.{NoSecond, First, Second, DifferentInterface, Memory}
+use Rattle.equiv_run.specs.declared.answer.CompareError.TheVariants.{NoSecond, First, Second, DifferentInterface}
+use Rattle.equiv_run.specs.declared.answer.CompareError.TheVariants.{Memory}
 use Rattle.equiv_run.specs.Pairs.{IsAnswer, HasPairFault}
 use Rattle.net_theory.specs.Limits.{most_of_two}
 use Rattle.frame_core.specs.declared.status.Status.{Status}
@@ -57,4 +58,5 @@ pub record HasComparedFault (bytes : List ℕ) (error : CompareError) : Type 0 w
   pub fault : HasPairFault bytes error
 
 abbrev pub equiv_task : ℕ → Task
-equiv_task budget = at_once most_of_two Comparison (IsComparison budget) equiv_reply CompareError HasComparedFault equiv_refusal
+equiv_task budget = at_once most_of_two Comparison (IsComparison budget) equiv_reply CompareError HasComparedFault
+    equiv_refusal

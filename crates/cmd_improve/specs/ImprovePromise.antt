@@ -34,8 +34,10 @@ pub record ImprovePromise (r : Run) : Type 0 where
       → Runs (Improve format settings) r input
       → r.status ≡ Done
       → Replies (improve_task format settings) r input
-  pub decided : (format : FormatAsked) (settings : ImproveSettings) → AsksFor r.words (Improve format settings) → r.status ≡ Undecided → ⊥
-  pub never_refused : (format : FormatAsked) (settings : ImproveSettings) → AsksFor r.words (Improve format settings) → r.status ≡ Refused → ⊥
+  pub decided : (format : FormatAsked) (settings : ImproveSettings) → AsksFor r.words (Improve format settings) →
+      r.status ≡ Undecided → ⊥
+  pub never_refused : (format : FormatAsked) (settings : ImproveSettings) → AsksFor r.words (Improve format settings) →
+      r.status ≡ Refused → ⊥
   -- For any other input its first fault is reported.
   pub refused : (format : FormatAsked) (settings : ImproveSettings) (input : List ℕ) (error : NetError)
       → Runs (Improve format settings) r input

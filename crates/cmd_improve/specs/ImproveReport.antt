@@ -37,7 +37,8 @@ improve_refusal error = record { status = net_status error; named = named_net er
 -- The bytes are a netlist, and the text is an equivalent netlist with no more gates, within the settings. The
 -- report has the cost of both, the windows that are undecided, each with a certificate, and whether all other
 -- windows are settled (no window can be improved any more).
-pub record IsImprovement (format : FormatAsked) (settings : ImproveSettings) (bytes : List ℕ) (i : Improvement) : Type 0 where
+pub record IsImprovement (format : FormatAsked) (settings : ImproveSettings) (bytes : List ℕ)
+    (i : Improvement) : Type 0 where
   pub within : length bytes ≤ most_of_netlist
   pub reported : IsReported (format_of format) settings bytes i.text i.report
 
@@ -47,4 +48,5 @@ pub record HasNetlistFault (format : FormatAsked) (bytes : List ℕ) (error : Ne
   pub fault : HasNetFault (format_of format) bytes error
 
 abbrev pub improve_task : FormatAsked → ImproveSettings → Task
-improve_task format settings = at_once most_of_netlist Improvement (IsImprovement format settings) improve_reply NetError (HasNetlistFault format) improve_refusal
+improve_task format settings = at_once most_of_netlist Improvement
+    (IsImprovement format settings) improve_reply NetError (HasNetlistFault format) improve_refusal

@@ -35,4 +35,5 @@ pub record ReportsLevels (r : Run) (input : List ℕ) : Type 0 where
 
 -- The promise for certificates of the fewest levels.
 abbrev pub RecheckDepthPromise : Run → Type 0
-RecheckDepthPromise r = Rechecks RecheckDepth depth_task IsDepthText (λ (b : DepthCertificate). b.verdict) ReportsLevels r
+RecheckDepthPromise r = Rechecks RecheckDepth depth_task IsDepthText
+    (λ (b : DepthCertificate). b.verdict) ReportsLevels r

@@ -75,4 +75,5 @@ pub record HasCertificateFault (bytes : List ℕ) (error : CertificateError) : T
   pub fault : certificate_of (lines_of bytes) ≡ Err error
 
 abbrev pub recheck_task : Task
-recheck_task = at_once most_of_certificate Verdict GivesVerdict recheck_reply CertificateError HasCertificateFault recheck_refusal
+recheck_task = at_once most_of_certificate Verdict GivesVerdict recheck_reply CertificateError HasCertificateFault
+    recheck_refusal

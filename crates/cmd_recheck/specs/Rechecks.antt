@@ -11,7 +11,8 @@ use Rattle.depth_theory.specs.Verdicts.{most_of_certificate}
 
 -- `command` has the task `task`. `Spells` says which bytes are the text of a valid certificate, `verdict` is its
 -- verdict, and the predicate on runs says what the reported verdict means.
-pub record Rechecks {Cert : Type 0} (command : Command) (task : Task) (Spells : List ℕ → Cert → Type 0) (verdict : Cert → task.Answer) (HasReply : Run → List ℕ → Type 0) (r : Run) : Type 0 where
+pub record Rechecks {Cert : Type 0} (command : Command) (task : Task) (Spells : List ℕ → Cert →
+    Type 0) (verdict : Cert → task.Answer) (HasReply : Run → List ℕ → Type 0) (r : Run) : Type 0 where
   -- A valid certificate gets an answer.
   pub complete : (input : List ℕ) (b : Cert)
       → Runs command r input

@@ -67,4 +67,5 @@ pub record IsCertified (settings : SynthSettings) (bytes : List ℕ) (c : Certif
   pub rechecked : length c.text ≤ most_of_certificate → IsAcceptedSo c.text c.found
 
 abbrev pub least_depth_task : SynthSettings → Task
-least_depth_task settings = at_once most_of_tables Certified (IsCertified settings) least_depth_reply SpecError HasTablesFault synth_refusal
+least_depth_task settings = at_once most_of_tables Certified
+    (IsCertified settings) least_depth_reply SpecError HasTablesFault synth_refusal

@@ -76,4 +76,5 @@ pub record BeginsCertificate (settings : SynthSettings) (bytes text : List ℕ) 
 
 -- Its text is written section by section.
 abbrev pub synth_task : SynthSettings → Task
-synth_task settings = in_pieces (Some most_of_tables) Certified (IsCertified settings) synth_reply SpecError HasTablesFault synth_refusal (BeginsCertificate settings)
+synth_task settings = in_pieces (Some most_of_tables) Certified
+    (IsCertified settings) synth_reply SpecError HasTablesFault synth_refusal (BeginsCertificate settings)

@@ -1,5 +1,6 @@
 -- The command lines that the program accepts.
-use Rattle.std.specs.Prelude.{◌≡◌, ℕ, ◌≤◌, List, [], ◌∷◌, map, Bool, true, false, not, ◌&&◌, Option, Some, None, is_some, Result, Ok, Err, Vec, String, if◌then◌else◌}
+use Rattle.std.specs.Prelude.{◌≡◌, ℕ, ◌≤◌, List, [], ◌∷◌, map, Bool, true, false, not, ◌&&◌, Option, Some, None}
+use Rattle.std.specs.Prelude.{is_some, Result, Ok, Err, Vec, String, if◌then◌else◌}
 use Rattle.std.specs.Global.{Global}
 use Rattle.std.specs.String.{string_bytes}
 use Rattle.settings.specs.declared.methods.Method.{Method}
@@ -57,12 +58,14 @@ value row words = value_in row (word_after row.name words)
 -- ---- commands
 
 abbrev pub asked_from : Option ℕ → Option Method → Option ℕ → Option ℕ → Option SynthSettings
-asked_from (Some basis) (Some method) (Some max) (Some conflicts) = Some (record { basis = basis; method = method; max = max; conflicts = conflicts })
+asked_from (Some basis) (Some method) (Some max) (Some conflicts) =
+    Some (record { basis = basis; method = method; max = max; conflicts = conflicts })
 asked_from basis method max conflicts = None
 
 -- the settings of `synth`
 abbrev pub asked_in : List (List ℕ) → Option SynthSettings
-asked_in words = asked_from (value basis_row words) (value method_row words) (value max_row words) (value conflicts_row words)
+asked_in words = asked_from (value basis_row words) (value method_row words) (value max_row words)
+    (value conflicts_row words)
 
 -- the method of the search for the fewest levels is always `fence`
 abbrev pub least_depth_by : Method → SynthSettings → Option Command
@@ -85,9 +88,18 @@ recheck_from None = None
 abbrev pub recheck_in : List (List ℕ) → Option Command
 recheck_in words = recheck_from (value depth_row words)
 
-abbrev pub settings_from : Option ℕ → Option Method → Option ℕ → Option ℕ → Option ℕ → Option Bool → Option ℕ → Option ImproveSettings
+abbrev pub settings_from : Option ℕ → Option Method → Option ℕ → Option ℕ → Option ℕ → Option Bool → Option ℕ →
+    Option ImproveSettings
 settings_from (Some basis) (Some method) (Some cap) (Some rounds) (Some conflicts) (Some observe) (Some effort) =
-    Some (record { basis = basis; method = method; cap = cap; rounds = rounds; conflicts = conflicts; observe = observe; effort = effort })
+    Some (record {
+      basis = basis;
+      method = method;
+      cap = cap;
+      rounds = rounds;
+      conflicts = conflicts;
+      observe = observe;
+      effort = effort;
+    })
 settings_from basis method cap rounds conflicts observe effort = None
 
 -- the settings of `improve` for a format

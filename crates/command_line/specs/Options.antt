@@ -1,5 +1,6 @@
 -- The table of options: the name of each, how its value is read, its default, and which commands take it.
-use Rattle.std.specs.Prelude.{ℕ, List, [], ◌∷◌, codes, nat_eq, nat_lt, ◌==◌, bit_and, Bool, true, false, Option, Some, None, Result, Ok, Err, if◌then◌else◌}
+use Rattle.std.specs.Prelude.{ℕ, List, [], ◌∷◌, codes, nat_eq, nat_lt, ◌==◌, bit_and, Bool, true, false, Option, Some}
+use Rattle.std.specs.Prelude.{None, Result, Ok, Err, if◌then◌else◌}
 use Rattle.std.specs.List.{list_any}
 use Rattle.std.specs.Cmp.Lexicographic.{pointwise}
 use Rattle.text_core.specs.Numbers.{number_up_to}
@@ -61,14 +62,17 @@ if_of_gates None = None
 if_of_gates (Some basis) = if is_within basis bench_set then Some basis else None
 
 abbrev pub format_in : List ℕ → Option Format
-format_in word = if is_word word (codes "blif") then Some Blif else (if is_word word (codes "bench") then Some Bench else None)
+format_in word = if is_word word (codes "blif") then Some Blif
+    else (if is_word word (codes "bench") then Some Bench else None)
 
 abbrev pub deed_in : List ℕ → Option GenAction
-deed_in word = if is_word word (codes "write") then Some deeds.Write else (if is_word word (codes "improve") then Some deeds.Improve else None)
+deed_in word = if is_word word (codes "write") then Some deeds.Write
+    else (if is_word word (codes "improve") then Some deeds.Improve else None)
 
 -- `yes` or `no`
 abbrev pub flag_in : List ℕ → Option Bool
-flag_in word = if is_word word (codes "yes") then Some true else (if is_word word (codes "no") then Some false else None)
+flag_in word = if is_word word (codes "yes") then Some true
+    else (if is_word word (codes "no") then Some false else None)
 
 -- a flag, with the default `no`
 abbrev pub flag_row : List ℕ → OptionRow Bool
@@ -159,6 +163,7 @@ abbrev pub options_of : OptionKind → List (List ℕ)
 options_of Agree = []
 options_of Recheck = depth_row.name ∷ []
 options_of Synth = basis_row.name ∷ method_row.name ∷ max_row.name ∷ conflicts_row.name ∷ least_depth_row.name ∷ []
-options_of Improve = basis_row.name ∷ method_row.name ∷ cap_row.name ∷ rounds_row.name ∷ conflicts_row.name ∷ format_row.name ∷ observe_row.name ∷ effort_row.name ∷ []
+options_of Improve = basis_row.name ∷ method_row.name ∷ cap_row.name ∷ rounds_row.name ∷ conflicts_row.name ∷
+    format_row.name ∷ observe_row.name ∷ effort_row.name ∷ []
 options_of Equiv = conflicts_row.name ∷ []
 options_of Gen = blocks_row.name ∷ run_row.name ∷ []

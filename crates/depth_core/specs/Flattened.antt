@@ -31,7 +31,8 @@ is_flatter d p = nat_lt (subproblem_levels p.subproblem) d
 -- with its bounds on live additions
 abbrev pub IsTriedLow : Header → ℕ → Subproblem → SubproblemOutcome → Type 0
 IsTriedLow h size subproblem (subproblems.Found c) = IsFound h size c × HasLevels (subproblem_levels subproblem) c
-IsTriedLow h size subproblem (subproblems.Logged p) = (p.subproblem ≡ subproblem) × IsSubproblemLog h size p × HasLiveBounds h size p
+IsTriedLow h size subproblem (subproblems.Logged p) =
+    (p.subproblem ≡ subproblem) × IsSubproblemLog h size p × HasLiveBounds h size p
 
 -- the logs of fences, in their order, with their bounds on live additions
 abbrev pub AreLogs : Header → ℕ → List (List ℕ) → List SubproblemLog → Type 0

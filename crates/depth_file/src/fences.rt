@@ -25,7 +25,8 @@ fn push_level(
     fences: &[Fence],
     levels: usize,
 ) -> Result<(), AllocError>
-    ensures { OnOk result (subproblems.new.items ≡ subproblems.old.items ++ map Levels (of_levels fences.now levels)) }
+    ensures { OnOk result (subproblems.new.items ≡ subproblems.old.items ++
+        map Levels (of_levels fences.now levels)) }
 {
     let mut left = fences;
     while let Some((fence, rest)) = left.split_first() {

@@ -8,7 +8,8 @@ use Rattle.enc_theory.specs.declared.subproblem.Subproblem.{Subproblem}
 use Rattle.enc_theory.specs.declared.subproblem.Subproblem.TheVariants.{Whole, Levels}
 use Rattle.settings.specs.declared.methods.Method.TheVariants.{Fence}
 use Rattle.cert_theory.specs.declared.data.Verdict.TheVariants.{Minimum}
-use Rattle.cert_theory.specs.Certificate.{SubproblemLog, Certificate, IsSubproblemLog, subproblem_of, is_open_end, IsValid}
+use Rattle.cert_theory.specs.Certificate.{SubproblemLog, Certificate, IsSubproblemLog, subproblem_of, is_open_end}
+use Rattle.cert_theory.specs.Certificate.{IsValid}
 use Rattle.depth_theory.specs.declared.data.DepthVerdict.{DepthVerdict}
 use Rattle.depth_theory.specs.declared.data.DepthVerdict.TheVariants as verdicts
 use Rattle.depth_theory.specs.Flatter.{flatter}
@@ -43,6 +44,7 @@ pub record IsDepth (b : DepthCertificate) : Type 0 where
   pub chain : Chain
   pub chain_is : b.certificate.chain ≡ Some chain
   pub least : b.certificate.verdict ≡ Minimum (length chain.steps)
-  pub subproblems_are : map subproblem_of b.subproblems ≡ map Levels (flatter b.certificate.header.spec (length chain.steps) (depth chain))
+  pub subproblems_are : map subproblem_of b.subproblems ≡
+      map Levels (flatter b.certificate.header.spec (length chain.steps) (depth chain))
   pub logs : All (IsSubproblemLog b.certificate.header (length chain.steps)) b.subproblems
   pub verdict_is : b.verdict ≡ levels_found (open_levels b.subproblems) (depth chain)

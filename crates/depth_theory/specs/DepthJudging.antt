@@ -1,7 +1,8 @@
 -- Lines judged as a depth certificate, and the first fault if they aren't one. Lines are judged from the top; the
 -- lines of one log are judged as in certificates. Each function is given the number of its first line in the whole
 -- text.
-use Rattle.std.specs.Prelude.{◌≡◌, ℕ, ◌+◌, Bool, false, ◌&&◌, ◌||◌, ◌==◌, if◌then◌else◌, List, [], ◌∷◌, ◌++◌, length, codes, Option, Some, None, is_some, Result, Ok, Err}
+use Rattle.std.specs.Prelude.{◌≡◌, ℕ, ◌+◌, Bool, false, ◌&&◌, ◌||◌, ◌==◌, if◌then◌else◌, List, [], ◌∷◌, ◌++◌, length}
+use Rattle.std.specs.Prelude.{codes, Option, Some, None, is_some, Result, Ok, Err}
 use Rattle.chain_theory.specs.Chain.{Chain}
 use Rattle.chain_theory.specs.Levels.{depth}
 use Rattle.text_core.specs.Lines.{Line}
@@ -24,7 +25,9 @@ use Rattle.cert_theory.specs.Judging.{number_after, numbered_in, is_fence_name, 
 use Rattle.depth_theory.specs.declared.data.DepthVerdict.{DepthVerdict}
 use Rattle.depth_theory.specs.declared.data.DepthVerdict.TheVariants as verdicts
 use Rattle.depth_theory.specs.declared.data.DepthError.{DepthError}
-use Rattle.depth_theory.specs.declared.data.DepthError.TheVariants.{Certificate as InCertificate, NotLeastForm, Syntax, WrongDepth, StepRefused, NotNew, NotRefuted, OpenTooShort, WrongLevels, Memory}
+use Rattle.depth_theory.specs.declared.data.DepthError.TheVariants.{Certificate as InCertificate, NotLeastForm, Syntax}
+use Rattle.depth_theory.specs.declared.data.DepthError.TheVariants.{WrongDepth, StepRefused, NotNew, NotRefuted}
+use Rattle.depth_theory.specs.declared.data.DepthError.TheVariants.{OpenTooShort, WrongLevels, Memory}
 use Rattle.depth_theory.specs.Flatter.{flatter}
 use Rattle.depth_theory.specs.DepthCertificate.{levels_found}
 
@@ -56,7 +59,8 @@ at_line number read = with_fault (fault_at number) read
 
 -- the verdict that a line states
 unfoldable pub levels_in : Line → Option DepthVerdict
-levels_in l = numbered_in (λ d. verdicts.Levels d) (λ low d. verdicts.Bounded low d) (codes "levels ") (codes "levels-bounded ") l
+levels_in l = numbered_in (λ d. verdicts.Levels d) (λ low d. verdicts.Bounded low d) (codes "levels ")
+    (codes "levels-bounded ") l
 
 abbrev pub is_same : DepthVerdict → DepthVerdict → Bool
 is_same (verdicts.Levels d) (verdicts.Levels e) = d == e
@@ -80,7 +84,8 @@ end_of number v (l ∷ ls) = if is_line end_text l then nothing_after (number + 
 
 -- the verdict, where no fence is left; the name of a fence there is a fault of its own
 unfoldable pub verdict_at : ℕ → DepthVerdict → Line → Answer
-verdict_at number due l = if is_fence_name l then Err (NotRefuted number) else (or_syntax number (levels_in l) >>= follows number due)
+verdict_at number due l = if is_fence_name l then Err (NotRefuted number)
+    else (or_syntax number (levels_in l) >>= follows number due)
 
 -- ---- logs
 
@@ -103,17 +108,23 @@ pub record Progress : Type 0 where
 -- what is due after a line of a log, or after its end
 abbrev pub after_line : Option ℕ → List ℕ → List (List ℕ) → Ended → List theory.Line → Option theory.Line → Progress
 after_line low fence later ended log None = record { low = low_with low ended (length fence); place = Due later }
-after_line low fence later ended log (Some line) = record { low = low; place = Within fence later ended (log ++ line ∷ []) }
+after_line low fence later ended log (Some line) =
+    record { low = low; place = Within fence later ended (log ++ line ∷ []) }
 
 -- The lines after that of the depth, from the point given, for a chain of `size` steps and `d` levels.
 unfoldable pub flat_from : Header → ℕ → ℕ → ℕ → Option ℕ → Place → List Line → Answer
 flat_from h size d number low place [] = Err (Syntax number)
-flat_from h size d number low (Due []) (l ∷ ls) = verdict_at number (levels_found low d) l >>= λ v. end_of (number + 1) v ls
-flat_from h size d number low (Due (fence ∷ later)) (l ∷ ls) = at_line number (name_in (may_follow l) fence l) >>= λ is_named. flat_from h size d (number + 1) low (Begun fence later) ls
-flat_from h size d number low (Begun fence later) (l ∷ ls) = or_syntax number (ended_in l) >>= λ ended. flat_from h size d (number + 1) low (Within fence later ended []) ls
+flat_from h size d number low (Due []) (l ∷ ls) =
+    verdict_at number (levels_found low d) l >>= λ v. end_of (number + 1) v ls
+flat_from h size d number low (Due (fence ∷ later)) (l ∷ ls) =
+    at_line number (name_in (may_follow l) fence l) >>= λ is_named.
+    flat_from h size d (number + 1) low (Begun fence later) ls
+flat_from h size d number low (Begun fence later) (l ∷ ls) =
+    or_syntax number (ended_in l) >>= λ ended. flat_from h size d (number + 1) low (Within fence later ended []) ls
 flat_from h size d number low (Within fence later ended log) (l ∷ ls) =
     at_line number (subproblem_in (formula_of h size (Levels fence)) h.conflicts ended log l) >>= λ step.
-    flat_from h size d (number + 1) (after_line low fence later ended log step).low (after_line low fence later ended log step).place ls
+    flat_from h size d (number + 1) (after_line low fence later ended log step).low
+    (after_line low fence later ended log step).place ls
 
 -- ---- the whole
 
@@ -126,7 +137,8 @@ depth_at number d l = do
 -- the lines after the certificate at the head, whose chain has `size` steps and `d` levels
 unfoldable pub after_chain : Header → ℕ → ℕ → ℕ → List Line → Answer
 after_chain h size d number [] = Err (Syntax number)
-after_chain h size d number (l ∷ ls) = depth_at number d l >>= λ stated. flat_from h size d (number + 1) None (Due (flatter h.spec size d)) ls
+after_chain h size d number (l ∷ ls) = depth_at number d l >>= λ stated.
+    flat_from h size d (number + 1) None (Due (flatter h.spec size d)) ls
 
 -- the chain of a certificate by fences whose verdict is a minimum
 abbrev pub least_of : Method → Verdict → Option Chain → Option Chain
@@ -156,7 +168,8 @@ suffix_of (l ∷ ls) = if is_line end_text l then ls else suffix_of ls
 -- `levels 3`.
 pub record Judged (says : Answer → Type 0) (lines : List Line) : Type 0 where
   pub refused : (e : CertificateError) → certificate_of (prefix_of lines) ≡ Err e → says (Err (InCertificate e))
-  pub following : (b : Certificate) → IsValid b → HasOutput b → prefix_of lines ≡ certificate_lines b → says (after_certificate b (length (prefix_of lines) + 1) (suffix_of lines))
+  pub following : (b : Certificate) → IsValid b → HasOutput b → prefix_of lines ≡ certificate_lines b →
+      says (after_certificate b (length (prefix_of lines) + 1) (suffix_of lines))
 
 -- This is the answer for the lines.
 abbrev pub IsJudged : List Line → Answer → Type 0

@@ -35,7 +35,8 @@ abbrev pub flat_lines : List SubproblemLog → DepthVerdict → List Line
 flat_lines subproblems v = flat_map subproblem_lines subproblems ++ line (levels_line v) ∷ line end_text ∷ []
 
 abbrev pub depth_lines : DepthCertificate → List Line
-depth_lines b = certificate_lines b.certificate ++ line (depth_line (levels_of b.verdict)) ∷ flat_lines b.subproblems b.verdict
+depth_lines b = certificate_lines b.certificate ++
+    line (depth_line (levels_of b.verdict)) ∷ flat_lines b.subproblems b.verdict
 
 abbrev pub depth_text : DepthCertificate → List ℕ
 depth_text b = text_of (depth_lines b)

@@ -21,7 +21,8 @@ most_of_certificate = 268435456
 pub record IsVerdict (bytes : List ℕ) (verdict : Verdict) : Type 0 where
   pub has : HasVerdict bytes verdict
   pub only : (b : Certificate) → IsCertificateText bytes b → b.verdict ≡ verdict
-  pub means : (b : Certificate) → IsCertificateText bytes b → Means (specification b.header.spec) (members b.header.basis) verdict
+  pub means : (b : Certificate) → IsCertificateText bytes b →
+      Means (specification b.header.spec) (members b.header.basis) verdict
 
 -- The bytes, no more than are read, are judged to have this verdict.
 pub record GivesVerdict (bytes : List ℕ) (verdict : Verdict) : Type 0 where
@@ -36,4 +37,5 @@ pub record GivesLevels (bytes : List ℕ) (verdict : DepthVerdict) : Type 0 wher
   pub has : HasDepth bytes verdict
   pub only : (b : DepthCertificate) → IsDepthText bytes b → b.verdict ≡ verdict
   pub means : (b : DepthCertificate) (is : IsDepthText bytes b)
-      → depths.Means (specification b.certificate.header.spec) (members b.certificate.header.basis) (length is.is_depth.chain.steps) verdict
+      → depths.Means (specification b.certificate.header.spec) (members b.certificate.header.basis)
+      (length is.is_depth.chain.steps) verdict

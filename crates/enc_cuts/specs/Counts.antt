@@ -155,7 +155,8 @@ row_0-few basis z small =
     if-few (polarity_closed (members basis)) (flat_map (row_0_at z) (places z)) 16 (omega (arith, all, small.steps))
 
 -- The constraints are few enough for a formula.
-pub cuts-few : (w : Words) (basis : ℕ) (z : Sizes) (steps : List StepSlots) → IsSmall z → w.n ≤ most_inputs → length steps ≤ most_steps → slot_count steps ≤ 16000 → length (cuts w basis z steps) ≤ 600000000
+pub cuts-few : (w : Words) (basis : ℕ) (z : Sizes) (steps : List StepSlots) → IsSmall z → w.n ≤ most_inputs →
+    length steps ≤ most_steps → slot_count steps ≤ 16000 → length (cuts w basis z steps) ≤ 600000000
 unfolding cuts not_trivial no_reapplication
 cuts-few w basis z steps small inputs few slots =
     rw (length-append, length-append, length-append, length-append, length-append)

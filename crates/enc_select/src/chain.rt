@@ -1,7 +1,8 @@
 //! The clauses that define chains.
 ghost use Rattle.std.specs.Prelude.{◌+◌, ◌^◌, ◌<◌, ◌≤◌, OnOk};
 ghost use Rattle.clause_core.specs.Clauses.{Appends, written};
-ghost use Rattle.enc_theory.specs.Select.{choice_exists, choices_exist, operands_exist, copy_raw, copy_row, copy_place};
+ghost use Rattle.enc_theory.specs.Select.{choice_exists, choices_exist, operands_exist, copy_raw, copy_row};
+ghost use Rattle.enc_theory.specs.Select.{copy_place};
 ghost use Rattle.enc_theory.specs.Select.{copy_step, copies, result_clause, result_bit, result_row, result_step};
 ghost use Rattle.enc_theory.specs.Select.{results, chosen_chain};
 ghost use Rattle.enc_frame.specs.Room.{IsPlace, AreFor};

@@ -134,7 +134,8 @@ pub(crate) fn push_rising(
 fn push_falling_steps(alloc: Global, list: &mut ClauseList, z: Sizes) -> Result<(), AllocError>
     requires room { HasChoices z list.old.vars }
     requires some { 1 ≤ z.r }
-    ensures { OnOk result (Appends list.old list.new (flat_map (falling_step z) (range_with_len (z.n + 1) (z.r - 1)))) }
+    ensures { OnOk result (Appends list.old list.new
+        (flat_map (falling_step z) (range_with_len (z.n + 1) (z.r - 1)))) }
 {
     for step in z.n + 1..z.n + z.r {
         push_descents(alloc, list, z, second_of(step), second_of(step + 1))?;

@@ -3,7 +3,8 @@
 -- (TAOCP 7.2.2.2, exercise 477) and Haaswijk, Soeken, Mishchenko and De Micheli ("SAT-Based Exact Synthesis",
 -- 2020), each only for the bases for which it is sound. Loops run in increasing order; the first one named is
 -- the outermost.
-use Rattle.std.specs.Prelude.{ℕ, suc, ℤ, Bool, true, false, ◌&&◌, ◌||◌, not, List, [], ◌∷◌, ◌++◌, length, map, min, max, nat_lt, ◌==◌, ◌-◌, ◌^◌, if◌then◌else◌}
+use Rattle.std.specs.Prelude.{ℕ, suc, ℤ, Bool, true, false, ◌&&◌, ◌||◌, not, List, [], ◌∷◌, ◌++◌, length, map, min, max}
+use Rattle.std.specs.Prelude.{nat_lt, ◌==◌, ◌-◌, ◌^◌, if◌then◌else◌}
 use Rattle.std.specs.List.{range_with_len, flat_map, filter, list_all}
 use Rattle.chain_theory.specs.declared.data.Cell.{Cell}
 use Rattle.chain_theory.specs.declared.data.Cell.TheVariants.{Zero, One, Free}
@@ -61,7 +62,8 @@ not_idle constants basis z i = flat_map (other_operator basis z i) (idle_operato
 -- the identity.
 unfoldable pub equal_raw : Bool → Sizes → ℕ → Slot → List (List ℤ)
 equal_raw constants z i u =
-    if constants then written (Var u.var false ∷ Var (f_var z i false false) true ∷ []) ++ written (Var u.var false ∷ Var (f_var z i true true) false ∷ [])
+    if constants then written (Var u.var false ∷ Var (f_var z i false false) true ∷ []) ++
+    written (Var u.var false ∷ Var (f_var z i true true) false ∷ [])
     else written (Var u.var false ∷ Var (f_var z i false false) true ∷ Var (f_var z i true true) false ∷ [])
 
 unfoldable pub equal_slot : Bool → Sizes → ℕ → Slot → List (List ℤ)
@@ -73,13 +75,15 @@ equal_pair u = if u.j == u.k then chosen u ∷ [] else []
 -- A negation of an operand, 1010 or 1100, has that operand twice: "the operator isn't this one, or the step has
 -- some pair of equal operands".
 unfoldable pub negation_raw : ℕ → Sizes → StepSlots → ℕ → List (List ℤ)
-negation_raw basis z s op = if members basis op then written (operator_raw z s.place op ++ flat_map equal_pair s.slots) else []
+negation_raw basis z s op = if members basis op then written (operator_raw z s.place op ++ flat_map equal_pair s.slots)
+    else []
 
 unfoldable pub negations : ℕ → Sizes → StepSlots → List (List ℤ)
 negations basis z s = flat_map (negation_raw basis z s) (10 ∷ 12 ∷ [])
 
 unfoldable pub not_trivial_at : Bool → ℕ → Sizes → StepSlots → List (List ℤ)
-not_trivial_at constants basis z s = not_idle constants basis z s.place ++ flat_map (equal_slot constants z s.place) s.slots ++ negations basis z s
+not_trivial_at constants basis z s = not_idle constants basis z s.place ++
+    flat_map (equal_slot constants z s.place) s.slots ++ negations basis z s
 
 unfoldable pub not_trivial : ℕ → Sizes → List StepSlots → List (List ℤ)
 not_trivial basis z steps = flat_map (not_trivial_at (const_closed (members basis)) basis z) steps
@@ -180,7 +184,8 @@ exchange_slot p q before u = if reads_without q p u then written (Var u.var fals
 
 unfoldable pub exchange_steps : ℕ → ℕ → List RawLit → List StepSlots → List (List ℤ)
 exchange_steps p q before [] = []
-exchange_steps p q before (s ∷ later) = flat_map (exchange_slot p q before) s.slots ++ exchange_steps p q (before ++ readers_without p q s) later
+exchange_steps p q before (s ∷ later) = flat_map (exchange_slot p q before) s.slots ++
+    exchange_steps p q (before ++ readers_without p q s) later
 
 unfoldable pub exchange_pair : Words → List StepSlots → ℕ → ℕ → List (List ℤ)
 exchange_pair w steps p q = if may_exchange w p q then exchange_steps p q [] steps else []
@@ -202,4 +207,5 @@ row_0 basis z = if polarity_closed (members basis) then flat_map (row_0_at z) (p
 
 -- ---- All constraints, the six families in their order.
 unfoldable pub cuts : Words → ℕ → Sizes → List StepSlots → List (List ℤ)
-cuts w basis z steps = used z steps ++ not_trivial basis z steps ++ order steps ++ no_reapplication basis steps ++ exchange w steps ++ row_0 basis z
+cuts w basis z steps = used z steps ++ not_trivial basis z steps ++ order steps ++ no_reapplication basis steps ++
+    exchange w steps ++ row_0 basis z

@@ -65,14 +65,16 @@ pair_exists steps = flat_map pair_exists_at steps
 -- at (b, c)".
 
 unfoldable pub value_raw : Sizes → ℕ → Slot → ℕ → Bool → Bool → Bool → List RawLit
-value_raw z i u t a b c = Var u.var false ∷ x_is z i t (not a) ∷ x_is z u.j t (not b) ∷ x_is z u.k t (not c) ∷ Var (f_var z i b c) a ∷ []
+value_raw z i u t a b c = Var u.var false ∷ x_is z i t (not a) ∷ x_is z u.j t (not b) ∷ x_is z u.k t (not c) ∷ Var
+    (f_var z i b c) a ∷ []
 
 unfoldable pub value_clause : Sizes → ℕ → Slot → ℕ → Bool → Bool → Bool → List (List ℤ)
 value_clause z i u t a b c = written (value_raw z i u t a b c)
 
 -- the four clauses with bit a, and the eight of a row
 unfoldable pub value_bit : Sizes → ℕ → Slot → ℕ → Bool → List (List ℤ)
-value_bit z i u t a = value_clause z i u t a false false ++ value_clause z i u t a false true ++ value_clause z i u t a true false ++ value_clause z i u t a true true
+value_bit z i u t a = value_clause z i u t a false false ++ value_clause z i u t a false true ++
+    value_clause z i u t a true false ++ value_clause z i u t a true true
 
 unfoldable pub value_row : Sizes → ℕ → Slot → ℕ → List (List ℤ)
 value_row z i u t = value_bit z i u t false ++ value_bit z i u t true

@@ -22,7 +22,8 @@ use Rattle.enc_theory.specs.Decode.{decoded}
 -- has 3 and 4.
 unfoldable pub places_under : ℕ → ℕ → List ℕ → ℕ → List ℕ
 places_under first count [] k = []
-places_under first count (q ∷ qs) k = if nat_lt k q then range_with_len first count else places_under (first + count) q qs (k - q)
+places_under first count (q ∷ qs) k = if nat_lt k q then range_with_len first count
+    else places_under (first + count) q qs (k - q)
 
 -- The pairs that the step at a place may have: the larger operand is on the level just below the step's.
 unfoldable pub fence_pairs : Bool → ℕ → List ℕ → ℕ → List Pair
@@ -35,7 +36,11 @@ fence_layout basis fence z = layout (fence_pairs (swap_closed (members basis)) z
 unfoldable pub fence_live : Words → ℕ → ℕ → List ℕ → Formula
 fence_live w basis r fence =
     let z = sizes_of w r in
-    record { vars = vars_of z (fence_layout basis fence z); clauses = common w basis z (fence_layout basis fence z) ++ cuts w basis z (fence_layout basis fence z) }
+    record {
+      vars = vars_of z (fence_layout basis fence z);
+      clauses = common w basis z (fence_layout basis fence z) ++
+          cuts w basis z (fence_layout basis fence z);
+    }
 
 -- The formula for any tables and a fence, over a set of operators given as a number: that of the live outputs.
 unfoldable pub fence_formula : Words → ℕ → ℕ → List ℕ → Formula

@@ -37,7 +37,10 @@ numbered v (p ∷ ps) = record { j = p.j; k = p.k; var = v } ∷ numbered (v + 1
 -- on
 unfoldable pub laid : (ℕ → List Pair) → ℕ → ℕ → ℕ → List StepSlots
 laid pairs v place zero = []
-laid pairs v place (suc count) = record { place = place; slots = numbered v (pairs place) } ∷ laid pairs (v + length (pairs place)) (place + 1) count
+laid pairs v place (suc count) = record {
+  place = place;
+  slots = numbered v (pairs place);
+} ∷ laid pairs (v + length (pairs place)) (place + 1) count
 
 -- All steps with the pairs that each may have: the selection variables follow all other variables, those of the
 -- first step first. Encodings by pairs differ in `pairs`.

@@ -3,7 +3,8 @@
 -- Kulikov and Yaroslavtsev, "Finding Efficient Circuits Using SAT-solvers", 2009). Its symmetry-breaking
 -- constraints are those of the encoding by pairs, as far as single operands can express them. Loops run in
 -- increasing order; the first one named is the outermost.
-use Rattle.std.specs.Prelude.{ℕ, zero, suc, ℤ, ◌+◌, ◌-◌, ◌*◌, ◌^◌, Bool, true, false, ◌&&◌, not, List, [], ◌∷◌, ◌++◌, map, min, max, nat_lt, ◌==◌, if◌then◌else◌}
+use Rattle.std.specs.Prelude.{ℕ, zero, suc, ℤ, ◌+◌, ◌-◌, ◌*◌, ◌^◌, Bool, true, false, ◌&&◌, not, List, [], ◌∷◌, ◌++◌}
+use Rattle.std.specs.Prelude.{map, min, max, nat_lt, ◌==◌, if◌then◌else◌}
 use Rattle.std.specs.List.{range_with_len, flat_map}
 use Rattle.chain_theory.specs.Chain.{Step, Chain}
 use Rattle.op_basis.specs.Basis.{members}
@@ -96,13 +97,15 @@ copies z side = flat_map (copy_step z side) (places z)
 -- "i isn't a, or its first operand isn't b, or its second isn't c, or the operator is a at (b, c)".
 
 unfoldable pub result_raw : Sizes → ℕ → ℕ → Bool → Bool → Bool → List RawLit
-result_raw z i t a b c = x_is z i t (not a) ∷ Var (value_var z First i t) (not b) ∷ Var (value_var z Second i t) (not c) ∷ Var (f_var z i b c) a ∷ []
+result_raw z i t a b c = x_is z i t (not a) ∷ Var (value_var z First i t) (not b) ∷ Var (value_var z Second i t)
+    (not c) ∷ Var (f_var z i b c) a ∷ []
 
 unfoldable pub result_clause : Sizes → ℕ → ℕ → Bool → Bool → Bool → List (List ℤ)
 result_clause z i t a b c = written (result_raw z i t a b c)
 
 unfoldable pub result_bit : Sizes → ℕ → ℕ → Bool → List (List ℤ)
-result_bit z i t a = result_clause z i t a false false ++ result_clause z i t a false true ++ result_clause z i t a true false ++ result_clause z i t a true true
+result_bit z i t a = result_clause z i t a false false ++ result_clause z i t a false true ++
+    result_clause z i t a true false ++ result_clause z i t a true true
 
 unfoldable pub result_row : Sizes → ℕ → ℕ → List (List ℤ)
 result_row z i t = result_bit z i t false ++ result_bit z i t true
@@ -115,7 +118,8 @@ results z = flat_map (result_step z) (places z)
 
 -- ---- The clauses that define chains: outputs and operators as in an encoding by pairs.
 unfoldable pub chosen_chain : Words → ℕ → Sizes → List (List ℤ)
-chosen_chain w basis z = out_exists z ++ out_values w z ++ operands_exist z ++ copies z First ++ copies z Second ++ results z ++ operators basis z
+chosen_chain w basis z = out_exists z ++ out_values w z ++ operands_exist z ++ copies z First ++ copies z Second ++
+    results z ++ operators basis z
 
 -- ---- The first operand is at most the second, if the basis is closed under exchanging them: for step i,
 -- places j below it and k below j, "not j and k".
@@ -154,7 +158,8 @@ used_steps z = flat_map (used_step z) (places z)
 -- it is at least not the identity.
 unfoldable pub equal_choice : Bool → Sizes → ℕ → ℕ → List (List ℤ)
 equal_choice constants z i j =
-    if constants then written (not_these z i j j ++ Var (f_var z i false false) true ∷ []) ++ written (not_these z i j j ++ Var (f_var z i true true) false ∷ [])
+    if constants then written (not_these z i j j ++ Var (f_var z i false false) true ∷ []) ++
+    written (not_these z i j j ++ Var (f_var z i true true) false ∷ [])
     else written (not_these z i j j ++ Var (f_var z i false false) true ∷ Var (f_var z i true true) false ∷ [])
 
 -- A negation of an operand has that operand twice: for 1010 or 1100 in the basis and different places j and k
@@ -169,7 +174,8 @@ unfoldable pub negation_step : ℕ → Sizes → ℕ → ℕ → List (List ℤ)
 negation_step basis z i op = if members basis op then flat_map (negation_from z i op) (below i) else []
 
 unfoldable pub trivial_step : Bool → ℕ → Sizes → ℕ → List (List ℤ)
-trivial_step constants basis z i = not_idle constants basis z i ++ flat_map (equal_choice constants z i) (below i) ++ flat_map (negation_step basis z i) (10 ∷ 12 ∷ [])
+trivial_step constants basis z i = not_idle constants basis z i ++ flat_map (equal_choice constants z i) (below i) ++
+    flat_map (negation_step basis z i) (10 ∷ 12 ∷ [])
 
 unfoldable pub trivial_steps : ℕ → Sizes → List (List ℤ)
 trivial_steps basis z = flat_map (trivial_step (const_closed (members basis)) basis z) (places z)
@@ -187,7 +193,8 @@ unfoldable pub falling_step : Sizes → ℕ → List (List ℤ)
 falling_step z i = flat_map (falling_from z i) (below i)
 
 unfoldable pub falling : ℕ → Sizes → List (List ℤ)
-falling basis z = if swap_closed (members basis) then flat_map (falling_step z) (range_with_len (z.n + 1) (z.r - 1)) else []
+falling basis z = if swap_closed (members basis) then flat_map (falling_step z) (range_with_len (z.n + 1) (z.r - 1))
+    else []
 
 -- ---- No re-application, if the basis is closed under it: for step i, a later step l, places j and k below i,
 -- and o one of them, "not j and k, or l doesn't have o and i", and "or l doesn't have i and o". Where j is at
@@ -198,10 +205,12 @@ abbrev pub different : ℕ → ℕ → List ℕ
 different j k = if j == k then j ∷ [] else min j k ∷ max j k ∷ []
 
 unfoldable pub no_reapplication_operand : Bool → Sizes → ℕ → ℕ → ℕ → ℕ → ℕ → List (List ℤ)
-no_reapplication_operand ordered z i l j k o = written (not_these z i j k ++ not_these z l o i) ++ (if ordered then [] else written (not_these z i j k ++ not_these z l i o))
+no_reapplication_operand ordered z i l j k o = written (not_these z i j k ++ not_these z l o i) ++
+    (if ordered then [] else written (not_these z i j k ++ not_these z l i o))
 
 unfoldable pub no_reapplication_operands : Bool → Sizes → ℕ → ℕ → ℕ → ℕ → List (List ℤ)
-no_reapplication_operands ordered z i l j k = if ordered && nat_lt k j then [] else flat_map (no_reapplication_operand ordered z i l j k) (different j k)
+no_reapplication_operands ordered z i l j k = if ordered && nat_lt k j then []
+    else flat_map (no_reapplication_operand ordered z i l j k) (different j k)
 
 unfoldable pub no_reapplication_from : Bool → Sizes → ℕ → ℕ → ℕ → List (List ℤ)
 no_reapplication_from ordered z i l j = flat_map (no_reapplication_operands ordered z i l j) (below i)
@@ -213,11 +222,13 @@ unfoldable pub no_reapplication_step : Bool → Sizes → ℕ → List (List ℤ
 no_reapplication_step ordered z i = flat_map (no_reapplication_after ordered z i) (above z i)
 
 unfoldable pub no_reapplication_steps : ℕ → Sizes → List (List ℤ)
-no_reapplication_steps basis z = if reapply_closed (members basis) then flat_map (no_reapplication_step (swap_closed (members basis)) z) (places z) else []
+no_reapplication_steps basis z = if reapply_closed (members basis)
+    then flat_map (no_reapplication_step (swap_closed (members basis)) z) (places z) else []
 
 -- ---- All constraints, in their order; the last one (normal steps) is that of the encoding by pairs.
 unfoldable pub chosen_cuts : ℕ → Sizes → List (List ℤ)
-chosen_cuts basis z = rising basis z ++ used_steps z ++ trivial_steps basis z ++ falling basis z ++ no_reapplication_steps basis z ++ row_0 basis z
+chosen_cuts basis z = rising basis z ++ used_steps z ++ trivial_steps basis z ++ falling basis z ++
+    no_reapplication_steps basis z ++ row_0 basis z
 
 -- ---- The formula for tables whose outputs are all live.
 unfoldable pub select_live : Words → ℕ → ℕ → Formula
@@ -237,7 +248,11 @@ first_choice z v side i [] = 1
 first_choice z v side i (j ∷ js) = if v (choice_var z side i j) then j else first_choice z v side i js
 
 unfoldable pub chosen_step : Sizes → Assignment → ℕ → Step
-chosen_step z v i = record { j = first_choice z v First i (below i); k = first_choice z v Second i (below i); op = operator_in z v i }
+chosen_step z v i = record {
+  j = first_choice z v First i (below i);
+  k = first_choice z v Second i (below i);
+  op = operator_in z v i;
+}
 
 -- the chain of r steps that an assignment of the formula's variables spells
 unfoldable pub select_decoded : Words → ℕ → Assignment → Chain

@@ -23,7 +23,11 @@ ssv_layout basis z = layout (pairs_below (swap_closed (members basis))) z
 unfoldable pub ssv_live : Words → ℕ → ℕ → Formula
 ssv_live w basis r =
     let z = sizes_of w r in
-    record { vars = vars_of z (ssv_layout basis z); clauses = common w basis z (ssv_layout basis z) ++ cuts w basis z (ssv_layout basis z) }
+    record {
+      vars = vars_of z (ssv_layout basis z);
+      clauses = common w basis z (ssv_layout basis z) ++
+          cuts w basis z (ssv_layout basis z);
+    }
 
 -- The formula for any tables, over a set of operators given as a number: that of the live outputs.
 unfoldable pub ssv_formula : Words → ℕ → ℕ → Formula

@@ -1,5 +1,6 @@
 -- Two netlists in one text, one after the other: the answers and the refusals.
-use Rattle.std.specs.Prelude.{◌≡◌, ◌≢◌, ℕ, ◌-◌, ◌*◌, ◌^◌, ◌≤◌, ◌<◌, Bool, false, List, length, map, take, drop, slice_index_or, Some, None, Ok}
+use Rattle.std.specs.Prelude.{◌≡◌, ◌≢◌, ℕ, ◌-◌, ◌*◌, ◌^◌, ◌≤◌, ◌<◌, Bool, false, List, length, map, take, drop}
+use Rattle.std.specs.Prelude.{slice_index_or, Some, None, Ok}
 use Rattle.sat_theory.specs.Line.{Line}
 use Rattle.sat_theory.specs.Log.{Refutes, ReachesBudget, KeepsHalf, DeletesQuarter}
 use Rattle.net_theory.specs.Document.{Name, Document, latches_of, source_names, sink_names}
@@ -15,7 +16,8 @@ use Rattle.equiv_theory.specs.Miter.{variables, miter}
 use Rattle.equiv_run.specs.declared.answer.EquivOutcome.{EquivOutcome}
 use Rattle.equiv_run.specs.declared.answer.EquivOutcome.TheVariants.{Equal, Differ, Undecided}
 use Rattle.equiv_run.specs.declared.answer.CompareError.{CompareError}
-use Rattle.equiv_run.specs.declared.answer.CompareError.TheVariants.{NoSecond, First, Second, DifferentInterface, Memory}
+use Rattle.equiv_run.specs.declared.answer.CompareError.TheVariants.{NoSecond, First, Second, DifferentInterface}
+use Rattle.equiv_run.specs.declared.answer.CompareError.TheVariants.{Memory}
 use Rattle.equiv_run.specs.Split.{split_of}
 use Rattle.equiv_run.specs.Texts.{equal_text, undecided_text, differ_text}
 
@@ -57,8 +59,10 @@ pub record DocumentsDiffer (d e : Document) (sink : ℕ) (bits : List Bool) : Ty
   pub counted : 1 ≤ sink
   pub below : sink ≤ length (sink_names d)
   pub some : (given : Name → Bool) × (map given (source_names d) ≡ bits)
-  pub differ : (given v w : Name → Bool) → map given (source_names d) ≡ bits → IsMapOf d given v → IsMapOf e given w → sink_in d v (sink - 1) ≢ sink_in e w (sink - 1)
-  pub least : (given v w : Name → Bool) → map given (source_names d) ≡ bits → IsMapOf d given v → IsMapOf e given w → (j : ℕ) → j < sink - 1 → sink_in d v j ≡ sink_in e w j
+  pub differ : (given v w : Name → Bool) → map given (source_names d) ≡ bits → IsMapOf d given v → IsMapOf e given w →
+      sink_in d v (sink - 1) ≢ sink_in e w (sink - 1)
+  pub least : (given v w : Name → Bool) → map given (source_names d) ≡ bits → IsMapOf d given v → IsMapOf e given w →
+      (j : ℕ) → j < sink - 1 → sink_in d v j ≡ sink_in e w j
 
 -- the miter of the documents' nets
 pub record HasMiter (d e : Document) (first second : Net) : Type 0 where

@@ -1,5 +1,6 @@
 -- Where the first of two consecutive BLIF texts ends: after the first logical line whose first word is `.end`.
-use Rattle.std.specs.Prelude.{◌≡◌, ℕ, ◌+◌, Bool, true, false, List, [], ◌∷◌, ◌++◌, length, All, Option, Some, None, drop, codes, if◌then◌else◌}
+use Rattle.std.specs.Prelude.{◌≡◌, ℕ, ◌+◌, Bool, true, false, List, [], ◌∷◌, ◌++◌, length, All, Option, Some, None}
+use Rattle.std.specs.Prelude.{drop, codes, if◌then◌else◌}
 use Rattle.std.specs.List.{flat_map}
 use Rattle.text_core.specs.Lines.{Line, lines_of, line_bytes}
 use Rattle.net_theory.specs.Document.{is_same}
@@ -55,7 +56,8 @@ piece_then (Some front) ended further = further front
 unfoldable pub split_from : ℕ → Option Bool → List Line → Option ℕ
 split_from place first [] = if is_known_end first then Some place else None
 split_from place first (l ∷ ls) = piece_then (without_last 92 (content_of l))
-    (if is_known_end (or_first first (first_ends (words_of (content_of l)))) then Some (place + length (line_bytes l)) else split_from (place + length (line_bytes l)) None ls)
+    (if is_known_end (or_first first (first_ends (words_of (content_of l)))) then Some (place + length (line_bytes l))
+    else split_from (place + length (line_bytes l)) None ls)
     (λ front. split_from (place + length (line_bytes l)) (or_first first (first_ends (words_of front))) ls)
 
 abbrev pub split_of : List ℕ → Option ℕ

@@ -1,5 +1,6 @@
 -- The texts of the three answers.
-use Rattle.std.specs.Prelude.{ℕ, ◌-◌, nat_le, if◌then◌else◌, Bool, List, [], ◌∷◌, ◌++◌, length, map, slice_index_or, codes}
+use Rattle.std.specs.Prelude.{ℕ, ◌-◌, nat_le, if◌then◌else◌, Bool, List, [], ◌∷◌, ◌++◌, length, map, slice_index_or}
+use Rattle.std.specs.Prelude.{codes}
 use Rattle.std.specs.List.{flat_map}
 use Rattle.sat_theory.specs.Line.{Line}
 use Rattle.lrat_text.specs.Spelling.{line_text}
@@ -38,4 +39,5 @@ sink_text outputs latches sink =
 
 -- Example: `differ output y` and `at 11`.
 unfoldable pub differ_text : List Name → List Latch → ℕ → List Bool → List ℕ
-differ_text outputs latches sink bits = codes "differ " ++ (sink_text outputs latches sink ++ (codes "\nat " ++ (bits_text bits ++ codes "\n")))
+differ_text outputs latches sink bits = codes "differ " ++
+    (sink_text outputs latches sink ++ (codes "\nat " ++ (bits_text bits ++ codes "\n")))

@@ -48,7 +48,8 @@ unfoldable pub gate_row : (ℕ → ℕ) → ℕ → Gate → Bool → Bool → L
 gate_row var node g a b = signal_is var g.a (not a) ∷ signal_is var g.b (not b) ∷ Var (var node) (apply g.op a b) ∷ []
 
 abbrev pub gate_rows : (ℕ → ℕ) → ℕ → Gate → List (List RawLit)
-gate_rows var node g = gate_row var node g false false ∷ gate_row var node g false true ∷ gate_row var node g true false ∷ gate_row var node g true true ∷ []
+gate_rows var node g = gate_row var node g false false ∷ gate_row var node g false true ∷ gate_row var node g true
+    false ∷ gate_row var node g true true ∷ []
 
 -- the gates in order, the first at node `node`
 unfoldable pub gates_rows : (ℕ → ℕ) → ℕ → List Gate → List (List RawLit)
@@ -78,7 +79,8 @@ unfoldable pub miter_rows : Net → Net → List (List RawLit)
 miter_rows first second =
     gates_rows (first_variable first) (first.sources + 1) first.gates
     ++ (gates_rows (second_variable first second) (second.sources + 1) second.gates
-    ++ (sinks_rows (first_variable first) (second_variable first second) (first_difference first second) first.sinks second.sinks
+    ++ (sinks_rows (first_variable first) (second_variable first second)
+    (first_difference first second) first.sinks second.sinks
     ++ (some_row (first_difference first second) (length first.sinks) ∷ [])))
 
 -- The miter: its clauses as they are written, where false literals are left out and clauses with a true literal

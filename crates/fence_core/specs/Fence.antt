@@ -1,5 +1,6 @@
 -- Fences: how many steps of a chain are on each level.
-use Rattle.std.specs.Prelude.{ℕ, zero, suc, ◌+◌, ◌≤◌, ◌<◌, ◌≡◌, ◌⊎◌, ⊤, Bool, true, ◌&&◌, leb, List, [], ◌∷◌, ◌++◌, map, sum, All}
+use Rattle.std.specs.Prelude.{ℕ, zero, suc, ◌+◌, ◌≤◌, ◌<◌, ◌≡◌, ◌⊎◌, ⊤, Bool, true, ◌&&◌, leb, List, [], ◌∷◌, ◌++◌, map}
+use Rattle.std.specs.Prelude.{sum, All}
 use Rattle.std.specs.List.{Contains, filter}
 
 -- the numbers of steps on the levels 1, 2 and so on; none is 0

@@ -2,9 +2,11 @@
 use Rattle.std.specs.Prelude.{◌≡◌, ◌≢◌, ℕ, ◌<◌, ◌≤◌, ◌⊎◌, List, [], length, true, false, Some, None}
 use Rattle.port_io.specs.Bytes.{Appends}
 use Rattle.port_io.specs.Faults.{Rose}
-use Rattle.frame_core.specs.declared.status.Status.TheVariants.{Done, Malformed, Limit, Undecided, ReadFault, WriteFault, Memory, Refused}
+use Rattle.frame_core.specs.declared.status.Status.TheVariants.{Done, Malformed, Limit, Undecided, ReadFault}
+use Rattle.frame_core.specs.declared.status.Status.TheVariants.{WriteFault, Memory, Refused}
 use Rattle.frame_core.specs.Outside.{PortState, IsFaultless, Writes}
-use Rattle.frame_core.specs.Reported.{Reply, Refusal, error_line, write_fault, memory, too_long_refusal, read_fault_refusal, memory_refusal}
+use Rattle.frame_core.specs.Reported.{Reply, Refusal, error_line, write_fault, memory, too_long_refusal}
+use Rattle.frame_core.specs.Reported.{read_fault_refusal, memory_refusal}
 use Rattle.frame_core.specs.Task.{Task, MayBeLeft, HasNoReport, IsBeyond, IsAnswerable}
 use Rattle.frame_core.specs.Run.{Run, IsInput, HasInput, Reports, ReportsPrefix}
 
@@ -134,7 +136,8 @@ pub record CommandPromise (task : Task) (r : Run) : Type 0 where
   pub malformed_only : r.status ≡ Malformed → OfInput task r (Faults task r)
   pub limit_only : r.status ≡ Limit → OfInput task r (Faults task r) ⊎ IsTooLong task r
   pub read_fault_only : r.status ≡ ReadFault → Rose r.source.faults r.source'.faults × ReportsError r read_fault_refusal
-  pub write_fault_only : r.status ≡ WriteFault → OfInput task r (λ input. ReplyTruncated task r input ⊎ ReportTruncated task r input)
+  pub write_fault_only : r.status ≡ WriteFault →
+      OfInput task r (λ input. ReplyTruncated task r input ⊎ ReportTruncated task r input)
   pub write_rose : r.status ≡ WriteFault → Rose r.out.faults r.out'.faults ⊎ Rose r.note.faults r.note'.faults
   pub memory_only : r.status ≡ Memory → ReportsError r memory_refusal ⊎ OfInput task r (ReplyOutOfMemory task r)
   -- If a call of the source or of the output failed, that is reported and nothing else. A call of the notes that

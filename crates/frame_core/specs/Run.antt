@@ -158,7 +158,16 @@ before_after bytes faults old new = (port_state bytes faults old, port_state byt
 
 -- a run with these arguments
 abbrev pub run_of : List (List ℕ) → PortState × PortState → PortState × PortState → PortState × PortState → Status → Run
-run_of words source out note status = record { words = words; source = source.0; source' = source.1; out = out.0; out' = out.1; note = note.0; note' = note.1; status = status }
+run_of words source out note status = record {
+  words = words;
+  source = source.0;
+  source' = source.1;
+  out = out.0;
+  out' = out.1;
+  note = note.0;
+  note' = note.1;
+  status = status;
+}
 
 -- A run of a command had this outcome, which determines what its caller sees.
 pub record IsRun (task : Task) (r : Run) (outcome : Outcome) : Type 0 where

@@ -47,7 +47,8 @@ abbrev pub begins_none : List ℕ → List ℕ → Type 0
 begins_none bytes text = ⊥
 
 -- A command that reads, and whose text is written at once.
-abbrev pub at_once : ℕ → (Answer : Type 0) → (List ℕ → Answer → Type 0) → (Answer → Reply) → (Fault : Type 0) → (List ℕ → Fault → Type 0) → (Fault → Refusal) → Task
+abbrev pub at_once : ℕ → (Answer : Type 0) → (List ℕ → Answer → Type 0) → (Answer → Reply) → (Fault : Type 0) →
+    (List ℕ → Fault → Type 0) → (Fault → Refusal) → Task
 at_once most Answer Has reply Fault Meets refusal = record {
   reads = Some most;
   Answer = Answer;

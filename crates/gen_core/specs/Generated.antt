@@ -1,6 +1,7 @@
 -- A netlist of any number of blocks, of three kinds in turn. The blocks cost 3, 3 and 4 gates; 1, 2 and 3 gates
 -- are enough.
-use Rattle.std.specs.Prelude.{ℕ, zero, suc, ◌%◌, true, false, ◌==◌, if◌then◌else◌, List, [], ◌∷◌, ◌++◌, length, map, Option, Some, None, option_to_list, codes, decimal}
+use Rattle.std.specs.Prelude.{ℕ, zero, suc, ◌%◌, true, false, ◌==◌, if◌then◌else◌, List, [], ◌∷◌, ◌++◌, length, map}
+use Rattle.std.specs.Prelude.{Option, Some, None, option_to_list, codes, decimal}
 use Rattle.net_theory.specs.Document.{Name, Table, Document}
 use Rattle.blif_core.specs.Spelling.{spelled}
 
@@ -21,11 +22,13 @@ table_of block inputs output first second = record {
 
 -- y is XOR of a and b, from `a and not b` and `b and not a`.
 abbrev pub exclusive : ℕ → List Table
-exclusive block = table_of block (codes "ab") 112 (codes "10") None ∷ table_of block (codes "ab") 113 (codes "01") None ∷ table_of block (codes "pq") 121 (codes "1-") (Some (codes "-1")) ∷ []
+exclusive block = table_of block (codes "ab") 112 (codes "10") None ∷ table_of block (codes "ab") 113
+    (codes "01") None ∷ table_of block (codes "pq") 121 (codes "1-") (Some (codes "-1")) ∷ []
 
 -- y is AND of a, b and c, from `a and b` and `a and c`.
 abbrev pub conjunction : ℕ → List Table
-conjunction block = table_of block (codes "ab") 112 (codes "11") None ∷ table_of block (codes "ac") 113 (codes "11") None ∷ table_of block (codes "pq") 121 (codes "11") None ∷ []
+conjunction block = table_of block (codes "ab") 112 (codes "11") None ∷ table_of block (codes "ac") 113
+    (codes "11") None ∷ table_of block (codes "pq") 121 (codes "11") None ∷ []
 
 -- y is b where a is 1, else c: a multiplexer.
 abbrev pub choice : ℕ → List Table
@@ -40,7 +43,8 @@ abbrev pub block_outputs : ℕ → List Name
 block_outputs block = name_of block 121 ∷ []
 
 abbrev pub block_tables : ℕ → List Table
-block_tables block = if block % 3 == 0 then exclusive block else (if block % 3 == 1 then conjunction block else choice block)
+block_tables block = if block % 3 == 0 then exclusive block
+    else (if block % 3 == 1 then conjunction block else choice block)
 
 -- the concatenation of the lists of n blocks, block 0 first
 unfoldable pub of_blocks : {A : Type 0} → (ℕ → List A) → ℕ → List A

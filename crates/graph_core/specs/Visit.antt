@@ -1,5 +1,6 @@
 -- The order in which a depth-first search finishes the nodes (postorder).
-use Rattle.std.specs.Prelude.{ℕ, zero, suc, Bool, nat_eq, if◌then◌else◌, List, [], ◌∷◌, ◌++◌, length, Option, Some, None}
+use Rattle.std.specs.Prelude.{ℕ, zero, suc, Bool, nat_eq, if◌then◌else◌, List, [], ◌∷◌, ◌++◌, length, Option, Some}
+use Rattle.std.specs.Prelude.{None}
 use Rattle.std.specs.List.{list_any, range_with_len, slice_index_or}
 
 -- For each node its fanins (the nodes that it reads), in the order of its inputs.
@@ -27,7 +28,8 @@ put_last t (Some order) = Some (if has_ended order t then order else order ++ t 
 -- a path of more than `depth` nodes; if `depth` is the number of nodes, that is a cycle.
 unfoldable pub visit : Graph → ℕ → List ℕ → ℕ → Option (List ℕ)
 visit g zero order t = if has_ended order t then Some order else None
-visit g (suc depth) order t = if has_ended order t then Some order else put_last t (each (visit g depth) (Some order) (fanins_of g t))
+visit g (suc depth) order t = if has_ended order t then Some order
+    else put_last t (each (visit g depth) (Some order) (fanins_of g t))
 
 -- visits all nodes, in their order
 -- Example: where node 0 reads node 2 and then node 1, and these read nothing, it is 2, 1, 0.

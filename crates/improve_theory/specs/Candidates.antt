@@ -70,7 +70,8 @@ TurnsBefore (Some h) (Some k) = k < h
 -- The first is attempted before the second: it has a lower root, or the same root in an earlier turn, or in
 -- the same turn a lower count.
 abbrev pub IsAttemptedBefore : Candidate → Candidate → Type 0
-IsAttemptedBefore v w = (v.root < w.root) ⊎ ((v.root ≡ w.root) × (TurnsBefore v.partner w.partner ⊎ ((v.partner ≡ w.partner) × (v.count < w.count))))
+IsAttemptedBefore v w = (v.root < w.root) ⊎ ((v.root ≡ w.root) ×
+    (TurnsBefore v.partner w.partner ⊎ ((v.partner ≡ w.partner) × (v.count < w.count))))
 
 -- Each candidate comes before all after it, so none is listed twice.
 unfoldable pub AreInOrder : List Candidate → Type 0

@@ -15,7 +15,8 @@ use Rattle.net_theory.specs.Operators.{HasOperatorsWithin}
 -- cap has a shorter chain for its local specification, but for those that are named, each once and in the
 -- order of candidates, and each of these is undecided by a certificate. Otherwise at least as many gates have
 -- gone as there were rounds, and none is named.
-pub record IsResynthesisOf (s : ImproveSettings) (n m : Net) (settled : Bool) (undecided : List Undecided) : Type 0 where
+pub record IsResynthesisOf (s : ImproveSettings) (n m : Net) (settled : Bool)
+    (undecided : List Undecided) : Type 0 where
   pub replaces : IsReplacement (members s.basis) n m
   pub settled_is : settled ≡ true → IsSettled s m (candidates undecided)
   pub undecided_are : All (IsUndecided m s) undecided
@@ -28,7 +29,8 @@ pub record IsResynthesisOf (s : ImproveSettings) (n m : Net) (settled : Bool) (u
 -- cap has a shorter chain for its local specification, but for those that are named, each once and in the
 -- order of candidates, and each of these is undecided by a certificate. Otherwise at least as many gates have
 -- gone besides dangling ones as there were rounds, and none is named. With the cap 0 only dangling gates go.
-pub record IsImprovementBy (s : ImproveSettings) (n m : Net) (settled : Bool) (undecided : List Undecided) : Type 0 where
+pub record IsImprovementBy (s : ImproveSettings) (n m : Net) (settled : Bool)
+    (undecided : List Undecided) : Type 0 where
   pub cleaned_up : IsCleanedUp n m
   pub operators : HasOperatorsWithin (members s.basis) n m
   pub settled_is : settled ≡ true → IsSettled s m (candidates undecided)

@@ -12,7 +12,8 @@ use Rattle.improve_theory.specs.LocalSpecification.{HasNoFewerLocal}
 -- No chain over the basis with fewer steps than the candidate's window has gates implements its local
 -- specification; this holds trivially where there is no window.
 pub record HasNoShorterChain (s : ImproveSettings) (n : Net) (v : Candidate) : Type 0 where
-  pub least : (w : Window) → IsWindow n v.root v.partner v.count w → HasNoFewerLocal s.observe n (members s.basis) w v.count
+  pub least : (w : Window) → IsWindow n v.root v.partner v.count w →
+      HasNoFewerLocal s.observe n (members s.basis) w v.count
 
 -- a gate, a partner of it or none, and a count from 1 to the cap
 pub record IsListedCandidate (n : Net) (cap : ℕ) (v : Candidate) : Type 0 where

@@ -26,7 +26,8 @@ FitsFormat f s = (op : ℕ) → members s.basis op ≡ true → f.operators op �
 -- k is c improved. It is proper, has the model of c, is equivalent to c, and its net is that of c improved by
 -- the settings. The numbers are the gates of c and the cost of k as a text of the format, and the second is
 -- no more than the first.
-pub record IsBetter (f : Format) (s : ImproveSettings) (c k : Circuit) (before after : ℕ) (settled : Bool) (undecided : List Undecided) : Type 0 where
+pub record IsBetter (f : Format) (s : ImproveSettings) (c k : Circuit) (before after : ℕ) (settled : Bool)
+    (undecided : List Undecided) : Type 0 where
   pub proper : IsProper k
   pub model : c.model ≡ k.model
   pub equivalent : AreEquivalentCircuits c k
@@ -42,7 +43,8 @@ pub record IsBetter (f : Format) (s : ImproveSettings) (c k : Circuit) (before a
 -- well-formed document again, which is equivalent to the first one: the outputs and the next states are the
 -- same under every assignment. The numbers are the costs of the two documents, and the second is no more than
 -- the first.
-pub record IsImproved (f : Format) (s : ImproveSettings) (bytes text : List ℕ) (circuit : Circuit) (before after : ℕ) (settled : Bool) (undecided : List Undecided) : Type 0 where
+pub record IsImproved (f : Format) (s : ImproveSettings) (bytes text : List ℕ) (circuit : Circuit) (before after : ℕ)
+    (settled : Bool) (undecided : List Undecided) : Type 0 where
   pub read : Listed
   pub said : f.listed bytes ≡ Ok read
   pub well : IsWellFormed read.document

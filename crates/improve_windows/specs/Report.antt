@@ -1,5 +1,6 @@
 -- The text of the report.
-use Rattle.std.specs.Prelude.{ℕ, ◌+◌, ◌-◌, Bool, true, false, List, [], ◌∷◌, ◌++◌, slice_get, Option, None, Some, codes, decimal}
+use Rattle.std.specs.Prelude.{ℕ, ◌+◌, ◌-◌, Bool, true, false, List, [], ◌∷◌, ◌++◌, slice_get, Option, None, Some, codes}
+use Rattle.std.specs.Prelude.{decimal}
 use Rattle.std.specs.List.{flat_map}
 use Rattle.net_theory.specs.Document.{Name}
 use Rattle.cert_theory.specs.Spelling.{cert_text}
@@ -22,7 +23,8 @@ partner_text names sources (Some partner) = 32 ∷ name_at names sources partner
 -- Example: `undecided y 4`, or `undecided y g1 4` where the gate g1 is its partner.
 unfoldable pub window_text : List Name → ℕ → Undecided → List ℕ
 window_text names sources u =
-    codes "undecided " ++ name_at names sources u.candidate.root ++ partner_text names sources u.candidate.partner ++ codes " " ++ decimal u.candidate.count ++ codes "\n" ++ cert_text u.search
+    codes "undecided " ++ name_at names sources u.candidate.root ++ partner_text names sources u.candidate.partner ++
+    codes " " ++ decimal u.candidate.count ++ codes "\n" ++ cert_text u.search
 
 unfoldable pub last_line : Bool → List ℕ
 last_line true = codes "settled\n"
@@ -34,4 +36,5 @@ first_line before after = codes "gates " ++ decimal before ++ codes " -> " ++ de
 
 -- Example: `gates 3 -> 1` and `settled`.
 abbrev pub report_text : List Name → ℕ → ℕ → ℕ → Bool → List Undecided → List ℕ
-report_text names sources before after settled undecided = first_line before after ++ flat_map (window_text names sources) undecided ++ last_line settled
+report_text names sources before after settled undecided =
+    first_line before after ++ flat_map (window_text names sources) undecided ++ last_line settled

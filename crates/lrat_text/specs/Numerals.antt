@@ -26,7 +26,8 @@ negative (Some n) = if n == 0 then None else Some (Some (opposite (pos n)))
 -- a literal, from -2147483647 to 2147483647, with a minus sign (byte 45) for a negated variable
 abbrev pub literal_in : List ℕ → Option (Option ℤ)
 literal_in [] = None
-literal_in (b ∷ bs) = if b == 45 then negative (number_up_to most_variable bs) else positive (number_up_to most_variable (b ∷ bs))
+literal_in (b ∷ bs) = if b == 45 then negative (number_up_to most_variable bs)
+    else positive (number_up_to most_variable (b ∷ bs))
 
 abbrev pub begins_minus : List ℕ → Bool
 begins_minus [] = false

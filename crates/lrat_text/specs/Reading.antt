@@ -9,7 +9,8 @@ use Rattle.lrat_text.specs.declared.error.LineError.TheVariants.{BadNumber, NoEn
 use Rattle.lrat_text.specs.Numerals.{id_in, literal_in, begins_minus, is_letter_d}
 
 -- the continuation after an item of a list: it isn't a number, it ends the list, or it is one more element
-abbrev pub item_then : {X : Type 0} → Option (Option X) → Result Line LineError → (X → Result Line LineError) → Result Line LineError
+abbrev pub item_then : {X : Type 0} → Option (Option X) → Result Line LineError → (X → Result Line LineError) →
+    Result Line LineError
 item_then None end next = Err BadNumber
 item_then (Some None) end next = end
 item_then (Some (Some x)) end next = next x
@@ -29,12 +30,14 @@ is_repeated lits l = has_variable lits (variable l)
 -- the hints of an addition, after those in the list have been read
 unfoldable pub hints_of : ℕ → List ℤ → List ℕ → List (List ℕ) → Result Line LineError
 hints_of id lits hints [] = Err NoEnd
-hints_of id lits hints (w ∷ ws) = if begins_minus w then Err RatHint else item_then (id_in w) (end_of (Add id lits hints) ws) (λ h. hints_of id lits (hints ++ h ∷ []) ws)
+hints_of id lits hints (w ∷ ws) = if begins_minus w then Err RatHint
+    else item_then (id_in w) (end_of (Add id lits hints) ws) (λ h. hints_of id lits (hints ++ h ∷ []) ws)
 
 -- the literals of an addition, after those in the list have been read, and then its hints
 unfoldable pub lits_of : ℕ → List ℤ → List (List ℕ) → Result Line LineError
 lits_of id lits [] = Err NoEnd
-lits_of id lits (w ∷ ws) = item_then (literal_in w) (hints_of id lits [] ws) (λ l. if is_repeated lits l then Err RepeatedVariable else lits_of id (lits ++ l ∷ []) ws)
+lits_of id lits (w ∷ ws) = item_then (literal_in w) (hints_of id lits [] ws) (λ l. if is_repeated lits l
+    then Err RepeatedVariable else lits_of id (lits ++ l ∷ []) ws)
 
 -- the ids of a deletion, after those in the list have been read
 unfoldable pub ids_of : ℕ → List ℕ → List (List ℕ) → Result Line LineError

@@ -7,7 +7,8 @@ use Rattle.sat_theory.specs.Line.{Line, Add, Delete}
 -- An addition is its id, its literals and 0, its hints and 0. A deletion is its id, the letter d, the
 -- ids and 0.
 abbrev pub line_items : Line → List (List ℕ)
-line_items (Add id lits hints) = decimal id ∷ (map signed_decimal lits ++ codes "0" ∷ (map decimal hints ++ codes "0" ∷ []))
+line_items (Add id lits hints) = decimal id ∷ (map signed_decimal lits ++
+    codes "0" ∷ (map decimal hints ++ codes "0" ∷ []))
 line_items (Delete id ids) = decimal id ∷ codes "d" ∷ (map decimal ids ++ codes "0" ∷ [])
 
 -- There is a blank between each two items.

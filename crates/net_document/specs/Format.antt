@@ -95,4 +95,5 @@ pub record IsFormat (f : Format) (CanWrite : Circuit → Type 0) : Type 0 where
   pub proper : (c : Circuit) → CanWrite c → IsProper c
   pub read_back : (c : Circuit) → CanWrite c → IsTextOf f (f.text c) c
   pub kept : (bytes : List ℕ) (c : Circuit) → IsCircuitOfText f bytes c → HasRoomForNames c → CanWrite c
-  pub exchanged : (c : Circuit) (m : Net) → CanWrite c → Implements c.net m → CanOperate f c.net m → CanWrite (with_net c m)
+  pub exchanged : (c : Circuit) (m : Net) → CanWrite c → Implements c.net m → CanOperate f c.net m →
+      CanWrite (with_net c m)

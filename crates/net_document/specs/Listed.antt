@@ -1,6 +1,7 @@
 -- A document with the order in which its text drives and reads names.
 use Rattle.std.specs.Prelude.{◌≡◌, ℕ, ◌++◌, List, All, map, count_by}
-use Rattle.net_theory.specs.Document.{Name, IsName, is_same, Document, LatchLine, table_output, driven_names, used_names}
+use Rattle.net_theory.specs.Document.{Name, IsName, is_same, Document, LatchLine, table_output, driven_names}
+use Rattle.net_theory.specs.Document.{used_names}
 use Rattle.net_theory.specs.WellFormed.{IsLatchLine, IsTable, IsFreeOf}
 
 -- A document, with the names that it drives and the names that its tables and latches read, both in the order of

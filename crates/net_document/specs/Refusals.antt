@@ -30,7 +30,8 @@ twice_or (Some n) next = Some (DrivenTwice n)
 -- The first of these errors: more than 100,000 gates; the first name that is driven a second time; the first
 -- undriven name that a table or a latch reads; the first undriven output.
 unfoldable pub fault_of : Listed → Option NetError
-fault_of l = if nat_lt most_gates (cost l.document) then Some (TooManyGates (cost l.document)) else twice_or (repeated [] l.driven) (undriven_in (missing l.driven (l.used ++ l.document.outputs)))
+fault_of l = if nat_lt most_gates (cost l.document) then Some (TooManyGates (cost l.document))
+    else twice_or (repeated [] l.driven) (undriven_in (missing l.driven (l.used ++ l.document.outputs)))
 
 -- The document may be refused with this error. A combinational loop is reported only if there is no other fault.
 -- Out of memory is always possible.

@@ -29,4 +29,5 @@ pub record IsEquivalent (d e : Document) : Type 0 where
   pub latches : latches_of d ≡ latches_of e
   pub first_has_one : (given : Name → Bool) → HasOneMap d given
   pub second_has_one : (given : Name → Bool) → HasOneMap e given
-  pub sinks : (given v w : Name → Bool) → IsMapOf d given v → IsMapOf e given w → map v (sink_names d) ≡ map w (sink_names e)
+  pub sinks : (given v w : Name → Bool) → IsMapOf d given v → IsMapOf e given w →
+      map v (sink_names d) ≡ map w (sink_names e)

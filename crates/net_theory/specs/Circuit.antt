@@ -1,9 +1,11 @@
 -- Circuits: nets with names.
-use Rattle.std.specs.Prelude.{◌≡◌, ℕ, ◌+◌, ◌-◌, ◌≤◌, ◌<◌, Bool, true, List, [], ◌++◌, length, map, All, Option, Some, None, slice_index_or}
+use Rattle.std.specs.Prelude.{◌≡◌, ℕ, ◌+◌, ◌-◌, ◌≤◌, ◌<◌, Bool, true, List, [], ◌++◌, length, map, All, Option, Some}
+use Rattle.std.specs.Prelude.{None, slice_index_or}
 use Rattle.net_theory.specs.declared.data.Sig.TheVariants.{Zero, Node}
 use Rattle.net_theory.specs.declared.data.Trigger.{Trigger}
 use Rattle.net_theory.specs.Net.{Net, IsNet, sink_values}
-use Rattle.net_theory.specs.Document.{Name, IsName, has, are_distinct, Latch, Document, latches_of, latch_output, sink_names}
+use Rattle.net_theory.specs.Document.{Name, IsName, has, are_distinct, Latch, Document, latches_of, latch_output}
+use Rattle.net_theory.specs.Document.{sink_names}
 use Rattle.net_theory.specs.Behaviour.{IsMapOf, HasOneMap}
 use Rattle.net_theory.specs.WellFormed.{IsLatch}
 use Rattle.net_theory.specs.NetOf.{net_of}

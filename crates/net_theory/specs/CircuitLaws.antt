@@ -172,7 +172,8 @@ count_is d order well is =
     (all_grown d order well is).count ∙ spent_all 0 d.tables order (λ k low. subst (λ (x : ℕ). has_ended order x ≡ true) (omega arith) (ended_all d order is k low))
 
 -- The net whose gates are in topological order of the tables is the net of the circuit.
-pub circuit_is : (d : Document) (order : List ℕ) → IsWellFormed d → order_of (graph_of d.tables) ≡ Some order → source_count d + most_gates < 2 ^ 31 → IsCircuitOf d (circuit_of d (net_in_order d order))
+pub circuit_is : (d : Document) (order : List ℕ) → IsWellFormed d → order_of (graph_of d.tables) ≡ Some order →
+    source_count d + most_gates < 2 ^ 31 → IsCircuitOf d (circuit_of d (net_in_order d order))
 unfolding net_of net_in_order
 circuit_is d order well e small =
     let is : IsTopologicalOrder (graph_of d.tables) order = order_is (graph_of d.tables) order (graph_closed d) e in

@@ -1,5 +1,6 @@
 -- The number of two-input gates into which a table, or a whole netlist, is decomposed.
-use Rattle.std.specs.Prelude.{ℕ, ◌+◌, ◌-◌, Bool, true, false, ◌&&◌, ◌||◌, ◌==◌, if◌then◌else◌, List, [], ◌∷◌, ◌++◌, sum_by, count_by}
+use Rattle.std.specs.Prelude.{ℕ, ◌+◌, ◌-◌, Bool, true, false, ◌&&◌, ◌||◌, ◌==◌, if◌then◌else◌, List, [], ◌∷◌, ◌++◌}
+use Rattle.std.specs.Prelude.{sum_by, count_by}
 use Rattle.net_theory.specs.Cover.{Cover, cover_value}
 use Rattle.net_theory.specs.Document.{Name, is_same, Table, Document}
 use Rattle.net_theory.specs.Expansion.{unary_word, binary_word, is_plain}
@@ -12,7 +13,12 @@ byte_if false b = []
 
 -- the cover of one input, by its values at 0 and 1
 abbrev pub unary_cover : Bool → Bool → Cover
-unary_cover at_zero at_one = record { width = 1; cubes = byte_if at_zero 48 ++ byte_if at_one 49; on = true; parity = false }
+unary_cover at_zero at_one = record {
+  width = 1;
+  cubes = byte_if at_zero 48 ++ byte_if at_one 49;
+  on = true;
+  parity = false;
+}
 
 abbrev pub merged : Table → List Name → Table
 merged t (a ∷ b ∷ []) = if is_same a b then record {
@@ -46,7 +52,8 @@ literal_sum cubes = sum_by literal_count cubes
 
 -- whether the cover is a single literal that makes it NOT of an input
 abbrev pub is_not : Bool → List (List ℕ) → Bool
-is_not on (cube ∷ []) = (literal_count cube == 1) && (if on then count_by (λ b. b == 48) cube == 1 else count_by (λ b. b == 48) cube == 0)
+is_not on (cube ∷ []) = (literal_count cube == 1) &&
+    (if on then count_by (λ b. b == 48) cube == 1 else count_by (λ b. b == 48) cube == 0)
 is_not on other = false
 
 -- A cover of more than two inputs costs one gate less than it has literals, and one more if it is NOT of an

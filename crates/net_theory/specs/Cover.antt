@@ -1,6 +1,7 @@
 -- Covers: sums of products (SOPs) as lists of cubes (the Berkeley BLIF manual), and parities, which have no
 -- short SOP.
-use Rattle.std.specs.Prelude.{◌≡◌, ℕ, Bool, true, false, not, ◌&&◌, ◌||◌, ◌==◌, if◌then◌else◌, List, [], ◌∷◌, length, All}
+use Rattle.std.specs.Prelude.{◌≡◌, ℕ, Bool, true, false, not, ◌&&◌, ◌||◌, ◌==◌, if◌then◌else◌, List, [], ◌∷◌, length}
+use Rattle.std.specs.Prelude.{All}
 use Rattle.std.specs.List.{list_any, list_all}
 
 -- A cube has one byte for each input, in order: `0`, `1` or `-`. The cubes describe the on-set if `on` is

@@ -10,4 +10,8 @@ kept_gates n = kept_after (live n) n.sources (nothing_kept n.sources) (n.sources
 -- The net without its dangling gates; the others keep their order.
 -- Example: of two gates over two sources, where the one sink is `Node 4`, the second remains, as node 3.
 unfoldable pub cleanup : Net → Net
-cleanup n = record { sources = n.sources; gates = (kept_gates n).gates; sinks = map (moved (kept_gates n).nodes) n.sinks }
+cleanup n = record {
+  sources = n.sources;
+  gates = (kept_gates n).gates;
+  sinks = map (moved (kept_gates n).nodes) n.sinks;
+}

@@ -1,5 +1,6 @@
 -- The decomposition of a table into two-input gates.
-use Rattle.std.specs.Prelude.{ℕ, ◌+◌, ◌*◌, ◌-◌, Bool, true, false, not, ◌&&◌, ◌||◌, ◌==◌, if◌then◌else◌, List, [], ◌∷◌, ◌++◌, length, map}
+use Rattle.std.specs.Prelude.{ℕ, ◌+◌, ◌*◌, ◌-◌, Bool, true, false, not, ◌&&◌, ◌||◌, ◌==◌, if◌then◌else◌, List, [], ◌∷◌}
+use Rattle.std.specs.Prelude.{◌++◌, length, map}
 use Rattle.std.specs.List.{list_any, list_all}
 use Rattle.net_theory.specs.Cover.{Cover, cover_value}
 use Rattle.net_theory.specs.declared.data.Sig.{Sig}
@@ -94,7 +95,10 @@ or_word true true = 14
 
 -- one gate joins the next signal to the result so far; its operator takes in both polarities
 abbrev pub joined : (Bool → Bool → ℕ) → ℕ → Joined → Signed → Joined
-joined word sources j s = record { gates = j.gates ++ gate_of (word j.out.turned s.turned) j.out.sig s.sig ∷ []; out = record { sig = Node (sources + 1 + length j.gates); turned = false } }
+joined word sources j s = record {
+  gates = j.gates ++ gate_of (word j.out.turned s.turned) j.out.sig s.sig ∷ [];
+  out = record { sig = Node (sources + 1 + length j.gates); turned = false };
+}
 
 -- that of XOR
 abbrev pub xor_word : Bool → Bool → ℕ
@@ -120,7 +124,8 @@ join_all word sources gates (s ∷ ss) = join_from word sources (record { gates 
 unfoldable pub literals : List ℕ → List Sig → List Signed
 literals [] inputs = []
 literals (c ∷ cube) [] = []
-literals (c ∷ cube) (a ∷ inputs) = if c == 49 then signed a false ∷ literals cube inputs else (if c == 48 then signed a true ∷ literals cube inputs else literals cube inputs)
+literals (c ∷ cube) (a ∷ inputs) = if c == 49 then signed a false ∷ literals cube inputs
+    else (if c == 48 then signed a true ∷ literals cube inputs else literals cube inputs)
 
 -- the gates so far, and the signals of the cubes
 pub record Terms : Type 0 where
@@ -170,7 +175,8 @@ is_plain cubes = is_none cubes || list_any asks_nothing cubes
 
 -- the result, complemented if the cover describes the off-set
 abbrev pub finished_by : ℕ → ℕ → Bool → Joined → Built
-finished_by sources before on j = finished sources before j.gates j.out.sig (if on then j.out.turned else not j.out.turned)
+finished_by sources before on j = finished sources before j.gates j.out.sig (if on then j.out.turned
+    else not j.out.turned)
 
 unfoldable pub cover_built : ℕ → List Gate → Cover → List Sig → Built
 cover_built sources gates c inputs = if is_plain c.cubes then record {
@@ -185,10 +191,12 @@ unsigned inputs = map (λ a. signed a false) inputs
 
 -- A parity is XOR of its inputs from the left; if `on` is false, the last gate is XNOR.
 unfoldable pub parity_built : ℕ → List Gate → Bool → List Sig → Built
-parity_built sources gates on inputs = finished_by sources (length gates) on (join_all xor_word sources gates (unsigned inputs))
+parity_built sources gates on inputs = finished_by sources (length gates) on
+    (join_all xor_word sources gates (unsigned inputs))
 
 unfoldable pub wide_built : ℕ → List Gate → Cover → List Sig → Built
-wide_built sources gates c inputs = if c.parity then parity_built sources gates c.on inputs else cover_built sources gates c inputs
+wide_built sources gates c inputs = if c.parity then parity_built sources gates c.on inputs
+    else cover_built sources gates c inputs
 
 -- Appends the gates of a table whose inputs are the given signals, and gives the table's signal. Inputs
 -- count as distinct, even if two signals are equal or one is constant.

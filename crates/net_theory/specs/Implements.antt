@@ -21,7 +21,8 @@ pub record Implements (n m : Net) : Type 0 where
   pub values : (given : ℕ → Bool) → sink_values m given ≡ sink_values n given
   pub fewer : length m.gates ≤ length n.gates
   pub still : (i : ℕ) (s : Sig) → slice_get n.sinks i ≡ Some s → IsStill n.sources s → slice_get m.sinks i ≡ Some s
-  pub equal : (i j : ℕ) (d : Sig) → i < length n.sinks → j < length n.sinks → slice_index_or n.sinks i d ≡ slice_index_or n.sinks j d → slice_index_or m.sinks i d ≡ slice_index_or m.sinks j d
+  pub equal : (i j : ℕ) (d : Sig) → i < length n.sinks → j < length n.sinks →
+      slice_index_or n.sinks i d ≡ slice_index_or n.sinks j d → slice_index_or m.sinks i d ≡ slice_index_or m.sinks j d
 
 -- m implements n and has no dangling gate: each gate is in the transitive fanin of a sink
 pub record IsCleanedUp (n m : Net) : Type 0 where

@@ -23,12 +23,16 @@ abbrev pub put_sig : (ℕ → Sig) → ℕ → Sig → ℕ → Sig
 put_sig nodes node s p = if p == node then s else nodes p
 
 abbrev pub with_kept : ℕ → Kept → ℕ → Gate → Kept
-with_kept sources k node g = record { nodes = put_sig k.nodes node (Node (sources + 1 + length k.gates)); gates = k.gates ++ moved_gate k.nodes g ∷ [] }
+with_kept sources k node g = record {
+  nodes = put_sig k.nodes node (Node (sources + 1 + length k.gates));
+  gates = k.gates ++ moved_gate k.nodes g ∷ [];
+}
 
 -- Appends copies of the marked gates to those of k, in order; the first gate of the list is the node `node`.
 unfoldable pub kept_after : (ℕ → Bool) → ℕ → Kept → ℕ → List Gate → Kept
 kept_after marks sources k node [] = k
-kept_after marks sources k node (g ∷ gs) = kept_after marks sources (if marks node then with_kept sources k node g else k) (node + 1) gs
+kept_after marks sources k node (g ∷ gs) = kept_after marks sources (if marks node then with_kept sources k node g
+    else k) (node + 1) gs
 
 -- the number of marked gates
 unfoldable pub marked_count : (ℕ → Bool) → ℕ → List Gate → ℕ

@@ -1,5 +1,6 @@
 -- The names of a circuit's gates in the written text.
-use Rattle.std.specs.Prelude.{ℕ, ◌+◌, ◌-◌, Bool, false, not, ◌==◌, if◌then◌else◌, nat_le, List, [], ◌∷◌, ◌++◌, length, map, filter, slice_index_or, Option, Some, None, decimal}
+use Rattle.std.specs.Prelude.{ℕ, ◌+◌, ◌-◌, Bool, false, not, ◌==◌, if◌then◌else◌, nat_le, List, [], ◌∷◌, ◌++◌, length}
+use Rattle.std.specs.Prelude.{map, filter, slice_index_or, Option, Some, None, decimal}
 use Rattle.std.specs.List.{filter_map, range_with_len}
 use Rattle.std.specs.Option.{option_map}
 use Rattle.net_theory.specs.declared.data.Sig.{Sig}
@@ -76,7 +77,8 @@ enough taken n = length n.gates + 2 + length taken
 
 -- the names of the gates of n; they avoid the names `taken`, and `outputs` are the names of the first sinks
 unfoldable pub names_in : List Name → List Name → Net → Naming
-names_in taken outputs n = names_after (output_on outputs n.sinks) (record { names = []; free = free_names taken 1 (enough taken n) }) (n.sources + 1) n.gates
+names_in taken outputs n = names_after (output_on outputs n.sinks)
+    (record { names = []; free = free_names taken 1 (enough taken n) }) (n.sources + 1) n.gates
 
 abbrev pub all_named : Circuit → Naming
 all_named c = names_in (taken_set c) c.outputs c.net
@@ -95,4 +97,5 @@ second_spare c = first_free (rest_free (all_named c).free)
 
 -- the name of a node
 unfoldable pub node_name : Circuit → ℕ → Name
-node_name c p = if nat_le p c.net.sources then slice_index_or (sources_of c) (p - 1) [] else slice_index_or (gate_names c) (p - c.net.sources - 1) []
+node_name c p = if nat_le p c.net.sources then slice_index_or (sources_of c) (p - 1) []
+    else slice_index_or (gate_names c) (p - c.net.sources - 1) []

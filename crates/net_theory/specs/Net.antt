@@ -17,7 +17,8 @@
 --   keep, move            copying gates with a map from old nodes to new signals
 --   strash                structural hashing: merging structurally equal gates
 --   m implements n        functional equivalence with no more gates
-use Rattle.std.specs.Prelude.{◌≡◌, ℕ, ◌+◌, ◌-◌, ◌==◌, if◌then◌else◌, slice_index_or, ◌≤◌, ◌<◌, ◌^◌, Bool, true, false, List, [], ◌∷◌, length, map, slice_get, Some, All}
+use Rattle.std.specs.Prelude.{◌≡◌, ℕ, ◌+◌, ◌-◌, ◌==◌, if◌then◌else◌, slice_index_or, ◌≤◌, ◌<◌, ◌^◌, Bool, true, false}
+use Rattle.std.specs.Prelude.{List, [], ◌∷◌, length, map, slice_get, Some, All}
 use Rattle.chain_theory.specs.Operator.{apply}
 use Rattle.chain_theory.specs.Value.{extended}
 use Rattle.net_theory.specs.declared.data.Sig.{Sig}

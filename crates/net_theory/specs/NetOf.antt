@@ -1,5 +1,6 @@
 -- The net of a document (its elaboration): the gates of its tables, in topological order.
-use Rattle.std.specs.Prelude.{ℕ, ◌+◌, if◌then◌else◌, List, [], ◌∷◌, length, map, Option, Some, None, unwrap_or, slice_get}
+use Rattle.std.specs.Prelude.{ℕ, ◌+◌, if◌then◌else◌, List, [], ◌∷◌, length, map, Option, Some, None, unwrap_or}
+use Rattle.std.specs.Prelude.{slice_get}
 use Rattle.std.specs.List.{filter_map}
 use Rattle.std.specs.Option.{option_map}
 use Rattle.net_theory.specs.declared.data.Sig.{Sig}
@@ -65,7 +66,8 @@ with_table_at sources g (Some t) = with_table sources g t
 -- adds the gates of the tables with the given indices, in order
 unfoldable pub with_tables : ℕ → List Table → Growth → List ℕ → Growth
 with_tables sources tables g [] = g
-with_tables sources tables g (t ∷ order) = with_tables sources tables (with_table_at sources g (slice_get tables t)) order
+with_tables sources tables g (t ∷ order) = with_tables sources tables
+    (with_table_at sources g (slice_get tables t)) order
 
 -- the state before the first table
 abbrev pub sources_only : Document → Growth
@@ -75,7 +77,9 @@ abbrev pub source_count : Document → ℕ
 source_count d = length (source_names d)
 
 unfoldable pub net_in_order : Document → List ℕ → Net
-net_in_order d order = let g = with_tables (source_count d) d.tables (sources_only d) order in record { sources = source_count d; gates = g.gates; sinks = map (signal_of g.signals) (sink_names d) }
+net_in_order d order =
+    let g = with_tables (source_count d) d.tables (sources_only d) order in
+    record { sources = source_count d; gates = g.gates; sinks = map (signal_of g.signals) (sink_names d) }
 
 -- The net of a document; None if some table depends on itself.
 -- Example: `.inputs a b`, `.outputs y` and `.names a b y` with `10 1` and `01 1` give the net of one XOR

@@ -14,7 +14,8 @@ ReadsNode g p = (g.a ≡ Node p) ⊎ (g.b ≡ Node p)
 -- `set` contains the roots and is closed under fanins
 pub record IsClosedFrom (n : Net) (roots set : ℕ → Bool) : Type 0 where
   pub starts : (p : ℕ) → roots p ≡ true → set p ≡ true
-  pub gates : (i p : ℕ) (g : Gate) → slice_get n.gates i ≡ Some g → ReadsNode g p → set (n.sources + 1 + i) ≡ true → set p ≡ true
+  pub gates : (i p : ℕ) (g : Gate) → slice_get n.gates i ≡ Some g → ReadsNode g p → set (n.sources + 1 + i) ≡ true →
+      set p ≡ true
 
 -- p is in the TFI of the roots (roots included): it is in every set that contains the roots and is closed
 -- under fanins.

@@ -2,7 +2,8 @@
 use Rattle.std.specs.Prelude.{◌≡◌, ℕ, ◌≤◌, true, false, List, length, map, All, Option, Some, None}
 use Rattle.net_theory.specs.declared.data.Trigger.{Trigger}
 use Rattle.net_theory.specs.Cover.{IsCover}
-use Rattle.net_theory.specs.Document.{Name, IsName, has, are_distinct, Table, Latch, LatchLine, Document, driven_names, used_names, table_output}
+use Rattle.net_theory.specs.Document.{Name, IsName, has, are_distinct, Table, Latch, LatchLine, Document, driven_names}
+use Rattle.net_theory.specs.Document.{used_names, table_output}
 use Rattle.net_theory.specs.Dependence.{IsAcyclic}
 use Rattle.net_theory.specs.Cost.{cost}
 use Rattle.net_theory.specs.Limits.{most_gates, most_table_inputs, most_cubes}

@@ -14,8 +14,10 @@ use Rattle.observe_theory.specs.Unobservable.{IsUnobservable}
 pub record IsNarrowed (n : Net) (w : Window) (t : FanoutCone) (whole s : Specification) : Type 0 where
   pub inputs : s.inputs ≡ whole.inputs
   pub outputs : s.outputs ≡ whole.outputs
-  pub seen : (h row : ℕ) → 1 ≤ h → h ≤ whole.outputs → row < 2 ^ whole.inputs → (IsUnobservable n w t row → ⊥) → s.cell h row ≡ whole.cell h row
-  pub unobservable : (h row : ℕ) → 1 ≤ h → h ≤ whole.outputs → row < 2 ^ whole.inputs → IsUnobservable n w t row → s.cell h row ≡ Free
+  pub seen : (h row : ℕ) → 1 ≤ h → h ≤ whole.outputs → row < 2 ^ whole.inputs → (IsUnobservable n w t row → ⊥) →
+      s.cell h row ≡ whole.cell h row
+  pub unobservable : (h row : ℕ) → 1 ≤ h → h ≤ whole.outputs → row < 2 ^ whole.inputs → IsUnobservable n w t row →
+      s.cell h row ≡ Free
 
 -- The specification of a window, with the cells of all unobservable rows as don't-cares.
 -- Example: where the gate 3 is XNOR of the sources 1 and 2, gate 4 is AND of 3 and the source 1, and the only

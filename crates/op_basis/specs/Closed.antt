@@ -91,7 +91,8 @@ const_closed basis = has_negation basis || every (keeps_constants basis)
 -- ---- complements
 
 unfoldable pub has_complements : Basis → ℕ → Bool
-has_complements basis op = implies (basis op) (basis (complement op) && basis (first_complemented op) && basis (second_complemented op))
+has_complements basis op = implies (basis op) (basis (complement op) && basis (first_complemented op) &&
+    basis (second_complemented op))
 
 -- For each member, its complement and the operators with one operand complemented are members.
 abbrev pub polarity_closed : Basis → Bool

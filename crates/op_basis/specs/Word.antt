@@ -24,4 +24,5 @@ character bit = if bit then 49 else 48
 
 -- the word of an operator
 unfoldable pub word_text : ℕ → List ℕ
-word_text op = character (apply op false false) ∷ character (apply op false true) ∷ character (apply op true false) ∷ character (apply op true true) ∷ []
+word_text op = character (apply op false false) ∷ character (apply op false true) ∷ character
+    (apply op true false) ∷ character (apply op true true) ∷ []

@@ -94,11 +94,13 @@ pub trait Solver: Drop {
             IfOk result (λ s. IfSat s (λ bits. length bits ≡ f.vars)) }
         ensures sat { (f : Formula) (least : ℕ) → IsSolverOf f least self →
             IfOk result (λ s. IfSat s (λ bits. Satisfies (bits_of bits) f)) }
-        ensures unsat { (f : Formula) (least : ℕ) → IsSolverOf f least self → IfOk result (λ s. IfUnsat s (Refutes f)) }
+        ensures unsat { (f : Formula) (least : ℕ) → IsSolverOf f least self →
+            IfOk result (λ s. IfUnsat s (Refutes f)) }
         ensures open { (f : Formula) (least : ℕ) → IsSolverOf f least self →
             IfOk result (λ s. IfOpen s (λ lines. ReachesBudget f lines (max least budget))) }
         // At the end of an open log at least half of its additions are live.
-        ensures kept { (f : Formula) (least : ℕ) → IsSolverOf f least self → IfOk result (λ s. IfOpen s (KeepsHalf f)) }
+        ensures kept { (f : Formula) (least : ℕ) → IsSolverOf f least self →
+            IfOk result (λ s. IfOpen s (KeepsHalf f)) }
         // A log that refutes, or leaves open, deletes about a quarter of its additions or more, and no clause of
         // the formula.
         ensures thinned { (f : Formula) (least : ℕ) → IsSolverOf f least self →

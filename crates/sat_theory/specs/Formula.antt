@@ -1,5 +1,6 @@
 -- Formulas in conjunctive normal form, and what satisfies them.
-use Rattle.std.specs.Prelude.{◌≡◌, ◌≢◌, ℕ, suc, ◌-◌, ◌<◌, ◌≤◌, ◌==◌, if◌then◌else◌, ℤ, pos, negsuc, neg_ℤ, unsigned_abs, Bool, true, false, not, slice_index_or, List, All, Any, AllPairs}
+use Rattle.std.specs.Prelude.{◌≡◌, ◌≢◌, ℕ, suc, ◌-◌, ◌<◌, ◌≤◌, ◌==◌, if◌then◌else◌, ℤ, pos, negsuc, neg_ℤ, unsigned_abs}
+use Rattle.std.specs.Prelude.{Bool, true, false, not, slice_index_or, List, All, Any, AllPairs}
 
 -- A literal is a variable with a sign, written as a number other than 0 as in DIMACS: 3 says that
 -- variable 3 is true, and -3 that it is false. Variables are numbered from 1.

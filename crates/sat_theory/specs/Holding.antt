@@ -1,5 +1,6 @@
 -- When a line of a log holds. Additions are checked by reverse unit propagation (RUP) along their hints.
-use Rattle.std.specs.Prelude.{◌≡◌, ◌≢◌, ℕ, ◌<◌, ◌⊎◌, ℤ, Bool, true, false, ◌||◌, List, [], ◌∷◌, Contains, All, AllPairs, Option, Some, IsSome}
+use Rattle.std.specs.Prelude.{◌≡◌, ◌≢◌, ℕ, ◌<◌, ◌⊎◌, ℤ, Bool, true, false, ◌||◌, List, [], ◌∷◌, Contains, All, AllPairs}
+use Rattle.std.specs.Prelude.{Option, Some, IsSome}
 use Rattle.std.specs.List.{list_any}
 use Rattle.std.specs.Ordering.{int_eq}
 use Rattle.sat_theory.specs.Formula.{opposite, IsWithin}
@@ -28,7 +29,8 @@ pub record IsUnitOutside (set : ℤ → Bool) (clause : List ℤ) (l : ℤ) : Ty
 unfoldable pub HintsHold : (ℕ → Option (List ℤ)) → (ℤ → Bool) → List ℕ → Type 0
 HintsHold live set [] = ⊥
 HintsHold live set (hint ∷ []) = (clause : List ℤ) × (live hint ≡ Some clause) × All (λ m. set m ≡ true) clause
-HintsHold live set (hint ∷ more ∷ hints) = (clause : List ℤ) × (l : ℤ) × (live hint ≡ Some clause) × IsUnitOutside set clause l × HintsHold live (with_literal set (opposite l)) (more ∷ hints)
+HintsHold live set (hint ∷ more ∷ hints) = (clause : List ℤ) × (l : ℤ) × (live hint ≡ Some clause) ×
+    IsUnitOutside set clause l × HintsHold live (with_literal set (opposite l)) (more ∷ hints)
 
 -- An addition holds if its id is greater than all ids before, its variables are variables of the formula, and its
 -- hints hold from the set of its own literals.

@@ -1,5 +1,6 @@
 -- Whole logs: when a log refutes a formula, and when it has reached a budget without a refutation.
-use Rattle.std.specs.Prelude.{◌≡◌, ℕ, ◌+◌, ◌*◌, ◌<◌, ◌≤◌, ◌⊎◌, ℤ, List, [], ◌∷◌, length, Contains, All, Any, count_by, is_some, Option, Some}
+use Rattle.std.specs.Prelude.{◌≡◌, ℕ, ◌+◌, ◌*◌, ◌<◌, ◌≤◌, ◌⊎◌, ℤ, List, [], ◌∷◌, length, Contains, All, Any, count_by}
+use Rattle.std.specs.Prelude.{is_some, Option, Some}
 use Rattle.sat_theory.specs.Formula.{Formula}
 use Rattle.sat_theory.specs.Line.{Line, Add, Delete, IsLine, IsAdding}
 use Rattle.sat_theory.specs.State.{State, start, next}

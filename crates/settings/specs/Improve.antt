@@ -18,4 +18,12 @@ pub record IsInRange (s : ImproveSettings) : Type 0 where
 
 -- the defaults
 abbrev pub defaults : ImproveSettings
-defaults = record { basis = all_set; method = Ssv; cap = 5; rounds = 1000; conflicts = default_conflicts; observe = false; effort = 0 }
+defaults = record {
+  basis = all_set;
+  method = Ssv;
+  cap = 5;
+  rounds = 1000;
+  conflicts = default_conflicts;
+  observe = false;
+  effort = 0;
+}

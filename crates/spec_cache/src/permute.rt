@@ -83,7 +83,8 @@ fn permuted_words(
 pub fn permuted_spec(alloc: Global, spec: &Spec, order: &[u32]) -> Result<Spec, AllocError>
     requires { IsOrder spec.now.n order.now }
     ensures inputs { IfOk result (λ permuted. permuted.n ≡ spec.now.n) }
-    ensures permuted { IfOk result (λ permuted. IsPermuted (specification spec.now) (specification permuted) order.now) }
+    ensures permuted { IfOk result (λ permuted. IsPermuted (specification spec.now)
+        (specification permuted) order.now) }
 {
     let n = spec.n();
     let on = permuted_words(alloc, n, order, spec.on())?;

@@ -25,7 +25,8 @@ pub record IsLeast (bytes : List ℕ) (settings : SynthSettings) (text : List �
   pub header_is : certificate.certificate.header ≡ header_of certificate.certificate.header.spec settings
   pub tables : SpellsTables (specification certificate.certificate.header.spec) (lines_of bytes) []
   pub live_bounds : HaveLiveBounds certificate.certificate.header certificate.certificate.sections
-  pub subproblems_live_bounds : All (HasLiveBounds certificate.certificate.header (length certificate.certificate.sections)) certificate.subproblems
+  pub subproblems_live_bounds : All (HasLiveBounds certificate.certificate.header
+      (length certificate.certificate.sections)) certificate.subproblems
 
 -- The text is a certificate of the search for the fewest steps, whose verdict isn't a minimum.
 pub record IsOther (bytes : List ℕ) (settings : SynthSettings) (text : List ℕ) (verdict : Verdict) : Type 0 where

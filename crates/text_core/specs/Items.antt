@@ -10,7 +10,10 @@ pub record Split : Type 0 where
 -- the items of an unfinished item, which has no blank (byte 32), followed by a text
 unfoldable pub split_from : List ℕ → List ℕ → Split
 split_from prefix [] = record { first = prefix; more = [] }
-split_from prefix (b ∷ bs) = if b == 32 then record { first = prefix; more = (split_from [] bs).first ∷ (split_from [] bs).more } else split_from (prefix ++ b ∷ []) bs
+split_from prefix (b ∷ bs) = if b == 32 then record {
+  first = prefix;
+  more = (split_from [] bs).first ∷ (split_from [] bs).more;
+} else split_from (prefix ++ b ∷ []) bs
 
 -- the items of a text, one more than it has blanks: between two adjacent blanks there is an empty
 -- item

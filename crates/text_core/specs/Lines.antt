@@ -14,7 +14,8 @@ last_line (b ∷ bs) = record { text = b ∷ bs; ended = false } ∷ []
 -- the lines of an unfinished line, which has no LF, followed by bytes
 unfoldable pub lines_from : List ℕ → List ℕ → List Line
 lines_from prefix [] = last_line prefix
-lines_from prefix (b ∷ bs) = if b == 10 then record { text = prefix; ended = true } ∷ lines_from [] bs else lines_from (prefix ++ b ∷ []) bs
+lines_from prefix (b ∷ bs) = if b == 10 then record { text = prefix; ended = true } ∷ lines_from [] bs
+    else lines_from (prefix ++ b ∷ []) bs
 
 -- the lines of a text, as `inputs 2` and `0110` of "inputs 2\n0110\n"
 abbrev pub lines_of : List ℕ → List Line

@@ -5,7 +5,8 @@ use Rattle.std.specs.Char.{is_ascii_digit}
 -- the number whose first digits have the value n and whose other digits are given, if it is at most limit
 unfoldable pub number_from : ℕ → ℕ → List ℕ → Option ℕ
 number_from limit n [] = Some n
-number_from limit n (b ∷ bs) = if is_ascii_digit b then (if nat_lt limit (n * 10 + (b - 48)) then None else number_from limit (n * 10 + (b - 48)) bs) else None
+number_from limit n (b ∷ bs) = if is_ascii_digit b
+    then (if nat_lt limit (n * 10 + (b - 48)) then None else number_from limit (n * 10 + (b - 48)) bs) else None
 
 -- the number that a text spells, if it spells one that is at most limit
 abbrev pub number_up_to : ℕ → List ℕ → Option ℕ

@@ -1,5 +1,6 @@
 -- Trivial outputs, which cost nothing, and live outputs, which need a step.
-use Rattle.std.specs.Prelude.{◌≡◌, ℕ, zero, suc, ◌+◌, ◌-◌, ◌^◌, ◌<◌, ◌≤◌, ⊤, Bool, true, false, ◌&&◌, List, [], ◌∷◌, ◌++◌, Option, Some, None, map, slice_index, if◌then◌else◌}
+use Rattle.std.specs.Prelude.{◌≡◌, ℕ, zero, suc, ◌+◌, ◌-◌, ◌^◌, ◌<◌, ◌≤◌, ⊤, Bool, true, false, ◌&&◌, List, [], ◌∷◌}
+use Rattle.std.specs.Prelude.{◌++◌, Option, Some, None, map, slice_index, if◌then◌else◌}
 use Rattle.chain_theory.specs.Specification.{Specification, input}
 use Rattle.chain_theory.specs.Agreement.{is_met}
 use Rattle.chain_theory.specs.declared.data.Out.{Out}
@@ -83,4 +84,8 @@ words_of words outputs = map (λ h. slice_index words (h - 1)) outputs
 
 -- the tables of the live outputs, in their order
 abbrev pub live_words : Words → Words
-live_words w = record { n = w.n; on = words_of w.on (live_outputs (specification w)); care = words_of w.care (live_outputs (specification w)) }
+live_words w = record {
+  n = w.n;
+  on = words_of w.on (live_outputs (specification w));
+  care = words_of w.care (live_outputs (specification w));
+}

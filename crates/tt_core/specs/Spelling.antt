@@ -1,5 +1,6 @@
 -- Texts of tables, as a relation to the specification that they spell: the character at each index.
-use Rattle.std.specs.Prelude.{◌≡◌, ℕ, ◌+◌, ◌^◌, ◌<◌, ◌≤◌, true, List, [], ◌∷◌, ◌++◌, length, Some, slice_get, slice_index, codes, decimal}
+use Rattle.std.specs.Prelude.{◌≡◌, ℕ, ◌+◌, ◌^◌, ◌<◌, ◌≤◌, true, List, [], ◌∷◌, ◌++◌, length, Some, slice_get}
+use Rattle.std.specs.Prelude.{slice_index, codes, decimal}
 use Rattle.std.proofs.Common.{drop}
 use Rattle.chain_theory.specs.Specification.{Specification}
 use Rattle.chain_theory.specs.declared.data.Cell.{Cell}

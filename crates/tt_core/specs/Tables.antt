@@ -1,12 +1,14 @@
 -- The grammar of tables: what a list of lines spells, or the first error from the top.
-use Rattle.std.specs.Prelude.{ℕ, ◌+◌, ◌^◌, ◌&&◌, List, [], ◌∷◌, ◌++◌, length, codes, Option, Some, None, Result, Ok, Err, nat_lt, not, ◌==◌, if◌then◌else◌}
+use Rattle.std.specs.Prelude.{ℕ, ◌+◌, ◌^◌, ◌&&◌, List, [], ◌∷◌, ◌++◌, length, codes, Option, Some, None, Result, Ok}
+use Rattle.std.specs.Prelude.{Err, nat_lt, not, ◌==◌, if◌then◌else◌}
 use Rattle.std.specs.List.{list_all}
 use Rattle.std.specs.Option.{option_and_then}
 use Rattle.text_core.specs.Lines.{Line}
 use Rattle.text_core.specs.Numbers.{number_up_to}
 use Rattle.text_core.specs.Words.{after, begins_lower}
 use Rattle.tt_core.specs.declared.error.SpecError.{SpecError}
-use Rattle.tt_core.specs.declared.error.SpecError.TheVariants.{BadHeader, BadRow, WrongLength, TooManyInputs, TooManyOutputs, NoOutput}
+use Rattle.tt_core.specs.declared.error.SpecError.TheVariants.{BadHeader, BadRow, WrongLength, TooManyInputs}
+use Rattle.tt_core.specs.declared.error.SpecError.TheVariants.{TooManyOutputs, NoOutput}
 use Rattle.tt_core.specs.Cells.{is_cell, on_bit, care_bit, word_of}
 use Rattle.tt_core.specs.Words.{Words}
 use Rattle.chain_theory.specs.Limits.{most_inputs, most_outputs}
@@ -23,7 +25,8 @@ inputs_of l = if l.ended then option_and_then (number_up_to most_number) (after 
 
 -- the error of a table line of n inputs, if there is one
 abbrev pub row_fault : ℕ → ℕ → Line → Option SpecError
-row_fault n number l = if (l.ended && not (length l.text == 0)) && list_all is_cell l.text then (if length l.text == 2 ^ n then None else Some (WrongLength number)) else Some (BadRow number)
+row_fault n number l = if (l.ended && not (length l.text == 0)) && list_all is_cell l.text
+    then (if length l.text == 2 ^ n then None else Some (WrongLength number)) else Some (BadRow number)
 
 -- the words with one more output, that of a table line
 abbrev pub with_row : Words → List ℕ → Words

@@ -25,7 +25,8 @@ pub record IsSpec (w : Words) : Type 0 where
 
 -- the cell of output h, numbered from 1, on row t
 abbrev pub cell_of : Words → ℕ → ℕ → Cell
-cell_of w h t = if digit (slice_index w.care (h - 1)) t then (if digit (slice_index w.on (h - 1)) t then One else Zero) else Free
+cell_of w h t = if digit (slice_index w.care (h - 1)) t then (if digit (slice_index w.on (h - 1)) t then One else Zero)
+    else Free
 
 -- the specification in these words
 abbrev pub specification : Words → Specification

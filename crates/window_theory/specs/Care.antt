@@ -1,5 +1,6 @@
 -- The specification of a window: its local function with satisfiability don't-cares (SDC).
-use Rattle.std.specs.Prelude.{◌≡◌, ℕ, ◌+◌, ◌≤◌, ◌<◌, ◌^◌, ◌-◌, Bool, true, false, if◌then◌else◌, List, [], ◌∷◌, length, slice_index_or, ◌⊎◌}
+use Rattle.std.specs.Prelude.{◌≡◌, ℕ, ◌+◌, ◌≤◌, ◌<◌, ◌^◌, ◌-◌, Bool, true, false, if◌then◌else◌, List, [], ◌∷◌, length}
+use Rattle.std.specs.Prelude.{slice_index_or, ◌⊎◌}
 use Rattle.chain_theory.specs.Operator.{Basis}
 use Rattle.chain_theory.specs.Agreement.{NoneBelow}
 use Rattle.chain_theory.specs.Specification.{Specification, input}
@@ -17,7 +18,8 @@ use Rattle.window_theory.specs.FaninCone.{ExpandsTo}
 
 unfoldable pub fixed_after : (ℕ → Bool) → (ℕ → Bool) → (ℕ → Bool) → ℕ → List Gate → ℕ → Bool
 fixed_after fixed given bits node [] = bits
-fixed_after fixed given bits node (g ∷ gs) = fixed_after fixed given (extended bits node (if fixed node then given node else gate_value bits g)) (node + 1) gs
+fixed_after fixed given bits node (g ∷ gs) = fixed_after fixed given (extended bits node (if fixed node then given node
+    else gate_value bits g)) (node + 1) gs
 
 -- The bits of the nodes where the sources and the nodes of `fixed` have the bits of `given`, and each other
 -- gate has its operator's value.
@@ -43,7 +45,8 @@ pub record IsComputed (n : Net) (fixed inside bits : ℕ → Bool) (p : ℕ) : T
 -- part.
 -- Example: gate 4 reads gate 3 and the source 1. With 3 fixed, the nodes 1, 3 and 4 are a part.
 abbrev pub IsEvaluatedPart : Net → (ℕ → Bool) → (ℕ → Bool) → (ℕ → Bool) → (ℕ → Bool) → Type 0
-IsEvaluatedPart n fixed given inside bits = (p : ℕ) → inside p ≡ true → (IsGiven n fixed p × (bits p ≡ given p)) ⊎ IsComputed n fixed inside bits p
+IsEvaluatedPart n fixed given inside bits = (p : ℕ) → inside p ≡ true → (IsGiven n fixed p × (bits p ≡ given p)) ⊎
+    IsComputed n fixed inside bits p
 
 -- ---- rows
 
@@ -79,7 +82,8 @@ pub record IsSpecificationOf (n : Net) (w : Window) (s : Specification) : Type 0
   pub care : (h t : ℕ) (given : ℕ → Bool) → 1 ≤ h → h ≤ length w.outputs → t < 2 ^ length w.inputs →
       IsCareRow n w.inputs t → HasRow given w.inputs t →
       s.cell h t ≡ cell_of (values_with n (among w.inputs) given (output_node w h))
-  pub free : (h t : ℕ) → 1 ≤ h → h ≤ length w.outputs → t < 2 ^ length w.inputs → (IsCareRow n w.inputs t → ⊥) → s.cell h t ≡ Free
+  pub free : (h t : ℕ) → 1 ≤ h → h ≤ length w.outputs → t < 2 ^ length w.inputs → (IsCareRow n w.inputs t → ⊥) →
+      s.cell h t ≡ Free
 
 -- No chain over the basis of fewer than `count` steps implements the window. It doesn't matter for which
 -- specification of the window this holds, since the same chains implement all of them (a law says so).

@@ -30,4 +30,5 @@ IsFullyExpanded n leaves = (after : List ℕ) → Expands n leaves after → mos
 -- Example: where gate 3 is AND of the sources 1 and 2, the leaves of 2, 3 are 1, 2.
 pub data ExpandsTo (n : Net) : List ℕ → List ℕ → Type 0 where
   stays : (leaves : List ℕ) → IsFullyExpanded n leaves → ExpandsTo n leaves leaves
-  goes_on : (leaves after last : List ℕ) → Expands n leaves after → length after ≤ most_leaves → ExpandsTo n after last → ExpandsTo n leaves last
+  goes_on : (leaves after last : List ℕ) → Expands n leaves after → length after ≤ most_leaves →
+      ExpandsTo n after last → ExpandsTo n leaves last

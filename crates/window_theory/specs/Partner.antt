@@ -20,7 +20,8 @@ pub record ArePartners (n : Net) (g : ℕ) (partners : List ℕ) : Type 0 where
   pub falling : IsFalling partners
   pub share : (h : ℕ) → among partners h ≡ true → SharesBelow n g h
   pub few : length partners ≤ most_partners
-  pub others : (h : ℕ) → SharesBelow n g h → (among partners h ≡ true) ⊎ ((length partners ≡ most_partners) × ((q : ℕ) → among partners q ≡ true → h < q))
+  pub others : (h : ℕ) → SharesBelow n g h → (among partners h ≡ true) ⊎
+      ((length partners ≡ most_partners) × ((q : ℕ) → among partners q ≡ true → h < q))
 
 pub record IsPartner (n : Net) (g h : ℕ) : Type 0 where
   pub partners : List ℕ

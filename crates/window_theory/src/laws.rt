@@ -13,7 +13,8 @@ ghost use Rattle.window_theory.specs.Window.{Window, IsCandidate, AreTaken, Take
 ghost use Rattle.window_theory.specs.Window.{Belongs, IsWindow};
 ghost use Rattle.window_theory.specs.FaninCone.{ExpandsTo};
 ghost use Rattle.window_theory.specs.FaninConeLaws.{AreBelow};
-ghost use Rattle.window_theory.specs.Care.{values_with, IsGiven, IsEvaluatedPart, HasRow, IsCareRow, IsSpecificationOf};
+ghost use Rattle.window_theory.specs.Care.{values_with, IsGiven, IsEvaluatedPart, HasRow, IsCareRow};
+ghost use Rattle.window_theory.specs.Care.{IsSpecificationOf};
 ghost use Rattle.window_theory.specs.Care.{HasNoFewer};
 ghost use Rattle.window_theory.specs.CarePartLaws.{AreInside};
 ghost use Rattle.window_theory.specs.Substituted.{Fits, IsSubstitution};
@@ -123,7 +124,8 @@ pub fn chains_take_places()
         Belongs n w →
         IsChain c → IsSpecificationOf n w s → Agrees c s → IsSubstitution n w c m →
         sink_values m given ≡ sink_values n given }
-    ensures implements { (n m : Net) (w : Window) (s : Specification) (c : Chain) → IsNet n → Belongs n w → IsChain c →
+    ensures implements { (n m : Net) (w : Window) (s : Specification) (c : Chain) → IsNet n → Belongs n w →
+        IsChain c →
         IsSpecificationOf n w s → Agrees c s → IsSubstitution n w c m → length c.steps ≤ length w.gates →
         Implements n m }
 {}
