@@ -1,4 +1,4 @@
-"""Circuits in BLIF that pairs of netlists are made of: adders by two ways, and multipliers."""
+"""Circuits in BLIF for pairs of netlists: adders in two ways, and multipliers."""
 
 import random
 

@@ -1,16 +1,16 @@
 #!/usr/bin/env python3
-"""Takes the steps of the solver and counts them: the benchmark `solve` has the log alone to count by.
+"""Takes the steps of the solver and counts them, since the benchmark `solve` can only count by the log.
 
     make_formula.py pigeons 4 | count_steps.py [MOST]
 
-It reads what `make_formula.py` writes, and gives up behind MOST conflicts, where a number is named. It
-decides, propagates, learns, forgets and restarts as `cdcl_core` does, and strengthens the clauses of the
-formula once as that does with the finder of `subsume_core`, with the same order of all lists, and shares no
-line with them: equal numbers of additions and hints say that both take the same steps. The additions of a log
-are the conflicts, each with a learnt clause, and the shorter clauses that stand for ones of the formula.
+It reads the output of `make_formula.py`, and gives up after MOST conflicts (10,000,000). It decides, propagates,
+learns, reduces and restarts as `cdcl_core` does, and strengthens the clauses of the formula once, as that does with
+the finder of `subsume_core`, with the same order of all lists, but shares no line with them: equal numbers of
+additions and hints show that both take the same steps. The additions of a log are the conflicts, each with a learnt
+clause, and the strengthened clauses of the formula.
 Propagations are the literals of the trail that were visited, and visits the clauses that were read for them.
 
-In tables by literals, -v stands at the index -v, which counts from the end.
+In tables indexed by literals, -v has the index -v, which counts from the end.
 """
 
 import bisect
@@ -18,6 +18,8 @@ import collections
 import itertools
 import math
 import sys
+
+from usage import standard_input, usage
 
 FIRST_STEP, GREATEST_STEP, STEP_PART, REASON_PART = 1 << 40, 1 << 56, 16, 2
 GREATEST_SCORE = (1 << 64) - 1
@@ -600,12 +602,11 @@ def read(text):
 def main():
     sys.setrecursionlimit(10_000)
     most = int(sys.argv[1]) if len(sys.argv) > 1 else 10_000_000
-    solver = Solver(*read(sys.stdin.read()))
+    solver = Solver(*read(standard_input(__doc__)))
     answer = solver.solve(most)
     print(", ".join([answer, *(f"{number} {what}" for what, number in solver.counts.items())]))
 
 
 if __name__ == "__main__":
-    if sys.argv[1:2] == ["--help"]:
-        sys.exit(print(__doc__))
+    usage(__doc__)
     main()

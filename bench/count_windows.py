@@ -1,12 +1,13 @@
 #!/usr/bin/env python3
-"""count_windows.py [CAP] < NETLIST: how the windows of a netlist are answered in one round, if none has a shorter chain.
+"""count_windows.py [CAP] < NETLIST: how the windows of a netlist are decided in one round, if none has a shorter chain.
 
 An independent program, which shares no line with the product. It reads a BLIF netlist of tables of at most two inputs, as
-`improve` writes them, goes over the visits of a round, and prints how many there are, how many windows count, how many
-of these counting decides, how many of two gates it leaves (which are decided by going over all steps), how many others are
-met again (as they are, or with their inputs in another order), and how many are left for a search. Words are numbers of up to
-4,096 bits."""
+`improve` writes them, goes over the candidates of a round, and prints their number, the number of valid windows, how many
+of these the counting bound decides, how many of two gates remain (which enumeration decides), how many others are met again
+(as they are, or with permuted inputs), and how many are left for a search. Bit-parallel words have up to 4,096 bits."""
 import sys
+
+from usage import standard_input, usage
 
 
 def read(text):
@@ -197,13 +198,12 @@ def normal(n, ons, care):
 
 def main():
     cap = int(sys.argv[1]) if len(sys.argv) > 1 else 5
-    counter = Counter(*read(sys.stdin.read()))
+    counter = Counter(*read(standard_input(__doc__)))
     counter.round(cap)
     print(f'gates {len(counter.gates)} visits {counter.visits} windows {counter.windows} counted {counter.counted} '
           f'stepped {counter.stepped} again {counter.again} searched {counter.searched}')
 
 
 if __name__ == '__main__':
-    if sys.argv[1:2] == ['--help']:
-        sys.exit(print(__doc__))
+    usage(__doc__)
     main()

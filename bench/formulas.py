@@ -1,16 +1,18 @@
 #!/usr/bin/env python3
-"""How large formulas are, and what building them takes.
+"""The size of formulas, and the cost of building them.
 
-usage: formulas.py PROGRAM [SIZE]
+    formulas.py PROGRAM [SIZE]
 
-PROGRAM is the built program `benchmarks`, asked for `formulas`. The table is one output of six inputs, which is 1 where three
-of them are, so that all inputs may be exchanged; SIZE steps (10 where none is named) over all operators.
-Prints a row for each method: how many formulas the size has, the variables of the one with most, the
-clauses and literals of all together, the least user time of three runs, and the most memory of a run."""
+PROGRAM is the built program `benchmarks` (`PROGRAM formulas`). The table is one output of six inputs, 1 where three of them
+are 1, so that it is symmetric in all inputs; SIZE steps (10) over all operators. It prints a row for each method: the
+number of formulas of the size, the variables of the largest one, the clauses and literals of all together, the least user
+time of three runs, and the most memory of a run."""
 import os
 import subprocess
 import sys
 import tempfile
+
+from usage import usage
 
 METHODS = ("plain", "ssv", "select", "fence")
 
@@ -46,6 +48,5 @@ def main():
 
 
 if __name__ == "__main__":
-    if sys.argv[1:2] == ["--help"]:
-        sys.exit(print(__doc__))
+    usage(__doc__, 1)
     main()

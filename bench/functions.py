@@ -1,5 +1,5 @@
-"""Functions that benchmarks look for, each with the fewest steps over all operators that compute it, and a
-table for each output: one digit a row, from row 0 on, or - where the row is free."""
+"""Functions for benchmarks, each with its fewest steps over all operators, and a table for each output: one digit
+per row, from row 0 on, or - for a don't-care."""
 
 SMALL = [
     ("xor", 1, "0110"),

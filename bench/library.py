@@ -1,9 +1,9 @@
 #!/usr/bin/env python3
-"""library.py [LIBRARY [PROGRAM]] [--classes]: what a call of the library costs from C and from Python, beside a process, and
-prints a table. LIBRARY is the shared one (prebuilt), beside which the static one stands.
+"""library.py [LIBRARY [PROGRAM]] [--classes]: the cost of a library call from C and from Python, and of a process, as a
+table. LIBRARY is the shared library (prebuilt), with the static one in the same folder.
 
 The question is a function of three steps (a multiplexer). A time is the least mean of five runs of 400 calls, in
-microseconds. With --classes the 222 NPN classes of four inputs are asked for too, each certificate rechecked: by the module
+microseconds. With --classes it also synthesises the 222 NPN classes of four inputs and rechecks each certificate: by the module
 with one process and with four, and by tools/tabulate with four jobs, where GNU parallel is installed."""
 import os
 import shutil
@@ -16,6 +16,8 @@ from pathlib import Path
 TOP = Path(__file__).resolve().parents[1]
 sys.path.insert(0, str(TOP / 'python'))
 import batsokemi  # noqa: E402
+
+from usage import usage
 
 TABLES = '01010011'
 TEXT = f'inputs 3\n{TABLES}\n'.encode()
@@ -89,6 +91,5 @@ def main():
 
 
 if __name__ == '__main__':
-    if sys.argv[1:2] == ['--help']:
-        sys.exit(print(__doc__))
+    usage(__doc__)
     main()

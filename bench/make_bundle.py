@@ -1,19 +1,20 @@
 #!/usr/bin/env python3
-"""Writes a valid certificate by the plain method over all operators, for the benchmark of `recheck`.
+"""Writes a valid certificate by the method `plain` over all operators, for the benchmark of `recheck`.
 
     make_bundle.py MAX TABLE..             a log for each size from 0 to MAX, verdict `none MAX`
     make_bundle.py MAX --open K TABLE..    the same; a log that adds K clauses ends there, and leaves its size open
     make_bundle.py MAX --log K TABLE..     the formula of size MAX alone with that log, in the form of make_log.py
 
-No chain of at most MAX steps may agree with the tables, and no table may be met by an input or a
-constant. The formulas are made here from their description, and not by the program; each log is a
-depth-first search, as in make_log.py.
+No chain of at most MAX steps may agree with the tables, and no table may be an input or a constant. The
+formulas are built from their description, not by the program; each log is a depth-first search, as in
+make_log.py.
 """
 
 import sys
 
 from make_formula import Coding, pairs, write_formula
 from make_log import Search
+from usage import usage
 
 
 def formula(tables, steps):
@@ -96,6 +97,5 @@ def main():
 
 
 if __name__ == "__main__":
-    if sys.argv[1:2] == ["--help"]:
-        sys.exit(print(__doc__))
+    usage(__doc__, 2)
     main()

@@ -4,18 +4,18 @@
     make_formula.py pigeons N          N + 1 pigeons in N holes
     make_formula.py plain R TABLE ..   R steps over all operators that compute the tables, one for each
                                        output, by the plain encoding
-    make_formula.py ssv R TABLE ..     the same with cuts
-    make_formula.py --dimacs ..        the same formula in the form of other solvers
+    make_formula.py ssv R TABLE ..     the same with symmetry-breaking constraints
+    make_formula.py --dimacs ..        the same formula in DIMACS
 
-The first line is `formula VARS CLAUSES`. Then comes each clause as an addition without hints. A table
-has one digit a row, from row 0 on, or - where the row is free, and input 1 is the first digit of a row in
-binary.
+The first line is `formula VARS CLAUSES`. Then comes each clause as an addition without hints. A table has
+one digit per row, from row 0 on, or - for a don't-care, and input 1 is the most significant digit of a row.
 """
 
 import itertools
 import sys
 
 from make_log import pigeons
+from usage import usage
 
 IDLE, NEGATIONS = (0, 3, 5, 15), (10, 12)
 
@@ -213,6 +213,5 @@ def main():
 
 
 if __name__ == "__main__":
-    if sys.argv[1:2] == ["--help"]:
-        sys.exit(print(__doc__))
+    usage(__doc__, 2)
     main()

@@ -4,12 +4,14 @@
     make_log.py pigeons N     N + 1 pigeons in N holes
     make_log.py parity N      N variables whose sum is even and odd, as two chains of xors
 
-The first line is `formula VARS CLAUSES`. Then comes each clause as a line of the log's form without
-hints, and then the log, which is a depth-first search with unit propagation: a clause for each branch
-that fails, with the clauses that show it for hints, and deletions of what is no longer needed.
+The first line is `formula VARS CLAUSES`. Then comes each clause as a log line without hints,
+and then the log, a depth-first search with unit propagation: a clause for each failed branch, with its hints,
+and deletions of clauses that are no longer needed.
 """
 
 import sys
+
+from usage import usage
 
 
 def pigeons(holes):
@@ -130,6 +132,5 @@ def main():
 
 
 if __name__ == "__main__":
-    if sys.argv[1:2] == ["--help"]:
-        sys.exit(print(__doc__))
+    usage(__doc__, 2)
     main()

@@ -3,15 +3,16 @@
 
     bench/make_miter.py FIRST.blif SECOND.blif > miter.cnf
 
-Both have to be well formed. A table of at most two different inputs is one gate or none; a wider one is a gate
-for each literal but the last, as docs/FORMATS.md says ("What a netlist costs"). The gates stand in the order in
-which a depth-first visit of the tables, in the order of the text, finishes them. This is a second writer: it
-shares nothing with the program, so that a log that `equiv` wrote can be judged by any checker of LRAT against
-the formula that this script wrote.
+Both have to be well formed. A table of at most two different inputs is one gate or none; a wider one is a gate for
+each literal but one, as in docs/FORMATS.md ("What a netlist costs"). The gates are numbered in the order in which a
+depth-first visit of the tables, in the order of the text, finishes them. This second writer shares nothing with the
+program, so any LRAT checker can check a log of `equiv` against the formula of this script.
 """
 
 import itertools
 import sys
+
+from usage import usage
 
 
 def logical_lines(text):
@@ -203,6 +204,5 @@ def main():
 
 
 if __name__ == "__main__":
-    if sys.argv[1:2] == ["--help"]:
-        sys.exit(print(__doc__))
+    usage(__doc__, 2)
     main()

@@ -1,11 +1,12 @@
 #!/usr/bin/env python3
 """merge_equal.py < NETLIST > NETLIST: a BLIF netlist in which equal tables are one.
 
-Two tables are equal where they have the same rows over the same names, of two names in either order, once names that
-were found equal before are the same. Tables are to come after those that they read, as the netlists of this folder are
-written. An output whose table is another one's becomes a table of one name. What was merged is told on the standard
-error."""
+Two tables are equal if they have the same rows over the same names, for two names in either order, where names that were
+found equal before count as the same. Each table has to come after those that it reads, as in the netlists of this folder.
+An output whose table equals another one becomes a copy of it. The number of merged tables goes to standard error."""
 import sys
+
+from usage import standard_input, usage
 
 
 def tables(lines):
@@ -33,7 +34,7 @@ def key(names, rows):
 
 def main():
     same, first, outputs, count = {}, {}, [], 0
-    for group in tables(sys.stdin.read().splitlines()):
+    for group in tables(standard_input(__doc__).splitlines()):
         head, *rows = group
         words = head.split()
         if words[:1] == ['.names']:
@@ -58,6 +59,5 @@ def main():
 
 
 if __name__ == '__main__':
-    if sys.argv[1:2] == ['--help']:
-        sys.exit(print(__doc__))
+    usage(__doc__)
     main()

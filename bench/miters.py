@@ -1,6 +1,6 @@
 #!/usr/bin/env python3
-"""miters.py PROGRAM [NETLIST.blif ..]: pairs of netlists that do the same, and a table of how hard it is to refute
-their miters for minisat and for PROGRAM's `equiv`, which writes its log besides.
+"""miters.py PROGRAM [NETLIST.blif ..]: pairs of equivalent netlists, and a table of how hard it is to refute their
+miters for minisat and for PROGRAM's `equiv`, which writes its log besides.
 
 The pairs are each netlist beside what PROGRAM's `improve` and two scripts of ABC make of it, adders of 32 bits by two
 ways, multipliers beside what ABC makes of them, multipliers whose operands are exchanged, and netlists of 10,000 gates
@@ -16,6 +16,7 @@ from collections import namedtuple
 
 import circuits
 from make_miter import Netlist, dimacs
+from usage import usage
 
 # the learnt clauses that `equiv` may take: by default, and where told
 FEW, MORE, MOST = 100_000, 1_000_000, 10_000_000
@@ -135,6 +136,5 @@ def main():
 
 
 if __name__ == "__main__":
-    if sys.argv[1:2] == ["--help"]:
-        sys.exit(print(__doc__))
+    usage(__doc__, 1)
     main()

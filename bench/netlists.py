@@ -1,21 +1,23 @@
 #!/usr/bin/env python3
-"""netlists.py PROGRAM [--windows [GATES..] | --chains [GATES..]]: makes large netlists, improves each by PROGRAM, and prints a table.
+"""netlists.py PROGRAM [--windows [GATES..] | --chains [GATES..]]: makes large netlists, improves each, and prints a table.
 
-Without windows (`--cap 0`): the gates before and after, the bytes, the user time, megabytes of text a second, and the peak
-of memory. The netlists are a ladder of 100,000 gates of which each reads the one before it, the same with its tables
-in reverse order, and a wide random netlist of which about half is read by the outputs.
+Without windows (`--cap 0`): the gates before and after, the bytes, the user time, megabytes of text per second, and the
+peak of memory. The netlists are a ladder of 100,000 gates, each of which reads the previous one, the same with its tables
+in reverse order, and a wide random netlist of which about half is dangling.
 
 With windows, at the default cap: random logic of 5,000 gates, and adders, multipliers and multiplexers side by side of
-10,000 and of 100,000 gates. Beside the report, time and memory stands how the windows of the netlist that is left are
-answered in the last round, counted by the independent program `count_windows.py`.
+10,000 and of 100,000 gates. Besides report, time and memory the table says how the windows of the result are decided in
+the last round, counted by the independent program `count_windows.py`.
 
-With chains: AND of all inputs as a chain of 1,000, 2,000, 4,000 and 8,000 gates, of which none can go, so that the
-time is that of searches in vain, and the time for each gate shows how it grows."""
+With chains: AND of all inputs as a chain of 1,000, 2,000, 4,000 and 8,000 gates, of which none can be saved. The time is
+that of searches without success, and the time per gate shows how it grows."""
 import random
 import subprocess
 import sys
 
 import count_windows
+
+from usage import usage
 
 GATES = 100_000
 
@@ -195,6 +197,5 @@ def main():
 
 
 if __name__ == '__main__':
-    if sys.argv[1:2] == ['--help']:
-        sys.exit(print(__doc__))
+    usage(__doc__, 1)
     main()

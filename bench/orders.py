@@ -1,12 +1,12 @@
 #!/usr/bin/env python3
 """orders.py PROGRAM [--orders N] [--steps R ..]: decides the formulas of sums.py, those of R steps alone where they are named,
 each with its variables in N orders (8), by `PROGRAM solve`, the built program `benchmarks`, and by minisat with and
-without its preprocessing. It prints the sums over the refuted and over the satisfied ones: conflicts, of `solve` the shorter clauses
-beside them, and user seconds of one run each. One order tells little: the sums over all of them do. `solve` tells neither of
-satisfied ones: as root, with perf, a second run counts the calls that add to its log and those of shorter clauses (uprobes).
+without its preprocessing. It prints the sums over the refuted and over the satisfied ones: conflicts, of `solve` also the
+strengthened clauses, and user seconds of one run each. One order says little, the sums over all orders more. For satisfied
+formulas `solve` reports neither number: as root, with perf, a second run counts the calls that add to its log (uprobes).
 
 orders.py --classes PROGRAM [EVERY]: each EVERY-th (1) of the 222 classes of functions of four inputs by `PROGRAM synth`, the
-released program, each certificate rechecked; by minisat the `ssv` formulas of all sizes up to the fewest; and by ABC's
+program itself, each certificate rechecked; by minisat the `ssv` formulas of all sizes up to the fewest; and by ABC's
 `exact` in one session, where berkeley-abc is installed. A line for each: additions or conflicts, and user seconds."""
 import collections
 import itertools
@@ -20,6 +20,7 @@ import tempfile
 from solver import in_words, row, run
 from sums import CLASSES, conflicts_of, table, write_dimacs
 from synth import found, is_addition, run as run_on
+from usage import usage
 
 TOOLS = os.path.join(os.path.dirname(os.path.abspath(__file__)), "..", "tools")
 SOLVERS = [["minisat"], ["minisat", "-no-pre"]]
@@ -154,4 +155,5 @@ def main():
 
 
 if __name__ == "__main__":
+    usage(__doc__, 1)
     main()

@@ -1,6 +1,6 @@
 #!/usr/bin/env python3
-"""pairs.py PROGRAM [--only WORD] [--gates N] [--judge CHECKER] [NETLIST.blif ..]: PROGRAM's `equiv` of pairs of netlists that
-do the same, beside ABC's `cec` and `&cec`, as a table: verdict, user seconds, additions and bytes of the log, memory.
+"""pairs.py PROGRAM [--only WORD] [--gates N] [--judge CHECKER] [NETLIST.blif ..]: PROGRAM's `equiv` of pairs of equivalent
+netlists, beside ABC's `cec` and `&cec`, as a table: verdict, user seconds, additions and bytes of the log, memory.
 
 The pairs are each NETLIST beside what PROGRAM's `improve` and two scripts of ABC make of it, and of about N gates each
 (10,000): an array multiplier, adders whose carries ripple and are chosen, random logic of three kinds, and logic of
@@ -19,6 +19,7 @@ import circuits
 import netlists
 from make_miter import Netlist, dimacs
 from miters import SCRIPTS, controlled, improved
+from usage import usage
 
 LIMIT = 60
 
@@ -154,4 +155,5 @@ def main():
 
 
 if __name__ == "__main__":
+    usage(__doc__, 1)
     main()

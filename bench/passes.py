@@ -1,18 +1,18 @@
 #!/usr/bin/env python3
-"""passes.py PROGRAM [NETLIST ..]: what each kind of pass of `improve` saves, a line a netlist (BLIF, or BENCH by its name).
+"""passes.py PROGRAM [NETLIST ..]: what each pass of `improve` saves, a line per netlist (BLIF, or BENCH by its name).
 
-The program tells no pass apart, so `improve` runs by rising options, and a column is what one more of them saves:
+The program doesn't report passes, so `improve` runs with more and more options, and a column is what one more saves:
 
-    dead     --cap 0: dead gates, and what reading makes of constants and copies
+    dead     --cap 0: dangling gates, and constants and copies that reading removes
     moves    --cap 1: sharing, resubstitution and three rounds of both (where there are 6 to 100,000 gates; the rounds up
              to 1,000), with windows of one gate
     two ..   --cap 2, 3, 4 and 5: structural and functional hashing, and listed windows and walks over convex sets of at most
-    five     2, 3, 4 and 5 gates (walks up to 10,000 gates; three rounds of them up to 1,000); these can't be told apart
+    five     2, 3, 4 and 5 gates (walks up to 10,000 gates; three rounds of them up to 1,000); these can't be separated
     effort5  --effort 5 and 20: as many rounds of moves and of walks
     effort20
 
-A negative number says that more options left more gates: the search is one of hill climbing. `left` is what the last run left,
-and `time` the user seconds of the run by default. Without a netlist it takes the full adder of seven gates and circuits of
+A negative number says that more options left more gates: the search is hill climbing. `left` are the gates after the last
+run, and `time` the user seconds of the run by default. Without a netlist it takes the full adder of seven gates and circuits of
 `circuits.py`."""
 import os
 import resource
@@ -20,6 +20,8 @@ import subprocess
 import sys
 
 import circuits
+
+from usage import usage
 
 ADDER = b""".model adder
 .inputs a b c
@@ -98,6 +100,5 @@ def main():
 
 
 if __name__ == '__main__':
-    if sys.argv[1:2] == ['--help']:
-        sys.exit(print(__doc__))
+    usage(__doc__, 1)
     main()

@@ -1,13 +1,13 @@
 #!/usr/bin/env python3
 """solver.py PROGRAM [--steps] [--beside SOLVER]: decides formulas by `PROGRAM solve`, the built program
-`benchmarks`, and prints a table: additions to the log, which are the conflicts and the shorter clauses that
-stand for ones of the formula, hints, propagations, user seconds, additions a second, and the peak of memory.
+`benchmarks`, and prints a table: additions to the log (conflicts and strengthened clauses of the formula), hints,
+propagations, user seconds, additions per second, and the peak of memory.
 
 The formulas are pigeons in holes, and functions with their fewest steps and with one less, by the method
-`ssv`. A time is the smallest of three runs, or that of one run which takes longer than a second; a run is
-given up after 100 seconds. With --steps, count_steps.py takes the same steps again, which counts the
-propagations and, where a formula is satisfied and no log is left, the additions and hints. SOLVER is a
-program that reads DIMACS and tells its conflicts, such as minisat."""
+`ssv`. A time is the least of three runs, or that of one run that takes longer than a second; a run is stopped
+after 100 seconds. With --steps, count_steps.py takes the same steps again and counts the propagations and,
+where a formula is satisfied and there is no log, the additions and hints. SOLVER is a program that reads
+DIMACS and reports its conflicts, such as minisat."""
 import ctypes
 import os
 import re
@@ -19,6 +19,7 @@ import threading
 from collections import namedtuple
 
 from functions import LARGE, SMALL
+from usage import usage
 
 HERE = os.path.dirname(os.path.abspath(__file__))
 LONGEST = 100
@@ -161,6 +162,5 @@ def main():
 
 
 if __name__ == "__main__":
-    if sys.argv[1:2] == ["--help"]:
-        sys.exit(print(__doc__))
+    usage(__doc__, 1)
     main()

@@ -2,10 +2,10 @@
 """sums.py PROGRAM [--beside SOLVER]: decides the `ssv` formulas of 32 functions of four inputs, with their fewest
 steps and with one less, by `PROGRAM solve`, the built program `benchmarks`, and prints the sums over the refuted and
 over the satisfied ones: conflicts, of `solve` the additions to its log (of satisfied ones none is left), user seconds,
-and the greatest peak of memory. A time is the smallest of two runs, one behind the other. Single searches tell
-little: another order of the clauses takes many of them twice or half as many conflicts.
+and the greatest peak of memory. A time is the least of two runs, one after the other. Single searches say
+little: another order of the clauses gives many of them twice or half as many conflicts.
 
-SOLVER is a program that reads DIMACS and tells its conflicts, such as minisat."""
+SOLVER is a program that reads DIMACS and reports its conflicts, such as minisat."""
 import os
 import re
 import subprocess
@@ -13,6 +13,7 @@ import sys
 import tempfile
 
 from solver import in_words, row, run, script, write_formula
+from usage import usage
 
 # by fewest steps: the tables as hexadecimal numbers, row 0 first
 CLASSES = {
@@ -73,6 +74,5 @@ def main():
 
 
 if __name__ == "__main__":
-    if sys.argv[1:2] == ["--help"]:
-        sys.exit(print(__doc__))
+    usage(__doc__, 1)
     main()

@@ -1,13 +1,13 @@
 #!/usr/bin/env python3
 """synth.py PROGRAM [SECONDS] [--beside]: finds the fewest steps of some functions by PROGRAM, by each method,
 rechecks each certificate, and prints a table: the verdict, the additions in the certificate (conflicts and
-shorter clauses of the sizes without a chain), its bytes, user seconds to find and to recheck. A search that takes
-longer than SECONDS (60) is given up.
+strengthened clauses of the sizes without a chain), its bytes, user seconds to find and to recheck. A search that
+takes longer than SECONDS (60) is stopped.
 
 With --beside it finds the fewest steps of larger functions and of the last small one, and prints the user
 seconds of the methods (of `ssv` the median of five runs), the additions in their certificates, and the user
 seconds of minisat and cadical, which decide the `ssv` formulas of the last two sizes alone (each the median of
-five runs). The last column is the time of `ssv` by that of the better of the two."""
+five runs). The last column is the time of `ssv` divided by that of the better of the two."""
 import os
 import resource
 import statistics
@@ -16,6 +16,7 @@ import sys
 import tempfile
 
 from functions import LARGE, SMALL
+from usage import usage
 
 HERE = os.path.dirname(os.path.abspath(__file__))
 METHODS = ['ssv', 'select', 'fence', 'plain']
@@ -113,6 +114,5 @@ def main():
 
 
 if __name__ == '__main__':
-    if sys.argv[1:2] == ['--help']:
-        sys.exit(print(__doc__))
+    usage(__doc__, 1)
     main()

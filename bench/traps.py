@@ -1,16 +1,18 @@
 #!/usr/bin/env python3
-"""traps.py PROGRAM [--parts N] [NAME..]: makes netlists on which a quadratic step would show, and runs PROGRAM on each.
+"""traps.py PROGRAM [--parts N] [NAME..]: makes netlists that reveal quadratic steps, and runs PROGRAM on each.
 
-The netlists are `readers`, one gate that 33,000 gates read; `narrow`, 100,000 gates over ten inputs; and `chain`, 100,000
+The netlists are `readers`, one gate with a fanout of 33,000; `narrow`, 100,000 gates over ten inputs; and `chain`, 100,000
 gates of which each reads the one before it. Each is given to `improve`, to `improve --observe yes`, and to `equiv` with
-itself. The table has the user time, the peak of memory, and what the program says last; a run is stopped after 120 s.
-With `--parts N` each netlist has a part of the gates alone, one in N."""
+itself. The table has the user time, the peak of memory, and the last line of the program; a run is stopped after 120 s. With
+`--parts N` each netlist has only one N-th of the gates."""
 import os
 import random
 import resource
 import subprocess
 import sys
 import tempfile
+
+from usage import usage
 
 LIMIT = 120
 ROWS = [('01', '10'), ('11',), ('00', '01', '10'), ('1-', '-1')]
@@ -93,6 +95,5 @@ def main():
 
 
 if __name__ == '__main__':
-    if sys.argv[1:2] == ['--help']:
-        sys.exit(print(__doc__))
+    usage(__doc__, 1)
     main()

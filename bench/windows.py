@@ -1,6 +1,6 @@
 #!/usr/bin/env python3
 """windows.py PROGRAM: makes netlists of 100,000 gates, takes all their windows by PROGRAM (`benchmarks windows`), and prints a
-table: what the program says, the user time, and windows with their specifications a second.
+table: the program's output, the user time, and windows with their specifications per second.
 
 The netlists are a ladder of which each gate reads the one before it and an input, one of gates on any earlier signals,
 and one of gates on the last 40 signals, in which paths part and meet again."""
@@ -8,6 +8,8 @@ import random
 import resource
 import subprocess
 import sys
+
+from usage import usage
 
 GATES = 100_000
 
@@ -52,6 +54,5 @@ def main():
 
 
 if __name__ == '__main__':
-    if sys.argv[1:2] == ['--help']:
-        sys.exit(print(__doc__))
+    usage(__doc__, 1)
     main()

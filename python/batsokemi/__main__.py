@@ -1,16 +1,16 @@
 """python3 -m batsokemi [--processes N] [--keep DIR] [OPTION VALUE].. FILE..
 
-Finds the fewest steps for many functions, in this many processes (as many as there are processors), and rechecks each
-certificate. Each line of the files is one question: the table of an output, or those of several with commas between, as
-rows of 0, 1 and -, or in hex with 0x in front; what stands after a blank or # is passed over. `-` is the standard input.
+Finds the fewest steps for many functions and rechecks each certificate. Each line of the files is one question: the
+table of an output, or of several, separated by commas, as rows of 0, 1 and -, or in hex with 0x in front; the rest of
+a line after a blank or # is ignored. `-` is standard input.
 
-  --processes N   how many processes work
+  --processes N   the number of processes (the number of processors)
   --keep DIR      keeps the certificates as DIR/NUMBER.chains
   OPTION VALUE    options of `synth`: --basis, --method, --conflicts, --max
 
-A line goes out for each question, in their order: a number, the tables and the verdict, with tabs between; then, on
-standard error, how many questions have which verdict. Status 0; 1 for other words; 2 where a file can't be
-read; 3 where a question has no verdict."""
+It prints a line for each question, in order: a number, the tables and the verdict, separated by tabs; then, on standard
+error, how many questions have which verdict. Status 0; 1 for a usage error; 2 where a file can't be read; 3 where a
+question has no verdict."""
 
 from __future__ import annotations
 

@@ -31,7 +31,7 @@ class Step:
 
 @dataclass(frozen=True)
 class Chain:
-    """A Boolean chain: the places 1 to `inputs` are its inputs, and each step has the next one.
+    """A Boolean chain: the places 1 to `inputs` are its inputs, and the steps have the next places in order.
 
     >>> chain = Chain.read('chain 1\\nx3 x1 x2 0110\\nout x3\\n', 2)
     >>> chain.evaluate([True, False])
@@ -68,11 +68,11 @@ class Chain:
         return ''.join(f'{line}\n' for line in (f'chain {len(self.steps)}', *self.steps, *outs))
 
     def __len__(self) -> int:
-        """How many steps it has."""
+        """The number of steps."""
         return len(self.steps)
 
     def evaluate(self, bits: Sequence[bool]) -> tuple[bool, ...]:
-        """The outputs where the inputs x1, x2 .. have these bits."""
+        """The outputs under these values of the inputs x1, x2, ..."""
         if len(bits) != self.inputs:
             raise ValueError(f'{len(bits)} bits for {self.inputs} inputs')
         values = [False, *map(bool, bits)]
@@ -86,7 +86,7 @@ class Chain:
         return Tables(self.inputs, tuple(''.join(str(int(bit)) for bit in column) for column in zip(*rows)))
 
     def levels(self) -> int:
-        """The greatest number of steps on a way from an input to a step."""
+        """The greatest number of steps on a path from an input."""
         level = [0] * (self.inputs + 1)
         for step in self.steps:
             level.append(1 + max(level[step.first], level[step.second]))

@@ -22,7 +22,7 @@ Value = Union[str, int, bool, Sequence[str], None]
 
 @lru_cache(maxsize=None)
 def default_engine() -> Engine:
-    """What runs the commands where no other engine is named: the library, or where it isn't found the program."""
+    """The default engine: the library, or the program where no library is found."""
     return usual_engine()
 
 
@@ -37,16 +37,16 @@ def synth(
     least_depth: bool = False,
     engine: Engine | None = None,
 ) -> Result:
-    """Finds a chain of the fewest steps for truth tables, and a certificate that there is none of fewer.
+    """Finds a chain of the fewest steps for truth tables, and a certificate that no smaller chain exists.
 
     tables       rows of `0`, `1` and `-` (row 0 first, x1 the most significant digit of its number), hex with 0x in front
-                 or numbers (as kitty and ABC have them), one or several; or `Tables`, or the text of a file of tables
-    inputs       how many inputs there are, 0 to 6, where the tables don't say it by their length
-    basis        the operators that a step may have: `all` (usual), `u2`, `bench`, `nand`, or some of 0000 .. 1111
-    method       how a size becomes a formula: `ssv` (usual), `plain`, `select` or `fence`
-    conflicts    how many clauses are learnt for one formula before it is left open (100,000)
-    max          the greatest size that is tried, 0 to 16 (16)
-    least_depth  of the chains with the fewest steps one of the fewest levels; by `fence`
+                 or numbers (as in kitty and ABC), one or several; or `Tables`, or the text of a file of tables
+    inputs       the number of inputs, 0 to 6, where the length of the tables doesn't determine it
+    basis        the operators that a step may have: `all` (default), `u2`, `bench`, `nand`, or some of 0000 .. 1111
+    method       how a size becomes a formula: `ssv` (default), `plain`, `select` or `fence`
+    conflicts    the number of learnt clauses after which a formula is left open (100,000)
+    max          the greatest size to try, 0 to 16 (16)
+    least_depth  also the fewest levels among the chains of the fewest steps; by `fence`
 
     >>> result = synth('0110')
     >>> str(result.verdict), result.steps
@@ -62,7 +62,7 @@ def synth(
 
 
 def recheck(certificate: bytes, *, engine: Engine | None = None) -> Verdict:
-    """Judges a certificate, of steps or of levels too, and answers its verdict where it is valid; else raises an error.
+    """Checks a certificate, of steps or of levels too, and returns its verdict; raises an error if it isn't valid.
 
     >>> str(recheck(synth('0110').certificate))
     'minimum 1'
@@ -97,14 +97,14 @@ def improve(
 ) -> tuple[str, Report]:
     """Makes a netlist smaller by exact resynthesis of small windows: the new text, and a report.
 
-    format     `blif` (usual) or `bench`
+    format     `blif` (default) or `bench`
     basis      the operators that new gates may have
     method     how the question of a window becomes a formula
-    cap        how many gates a window may have, 0 to 8
-    rounds     how often the netlist is gone through
-    conflicts  how many clauses are learnt for one window before it is left open
-    observe    whether cells that no output can tell apart are free too
-    effort     how many rounds of moves keep the size, 0 to 1,000, before windows are tried
+    cap        the most gates of a window, 0 to 8
+    rounds     the most rounds over all windows that may change something
+    conflicts  the number of learnt clauses after which a window is left open
+    observe    whether to use observability don't-cares too
+    effort     the number of rounds of moves and walks that may keep the size, 0 to 1,000
 
     >>> text, report = improve('.inputs a b\\n.outputs y\\n.names a b y\\n1- 1\\n-1 1\\n.names a b dead\\n11 1\\n.end\\n')
     >>> report.before, report.after, report.settled
@@ -125,8 +125,8 @@ def improve(
 
 
 def equiv(first: Netlist, second: Netlist, *, conflicts: int | None = None, engine: Engine | None = None) -> Equivalence:
-    """Whether two netlists in BLIF do the same: with a log in LRAT where they do, and where they don't with values of
-    inputs and latches under which they differ.
+    """Whether two netlists in BLIF are equivalent: with an LRAT log where they are, and with values of inputs and latches
+    under which they differ where they aren't.
 
     >>> bool(equiv('.inputs a\\n.outputs y\\n.names a y\\n1 1\\n.end\\n', '.inputs a\\n.outputs y\\n.names a y\\n0 1\\n.end\\n'))
     False
@@ -139,8 +139,7 @@ def equiv(first: Netlist, second: Netlist, *, conflicts: int | None = None, engi
 
 
 def answered(engine: Engine, words: Sequence[str], data: bytes) -> Run:
-    """A run that has an answer; else an error is raised. Where something differs, the status is 8, and it is told on the
-    output."""
+    """A run that has an answer; otherwise an error is raised. A difference is an answer with status 8 and an output."""
     run = engine.run(words, data)
     if run.status in (0, 4) or (run.status == 8 and run.output):
         return run
@@ -148,7 +147,7 @@ def answered(engine: Engine, words: Sequence[str], data: bytes) -> Run:
 
 
 def options(**given: Value) -> Iterable[str]:
-    """The words of options that are given."""
+    """The words of the options that aren't None."""
     return list(option_words(given.items()))
 
 

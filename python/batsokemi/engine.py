@@ -1,7 +1,7 @@
-"""What runs a command: the library, in this process, or the program, in one of its own, where there is no library.
+"""Engines, which run a command: the library in this process, or, without a library, the program in a process of its own.
 
-Both take the same words and bytes and give the same answers; the library is faster for short questions. Neither has a
-state that calls share, and the library lets go of Python's lock while it runs, so threads run side by side.
+Both take the same words and bytes and give the same answers; the library is faster for short questions. Calls share no
+state, and the library releases Python's lock while it runs, so threads run in parallel.
 """
 
 from __future__ import annotations
@@ -26,7 +26,7 @@ KEPT = 1 << 20
 
 
 class Run(NamedTuple):
-    """What a command came to: its status, and what it wrote as output and as notes."""
+    """The result of a command: its status, its output and its notes (standard error)."""
 
     status: int
     output: bytes
@@ -54,8 +54,8 @@ class _Buffer:
 
 
 class _Buffers(threading.local):
-    """The buffers of a thread for outputs and for notes, while no call has them: one that a signal's handler makes within
-    another one gets buffers of its own."""
+    """The buffers of a thread for outputs and notes, while no call uses them. A call from a signal handler inside another call
+    gets buffers of its own."""
 
     def __init__(self) -> None:
         self.kept: tuple[_Buffer, _Buffer] | None = None
@@ -103,7 +103,7 @@ class Library:
         return run
 
     def __reduce__(self) -> tuple[object, ...]:
-        """Another process loads the library once, for all that comes to it."""
+        """Unpickled in another process, the library is loaded there once."""
         return library_at, (self.path,)
 
     def __repr__(self) -> str:
@@ -136,33 +136,33 @@ class Process:
 
 
 def line_of(words: Sequence[str]) -> bytes:
-    """A command line, in which single blanks part the words."""
+    """The words as one command line, separated by single blanks."""
     if not words or any(not word or ' ' in word or '\0' in word for word in words):
         raise ValueError(f'not words of a command: {list(words)!r}')
     return ' '.join(words).encode()
 
 
 def first_file(named: str, *paths: Path) -> str | None:
-    """What an environment variable names, else the first file that there is."""
+    """The file that an environment variable names, otherwise the first of these files that exists."""
     if os.environ.get(named):
         return os.environ[named]
     return next((str(path) for path in paths if path.is_file()), None)
 
 
 def find_library() -> str | None:
-    """The library: what BATSOKEMI_LIBRARY names, what was installed, or what stands in the checkout."""
+    """The library: the one that BATSOKEMI_LIBRARY names, the installed one, or that of the checkout."""
     name = 'libbatsokemi.so'
     return first_file('BATSOKEMI_LIBRARY', HERE / name, HERE.parents[1] / 'prebuilt' / 'x86_64-linux' / name)
 
 
 def find_program() -> str | None:
-    """The program: what BATSOKEMI_PROGRAM names, what stands in the checkout, or what is on the path."""
+    """The program: the one that BATSOKEMI_PROGRAM names, that of the checkout, or the one on the path."""
     in_checkout = HERE.parents[1] / 'prebuilt' / 'x86_64-linux' / 'batsokemi'
     return first_file('BATSOKEMI_PROGRAM', in_checkout) or shutil.which('batsokemi')
 
 
 def usual_engine() -> Engine:
-    """The library where it is found and can be loaded, else the program. One that is named by BATSOKEMI_LIBRARY has to be."""
+    """The library if it is found and can be loaded, otherwise the program. A library that BATSOKEMI_LIBRARY names must load."""
     try:
         return Library()
     except OSError:

@@ -1,4 +1,4 @@
-"""What is raised where a call has no answer: one class for each kind, with the name and the numbers of the error line."""
+"""The errors of calls without an answer: one class for each kind, with the name and the numbers of the error line."""
 
 from __future__ import annotations
 
@@ -6,10 +6,10 @@ from collections.abc import Sequence
 
 
 class Error(Exception):
-    """A call that has no answer.
+    """A call without an answer.
 
-    `name` is the first item of the error line, as `BadRow`, and `fields` are those after it, numbers as `int`. Where
-    there is no error line, the name is that of the status.
+    `name` is the first item of the error line, such as `BadRow`, and `fields` are the others, numbers as `int`. Without an
+    error line the name is that of the status.
     """
 
     def __init__(self, status: int, line: str) -> None:
@@ -25,8 +25,7 @@ class Error(Exception):
 
 
 class UsageError(Error):
-    """The words aren't a command: an option's value isn't one that it takes, or two options don't go together. `command`
-    has the words."""
+    """A usage error: an option has no such value, or two options exclude each other. `command` has the words."""
 
     def __init__(self, status: int, line: str, command: str = '') -> None:
         super().__init__(status, line)
@@ -40,7 +39,7 @@ class UsageError(Error):
 
 
 class MalformedError(Error):
-    """The input isn't of its form."""
+    """The input is malformed."""
 
 
 class LimitError(Error):
@@ -48,7 +47,7 @@ class LimitError(Error):
 
 
 class PortError(Error):
-    """Reading or writing failed; in memory: there was none for the output."""
+    """Reading or writing failed; with the library: there was no memory for the output."""
 
 
 class MemoryFault(Error, MemoryError):
@@ -56,7 +55,7 @@ class MemoryFault(Error, MemoryError):
 
 
 class RefusedError(Error):
-    """The input is of its form, and what it claims doesn't hold."""
+    """The input is well formed, but what it claims doesn't hold."""
 
 
 # The class and the name of each status without an answer.
@@ -72,7 +71,7 @@ KINDS: dict[int, tuple[type[Error], str]] = {
 
 
 def error_of(status: int, notes: bytes, words: Sequence[str] = ()) -> Error:
-    """The error that a status and the notes of a call of these words tell of. The error line is the last one of the notes."""
+    """The error of a call with this status and these notes, whose last line is the error line."""
     kind, name = KINDS.get(status, (Error, f'Status{status}'))
     lines = notes.decode('utf-8', 'replace').splitlines()
     line = lines[-1] if lines and lines[-1].startswith('error:') else name

@@ -18,7 +18,7 @@ CHUNK = 4
 
 
 class Told(NamedTuple):
-    """What was found of one function: its verdict, or an error's line; and the certificate where it is kept."""
+    """The result for one function: its verdict or an error line, and the certificate if it is kept."""
 
     verdict: str
     fine: bool
@@ -26,7 +26,7 @@ class Told(NamedTuple):
 
 
 def tell(tables: TablesLike, keep: bool, options: dict[str, Value]) -> Told:
-    """The verdict of one function, which `recheck` gives too."""
+    """The verdict of one function, after `recheck`."""
     try:
         result = synth(tables, **options)  # type: ignore[arg-type]
         return Told(str(result.recheck()), True, result.certificate if keep else None)
@@ -39,8 +39,8 @@ def tell(tables: TablesLike, keep: bool, options: dict[str, Value]) -> Told:
 def tabulate(
     functions: Iterable[TablesLike], *, processes: int | None = None, keep: bool = False, **options: Value
 ) -> Iterator[Told]:
-    """The verdict of each function, in their order, each certificate rechecked. `options` are those of `synth`, and
-    `keep` says whether certificates are handed on.
+    """The verdict of each function, in order, each certificate rechecked. `options` are those of `synth`; with `keep` the
+    certificates are returned too.
 
     >>> [told.verdict for told in tabulate(['0001', '0110', '0011'], processes=1)]
     ['minimum 1', 'minimum 1', 'minimum 0']

@@ -1,4 +1,4 @@
-"""What the commands answer, as values."""
+"""The answers of the commands, as values."""
 
 from __future__ import annotations
 
@@ -16,14 +16,14 @@ VerdictKind = Literal['minimum', 'none', 'bounded', 'open', 'levels', 'levels-bo
 
 @dataclass(frozen=True)
 class Verdict:
-    """What is known, of all chains that there are.
+    """A verdict, about all chains:
 
     minimum R          R steps are enough, and no fewer
     none X             no chain of at most X steps agrees
     bounded LOW R      R steps are enough, and fewer than LOW aren't
     open LOW           no chain of fewer than LOW steps agrees
-    levels D           the fewest steps, and of these chains the fewest levels, which are D
-    levels-bounded LOW D   the fewest steps; one such chain has D levels, and none has fewer than LOW
+    levels D           no chain of the fewest steps has fewer than D levels, and the chain found has D
+    levels-bounded LOW D   no chain of the fewest steps has fewer than LOW levels, and the chain found has D
     """
 
     kind: VerdictKind
@@ -37,7 +37,7 @@ class Verdict:
 
     @property
     def is_exact(self) -> bool:
-        """Whether nothing is left open."""
+        """Whether nothing was left open."""
         return self.kind in ('minimum', 'none', 'levels')
 
     def __str__(self) -> str:
@@ -45,7 +45,7 @@ class Verdict:
 
 
 def recheck_with(engine: Engine, certificate: bytes) -> Verdict:
-    """The verdict of a certificate, where it is valid; else an error."""
+    """The verdict of a certificate if it is valid; otherwise an error."""
     words = ['recheck', '--depth', 'yes'] if is_of_depth(certificate) else ['recheck']
     run = engine.run(words, certificate)
     if run.status:
@@ -89,9 +89,9 @@ class Result:
         return None if self.chain is None else len(self.chain)
 
     def recheck(self) -> Verdict:
-        """Judges the certificate anew, by a checker that trusts no search, and answers its verdict.
+        """Checks the certificate independently of the search, and returns its verdict.
 
-        An error is raised where the certificate isn't valid, is of other tables, or says anything else than `verdict`.
+        Raises an error if the certificate isn't valid, is about other tables, or has a verdict other than `verdict`.
         """
         verdict = recheck_with(self.engine, self.certificate)
         if verdict != self.verdict or not self.certificate.startswith(f'chains 1\n{self.tables}basis '.encode()):
@@ -110,8 +110,8 @@ class Undecided:
 
 @dataclass(frozen=True)
 class Report:
-    """What `improve` did: the gates before and after, whether no window is left that would give fewer (`settled`), and
-    the windows that were too hard to decide."""
+    """The report of `improve`: the gates before and after, whether no listed window has a smaller implementation (`settled`),
+    and the undecided windows, which are excepted."""
 
     before: int
     after: int
@@ -134,7 +134,7 @@ class Report:
 
 @dataclass(frozen=True)
 class Agreement:
-    """Whether a chain agrees with tables; else the first output, from 1, and row, from 0, where it doesn't."""
+    """Whether a chain agrees with tables; if not, the first output, from 1, and row, from 0, that differ."""
 
     agrees: bool
     output: int | None = None
@@ -146,11 +146,11 @@ class Agreement:
 
 @dataclass(frozen=True)
 class Equivalence:
-    """What `equiv` found of two netlists.
+    """The answer of `equiv`.
 
     kind    `equal`, `differ` or `undecided`
     log     of `equal` and `undecided`: the lines in LRAT, which refute the miter where they are equal
-    sink    of `differ`: the output, or the latch whose next state is another one
+    sink    of `differ`: the output, or the latch whose next state differs
     latch   of `differ`: whether the sink is a latch
     bits    of `differ`: the values of the inputs and then of the latches
     """

@@ -12,7 +12,7 @@ from typing import Union
 class Tables:
     """Truth tables over inputs x1 .. xn, one for each output.
 
-    A row has a character for each row of the table, `0`, `1`, or `-` for one that doesn't matter. Character t, from 0, is
+    A row has a character for each row of the table, `0`, `1`, or `-` for a don't-care. Character t, from 0, is
     the value where the inputs are the binary digits of t, x1 the most significant one.
 
     >>> print(Tables(2, ('0110',)), end='')
@@ -32,7 +32,7 @@ class Tables:
         return ''.join(f'{line}\n' for line in (f'inputs {self.inputs}', *self.rows))
 
     def to_hex(self) -> tuple[str, ...]:
-        """The tables in hex, as kitty and ABC write them. A row that doesn't matter is 0.
+        """The tables in hex, as kitty and ABC write them. A don't-care becomes 0.
 
         >>> Tables(3, ('00010111',)).to_hex()
         ('0xe8',)
@@ -54,7 +54,7 @@ def mirrored(row: int, inputs: int) -> int:
 
 
 def row_of(number: int, inputs: int) -> str:
-    """The row of a table that is a number, as kitty and ABC have them: bit t is the value where x1 is bit 0 of t, x2 bit 1
+    """The row of a table that is given as a number, as in kitty and ABC: bit t is the value where x1 is bit 0 of t, x2 bit 1
     and so on.
 
     >>> row_of(0xAA, 3)
@@ -66,7 +66,7 @@ def row_of(number: int, inputs: int) -> str:
 
 
 def inputs_for(table: Table) -> int:
-    """The number of inputs that a table has by its length."""
+    """The number of inputs, from the length of a table."""
     if isinstance(table, int):
         raise ValueError('a number is a table only with inputs=')
     length = 4 * len(table[2:]) if table.startswith('0x') else len(table)
@@ -76,7 +76,7 @@ def inputs_for(table: Table) -> int:
 
 
 def tables_of(given: TablesLike, inputs: int | None = None) -> Tables:
-    """The tables that are meant.
+    """The tables of any accepted form.
 
     >>> tables_of('0110') == tables_of(6, inputs=2) == tables_of('0x6') == tables_of('inputs 2\\n0110\\n')
     True
@@ -105,7 +105,7 @@ def rows_from(tables: Iterable[Table], inputs: int) -> Iterable[str]:
 
 
 def read_tables(text: str) -> Tables:
-    """The tables that are all of a text."""
+    """The tables of a text that has nothing else."""
     head, *rows = text.removesuffix('\n').split('\n')
     found = re.fullmatch(r'inputs (\d)', head)
     if not found:

@@ -9,7 +9,7 @@ Exact synthesis of Boolean chains with certificates, resynthesis of netlists, an
 equivalence checking. Every function of the program is formally verified.
 
   synth     truth tables -> a chain with the fewest two-input steps, and a certificate that no fewer do
-  recheck   a certificate (up to 256 MiB) -> its verdict, exactly where it is valid
+  recheck   a certificate (up to 256 MiB) -> its verdict, if and only if it is valid
   agree     truth tables and a chain -> whether the chain has every specified value
   improve   a netlist (BLIF, BENCH) -> an equivalent one with no more gates, and a report
   equiv     two netlists (BLIF) -> equal, with an LRAT refutation; or a counterexample
@@ -17,7 +17,7 @@ equivalence checking. Every function of the program is formally verified.
 
   help COMMAND        options of a command with ranges and defaults, and an example
   help TOPIC          a format: errors, tables, chains, bases, logs, certificates, levels, blif, bench, pairs;
-                      or windows, what one is, its surround and its tail
+                      or windows: what one is, its cone and its don't-cares
   --version           the version, and which program runs
   --where             the path of the program
   --build             proves and builds the program from the sources of this checkout
@@ -25,17 +25,17 @@ equivalence checking. Every function of the program is formally verified.
 Files and options come after the command, in any order; without a file, or for `-`, standard input is
 read. With each command:
 
-  -o FILE             the answer goes to FILE, which is written whole or not at all
-  --certificate FILE  of synth, equiv and improve: the certificates go to FILE, and the chain, the
-                      verdict and the report alone are printed. On a terminal that is so without FILE too
+  -o FILE             the answer goes to FILE, which is written completely or not at all
+  --certificate FILE  of synth, equiv and improve: certificates go to FILE, and only the chain, the
+                      verdict and the report are printed. On a terminal certificates aren't printed anyway
 
   batsokemi synth full-adder.tables
   batsokemi improve in.blif -o out.blif
   batsokemi equiv in.blif out.blif
 
-Status: 0 an answer; 4 a budget was spent; 8 a difference, or a certificate that doesn't hold; 1 words
-that are no command; 2 input not of its form; 3 beyond a limit; 5 reading, 6 writing failed; 7 no memory;
-70 the program can't be built.
+Status: 0 an answer; 4 a budget was spent; 8 a difference, or an invalid certificate; 1 usage error;
+2 malformed input; 3 beyond a limit; 5 reading, 6 writing failed; 7 out of memory; 70 the program can't
+be built.
 END
     echo "More: man -l $(of_top docs/batsokemi.1), $(of_top docs/TUTORIAL.md), $(of_top docs/FORMATS.md)"
 }
@@ -78,7 +78,7 @@ about_topic() {
         bases) title='Bases' ;;
         logs) title='Refutation logs' ;;
         certificates) title='Certificates' ;;
-        levels) title='Depth bundles' ;;
+        levels) title='Depth certificates' ;;
         blif) title='Netlists: BLIF' ;;
         bench) title='Netlists: BENCH' ;;
         pairs) title='Netlists compared' ;;
@@ -101,18 +101,18 @@ about_synth() {
     cat <<'END'
 batsokemi synth [OPTION VALUE].. [TABLES]
 
-Reads truth tables of up to 6 inputs and 8 outputs, with don't-cares, and writes a chain with the fewest
-two-input steps and a certificate of that: a refutation of each smaller size. Its verdict:
+Reads truth tables of up to 6 inputs and 8 outputs, with don't-cares. Writes a chain with the fewest
+two-input steps and its certificate, a refutation of each smaller size. The verdict:
 
-  minimum R          the chain has R steps, and no chain of fewer agrees with the tables
-  none X             no chain of at most X steps does, and X is what --max allows
-  bounded LOW R      the chain has R steps, none of fewer than LOW does; between them a budget was spent
-  open LOW           none of fewer than LOW does, and no more is known
-  levels D           (--least-depth yes) of the chains of R steps none has fewer than D levels
+  minimum R          the chain has R steps, and no smaller chain agrees with the tables
+  none X             no chain of at most X steps agrees, where X is the value of --max
+  bounded LOW R      the chain has R steps, no chain of fewer than LOW agrees; in between the budget was spent
+  open LOW           no chain of fewer than LOW steps agrees, and more isn't known
+  levels D           (--least-depth yes) no chain of R steps has fewer than D levels
 
 Tables: the line `inputs N`, then a line for each output with 2^N characters 0, 1 or - (don't-care). Row 0
 comes first, and x1 is the most significant digit of a row's number. Each line ends with LF, the last one too;
-tools/tables makes them of hex tables, and of these lines with CR LF or without the last LF.
+tools/tables converts hex tables, and lines with CR LF or without the last LF.
 
 END
     options_of synth
@@ -129,8 +129,8 @@ about_recheck() {
     cat <<'END'
 batsokemi recheck [OPTION VALUE].. [CERTIFICATE]
 
-Writes the verdict of a certificate of `synth`, exactly where the certificate is valid: it makes the formula
-of each size anew from the tables and follows each line of each refutation. At most 256 MiB are read.
+Writes the verdict of a certificate of `synth` if and only if the certificate is valid: it builds the formula
+of each size from the tables and checks each line of each refutation. It reads at most 256 MiB.
 
 END
     options_of recheck
@@ -146,7 +146,7 @@ about_agree() {
 batsokemi agree [FILE]
 
 Reads truth tables, a chain (`chain R`, its steps and outputs) and the line `end`. Writes `agrees`, or
-`differs H T`: output H, from 1, has another value on row T, from 0; both are the least there are.
+`differs H T`: output H, from 1, has another value on row T, from 0; both are the least possible.
 
 Example: OR is not XOR
   printf 'inputs 2\n0110\nchain 1\nx3 x1 x2 0111\nout x3\nend\n' | batsokemi agree
@@ -162,12 +162,12 @@ exact resynthesis of windows of up to --cap gates. Its report goes to standard e
 
   gates A -> B       two-input gates before and after: a wider .names counts as several, a copy or a
                      constant as none
-  undecided G [P] C  the search of the window of C gates at G (and its partner P) spent its budget; its
-                     certificate follows
+  undecided G [P] C  the search for the window of C gates with root G (and partner P) spent its budget;
+                     its certificate follows
   settled            no other listed window up to the cap has a smaller implementation
-  stopped            the rounds came to their end first
+  stopped            the limit of --rounds was reached first
 
-Nothing is written before the end: the program can't be asked how far it is. A smaller --cap ends sooner.
+Nothing is written before the end, and there is no progress report. A smaller --cap ends sooner.
 
 END
     options_of improve
@@ -186,13 +186,13 @@ batsokemi equiv [OPTION VALUE].. FIRST SECOND
 Compares two BLIF netlists of the same inputs, outputs and latches: outputs and next states under every
 assignment of inputs and latches. Two files, or one text with both of which the first ends with `.end`.
 
-  equal              they do the same; an LRAT refutation of their miter follows, and `done`
-  differ output Y    output Y differs (or `differ latch Q`) where the inputs and latches have the bits
+  equal              they are equivalent; an LRAT refutation of their miter follows, and `done`
+  differ output Y    output Y differs (or `differ latch Q`) where the inputs and latches have the values
                      of the next line, `at BITS`
-  undecided          the budget was spent; the clauses that were learnt follow
+  undecided          the budget was spent; the learnt clauses follow
 
-`DifferentInterface`: inputs, outputs and clocks, in order, and each latch's output, control and initial
-value have to be the same.
+The error `DifferentInterface`: inputs, outputs and clocks, in order, and each latch's output, control and
+initial value must be the same.
 
 END
     options_of equiv
@@ -207,7 +207,7 @@ about_gen() {
     cat <<'END'
 batsokemi gen --blocks N [--run improve]
 
-Writes a BLIF netlist of N blocks, each of which can be made smaller; for measurements.
+Writes a BLIF netlist of N blocks, each of which can be made smaller, for measurements.
 
 END
     options_of gen

@@ -19,6 +19,7 @@ use Rattle.bench_text.specs.Statements.{names_of, alone, is_counted, gate_table,
 use Rattle.bench_text.specs.Statements.{latch_of as latch_from, port_by, port_of, ported, driven, driven_by, keyword_of}
 use Rattle.bench_text.specs.Statements.{stated, step, steps, listed_of}
 use Rattle.bench_laws.specs.Spelled.{IsLineFault}
+use Rattle.net_theory.specs.Limits.{most_table_inputs, most_line_bytes}
 
 abbrev IsFaulty : {A : Type 0} → Result A NetError → Type 0
 IsFaulty r = IfErr r IsLineFault
@@ -35,7 +36,7 @@ alone_faulty line (n ∷ m ∷ ns) = tt
 names_faulty : (line : ℕ) (r : Option (List Name)) → IsFaulty (names_by line r)
 names_faulty line None = tt
 names_faulty line (Some ns) =
-    cond_both (nat_lt 256 (length ns)) (Err (TooWide line)) (if list_all is_name ns then Ok ns else Err (Syntax line)) (λ (r : Result (List Name) NetError). IsFaulty r)
+    cond_both (nat_lt most_table_inputs (length ns)) (Err (TooWide line)) (if list_all is_name ns then Ok ns else Err (Syntax line)) (λ (r : Result (List Name) NetError). IsFaulty r)
     (λ e. tt)
     (λ e. cond_both (list_all is_name ns) (Ok ns) (Err (Syntax line)) (λ (r : Result (List Name) NetError). IsFaulty r) (λ f. tt) (λ f. tt))
 
@@ -110,7 +111,7 @@ stated_faulty line s (w ∷ m ∷ items) =
 step_faulty : (line : ℕ) (s : Listed) (l : Line) → IsFaulty (step line s l)
 unfolding step
 step_faulty line s l =
-    cond_both (nat_lt 1048576 (length l.text)) (Err (LineTooLong line))
+    cond_both (nat_lt most_line_bytes (length l.text)) (Err (LineTooLong line))
     (if has_long (items_of (content_of l)) then Err (NameTooLong line) else stated line s (items_of (content_of l)))
     (λ (r : Result Listed NetError). IsFaulty r)
     (λ e. tt)

@@ -25,6 +25,7 @@ use Rattle.bench_core.specs.Gates.{GateLine, line_table}
 use Rattle.bench_core.specs.Spelling.{port_text, latch_text, key_by_text, key_text, second_text, gate_text}
 use Rattle.bench_laws.specs.Spelled.{IsPlainLine}
 use Rattle.bench_laws.proofs.Lines.{AreWordBytes, AreClean, clean_both, IsText, name_text, plain_clean, plain_item, word_mark, word_blank, mark_first, blank_first, no_items, line_on}
+use Rattle.net_theory.specs.Limits.{most_name_bytes}
 
 -- ---- fixed words
 
@@ -58,12 +59,12 @@ clean_by (b ∷ bs) e =
 
 abbrev AreShort : List (List ℕ) → Type 0
 AreShort [] = Unit {0}
-AreShort (w ∷ ws) = (length w ≤ 1024) × AreShort ws
+AreShort (w ∷ ws) = (length w ≤ most_name_bytes) × AreShort ws
 
 none_long : (ws : List (List ℕ)) → AreShort ws → has_long ws ≡ false
 unfolding has_long
 none_long [] is = refl
-none_long (w ∷ ws) is = or_from (nat_lt 1024 (length w)) (has_long ws) (le-ltb 1024 (length w) is.0) (none_long ws is.1)
+none_long (w ∷ ws) is = or_from (nat_lt most_name_bytes (length w)) (has_long ws) (le-ltb most_name_bytes (length w) is.0) (none_long ws is.1)
 
 -- ---- operands
 

@@ -15,6 +15,7 @@ use Rattle.net_document.specs.Listed.{Listed}
 use Rattle.bench_text.specs.Items.{is_mark, is_mark_item, items_from, items_of}
 use Rattle.bench_text.specs.Statements.{stated, step, steps}
 use Rattle.bench_text.specs.SaidLaws.{IsPlainName}
+use Rattle.net_theory.specs.Limits.{most_line_bytes}
 
 -- ---- bytes
 
@@ -150,12 +151,12 @@ bracket_content prefix is =
     ∙ trimmed-other prefix 41 refl
 
 step_on : (line : ℕ) (s t : Listed) (prefix : List ℕ) (items : List (List ℕ)) → AreClean (prefix ++ 41 ∷ []) →
-    length (prefix ++ 41 ∷ []) ≤ 1048576 → items_of (prefix ++ 41 ∷ []) ≡ items → has_long items ≡ false →
+    length (prefix ++ 41 ∷ []) ≤ most_line_bytes → items_of (prefix ++ 41 ∷ []) ≡ items → has_long items ≡ false →
     stated line s items ≡ Ok t → step line s (record { text = prefix ++ 41 ∷ []; ended = true }) ≡ Ok t
 unfolding step
 step_on line s t prefix items clean short is long said =
     let same : items_of (content_of (record { text = prefix ++ 41 ∷ []; ended = true })) ≡ items = ap items_of (bracket_content prefix clean) ∙ is in
-    cond-false (nat_lt 1048576 (length (prefix ++ 41 ∷ []))) _ _ (le-ltb 1048576 (length (prefix ++ 41 ∷ [])) short)
+    cond-false (nat_lt most_line_bytes (length (prefix ++ 41 ∷ []))) _ _ (le-ltb most_line_bytes (length (prefix ++ 41 ∷ [])) short)
     ∙ cond-false _ _ _ (ap has_long same ∙ long)
     ∙ ap (stated line s) same
     ∙ said
@@ -165,7 +166,7 @@ shape prefix rest = append_assoc prefix (41 ∷ 10 ∷ []) rest ∙ sym (append_
 
 -- one step of the parser, on a line that ends with a parenthesis
 pub line_on : (line : ℕ) (s t : Listed) (prefix rest : List ℕ) (items : List (List ℕ)) → AreClean (prefix ++ 41 ∷ []) →
-    length (prefix ++ 41 ∷ []) ≤ 1048576 → items_of (prefix ++ 41 ∷ []) ≡ items → has_long items ≡ false →
+    length (prefix ++ 41 ∷ []) ≤ most_line_bytes → items_of (prefix ++ 41 ∷ []) ≡ items → has_long items ≡ false →
     stated line s items ≡ Ok t → steps line s (lines_of ((prefix ++ 41 ∷ 10 ∷ []) ++ rest)) ≡
     steps (line + 1) t (lines_of rest)
 unfolding steps

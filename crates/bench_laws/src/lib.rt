@@ -52,6 +52,7 @@ pub fn circuits_of_texts_can_be_written()
 pub fn circuits_are_read_back()
     ensures { (c : Circuit) → IsWritable c → IsTextOf bench_format (circuit_text c) c }
 {
+    // for the prover: this follows from the laws of BLIF
     blif_is_a_format();
 }
 
@@ -59,6 +60,7 @@ pub fn circuits_are_read_back()
 pub fn circuits_cost_the_same()
     ensures { (c : Circuit) → IsWritable c → cost (bench_written c) ≡ cost (written c) }
 {
+    // for the prover: this follows from the laws of BLIF
     blif_is_a_format();
 }
 
@@ -68,6 +70,7 @@ pub fn circuits_cost_the_same()
 pub fn bench_is_a_format()
     ensures { IsFormat bench_format CanWriteBench }
 {
+    // for the prover: this follows from the laws of BLIF
     blif_is_a_format();
 }
 

@@ -38,6 +38,7 @@ use Rattle.bench_text.specs.Statements.{step, steps, listed_of}
 use Rattle.bench_text.specs.SaidLaws.{IsWord, AreItems, IsPlainName, IsPlainLatch, IsGateTable, IsFine, AreOperandNames}
 use Rattle.bench_text.specs.SaidLaws.{gate_is_table, table_width, nothing_fine, fine_more, input_fine, output_fine}
 use Rattle.bench_text.specs.SaidLaws.{latch_fine, table_fine, names_fine, port_fine, gate_fine, dff_fine}
+use Rattle.net_theory.specs.Limits.{most_line_bytes}
 
 -- ---- items
 
@@ -162,7 +163,7 @@ stated_fine line s (w ∷ m ∷ items) size more is items_are h =
 step_fine : (line : ℕ) (s : Listed) (l : Line) (size : ℕ) → IsFine s size → Fine (size + length l.text) (step line s l)
 unfolding step
 step_fine line s l size is =
-    cond_both (nat_lt 1048576 (length l.text)) (Err (LineTooLong line))
+    cond_both (nat_lt most_line_bytes (length l.text)) (Err (LineTooLong line))
     (if has_long (items_of (content_of l)) then Err (NameTooLong line) else stated line s (items_of (content_of l)))
     (Fine (size + length l.text))
     (λ e. tt)

@@ -25,17 +25,18 @@ use Rattle.bench_text.specs.Items.{is_mark, is_mark_item}
 use Rattle.bench_text.specs.Statements.{nothing, with_input, with_output, with_latch, with_table, operands_from}
 use Rattle.bench_text.specs.Statements.{operands_of, names_by, names_of, alone, is_counted, gate_table, table_of}
 use Rattle.bench_text.specs.Statements.{plain_latch, latch_of as latch_from, port_by, port_of}
+use Rattle.net_theory.specs.Limits.{most_table_inputs, most_name_bytes}
 
 -- ---- items, names, latches and gates
 
 -- a word: within the limit of length and without marks
 pub record IsWord (w : List ℕ) : Type 0 where
-  pub short : length w ≤ 1024
+  pub short : length w ≤ most_name_bytes
   pub plain : list_any is_mark w ≡ false
 
 -- an item that isn't a mark is a word
 pub record IsItem (w : List ℕ) : Type 0 where
-  pub short : length w ≤ 1024
+  pub short : length w ≤ most_name_bytes
   pub plain : is_mark_item w ≡ false → list_any is_mark w ≡ false
 
 abbrev pub AreItems : List (List ℕ) → Type 0
@@ -59,7 +60,7 @@ pub record IsGateTable (t : Table) : Type 0 where
   pub inputs : All IsPlainName t.inputs
   pub output : IsPlainName t.output
   pub some : 0 < length t.inputs
-  pub narrow : length t.inputs ≤ 256
+  pub narrow : length t.inputs ≤ most_table_inputs
   pub connective : Connective
   pub on : Bool
   pub cover : t.cover ≡ joined_cover connective (length t.inputs) on
@@ -262,7 +263,7 @@ bracket_fine (m ∷ rest) ns is e =
 pub record AreOperandNames (ns : List Name) (room : ℕ) : Type 0 where
   pub names : All IsPlainName ns
   pub some : 0 < length ns
-  pub narrow : length ns ≤ 256
+  pub narrow : length ns ≤ most_table_inputs
   pub few : length ns ≤ room
 
 both_true : (a b : Bool) → (a && b) ≡ true → (a ≡ true) × (b ≡ true)
@@ -282,11 +283,13 @@ names_by_fine : (line : ℕ) (r : Option (List Name)) (room : ℕ) → ((ns : Li
 names_by_fine line None room h = tt
 names_by_fine line (Some ns) room h =
     let is = h ns refl in
-    cond_both (nat_lt 256 (length ns)) (Err (TooWide line)) (if list_all is_name ns then Ok ns else Err (Syntax line)) (λ (r : Result (List Name) NetError). IfOk r (λ xs. AreOperandNames xs room))
+    cond_both (nat_lt most_table_inputs (length ns)) (Err (TooWide line))
+    (if list_all is_name ns then Ok ns else Err (Syntax line)) (λ (r : Result (List Name) NetError).
+    IfOk r (λ xs. AreOperandNames xs room))
     (λ wide. tt)
     (λ narrow. cond_both (list_all is_name ns) (Ok ns) (Err (Syntax line)) (λ (r : Result (List Name) NetError). IfOk r (λ xs. AreOperandNames xs room))
     (λ named.
-    let few : length ns ≤ 256 = grind (arith, common_steps, narrow) in
+    let few : length ns ≤ most_table_inputs = grind (arith, common_steps, narrow) in
     record { names = plain_names ns is.words named; some = is.some; narrow = few; few = omega (arith, is.few) })
     (λ none. tt))
 

@@ -18,6 +18,7 @@ use Rattle.bench_text.specs.declared.keywords.GateKey.{GateKey}
 use Rattle.bench_text.specs.declared.keywords.BenchKeyword.{BenchKeyword}
 use Rattle.bench_text.specs.declared.keywords.BenchKeyword.TheVariants.{Input, Output, Gate, Dff, Lut, Constant, Unknown}
 use Rattle.bench_text.specs.Items.{is_mark_item, items_of}
+use Rattle.net_theory.specs.Limits.{most_table_inputs}
 
 -- ---- the document so far
 
@@ -84,7 +85,7 @@ operands_of (m ∷ rest) = if is_same m (codes "(") then operands_from [] rest e
 -- too many operands are reported first, then a word that isn't a name
 abbrev pub names_by : ℕ → Option (List Name) → Result (List Name) NetError
 names_by line None = Err (Syntax line)
-names_by line (Some names) = if nat_lt 256 (length names) then Err (TooWide line) else (if list_all is_name names then Ok names else Err (Syntax line))
+names_by line (Some names) = if nat_lt most_table_inputs (length names) then Err (TooWide line) else (if list_all is_name names then Ok names else Err (Syntax line))
 
 unfoldable pub names_of : ℕ → List (List ℕ) → Result (List Name) NetError
 names_of line items = names_by line (operands_of items)

@@ -9,6 +9,7 @@ ghost use Rattle.bench_text.specs.Statements.{latch_of as latch_of_names};
 ghost use Rattle.bench_text.specs.Statements.{ported, driven, driven_by, keyword_of as keyword_of_word, stated, step};
 ghost use Rattle.bench_text.specs.Statements.{with_table, with_latch};
 ghost use Rattle.bench_text.specs.declared.keywords.BenchKeyword.TheVariants.{Input, Output, Gate, Dff};
+ghost use Rattle.net_theory.specs.Limits.{most_table_inputs};
 
 use crate::items::{has_long, is_item, is_mark_item, next_item};
 use crate::keywords::{BenchKeyword, GateKey, keyword_of};
@@ -76,7 +77,7 @@ fn table_of(
     inputs: Vec<Name>,
 ) -> Result<Table, NetError>
     requires some { 0 < length inputs.items }
-    requires few { length inputs.items ≤ 256 }
+    requires few { length inputs.items ≤ most_table_inputs }
     ensures { Gives (λ t. t) result (table_of_names line key output.now inputs.items) }
 {
     if !is_name(output) || !is_counted(key, &inputs) {

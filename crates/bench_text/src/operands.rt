@@ -6,12 +6,14 @@ ghost use Rattle.net_theory.specs.Document.{is_name as is_name_of};
 ghost use Rattle.blif_text.specs.Reading.{Gives};
 ghost use Rattle.bench_text.specs.Items.{items_of};
 ghost use Rattle.bench_text.specs.Statements.{operands_of as operands_of_items, operands_from};
-ghost use Rattle.bench_text.specs.Statements.{names_of as names_of_items, port_of as port_of_items, alone as alone_of};
+ghost use Rattle.bench_text.specs.Statements.{names_of as names_of_items, port_of as port_of_items};
+ghost use Rattle.bench_text.specs.Statements.{alone as alone_of};
 ghost use Rattle.std.specs.Option.{option_map};
+ghost use Rattle.net_theory.specs.Limits.{most_table_inputs};
 
 use crate::items::{is_item, is_mark_item, next_item};
-use blif_text::MOST_WIDTH;
 use net_document::{Name, NetError, is_name};
+use net_theory::MOST_TABLE_INPUTS;
 use std::alloc::{AllocError, Global};
 
 /// Adds the words up to the closing parenthesis to `names`, and returns whether they are separated by commas and
@@ -83,17 +85,17 @@ fn are_names(names: &[Name]) -> bool
     names.iter().all(|name| is_name(name.get()))
 }
 
-/// The names in parentheses, at most `MOST_WIDTH`.
+/// The names in parentheses, at most `MOST_TABLE_INPUTS`.
 #[tactic(auto, unfolding(crate::specs::Statements::names_of))]
 pub fn names_of(alloc: Global, line: u32, text: &[u8]) -> Result<Vec<Name>, NetError>
     ensures names { Gives (λ names. names.items) result (names_of_items line (items_of text.now)) }
     ensures some { IfOk result (λ names. 0 < length names.items) }
-    ensures few { IfOk result (λ names. length names.items ≤ 256) }
+    ensures few { IfOk result (λ names. length names.items ≤ most_table_inputs) }
 {
     let Some(names) = operands_of(alloc, text)? else {
         return Err(NetError::Syntax(line));
     };
-    if names.len() > MOST_WIDTH {
+    if names.len() > MOST_TABLE_INPUTS {
         return Err(NetError::TooWide(line));
     }
     if !are_names(&names) {

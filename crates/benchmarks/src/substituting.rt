@@ -1,4 +1,4 @@
-//! Measures the cost of changing a net: substituting a chain of one step for a gate (`rebuild_substituted`), removing dangling
+//! Measures the cost of changing a net: substituting a chain of one step for a gate, removing dangling
 //! gates (`drop`), and building the index of a net (`index`), each 200 times on a fixed pseudorandom net of
 //! 100,000 gates.
 ghost use Rattle.std.specs.Prelude.{◌≡◌, ◌+◌, ◌≤◌, ◌<◌, ◌^◌, length, vec_len, IfOk, All};

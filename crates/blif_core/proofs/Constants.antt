@@ -1,10 +1,9 @@
--- Constants that latches read, written names, and initial values.
+-- Constants that latches read, and written names.
 use Rattle.std.proofs.Common.{◌≡◌, List, [], ◌∷◌, ◌++◌, refl}
 use Rattle.std.specs.Prelude.{if◌then◌else◌}
 use Rattle.std.proofs.lemmas.Grind.{common_steps}
 use Rattle.net_theory.specs.Document.{Name, has}
 use Rattle.net_theory.specs.Naming.{each_once}
-use Rattle.blif_core.specs.WrittenLaws.{written_init}
 
 pub ruleset names = (common_steps)
 
@@ -15,5 +14,3 @@ each_once-append seen [] ys = refl
 each_once-append seen (x ∷ xs) ys = each_once-append (if has seen x then seen else seen ++ x ∷ []) xs ys
 
 pub ruleset sets = (common_steps, each_once-append)
-
-pub ruleset inits = (common_steps, written_init)

@@ -24,6 +24,7 @@ use Rattle.blif_text.specs.Statements.{steps, listed_by}
 use Rattle.blif_core.specs.Spelling.{trigger_text}
 use Rattle.blif_laws.specs.Spelled.{IsSpelledTable}
 use Rattle.blif_laws.proofs.WordLines.{line_of, logical_line, step_line}
+use Rattle.net_theory.specs.Limits.{most_table_inputs, most_cubes}
 
 -- ---- lines
 
@@ -306,11 +307,11 @@ unfolding last_of
 last_back w [] output = refl
 last_back w (v ∷ ws) output = last_back v ws output
 
-table_back : (n : ℕ) (inputs : List Name) (output : Name) → All IsName inputs → IsName output → length inputs ≤ 256 → table_of n (inputs ++ output ∷ []) ≡ Ok (empty_table inputs output)
+table_back : (n : ℕ) (inputs : List Name) (output : Name) → All IsName inputs → IsName output → length inputs ≤ most_table_inputs → table_of n (inputs ++ output ∷ []) ≡ Ok (empty_table inputs output)
 unfolding table_of prefix_of last_of
 table_back n [] output all is narrow = cond-true (are_names (output ∷ [])) _ _ (names_are (output ∷ []) (one_name output is))
 table_back n (w ∷ ws) output all is narrow =
-    cond-false (nat_lt 256 (length (ws ++ output ∷ []))) _ _ (le-ltb 256 (length (ws ++ output ∷ [])) (omega (arith, narrow, length-append ws (output ∷ []))))
+    cond-false (nat_lt most_table_inputs (length (ws ++ output ∷ []))) _ _ (le-ltb most_table_inputs (length (ws ++ output ∷ [])) (omega (arith, narrow, length-append ws (output ∷ []))))
     ∙ cond-true (are_names (w ∷ (ws ++ output ∷ []))) _ _ (names_are (w ∷ (ws ++ output ∷ [])) (all_push (w ∷ ws) output all is))
     ∙ ap (λ (xs : List Name). Ok (empty_table xs (last_of w (ws ++ output ∷ [])))) (prefix_back w ws output)
     ∙ ap (λ (o : Name). Ok (empty_table (w ∷ ws) o)) (last_back w ws output)
@@ -333,12 +334,12 @@ row_words_back width [] is =
 row_words_back width (b ∷ bs) is = cond-true (is_cube width (b ∷ bs)) _ _ is
 
 row_back : (n : ℕ) (t : Table) (done : List (List ℕ)) (cube : List ℕ) → is_cube t.cover.width cube ≡ true →
-    length done < 4096 → row_of n (with_cubes t done) ((row_line cube).first ∷ (row_line cube).rest) ≡
+    length done < most_cubes → row_of n (with_cubes t done) ((row_line cube).first ∷ (row_line cube).rest) ≡
     Ok (with_cubes t (done ++ cube ∷ []))
 unfolding row_of
 row_back n t done cube is room =
     ap (with_row n (with_cubes t done)) (row_words_back t.cover.width cube is)
-    ∙ cond-false (nat_le 4096 (length done)) _ _ (lt-leb 4096 (length done) room)
+    ∙ cond-false (nat_le most_cubes (length done)) _ _ (lt-leb most_cubes (length done) room)
     ∙ cond-true (is_nothing done || true) _ _ (or_right (is_nothing done) true refl)
 
 row_dot : (width : ℕ) (cube : List ℕ) → is_cube width cube ≡ true → begins_dot (row_line cube).first ≡ false
@@ -348,7 +349,7 @@ row_dot width (b ∷ bs) is = cube_no_dot width b bs is
 abbrev open_table : Said → Table → Said
 open_table s t = record s { current = Some t }
 
-row_said : (n : ℕ) (s : Said) (t : Table) (done : List (List ℕ)) (cube : List ℕ) → s.is_ended ≡ false → is_cube t.cover.width cube ≡ true → length done < 4096 →
+row_said : (n : ℕ) (s : Said) (t : Table) (done : List (List ℕ)) (cube : List ℕ) → s.is_ended ≡ false → is_cube t.cover.width cube ≡ true → length done < most_cubes →
     Says n (row_line cube ∷ []) (open_table s (with_cubes t done)) (λ u. u ≡ open_table s (with_cubes t (done ++ cube ∷ [])))
 row_said n s t done cube going is room =
     says_one n (row_line cube) (open_table s (with_cubes t done)) (open_table s (with_cubes t (done ++ cube ∷ []))) (λ u. u ≡ open_table s (with_cubes t (done ++ cube ∷ [])))
@@ -357,7 +358,7 @@ row_said n s t done cube going is room =
     ∙ ap (λ (r : Result Table NetError). r >>= λ u. Ok (open_table s u)) (row_back n t done cube is room))
     refl
 
-rows_said : (n : ℕ) (s : Said) (t : Table) (done cubes : List (List ℕ)) → s.is_ended ≡ false → All (λ cube. is_cube t.cover.width cube ≡ true) cubes → length done + length cubes ≤ 4096 →
+rows_said : (n : ℕ) (s : Said) (t : Table) (done cubes : List (List ℕ)) → s.is_ended ≡ false → All (λ cube. is_cube t.cover.width cube ≡ true) cubes → length done + length cubes ≤ most_cubes →
     Says n (map row_line cubes) (open_table s (with_cubes t done)) (λ u. u ≡ open_table s (with_cubes t (done ++ cubes)))
 rows_said n s t done [] going all room =
     says_none n (open_table s (with_cubes t done)) (λ u. u ≡ open_table s (with_cubes t (done ++ []))) (ap (λ (cs : List (List ℕ)). open_table s (with_cubes t cs)) (sym (append-nil done)))

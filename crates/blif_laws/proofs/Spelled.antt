@@ -30,6 +30,7 @@ use Rattle.blif_laws.proofs.Saying.{Has, model_line, model_alone, model_said, re
 use Rattle.blif_laws.proofs.Saying.{add_outputs, add_clocks, adds_inputs, adds_outputs, adds_clocks, control_words}
 use Rattle.blif_laws.proofs.Saying.{init_words, latch_words, latch_line, add_latches, latches_said, names_line}
 use Rattle.blif_laws.proofs.Saying.{row_line, table_lines, add_tables, tables_said, end_line, end_said}
+use Rattle.net_theory.specs.Limits.{most_table_inputs, most_name_bytes}
 
 -- ---- its lines
 
@@ -177,7 +178,7 @@ document_spelled d is =
 
 -- ---- each line is a line of words
 
-keyword_name : (keyword : Name) → is_name keyword ≡ true → length keyword ≤ 1024 → IsName keyword
+keyword_name : (keyword : Name) → is_name keyword ≡ true → length keyword ≤ most_name_bytes → IsName keyword
 keyword_name keyword e short = record { spelled = e; short = short }
 
 short_line : (keyword : Name) (names : List Name) → IsName keyword → All IsName names → length names ≤ 1000 → IsLine (line keyword names)
@@ -264,14 +265,14 @@ one_line : IsName (49 ∷ [])
 unfolding is_name
 one_line = record { spelled = refl; short = omega arith }
 
-row_is : (width : ℕ) (cube : List ℕ) → width ≤ 256 → is_cube width cube ≡ true → IsLine (row_line cube)
+row_is : (width : ℕ) (cube : List ℕ) → width ≤ most_table_inputs → is_cube width cube ≡ true → IsLine (row_line cube)
 row_is width [] low is = short_line (49 ∷ []) [] one_line (All-nil IsName) (omega arith)
 row_is width (b ∷ bs) low is =
     let p = and_parts (length (b ∷ bs) == width) (list_all is_cube_byte (b ∷ bs)) is in
     let size = eqb-true (length (b ∷ bs)) width p.0 in
     short_line (b ∷ bs) ((49 ∷ []) ∷ []) (record { spelled = cube_name b bs p.1; short = omega (arith, size, low) }) (All-cons IsName (49 ∷ []) [] one_line (All-nil IsName)) (omega arith)
 
-rows_are : (width : ℕ) (cubes : List (List ℕ)) → width ≤ 256 → All (λ cube. is_cube width cube ≡ true) cubes → All IsLine (map row_line cubes)
+rows_are : (width : ℕ) (cubes : List (List ℕ)) → width ≤ most_table_inputs → All (λ cube. is_cube width cube ≡ true) cubes → All IsLine (map row_line cubes)
 rows_are width [] low all = All-nil IsLine
 rows_are width (c ∷ cs) low all =
     All-cons IsLine (row_line c) (map row_line cs) (row_is width c low (All-head (λ (x : List ℕ). is_cube width x ≡ true) c cs all))

@@ -13,6 +13,7 @@ use Rattle.blif_text.specs.Words.{word_then, words_from, words_of, has_long}
 use Rattle.blif_text.specs.Statements.{Said, stated, step}
 use Rattle.net_document.specs.EndLaws.{trimmed-other, without_last-push}
 use Rattle.blif_core.specs.Spelling.{words_text}
+use Rattle.net_theory.specs.Limits.{most_name_bytes, most_line_bytes}
 
 -- a line of words, separated by blanks
 abbrev pub line_of : Name → List Name → List ℕ
@@ -157,7 +158,7 @@ none_long : (ws : List Name) → All IsName ws → has_long ws ≡ false
 unfolding has_long
 none_long [] all = refl
 none_long (w ∷ ws) all =
-    or_from (nat_lt 1024 (length w)) (has_long ws) (le-ltb 1024 (length w) (All-head IsName w ws all).short) (none_long ws (All-tail IsName w ws all))
+    or_from (nat_lt most_name_bytes (length w)) (has_long ws) (le-ltb most_name_bytes (length w) (All-head IsName w ws all).short) (none_long ws (All-tail IsName w ws all))
 
 words_size : (ws : List Name) → All IsName ws → length (words_text ws) ≤ 1025 * length ws
 words_size [] all = omega arith
@@ -177,7 +178,7 @@ pub step_line : (s : Said) (n : ℕ) (w : Name) (ws : List Name) → All IsName 
     step s (record { first = n; size = 0 + length (line_of w ws); text = line_of w ws }) ≡ stated n s (w ∷ ws)
 unfolding step
 step_line s n w ws all few =
-    let short : nat_lt 1048576 (0 + length (line_of w ws)) ≡ false = le-ltb 1048576 (0 + length (line_of w ws)) (let size = line_size w ws all in omega (arith, size, few)) in
+    let short : nat_lt most_line_bytes (0 + length (line_of w ws)) ≡ false = le-ltb most_line_bytes (0 + length (line_of w ws)) (let size = line_size w ws all in omega (arith, size, few)) in
     let words = words_back w ws all in
     cond-false _ _ _ short
     ∙ cond-false _ _ _ (ap has_long words ∙ none_long (w ∷ ws) all)

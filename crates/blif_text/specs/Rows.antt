@@ -5,6 +5,7 @@ use Rattle.net_theory.specs.Document.{Table}
 use Rattle.net_document.specs.Contents.{is_nothing}
 use Rattle.net_core.specs.declared.error.NetError.{NetError}
 use Rattle.net_core.specs.declared.error.NetError.TheVariants.{Syntax, MixedCover, TooManyRows}
+use Rattle.net_theory.specs.Limits.{most_cubes}
 
 pub record CoverRow : Type 0 where
   pub cube : List ℕ
@@ -32,7 +33,7 @@ agrees false on = not on
 -- a table with one more cover line
 abbrev pub with_row : ℕ → Table → Option CoverRow → Result Table NetError
 with_row line t None = Err (Syntax line)
-with_row line t (Some row) = if nat_le 4096 (length t.cover.cubes) then Err
+with_row line t (Some row) = if nat_le most_cubes (length t.cover.cubes) then Err
     (TooManyRows line) else (if is_nothing t.cover.cubes ||
     agrees row.on t.cover.on then Ok (record {
       inputs = t.inputs;

@@ -20,6 +20,7 @@ use Rattle.net_document.specs.Limits.{is_long_word}
 use Rattle.blif_text.specs.Reading.{◌>>=◌}
 use Rattle.blif_text.specs.Words.{has_long}
 use Rattle.blif_text.specs.Statements.{Control, Said, nothing, closed, with_table, with_latch, control_at}
+use Rattle.net_theory.specs.Limits.{most_name_bytes}
 
 abbrev pub control_name : Control → Name
 control_name c = c.name
@@ -59,22 +60,22 @@ bind_fine (Err e) f P Q h next = tt
 -- ---- words
 
 pub record AreShort (ws : List (List ℕ)) : Type 0 where
-  pub each : All (λ (w : List ℕ). length w ≤ 1024) ws
+  pub each : All (λ (w : List ℕ). length w ≤ most_name_bytes) ws
 
-pub short_cons : (w : List ℕ) (ws : List (List ℕ)) → AreShort (w ∷ ws) → (length w ≤ 1024) × AreShort ws
+pub short_cons : (w : List ℕ) (ws : List (List ℕ)) → AreShort (w ∷ ws) → (length w ≤ most_name_bytes) × AreShort ws
 short_cons w ws h = (h.each 0 [] (omega arith), record { each = λ k d low. h.each (suc k) d (omega arith) })
 
 either_false : (a b : Bool) → (a || b) ≡ false → (a ≡ false) × (b ≡ false)
 either_false true b e = absurd cc
 either_false false b e = (refl, e)
 
-long_cases : (w : List ℕ) (ws : List (List ℕ)) → has_long (w ∷ ws) ≡ false → (length w ≤ 1024) × (has_long ws ≡ false)
+long_cases : (w : List ℕ) (ws : List (List ℕ)) → has_long (w ∷ ws) ≡ false → (length w ≤ most_name_bytes) × (has_long ws ≡ false)
 unfolding has_long
-long_cases w ws e = let c = either_false (nat_lt 1024 (length w)) (list_any is_long_word ws) e in (ltb-false 1024 (length w) c.0, c.1)
+long_cases w ws e = let c = either_false (nat_lt most_name_bytes (length w)) (list_any is_long_word ws) e in (ltb-false most_name_bytes (length w) c.0, c.1)
 
 pub short_words : (ws : List (List ℕ)) → has_long ws ≡ false → AreShort ws
-short_words [] e = record { each = All-nil (λ (w : List ℕ). length w ≤ 1024) }
-short_words (w ∷ ws) e = let c = long_cases w ws e in record { each = All-cons (λ (w : List ℕ). length w ≤ 1024) w ws c.0 (short_words ws c.1).each }
+short_words [] e = record { each = All-nil (λ (w : List ℕ). length w ≤ most_name_bytes) }
+short_words (w ∷ ws) e = let c = long_cases w ws e in record { each = All-cons (λ (w : List ℕ). length w ≤ most_name_bytes) w ws c.0 (short_words ws c.1).each }
 
 -- ---- the state
 

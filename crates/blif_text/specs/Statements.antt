@@ -16,6 +16,7 @@ use Rattle.blif_text.specs.Words.{words_of, has_long}
 use Rattle.blif_text.specs.Rows.{row_of}
 use Rattle.blif_text.specs.Latches.{latch_of}
 use Rattle.blif_text.specs.Reading.{◌>>=◌}
+use Rattle.net_theory.specs.Limits.{most_table_inputs}
 
 -- the control of a latch, with the line of the latch
 pub record Control : Type 0 where
@@ -97,7 +98,7 @@ empty_table inputs output = record { inputs = inputs; output = output; cover = r
 -- `.names INPUTS OUTPUT`
 unfoldable pub table_of : ℕ → List (List ℕ) → Result Table NetError
 table_of line [] = Err (Syntax line)
-table_of line (w ∷ ws) = if nat_lt 256 (length ws) then Err (TooWide line) else (if are_names (w ∷ ws) then Ok (empty_table (prefix_of w ws) (last_of w ws)) else Err (Syntax line))
+table_of line (w ∷ ws) = if nat_lt most_table_inputs (length ws) then Err (TooWide line) else (if are_names (w ∷ ws) then Ok (empty_table (prefix_of w ws) (last_of w ws)) else Err (Syntax line))
 
 -- adds the names that a table drives and reads
 abbrev pub with_table_names : Said → Table → Said

@@ -27,6 +27,7 @@ use Rattle.blif_text.specs.SizeLaws.{words_size, words_size-cons, words_fit, sai
 use Rattle.blif_text.specs.SaidLaws.{IsCubeTable, IsSaid, AreShort, short_cons, short_words, bind_fine, table_size}
 use Rattle.blif_text.specs.SaidLaws.{closed_said, said_more, with_inputs_said, with_outputs_said, with_clocks_said}
 use Rattle.blif_text.specs.SaidLaws.{with_model_said, with_flags_said, with_table_said, with_row_said, with_latch_said}
+use Rattle.net_theory.specs.Limits.{most_table_inputs, most_cubes, most_name_bytes, most_line_bytes}
 
 -- ---- names
 
@@ -73,7 +74,7 @@ last_name w (v ∷ ws) all = last_name v ws (All-tail IsName w (v ∷ ws) all)
 abbrev IsNew : Table → Type 0
 IsNew t = IsCubeTable t × (table_size t ≡ 1)
 
-empty_new : (inputs : List Name) (output : Name) → All IsName inputs → IsName output → length inputs ≤ 256 → IsNew (empty_table inputs output)
+empty_new : (inputs : List Name) (output : Name) → All IsName inputs → IsName output → length inputs ≤ most_table_inputs → IsNew (empty_table inputs output)
 unfolding table_size
 empty_new inputs output ins out narrow =
     let table : IsTable (empty_table inputs output) = record {
@@ -90,14 +91,14 @@ table_fine : (line : ℕ) (ws : List (List ℕ)) → AreShort ws → IfOk (table
 unfolding table_of
 table_fine line [] short = tt
 table_fine line (w ∷ ws) short =
-    cond_both (nat_lt 256 (length ws)) (Err (TooWide line))
+    cond_both (nat_lt most_table_inputs (length ws)) (Err (TooWide line))
     (if are_names (w ∷ ws) then Ok (empty_table (prefix_of w ws) (last_of w ws)) else Err (Syntax line))
     (λ (r : Result Table NetError). IfOk r IsNew)
     (λ wide. tt)
     (λ narrow. cond_both (are_names (w ∷ ws)) (Ok (empty_table (prefix_of w ws) (last_of w ws))) (Err (Syntax line)) (λ (r : Result Table NetError). IfOk r IsNew)
     (λ names.
     let all = names_all (w ∷ ws) names short in
-    let few : length ws ≤ 256 = ltb-false 256 (length ws) narrow in
+    let few : length ws ≤ most_table_inputs = ltb-false most_table_inputs (length ws) narrow in
     empty_new (prefix_of w ws) (last_of w ws) (prefix_names w ws all) (last_name w ws all) (omega (arith, few, prefix_count w ws)))
     (λ none. tt))
 
@@ -144,10 +145,10 @@ pub record IsMore (t : Table) (words : List (List ℕ)) (u : Table) : Type 0 whe
 abbrev rowed : Table → CoverRow → Table
 rowed t row = record { inputs = t.inputs; output = t.output; cover = record { width = t.cover.width; cubes = t.cover.cubes ++ row.cube ∷ []; on = row.on; parity = false } }
 
-rowed_more : (t : Table) (words : List (List ℕ)) (row : CoverRow) → IsCubeTable t → FitsRow t.cover.width words row → nat_le 4096 (length t.cover.cubes) ≡ false → IsMore t words (rowed t row)
+rowed_more : (t : Table) (words : List (List ℕ)) (row : CoverRow) → IsCubeTable t → FitsRow t.cover.width words row → nat_le most_cubes (length t.cover.cubes) ≡ false → IsMore t words (rowed t row)
 unfolding table_size
 rowed_more t words row is fits room =
-    let few : length t.cover.cubes < 4096 = leb-false 4096 (length t.cover.cubes) room in
+    let few : length t.cover.cubes < most_cubes = leb-false most_cubes (length t.cover.cubes) room in
     record {
       table = record {
         table = record {
@@ -169,7 +170,7 @@ with_row_fine : (line : ℕ) (t : Table) (words : List (List ℕ)) (r : Option C
     ((row : CoverRow) → r ≡ Some row → FitsRow t.cover.width words row) → IfOk (with_row line t r) (IsMore t words)
 with_row_fine line t words None is fits = tt
 with_row_fine line t words (Some row) is fits =
-    cond_both (nat_le 4096 (length t.cover.cubes)) (Err (TooManyRows line)) (if is_nothing t.cover.cubes ||
+    cond_both (nat_le most_cubes (length t.cover.cubes)) (Err (TooManyRows line)) (if is_nothing t.cover.cubes ||
     agrees row.on t.cover.on then Ok (rowed t row) else Err (MixedCover line)) (λ (r : Result Table NetError).
     IfOk r (IsMore t words))
     (λ full. tt)
@@ -199,7 +200,7 @@ init_fits (b ∷ []) init e =
     e
 init_fits (b ∷ c ∷ bs) init e = absurd cc
 
-control_fits : (trigger : Option Trigger) (name : Name) (c : Trigger × Name) → length name ≤ 1024 → with_control trigger name ≡ Some c → IsName c.1
+control_fits : (trigger : Option Trigger) (name : Name) (c : Trigger × Name) → length name ≤ most_name_bytes → with_control trigger name ≡ Some c → IsName c.1
 control_fits None name c short e = absurd cc
 control_fits (Some t) name c short e =
     cond_both (is_name name) (Some (t, name)) None (λ (r : Option (Trigger × Name)). r ≡ Some c → IsName c.1)
@@ -357,7 +358,9 @@ stated_fine line s (w ∷ ws) size more is short low h =
 step_fine : (s : Said) (l : Logical) (size : ℕ) → IsSaid s size → Fine (size + length l.text) (step s l)
 unfolding step
 step_fine s l size is =
-    cond_both (nat_lt 1048576 l.size) (Err (LineTooLong l.first)) (if has_long (words_of l.text) then Err (NameTooLong l.first) else stated l.first s (words_of l.text)) (Fine (size + length l.text))
+    cond_both (nat_lt most_line_bytes l.size) (Err (LineTooLong l.first))
+    (if has_long (words_of l.text) then Err (NameTooLong l.first) else stated l.first s (words_of l.text))
+    (Fine (size + length l.text))
     (λ e. tt)
     (λ e. cond_both (has_long (words_of l.text)) (Err (NameTooLong l.first)) (stated l.first s (words_of l.text)) (Fine (size + length l.text))
     (λ f. tt)

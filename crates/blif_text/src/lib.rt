@@ -20,7 +20,5 @@ pub use keywords::BlifKeyword;
 pub use logical::{LogicalLine, next_logical};
 pub use net_document::{Listed, NetError};
 pub use reading::{Control, CoverTable, Reading};
-pub use rows::MOST_CUBES;
-pub use statements::MOST_WIDTH;
 pub use walking::read_listed;
 pub use words::next_word;

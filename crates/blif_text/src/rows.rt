@@ -11,10 +11,8 @@ ghost use Rattle.blif_text.specs.Found.{row_found};
 use crate::reading::CoverTable;
 use crate::words::next_word;
 use net_document::{Cube, NetError};
+use net_theory::MOST_CUBES;
 use std::alloc::Global;
-
-/// The maximal number of cover lines of a table.
-pub const MOST_CUBES: usize = 4096;
 
 /// The bit that a word of the one byte `0` or `1` spells.
 #[tactic(auto, unfolding(crate::specs::Rows::bit_in))]

@@ -20,10 +20,8 @@ use crate::reading::{Control, CoverTable, Reading};
 use crate::rows::take_row;
 use crate::words::{add_words, are_names, count_words, has_long, is_word, next_word};
 use net_document::{Cover, LatchLine, Name, NetError, Trigger, add_copies, is_long_line, is_name};
+use net_theory::MOST_TABLE_INPUTS;
 use std::alloc::{AllocError, Global};
-
-/// The maximal number of inputs of a table.
-pub const MOST_WIDTH: usize = 256;
 
 /// The name of the model, which is optional.
 #[tactic(auto, unfolding(crate::specs::Statements::with_model))]
@@ -127,7 +125,7 @@ fn table_of(alloc: Global, line: u32, text: &[u8]) -> Result<CoverTable, NetErro
     let Some((first, rest)) = next_word(text) else {
         return Err(NetError::Syntax(line));
     };
-    if count_words(rest) > MOST_WIDTH {
+    if count_words(rest) > MOST_TABLE_INPUTS {
         return Err(NetError::TooWide(line));
     }
     if !are_names(text) {

@@ -18,6 +18,7 @@ use Rattle.tt_core.specs.FirstFitLaws.{none_fits, none_where_none_fits}
 use Rattle.bound_core.specs.Counts.{some_below, differ_on, differ}
 use Rattle.bound_core.specs.CountLaws.{some_passes, passes_some, true_false}
 use Rattle.bound_core.specs.WordLaws.{opposite_bits, not_zero, is_zero}
+use Rattle.chain_theory.specs.Limits.{most_inputs}
 
 -- ---- a word has a row where some row passes
 
@@ -113,13 +114,13 @@ fits_by_word w h word out spec values =
 
 -- ---- the words of constants and inputs
 
-pub zero_word : (n t : ℕ) → n ≤ 6 → t < 2 ^ n → digit (spread false) t ≡ trivial_value n t outs.Zero
+pub zero_word : (n t : ℕ) → n ≤ most_inputs → t < 2 ^ n → digit (spread false) t ≡ trivial_value n t outs.Zero
 zero_word n t few low = let rows = row_below n few in digit_spread false t (omega (arith, rows, low))
 
-pub one_word : (n t : ℕ) → n ≤ 6 → t < 2 ^ n → digit (spread true) t ≡ trivial_value n t outs.One
+pub one_word : (n t : ℕ) → n ≤ most_inputs → t < 2 ^ n → digit (spread true) t ≡ trivial_value n t outs.One
 one_word n t few low = let rows = row_below n few in digit_spread true t (omega (arith, rows, low))
 
-pub place_word : (n j t : ℕ) → n ≤ 6 → 1 ≤ j → j ≤ n → t < 2 ^ n → digit (input_word (n - j)) t ≡ trivial_value n t (outs.Place j)
+pub place_word : (n j t : ℕ) → n ≤ most_inputs → 1 ≤ j → j ≤ n → t < 2 ^ n → digit (input_word (n - j)) t ≡ trivial_value n t (outs.Place j)
 place_word n j t few from to low = let rows = row_below n few in input_digit (n - j) t (omega (arith, few, from, to)) (omega (arith, rows, low))
 
 -- ---- outputs that are live

@@ -17,6 +17,7 @@ use Rattle.tt_core.specs.RowLaws.{row_below}
 use Rattle.bound_core.specs.Support.{are_opposite}
 use Rattle.bound_core.specs.Counts.{some_below, is_sensitive_on, uses}
 use Rattle.bound_core.specs.CountLaws.{some_passes, passes_some, and_parts, true_false, no_digit}
+use Rattle.chain_theory.specs.Limits.{most_inputs}
 
 -- ---- digits of words
 
@@ -95,7 +96,7 @@ sensitive_digit on care k t =
     ) refl
 
 -- a row's digit says whether the output's value changes with the input there
-sensitive_at : (w : Words) (h j t : ℕ) → w.n ≤ 6 → 1 ≤ j → j ≤ w.n → t < 2 ^ w.n →
+sensitive_at : (w : Words) (h j t : ℕ) → w.n ≤ most_inputs → 1 ≤ j → j ≤ w.n → t < 2 ^ w.n →
     digit (sensitive_rows (slice_index w.on (h - 1)) (slice_index w.care (h - 1)) (w.n - j)) t ≡
     is_sensitive_on (specification w) h j t
 unfolding is_sensitive_on

@@ -8,13 +8,14 @@ ghost use Rattle.tt_core.specs.Live.{is_live as is_live_of, trivial_value, fits}
 ghost use Rattle.tt_core.specs.Words.{specification};
 ghost use Rattle.bound_core.specs.Counts.{uses as uses_of, differ as differ_of};
 ghost use Rattle.bound_core.specs.WordLaws.{low_rows as low_rows_of, sensitive_rows as sensitive_rows_of};
+ghost use Rattle.chain_theory.specs.Limits.{most_inputs};
 
 use op_basis::{input_word, spread};
 use tt_core::Spec;
 
 /// The rows whose digit of weight 2^k is 0.
 fn low_rows(k: u32) -> u64
-    requires { k < 6 }
+    requires { k < most_inputs }
     ensures { result ≡ low_rows_of k }
 {
     !input_word(k)
@@ -24,7 +25,7 @@ fn low_rows(k: u32) -> u64
 /// rows t and t + 2^k are both specified and have different values.
 #[tactic(auto, using(crate::proofs::Loops::shifting))]
 fn sensitive_rows(on: u64, care: u64, k: u32) -> u64
-    requires { k < 6 }
+    requires { k < most_inputs }
     ensures { result ≡ sensitive_rows_of on care k }
 {
     let step = 1u32 << k;

@@ -23,6 +23,7 @@ use Rattle.cdcl_core.specs.Searching.{IsShownAs, IsStateOf, IsLog, AreNew}
 use Rattle.cdcl_core.specs.Reduction.{with_deletion}
 use Rattle.cdcl_core.proofs.Formulas.{by_id_inside}
 use Rattle.cdcl_core.proofs.Counts.{AreFrom, count_dropped, count_none}
+use Rattle.sat_theory.specs.Limits.{slack}
 
 front_all : (P : Line → Type 0) (ls : List Line) (l : Line) → All P (ls ++ l ∷ []) → All P ls
 front_all P ls l all = λ k d low. subst P (get_or_append_left ls (l ∷ []) d k low) (all k d (omega (arith, low, length_push ls l)))
@@ -310,14 +311,14 @@ log_kept f s lines deleted least log enough =
 
 -- A log with few enough live additions is thinned.
 pub log_thinned : (f : Formula) (s : Stored) (lines : List Line) (deleted least : ℕ) → IsLog f s lines deleted least →
-    (length f.clauses + 4 * (deleted + s.vars + 2000) < length s.clauses → ⊥) → DeletesQuarter f lines
+    (length f.clauses + 4 * (deleted + s.vars + slack) < length s.clauses → ⊥) → DeletesQuarter f lines
 log_thinned f s lines deleted least log meet_final_bound = record {
   spares = log.spares;
   few =
       (let all : live_additions (after (start f) lines) lines + deleted ≡ additions lines = live_are f s lines deleted least log in
       let count : length s.clauses ≡ length f.clauses + additions lines = log.count in
       let vars : s.vars ≡ f.vars = log.vars in
-      let low : length s.clauses ≤ length f.clauses + 4 * (deleted + s.vars + 2000) = not_less (length f.clauses + 4 * (deleted + s.vars + 2000)) (length s.clauses) meet_final_bound in
+      let low : length s.clauses ≤ length f.clauses + 4 * (deleted + s.vars + slack) = not_less (length f.clauses + 4 * (deleted + s.vars + slack)) (length s.clauses) meet_final_bound in
       omega arith);
 }
   where

@@ -19,6 +19,7 @@ use Rattle.std.specs.Prelude.{Result, Ok, Err, IfOk}
 use Rattle.sat_solve.specs.declared.solver.Solved.{Solved}
 use Rattle.sat_solve.specs.declared.solver.Solved.TheVariants.{Sat, Unsat, Open}
 use Rattle.sat_solve.specs.Answering.{IfOpen}
+use Rattle.sat_theory.specs.Limits.{slack}
 
 no_lines : (s : State) → EachLine IsStep s []
 unfolding EachLine
@@ -88,7 +89,7 @@ log_spent f s lines deleted least budget log new none enough = record {
   fresh = new.fresh;
 }
 
-nothing : (f : Formula) → 4 * live_additions (after (start f) []) [] ≤ 3 * additions [] + 4 * f.vars + 8000
+nothing : (f : Formula) → 4 * live_additions (after (start f) []) [] ≤ 3 * additions [] + 4 * f.vars + 4 * slack
 unfolding added_ids
 nothing f = (let none : live_additions (after (start f) []) [] ≡ 0 = refl in omega (arith, none))
 

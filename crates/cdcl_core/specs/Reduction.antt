@@ -7,6 +7,7 @@ use Rattle.clause_db.specs.Stored.{live_in}
 use Rattle.clause_db.specs.Deleting.{IsDeleted}
 use Rattle.cdcl_core.specs.declared.search.Search.{Search}
 use Rattle.cdcl_core.specs.Searching.{IsLog, IsLogged, IsIrredundant}
+use Rattle.sat_theory.specs.Limits.{slack}
 
 -- the lines, followed by one that deletes the ids, if there are any
 abbrev pub with_deletion : List theory.Line → ℕ → List ℕ → List theory.Line
@@ -57,12 +58,12 @@ pub record MayDelete (s : Search) (id : ℕ) : Type 0 where
 -- the log has too many live additions for its end: more additions than four times the deleted ones, the
 -- variables and 2000 together
 abbrev pub ExceedsFinalBound : Search → Type 0
-ExceedsFinalBound s = s.given + 4 * (s.deleted + s.clauses.vars + 2000) < length s.clauses.clauses
+ExceedsFinalBound s = s.given + 4 * (s.deleted + s.clauses.vars + slack) < length s.clauses.clauses
 
 -- too many additions are live for that bound (IsThick) during a search, when the irredundant ones, which are
 -- never deleted, don't count
 abbrev pub ExceedsBound : Search → Type 0
-ExceedsBound s = s.given + (s.shorter.high - s.shorter.low) + 4 * (s.deleted + s.clauses.vars + 2000) < length s.clauses.clauses
+ExceedsBound s = s.given + (s.shorter.high - s.shorter.low) + 4 * (s.deleted + s.clauses.vars + slack) < length s.clauses.clauses
 
 -- The live additions are within that bound, if the log is one of a formula.
 pub record IsBounded (s : Search) : Type 0 where

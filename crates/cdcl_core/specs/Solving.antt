@@ -2,7 +2,7 @@
 use Rattle.std.specs.Prelude.{◌≡◌, ◌+◌, ◌<◌, ◌≤◌, ℕ, [], length, Contains}
 use Rattle.sat_theory.specs.Formula.{Formula, IsFormula}
 use Rattle.clause_db.specs.Stored.{IsStored}
-use Rattle.sat_solve.specs.Budgets.{most_budget}
+use Rattle.sat_theory.specs.Limits.{most_conflicts}
 use Rattle.cdcl_core.specs.declared.search.Search.{Search}
 use Rattle.cdcl_core.specs.declared.solver.SolverStatus.{SolverStatus}
 use Rattle.cdcl_core.specs.declared.solver.SolverStatus.TheVariants.{Empty, Undecided, Refuted, Failed}
@@ -20,7 +20,7 @@ pub record IsUnderWay (s : Search) : Type 0 where
   pub visited : HasWatchInvariant s
   pub given : s.given ≤ length s.clauses.clauses
   pub few : length s.clauses.clauses + length s.starts.items < 2950000000
-  pub least : s.least ≤ most_budget
+  pub least : s.least ≤ most_conflicts
 
 abbrev pub FitsStatus : Search → SolverStatus → Type 0
 FitsStatus s Empty = Unit {0}

@@ -2,7 +2,7 @@
 ghost use Rattle.std.specs.Prelude.{◌≡◌, ℕ, ◌+◌, ◌*◌, ◌^◌, ◌<◌, ◌≤◌, [], length, max, Contains, IfOk};
 ghost use Rattle.sat_theory.specs.Formula.{Formula, IsFormula, bits_of, Satisfies};
 ghost use Rattle.sat_theory.specs.Log.{Refutes, ReachesBudget, KeepsHalf, DeletesQuarter};
-ghost use Rattle.sat_solve.specs.Budgets.{most_budget};
+ghost use Rattle.sat_theory.specs.Limits.{most_conflicts};
 ghost use Rattle.sat_solve.specs.Answering.{IfSat, IfUnsat, IfOpen, IfLogged, IsDecided};
 ghost use Rattle.clause_db.specs.Stored.{IsStored};
 ghost use Rattle.cdcl_core.specs.Searching.{IsSearching, HasWatchInvariant, IsAccounted, IsLogged};
@@ -19,7 +19,7 @@ use std::mem;
 /// Decides the formula of a search between calls, or leaves it undecided after `budget` further additions.
 fn decide_rest(search: &mut Search, alloc: Global, budget: u32) -> Result<Solved, AllocError>
     requires under_way { IsUnderWay search.old }
-    requires most { budget ≤ most_budget }
+    requires most { budget ≤ most_conflicts }
     ensures bits { (f : Formula) → IsLogged f search.old → IfOk result (λ s. IfSat s (λ bits. length bits ≡ f.vars)) }
     ensures sat { (f : Formula) → IsLogged f search.old → IsFormula f →
         IfOk result (λ s. IfSat s (λ bits. Satisfies (bits_of bits) f)) }
@@ -44,7 +44,7 @@ pub(crate) fn conclude(
     budget: u32,
 ) -> Result<Solved, AllocError>
     requires fits { FitsStatus search.old status }
-    requires most { budget ≤ most_budget }
+    requires most { budget ≤ most_conflicts }
     ensures bits { (f : Formula) (least : ℕ) → FitsStatusOf f least search.old status →
         IfOk result (λ s. IfSat s (λ bits. length bits ≡ f.vars)) }
     ensures sat { (f : Formula) (least : ℕ) → FitsStatusOf f least search.old status →

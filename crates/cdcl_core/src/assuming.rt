@@ -11,7 +11,7 @@ ghost use Rattle.sat_theory.specs.Formula.{Formula, IsWithin};
 ghost use Rattle.cdcl_theory.specs.Propagation.{AllSettled};
 ghost use Rattle.cdcl_theory.specs.Trails.{falsified_at as falsified_in};
 ghost use Rattle.clause_db.specs.Stored.{live_in, IsStored};
-ghost use Rattle.sat_solve.specs.Budgets.{most_budget};
+ghost use Rattle.sat_theory.specs.Limits.{most_conflicts};
 
 use crate::scope::{is_over_work, limit_work, next_assuming, open_assumptions};
 use crate::search::Search;
@@ -73,8 +73,8 @@ impl Search {
     pub(crate) fn total_budget(&self, budget: u32) -> u32
         requires given { self.now.given ≤ length self.now.clauses.clauses }
         requires few { length self.now.clauses.clauses < 2950000000 }
-        requires most { budget ≤ most_budget }
-        requires least { self.now.least ≤ most_budget }
+        requires most { budget ≤ most_conflicts }
+        requires least { self.now.least ≤ most_conflicts }
         ensures least { self.now.least ≤ result }
         ensures budget { budget ≤ result }
         ensures short { length self.now.clauses.clauses ≤ self.now.given + result }
@@ -107,7 +107,8 @@ impl Search {
         ensures visited { IfOk result (λ _. HasWatchInvariant self.new) }
         ensures decided { IfOk result (λ ended. IfNone ended (HasDecided self.old self.new)) }
         ensures under { IfOk result (λ ended. IfNone ended (length self.old.clauses.clauses < end)) }
-        ensures same { IfOk result (λ ended. IfSome ended (λ _. self.new ≡ record self.old { scope = self.new.scope })) }
+        ensures same { IfOk result (λ ended. IfSome ended (λ _. self.new ≡
+            record self.old { scope = self.new.scope })) }
     {
         if has_false_assumption(&self.trail, assumptions) {
             return Ok(Some(AssumptionResult::Unsat));

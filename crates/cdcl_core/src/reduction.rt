@@ -10,6 +10,7 @@ ghost use Rattle.sat_theory.specs.Formula.{Formula, IsWithin};
 ghost use Rattle.sat_theory.specs.Log.{DeletesQuarter};
 ghost use Rattle.clause_db.specs.Stored.{live_in, IsStored};
 ghost use Rattle.cdcl_core.specs.Reduction.{NoneImplied, SomeImplied};
+ghost use Rattle.sat_theory.specs.Limits.{slack};
 
 use crate::search::Search;
 use cnf_core::Lit;
@@ -17,7 +18,7 @@ use std::alloc::AllocError;
 use trail_core::Trail;
 
 /// A log may have four times as many additions as deleted ones, variables and this number together.
-const SLACK: u64 = 2000;
+const SLACK: u64 = sat_theory::SLACK as u64;
 
 /// The least number of clauses deleted at once when too many are live, if so many may be: so the scan over
 /// all clauses is rare.
@@ -26,7 +27,7 @@ const LEAST_DELETED: usize = 1000;
 /// Whether the additions, without the `standing` irredundant ones, are more than four times the deleted ones,
 /// the variables and the slack together.
 fn exceeds(last: u32, given: u32, standing: u32, deleted: u32, vars: u32) -> bool
-    ensures { IsTrue result ↔ (given + standing + 4 * (deleted + vars + 2000) < last) }
+    ensures { IsTrue result ↔ (given + standing + 4 * (deleted + vars + slack) < last) }
 {
     let bound = 4 * (u64::from(deleted) + u64::from(vars) + SLACK);
     u64::from(last) > u64::from(given) + u64::from(standing) + bound

@@ -78,7 +78,8 @@ pub(crate) enum SearchEnd {
 
 impl Search {
     ghost use Rattle.cdcl_core.specs.Searching.{IsSearching, HasWatchInvariant, IsLogged, HasBegun, HasPropagated};
-    ghost use Rattle.cdcl_core.specs.Searching.{HasBackjumped, HasRestarted, HasResolvedConflicts, HasDecided, HasRun};
+    ghost use Rattle.cdcl_core.specs.Searching.{HasBackjumped, HasRestarted, HasResolvedConflicts, HasDecided};
+    ghost use Rattle.cdcl_core.specs.Searching.{HasRun};
     ghost use Rattle.cdcl_core.specs.SearchEnds.{Ends, HasRefuted};
     ghost use Rattle.cdcl_core.specs.Reduction.{IsBounded};
 
@@ -393,7 +394,8 @@ impl Search {
         requires visited { HasWatchInvariant self.old }
         requires least { self.old.least ≤ budget }
         requires room { self.old.given + budget + shorter < 2980000000 }
-        requires short { length self.old.clauses.clauses ≤ self.old.given + budget + shorter + self.old.trail.vars + 1 }
+        requires short { length self.old.clauses.clauses ≤ self.old.given + budget + shorter + self.old.trail.vars +
+            1 }
         requires starts { self.old.starts.items ≡ [] }
         ensures ends { (f : Formula) → IsLogged f self.old → IfOk result (Ends f budget self.new) }
         ensures stored { IfOk result (λ _. IsStored self.new.clauses) }

@@ -18,7 +18,8 @@ pub(crate) fn push_units(trail: &mut Trail, clauses: &ClauseDb) -> Result<Option
     ensures grown { IfOk result (λ _. IsGrown (live_in clauses.now) trail.old trail.new) }
     ensures guarded { IfOk result (λ found. IfNone found
         (KeepsWatchInvariant clauses.now (falsified_in trail.new) [] 0)) }
-    ensures conflict { IfOk result (λ found. IfSome found (IsFalsified (live_in clauses.now) (falsified_in trail.new))) }
+    ensures conflict { IfOk result (λ found. IfSome found
+        (IsFalsified (live_in clauses.now) (falsified_in trail.new))) }
 {
     for index in 0..clauses.last() {
         let id = index + 1;

@@ -131,7 +131,8 @@ fn visit_watching(
     ensures rest { IfOk result (λ _. IsRest clauses.old clauses.new trail.old trail.new) }
     ensures visited { IfOk result (λ found. IfNone found ((id : ℕ) → Watches clauses.new id falsified →
         HasTrueAt clauses.new (falsified_in trail.new) id)) }
-    ensures conflict { IfOk result (λ found. IfSome found (IsFalsified (live_in clauses.new) (falsified_in trail.new))) }
+    ensures conflict { IfOk result (λ found. IfSome found
+        (IsFalsified (live_in clauses.new) (falsified_in trail.new))) }
 {
     let mut index = 0;
     while let Some(next) = first_unblocked(trail, clauses.watching(falsified), index) {
@@ -167,10 +168,12 @@ pub(crate) fn propagate_watched(
         (length trail.new.lits))) }
     ensures some { (starts : List ℕ) → All (λ s. s ≤ from) starts →
         KeepsWatchInvariant clauses.old (falsified_in trail.old) starts from →
-        IfOk result (λ found. IfSome found (λ _. KeepsWatchInvariant clauses.new (falsified_in trail.new) starts from)) }
+        IfOk result (λ found. IfSome found (λ _.
+        KeepsWatchInvariant clauses.new (falsified_in trail.new) starts from)) }
     ensures settled { KeepsWatchInvariant clauses.old (falsified_in trail.old) [] from →
         IfOk result (λ found. IfNone found (AllSettled (live_in clauses.new) (falsified_in trail.new))) }
-    ensures conflict { IfOk result (λ found. IfSome found (IsFalsified (live_in clauses.new) (falsified_in trail.new))) }
+    ensures conflict { IfOk result (λ found. IfSome found
+        (IsFalsified (live_in clauses.new) (falsified_in trail.new))) }
 {
     let mut head = from;
     while head < trail.len() {

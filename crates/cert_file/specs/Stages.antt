@@ -12,7 +12,7 @@ use Rattle.chain_core.specs.Steps.{steps_of}
 use Rattle.chain_core.specs.declared.frame.Frame.{Frame}
 use Rattle.chain_core.specs.declared.step.Step.{Step}
 use Rattle.chain_core.specs.declared.error.ChainError.{ChainError}
-use Rattle.settings.specs.Synth.{most_steps}
+use Rattle.chain_theory.specs.Limits.{most_steps}
 use Rattle.cert_theory.specs.declared.data.Header.{Header}
 use Rattle.cert_theory.specs.declared.data.Verdict.{Verdict}
 use Rattle.cert_theory.specs.declared.data.CertificateError.{CertificateError}
@@ -50,7 +50,7 @@ pub record IsFrame (h : Header) (f : Frame) : Type 0 where
   pub known : IsKnown h
   pub n : f.n ≡ h.spec.n
   pub outputs : f.outputs ≡ length h.spec.on
-  pub steps : f.steps ≤ 16
+  pub steps : f.steps ≤ most_steps
 
 -- these steps were read, and at least one more is due
 pub record AreRead (h : Header) (f : Frame) (steps : List Step) (number : ℕ) : Type 0 where

@@ -9,7 +9,7 @@ ghost use Rattle.cert_file.specs.HeaderLines.{header_in};
 ghost use Rattle.cert_file.specs.Claims.{KeepsClaim};
 ghost use Rattle.cert_file.specs.FenceNames.{IsFenceNamed};
 
-use crate::lines::{GREATEST, TextLine, fault_at, is_line, number_after, value_of};
+use crate::lines::{TextLine, fault_at, is_line, number_after, value_of};
 use crate::logs::at_begun;
 use crate::stage::{Running, Stage};
 use crate::trailer::not_found_in;
@@ -17,7 +17,7 @@ use cert_theory::{CertificateError, SubproblemError, fence_name};
 use enc_theory::Subproblem;
 use settings::MOST_STEPS;
 use std::alloc::Global;
-use text_core::{next_item, number_up_to};
+use text_core::{MOST_NUMBER, next_item, number_up_to};
 
 /// Whether all items of a text are numbers of at most nine digits.
 #[tactic(auto, unfolding(cert_theory::specs::Judging::are_numbers))]
@@ -27,7 +27,7 @@ fn are_numbers(text: &[u8]) -> bool
     let mut left = Some(text);
     while let Some(text) = left {
         let (item, rest) = next_item(text);
-        if number_up_to(GREATEST, item).is_none() {
+        if number_up_to(MOST_NUMBER, item).is_none() {
             return false;
         }
         left = rest;
@@ -121,7 +121,8 @@ pub(crate) fn at_due(
     ensures keeps { IfOk result (λ s. IsStage s (line.now.number + 1)) }
     ensures answer { (ls : List Line) (answer : Answer) →
         answer ≡ judging.sections_of running.header line.now.number
-        (judging.before running.size running.low (drop running.at running.subproblems.items)) (line_of line.now ∷ ls) →
+        (judging.before running.size running.low (drop running.at running.subproblems.items))
+        (line_of line.now ∷ ls) →
         Judged result (line.now.number + 1) ls answer }
     ensures keeps_claim { (ls all : List Line) → header_in all ≡ Some running.header →
         IfOk result (λ s. KeepsClaim s (line.now.number + 1) ls all) }

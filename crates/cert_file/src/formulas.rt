@@ -1,6 +1,7 @@
 //! The subproblems of a size and their formulas, by the header's method.
 ghost use Rattle.std.specs.Prelude.{◌≡◌, ◌≤◌, ◌<◌, IfOk, Contains};
 ghost use Rattle.cert_theory.specs.Certificate as certificates;
+ghost use Rattle.chain_theory.specs.Limits.{most_steps};
 
 use cert_theory::Header;
 use cnf_core::Cnf;
@@ -19,7 +20,7 @@ pub(crate) fn subproblems_of(
     header: &Header,
     size: u32,
 ) -> Result<Vec<Subproblem>, AllocError>
-    requires { size ≤ 16 }
+    requires { size ≤ most_steps }
     ensures { IfOk result (λ subproblems. subproblems.items ≡ certificates.subproblems_of header.now size) }
 {
     match header.method {
@@ -38,7 +39,7 @@ pub(crate) fn formula_of(
     size: u32,
     subproblem: &Subproblem,
 ) -> Result<Cnf, AllocError>
-    requires size { size ≤ 16 }
+    requires size { size ≤ most_steps }
     requires operators { 0 < header.now.basis }
     requires subproblem { Contains (certificates.subproblems_of header.now size) subproblem.now }
     ensures { IfOk result (λ cnf. cnf ≡ certificates.formula_of header.now size subproblem.now) }

@@ -3,7 +3,7 @@ ghost use Rattle.std.specs.Prelude.{◌≡◌, ◌+◌, ◌<◌, ◌≤◌, List
 ghost use Rattle.text_core.specs.Lines.{Line};
 ghost use Rattle.tt_core.specs.Words.{IsSpec};
 ghost use Rattle.tt_core.specs.Tables as tables;
-ghost use Rattle.settings.specs.Synth.{most_steps};
+ghost use Rattle.chain_theory.specs.Limits.{most_steps};
 ghost use Rattle.cert_theory.specs.Judging as judging;
 ghost use Rattle.line_reader.specs.TextLines.{line_of};
 ghost use Rattle.cert_file.specs.HeaderLines.{with_max, with_conflicts, with_method, header_by, header_in};
@@ -43,7 +43,8 @@ pub(crate) fn at_inputs(alloc: Global, line: &TextLine) -> Result<Stage, Certifi
     ensures answer { (ls : List Line) (answer : Answer) →
         answer ≡ judging.with_tables (tables.tables_of (line_of line.now ∷ ls)) →
         Judged result (line.now.number + 1) ls answer }
-    ensures keeps_claim { (ls all : List Line) → header_in all ≡ header_by (tables.tables_of (line_of line.now ∷ ls)) →
+    ensures keeps_claim { (ls all : List Line) →
+        header_in all ≡ header_by (tables.tables_of (line_of line.now ∷ ls)) →
         IfOk result (λ s. KeepsClaim s (line.now.number + 1) ls all) }
 {
     let Some(n) = inputs(line.text, line.ended) else {

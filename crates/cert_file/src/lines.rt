@@ -9,10 +9,7 @@ ghost use Rattle.cert_file.specs.declared.lines.VerdictNumbers.TheVariants as nu
 
 use cert_theory::{CertificateError, SubproblemError};
 pub use line_reader::TextLine;
-use text_core::{after, next_item, number_up_to};
-
-/// The greatest number that a line may have: nine digits.
-pub(crate) const GREATEST: u32 = 999_999_999;
+use text_core::{MOST_NUMBER, after, next_item, number_up_to};
 
 /// A fault of a subproblem as a fault of the certificate, at a line.
 pub(crate) fn fault_at(number: u32, fault: SubproblemError) -> CertificateError
@@ -57,7 +54,7 @@ pub(crate) fn value_of<'a>(word: &[u8], line: &TextLine<'a>) -> Option<&'a [u8]>
 pub fn number_after(word: &[u8], line: &TextLine) -> Option<u32>
     ensures { result ≡ judging.number_after word.now (line_of line.now) }
 {
-    number_up_to(GREATEST, value_of(word, line)?)
+    number_up_to(MOST_NUMBER, value_of(word, line)?)
 }
 
 /// The numbers of a verdict: the minimum, or bounds of it.
@@ -84,8 +81,8 @@ fn two_in(text: &[u8]) -> Option<VerdictNumbers>
     let (most, None) = next_item(rest) else {
         return None;
     };
-    let low = number_up_to(GREATEST, low)?;
-    let most = number_up_to(GREATEST, most)?;
+    let low = number_up_to(MOST_NUMBER, low)?;
+    let most = number_up_to(MOST_NUMBER, most)?;
     Some(VerdictNumbers::Two { low, most })
 }
 

@@ -16,7 +16,7 @@ use crate::lines::TextLine;
 use crate::logs::{at_begun, at_within};
 use crate::sections::at_between;
 use crate::stage::Stage;
-use crate::trailer::{at_end, at_found, at_outs, at_steps};
+use crate::trailer::{at_done, at_end, at_found, at_outs, at_steps};
 use cert_theory::{CertificateError, Verdict};
 use std::alloc::Global;
 
@@ -66,11 +66,7 @@ pub(crate) fn take(alloc: Global, stage: Stage, line: &TextLine) -> Result<Stage
         } => at_outs(header, low, frame, steps, outs, line),
         Stage::Found { header, low, chain } => at_found(header, low, chain, line),
         Stage::End { claim } => at_end(claim, line),
-        Stage::Done { claim } => {
-            // for the prover: dropped here at once; left to the exit, each of its fields would be
-            drop(claim);
-            Err(CertificateError::Syntax(line.number))
-        }
+        Stage::Done { claim } => at_done(claim, line),
     }
 }
 

@@ -13,6 +13,7 @@ ghost use Rattle.line_reader.specs.TextLines.{line_of};
 ghost use Rattle.line_reader.specs.Splits.{IsPlace};
 ghost use Rattle.cert_file.specs.Stages.{Answer, Judged, IsStage, IsKnown, AreRead, AreNamed, outs_then, steps_then};
 ghost use Rattle.cert_file.specs.Claims.{IsBlock, IsHeld, HasEnded, KeepsClaim};
+ghost use Rattle.chain_theory.specs.Limits.{most_steps};
 
 use crate::claim::Claim;
 use crate::fence_names::is_fence_name;
@@ -44,7 +45,7 @@ fn refusal(error: ChainError) -> CertificateError
 #[tactic(auto, using(crate::proofs::Refusing::refusing), unfolding(cert_theory::specs::Judging::steps_at))]
 fn steps_at(header: &Header, size: u32, line: &TextLine) -> Result<u32, CertificateError>
     ensures exact { Gives (λ x. x) result (judging.steps_at header.now line.now.number size (line_of line.now)) }
-    ensures few { IfOk result (λ steps. steps ≤ 16) }
+    ensures few { IfOk result (λ steps. steps ≤ most_steps) }
     ensures count { IfOk result (λ steps. block.count_at line.now.number (line_of line.now) ≡ Ok steps) }
 {
     let steps = match count_at(line.number, line.text, line.ended) {
@@ -361,4 +362,17 @@ pub(crate) fn at_end(claim: Claim, line: &TextLine) -> Result<Stage, Certificate
         return Err(CertificateError::Syntax(line.number));
     }
     Ok(Stage::Done { claim })
+}
+
+/// A line after the last one, which is a fault.
+pub(crate) fn at_done(claim: Claim, line: &TextLine) -> Result<Stage, CertificateError>
+    ensures keeps { IfOk result (λ s. IsStage s (line.now.number + 1)) }
+    ensures answer { (ls : List Line) (answer : Answer) →
+        answer ≡ judging.nothing_after line.now.number claim.verdict (line_of line.now ∷ ls) →
+        Judged result (line.now.number + 1) ls answer }
+    ensures keeps_claim { (ls all : List Line) → IfOk result (λ s. KeepsClaim s (line.now.number + 1) ls all) }
+{
+    // for the prover: dropped here at once; left to the exit, each of its fields would be
+    drop(claim);
+    Err(CertificateError::Syntax(line.number))
 }

@@ -11,7 +11,8 @@ use Rattle.chain_core.specs.Spelling.{line}
 use Rattle.cert_theory.specs.declared.data.Header.{Header}
 use Rattle.cert_theory.specs.declared.data.Verdict.{Verdict}
 use Rattle.cert_theory.specs.declared.data.CertificateError.TheVariants.{Syntax}
-use Rattle.settings.specs.Synth.{most_steps, IsInRange}
+use Rattle.settings.specs.Synth.{IsInRange}
+use Rattle.chain_theory.specs.Limits.{most_steps}
 use Rattle.cert_theory.specs.Certificate.{Certificate, settings_of, first_open, IsTrailer, IsValid, HasOutput}
 use Rattle.cert_theory.specs.Spelling.{first_text, basis_line, method_line, conflicts_line, max_line, tables_lines, section_lines, trailer_lines, certificate_lines, text_of, HasVerdict}
 use Rattle.cert_theory.specs.SubproblemLines.{is_line}

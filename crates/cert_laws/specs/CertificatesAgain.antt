@@ -30,7 +30,8 @@ use Rattle.cert_theory.specs.Spelling.{max_line, header_lines, log_line, section
 use Rattle.cert_theory.specs.Spelling.{trailer_lines, certificate_lines, cert_text, IsCertificateText, name_lines}
 use Rattle.cert_theory.specs.Spelling.{subproblem_lines}
 use Rattle.cert_theory.specs.Gives.{◌>>=◌}
-use Rattle.settings.specs.Synth.{most_steps, most_conflicts}
+use Rattle.sat_theory.specs.Limits.{most_conflicts}
+use Rattle.chain_theory.specs.Limits.{most_steps}
 use Rattle.cert_theory.specs.Judging.{or_syntax, beginning, sections_of, after_conflicts, after_method, after_basis, after_tables, with_tables, certificate_of}
 use Rattle.cert_laws.specs.LineSpellings.{is_line_back, some_is}
 use Rattle.cert_laws.specs.LinesAgain.{basis_again, method_again, conflicts_again, max_again}
@@ -166,7 +167,7 @@ whole_subproblems h size (p ∷ ps) short logs =
     whole_both (subproblem_lines p) (flat_map subproblem_lines ps) (whole_subproblem h size p (short p.subproblem (0, omega arith, refl)) logs.0)
     (whole_subproblems h size ps (λ subproblem there. short subproblem (suc there.0, omega (arith, there.1), there.2)) logs.1)
 
-whole_section : (h : Header) (size : ℕ) (s : Section) → size ≤ 16 → IsSection h size s → IsWhole (section_lines s)
+whole_section : (h : Header) (size : ℕ) (s : Section) → size ≤ most_steps → IsSection h size s → IsWhole (section_lines s)
 unfolding section_lines
 whole_section h size s few is =
     let short : AreShort s.subproblems = λ subproblem there.
@@ -180,7 +181,7 @@ whole_sections h [] size few are = whole_none
 whole_sections h (s ∷ ss) size few are = whole_both (section_lines s) (flat_map section_lines ss) (whole_section h size s (omega arith) are.0) (whole_sections h ss (size + 1) (omega arith) are.1)
 
 short_verdict : (h : Header) (count : ℕ) (low : Option ℕ) (chain : Option Chain) (v : Verdict) → count ≤ 17 →
-    h.max ≤ 16 → ((l : ℕ) → low ≡ Some l → l ≤ h.max) → IsTrailer h count low chain v → IsShort v
+    h.max ≤ most_steps → ((l : ℕ) → low ≡ Some l → l ≤ h.max) → IsTrailer h count low chain v → IsShort v
 short_verdict h count None None v few fits all is = subst (λ (w : Verdict). IsShort w) (sym is.1) (omega arith)
 short_verdict h count (Some low) None v few fits all is = subst (λ (w : Verdict). IsShort w) (sym is.1) (let small = all low refl in omega (arith, small))
 short_verdict h count None (Some c) v few fits all is = subst (λ (w : Verdict). IsShort w) (sym is.1) (omega arith)

@@ -23,6 +23,7 @@ use Rattle.std.proofs.lemmas.List.Elements.{All-from_recursion, recursion_from_A
 use Rattle.enc_theory.specs.declared.subproblem.Subproblem.{Subproblem}
 use Rattle.enc_theory.specs.declared.subproblem.Subproblem.TheVariants.{Whole, Levels}
 use Rattle.cert_theory.specs.Coding.{Coding, plain_coding, ssv_coding, select_coding, fence_coding, coding_of}
+use Rattle.chain_theory.specs.Limits.{most_steps}
 
 -- the numbers of a subproblem's name have at most nine digits
 unfoldable pub HasShortName : Subproblem → Type 0
@@ -32,7 +33,7 @@ HasShortName (Levels sizes) = All (λ size. size < 2 ^ 64) sizes
 -- The names of a size's subproblems can be read, and their formulas are well-formed; if the size is the
 -- minimum, one of the formulas is satisfiable.
 pub record IsCoding (c : Coding) : Type 0 where
-  pub fence_names : (w : Words) (r : ℕ) (subproblem : Subproblem) → r ≤ 16 → Contains (c.subproblems w r) subproblem → HasShortName subproblem
+  pub fence_names : (w : Words) (r : ℕ) (subproblem : Subproblem) → r ≤ most_steps → Contains (c.subproblems w r) subproblem → HasShortName subproblem
   pub formulas : (w : Words) (basis r : ℕ) (subproblem : Subproblem) → Contains (c.subproblems w r) subproblem → IsFormula (c.formula w basis r subproblem)
   pub complete : (w : Words) (basis r : ℕ) → IsMinimum (specification w) (members basis) r →
       (subproblem : Subproblem) × Contains (c.subproblems w r) subproblem × IsSatisfiable (c.formula w basis r subproblem)
@@ -63,13 +64,13 @@ select_is_coding = record {
 }
 
 -- the levels of a fence have no more steps than the fence
-short_levels : (fence : List ℕ) (r : ℕ) → r ≤ 16 → sum fence ≤ r → AllByRecursion (λ size. size < 2 ^ 64) fence
+short_levels : (fence : List ℕ) (r : ℕ) → r ≤ most_steps → sum fence ≤ r → AllByRecursion (λ size. size < 2 ^ 64) fence
 short_levels [] r few within = tt
 short_levels (q ∷ qs) r few within =
     let total = sum-cons q qs in
     (omega arith, short_levels qs r few (omega arith))
 
-short_fences : (r m : ℕ) (fences : List (List ℕ)) → r ≤ 16 → AllByRecursion (IsFenceOf r m) fences →
+short_fences : (r m : ℕ) (fences : List (List ℕ)) → r ≤ most_steps → AllByRecursion (IsFenceOf r m) fences →
     (subproblem : Subproblem) (k : ℕ) → k < length fences → slice_index_or (map Levels fences) k subproblem ≡
     subproblem → HasShortName subproblem
 unfolding HasShortName
@@ -82,7 +83,7 @@ same_count : (fences : List (List ℕ)) → length (map Levels fences) ≡ lengt
 same_count [] = refl
 same_count (f ∷ fences) = ap (λ (n : ℕ). suc n) (same_count fences)
 
-fence_name : (w : Words) (r : ℕ) (subproblem : Subproblem) → r ≤ 16 → Contains (subproblems_for w r) subproblem → HasShortName subproblem
+fence_name : (w : Words) (r : ℕ) (subproblem : Subproblem) → r ≤ most_steps → Contains (subproblems_for w r) subproblem → HasShortName subproblem
 unfolding subproblems_for
 fence_name w r subproblem few there =
     let m : ℕ = length (live_words w).on in

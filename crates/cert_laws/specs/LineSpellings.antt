@@ -33,11 +33,13 @@ use Rattle.cert_theory.specs.declared.data.Ended.TheVariants as ends
 use Rattle.cert_theory.specs.declared.data.SubproblemError.TheVariants as subproblem_errors
 use Rattle.cert_theory.specs.declared.data.Header.{Header}
 use Rattle.settings.specs.Methods.{method_text, method_named}
-use Rattle.settings.specs.Synth.{most_steps, most_conflicts}
+use Rattle.sat_theory.specs.Limits.{most_conflicts}
+use Rattle.chain_theory.specs.Limits.{most_steps}
 use Rattle.cert_theory.specs.Spelling.{basis_line, method_line, conflicts_line, max_line, size_line, ended_text, log_line}
 use Rattle.cert_theory.specs.SubproblemLines.{is_line, ended_in, or_misspelled, spelled_in}
 use Rattle.cert_theory.specs.Judging.{or_syntax, as_syntax, value_of, spelled, basis_in, method_in, from_one, conflicts_in, max_in, size_at}
 use Rattle.cert_theory.specs.GivesLaws.{bind_ok, test_ok, read_ok}
+use Rattle.text_core.specs.Limits.{most_number}
 
 pub both_true : (a b : Bool) → (a && b) ≡ true → (a ≡ true) × (b ≡ true)
 both_true true b e = (refl, e)
@@ -151,7 +153,7 @@ pub size_spells : (h : Header) (number size : ℕ) (l : Line) → size_at h numb
 unfolding size_at size_line
 size_spells h number size l e =
     let read = bind_ok (or_syntax number (option_and_then number_in (value_of (codes "size ") l))) _ tt e in
-    let halves = number_at 999999999 (codes "size ") l read.0 (omega arith) (read_ok number (option_and_then number_in (value_of (codes "size ") l)) read.0 read.1) in
+    let halves = number_at most_number (codes "size ") l read.0 (omega arith) (read_ok number (option_and_then number_in (value_of (codes "size ") l)) read.0 read.1) in
     let tests = test_ok _ _ _ tt read.2 in
     let each = both_true _ _ tests.0 in
     let same : read.0 ≡ size = eqb-true _ _ each.0 in

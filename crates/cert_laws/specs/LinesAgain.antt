@@ -28,11 +28,13 @@ use Rattle.cert_theory.specs.declared.data.Ended.TheVariants as ends
 use Rattle.cert_theory.specs.declared.data.Verdict.{Verdict}
 use Rattle.cert_theory.specs.declared.data.Verdict.TheVariants as verdicts
 use Rattle.settings.specs.Methods.{method_text, method_named}
-use Rattle.settings.specs.Synth.{most_steps, most_conflicts}
+use Rattle.sat_theory.specs.Limits.{most_conflicts}
+use Rattle.chain_theory.specs.Limits.{most_steps}
 use Rattle.cert_theory.specs.Spelling.{basis_line, method_line, conflicts_line, max_line, size_line, ended_text, log_line, verdict_line}
 use Rattle.cert_theory.specs.SubproblemLines.{is_line, ended_in, or_misspelled, spelled_in}
 use Rattle.cert_theory.specs.Judging.{begins, spelled, basis_in, method_in, from_one, conflicts_in, max_in, size_at, is_same, number_after, both, bounded_in, found_in, not_found_in}
 use Rattle.cert_laws.specs.LineSpellings.{value_back, number_at_back}
+use Rattle.text_core.specs.Limits.{most_number}
 
 eq_same : (n : ℕ) → (n == n) ≡ true
 eq_same n = grind (arith, nat_tests)
@@ -65,10 +67,10 @@ pub max_again : (x : ℕ) → x ≤ most_steps → max_in (line (max_line x)) �
 unfolding max_in max_line
 max_again x fits = number_at_back most_steps (codes "max ") x (omega arith) fits
 
-pub size_again : (h : Header) (number size : ℕ) → size ≤ h.max → size ≤ 16 → size_at h number size (line (size_line size)) ≡ Ok tt
+pub size_again : (h : Header) (number size : ℕ) → size ≤ h.max → size ≤ most_steps → size_at h number size (line (size_line size)) ≡ Ok tt
 unfolding size_at size_line
 size_again h number size fits few =
-    rw (number_at_back 999999999 (codes "size ") size (omega arith) (omega arith)) (rw (eq_same size, le_back size h.max fits) refl)
+    rw (number_at_back most_number (codes "size ") size (omega arith) (omega arith)) (rw (eq_same size, le_back size h.max fits) refl)
 
 pub size_begins : (size : ℕ) → begins (codes "size ") (line (size_line size)) ≡ true
 unfolding size_line after
@@ -98,7 +100,7 @@ log_again x is = ap or_misspelled (line_back x is)
 -- ---- verdicts
 
 pub number_again : (word : List ℕ) (n : ℕ) → n < 1000000000 → number_after word (line (word ++ decimal n)) ≡ Some n
-number_again word n short = number_at_back 999999999 word n (omega arith) (omega arith)
+number_again word n short = number_at_back most_number word n (omega arith) (omega arith)
 
 pub two_items : (low r : ℕ) → low < 1000000000 → r < 1000000000 → items_of (decimal low ++ 32 ∷ decimal r) ≡ decimal low ∷ decimal r ∷ []
 two_items low r short little =
@@ -108,8 +110,8 @@ two_items low r short little =
 pub two_again : {V : Type 0} (bounded : ℕ → ℕ → V) (low r : ℕ) → low < 1000000000 → r < 1000000000 → bounded_in bounded (items_of (decimal low ++ 32 ∷ decimal r)) ≡ Some (bounded low r)
 two_again bounded low r short little =
     ap (bounded_in bounded) (two_items low r short little)
-    ∙ ap (λ (o : Option ℕ). both bounded o (number_in (decimal r))) (number_back 999999999 low (omega arith) (omega arith))
-    ∙ ap (λ (o : Option ℕ). both bounded (Some low) o) (number_back 999999999 r (omega arith) (omega arith))
+    ∙ ap (λ (o : Option ℕ). both bounded o (number_in (decimal r))) (number_back most_number low (omega arith) (omega arith))
+    ∙ ap (λ (o : Option ℕ). both bounded (Some low) o) (number_back most_number r (omega arith) (omega arith))
 
 pub minimum_again : (r : ℕ) → r < 1000000000 → found_in (line (verdict_line (verdicts.Minimum r))) ≡ Some (verdicts.Minimum r)
 unfolding found_in verdict_line after

@@ -26,6 +26,7 @@ use Rattle.cert_theory.specs.Certificate.{SubproblemLog, Section, Certificate, I
 use Rattle.cert_theory.specs.Certificate.{EndsAs, IsSubproblemLog, subproblem_of, IsSection, AreSections, is_open_end}
 use Rattle.cert_theory.specs.Certificate.{is_open, size_of, first_open, found, IsFound, IsTrailer, IsValid}
 use Rattle.cert_theory.specs.Meaning.{Means}
+use Rattle.chain_theory.specs.Limits.{most_steps}
 
 abbrev Fewer : Header → ℕ → Type 0
 Fewer h size = NoneBelow (specification h.spec) (members h.basis) size
@@ -71,7 +72,7 @@ unsatisfied h size subproblem coding there r v satisfies =
     no_assignment (formula_of h size subproblem) r.p.log v (coding.formulas h.spec h.basis size subproblem there) (refutes h size subproblem r.p.log r.p.ended r.ended ends_as) satisfies
 
 -- a refuted size has no chain if no smaller size has one
-pub none_at : (h : Header) (size : ℕ) (s : Section) → IsHeader h → IsCoding (coding_of h.method) → size ≤ 16 →
+pub none_at : (h : Header) (size : ℕ) (s : Section) → IsHeader h → IsCoding (coding_of h.method) → size ≤ most_steps →
     IsSection h size s → is_open s ≡ false → Fewer h size → HasChain (specification h.spec) (members h.basis) size → ⊥
 none_at h size s header coding few section refuted fewer has =
     let sat = coding.complete h.spec h.basis size (record { reached = has; none_fewer = fewer }) in

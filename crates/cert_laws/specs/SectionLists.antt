@@ -30,6 +30,7 @@ use Rattle.cert_laws.specs.LineSpellings.{is_line_back}
 use Rattle.cert_laws.specs.LinesAgain.{size_again, size_begins, ended_again}
 use Rattle.cert_laws.specs.SectionSpellings.{progress, low_or, low_same, low_more, low_after, subproblem_text}
 use Rattle.cert_laws.specs.SectionsAgain.{trailer_again, WasFresh, within_again, Onward}
+use Rattle.chain_theory.specs.Limits.{most_steps}
 
 -- ---- subproblems
 
@@ -44,7 +45,7 @@ log_fresh f conflicts ends.Open log is = is.fresh
 abbrev come : Progress → Result Progress CertificateError
 come p = Ok p
 
-size_step : (h : Header) (number size : ℕ) (low : Option ℕ) (ls : List Line) → size ≤ h.max → size ≤ 16 →
+size_step : (h : Header) (number size : ℕ) (low : Option ℕ) (ls : List Line) → size ≤ h.max → size ≤ most_steps →
     sections_of h number (progress size low Between) (line (size_line size) ∷ ls) ≡
     sections_of h (number + 1) (before size low (subproblems_of h size)) ls
 unfolding sections_of
@@ -125,7 +126,7 @@ section_formulas h size s is subproblem there =
 
 -- the lines of a section are accepted
 section_again : (h : Header) (number size : ℕ) (low : Option ℕ) (s : Section) (following : List Line) (v : Verdict) →
-    size ≤ h.max → size ≤ 16 → IsSection h size s →
+    size ≤ h.max → size ≤ most_steps → IsSection h size s →
     ((n : ℕ) → sections_of h n (progress (size + 1) (low_after low size s.subproblems) Between) following ≡ Ok v)
     → sections_of h number (progress size low Between) (section_lines s ++ following) ≡ Ok v
 unfolding section_lines

@@ -50,6 +50,7 @@ use Rattle.cert_laws.specs.BlockReads.{body_again}
 use Rattle.cert_laws.specs.ClauseStates.{next_clauses}
 use Rattle.cert_laws.specs.LinesAgain.{not_done, log_again, minimum_again, bounded_again, none_again, open_again, same_again}
 use Rattle.cert_laws.specs.SectionSpellings.{progress}
+use Rattle.chain_theory.specs.Limits.{most_steps}
 
 abbrev go_on : Header → ℕ → List Line → Progress → Result Verdict CertificateError
 go_on h number ls next = sections_of h (number + 1) next ls
@@ -125,7 +126,7 @@ small_chain h size c header is = record {
 abbrev stated : ℕ → Result ℕ CertificateError
 stated steps = Ok steps
 
-steps_again : (h : Header) (number size r : ℕ) → r ≡ size → r ≤ 16 → r ≤ h.max → steps_at h number size (line (count_text r)) ≡ Ok r
+steps_again : (h : Header) (number size r : ℕ) → r ≡ size → r ≤ most_steps → r ≤ h.max → steps_at h number size (line (count_text r)) ≡ Ok r
 unfolding steps_at
 steps_again h number size r same few fits =
     let tests : ((r == size) && nat_le r h.max) ≡ true = rw (sym same, eq_same r, le_back r h.max fits) refl in
@@ -143,7 +144,7 @@ chain_again h number size low c header is short =
     let r = length c.steps in
     let rest = line (verdict_line (found size low)) ∷ line end_text ∷ [] in
     let ls = (step_lines (c.n + 1) c.steps ++ map out_line c.outs) ++ rest in
-    let few : r ≤ 16 = omega (arith, is.size_is, is.size_to, header.settings.max_to) in
+    let few : r ≤ most_steps = omega (arith, is.size_is, is.size_to, header.settings.max_to) in
     let small = small_chain h size c header is in
     let read : body_from (record { first_line = number; n = c.n; outputs = length c.outs; steps = r }) ls ≡ Ok (record { chain = c; rest = rest }) =
     body_again number c.n (length c.outs) r (line (count_text r)) ls (record { chain = c; rest = rest }) (count_at_back number r few) (lines_read number c rest small) in

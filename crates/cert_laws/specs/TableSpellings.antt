@@ -21,6 +21,7 @@ use Rattle.tt_core.specs.KeepLaws.{kept}
 use Rattle.tt_core.specs.SpelledLaws.{tables_spelled}
 use Rattle.chain_core.specs.WrittenListLaws.{line_is}
 use Rattle.cert_theory.specs.Spelling.{table_text, table_line, tables_lines}
+use Rattle.chain_theory.specs.Limits.{most_inputs, most_outputs}
 
 -- ---- the tables are a specification
 
@@ -41,7 +42,7 @@ row_by true c fault end next r e = inl e
 row_by false true fault end next r e = absurd cc
 row_by false false fault end next r e = let halves = unless_is fault next r e in inr (refl, halves.0, halves.1)
 
-few_rows : (m : ℕ) → m ≤ 8 → (m == 8) ≡ false → m < 8
+few_rows : (m : ℕ) → m ≤ most_outputs → (m == most_outputs) ≡ false → m < most_outputs
 few_rows m few not_ = grind (arith, nat_tests)
 
 rows_keep : (ls : List Line) (w : Words) (r : Read) → IsSpec w → rows_of w ls ≡ Ok r → IsSpec r.words
@@ -50,16 +51,16 @@ rows_keep [] w r spec e = subst (λ (v : Words). IsSpec v) (end_keeps w [] r e) 
 rows_keep (l ∷ ls) w r spec e =
     ⊎_elim
     (λ (ends : end_of w (l ∷ ls) ≡ Ok r). subst (λ (v : Words). IsSpec v) (end_keeps w (l ∷ ls) r ends) spec)
-    (λ (more : ((length w.on == 8) ≡ false) × (row_fault w.n (2 + length w.on) l ≡ None) × (rows_of (with_row w l.text) ls ≡ Ok r)).
+    (λ (more : ((length w.on == most_outputs) ≡ false) × (row_fault w.n (2 + length w.on) l ≡ None) × (rows_of (with_row w l.text) ls ≡ Ok r)).
     rows_keep ls (with_row w l.text) r
     (kept w.n w.on w.care _ _ l.text spec (few_rows (length w.on) spec.outputs more.0) (fault_rows w.n (2 + length w.on) l more.1) refl refl)
     more.2)
-    (row_by (begins_lower l.text) (length w.on == 8) (row_fault w.n (2 + length w.on) l) (end_of w (l ∷ ls)) (rows_of (with_row w l.text) ls) r e)
+    (row_by (begins_lower l.text) (length w.on == most_outputs) (row_fault w.n (2 + length w.on) l) (end_of w (l ∷ ls)) (rows_of (with_row w l.text) ls) r e)
 
-empty_spec : (n : ℕ) → n ≤ 6 → IsSpec (record { n = n; on = []; care = [] })
+empty_spec : (n : ℕ) → n ≤ most_inputs → IsSpec (record { n = n; on = []; care = [] })
 empty_spec n low = record { inputs = low; outputs = omega arith; together = refl; inside = λ i t e. e; rows = λ i t past. ap (λ (x : ℕ). x == 1) (bit_at-zero t) }
 
-low_is : (n : ℕ) → nat_lt 6 n ≡ false → n ≤ 6
+low_is : (n : ℕ) → nat_lt most_inputs n ≡ false → n ≤ most_inputs
 low_is n e = grind (arith, nat_tests)
 
 abbrev too_many : Result Read SpecError
@@ -69,9 +70,9 @@ inputs_keep : (o : Option ℕ) (ls : List Line) (r : Read) → after_inputs o ls
 inputs_keep None ls r e = absurd cc
 inputs_keep (Some n) ls r e =
     ⊎_elim
-    (λ (yes_ : (nat_lt 6 n ≡ true) × (too_many ≡ Ok r)). absurd (let f = yes_.1 in cc))
-    (λ (no_ : (nat_lt 6 n ≡ false) × (rows_of (record { n = n; on = []; care = [] }) ls ≡ Ok r)). rows_keep ls (record { n = n; on = []; care = [] }) r (empty_spec n (low_is n no_.0)) no_.1)
-    (chosen (nat_lt 6 n) too_many (rows_of (record { n = n; on = []; care = [] }) ls) (Ok r) e)
+    (λ (yes_ : (nat_lt most_inputs n ≡ true) × (too_many ≡ Ok r)). absurd (let f = yes_.1 in cc))
+    (λ (no_ : (nat_lt most_inputs n ≡ false) × (rows_of (record { n = n; on = []; care = [] }) ls ≡ Ok r)). rows_keep ls (record { n = n; on = []; care = [] }) r (empty_spec n (low_is n no_.0)) no_.1)
+    (chosen (nat_lt most_inputs n) too_many (rows_of (record { n = n; on = []; care = [] }) ls) (Ok r) e)
 
 pub read_spec : (ls : List Line) (r : Read) → tables_of ls ≡ Ok r → IsSpec r.words
 read_spec [] r e = absurd cc

@@ -42,6 +42,8 @@ use Rattle.cert_theory.specs.GivesLaws.{bind_ok, test_ok, read_ok}
 use Rattle.cert_laws.specs.BlockReads.{chain_read}
 use Rattle.cert_laws.specs.DifferenceLaws.{difference_compares}
 use Rattle.cert_laws.specs.LineSpellings.{chosen, both_true, some_is, as_ok, is_line_spells, value_spells, number_at}
+use Rattle.text_core.specs.Limits.{most_number}
+use Rattle.chain_theory.specs.Limits.{most_steps}
 
 -- ---- verdicts
 
@@ -50,7 +52,7 @@ map_some f None y e = absurd cc
 map_some f (Some x) y e = (x, refl, some_is (f x) y e)
 
 pub number_spelled : (word : List ℕ) (l : Line) (n : ℕ) → number_after word l ≡ Some n → l ≡ line (word ++ decimal n)
-number_spelled word l n e = (number_at 999999999 word l n (omega arith) e).1
+number_spelled word l n e = (number_at most_number word l n (omega arith) e).1
 
 both_some : {V : Type 0} (bounded : ℕ → ℕ → V) (a b : Option ℕ) (v : V) → both bounded a b ≡ Some v → (low : ℕ) × (r : ℕ) × (a ≡ Some low) × (b ≡ Some r) × (bounded low r ≡ v)
 both_some bounded (Some low) (Some r) v e = (low, r, refl, refl, some_is (bounded low r) v e)
@@ -63,8 +65,8 @@ bounded_some bounded [] v e = absurd cc
 bounded_some bounded (a ∷ []) v e = absurd cc
 bounded_some bounded (a ∷ b ∷ []) v e =
     let halves = both_some bounded (number_in a) (number_in b) v e in
-    let first = number_spells 999999999 halves.0 a (omega arith) halves.2 in
-    let second = number_spells 999999999 halves.1 b (omega arith) halves.3 in
+    let first = number_spells most_number halves.0 a (omega arith) halves.2 in
+    let second = number_spells most_number halves.1 b (omega arith) halves.3 in
     (halves.0, halves.1, (λ i. first.1 i ∷ second.1 i ∷ []), halves.4)
 bounded_some bounded (a ∷ b ∷ c ∷ ws) v e = absurd cc
 
@@ -225,7 +227,7 @@ following_are number size low [] v e = absurd cc
 following_are number size low (l ∷ ls) v e = (last_by number true (found size low) v l ls (found_in l) (found_spells l) e).1
 
 -- the number of steps on the first line
-count_is : (number k r : ℕ) → k ≤ 16 → count_at number (line (count_text k)) ≡ Ok r → k ≡ r
+count_is : (number k r : ℕ) → k ≤ most_steps → count_at number (line (count_text k)) ≡ Ok r → k ≡ r
 unfolding count_at
 count_is number k r few e =
     let read : option_and_then number_in (after (codes "chain ") (count_text k)) ≡ Some k = count_back k few in

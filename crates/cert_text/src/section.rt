@@ -86,7 +86,8 @@ pub fn push_section(text: &mut Vec<u8>, section: &Section) -> Result<(), AllocEr
 
 /// Appends the lines of a section. On an error `out` is unchanged.
 pub fn write_section(section: &Section, out: &mut Vec<u8>) -> Result<(), AllocError>
-    ensures ok { OnOk result (out.new.items ≡ out.old.items ++ spelling.text_of (spelling.section_lines section.now)) }
+    ensures ok { OnOk result (out.new.items ≡ out.old.items ++
+        spelling.text_of (spelling.section_lines section.now)) }
     ensures err { OnErr result (out.new.items ≡ out.old.items) }
 {
     let mut text = Vec::with_capacity(*out.allocator(), SHORT)?;

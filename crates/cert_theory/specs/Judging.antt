@@ -27,7 +27,8 @@ use Rattle.enc_theory.specs.declared.subproblem.Subproblem.{Subproblem}
 use Rattle.enc_theory.specs.declared.subproblem.Subproblem.TheVariants.{Whole, Levels}
 use Rattle.settings.specs.declared.methods.Method.{Method}
 use Rattle.settings.specs.Methods.{method_named}
-use Rattle.settings.specs.Synth.{most_steps, most_conflicts}
+use Rattle.sat_theory.specs.Limits.{most_conflicts}
+use Rattle.chain_theory.specs.Limits.{most_steps}
 use Rattle.cert_theory.specs.declared.data.Header.{Header}
 use Rattle.cert_theory.specs.declared.data.Ended.{Ended}
 use Rattle.cert_theory.specs.declared.data.Ended.TheVariants as ends
@@ -199,7 +200,7 @@ is_fence_name l = is_list_in (value_of (codes "fence") l)
 -- whether a chain block may have this many steps
 abbrev pub is_count : Option ℕ → Bool
 is_count None = false
-is_count (Some r) = nat_le r 16
+is_count (Some r) = nat_le r most_steps
 
 -- Whether a line could be right where a fence's name is due: the name of another fence, or a line that may
 -- follow a section, which is a size, the first line of a chain, or a verdict. Then the fault is NotRefuted

@@ -22,6 +22,8 @@ use Rattle.op_basis.specs.Word.{operator_in}
 use Rattle.chain_core.specs.declared.error.ChainError.{ChainError}
 use Rattle.chain_core.specs.declared.error.ChainError.TheVariants.{BadStep, ForwardPlace, BadOut, TooManySteps, BadCount}
 use Rattle.chain_core.specs.declared.frame.Frame.{Frame}
+use Rattle.text_core.specs.Limits.{most_number}
+use Rattle.chain_theory.specs.Limits.{most_steps}
 
 infixl 10 ◌>>=◌
 -- monadic bind: the function is applied to a value, and an error stays
@@ -33,7 +35,7 @@ abbrev pub ◌>>=◌ : {A B : Type 0} → Result A ChainError → (A → Result 
 
 -- a number of at most nine digits
 abbrev pub number_in : List ℕ → Option ℕ
-number_in text = number_up_to 999999999 text
+number_in text = number_up_to most_number text
 
 -- the place that an item names, as in x12
 unfoldable pub place_in : List ℕ → Option ℕ
@@ -43,7 +45,7 @@ place_in item = option_and_then number_in (after (codes "x") item)
 
 abbrev pub counted : ℕ → Option ℕ → Result ℕ ChainError
 counted number None = Err (BadCount number)
-counted number (Some r) = if nat_lt 16 r then Err (TooManySteps number) else Ok r
+counted number (Some r) = if nat_lt most_steps r then Err (TooManySteps number) else Ok r
 
 -- the number of steps
 unfoldable pub count_at : ℕ → Line → Result ℕ ChainError

@@ -11,6 +11,7 @@ use Rattle.chain_theory.specs.declared.data.Out.TheVariants.{Zero, One, Place}
 use Rattle.chain_theory.specs.Chain.{Step, Chain, IsChain}
 use Rattle.op_basis.specs.Word.{word_text}
 use Rattle.chain_core.specs.Block.{Read}
+use Rattle.chain_theory.specs.Limits.{most_steps}
 
 -- a line that ends with an LF
 abbrev pub line : List ℕ → Line
@@ -56,5 +57,5 @@ pub record SpellsChain (n m : ℕ) (bytes : List ℕ) (x : Read) : Type 0 where
   pub chain : IsChain x.chain
   pub inputs : x.chain.n ≡ n
   pub outputs : length x.chain.outs ≡ m
-  pub steps : length x.chain.steps ≤ 16
+  pub steps : length x.chain.steps ≤ most_steps
   pub text : bytes ≡ chain_text x.chain ++ flat_map line_bytes x.rest

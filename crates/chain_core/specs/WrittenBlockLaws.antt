@@ -17,21 +17,22 @@ use Rattle.chain_core.specs.Spelling.{line, count_text, step_lines, out_line, ch
 use Rattle.chain_core.specs.StepLaws.{first_step, other_steps}
 use Rattle.chain_core.specs.WrittenLineLaws.{free_step, free_out, count_back, count_spells, free_count}
 use Rattle.chain_core.specs.WrittenListLaws.{ok_is, test_ok, bind_ok, line_is, steps_back, steps_spell, outs_back, outs_spell}
+use Rattle.chain_theory.specs.Limits.{most_steps}
 
 -- ---- the first line
 
 -- the first line is read
-pub count_at_back : (first r : ℕ) → r ≤ 16 → count_at first (line (count_text r)) ≡ Ok r
+pub count_at_back : (first r : ℕ) → r ≤ most_steps → count_at first (line (count_text r)) ≡ Ok r
 unfolding count_at
 count_at_back first r few = rw (count_back r few) (grind (arith, common_steps))
 
 -- a number of steps without an error is at most 16
-counted_spells : (first : ℕ) (x : Option ℕ) (r : ℕ) → counted first x ≡ Ok r → (x ≡ Some r) × (r ≤ 16)
+counted_spells : (first : ℕ) (x : Option ℕ) (r : ℕ) → counted first x ≡ Ok r → (x ≡ Some r) × (r ≤ most_steps)
 counted_spells first None r e = absurd cc
 counted_spells first (Some s) r e = grind (arith, common_steps)
 
 -- a first line that is read is the spelling of its number
-count_at_spells : (first : ℕ) (l : Line) (r : ℕ) → count_at first l ≡ Ok r → (l ≡ line (count_text r)) × (r ≤ 16)
+count_at_spells : (first : ℕ) (l : Line) (r : ℕ) → count_at first l ≡ Ok r → (l ≡ line (count_text r)) × (r ≤ most_steps)
 unfolding count_at
 count_at_spells first l r e =
     let ended = test_ok l.ended (counted first (option_and_then number_in (after (codes "chain ") l.text))) (BadCount first) r e in
@@ -67,11 +68,11 @@ pub record ReadLines (n m : ℕ) (ls : List Line) (x : Read) : Type 0 where
   pub chain : IsChain x.chain
   pub inputs : x.chain.n ≡ n
   pub outputs : length x.chain.outs ≡ m
-  pub steps : length x.chain.steps ≤ 16
+  pub steps : length x.chain.steps ≤ most_steps
   pub lines : ls ≡ chain_lines x.chain ++ x.rest
 
 -- lines that are read after the first line are the spelling of their chain
-body_spells : (f : Frame) (l : Line) (ls : List Line) (x : Read) → l ≡ line (count_text f.steps) → f.steps ≤ 16 → body_from f ls ≡ Ok x → ReadLines f.n f.outputs (l ∷ ls) x
+body_spells : (f : Frame) (l : Line) (ls : List Line) (x : Read) → l ≡ line (count_text f.steps) → f.steps ≤ most_steps → body_from f ls ≡ Ok x → ReadLines f.n f.outputs (l ∷ ls) x
 unfolding body_from
 body_spells f l ls x first few e =
     let steps = bind_ok (steps_from f [] ls) _ x e in

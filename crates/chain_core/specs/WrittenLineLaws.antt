@@ -17,20 +17,22 @@ use Rattle.op_basis.specs.ReadBack.{operator_back}
 use Rattle.op_basis.specs.MemberLaws.{item_spelled}
 use Rattle.chain_core.specs.Block.{number_in, place_in, step_from, step_in, is_byte, named_in, out_in}
 use Rattle.chain_core.specs.Spelling.{place_text, step_text, named_text, out_text, count_text}
+use Rattle.text_core.specs.Limits.{most_number}
+use Rattle.chain_theory.specs.Limits.{most_steps}
 
 -- ---- places
 
 -- the spelling of a place is read
 pub place_back : (p : ℕ) → p < 1000000000 → place_in (place_text p) ≡ Some p
 unfolding place_in
-place_back p fits = rw (word_back (codes "x") (decimal p)) (number_back 999999999 p (omega arith) (omega arith))
+place_back p fits = rw (word_back (codes "x") (decimal p)) (number_back most_number p (omega arith) (omega arith))
 
 -- an item that is read as a place is its spelling
 pub place_spells : (item : List ℕ) (p : ℕ) → place_in item ≡ Some p → (p < 1000000000) × (item ≡ place_text p)
 unfolding place_in
 place_spells item p e =
     option_and_then_some number_in (after (codes "x") item) p e (λ digits following is.
-    let parts = number_spells 999999999 p digits (omega arith) is in
+    let parts = number_spells most_number p digits (omega arith) is in
     (omega (arith, parts.0), word_spells (codes "x") item digits following ∙ ap (λ (ds : List ℕ). codes "x" ++ ds) parts.1))
 
 -- the letter before a place isn't below the digits
@@ -225,16 +227,16 @@ free_out o last fits named = free_both 10 (codes "out ") (named_text o) free_out
 -- ---- the first line
 
 -- the spelling of a number of steps is read
-pub count_back : (r : ℕ) → r ≤ 16 → option_and_then number_in (after (codes "chain ") (count_text r)) ≡ Some r
+pub count_back : (r : ℕ) → r ≤ most_steps → option_and_then number_in (after (codes "chain ") (count_text r)) ≡ Some r
 unfolding count_text
-count_back r few = rw (word_back (codes "chain ") (decimal r)) (number_back 999999999 r (omega arith) (omega arith))
+count_back r few = rw (word_back (codes "chain ") (decimal r)) (number_back most_number r (omega arith) (omega arith))
 
 -- a text that is read as a number of steps is its spelling
 pub count_spells : (text : List ℕ) (r : ℕ) → option_and_then number_in (after (codes "chain ") text) ≡ Some r → text ≡ count_text r
 unfolding count_text
 count_spells text r e =
     option_and_then_some number_in (after (codes "chain ") text) r e (λ digits following is.
-    word_spells (codes "chain ") text digits following ∙ ap (λ (rest : List ℕ). codes "chain " ++ rest) (number_spells 999999999 r digits (omega arith) is).1)
+    word_spells (codes "chain ") text digits following ∙ ap (λ (rest : List ℕ). codes "chain " ++ rest) (number_spells most_number r digits (omega arith) is).1)
 
 -- no LF is in the word before a number of steps
 free_chain_word : is_free 10 (codes "chain ") ≡ true
@@ -242,6 +244,6 @@ unfolding is_free
 free_chain_word = refl
 
 -- no LF is in the line of a number of steps
-pub free_count : (r : ℕ) → r ≤ 16 → is_free 10 (count_text r) ≡ true
+pub free_count : (r : ℕ) → r ≤ most_steps → is_free 10 (count_text r) ≡ true
 unfolding count_text
 free_count r few = free_both 10 (codes "chain ") (decimal r) free_chain_word (free_decimal 10 r (omega arith) (omega arith))

@@ -9,23 +9,21 @@ ghost use Rattle.chain_theory.specs.Chain.{IsStepAt, NamesPlace};
 ghost use Rattle.chain_core.specs.Steps.{step_of};
 ghost use Rattle.chain_core.specs.Block as block;
 ghost use Rattle.chain_core.specs.Reading.{Gives};
+ghost use Rattle.chain_theory.specs.Limits.{most_steps};
 
 use crate::error::ChainError;
 use crate::frame::Frame;
 use crate::step::Step;
 use chain_theory::{MOST_STEPS, Out};
 use op_basis::read_operator;
-use text_core::{after, next_item, number_up_to};
-
-/// The greatest number of nine digits.
-const GREATEST: u32 = 999_999_999;
+use text_core::{MOST_NUMBER, after, next_item, number_up_to};
 
 /// The place that an item names, as in `x12`; None where it names none.
 #[tactic(auto, unfolding(crate::specs::Block::place_in))]
 fn place_in(item: &[u8]) -> Option<u32>
     ensures { result ≡ block.place_in item.now }
 {
-    number_up_to(GREATEST, after(b"x", item)?)
+    number_up_to(MOST_NUMBER, after(b"x", item)?)
 }
 
 /// The place at the beginning of a step's line, and the step; None where the line isn't of the form of a step.
@@ -72,7 +70,7 @@ fn out_in(text: &[u8]) -> Option<Out>
 #[tactic(auto, unfolding(crate::specs::Block::count_at))]
 pub fn count_at(first_line: u32, text: &[u8], ended: bool) -> Result<u32, ChainError>
     ensures exact { Gives (λ r. r) result (block.count_at first_line (record { text = text.now; ended = ended })) }
-    ensures few { IfOk result (λ r. r ≤ 16) }
+    ensures few { IfOk result (λ r. r ≤ most_steps) }
 {
     if !ended {
         return Err(ChainError::BadCount(first_line));
@@ -80,7 +78,7 @@ pub fn count_at(first_line: u32, text: &[u8], ended: bool) -> Result<u32, ChainE
     let Some(digits) = after(b"chain ", text) else {
         return Err(ChainError::BadCount(first_line));
     };
-    match number_up_to(GREATEST, digits) {
+    match number_up_to(MOST_NUMBER, digits) {
         Some(steps) if steps <= MOST_STEPS => Ok(steps),
         Some(_) => Err(ChainError::TooManySteps(first_line)),
         None => Err(ChainError::BadCount(first_line)),

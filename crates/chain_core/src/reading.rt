@@ -9,6 +9,7 @@ ghost use Rattle.chain_theory.specs.Chain.{AreSteps, IsStepAt, NamesPlace};
 ghost use Rattle.chain_core.specs.Steps.{step_of, steps_of, IsSmallChain};
 ghost use Rattle.chain_core.specs.Block.{steps_from, outs_from, body_from, chain_of};
 ghost use Rattle.chain_core.specs.Reading.{Gives};
+ghost use Rattle.chain_theory.specs.Limits.{most_steps, most_inputs, most_outputs};
 
 use crate::chain::Chain;
 use crate::error::ChainError;
@@ -40,8 +41,8 @@ fn steps_from<'a>(
     bytes: &'a [u8],
 ) -> Result<(Vec<Step>, &'a [u8]), ChainError>
     requires first_line { frame.now.first_line < 2 ^ 31 }
-    requires few { frame.now.steps ≤ 16 }
-    requires small { frame.now.n ≤ 6 }
+    requires few { frame.now.steps ≤ most_steps }
+    requires small { frame.now.n ≤ most_inputs }
     ensures exact { Gives (λ x. (steps_of x.0.items, lines_of x.1.now)) result
         (steps_from frame.now [] (lines_of bytes.now)) }
     ensures steps { IfOk result (λ x. AreSteps frame.now.n (steps_of x.0.items)) }
@@ -69,9 +70,9 @@ fn outs_from<'a>(
     bytes: &'a [u8],
 ) -> Result<(Vec<Out>, &'a [u8]), ChainError>
     requires first_line { frame.now.first_line < 2 ^ 31 }
-    requires few { frame.now.steps ≤ 16 }
-    requires small { frame.now.n ≤ 6 }
-    requires outputs { frame.now.outputs ≤ 8 }
+    requires few { frame.now.steps ≤ most_steps }
+    requires small { frame.now.n ≤ most_inputs }
+    requires outputs { frame.now.outputs ≤ most_outputs }
     ensures exact { Gives (λ x. (x.0.items, lines_of x.1.now)) result (outs_from frame.now [] (lines_of bytes.now)) }
     ensures named { IfOk result (λ x. All (NamesPlace (frame.now.n + frame.now.steps)) x.0.items) }
     ensures count { IfOk result (λ x. length x.0.items ≡ frame.now.outputs) }
@@ -98,9 +99,9 @@ fn body_from<'a>(
     bytes: &'a [u8],
 ) -> Result<(Chain, &'a [u8]), ChainError>
     requires first_line { frame.now.first_line < 2 ^ 31 }
-    requires few { frame.now.steps ≤ 16 }
-    requires small { frame.now.n ≤ 6 }
-    requires outputs { frame.now.outputs ≤ 8 }
+    requires few { frame.now.steps ≤ most_steps }
+    requires small { frame.now.n ≤ most_inputs }
+    requires outputs { frame.now.outputs ≤ most_outputs }
     ensures exact { Gives (λ x. record { chain = x.0; rest = lines_of x.1.now }) result
         (body_from frame.now (lines_of bytes.now)) }
     ensures rest { IfOk result (λ x. IsRest bytes.now x.1.now) }
@@ -128,8 +129,8 @@ pub fn read_chain(
 ) -> Result<(Chain, usize), ChainError>
     requires length { length bytes.now < 2 ^ 31 }
     requires first_line { first_line < 2 ^ 31 }
-    requires inputs { n ≤ 6 }
-    requires outputs { outputs ≤ 8 }
+    requires inputs { n ≤ most_inputs }
+    requires outputs { outputs ≤ most_outputs }
     ensures exact { Gives (λ x. record { chain = x.0; rest = lines_of (drop x.1 bytes.now) }) result
         (chain_of first_line n outputs (lines_of bytes.now)) }
     ensures used { IfOk result (λ x. x.1 ≤ length bytes.now) }

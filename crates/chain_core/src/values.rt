@@ -8,6 +8,7 @@ ghost use Rattle.chain_theory.specs.Value.{values_after, value as value_of};
 ghost use Rattle.chain_theory.specs.Agreement.{output_value};
 ghost use Rattle.chain_core.specs.Steps.{steps_of};
 ghost use Rattle.chain_core.specs.Bits.{bits};
+ghost use Rattle.chain_theory.specs.Limits.{most_inputs};
 
 use crate::chain::Chain;
 use crate::step::Step;
@@ -16,7 +17,7 @@ use chain_theory::Out;
 /// Writes the bits of the inputs on a row. Place p is at index p; index 0 is unused.
 #[tactic(auto, unfolding(crate::specs::Bits::bits))]
 fn inputs_into(values: &mut [bool], n: u32, row: u32)
-    requires few { n ≤ 6 }
+    requires few { n ≤ most_inputs }
     requires room { n < length values.old }
     ensures { (p : ℕ) → 1 ≤ p → p ≤ n → bits values.new p ≡ input n row p }
 {

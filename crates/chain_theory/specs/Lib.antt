@@ -1,3 +1,4 @@
+pub mod Limits
 pub mod Operator
 pub mod Specification
 pub mod Chain

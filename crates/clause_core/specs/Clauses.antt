@@ -1,5 +1,5 @@
--- How a raw clause is simplified.
-use Rattle.std.specs.Prelude.{ℕ, ◌≤◌, ℤ, Bool, true, false, not, List, [], ◌∷◌, ◌++◌, Option, Some, None, if◌then◌else◌}
+-- How a raw clause is simplified, and what adding clauses does to a formula.
+use Rattle.std.specs.Prelude.{◌≡◌, ℕ, ◌≤◌, ℤ, Bool, true, false, not, List, [], ◌∷◌, ◌++◌, Option, Some, None, if◌then◌else◌}
 use Rattle.std.specs.List.{list_any}
 use Rattle.std.specs.Ordering.{int_eq}
 use Rattle.sat_theory.specs.Formula.{Formula, Assignment, Satisfies, signed}
@@ -39,3 +39,7 @@ IsWithin vars (Var v bit) = (1 ≤ v) × (v ≤ vars)
 -- some assignment satisfies the formula
 abbrev pub IsSatisfiable : Formula → Type 0
 IsSatisfiable f = (v : Assignment) × Satisfies v f
+
+-- `new` is the formula `old` with the clauses `more` after its own; the variables stay the same
+abbrev pub Appends : Formula → Formula → List (List ℤ) → Type 0
+Appends old new more = new ≡ record old { clauses = old.clauses ++ more }

@@ -11,7 +11,7 @@
 //!
 //! The crate knows formulas alone, neither chains nor netlists; it depends on `sat_theory` and `cnf_core`.
 //!
-//! - `specs/Clauses.antt`: how a raw clause is simplified.
+//! - `specs/Clauses.antt`: how a raw clause is simplified; what adding clauses does to a formula (`Appends`).
 //! - `specs/Holds.antt`: the simplified clause is true exactly where the raw clause is.
 //!   `specs/WrittenLaws.antt`: it is a clause of the formula. `specs/CountLaws.antt`: how many clauses there
 //!   are.

@@ -2,11 +2,11 @@
 //! each variable seen so far, so one look-up tells whether a literal is new, a repeat or the opposite of an
 //! earlier one. Afterwards only the entries of the clause's variables are cleared, so a clause takes time
 //! linear in the number of its raw literals.
-ghost use Rattle.std.specs.Prelude.{◌≡◌, ◌<◌, ◌≤◌, ◌-◌, ◌^◌, List, [], ◌∷◌, ◌++◌, length, All, IfOk, OnOk, OnErr};
+ghost use Rattle.std.specs.Prelude.{◌≡◌, ◌<◌, ◌≤◌, ◌-◌, ◌^◌, List, [], ◌∷◌, length, All, IfOk, OnOk, OnErr};
 ghost use Rattle.sat_theory.specs.Formula.{IsClause};
 ghost use Rattle.clause_core.specs.declared.raw.RawLit.{RawLit};
 ghost use Rattle.clause_core.specs.declared.raw.RawLit.TheVariants.{Var};
-ghost use Rattle.clause_core.specs.Clauses.{simplified, written, IsWithin};
+ghost use Rattle.clause_core.specs.Clauses.{Appends, simplified, written, IsWithin};
 ghost use Rattle.clause_core.specs.Seen.{IsSeen, IsBlank, going, found};
 
 use crate::RawLit;
@@ -134,7 +134,7 @@ impl ClauseList {
     #[tactic(auto, unfolding(crate::specs::Clauses::written))]
     pub fn push(&mut self, alloc: Global, raws: &[RawLit]) -> Result<(), AllocError>
         requires { All (IsWithin self.old.vars) raws.now }
-        ensures written { OnOk result (self.new ≡ record self.old { clauses = self.old.clauses ++ written raws.now }) }
+        ensures written { OnOk result (Appends self.old self.new (written raws.now)) }
         ensures unchanged { OnErr result (self.new ≡ self.old) }
     {
         let mut lits = Vec::with_capacity(alloc, raws.len())?;

@@ -3,7 +3,8 @@
 //! starts. Moving a watch reads its entry once: a push to one list, a swap of two literals, and a removal
 //! from another list. The push comes first, since it alone can run out of memory. While literals move in the
 //! arena, entries have ids instead of starts.
-ghost use Rattle.std.specs.Prelude.{◌≡◌, ◌≢◌, ◌⊎◌, ◌↔◌, ℤ, IsTrue, ◌+◌, ◌-◌, ◌*◌, ◌<◌, ◌≤◌, [], length, take, map, All};
+ghost use Rattle.std.specs.Prelude.{◌≡◌, ◌≢◌, ◌⊎◌, ◌↔◌, ℤ, IsTrue, ◌+◌, ◌-◌, ◌*◌, ◌<◌, ◌≤◌, [], length, take, map};
+ghost use Rattle.std.specs.Prelude.{All};
 ghost use Rattle.std.specs.Prelude.{Contains, pos, slice_index_or, slice_set, replicate, IfOk, OnOk, OnErr};
 ghost use Rattle.std.specs.List.{swap_remove};
 ghost use Rattle.cdcl_theory.specs.Codes.{code_of};
@@ -350,7 +351,8 @@ fn literal_at(lits: &[Lit], index: usize) -> Lit
 fn place_of_watch(lits: &[Lit], lit: Lit) -> usize
     requires { 0 < length lits.now }
     ensures front { result < 2 }
-    ensures found { (result ≡ 0) × ((pair_of lits.now).first ≡ lit) ⊎ (result ≡ 1) × ((pair_of lits.now).first ≢ lit) }
+    ensures found { (result ≡ 0) × ((pair_of lits.now).first ≡ lit) ⊎ (result ≡ 1) ×
+        ((pair_of lits.now).first ≢ lit) }
 {
     usize::from(lits[0] != lit)
 }

@@ -4,7 +4,8 @@ use Rattle.std.proofs.lemmas.Grind.{common_steps}
 use Rattle.equiv_run.specs.declared.answer.EquivOutcome.{EquivOutcome}
 use Rattle.equiv_run.specs.declared.answer.CompareError.{CompareError}
 use Rattle.equiv_run.specs.declared.answer.CompareError.TheVariants.{Memory}
-use Rattle.equiv_run.specs.Pairs.{most_of_two, IsAnswer, IsRefusedPair}
+use Rattle.equiv_run.specs.Pairs.{IsAnswer, IsRefusedPair}
+use Rattle.net_theory.specs.Limits.{most_of_two}
 use Rattle.equiv_run.specs.PairLaws.{refused_fault}
 use Rattle.frame_core.specs.Reported.{Reply, Refusal}
 use Rattle.frame_core.specs.Task.{HasReply, Refuses}

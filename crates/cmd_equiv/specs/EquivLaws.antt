@@ -13,7 +13,8 @@ use Rattle.net_document.specs.Listed.{Listed}
 use Rattle.net_document.specs.Format.{IsNetlist, HasNetFault}
 use Rattle.blif_core.specs.Blif.{blif_format}
 use Rattle.equiv_run.specs.Split.{split_of}
-use Rattle.equiv_run.specs.Pairs.{most_of_two, Lists, AreTwo, ShareInterface, HasPairFault}
+use Rattle.equiv_run.specs.Pairs.{Lists, AreTwo, ShareInterface, HasPairFault}
+use Rattle.net_theory.specs.Limits.{most_of_two}
 use Rattle.equiv_run.specs.PairLaws.{answer_never, fault_one}
 use Rattle.command_line.specs.declared.command.Command.TheVariants.{Equiv}
 use Rattle.command_line.specs.CommandLine.{AsksFor}

@@ -5,7 +5,8 @@ use Rattle.equiv_run.specs.declared.answer.EquivOutcome.{EquivOutcome}
 use Rattle.equiv_run.specs.declared.answer.EquivOutcome.TheVariants as standings
 use Rattle.equiv_run.specs.declared.answer.CompareError.{CompareError}
 use Rattle.equiv_run.specs.declared.answer.CompareError.TheVariants.{DifferentInterface}
-use Rattle.equiv_run.specs.Pairs.{most_of_two, AreTwo, ShareInterface, IsAnswer, HasOtherInterface}
+use Rattle.equiv_run.specs.Pairs.{AreTwo, ShareInterface, IsAnswer, HasOtherInterface}
+use Rattle.net_theory.specs.Limits.{most_of_two}
 use Rattle.command_line.specs.declared.command.Command.TheVariants.{Equiv}
 use Rattle.frame_core.specs.declared.status.Status.TheVariants.{Done, Undecided, Refused}
 use Rattle.frame_core.specs.Run.{Run}

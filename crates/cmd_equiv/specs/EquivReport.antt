@@ -4,7 +4,8 @@ use Rattle.equiv_run.specs.declared.answer.EquivOutcome.{EquivOutcome}
 use Rattle.equiv_run.specs.declared.answer.EquivOutcome.TheVariants as standings
 use Rattle.equiv_run.specs.declared.answer.CompareError.{CompareError}
 use Rattle.equiv_run.specs.declared.answer.CompareError.TheVariants.{NoSecond, First, Second, DifferentInterface, Memory}
-use Rattle.equiv_run.specs.Pairs.{most_of_two, IsAnswer, HasPairFault}
+use Rattle.equiv_run.specs.Pairs.{IsAnswer, HasPairFault}
+use Rattle.net_theory.specs.Limits.{most_of_two}
 use Rattle.frame_core.specs.declared.status.Status.{Status}
 use Rattle.frame_core.specs.declared.status.Status.TheVariants as statuses
 use Rattle.frame_core.specs.Reported.{Reply, Field, Word, Refusal, plain, memory}

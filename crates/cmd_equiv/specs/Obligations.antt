@@ -3,7 +3,7 @@ use Rattle.std.specs.Prelude.{ℕ, ◌≤◌, List, length}
 use Rattle.std.proofs.Common.{sym, subst, refl, inl, inr}
 use Rattle.equiv_run.specs.declared.answer.EquivOutcome.{EquivOutcome}
 use Rattle.equiv_run.specs.declared.answer.EquivOutcome.TheVariants as standings
-use Rattle.equiv_run.specs.Pairs.{most_of_two}
+use Rattle.net_theory.specs.Limits.{most_of_two}
 use Rattle.command_line.specs.declared.command.Command.TheVariants.{Equiv}
 use Rattle.frame_core.specs.Task.{IsAnswerStatus}
 use Rattle.frame_core.specs.Run.{Run}

@@ -11,12 +11,10 @@ use cmd_lines::{name_net, net_status};
 use equiv_run::{CompareError, Compared, EquivOutcome, compare_texts};
 use frame_core::{ErrorLine, Field, Refusal, Replier, Reply, Status, Stop};
 use net_core::NetError;
+use net_theory::MOST_OF_TWO;
 use sat_solve::Solver;
 use std::alloc::Global;
 use std::marker::PhantomData;
-
-/// The most bytes that `equiv` reads: 32 MiB, for two netlists.
-const MOST_BYTES: usize = 33_554_432;
 
 /// The status of the result of a comparison.
 fn standing_status(outcome: EquivOutcome) -> Status
@@ -95,7 +93,7 @@ impl<S: Solver> Replier for Equiv<S> {
     ghost ready = { λ job. IsBudget job.budget };
 
     fn reads(&self) -> Option<usize> {
-        Some(MOST_BYTES)
+        Some(MOST_OF_TWO)
     }
 
     #[tactic(auto, using(crate::proofs::Equating::reporting))]

@@ -9,7 +9,8 @@ use Rattle.improve_windows.specs.Improving.{IsReported}
 use Rattle.command_line.specs.declared.command.GenAction.TheVariants.{Write, Improve}
 use Rattle.frame_core.specs.Reported.{Reply}
 use Rattle.frame_core.specs.Task.{HasReply}
-use Rattle.cmd_improve.specs.ImproveReport.{most_of_netlist, improve_reply}
+use Rattle.cmd_improve.specs.ImproveReport.{improve_reply}
+use Rattle.net_theory.specs.Limits.{most_of_netlist}
 use Rattle.cmd_gen.specs.GenReport.{gen_reply, gen_task}
 
 pub reports : (blocks : ℕ) (bytes : List ℕ) (reply : Reply) → reply ≡ gen_reply blocks → HasReply (gen_task blocks Write) bytes reply

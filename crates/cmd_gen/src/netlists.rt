@@ -2,7 +2,7 @@
 ghost use Rattle.std.specs.Prelude.{◌≡◌, ◌≤◌, ℕ, List, IfOk};
 ghost use Rattle.gen_core.specs.Generated.{generated_text};
 ghost use Rattle.command_line.specs.declared.command.GenAction.TheVariants.{Write, Improve};
-ghost use Rattle.command_line.specs.Options.{most_blocks};
+ghost use Rattle.settings.specs.Limits.{most_blocks};
 ghost use Rattle.frame_core.specs.Views.{reply_value, Judges};
 ghost use Rattle.cmd_gen.specs.GenReport.{gen_reply, gen_task};
 
@@ -54,6 +54,7 @@ fn improved<S: Solver>(alloc: Global, blocks: u32) -> Result<Reply, Stop>
     requires { blocks ≤ most_blocks }
     ensures { (bytes : List ℕ) → Judges (gen_task blocks Improve) bytes result }
 {
+    // for the prover: two laws about generated netlists
     generated_netlists_are_small();
     generated_netlists_are_netlists();
     let Ok(text) = text_of(alloc, blocks) else {

@@ -11,7 +11,8 @@ use Rattle.improve_windows.specs.FitsLaws.{fits_bench}
 use Rattle.command_line.specs.declared.command.Format.TheVariants.{Bench}
 use Rattle.command_line.specs.WithinLaws.{within_members}
 use Rattle.command_line.specs.CommandLine.{HasGatesOf}
-use Rattle.cmd_improve.specs.ImproveReport.{FormatAsked, format_of, most_of_netlist, improve_reply, improve_refusal, improve_task}
+use Rattle.cmd_improve.specs.ImproveReport.{FormatAsked, format_of, improve_reply, improve_refusal, improve_task}
+use Rattle.net_theory.specs.Limits.{most_of_netlist}
 use Rattle.frame_core.specs.Reported.{Reply, Refusal}
 use Rattle.frame_core.specs.Task.{HasReply, Refuses}
 

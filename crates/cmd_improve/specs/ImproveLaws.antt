@@ -12,7 +12,8 @@ use Rattle.improve_windows.specs.Improving.{IsReported}
 use Rattle.command_line.specs.declared.command.Command.TheVariants.{Improve}
 use Rattle.command_line.specs.declared.command.Format.TheVariants.{Blif, Bench}
 use Rattle.command_line.specs.CommandLine.{AsksFor}
-use Rattle.cmd_improve.specs.ImproveReport.{FormatAsked, format_of, most_of_netlist, Improvement, improve_reply, improve_refusal, IsImprovement, HasNetlistFault, improve_task}
+use Rattle.cmd_improve.specs.ImproveReport.{FormatAsked, format_of, Improvement, improve_reply, improve_refusal, IsImprovement, HasNetlistFault, improve_task}
+use Rattle.net_theory.specs.Limits.{most_of_netlist}
 use Rattle.cmd_lines.specs.NetLines.{net_status, named_net}
 use Rattle.frame_core.specs.Reported.{memory_refusal}
 use Rattle.frame_core.specs.Task.{IsRefusalStatus, IsAnswerable, IsTask}

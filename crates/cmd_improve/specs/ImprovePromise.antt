@@ -6,7 +6,8 @@ use Rattle.settings.specs.declared.improve.ImproveSettings.{ImproveSettings}
 use Rattle.net_core.specs.declared.error.NetError.{NetError}
 use Rattle.net_document.specs.Format.{IsNetlist}
 use Rattle.frame_core.specs.declared.status.Status.TheVariants.{Done, Undecided, Refused}
-use Rattle.cmd_improve.specs.ImproveReport.{FormatAsked, format_of, most_of_netlist, improve_refusal, HasNetlistFault, improve_task}
+use Rattle.cmd_improve.specs.ImproveReport.{FormatAsked, format_of, improve_refusal, HasNetlistFault, improve_task}
+use Rattle.net_theory.specs.Limits.{most_of_netlist}
 use Rattle.frame_core.specs.Run.{Run}
 use Rattle.cmd_lines.specs.Runs.{Runs}
 use Rattle.frame_core.specs.Promise.{InputHeld, OutputHeld, AllSteady, ReportsError, Replies, ReportTruncated}

@@ -1,5 +1,6 @@
 -- The task of `improve`: its reply, and the refusal for each fault.
 use Rattle.std.specs.Prelude.{ℕ, ◌≤◌, List, length, Some}
+use Rattle.net_theory.specs.Limits.{most_of_netlist}
 use Rattle.net_core.specs.declared.error.NetError.{NetError}
 use Rattle.net_document.specs.Format.{Format, HasNetFault}
 use Rattle.blif_core.specs.Blif.{blif_format}
@@ -12,10 +13,6 @@ use Rattle.frame_core.specs.declared.status.Status.TheVariants.{Done}
 use Rattle.frame_core.specs.Reported.{Reply, Refusal}
 use Rattle.frame_core.specs.Task.{Task, at_once}
 use Rattle.cmd_lines.specs.NetLines.{net_status, named_net}
-
--- the most bytes of a netlist that are read
-abbrev pub most_of_netlist : ℕ
-most_of_netlist = 16777216
 
 -- the format of the command line
 abbrev pub FormatAsked : Type 0

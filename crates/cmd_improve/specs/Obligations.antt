@@ -7,7 +7,8 @@ use Rattle.frame_core.specs.declared.status.Status.{Status}
 use Rattle.frame_core.specs.declared.status.Status.TheVariants.{Done}
 use Rattle.frame_core.specs.Run.{Run}
 use Rattle.cmd_lines.specs.Answering.{AsksWell, MustAnswer}
-use Rattle.cmd_improve.specs.ImproveReport.{FormatAsked, format_of, most_of_netlist}
+use Rattle.cmd_improve.specs.ImproveReport.{FormatAsked, format_of}
+use Rattle.net_theory.specs.Limits.{most_of_netlist}
 use Rattle.cmd_improve.specs.ImprovePromise.{ImprovePromise}
 
 -- The bytes, no more than are read, are a netlist of the format.

@@ -3,7 +3,8 @@ ghost use Rattle.std.specs.Prelude.{◌≡◌, ◌≤◌, length, IfOk, IfErr};
 ghost use Rattle.net_document.specs.Format.{IsRefusedText};
 ghost use Rattle.improve_windows.specs.Improving.{IsReported};
 ghost use Rattle.command_line.specs.CommandLine.{IsAsked};
-ghost use Rattle.cmd_improve.specs.ImproveReport.{format_of, most_of_netlist, improve_reply, improve_refusal};
+ghost use Rattle.cmd_improve.specs.ImproveReport.{format_of, improve_reply, improve_refusal};
+ghost use Rattle.net_theory.specs.Limits.{most_of_netlist};
 ghost use Rattle.cmd_improve.specs.ImproveReport.{improve_task};
 ghost use Rattle.frame_core.specs.Views.{reply_value, refusal_value};
 
@@ -12,13 +13,11 @@ use command_line::Format;
 use frame_core::{Field, Refusal, Replier, Reply, Report, Status, Stop};
 use improve_windows::{ImprovedText, improve_bench, improve_blif};
 use net_core::NetError;
+use net_theory::MOST_OF_NETLIST;
 use sat_solve::Solver;
 use settings::ImproveSettings;
 use std::alloc::Global;
 use std::marker::PhantomData;
-
-/// The most bytes that `improve` reads: 16 MiB.
-const MOST_BYTES: usize = 16_777_216;
 
 /// A fault of a netlist as a refusal.
 #[tactic(auto, unfolding(frame_core::specs::Views::shown))]
@@ -83,7 +82,7 @@ impl<S: Solver> Replier for Improve<S> {
     ghost ready = { λ job. IsAsked job.format job.settings };
 
     fn reads(&self) -> Option<usize> {
-        Some(MOST_BYTES)
+        Some(MOST_OF_NETLIST)
     }
 
     #[tactic(auto, using(crate::proofs::Improving::reporting))]

@@ -12,7 +12,9 @@ use Rattle.settings.specs.declared.methods.Method.{Method}
 use Rattle.settings.specs.declared.methods.Method.TheVariants.{Plain, Ssv, Select, Fence}
 use Rattle.settings.specs.declared.synth.SynthSettings.{SynthSettings}
 use Rattle.settings.specs.declared.improve.ImproveSettings.{ImproveSettings}
-use Rattle.settings.specs.Synth.{IsInRange, most_conflicts}
+use Rattle.settings.specs.Synth.{IsInRange}
+use Rattle.sat_theory.specs.Limits.{most_conflicts}
+use Rattle.chain_theory.specs.Limits.{most_steps}
 use Rattle.settings.specs.Improve as improver
 use Rattle.command_line.specs.declared.command.Command.{Command}
 use Rattle.command_line.specs.declared.command.Command.TheVariants as commands
@@ -29,6 +31,7 @@ use Rattle.command_line.specs.CommandLine.{word_after, are_options, value_in, va
 use Rattle.command_line.specs.CommandLine.{least_depth_by, synth_from, recheck_from, settings_from, settings_for}
 use Rattle.command_line.specs.CommandLine.{improve_with, improve_for, equiv_from, gen_from, command_with, command_in}
 use Rattle.command_line.specs.CommandLine.{command_of, HasGatesOf, IsAsked, IsAskable}
+use Rattle.settings.specs.Limits.{most_gates_of_window, most_rounds, most_effort, most_blocks, default_conflicts}
 
 pub some_is : {A : Type 0} (a b : A) → Some a ≡ Some b → a ≡ b
 some_is a b e = cc
@@ -217,38 +220,38 @@ gen_made (Some n) (Some d) c e = (n, d, some_is _ c e, refl, refl)
 gen_made (Some n) None c e = absurd cc
 gen_made None action c e = absurd cc
 
-blocks_range : (words : List (List ℕ)) (n : ℕ) → value blocks_row words ≡ Some n → (1 ≤ n) × (n ≤ 10000)
+blocks_range : (words : List (List ℕ)) (n : ℕ) → value blocks_row words ≡ Some n → (1 ≤ n) × (n ≤ most_blocks)
 blocks_range words n e =
-    in_row blocks_row (λ (x : ℕ). (1 ≤ x) × (x ≤ 10000))
-    (λ (word : List ℕ) (x : ℕ) at. number_range 1 10000 x word (omega arith) at)
+    in_row blocks_row (λ (x : ℕ). (1 ≤ x) × (x ≤ most_blocks))
+    (λ (word : List ℕ) (x : ℕ) at. number_range 1 most_blocks x word (omega arith) at)
     (λ (x : ℕ) at. absurd cc)
     (word_after blocks_row.name words) n e
 
-max_range : (words : List (List ℕ)) (n : ℕ) → value max_row words ≡ Some n → n ≤ 16
+max_range : (words : List (List ℕ)) (n : ℕ) → value max_row words ≡ Some n → n ≤ most_steps
 max_range words n e =
-    in_row max_row (λ (x : ℕ). x ≤ 16)
-    (λ (word : List ℕ) (x : ℕ) at. (number_range 0 16 x word (omega arith) at).1)
-    (λ (x : ℕ) at. let same = some_is 16 x at in omega (arith, same))
+    in_row max_row (λ (x : ℕ). x ≤ most_steps)
+    (λ (word : List ℕ) (x : ℕ) at. (number_range 0 most_steps x word (omega arith) at).1)
+    (λ (x : ℕ) at. let same = some_is most_steps x at in omega (arith, same))
     (word_after max_row.name words) n e
 
-cap_range : (words : List (List ℕ)) (n : ℕ) → value cap_row words ≡ Some n → n ≤ 8
+cap_range : (words : List (List ℕ)) (n : ℕ) → value cap_row words ≡ Some n → n ≤ most_gates_of_window
 cap_range words n e =
-    in_row cap_row (λ (x : ℕ). x ≤ 8)
-    (λ (word : List ℕ) (x : ℕ) at. (number_range 0 8 x word (omega arith) at).1)
+    in_row cap_row (λ (x : ℕ). x ≤ most_gates_of_window)
+    (λ (word : List ℕ) (x : ℕ) at. (number_range 0 most_gates_of_window x word (omega arith) at).1)
     (λ (x : ℕ) at. let same = some_is 5 x at in omega (arith, same))
     (word_after cap_row.name words) n e
 
-effort_range : (words : List (List ℕ)) (n : ℕ) → value effort_row words ≡ Some n → n ≤ 1000
+effort_range : (words : List (List ℕ)) (n : ℕ) → value effort_row words ≡ Some n → n ≤ most_effort
 effort_range words n e =
-    in_row effort_row (λ (x : ℕ). x ≤ 1000)
-    (λ (word : List ℕ) (x : ℕ) at. (number_range 0 1000 x word (omega arith) at).1)
+    in_row effort_row (λ (x : ℕ). x ≤ most_effort)
+    (λ (word : List ℕ) (x : ℕ) at. (number_range 0 most_effort x word (omega arith) at).1)
     (λ (x : ℕ) at. let same = some_is 0 x at in omega (arith, same))
     (word_after effort_row.name words) n e
 
-rounds_range : (words : List (List ℕ)) (n : ℕ) → value rounds_row words ≡ Some n → (1 ≤ n) × (n ≤ 100000)
+rounds_range : (words : List (List ℕ)) (n : ℕ) → value rounds_row words ≡ Some n → (1 ≤ n) × (n ≤ most_rounds)
 rounds_range words n e =
-    in_row rounds_row (λ (x : ℕ). (1 ≤ x) × (x ≤ 100000))
-    (λ (word : List ℕ) (x : ℕ) at. number_range 1 100000 x word (omega arith) at)
+    in_row rounds_row (λ (x : ℕ). (1 ≤ x) × (x ≤ most_rounds))
+    (λ (word : List ℕ) (x : ℕ) at. number_range 1 most_rounds x word (omega arith) at)
     (λ (x : ℕ) at. let same = some_is 1000 x at in (omega (arith, same), omega (arith, same)))
     (word_after rounds_row.name words) n e
 
@@ -256,7 +259,7 @@ conflicts_range : (words : List (List ℕ)) (n : ℕ) → value conflicts_row wo
 conflicts_range words n e =
     in_row conflicts_row (λ (x : ℕ). (1 ≤ x) × (x ≤ most_conflicts))
     (λ (word : List ℕ) (x : ℕ) at. number_range 1 most_conflicts x word (omega arith) at)
-    (λ (x : ℕ) at. let same = some_is 100000 x at in (omega (arith, same), omega (arith, same)))
+    (λ (x : ℕ) at. let same = some_is default_conflicts x at in (omega (arith, same), omega (arith, same)))
     (word_after conflicts_row.name words) n e
 
 bases_range : (words : List (List ℕ)) (n : ℕ) → value basis_row words ≡ Some n → 0 < n

@@ -5,7 +5,8 @@ use Rattle.std.specs.String.{string_bytes}
 use Rattle.settings.specs.declared.methods.Method.{Method}
 use Rattle.settings.specs.declared.methods.Method.TheVariants.{Fence}
 use Rattle.settings.specs.declared.synth.SynthSettings.{SynthSettings}
-use Rattle.settings.specs.Synth.{most_conflicts, IsInRange}
+use Rattle.settings.specs.Synth.{IsInRange}
+use Rattle.sat_theory.specs.Limits.{most_conflicts}
 use Rattle.op_basis.specs.Text.{bench_set}
 use Rattle.settings.specs.declared.improve.ImproveSettings.{ImproveSettings}
 use Rattle.settings.specs.Improve as improver
@@ -20,7 +21,8 @@ use Rattle.command_line.specs.declared.command.Format.{Format}
 use Rattle.command_line.specs.declared.command.Format.TheVariants.{Blif, Bench}
 use Rattle.command_line.specs.Options.{OptionRow, is_word, is_among, is_within, basis_row, format_basis_row, method_row}
 use Rattle.command_line.specs.Options.{max_row, conflicts_row, cap_row, rounds_row, format_row, observe_row, effort_row}
-use Rattle.command_line.specs.Options.{most_blocks, blocks_row, run_row, least_depth_row, depth_row, kind_named}
+use Rattle.command_line.specs.Options.{blocks_row, run_row, least_depth_row, depth_row, kind_named}
+use Rattle.settings.specs.Limits.{most_blocks}
 use Rattle.command_line.specs.Options.{options_of}
 
 -- the bytes of each word

@@ -7,8 +7,11 @@ use Rattle.op_basis.specs.Text.{bench_set, basis_of}
 use Rattle.op_basis.specs.declared.error.BasisError.{BasisError}
 use Rattle.settings.specs.declared.methods.Method.{Method}
 use Rattle.settings.specs.Methods.{method_named}
-use Rattle.settings.specs.Synth.{defaults, most_steps, most_conflicts}
+use Rattle.settings.specs.Synth.{defaults}
+use Rattle.sat_theory.specs.Limits.{most_conflicts}
+use Rattle.chain_theory.specs.Limits.{most_steps}
 use Rattle.settings.specs.Improve as improver
+use Rattle.settings.specs.Limits.{most_gates_of_window, most_rounds, most_effort, most_blocks}
 use Rattle.command_line.specs.declared.table.OptionKind.{OptionKind}
 use Rattle.command_line.specs.declared.table.OptionKind.TheVariants.{Agree, Recheck, Synth, Improve, Equiv, Gen}
 use Rattle.command_line.specs.declared.command.GenAction.{GenAction}
@@ -97,11 +100,11 @@ conflicts_row = number_row (codes "--conflicts") 1 most_conflicts (Some defaults
 
 -- the most gates of a window
 abbrev pub cap_row : OptionRow ℕ
-cap_row = number_row (codes "--cap") 0 improver.most_gates_of_window (Some improver.defaults.cap)
+cap_row = number_row (codes "--cap") 0 most_gates_of_window (Some improver.defaults.cap)
 
 -- the most rounds over all windows that may change the netlist
 abbrev pub rounds_row : OptionRow ℕ
-rounds_row = number_row (codes "--rounds") 1 improver.most_rounds (Some improver.defaults.rounds)
+rounds_row = number_row (codes "--rounds") 1 most_rounds (Some improver.defaults.rounds)
 
 abbrev pub format_row : OptionRow Format
 format_row = record { name = codes "--format"; read = format_in; default = Some Blif }
@@ -112,12 +115,9 @@ observe_row = flag_row (codes "--observe")
 
 -- how many rounds of moves that keep the size
 abbrev pub effort_row : OptionRow ℕ
-effort_row = number_row (codes "--effort") 0 improver.most_effort (Some improver.defaults.effort)
+effort_row = number_row (codes "--effort") 0 most_effort (Some improver.defaults.effort)
 
 -- how many blocks are generated; this option has no default
-abbrev pub most_blocks : ℕ
-most_blocks = 10000
-
 abbrev pub blocks_row : OptionRow ℕ
 blocks_row = number_row (codes "--blocks") 1 most_blocks None
 

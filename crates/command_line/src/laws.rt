@@ -12,7 +12,8 @@ ghost use Rattle.command_line.specs.declared.command.GenAction.{GenAction};
 ghost use Rattle.command_line.specs.declared.command.Command.{Command};
 ghost use Rattle.command_line.specs.declared.command.Command.TheVariants.{Synth, LeastDepth, Improve, Equiv, Gen};
 ghost use Rattle.command_line.specs.CommandLine.{AsksFor, IsBudget, IsAsked, defaults_for};
-ghost use Rattle.command_line.specs.Options.{is_within, most_blocks};
+ghost use Rattle.command_line.specs.Options.{is_within};
+ghost use Rattle.settings.specs.Limits.{most_blocks};
 ghost use Rattle.command_line.specs.Spelling.{OptionPair, flat, SpellsOptions};
 ghost use Rattle.command_line.specs.WithinLaws.{AreWithin};
 

@@ -18,7 +18,8 @@ pub(crate) fn is_word(word: &[u8], name: &[u8]) -> bool
 /// The word after a name; None if the name doesn't occur.
 #[tactic(auto, unfolding(crate::specs::CommandLine::word_after))]
 pub(crate) fn word_after<'a>(name: &[u8], words: &'a [String]) -> Option<&'a [u8]>
-    ensures { option_map (λ (x : Bor (List ℕ)). x.now) result ≡ spec.word_after name.now (map string_bytes words.now) }
+    ensures { option_map (λ (x : Bor (List ℕ)). x.now) result ≡
+        spec.word_after name.now (map string_bytes words.now) }
 {
     let mut left = words;
     while let Some((found, after)) = left.split_first() {

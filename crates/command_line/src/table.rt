@@ -10,8 +10,8 @@ use crate::command::{Format, GenAction};
 use crate::pairs::{is_word, word_after};
 use op_basis::{BENCH, Basis, read_basis};
 use settings::{
-    ImproveSettings, MOST_CONFLICTS, MOST_EFFORT, MOST_GATES_OF_WINDOW, MOST_ROUNDS, MOST_STEPS,
-    Method, SynthSettings, method_named,
+    ImproveSettings, MOST_BLOCKS, MOST_CONFLICTS, MOST_EFFORT, MOST_GATES_OF_WINDOW, MOST_ROUNDS,
+    MOST_STEPS, Method, SynthSettings, method_named,
 };
 use text_core::number_up_to;
 
@@ -41,9 +41,6 @@ const RUN: &[u8] = b"--run";
 const LEAST_DEPTH: &[u8] = b"--least-depth";
 
 const DEPTH: &[u8] = b"--depth";
-
-/// The most blocks of a generated netlist.
-const MOST_BLOCKS: u32 = 10_000;
 
 /// The commands that have names of their own.
 #[derive(Clone, Copy)]

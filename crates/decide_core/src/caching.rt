@@ -40,7 +40,7 @@ fn agrees(chain: &Chain, spec: &Spec) -> bool
 /// Whether a chain answers the header: its inputs, outputs, number of steps and basis fit, and it implements the
 /// tables.
 #[tactic(auto, using(crate::specs::CacheLaws::caching))]
-pub fn is_solution(chain: &Chain, header: &Header) -> bool
+pub(crate) fn is_solution(chain: &Chain, header: &Header) -> bool
     ensures yes { result ≡ true → IsShorter header.now chain.now }
     ensures not { result ≡ false → IsShorter header.now chain.now → ⊥ }
 {
@@ -147,7 +147,7 @@ fn search_new<S: Solver>(
 
 /// Decides by the cache. What that doesn't know is searched if `searches` holds; else it stays undecided.
 #[tactic(auto, using(crate::specs::CacheLaws::caching))]
-pub fn decide_sizes<S: Solver>(
+pub(crate) fn decide_sizes<S: Solver>(
     alloc: Global,
     cache: &mut SpecCache,
     question: Question,

@@ -74,7 +74,10 @@ fn fewest_of(verdict: Verdict) -> u32
 
 /// Searches all sizes, with a certificate.
 #[tactic(auto, using(crate::specs::DecidedLaws::deciding))]
-pub fn search_whole<S: Solver>(alloc: Global, question: Question) -> Result<Searched, AllocError>
+pub(crate) fn search_whole<S: Solver>(
+    alloc: Global,
+    question: Question,
+) -> Result<Searched, AllocError>
     ensures { IfOk result (λ searched. IsSearched question.entry.header.now searched) }
 {
     let header = question.header;
@@ -104,7 +107,7 @@ pub fn search_whole<S: Solver>(alloc: Global, question: Question) -> Result<Sear
 
 /// Searches the sizes from `from` on, where no chain of fewer steps implements the tables.
 #[tactic(auto, using(crate::specs::DecidedLaws::deciding))]
-pub fn search_from<S: Solver>(
+pub(crate) fn search_from<S: Solver>(
     alloc: Global,
     question: Question,
     from: u32,
@@ -128,7 +131,7 @@ pub fn search_from<S: Solver>(
 
 /// The chain without steps and outputs, for tables without outputs.
 #[tactic(auto, using(crate::specs::DecidedLaws::deciding))]
-pub fn no_steps(alloc: Global, header: &Header) -> Chain
+pub(crate) fn no_steps(alloc: Global, header: &Header) -> Chain
     requires output { length header.now.spec.on ≡ 0 }
     ensures { IsShorter header.now result }
 {

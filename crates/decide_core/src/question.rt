@@ -15,7 +15,7 @@ pub struct Question<'a> {
 
 impl<'a> Question<'a> {
     /// The question of a heading.
-    pub fn new(header: &'a Header) -> Question<'a>
+    pub(crate) fn new(header: &'a Header) -> Question<'a>
         requires checked { IsHeader header.now }
         requires output { 0 < length header.now.spec.on }
         ensures { result.header.now ≡ header.now }

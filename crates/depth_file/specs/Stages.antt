@@ -17,12 +17,13 @@ use Rattle.depth_file.specs.Prefixes.{IsInPrefix}
 use Rattle.depth_file.specs.declared.stage.FenceCursor.{FenceCursor}
 use Rattle.depth_file.specs.declared.stage.Stage.{Stage}
 use Rattle.depth_file.specs.declared.stage.Stage.TheVariants as stages
+use Rattle.chain_theory.specs.Limits.{most_steps}
 
 -- the fences that are due, and the index of the next one
 pub record IsFenceCursor (f : FenceCursor) : Type 0 where
   pub by_fences : f.header.method ≡ Fence
   pub operators : 0 < f.header.basis
-  pub size : f.size ≤ 16
+  pub size : f.size ≤ most_steps
   pub fences : f.fences.items ≡ map Levels (flatter f.header.spec f.size f.levels)
   pub at : f.at ≤ length f.fences.items
 
@@ -33,7 +34,7 @@ pub record IsRunning (f : FenceCursor) : Type 0 where
 
 abbrev pub IsStage : Stage → Type 0
 IsStage (stages.Prefix reader) = IsReader (seen reader)
-IsStage (stages.Depth h size levels) = (h.method ≡ Fence) × (0 < h.basis) × (size ≤ 16)
+IsStage (stages.Depth h size levels) = (h.method ≡ Fence) × (0 < h.basis) × (size ≤ most_steps)
 IsStage (stages.Due f) = IsFenceCursor f
 IsStage (stages.Begun f) = IsRunning f
 IsStage (stages.Within f reader) = IsRunning f

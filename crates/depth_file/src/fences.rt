@@ -2,6 +2,7 @@
 ghost use Rattle.std.specs.Prelude.{◌≡◌, ◌++◌, ◌≤◌, map, IfOk, OnOk};
 ghost use Rattle.enc_theory.specs.declared.subproblem.Subproblem.TheVariants.{Levels};
 ghost use Rattle.depth_theory.specs.Flatter.{of_levels, flatter};
+ghost use Rattle.chain_theory.specs.Limits.{most_steps};
 
 use enc_theory::Subproblem;
 use fence_core::{Fence, fences};
@@ -24,7 +25,8 @@ fn push_level(
     fences: &[Fence],
     levels: usize,
 ) -> Result<(), AllocError>
-    ensures { OnOk result (subproblems.new.items ≡ subproblems.old.items ++ map Levels (of_levels fences.now levels)) }
+    ensures { OnOk result (subproblems.new.items ≡ subproblems.old.items ++
+        map Levels (of_levels fences.now levels)) }
 {
     let mut left = fences;
     while let Some((fence, rest)) = left.split_first() {
@@ -44,7 +46,7 @@ pub(crate) fn flatter_subproblems(
     size: u32,
     levels: u32,
 ) -> Result<Vec<Subproblem>, AllocError>
-    requires { size ≤ 16 }
+    requires { size ≤ most_steps }
     ensures { IfOk result (λ subproblems. subproblems.items ≡ map Levels (flatter spec.now size levels)) }
 {
     let live = live_spec(alloc, spec)?;

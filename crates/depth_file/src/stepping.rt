@@ -15,6 +15,7 @@ ghost use Rattle.depth_theory.specs.DepthJudging.{Answer};
 ghost use Rattle.depth_file.specs.Stages as stages;
 ghost use Rattle.depth_file.specs.Stages.{IsStage, IsFenceCursor, IsRunning, IsNext, due_of, later_of, fed_of};
 ghost use Rattle.depth_file.specs.Stages.{IsAfterPrefix, IsBegun, IsLogging, AnswersLines, Judged};
+ghost use Rattle.chain_theory.specs.Limits.{most_steps};
 
 use crate::certificate::{after_certificate, at_prefix};
 use crate::fences::flatter_subproblems;
@@ -78,7 +79,7 @@ fn at_depth(
 ) -> Result<Stage, DepthError>
     requires fences { header.method ≡ Fence }
     requires operators { 0 < header.basis }
-    requires size { size ≤ 16 }
+    requires size { size ≤ most_steps }
     ensures keeps { IfOk result IsStage }
     ensures fed { IfOk result (λ s. fed_of s ≡ 0) }
     ensures answer { (ls : List Line) (answer : Answer) →

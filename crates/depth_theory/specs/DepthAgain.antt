@@ -64,6 +64,7 @@ use Rattle.depth_theory.specs.DepthJudging.{after_chain, least_of, after_least, 
 use Rattle.depth_theory.specs.DepthJudging.{IsJudged}
 use Rattle.depth_theory.specs.DepthSpellings.{low_step, found_depth}
 use Rattle.depth_theory.specs.PrefixLines.{prefix_is, suffix_is}
+use Rattle.chain_theory.specs.Limits.{most_steps}
 
 -- ---- verdicts
 
@@ -232,13 +233,13 @@ least_by : (m : Method) (v : Verdict) (chain : Option Chain) (c : Chain) (r : �
 least_by m v chain c r by_fences minimum is = ap (λ (x : Method). least_of x v chain) by_fences ∙ ap (λ (x : Verdict). least_of Fence x chain) minimum ∙ is
 
 -- a chain has at most as many levels as steps
-few_levels : (b : DepthCertificate) (is : IsDepth b) → depth is.chain ≤ 16
+few_levels : (b : DepthCertificate) (is : IsDepth b) → depth is.chain ≤ most_steps
 few_levels b is =
     let found = depth_found b is in
     let steps : depth is.chain ≤ length is.chain.steps = depth-least is.chain (length is.chain.steps) (levels_at_most_steps is.chain found.chain) in
     omega (arith, steps, found.size_is, found.size_to, is.valid.header.settings.max_to)
 
-short_by : (d : ℕ) (o : Option ℕ) → d ≤ 16 → ((low : ℕ) → o ≡ Some low → low ≤ 16) → IsShort (levels_found o d)
+short_by : (d : ℕ) (o : Option ℕ) → d ≤ most_steps → ((low : ℕ) → o ≡ Some low → low ≤ most_steps) → IsShort (levels_found o d)
 short_by d None few all = omega arith
 short_by d (Some low) few all = let small = all low refl in (omega (arith, small), omega arith)
 
@@ -282,7 +283,7 @@ free_levels (verdicts.Bounded low d) small =
     free_both 10 (codes "levels-bounded ") (decimal low ++ 32 ∷ decimal d) refl pair
 
 -- the numbers of a listed fence can be read
-short_fence : (w : Words) (r : ℕ) (f : List ℕ) → r ≤ 16 → Contains (fences_for w r) f → HasShortName (Levels f)
+short_fence : (w : Words) (r : ℕ) (f : List ℕ) → r ≤ most_steps → Contains (fences_for w r) f → HasShortName (Levels f)
 unfolding subproblems_for
 short_fence w r f few there = fence_is_coding.fence_names w r (Levels f) few (contains_map Levels (fences_for w r) f there)
 
@@ -302,7 +303,7 @@ depth_lines_again b is =
     let h = b.certificate.header in
     let size = length is.chain.steps in
     let found = depth_found b is in
-    let few : size ≤ 16 = omega (arith, found.size_is, found.size_to, is.valid.header.settings.max_to) in
+    let few : size ≤ most_steps = omega (arith, found.size_is, found.size_to, is.valid.header.settings.max_to) in
     let d_is = levels_is b is in
     let subproblems = whole_subproblems h size b.subproblems (flatter h.spec size (depth is.chain)) is.subproblems_are
     (λ f there. short_fence h.spec size f few (flatter_is (fences_for h.spec size) (depth is.chain) f there).0)

@@ -10,6 +10,7 @@
 //! - `specs/DepthSpelling.antt`: how it is written.
 //! - `specs/DepthJudging.antt`: how lines are judged, and the first fault if they aren't a depth certificate.
 //! - `specs/DepthMeaning.antt`: what each verdict says about chains.
+//! - `specs/Verdicts.antt`: the verdict of a text that is a certificate of either kind, as `recheck` reports it.
 //!
 //! The theorems, in `laws`: lines are judged to have a verdict exactly if they spell a depth certificate with that
 //! verdict, and the verdict of a depth certificate is true. The crate rests on `cert_theory` for certificates and

@@ -24,6 +24,7 @@ use Rattle.enc_theory.specs.Cuts.{row_0, cuts}
 use Rattle.enc_frame.specs.Room.{IsSmall}
 use Rattle.enc_frame.specs.Counts.{common-few}
 use Rattle.clause_core.specs.CountLaws.{flat_map-few, pieces-few, written-few, times-few}
+use Rattle.chain_theory.specs.Limits.{most_steps, most_inputs}
 
 -- clauses that are listed only under a condition
 pub if-few : (test : Bool) (clauses : List (List ℤ)) (k : ℕ) → length clauses ≤ k → length (if test then clauses else []) ≤ k
@@ -136,7 +137,7 @@ exchange_steps-few p q before (s ∷ later) =
     let own = pieces-few (exchange_slot p q before) 1 s.slots (λ u. exchange_slot-few p q before u) in
     rw length-append (omega (arith, own, exchange_steps-few p q (before ++ readers_without p q s) later))
 
-exchange-few : (w : Words) (steps : List StepSlots) → w.n ≤ 6 → slot_count steps ≤ 16000 → length (exchange w steps) ≤ 576000
+exchange-few : (w : Words) (steps : List StepSlots) → w.n ≤ most_inputs → slot_count steps ≤ 16000 → length (exchange w steps) ≤ 576000
 unfolding exchange exchange_with exchange_pair
 exchange-few w steps inputs few =
     let one : (p q : ℕ) → length (exchange_pair w steps p q) ≤ 16000 = λ p q. if-few (may_exchange w p q) (exchange_steps p q [] steps) 16000 (omega (arith, exchange_steps-few p q [] steps)) in
@@ -154,7 +155,8 @@ row_0-few basis z small =
     if-few (polarity_closed (members basis)) (flat_map (row_0_at z) (places z)) 16 (omega (arith, all, small.steps))
 
 -- The constraints are few enough for a formula.
-pub cuts-few : (w : Words) (basis : ℕ) (z : Sizes) (steps : List StepSlots) → IsSmall z → w.n ≤ 6 → length steps ≤ 16 → slot_count steps ≤ 16000 → length (cuts w basis z steps) ≤ 600000000
+pub cuts-few : (w : Words) (basis : ℕ) (z : Sizes) (steps : List StepSlots) → IsSmall z → w.n ≤ most_inputs →
+    length steps ≤ most_steps → slot_count steps ≤ 16000 → length (cuts w basis z steps) ≤ 600000000
 unfolding cuts not_trivial no_reapplication
 cuts-few w basis z steps small inputs few slots =
     rw (length-append, length-append, length-append, length-append, length-append)
@@ -170,6 +172,6 @@ cuts-few w basis z steps small inputs few slots =
     ))
 
 -- the clauses that define chains and the constraints together
-pub both-few : (w : Words) (basis : ℕ) (z : Sizes) (steps : List StepSlots) → IsSmall z → w.n ≤ 6 → length steps ≤ 16 →
+pub both-few : (w : Words) (basis : ℕ) (z : Sizes) (steps : List StepSlots) → IsSmall z → w.n ≤ most_inputs → length steps ≤ most_steps →
     slot_count steps ≤ 16000 → length (common w basis z steps ++ cuts w basis z steps) ≤ 610000000
 both-few w basis z steps small inputs few slots = rw length-append (omega (arith, common-few w basis z steps small few slots, cuts-few w basis z steps small inputs few slots))

@@ -3,7 +3,7 @@ ghost use Rattle.std.specs.Prelude.{◌≡◌, ◌≤◌, ◌<◌, ◌++◌, [],
 ghost use Rattle.std.specs.List.{flat_map};
 ghost use Rattle.enc_theory.specs.Cuts.{may_exchange as may_exchange_of, reader_without, readers_without};
 ghost use Rattle.enc_theory.specs.Cuts.{exchange_slot, exchange_steps, exchange_pair, exchange_with, exchange};
-ghost use Rattle.clause_core.specs.Clauses.{IsWithin};
+ghost use Rattle.clause_core.specs.Clauses.{Appends, IsWithin};
 ghost use Rattle.enc_cuts.specs.Vars.{HasVar, HaveVars};
 
 use crate::slots::reads_without;
@@ -63,10 +63,7 @@ fn push_exchange_slot(
 ) -> Result<(), AllocError>
     requires slot { HasVar list.old.vars slot }
     requires before { All (IsWithin list.old.vars) before.now }
-    ensures { OnOk result (list.new ≡ record list.old {
-      clauses = list.old.clauses ++
-          exchange_slot p q before.now slot;
-    }) }
+    ensures { OnOk result (Appends list.old list.new (exchange_slot p q before.now slot)) }
 {
     if !reads_without(q, p, slot) {
         return Ok(());
@@ -88,10 +85,7 @@ fn push_exchange_slots(
 ) -> Result<(), AllocError>
     requires slots { All (HasVar list.old.vars) slots.now }
     requires before { All (IsWithin list.old.vars) before.now }
-    ensures { OnOk result (list.new ≡ record list.old {
-      clauses = list.old.clauses ++
-          flat_map (exchange_slot p q before.now) slots.now;
-    }) }
+    ensures { OnOk result (Appends list.old list.new (flat_map (exchange_slot p q before.now) slots.now)) }
 {
     for slot in slots {
         push_exchange_slot(alloc, list, p, q, before, *slot)?;
@@ -109,10 +103,7 @@ fn push_exchange_steps(
     steps: &[StepSlots],
 ) -> Result<(), AllocError>
     requires slots { All (HaveVars list.old.vars) steps.now }
-    ensures { OnOk result (list.new ≡ record list.old {
-      clauses = list.old.clauses ++
-          exchange_steps p q [] steps.now;
-    }) }
+    ensures { OnOk result (Appends list.old list.new (exchange_steps p q [] steps.now)) }
 {
     let mut before = Vec::new(alloc);
     let mut left = steps;
@@ -136,10 +127,7 @@ fn push_exchange_pair(
 ) -> Result<(), AllocError>
     requires inputs { (1 ≤ p) × (p < q) × (q ≤ spec.now.n) }
     requires slots { All (HaveVars list.old.vars) steps.now }
-    ensures { OnOk result (list.new ≡ record list.old {
-      clauses = list.old.clauses ++
-          exchange_pair spec.now steps.now p q;
-    }) }
+    ensures { OnOk result (Appends list.old list.new (exchange_pair spec.now steps.now p q)) }
 {
     if may_exchange(spec, p, q) {
         return push_exchange_steps(alloc, list, p, q, steps);
@@ -158,10 +146,7 @@ fn push_exchange_with(
 ) -> Result<(), AllocError>
     requires input { (1 ≤ p) × (p ≤ spec.now.n) }
     requires slots { All (HaveVars list.old.vars) steps.now }
-    ensures { OnOk result (list.new ≡ record list.old {
-      clauses = list.old.clauses ++
-          exchange_with spec.now steps.now p;
-    }) }
+    ensures { OnOk result (Appends list.old list.new (exchange_with spec.now steps.now p)) }
 {
     let n = spec.n();
     for q in p + 1..n + 1 {
@@ -179,7 +164,7 @@ pub(crate) fn push_exchange(
     steps: &[StepSlots],
 ) -> Result<(), AllocError>
     requires slots { All (HaveVars list.old.vars) steps.now }
-    ensures { OnOk result (list.new ≡ record list.old { clauses = list.old.clauses ++ exchange spec.now steps.now }) }
+    ensures { OnOk result (Appends list.old list.new (exchange spec.now steps.now)) }
 {
     for p in 1..spec.n() + 1 {
         push_exchange_with(alloc, list, spec, p, steps)?;

@@ -1,6 +1,7 @@
 //! The formula of an encoding by pairs with symmetry-breaking constraints.
 ghost use Rattle.std.specs.Prelude.{◌≡◌, ◌≤◌, IfOk};
 ghost use Rattle.enc_cuts.specs.Formula.{with_cuts};
+ghost use Rattle.chain_theory.specs.Limits.{most_steps};
 
 use crate::push_cuts;
 use clause_core::ClauseList;
@@ -20,7 +21,7 @@ pub fn formula_with_cuts<P: Pairs>(
     r: u32,
     pairs: &P,
 ) -> Result<Cnf, AllocError>
-    requires { r ≤ 16 }
+    requires { r ≤ most_steps }
     ensures { IfOk result (λ cnf. cnf ≡ with_cuts (P.pairs_of pairs.now) spec.now basis r) }
 {
     let live = live_spec(alloc, spec)?;

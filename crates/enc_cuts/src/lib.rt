@@ -23,7 +23,8 @@
 //! | a step that drives no output is 0 on row 0 | normal functions |
 #![tactic(auto)]
 
-ghost use Rattle.std.specs.Prelude.{◌≡◌, ◌++◌, All, OnOk};
+ghost use Rattle.std.specs.Prelude.{All, OnOk};
+ghost use Rattle.clause_core.specs.Clauses.{Appends};
 ghost use Rattle.enc_theory.specs.Cuts.{cuts as cuts_of};
 ghost use Rattle.enc_frame.specs.Room.{HasRoom, HasSlots, AreFor};
 
@@ -67,10 +68,7 @@ pub fn push_cuts(
     requires room { HasRoom z list.old.vars }
     requires tables { AreFor z spec.now }
     requires slots { All (HasSlots z list.old.vars) steps.now }
-    ensures { OnOk result (list.new ≡ record list.old {
-      clauses = list.old.clauses ++
-          cuts_of spec.now basis z steps.now;
-    }) }
+    ensures { OnOk result (Appends list.old list.new (cuts_of spec.now basis z steps.now)) }
 {
     push_used(alloc, list, z, steps)?;
     push_not_trivial(alloc, list, basis, z, steps)?;

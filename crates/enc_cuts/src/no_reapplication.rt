@@ -1,6 +1,7 @@
 //! No re-application: no step combines a step with one of that step's operands.
 ghost use Rattle.std.specs.Prelude.{◌≡◌, ◌++◌, [], ◌∷◌, All, IfOk, OnOk, if◌then◌else◌};
 ghost use Rattle.std.specs.List.{flat_map};
+ghost use Rattle.clause_core.specs.Clauses.{Appends};
 ghost use Rattle.enc_theory.specs.Cuts.{is_reapplication as is_reapplication_of, no_reapplication_pair};
 ghost use Rattle.enc_theory.specs.Cuts.{no_reapplication_slot, has_place, reading as reading_of};
 ghost use Rattle.enc_theory.specs.Cuts.{no_reapplication_later, no_reapplication_all, no_reapplication};
@@ -32,10 +33,7 @@ fn push_no_reapplication_pair(
 ) -> Result<(), AllocError>
     requires first { HasVar list.old.vars u }
     requires second { HasVar list.old.vars v }
-    ensures { OnOk result (list.new ≡ record list.old {
-      clauses = list.old.clauses ++
-          no_reapplication_pair place u v;
-    }) }
+    ensures { OnOk result (Appends list.old list.new (no_reapplication_pair place u v)) }
 {
     if is_reapplication(place, u, v) {
         return push_not_both(alloc, list, u, v);
@@ -54,10 +52,7 @@ fn push_no_reapplication_slot(
 ) -> Result<(), AllocError>
     requires first { HasVar list.old.vars u }
     requires reading { All (HasVar list.old.vars) reading.now }
-    ensures { OnOk result (list.new ≡ record list.old {
-      clauses = list.old.clauses ++
-          no_reapplication_slot place reading.now u;
-    }) }
+    ensures { OnOk result (Appends list.old list.new (no_reapplication_slot place reading.now u)) }
 {
     for v in reading {
         push_no_reapplication_pair(alloc, list, place, u, *v)?;
@@ -76,10 +71,7 @@ fn push_no_reapplication_slots(
 ) -> Result<(), AllocError>
     requires slots { All (HasVar list.old.vars) slots.now }
     requires reading { All (HasVar list.old.vars) reading.now }
-    ensures { OnOk result (list.new ≡ record list.old {
-      clauses = list.old.clauses ++
-          flat_map (no_reapplication_slot place reading.now) slots.now;
-    }) }
+    ensures { OnOk result (Appends list.old list.new (flat_map (no_reapplication_slot place reading.now) slots.now)) }
 {
     for u in slots {
         push_no_reapplication_slot(alloc, list, place, *u, reading)?;
@@ -121,10 +113,7 @@ fn push_no_reapplication_later(
 ) -> Result<(), AllocError>
     requires step { HaveVars list.old.vars step.now }
     requires later { HaveVars list.old.vars later.now }
-    ensures { OnOk result (list.new ≡ record list.old {
-      clauses = list.old.clauses ++
-          no_reapplication_later step.now later.now;
-    }) }
+    ensures { OnOk result (Appends list.old list.new (no_reapplication_later step.now later.now)) }
 {
     let reading = reading(alloc, step.place(), later.slots())?;
     push_no_reapplication_slots(alloc, list, step.place(), step.slots(), &reading)
@@ -140,10 +129,7 @@ fn push_no_reapplication_by(
 ) -> Result<(), AllocError>
     requires step { HaveVars list.old.vars step.now }
     requires later { All (HaveVars list.old.vars) later.now }
-    ensures { OnOk result (list.new ≡ record list.old {
-      clauses = list.old.clauses ++
-          flat_map (no_reapplication_later step.now) later.now;
-    }) }
+    ensures { OnOk result (Appends list.old list.new (flat_map (no_reapplication_later step.now) later.now)) }
 {
     for other in later {
         push_no_reapplication_later(alloc, list, step, other)?;
@@ -159,7 +145,7 @@ fn push_no_reapplication_all(
     steps: &[StepSlots],
 ) -> Result<(), AllocError>
     requires slots { All (HaveVars list.old.vars) steps.now }
-    ensures { OnOk result (list.new ≡ record list.old { clauses = list.old.clauses ++ no_reapplication_all steps.now }) }
+    ensures { OnOk result (Appends list.old list.new (no_reapplication_all steps.now)) }
 {
     let mut left = steps;
     while let Some((step, later)) = left.split_first() {
@@ -178,10 +164,7 @@ pub(crate) fn push_no_reapplication(
     steps: &[StepSlots],
 ) -> Result<(), AllocError>
     requires slots { All (HaveVars list.old.vars) steps.now }
-    ensures { OnOk result (list.new ≡ record list.old {
-      clauses = list.old.clauses ++
-          no_reapplication basis steps.now;
-    }) }
+    ensures { OnOk result (Appends list.old list.new (no_reapplication basis steps.now)) }
 {
     if basis.reapply_closed() {
         return push_no_reapplication_all(alloc, list, steps);

@@ -1,6 +1,7 @@
 //! Co-lexicographic order: the pairs of consecutive steps never decrease.
-ghost use Rattle.std.specs.Prelude.{◌≡◌, ◌++◌, All, OnOk};
+ghost use Rattle.std.specs.Prelude.{◌≡◌, All, OnOk};
 ghost use Rattle.std.specs.List.{flat_map};
+ghost use Rattle.clause_core.specs.Clauses.{Appends};
 ghost use Rattle.enc_theory.specs.Cuts.{larger as larger_of, smaller as smaller_of, comes_before as comes_before_of};
 ghost use Rattle.enc_theory.specs.Cuts.{order_pair, order_slot, order_with, order};
 ghost use Rattle.enc_cuts.specs.Vars.{HasVar, HaveVars};
@@ -42,7 +43,7 @@ fn comes_before(u: Slot, v: Slot) -> bool
 fn push_order_pair(alloc: Global, list: &mut ClauseList, u: Slot, v: Slot) -> Result<(), AllocError>
     requires first { HasVar list.old.vars u }
     requires second { HasVar list.old.vars v }
-    ensures { OnOk result (list.new ≡ record list.old { clauses = list.old.clauses ++ order_pair u v }) }
+    ensures { OnOk result (Appends list.old list.new (order_pair u v)) }
 {
     if comes_before(v, u) {
         return push_not_both(alloc, list, u, v);
@@ -60,7 +61,7 @@ fn push_order_slot(
 ) -> Result<(), AllocError>
     requires first { HasVar list.old.vars u }
     requires next { All (HasVar list.old.vars) next.now }
-    ensures { OnOk result (list.new ≡ record list.old { clauses = list.old.clauses ++ order_slot next.now u }) }
+    ensures { OnOk result (Appends list.old list.new (order_slot next.now u)) }
 {
     for v in next {
         push_order_pair(alloc, list, u, *v)?;
@@ -78,10 +79,7 @@ fn push_order_slots(
 ) -> Result<(), AllocError>
     requires slots { All (HasVar list.old.vars) slots.now }
     requires next { All (HasVar list.old.vars) next.now }
-    ensures { OnOk result (list.new ≡ record list.old {
-      clauses = list.old.clauses ++
-          flat_map (order_slot next.now) slots.now;
-    }) }
+    ensures { OnOk result (Appends list.old list.new (flat_map (order_slot next.now) slots.now)) }
 {
     for u in slots {
         push_order_slot(alloc, list, *u, next)?;
@@ -99,7 +97,7 @@ fn push_order_with(
 ) -> Result<(), AllocError>
     requires step { HaveVars list.old.vars step.now }
     requires later { All (HaveVars list.old.vars) later.now }
-    ensures { OnOk result (list.new ≡ record list.old { clauses = list.old.clauses ++ order_with step.now later.now }) }
+    ensures { OnOk result (Appends list.old list.new (order_with step.now later.now)) }
 {
     match later.first() {
         None => Ok(()),
@@ -115,7 +113,7 @@ pub(crate) fn push_order(
     steps: &[StepSlots],
 ) -> Result<(), AllocError>
     requires slots { All (HaveVars list.old.vars) steps.now }
-    ensures { OnOk result (list.new ≡ record list.old { clauses = list.old.clauses ++ order steps.now }) }
+    ensures { OnOk result (Appends list.old list.new (order steps.now)) }
 {
     let mut left = steps;
     while let Some((step, later)) = left.split_first() {

@@ -1,6 +1,7 @@
 //! Normal steps: a step that drives no output is 0 on row 0.
-ghost use Rattle.std.specs.Prelude.{◌≡◌, ◌++◌, OnOk};
+ghost use Rattle.std.specs.Prelude.{OnOk};
 ghost use Rattle.std.specs.List.{flat_map};
+ghost use Rattle.clause_core.specs.Clauses.{Appends};
 ghost use Rattle.enc_theory.specs.Numbering.{places};
 ghost use Rattle.enc_theory.specs.Cuts.{row_0_at, row_0};
 ghost use Rattle.enc_frame.specs.Room.{HasRoom, IsPlace};
@@ -17,7 +18,7 @@ use std::alloc::{AllocError, Global};
 fn push_row_0_at(alloc: Global, list: &mut ClauseList, z: Sizes, i: u32) -> Result<(), AllocError>
     requires room { HasRoom z list.old.vars }
     requires place { IsPlace z i }
-    ensures { OnOk result (list.new ≡ record list.old { clauses = list.old.clauses ++ row_0_at z i }) }
+    ensures { OnOk result (Appends list.old list.new (row_0_at z i)) }
 {
     let mut raws = vec![in alloc; x_is(z, i, 0, false)]?;
     push_drivers(&mut raws, z, i)?;
@@ -28,10 +29,7 @@ fn push_row_0_at(alloc: Global, list: &mut ClauseList, z: Sizes, i: u32) -> Resu
 #[tactic(auto, using(clause_core::specs::RangeLaws::loops))]
 fn push_rows_0(alloc: Global, list: &mut ClauseList, z: Sizes) -> Result<(), AllocError>
     requires room { HasRoom z list.old.vars }
-    ensures { OnOk result (list.new ≡ record list.old {
-      clauses = list.old.clauses ++
-          flat_map (row_0_at z) (places z);
-    }) }
+    ensures { OnOk result (Appends list.old list.new (flat_map (row_0_at z) (places z))) }
 {
     for i in z.n + 1..z.n + 1 + z.r {
         push_row_0_at(alloc, list, z, i)?;
@@ -48,7 +46,7 @@ pub fn push_row_0(
     z: Sizes,
 ) -> Result<(), AllocError>
     requires { HasRoom z list.old.vars }
-    ensures { OnOk result (list.new ≡ record list.old { clauses = list.old.clauses ++ row_0 basis z }) }
+    ensures { OnOk result (Appends list.old list.new (row_0 basis z)) }
 {
     if basis.polarity_closed() {
         return push_rows_0(alloc, list, z);

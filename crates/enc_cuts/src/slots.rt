@@ -1,5 +1,6 @@
 //! Tests of pairs for the constraints, and literals made from pairs.
 ghost use Rattle.std.specs.Prelude.{◌≡◌, ◌++◌, map, OnOk};
+ghost use Rattle.clause_core.specs.Clauses.{Appends};
 ghost use Rattle.enc_theory.specs.Numbering.{outputs};
 ghost use Rattle.enc_theory.specs.Cuts.{drives, reads as reads_of, reads_without as reads_without_of, not_both};
 ghost use Rattle.enc_cuts.specs.Vars.{HasVar};
@@ -47,7 +48,7 @@ pub(crate) fn push_not_both(
 ) -> Result<(), AllocError>
     requires first { HasVar list.old.vars u }
     requires second { HasVar list.old.vars v }
-    ensures { OnOk result (list.new ≡ record list.old { clauses = list.old.clauses ++ not_both u v }) }
+    ensures { OnOk result (Appends list.old list.new (not_both u v)) }
 {
     list.push(
         alloc,

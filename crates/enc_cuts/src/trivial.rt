@@ -2,6 +2,7 @@
 ghost use Rattle.std.specs.Prelude.{◌≡◌, ◌<◌, ◌++◌, All, OnOk};
 ghost use Rattle.op_basis.specs.Closed.{const_closed};
 ghost use Rattle.std.specs.List.{flat_map};
+ghost use Rattle.clause_core.specs.Clauses.{Appends};
 ghost use Rattle.enc_theory.specs.Families.{operator_raw};
 ghost use Rattle.enc_theory.specs.Cuts.{other_operator, not_idle, equal_raw, equal_slot, equal_pair, negation_raw};
 ghost use Rattle.enc_theory.specs.Cuts.{negations, not_trivial_at, not_trivial};
@@ -39,7 +40,7 @@ fn push_other_operator(
 ) -> Result<(), AllocError>
     requires room { HasRoom z list.old.vars }
     requires place { IsPlace z i }
-    ensures { OnOk result (list.new ≡ record list.old { clauses = list.old.clauses ++ other_operator basis z i op }) }
+    ensures { OnOk result (Appends list.old list.new (other_operator basis z i op)) }
 {
     if !basis.contains(op) {
         return Ok(());
@@ -61,7 +62,7 @@ pub fn push_not_idle(
 ) -> Result<(), AllocError>
     requires room { HasRoom z list.old.vars }
     requires place { IsPlace z i }
-    ensures { OnOk result (list.new ≡ record list.old { clauses = list.old.clauses ++ not_idle constants basis z i }) }
+    ensures { OnOk result (Appends list.old list.new (not_idle constants basis z i)) }
 {
     if !constants {
         push_other_operator(alloc, list, basis, z, i, Op::new(3))?;
@@ -86,7 +87,7 @@ fn push_equal(
     requires room { HasRoom z list.old.vars }
     requires place { IsPlace z i }
     requires slot { IsSlot list.old.vars i slot }
-    ensures { OnOk result (list.new ≡ record list.old { clauses = list.old.clauses ++ equal_raw constants z i slot }) }
+    ensures { OnOk result (Appends list.old list.new (equal_raw constants z i slot)) }
 {
     let no_pair = RawLit::Var(slot.var, false);
     let low = RawLit::Var(f_var(z, i, false, false), true);
@@ -111,7 +112,7 @@ fn push_equal_slot(
     requires room { HasRoom z list.old.vars }
     requires place { IsPlace z i }
     requires slot { IsSlot list.old.vars i slot }
-    ensures { OnOk result (list.new ≡ record list.old { clauses = list.old.clauses ++ equal_slot constants z i slot }) }
+    ensures { OnOk result (Appends list.old list.new (equal_slot constants z i slot)) }
 {
     if slot.j == slot.k {
         return push_equal(alloc, list, constants, z, i, slot);
@@ -155,10 +156,7 @@ fn push_negation(
 ) -> Result<(), AllocError>
     requires room { HasRoom z list.old.vars }
     requires step { HasSlots z list.old.vars step.now }
-    ensures { OnOk result (list.new ≡ record list.old {
-      clauses = list.old.clauses ++
-          negation_raw basis z step.now op;
-    }) }
+    ensures { OnOk result (Appends list.old list.new (negation_raw basis z step.now op)) }
 {
     if !basis.contains(op) {
         return Ok(());
@@ -180,7 +178,7 @@ fn push_negations(
 ) -> Result<(), AllocError>
     requires room { HasRoom z list.old.vars }
     requires step { HasSlots z list.old.vars step.now }
-    ensures { OnOk result (list.new ≡ record list.old { clauses = list.old.clauses ++ negations basis z step.now }) }
+    ensures { OnOk result (Appends list.old list.new (negations basis z step.now)) }
 {
     push_negation(alloc, list, basis, z, step, Op::new(10))?;
     push_negation(alloc, list, basis, z, step, Op::new(12))
@@ -197,10 +195,8 @@ fn push_equal_slots(
 ) -> Result<(), AllocError>
     requires room { HasRoom z list.old.vars }
     requires step { HasSlots z list.old.vars step.now }
-    ensures { OnOk result (list.new ≡ record list.old {
-      clauses = list.old.clauses ++
-          flat_map (equal_slot constants z step.now.place) step.now.slots;
-    }) }
+    ensures { OnOk result (Appends list.old list.new
+        (flat_map (equal_slot constants z step.now.place) step.now.slots)) }
 {
     for slot in step.slots() {
         push_equal_slot(alloc, list, constants, z, step.place(), *slot)?;
@@ -220,10 +216,7 @@ fn push_not_trivial_at(
 ) -> Result<(), AllocError>
     requires room { HasRoom z list.old.vars }
     requires step { HasSlots z list.old.vars step.now }
-    ensures { OnOk result (list.new ≡ record list.old {
-      clauses = list.old.clauses ++
-          not_trivial_at constants basis z step.now;
-    }) }
+    ensures { OnOk result (Appends list.old list.new (not_trivial_at constants basis z step.now)) }
 {
     push_not_idle(alloc, list, constants, basis, z, step.place())?;
     push_equal_slots(alloc, list, constants, z, step)?;
@@ -241,7 +234,7 @@ pub(crate) fn push_not_trivial(
 ) -> Result<(), AllocError>
     requires room { HasRoom z list.old.vars }
     requires slots { All (HasSlots z list.old.vars) steps.now }
-    ensures { OnOk result (list.new ≡ record list.old { clauses = list.old.clauses ++ not_trivial basis z steps.now }) }
+    ensures { OnOk result (Appends list.old list.new (not_trivial basis z steps.now)) }
 {
     let constants = basis.const_closed();
     for step in steps {

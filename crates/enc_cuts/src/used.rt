@@ -1,6 +1,7 @@
 //! All steps used: each step drives an output or is read by a later step.
 ghost use Rattle.std.specs.Prelude.{◌≡◌, ◌++◌, All, OnOk};
 ghost use Rattle.std.specs.List.{flat_map};
+ghost use Rattle.clause_core.specs.Clauses.{Appends};
 ghost use Rattle.enc_theory.specs.Cuts.{reader, readers, used_by, used};
 ghost use Rattle.enc_frame.specs.Room.{HasRoom, HasSlots};
 
@@ -60,7 +61,7 @@ fn push_used_by(
     requires room { HasRoom z list.old.vars }
     requires step { HasSlots z list.old.vars step.now }
     requires later { All (HasSlots z list.old.vars) later.now }
-    ensures { OnOk result (list.new ≡ record list.old { clauses = list.old.clauses ++ used_by z step.now later.now }) }
+    ensures { OnOk result (Appends list.old list.new (used_by z step.now later.now)) }
 {
     let mut raws = Vec::new(alloc);
     push_drivers(&mut raws, z, step.place())?;
@@ -78,7 +79,7 @@ pub(crate) fn push_used(
 ) -> Result<(), AllocError>
     requires room { HasRoom z list.old.vars }
     requires slots { All (HasSlots z list.old.vars) steps.now }
-    ensures { OnOk result (list.new ≡ record list.old { clauses = list.old.clauses ++ used z steps.now }) }
+    ensures { OnOk result (Appends list.old list.new (used z steps.now)) }
 {
     let mut left = steps;
     while let Some((step, later)) = left.split_first() {

@@ -8,6 +8,7 @@ ghost use Rattle.op_basis.specs.Basis.{members};
 ghost use Rattle.op_basis.specs.Closed.{swap_closed};
 ghost use Rattle.enc_theory.specs.Fence.{fence_decoded};
 ghost use Rattle.enc_theory.specs.Subproblems.{fence_in};
+ghost use Rattle.chain_theory.specs.Limits.{most_steps};
 
 use crate::pairs::FencePairs;
 use chain_core::Chain;
@@ -59,7 +60,7 @@ fn decode_in(
     subproblem: &Subproblem,
     assign: &Assign,
 ) -> Result<Chain, AllocError>
-    requires size { r ≤ 16 }
+    requires size { r ≤ most_steps }
     requires chain { IsSmallChain (fence_decoded spec.now basis r (fence_in subproblem.now) (bits_of assign.now)) }
     ensures { IfOk result (λ chain. chain ≡ fence_decoded spec.now basis r (fence_in subproblem.now)
         (bits_of assign.now)) }

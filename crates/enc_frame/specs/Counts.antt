@@ -18,6 +18,7 @@ use Rattle.enc_theory.specs.Families.{operator_clause, operators_at, operators, 
 use Rattle.enc_frame.specs.Room.{IsSmall}
 use Rattle.enc_frame.specs.BoundLaws.{rows_few}
 use Rattle.clause_core.specs.CountLaws.{flat_map-few, pieces-few, written-few}
+use Rattle.chain_theory.specs.Limits.{most_steps}
 
 -- ---- the families
 
@@ -103,7 +104,7 @@ operators-few basis z small =
     omega (arith, all, small.steps)
 
 -- The clauses that define chains are few enough for a formula.
-pub common-few : (w : Words) (basis : ℕ) (z : Sizes) (steps : List StepSlots) → IsSmall z → length steps ≤ 16 → slot_count steps ≤ 16000 → length (common w basis z steps) ≤ 10000000
+pub common-few : (w : Words) (basis : ℕ) (z : Sizes) (steps : List StepSlots) → IsSmall z → length steps ≤ most_steps → slot_count steps ≤ 16000 → length (common w basis z steps) ≤ 10000000
 unfolding common
 common-few w basis z steps small few slots =
     rw (length-append, length-append, length-append, length-append)

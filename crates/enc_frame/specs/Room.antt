@@ -6,12 +6,13 @@ use Rattle.enc_theory.specs.declared.data.Pair.{Pair}
 use Rattle.enc_theory.specs.declared.data.Slot.{Slot}
 use Rattle.enc_theory.specs.Numbering.{s_first}
 use Rattle.enc_theory.specs.Pairs.{StepSlots}
+use Rattle.chain_theory.specs.Limits.{most_steps, most_inputs, most_outputs}
 
 -- the bounds of the program: at most six inputs, sixteen steps and eight outputs
 pub record IsSmall (z : Sizes) : Type 0 where
-  pub inputs : z.n ≤ 6
-  pub steps : z.r ≤ 16
-  pub outputs : z.m ≤ 8
+  pub inputs : z.n ≤ most_inputs
+  pub steps : z.r ≤ most_steps
+  pub outputs : z.m ≤ most_outputs
 
 -- the variables 1 to vars include all those of values, outputs and operators
 pub record HasRoom (z : Sizes) (vars : ℕ) : Type 0 where

@@ -13,6 +13,7 @@ use tt_core::Spec;
 pub trait Encoding {
     ghost use Rattle.std.specs.Prelude.{◌≡◌, ℕ, ◌≤◌, ◌<◌, List, length, Contains, IfOk};
     ghost use Rattle.chain_theory.specs.Agreement.{Agrees, IsOver, HasChain, IsMinimum};
+    ghost use Rattle.chain_theory.specs.Limits.{most_steps};
     ghost use Rattle.op_basis.specs.Basis.{members};
     ghost use Rattle.sat_theory.specs.Formula.{Formula, Satisfies, bits_of};
     ghost use Rattle.tt_core.specs.Words.{Words, specification};
@@ -28,7 +29,7 @@ pub trait Encoding {
 
     /// The subproblems of size `r`.
     fn subproblems(&self, alloc: Global, spec: &Spec, r: u32) -> Result<Vec<Subproblem>, AllocError>
-        requires { r ≤ 16 }
+        requires { r ≤ most_steps }
         ensures { IfOk result (λ subproblems. subproblems.items ≡ subproblems_of self.now spec.now r) };
 
     /// The formula of a subproblem of size `r`.
@@ -40,7 +41,7 @@ pub trait Encoding {
         r: u32,
         subproblem: &Subproblem,
     ) -> Result<Cnf, AllocError>
-        requires size { r ≤ 16 }
+        requires size { r ≤ most_steps }
         requires operators { 0 < basis }
         requires subproblem { Contains (subproblems_of self.now spec.now r) subproblem.now }
         ensures { IfOk result (λ cnf. cnf ≡ formula_of self.now spec.now basis r subproblem.now) };
@@ -55,7 +56,7 @@ pub trait Encoding {
         subproblem: &Subproblem,
         assign: &Assign,
     ) -> Result<Chain, AllocError>
-        requires size { r ≤ 16 }
+        requires size { r ≤ most_steps }
         requires operators { 0 < basis }
         requires subproblem { Contains (subproblems_of self.now spec.now r) subproblem.now }
         requires satisfied { Satisfies (bits_of assign.now) (formula_of self.now spec.now basis r subproblem.now) }

@@ -1,5 +1,6 @@
 //! The clauses that define chains.
-ghost use Rattle.std.specs.Prelude.{◌≡◌, ◌+◌, ◌^◌, ◌<◌, ◌≤◌, ◌++◌, All, OnOk};
+ghost use Rattle.std.specs.Prelude.{◌+◌, ◌^◌, ◌<◌, ◌≤◌, All, OnOk};
+ghost use Rattle.clause_core.specs.Clauses.{Appends};
 ghost use Rattle.enc_theory.specs.Families.{out_exists_at, out_exists, out_value_is, out_value, out_values_of};
 ghost use Rattle.enc_theory.specs.Families.{out_values_at, out_values, pair_exists_at, pair_exists, operator_raw};
 ghost use Rattle.enc_theory.specs.Families.{operator_clause, operators_at, operators, common};
@@ -24,7 +25,7 @@ fn push_out_exists_at(
 ) -> Result<(), AllocError>
     requires room { HasRoom z list.old.vars }
     requires output { (1 ≤ h) × (h ≤ z.m) }
-    ensures { OnOk result (list.new ≡ record list.old { clauses = list.old.clauses ++ out_exists_at z h }) }
+    ensures { OnOk result (Appends list.old list.new (out_exists_at z h)) }
 {
     let mut raws = Vec::new(alloc);
     for i in z.n + 1..z.n + 1 + z.r {
@@ -37,7 +38,7 @@ fn push_out_exists_at(
 #[tactic(auto, using(clause_core::specs::RangeLaws::loops), unfolding(enc_theory::specs::Families::out_exists))]
 pub fn push_out_exists(alloc: Global, list: &mut ClauseList, z: Sizes) -> Result<(), AllocError>
     requires { HasRoom z list.old.vars }
-    ensures { OnOk result (list.new ≡ record list.old { clauses = list.old.clauses ++ out_exists z }) }
+    ensures { OnOk result (Appends list.old list.new (out_exists z)) }
 {
     for h in 1..z.m + 1 {
         push_out_exists_at(alloc, list, z, h)?;
@@ -60,7 +61,7 @@ fn push_out_value_is(
     requires output { (1 ≤ h) × (h ≤ z.m) }
     requires place { IsPlace z i }
     requires row { t < 2 ^ z.n }
-    ensures { OnOk result (list.new ≡ record list.old { clauses = list.old.clauses ++ out_value_is z h i t bit }) }
+    ensures { OnOk result (Appends list.old list.new (out_value_is z h i t bit)) }
 {
     list.push(
         alloc,
@@ -84,7 +85,7 @@ fn push_out_value(
     requires output { (1 ≤ h) × (h ≤ z.m) }
     requires place { IsPlace z i }
     requires row { t < 2 ^ z.n }
-    ensures { OnOk result (list.new ≡ record list.old { clauses = list.old.clauses ++ out_value spec.now z h i t }) }
+    ensures { OnOk result (Appends list.old list.new (out_value spec.now z h i t)) }
 {
     match row(spec, h, t) {
         Cell::Free => Ok(()),
@@ -107,7 +108,7 @@ fn push_out_values_of(
     requires tables { AreFor z spec.now }
     requires output { (1 ≤ h) × (h ≤ z.m) }
     requires place { IsPlace z i }
-    ensures { OnOk result (list.new ≡ record list.old { clauses = list.old.clauses ++ out_values_of spec.now z h i }) }
+    ensures { OnOk result (Appends list.old list.new (out_values_of spec.now z h i)) }
 {
     for t in 0..rows(z) {
         push_out_value(alloc, list, spec, z, h, i, t)?;
@@ -127,7 +128,7 @@ fn push_out_values_at(
     requires room { HasRoom z list.old.vars }
     requires tables { AreFor z spec.now }
     requires output { (1 ≤ h) × (h ≤ z.m) }
-    ensures { OnOk result (list.new ≡ record list.old { clauses = list.old.clauses ++ out_values_at spec.now z h }) }
+    ensures { OnOk result (Appends list.old list.new (out_values_at spec.now z h)) }
 {
     for i in z.n + 1..z.n + 1 + z.r {
         push_out_values_of(alloc, list, spec, z, h, i)?;
@@ -145,7 +146,7 @@ pub fn push_out_values(
 ) -> Result<(), AllocError>
     requires room { HasRoom z list.old.vars }
     requires tables { AreFor z spec.now }
-    ensures { OnOk result (list.new ≡ record list.old { clauses = list.old.clauses ++ out_values spec.now z }) }
+    ensures { OnOk result (Appends list.old list.new (out_values spec.now z)) }
 {
     for h in 1..z.m + 1 {
         push_out_values_at(alloc, list, spec, z, h)?;
@@ -163,7 +164,7 @@ fn push_pair_exists_at(
 ) -> Result<(), AllocError>
     requires room { HasRoom z list.old.vars }
     requires slots { HasSlots z list.old.vars step.now }
-    ensures { OnOk result (list.new ≡ record list.old { clauses = list.old.clauses ++ pair_exists_at step.now }) }
+    ensures { OnOk result (Appends list.old list.new (pair_exists_at step.now)) }
 {
     let mut raws = Vec::new(alloc);
     for slot in step.slots() {
@@ -182,7 +183,7 @@ fn push_pair_exists(
 ) -> Result<(), AllocError>
     requires room { HasRoom z list.old.vars }
     requires slots { All (HasSlots z list.old.vars) steps.now }
-    ensures { OnOk result (list.new ≡ record list.old { clauses = list.old.clauses ++ pair_exists steps.now }) }
+    ensures { OnOk result (Appends list.old list.new (pair_exists steps.now)) }
 {
     for step in steps {
         push_pair_exists_at(alloc, list, z, step)?;
@@ -202,7 +203,7 @@ fn push_operator_clause(
 ) -> Result<(), AllocError>
     requires room { HasRoom z list.old.vars }
     requires place { IsPlace z i }
-    ensures { OnOk result (list.new ≡ record list.old { clauses = list.old.clauses ++ operator_clause basis z i op }) }
+    ensures { OnOk result (Appends list.old list.new (operator_clause basis z i op)) }
 {
     if basis.contains(op) {
         return Ok(());
@@ -229,7 +230,7 @@ fn push_operators_at(
 ) -> Result<(), AllocError>
     requires room { HasRoom z list.old.vars }
     requires place { IsPlace z i }
-    ensures { OnOk result (list.new ≡ record list.old { clauses = list.old.clauses ++ operators_at basis z i }) }
+    ensures { OnOk result (Appends list.old list.new (operators_at basis z i)) }
 {
     for word in 0..16u8 {
         push_operator_clause(alloc, list, basis, z, i, Op::new(word))?;
@@ -246,7 +247,7 @@ pub fn push_operators(
     z: Sizes,
 ) -> Result<(), AllocError>
     requires { HasRoom z list.old.vars }
-    ensures { OnOk result (list.new ≡ record list.old { clauses = list.old.clauses ++ operators basis z }) }
+    ensures { OnOk result (Appends list.old list.new (operators basis z)) }
 {
     for i in z.n + 1..z.n + 1 + z.r {
         push_operators_at(alloc, list, basis, z, i)?;
@@ -269,10 +270,7 @@ pub fn push_common(
     requires room { HasRoom z list.old.vars }
     requires tables { AreFor z spec.now }
     requires slots { All (HasSlots z list.old.vars) steps.now }
-    ensures { OnOk result (list.new ≡ record list.old {
-      clauses = list.old.clauses ++
-          common spec.now basis z steps.now;
-    }) }
+    ensures { OnOk result (Appends list.old list.new (common spec.now basis z steps.now)) }
 {
     push_out_exists(alloc, list, z)?;
     push_out_values(alloc, list, spec, z)?;

@@ -1,5 +1,6 @@
 //! The clauses that the value of a step is its operator's value at its operands' values.
 ghost use Rattle.std.specs.Prelude.{◌≡◌, ◌+◌, ◌^◌, ◌<◌, ◌≤◌, ◌++◌, true, false, All, IsTrue, OnOk};
+ghost use Rattle.clause_core.specs.Clauses.{Appends};
 ghost use Rattle.clause_core.specs.declared.raw.RawLit.TheVariants.{Fixed};
 ghost use Rattle.enc_theory.specs.Families.{value_clause, value_row, value_slot, value_step, values};
 ghost use Rattle.enc_theory.specs.Numbering.{x_is as x_is_of};
@@ -48,10 +49,7 @@ fn push_value_clause(
     requires place { IsPlace z at.step }
     requires slot { IsSlot list.old.vars at.step at.slot }
     requires row { at.row < 2 ^ z.n }
-    ensures { OnOk result (list.new ≡ record list.old {
-      clauses = list.old.clauses ++
-          value_clause z at.step at.slot at.row a b c;
-    }) }
+    ensures { OnOk result (Appends list.old list.new (value_clause z at.step at.slot at.row a b c)) }
 {
     if is_certain(z, at.slot.k, at.row, !c) {
         return Ok(());
@@ -83,10 +81,8 @@ fn push_value_half(
     requires place { IsPlace z at.step }
     requires slot { IsSlot list.old.vars at.step at.slot }
     requires row { at.row < 2 ^ z.n }
-    ensures { OnOk result (list.new ≡ record list.old {
-      clauses = list.old.clauses ++
-          (value_clause z at.step at.slot at.row a b false ++ value_clause z at.step at.slot at.row a b true);
-    }) }
+    ensures { OnOk result (Appends list.old list.new
+        (value_clause z at.step at.slot at.row a b false ++ value_clause z at.step at.slot at.row a b true)) }
 {
     if is_certain(z, at.slot.j, at.row, !b) {
         return Ok(());
@@ -107,10 +103,7 @@ fn push_value_row(
     requires place { IsPlace z at.step }
     requires slot { IsSlot list.old.vars at.step at.slot }
     requires row { at.row < 2 ^ z.n }
-    ensures { OnOk result (list.new ≡ record list.old {
-      clauses = list.old.clauses ++
-          value_row z at.step at.slot at.row;
-    }) }
+    ensures { OnOk result (Appends list.old list.new (value_row z at.step at.slot at.row)) }
 {
     push_value_half(alloc, list, z, at, false, false)?;
     push_value_half(alloc, list, z, at, false, true)?;
@@ -130,7 +123,7 @@ fn push_value_slot(
     requires room { HasRoom z list.old.vars }
     requires place { IsPlace z step }
     requires slot { IsSlot list.old.vars step slot }
-    ensures { OnOk result (list.new ≡ record list.old { clauses = list.old.clauses ++ value_slot z step slot }) }
+    ensures { OnOk result (Appends list.old list.new (value_slot z step slot)) }
 {
     for row in 0..rows(z) {
         push_value_row(alloc, list, z, ValuePosition { step, slot, row })?;
@@ -148,7 +141,7 @@ fn push_value_step(
 ) -> Result<(), AllocError>
     requires room { HasRoom z list.old.vars }
     requires slots { HasSlots z list.old.vars step.now }
-    ensures { OnOk result (list.new ≡ record list.old { clauses = list.old.clauses ++ value_step z step.now }) }
+    ensures { OnOk result (Appends list.old list.new (value_step z step.now)) }
 {
     for slot in step.slots() {
         push_value_slot(alloc, list, z, step.place(), *slot)?;
@@ -166,7 +159,7 @@ pub(crate) fn push_values(
 ) -> Result<(), AllocError>
     requires room { HasRoom z list.old.vars }
     requires slots { All (HasSlots z list.old.vars) steps.now }
-    ensures { OnOk result (list.new ≡ record list.old { clauses = list.old.clauses ++ values z steps.now }) }
+    ensures { OnOk result (Appends list.old list.new (values z steps.now)) }
 {
     for step in steps {
         push_value_step(alloc, list, z, step)?;

@@ -4,6 +4,7 @@ ghost use Rattle.enc_theory.specs.Numbering.{sizes_of, x_var as x_var_of, g_var 
 ghost use Rattle.enc_theory.specs.Numbering.{f_var as f_var_of, s_first as s_first_of, x_is as x_is_of};
 ghost use Rattle.enc_frame.specs.Room.{IsSmall, HasRoom, IsPlace};
 ghost use Rattle.clause_core.specs.Clauses.{IsWithin};
+ghost use Rattle.chain_theory.specs.Limits.{most_steps};
 
 use chain_theory::plain::input;
 use clause_core::RawLit;
@@ -12,7 +13,7 @@ use tt_core::Spec;
 
 /// The sizes of the formula for the tables with `r` steps.
 pub fn sizes(spec: &Spec, r: u32) -> Sizes
-    requires { r ≤ 16 }
+    requires { r ≤ most_steps }
     ensures value { result ≡ sizes_of spec.now r }
     ensures small { IsSmall result }
 {

@@ -56,7 +56,12 @@ unless-few false clauses k few = few
 operands-few : (z : Sizes) → IsSmall z → length (operands_exist z) ≤ 32
 unfolding operands_exist choices_exist choice_exists
 operands-few z small =
-    let all = all_steps-few (choices_exist z) 2 z small (λ i low. rw length-append (omega (arith, written-few (map (chooses z First i) (below i)), written-few (map (chooses z Second i) (below i))))) in
+    let all = all_steps-few (choices_exist z) 2 z small (λ i low.
+    rw length-append (omega (
+      arith,
+      written-few (map (chooses z First i) (below i)),
+      written-few (map (chooses z Second i) (below i)),
+    ))) in
     omega (arith, all)
 
 copy_row-few : (z : Sizes) (side : Side) (i j t : ℕ) → length (copy_row z side i j t) ≤ 2

@@ -1,7 +1,8 @@
 //! The clauses that define chains.
-ghost use Rattle.std.specs.Prelude.{◌≡◌, ◌+◌, ◌^◌, ◌<◌, ◌≤◌, ◌++◌, OnOk};
-ghost use Rattle.clause_core.specs.Clauses.{written};
-ghost use Rattle.enc_theory.specs.Select.{choice_exists, choices_exist, operands_exist, copy_raw, copy_row, copy_place};
+ghost use Rattle.std.specs.Prelude.{◌+◌, ◌^◌, ◌<◌, ◌≤◌, OnOk};
+ghost use Rattle.clause_core.specs.Clauses.{Appends, written};
+ghost use Rattle.enc_theory.specs.Select.{choice_exists, choices_exist, operands_exist, copy_raw, copy_row};
+ghost use Rattle.enc_theory.specs.Select.{copy_place};
 ghost use Rattle.enc_theory.specs.Select.{copy_step, copies, result_clause, result_bit, result_row, result_step};
 ghost use Rattle.enc_theory.specs.Select.{results, chosen_chain};
 ghost use Rattle.enc_frame.specs.Room.{IsPlace, AreFor};
@@ -26,7 +27,7 @@ fn push_choice_exists(
 ) -> Result<(), AllocError>
     requires room { HasChoices z list.old.vars }
     requires place { IsPlace z i }
-    ensures { OnOk result (list.new ≡ record list.old { clauses = list.old.clauses ++ choice_exists z i side }) }
+    ensures { OnOk result (Appends list.old list.new (choice_exists z i side)) }
 {
     let mut raws = Vec::new(alloc);
     for j in 1..i {
@@ -39,7 +40,7 @@ fn push_choice_exists(
 #[tactic(auto, using(crate::proofs::Ranges::loops), unfolding(enc_theory::specs::Select::operands_exist, enc_theory::specs::Select::choices_exist))]
 fn push_operands_exist(alloc: Global, list: &mut ClauseList, z: Sizes) -> Result<(), AllocError>
     requires { HasChoices z list.old.vars }
-    ensures { OnOk result (list.new ≡ record list.old { clauses = list.old.clauses ++ operands_exist z }) }
+    ensures { OnOk result (Appends list.old list.new (operands_exist z)) }
 {
     for i in z.n + 1..z.n + 1 + z.r {
         push_choice_exists(alloc, list, z, i, Side::First)?;
@@ -70,10 +71,7 @@ fn push_copy(
     requires place { IsPlace z at.step }
     requires operand { (1 ≤ at.place) × (at.place < at.step) }
     requires row { at.row < 2 ^ z.n }
-    ensures { OnOk result (list.new ≡ record list.old {
-      clauses = list.old.clauses ++
-          written (copy_raw z at.side at.step at.place at.row bit);
-    }) }
+    ensures { OnOk result (Appends list.old list.new (written (copy_raw z at.side at.step at.place at.row bit))) }
 {
     list.push(
         alloc,
@@ -97,10 +95,7 @@ fn push_copy_row(
     requires place { IsPlace z at.step }
     requires operand { (1 ≤ at.place) × (at.place < at.step) }
     requires row { at.row < 2 ^ z.n }
-    ensures { OnOk result (list.new ≡ record list.old {
-      clauses = list.old.clauses ++
-          copy_row z at.side at.step at.place at.row;
-    }) }
+    ensures { OnOk result (Appends list.old list.new (copy_row z at.side at.step at.place at.row)) }
 {
     push_copy(alloc, list, z, at, false)?;
     push_copy(alloc, list, z, at, true)
@@ -119,7 +114,7 @@ fn push_copy_place(
     requires room { HasChoices z list.old.vars }
     requires place { IsPlace z step }
     requires operand { (1 ≤ place) × (place < step) }
-    ensures { OnOk result (list.new ≡ record list.old { clauses = list.old.clauses ++ copy_place z side step place }) }
+    ensures { OnOk result (Appends list.old list.new (copy_place z side step place)) }
 {
     for row in 0..rows(z) {
         push_copy_row(
@@ -148,7 +143,7 @@ fn push_copy_step(
 ) -> Result<(), AllocError>
     requires room { HasChoices z list.old.vars }
     requires place { IsPlace z i }
-    ensures { OnOk result (list.new ≡ record list.old { clauses = list.old.clauses ++ copy_step z side i }) }
+    ensures { OnOk result (Appends list.old list.new (copy_step z side i)) }
 {
     for j in 1..i {
         push_copy_place(alloc, list, z, side, i, j)?;
@@ -160,7 +155,7 @@ fn push_copy_step(
 #[tactic(auto, using(crate::proofs::Ranges::loops), unfolding(enc_theory::specs::Select::copies))]
 fn push_copies(alloc: Global, list: &mut ClauseList, z: Sizes, side: Side) -> Result<(), AllocError>
     requires { HasChoices z list.old.vars }
-    ensures { OnOk result (list.new ≡ record list.old { clauses = list.old.clauses ++ copies z side }) }
+    ensures { OnOk result (Appends list.old list.new (copies z side)) }
 {
     for i in z.n + 1..z.n + 1 + z.r {
         push_copy_step(alloc, list, z, side, i)?;
@@ -184,7 +179,7 @@ fn push_result_clause(
     requires room { HasChoices z list.old.vars }
     requires place { IsPlace z i }
     requires row { t < 2 ^ z.n }
-    ensures { OnOk result (list.new ≡ record list.old { clauses = list.old.clauses ++ result_clause z i t a b c }) }
+    ensures { OnOk result (Appends list.old list.new (result_clause z i t a b c)) }
 {
     list.push(
         alloc,
@@ -210,7 +205,7 @@ fn push_result_bit(
     requires room { HasChoices z list.old.vars }
     requires place { IsPlace z i }
     requires row { t < 2 ^ z.n }
-    ensures { OnOk result (list.new ≡ record list.old { clauses = list.old.clauses ++ result_bit z i t a }) }
+    ensures { OnOk result (Appends list.old list.new (result_bit z i t a)) }
 {
     push_result_clause(alloc, list, z, i, t, a, false, false)?;
     push_result_clause(alloc, list, z, i, t, a, false, true)?;
@@ -228,7 +223,7 @@ fn push_result_step(
 ) -> Result<(), AllocError>
     requires room { HasChoices z list.old.vars }
     requires place { IsPlace z i }
-    ensures { OnOk result (list.new ≡ record list.old { clauses = list.old.clauses ++ result_step z i }) }
+    ensures { OnOk result (Appends list.old list.new (result_step z i)) }
 {
     for t in 0..rows(z) {
         push_result_bit(alloc, list, z, i, t, false)?;
@@ -241,7 +236,7 @@ fn push_result_step(
 #[tactic(auto, using(crate::proofs::Ranges::loops), unfolding(enc_theory::specs::Select::results))]
 fn push_results(alloc: Global, list: &mut ClauseList, z: Sizes) -> Result<(), AllocError>
     requires { HasChoices z list.old.vars }
-    ensures { OnOk result (list.new ≡ record list.old { clauses = list.old.clauses ++ results z }) }
+    ensures { OnOk result (Appends list.old list.new (results z)) }
 {
     for i in z.n + 1..z.n + 1 + z.r {
         push_result_step(alloc, list, z, i)?;
@@ -262,7 +257,7 @@ pub(crate) fn push_chain(
 ) -> Result<(), AllocError>
     requires room { HasChoices z list.old.vars }
     requires tables { AreFor z spec.now }
-    ensures { OnOk result (list.new ≡ record list.old { clauses = list.old.clauses ++ chosen_chain spec.now basis z }) }
+    ensures { OnOk result (Appends list.old list.new (chosen_chain spec.now basis z)) }
 {
     push_out_exists(alloc, list, z)?;
     push_out_values(alloc, list, spec, z)?;

@@ -6,6 +6,7 @@ ghost use Rattle.enc_theory.specs.Numbering.{places};
 ghost use Rattle.enc_theory.specs.Select.{below, first_choice as first_choice_of, chosen_step as chosen_step_of};
 ghost use Rattle.enc_theory.specs.Select.{select_decoded};
 ghost use Rattle.enc_frame.specs.Room.{IsSmall, IsPlace};
+ghost use Rattle.chain_theory.specs.Limits.{most_steps};
 
 use crate::vars::choice_var;
 use chain_core::{Chain, Step};
@@ -65,7 +66,7 @@ pub(crate) fn decode_chosen(
     r: u32,
     assign: &Assign,
 ) -> Result<Chain, AllocError>
-    requires size { r ≤ 16 }
+    requires size { r ≤ most_steps }
     requires chain { IsSmallChain (select_decoded spec.now r (bits_of assign.now)) }
     ensures { IfOk result (λ chain. chain ≡ select_decoded spec.now r (bits_of assign.now)) }
 {

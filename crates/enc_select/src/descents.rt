@@ -1,7 +1,8 @@
 //! Ordered operands, if the basis is closed under exchanging them: the first is at most the second, and the
 //! second operands of consecutive steps never decrease (co-lexicographic order).
-ghost use Rattle.std.specs.Prelude.{◌≡◌, ◌+◌, ◌-◌, ◌<◌, ◌≤◌, ◌++◌, OnOk};
+ghost use Rattle.std.specs.Prelude.{◌≡◌, ◌+◌, ◌-◌, ◌<◌, ◌≤◌, OnOk};
 ghost use Rattle.std.specs.List.{flat_map, range_with_len};
+ghost use Rattle.clause_core.specs.Clauses.{Appends};
 ghost use Rattle.enc_theory.specs.declared.data.Side.TheVariants.{Second};
 ghost use Rattle.enc_theory.specs.Select.{rising, falling_step, falling};
 ghost use Rattle.enc_frame.specs.Room.{IsPlace};
@@ -48,10 +49,7 @@ fn push_descent(
     requires others { IsPlace z other.step }
     requires operand { (1 ≤ k) × (k < own.step) }
     requires lower { (1 ≤ l) × (l < other.step) }
-    ensures { OnOk result (list.new ≡ record list.old {
-      clauses = list.old.clauses ++
-          descent z own.side own.step other.side other.step k l;
-    }) }
+    ensures { OnOk result (Appends list.old list.new (descent z own.side own.step other.side other.step k l)) }
 {
     list.push(
         alloc,
@@ -77,10 +75,7 @@ fn push_descents_from(
     requires others { IsPlace z other.step }
     requires order { own.step ≤ other.step }
     requires operand { (1 ≤ k) × (k < own.step) }
-    ensures { OnOk result (list.new ≡ record list.old {
-      clauses = list.old.clauses ++
-          descents_from z own.side own.step other.side other.step k;
-    }) }
+    ensures { OnOk result (Appends list.old list.new (descents_from z own.side own.step other.side other.step k)) }
 {
     for l in 1..k {
         push_descent(alloc, list, z, own, other, k, l)?;
@@ -101,10 +96,7 @@ fn push_descents(
     requires places { IsPlace z own.step }
     requires others { IsPlace z other.step }
     requires order { own.step ≤ other.step }
-    ensures { OnOk result (list.new ≡ record list.old {
-      clauses = list.old.clauses ++
-          descents z own.side own.step other.side other.step;
-    }) }
+    ensures { OnOk result (Appends list.old list.new (descents z own.side own.step other.side other.step)) }
 {
     for k in 1..own.step {
         push_descents_from(alloc, list, z, own, other, k)?;
@@ -122,7 +114,7 @@ pub(crate) fn push_rising(
     z: Sizes,
 ) -> Result<(), AllocError>
     requires { HasChoices z list.old.vars }
-    ensures { OnOk result (list.new ≡ record list.old { clauses = list.old.clauses ++ rising basis z }) }
+    ensures { OnOk result (Appends list.old list.new (rising basis z)) }
 {
     if !basis.swap_closed() {
         return Ok(());
@@ -142,10 +134,8 @@ pub(crate) fn push_rising(
 fn push_falling_steps(alloc: Global, list: &mut ClauseList, z: Sizes) -> Result<(), AllocError>
     requires room { HasChoices z list.old.vars }
     requires some { 1 ≤ z.r }
-    ensures { OnOk result (list.new ≡ record list.old {
-      clauses = list.old.clauses ++
-          flat_map (falling_step z) (range_with_len (z.n + 1) (z.r - 1));
-    }) }
+    ensures { OnOk result (Appends list.old list.new
+        (flat_map (falling_step z) (range_with_len (z.n + 1) (z.r - 1)))) }
 {
     for step in z.n + 1..z.n + z.r {
         push_descents(alloc, list, z, second_of(step), second_of(step + 1))?;
@@ -162,7 +152,7 @@ pub(crate) fn push_falling(
     z: Sizes,
 ) -> Result<(), AllocError>
     requires { HasChoices z list.old.vars }
-    ensures { OnOk result (list.new ≡ record list.old { clauses = list.old.clauses ++ falling basis z }) }
+    ensures { OnOk result (Appends list.old list.new (falling basis z)) }
 {
     if basis.swap_closed() && z.r > 0 {
         return push_falling_steps(alloc, list, z);

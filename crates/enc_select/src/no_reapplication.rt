@@ -1,7 +1,7 @@
 //! No re-application: no step combines a step with one of that step's operands.
-ghost use Rattle.std.specs.Prelude.{◌≡◌, ◌<◌, ◌≤◌, ◌++◌, OnOk};
+ghost use Rattle.std.specs.Prelude.{◌<◌, ◌≤◌, ◌++◌, OnOk};
 ghost use Rattle.std.specs.List.{flat_map};
-ghost use Rattle.clause_core.specs.Clauses.{written};
+ghost use Rattle.clause_core.specs.Clauses.{Appends, written};
 ghost use Rattle.enc_theory.specs.Numbering.{places};
 ghost use Rattle.enc_theory.specs.Select.{not_these, different, no_reapplication_operand, no_reapplication_operands};
 ghost use Rattle.enc_theory.specs.Select.{no_reapplication_from, no_reapplication_after, no_reapplication_step};
@@ -37,10 +37,8 @@ fn push_not_both(
     requires places { IsPlace z read.step × IsPlace z read.later }
     requires operands { (1 ≤ read.first) × (read.first < read.step) × (1 ≤ read.second) × (read.second < read.step) }
     requires others { (1 ≤ first) × (first < read.later) × (1 ≤ second) × (second < read.later) }
-    ensures { OnOk result (list.new ≡ record list.old {
-      clauses = list.old.clauses ++
-          written (not_these z read.step read.first read.second ++ not_these z read.later first second);
-    }) }
+    ensures { OnOk result (Appends list.old list.new
+        (written (not_these z read.step read.first read.second ++ not_these z read.later first second))) }
 {
     list.push(
         alloc,
@@ -68,10 +66,8 @@ fn push_no_reapplication_operand(
     requires places { IsPlace z read.step × IsPlace z read.later × (read.step < read.later) }
     requires operands { (1 ≤ read.first) × (read.first < read.step) × (1 ≤ read.second) × (read.second < read.step) }
     requires operand { (1 ≤ operand) × (operand < read.step) }
-    ensures { OnOk result (list.new ≡ record list.old {
-      clauses = list.old.clauses ++
-          no_reapplication_operand ordered z read.step read.later read.first read.second operand;
-    }) }
+    ensures { OnOk result (Appends list.old list.new
+        (no_reapplication_operand ordered z read.step read.later read.first read.second operand)) }
 {
     push_not_both(alloc, list, z, read, operand, read.step)?;
     if ordered {
@@ -92,11 +88,9 @@ fn push_no_reapplication_different(
     requires room { HasChoices z list.old.vars }
     requires places { IsPlace z read.step × IsPlace z read.later × (read.step < read.later) }
     requires operands { (1 ≤ read.first) × (read.first < read.step) × (1 ≤ read.second) × (read.second < read.step) }
-    ensures { OnOk result (list.new ≡ record list.old {
-      clauses = list.old.clauses ++
-          flat_map (no_reapplication_operand ordered z read.step read.later read.first read.second)
-          (different read.first read.second);
-    }) }
+    ensures { OnOk result (Appends list.old list.new
+        (flat_map (no_reapplication_operand ordered z read.step read.later read.first read.second)
+        (different read.first read.second))) }
 {
     if read.first == read.second {
         return push_no_reapplication_operand(alloc, list, ordered, z, read, read.first);
@@ -119,10 +113,8 @@ fn push_no_reapplication_operands(
     requires room { HasChoices z list.old.vars }
     requires places { IsPlace z read.step × IsPlace z read.later × (read.step < read.later) }
     requires operands { (1 ≤ read.first) × (read.first < read.step) × (1 ≤ read.second) × (read.second < read.step) }
-    ensures { OnOk result (list.new ≡ record list.old {
-      clauses = list.old.clauses ++
-          no_reapplication_operands ordered z read.step read.later read.first read.second;
-    }) }
+    ensures { OnOk result (Appends list.old list.new
+        (no_reapplication_operands ordered z read.step read.later read.first read.second)) }
 {
     if ordered && read.second < read.first {
         return Ok(());
@@ -144,10 +136,7 @@ fn push_no_reapplication_from(
     requires room { HasChoices z list.old.vars }
     requires places { IsPlace z step × IsPlace z later × (step < later) }
     requires operand { (1 ≤ first) × (first < step) }
-    ensures { OnOk result (list.new ≡ record list.old {
-      clauses = list.old.clauses ++
-          no_reapplication_from ordered z step later first;
-    }) }
+    ensures { OnOk result (Appends list.old list.new (no_reapplication_from ordered z step later first)) }
 {
     for second in 1..step {
         let read = Read {
@@ -173,10 +162,7 @@ fn push_no_reapplication_after(
 ) -> Result<(), AllocError>
     requires room { HasChoices z list.old.vars }
     requires places { IsPlace z step × IsPlace z later × (step < later) }
-    ensures { OnOk result (list.new ≡ record list.old {
-      clauses = list.old.clauses ++
-          no_reapplication_after ordered z step later;
-    }) }
+    ensures { OnOk result (Appends list.old list.new (no_reapplication_after ordered z step later)) }
 {
     for first in 1..step {
         push_no_reapplication_from(alloc, list, ordered, z, step, later, first)?;
@@ -195,10 +181,7 @@ fn push_no_reapplication_step(
 ) -> Result<(), AllocError>
     requires room { HasChoices z list.old.vars }
     requires place { IsPlace z i }
-    ensures { OnOk result (list.new ≡ record list.old {
-      clauses = list.old.clauses ++
-          no_reapplication_step ordered z i;
-    }) }
+    ensures { OnOk result (Appends list.old list.new (no_reapplication_step ordered z i)) }
 {
     for later in i + 1..z.n + 1 + z.r {
         push_no_reapplication_after(alloc, list, ordered, z, i, later)?;
@@ -215,10 +198,7 @@ fn push_no_reapplication_steps(
     z: Sizes,
 ) -> Result<(), AllocError>
     requires { HasChoices z list.old.vars }
-    ensures { OnOk result (list.new ≡ record list.old {
-      clauses = list.old.clauses ++
-          flat_map (no_reapplication_step ordered z) (places z);
-    }) }
+    ensures { OnOk result (Appends list.old list.new (flat_map (no_reapplication_step ordered z) (places z))) }
 {
     for i in z.n + 1..z.n + 1 + z.r {
         push_no_reapplication_step(alloc, list, ordered, z, i)?;
@@ -235,7 +215,7 @@ pub(crate) fn push_no_reapplication(
     z: Sizes,
 ) -> Result<(), AllocError>
     requires { HasChoices z list.old.vars }
-    ensures { OnOk result (list.new ≡ record list.old { clauses = list.old.clauses ++ no_reapplication_steps basis z }) }
+    ensures { OnOk result (Appends list.old list.new (no_reapplication_steps basis z)) }
 {
     if basis.reapply_closed() {
         return push_no_reapplication_steps(alloc, list, basis.swap_closed(), z);

@@ -1,6 +1,7 @@
 //! MSV. Its laws follow from the properties of an assignment that it shares with encodings by pairs, and from
 //! the law of minimum chains.
-ghost use Rattle.std.specs.Prelude.{◌≡◌, ◌++◌, OnOk};
+ghost use Rattle.std.specs.Prelude.{OnOk};
+ghost use Rattle.clause_core.specs.Clauses.{Appends};
 ghost use Rattle.enc_theory.specs.Select.{chosen_cuts};
 ghost use Rattle.enc_select.specs.Room.{HasChoices};
 
@@ -27,7 +28,7 @@ use tt_core::{Spec, live_spec};
 #[tactic(auto, unfolding(enc_theory::specs::Select::chosen_cuts))]
 fn push_cuts(alloc: Global, list: &mut ClauseList, basis: Basis, z: Sizes) -> Result<(), AllocError>
     requires { HasChoices z list.old.vars }
-    ensures { OnOk result (list.new ≡ record list.old { clauses = list.old.clauses ++ chosen_cuts basis z }) }
+    ensures { OnOk result (Appends list.old list.new (chosen_cuts basis z)) }
 {
     push_rising(alloc, list, basis, z)?;
     push_used(alloc, list, z)?;

@@ -1,6 +1,7 @@
 //! Non-trivial operators.
-ghost use Rattle.std.specs.Prelude.{◌≡◌, ◌<◌, ◌≤◌, ◌++◌, [], ◌∷◌, OnOk};
+ghost use Rattle.std.specs.Prelude.{◌<◌, ◌≤◌, [], ◌∷◌, OnOk};
 ghost use Rattle.std.specs.List.{flat_map};
+ghost use Rattle.clause_core.specs.Clauses.{Appends};
 ghost use Rattle.op_basis.specs.Closed.{const_closed};
 ghost use Rattle.enc_theory.specs.Select.{below, equal_choice, negation_pair, negation_from, negation_step};
 ghost use Rattle.enc_theory.specs.Select.{trivial_step, trivial_steps};
@@ -28,7 +29,7 @@ fn push_equal(
     requires room { HasChoices z list.old.vars }
     requires place { IsPlace z i }
     requires operand { (1 ≤ j) × (j < i) }
-    ensures { OnOk result (list.new ≡ record list.old { clauses = list.old.clauses ++ equal_choice constants z i j }) }
+    ensures { OnOk result (Appends list.old list.new (equal_choice constants z i j)) }
 {
     let first = choice(z, Side::First, i, j, false);
     let second = choice(z, Side::Second, i, j, false);
@@ -52,10 +53,7 @@ fn push_equals(
 ) -> Result<(), AllocError>
     requires room { HasChoices z list.old.vars }
     requires place { IsPlace z i }
-    ensures { OnOk result (list.new ≡ record list.old {
-      clauses = list.old.clauses ++
-          flat_map (equal_choice constants z i) (below i);
-    }) }
+    ensures { OnOk result (Appends list.old list.new (flat_map (equal_choice constants z i) (below i))) }
 {
     for j in 1..i {
         push_equal(alloc, list, constants, z, i, j)?;
@@ -79,7 +77,7 @@ fn push_negation_pair(
     requires place { IsPlace z i }
     requires first { (1 ≤ j) × (j < i) }
     requires second { (1 ≤ k) × (k < i) }
-    ensures { OnOk result (list.new ≡ record list.old { clauses = list.old.clauses ++ negation_pair z i op j k }) }
+    ensures { OnOk result (Appends list.old list.new (negation_pair z i op j k)) }
 {
     if j == k {
         return Ok(());
@@ -104,7 +102,7 @@ fn push_negation_from(
     requires room { HasChoices z list.old.vars }
     requires place { IsPlace z i }
     requires operand { (1 ≤ j) × (j < i) }
-    ensures { OnOk result (list.new ≡ record list.old { clauses = list.old.clauses ++ negation_from z i op j }) }
+    ensures { OnOk result (Appends list.old list.new (negation_from z i op j)) }
 {
     for k in 1..i {
         push_negation_pair(alloc, list, z, i, op, j, k)?;
@@ -123,10 +121,7 @@ fn push_negation_all(
 ) -> Result<(), AllocError>
     requires room { HasChoices z list.old.vars }
     requires place { IsPlace z i }
-    ensures { OnOk result (list.new ≡ record list.old {
-      clauses = list.old.clauses ++
-          flat_map (negation_from z i op) (below i);
-    }) }
+    ensures { OnOk result (Appends list.old list.new (flat_map (negation_from z i op) (below i))) }
 {
     for j in 1..i {
         push_negation_from(alloc, list, z, i, op, j)?;
@@ -146,7 +141,7 @@ fn push_negation(
 ) -> Result<(), AllocError>
     requires room { HasChoices z list.old.vars }
     requires place { IsPlace z i }
-    ensures { OnOk result (list.new ≡ record list.old { clauses = list.old.clauses ++ negation_step basis z i op }) }
+    ensures { OnOk result (Appends list.old list.new (negation_step basis z i op)) }
 {
     if basis.contains(op) {
         return push_negation_all(alloc, list, z, i, op);
@@ -165,10 +160,7 @@ fn push_negations(
 ) -> Result<(), AllocError>
     requires room { HasChoices z list.old.vars }
     requires place { IsPlace z i }
-    ensures { OnOk result (list.new ≡ record list.old {
-      clauses = list.old.clauses ++
-          flat_map (negation_step basis z i) (10 ∷ 12 ∷ []);
-    }) }
+    ensures { OnOk result (Appends list.old list.new (flat_map (negation_step basis z i) (10 ∷ 12 ∷ []))) }
 {
     push_negation(alloc, list, basis, z, i, Op::new(10))?;
     push_negation(alloc, list, basis, z, i, Op::new(12))
@@ -186,10 +178,7 @@ fn push_trivial_step(
 ) -> Result<(), AllocError>
     requires room { HasChoices z list.old.vars }
     requires place { IsPlace z i }
-    ensures { OnOk result (list.new ≡ record list.old {
-      clauses = list.old.clauses ++
-          trivial_step constants basis z i;
-    }) }
+    ensures { OnOk result (Appends list.old list.new (trivial_step constants basis z i)) }
 {
     push_not_idle(alloc, list, constants, basis, z, i)?;
     push_equals(alloc, list, constants, z, i)?;
@@ -205,7 +194,7 @@ pub(crate) fn push_trivial(
     z: Sizes,
 ) -> Result<(), AllocError>
     requires { HasChoices z list.old.vars }
-    ensures { OnOk result (list.new ≡ record list.old { clauses = list.old.clauses ++ trivial_steps basis z }) }
+    ensures { OnOk result (Appends list.old list.new (trivial_steps basis z)) }
 {
     let constants = basis.const_closed();
     for i in z.n + 1..z.n + 1 + z.r {

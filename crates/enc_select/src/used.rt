@@ -1,6 +1,7 @@
 //! All steps used: each step drives an output or is read by a later step.
 ghost use Rattle.std.specs.Prelude.{◌≡◌, ◌<◌, ◌≤◌, ◌++◌, OnOk};
 ghost use Rattle.std.specs.List.{flat_map};
+ghost use Rattle.clause_core.specs.Clauses.{Appends};
 ghost use Rattle.enc_theory.specs.Select.{above, choosers, used_step, used_steps};
 ghost use Rattle.enc_frame.specs.Room.{IsSmall, IsPlace};
 ghost use Rattle.enc_select.specs.Room.{HasChoices};
@@ -42,7 +43,7 @@ fn push_readers(raws: &mut Vec<RawLit>, z: Sizes, i: u32) -> Result<(), AllocErr
 fn push_used_step(alloc: Global, list: &mut ClauseList, z: Sizes, i: u32) -> Result<(), AllocError>
     requires room { HasChoices z list.old.vars }
     requires place { IsPlace z i }
-    ensures { OnOk result (list.new ≡ record list.old { clauses = list.old.clauses ++ used_step z i }) }
+    ensures { OnOk result (Appends list.old list.new (used_step z i)) }
 {
     let mut raws = Vec::new(alloc);
     push_drivers(&mut raws, z, i)?;
@@ -54,7 +55,7 @@ fn push_used_step(alloc: Global, list: &mut ClauseList, z: Sizes, i: u32) -> Res
 #[tactic(auto, using(crate::proofs::Ranges::loops), unfolding(enc_theory::specs::Select::used_steps))]
 pub(crate) fn push_used(alloc: Global, list: &mut ClauseList, z: Sizes) -> Result<(), AllocError>
     requires { HasChoices z list.old.vars }
-    ensures { OnOk result (list.new ≡ record list.old { clauses = list.old.clauses ++ used_steps z }) }
+    ensures { OnOk result (Appends list.old list.new (used_steps z)) }
 {
     for i in z.n + 1..z.n + 1 + z.r {
         push_used_step(alloc, list, z, i)?;

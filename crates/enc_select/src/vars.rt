@@ -5,6 +5,7 @@ ghost use Rattle.enc_theory.specs.Select.{operand_count as operand_count_of, cho
 ghost use Rattle.enc_theory.specs.Select.{choice_var as choice_var_of, value_first as value_first_of};
 ghost use Rattle.enc_theory.specs.Select.{value_var as value_var_of, select_vars as select_vars_of};
 ghost use Rattle.enc_frame.specs.Room.{IsSmall, HasRoom, IsPlace};
+ghost use Rattle.chain_theory.specs.Limits.{most_steps, most_inputs};
 
 use enc_frame::{rows, s_first};
 use enc_theory::{Side, Sizes};
@@ -13,7 +14,7 @@ use enc_theory::{Side, Sizes};
 /// place.
 #[tactic(auto, using(crate::proofs::Numbers::counting))]
 fn operand_count(n: u32, steps: u32) -> u32
-    requires { (n ≤ 6) × (steps ≤ 16) }
+    requires { (n ≤ most_inputs) × (steps ≤ most_steps) }
     ensures value { result ≡ operand_count_of n steps }
     ensures few { result ≤ 224 }
 {

@@ -3,6 +3,7 @@ ghost use Rattle.std.specs.Prelude.{◌≡◌, ◌≤◌, IfOk};
 ghost use Rattle.chain_core.specs.Steps.{IsSmallChain};
 ghost use Rattle.sat_theory.specs.Formula.{bits_of};
 ghost use Rattle.enc_ssv.specs.Spelled.{spelled};
+ghost use Rattle.chain_theory.specs.Limits.{most_steps};
 
 use chain_core::Chain;
 use cnf_core::Assign;
@@ -19,7 +20,7 @@ pub(crate) fn decode_pairs(
     r: u32,
     assign: &Assign,
 ) -> Result<Chain, AllocError>
-    requires size { r ≤ 16 }
+    requires size { r ≤ most_steps }
     requires chain { IsSmallChain (spelled ordered spec.now r (bits_of assign.now)) }
     ensures { IfOk result (λ chain. chain ≡ spelled ordered spec.now r (bits_of assign.now)) }
 {

@@ -6,7 +6,7 @@ use Rattle.std.proofs.lemmas.List.Elements.{All-nil, All-cons}
 use Rattle.sat_theory.specs.Formula.{Formula}
 use Rattle.clause_core.specs.declared.raw.RawLit.{RawLit}
 use Rattle.clause_core.specs.declared.raw.RawLit.TheVariants.{Fixed, Var}
-use Rattle.clause_core.specs.Clauses.{written, IsWithin}
+use Rattle.clause_core.specs.Clauses.{Appends, written, IsWithin}
 use Rattle.clause_core.specs.WrittenLaws.{IsOf, AreOf}
 use Rattle.net_theory.specs.declared.data.Sig.{Sig}
 use Rattle.net_theory.specs.declared.data.Gate.{Gate}
@@ -23,7 +23,7 @@ use Rattle.equiv_core.specs.Rows.{numbered, HasRoom, IsAdded}
 pub added_none : (f : Formula) → IsAdded f f []
 added_none f = record { vars = refl; clauses = sym (append-nil f.clauses) }
 
-pub added_one : (f g : Formula) (row : List RawLit) → g ≡ record f { clauses = f.clauses ++ written row } → IsAdded f g (row ∷ [])
+pub added_one : (f g : Formula) (row : List RawLit) → Appends f g (written row) → IsAdded f g (row ∷ [])
 added_one f g row is = record { vars = ap (λ (x : Formula). x.vars) is; clauses = ap (λ (x : Formula). x.clauses) is ∙ ap (λ (xs : List (List _)). f.clauses ++ xs) (sym (append-nil (written row))) }
 
 pub added_both : (f g h : Formula) (xs ys : List (List RawLit)) → IsAdded f g xs → IsAdded g h ys → IsAdded f h (xs ++ ys)

@@ -4,7 +4,7 @@
 ghost use Rattle.std.specs.Prelude.{◌≡◌, ◌≤◌, ◌<◌, ◌*◌, ◌^◌, ℕ, length, Err, IfOk, IfErr, IfSome, OnOk};
 ghost use Rattle.sat_theory.specs.Formula.{Formula, bits_of, Satisfies};
 ghost use Rattle.sat_theory.specs.Log.{Refutes, ReachesBudget, KeepsHalf, DeletesQuarter};
-ghost use Rattle.sat_solve.specs.Budgets.{most_budget};
+ghost use Rattle.sat_theory.specs.Limits.{most_conflicts};
 ghost use Rattle.net_theory.specs.Circuit.{IsProper};
 ghost use Rattle.net_document.specs.Equivalence.{AreEquivalentCircuits};
 ghost use Rattle.equiv_theory.specs.Miter.{miter as miter_of, variables};
@@ -134,7 +134,7 @@ fn finished<S: Solver>(
     requires comparable { AreComparable first.now second.now }
     requires small { IsSmall first.now }
     requires solver { S.IsSolverOf (miter_of first.now second.now) budget solver }
-    requires budget { (1 ≤ budget) × (budget ≤ most_budget) }
+    requires budget { (1 ≤ budget) × (budget ≤ most_conflicts) }
     ensures equal { IfOk result (λ e. IfEqual e (Refutes (miter_of first.now second.now))) }
     ensures differ { IfOk result (λ e. IfDiffer e (IsCounterexample first.now second.now)) }
     ensures undecided { IfOk result (λ e. IfUndecided e (λ lines.
@@ -166,7 +166,7 @@ pub(crate) fn compare<S: Solver>(
     requires comparable { AreComparable first.now second.now }
     requires small { IsSmall first.now }
     requires miter { cnf.now ≡ miter_of first.now second.now }
-    requires budget { (1 ≤ budget) × (budget ≤ most_budget) }
+    requires budget { (1 ≤ budget) × (budget ≤ most_conflicts) }
     ensures equal { IfOk result (λ e. IfEqual e (Refutes (miter_of first.now second.now))) }
     ensures differ { IfOk result (λ e. IfDiffer e (IsCounterexample first.now second.now)) }
     ensures undecided { IfOk result (λ e. IfUndecided e (λ lines.
@@ -204,7 +204,7 @@ pub fn equiv<S: Solver>(
     requires second { IsProper second.now }
     requires small { IsSmall first.now.net }
     requires other { IsSmall second.now.net }
-    requires budget { (1 ≤ budget) × (budget ≤ most_budget) }
+    requires budget { (1 ≤ budget) × (budget ≤ most_conflicts) }
     ensures equal { IfOk result (λ e. IfEqual e (Refutes (miter_of first.now.net second.now.net))) }
     ensures equivalent { IfOk result (λ e. IfEqual e (λ _. AreEquivalentCircuits first.now second.now)) }
     ensures differ { IfOk result (λ e. IfDiffer e (IsCounterexample first.now.net second.now.net)) }

@@ -1,6 +1,6 @@
 //! Whether two nets are equivalent: exhaustively, or by their miter without keeping its log.
 ghost use Rattle.std.specs.Prelude.{◌≡◌, ◌≤◌, ◌*◌, ◌^◌, ℕ, Bool, true, false, IfOk};
-ghost use Rattle.sat_solve.specs.Budgets.{most_budget};
+ghost use Rattle.sat_theory.specs.Limits.{most_conflicts};
 ghost use Rattle.net_theory.specs.Net.{sink_values};
 ghost use Rattle.equiv_theory.specs.Miter.{variables};
 ghost use Rattle.equiv_theory.specs.Counterexample.{AreComparable, Differ as AreDifferent};
@@ -31,7 +31,7 @@ pub fn equal_nets<S: Solver>(
 ) -> Result<bool, AllocError>
     requires comparable { AreComparable first.now second.now }
     requires small { AreSmall first.now second.now }
-    requires budget { (1 ≤ budget) × (budget ≤ most_budget) }
+    requires budget { (1 ≤ budget) × (budget ≤ most_conflicts) }
     ensures same { IfOk result (λ same. same ≡ true → (given : ℕ → Bool) →
         sink_values first.now given ≡ sink_values second.now given) }
     ensures narrow { IsNarrow first.now second.now →

@@ -1,5 +1,6 @@
 //! Simulation of two nets: the first sink at which they differ for given values of the sources.
-ghost use Rattle.std.specs.Prelude.{◌≡◌, ◌≢◌, ℕ, ◌+◌, ◌≤◌, ◌<◌, false, map, length, slice_index_or, All, IfOk, IfSome};
+ghost use Rattle.std.specs.Prelude.{◌≡◌, ◌≢◌, ℕ, ◌+◌, ◌≤◌, ◌<◌, false, map, length, slice_index_or, All, IfOk};
+ghost use Rattle.std.specs.Prelude.{IfSome};
 ghost use Rattle.std.specs.Prelude.{IfNone};
 ghost use Rattle.net_theory.specs.Net.{IsSigBelow, bit_of, sig_value, sink_values, value, end_of};
 ghost use Rattle.equiv_theory.specs.Counterexample.{AreComparable, DifferAt, DifferFirstAt};

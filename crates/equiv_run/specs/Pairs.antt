@@ -19,10 +19,6 @@ use Rattle.equiv_run.specs.declared.answer.CompareError.TheVariants.{NoSecond, F
 use Rattle.equiv_run.specs.Split.{split_of}
 use Rattle.equiv_run.specs.Texts.{equal_text, undecided_text, differ_text}
 
--- the most bytes of two netlists that are read: 32 MiB
-abbrev pub most_of_two : ℕ
-most_of_two = 33554432
-
 -- ---- two documents
 
 -- The text is a BLIF netlist, and this is its document.

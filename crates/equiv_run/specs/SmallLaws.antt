@@ -14,7 +14,7 @@ use Rattle.blif_text.specs.Statements.{Said, said_of, control_fault, unless, lis
 use Rattle.blif_text.specs.ListingLaws.{IsSaidBy, text_small, text_named}
 use Rattle.blif_core.specs.Blif.{blif_format}
 use Rattle.equiv_core.specs.Limits.{IsSmall}
-use Rattle.equiv_run.specs.Pairs.{most_of_two}
+use Rattle.net_theory.specs.Limits.{most_of_two}
 
 unless_ok : (f : Option NetError) (k l : Listed) → unless f k ≡ Ok l → k ≡ l
 unless_ok None k l e = cc

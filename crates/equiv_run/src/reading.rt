@@ -1,13 +1,14 @@
 //! Reads two netlists and compares them.
 ghost use Rattle.std.specs.Prelude.{◌≡◌, ◌≤◌, ◌<◌, ◌^◌, length, None, Err, IfOk, IfErr};
-ghost use Rattle.sat_solve.specs.Budgets.{most_budget};
+ghost use Rattle.sat_theory.specs.Limits.{most_conflicts};
 ghost use Rattle.net_theory.specs.Circuit.{IsProper};
 ghost use Rattle.net_document.specs.Format.{IsCircuitOfText};
 ghost use Rattle.blif_core.specs.Blif.{blif_format};
 ghost use Rattle.equiv_core.specs.Limits.{IsSmall};
 ghost use Rattle.equiv_run.specs.declared.answer.CompareError.TheVariants.{NoSecond};
 ghost use Rattle.equiv_run.specs.Split.{split_of};
-ghost use Rattle.equiv_run.specs.Pairs.{most_of_two, IsAnswer, IsRefusedPair};
+ghost use Rattle.equiv_run.specs.Pairs.{IsAnswer, IsRefusedPair};
+ghost use Rattle.net_theory.specs.Limits.{most_of_two};
 ghost use Rattle.equiv_run.specs.CircuitAnswers.{IsCircuitAnswer, IsOther, IsFirstRefused, IsSecondRefused};
 
 use crate::answer::{CompareError, Compared, EquivOutcome};
@@ -56,7 +57,7 @@ fn compare_circuits<S: Solver>(
     requires second { IsProper second.now }
     requires small { IsSmall first.now.net }
     requires other { IsSmall second.now.net }
-    requires budget { (1 ≤ conflicts) × (conflicts ≤ most_budget) }
+    requires budget { (1 ≤ conflicts) × (conflicts ≤ most_conflicts) }
     ensures reported { IfOk result (λ c. IsCircuitAnswer conflicts first.now second.now c.text.items c.outcome) }
     ensures refused { IfErr result (IsOther first.now second.now) }
 {
@@ -107,7 +108,7 @@ pub fn compare_texts<S: Solver>(
     conflicts: u32,
 ) -> Result<Compared, CompareError>
     requires small { length bytes.now ≤ most_of_two }
-    requires budget { (1 ≤ conflicts) × (conflicts ≤ most_budget) }
+    requires budget { (1 ≤ conflicts) × (conflicts ≤ most_conflicts) }
     ensures answer { IfOk result (λ c. IsAnswer conflicts bytes.now c.text.items c.outcome) }
     ensures refused { IfErr result (IsRefusedPair bytes.now) }
     ensures second { split_of bytes.now ≡ None → result ≡ Err NoSecond }

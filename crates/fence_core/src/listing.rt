@@ -2,6 +2,7 @@
 ghost use Rattle.std.specs.Prelude.{◌≡◌, ◌≤◌, ◌-◌, ◌+◌, ◌++◌, ◌∷◌, [], leb, IfOk, OnOk};
 ghost use Rattle.fence_core.specs.Fence.{IsFence, AreListed, listed_fences};
 ghost use Rattle.fence_core.specs.ByFirst.{stacked_on};
+ghost use Rattle.chain_theory.specs.Limits.{most_steps};
 
 use crate::Fence;
 use std::alloc::{AllocError, Global};
@@ -19,7 +20,7 @@ fn push_fence(alloc: Global, fences: &mut Vec<Fence>, levels: &[u32]) -> Result<
 /// Whether `first` of `left` steps may be on the lowest level: there are at most as many as other
 /// steps and outputs together.
 fn may_begin(left: u32, outputs: u32, first: u32) -> bool
-    requires { (first ≤ left) × (left ≤ 16) }
+    requires { (first ≤ left) × (left ≤ most_steps) }
     ensures { result ≡ leb first (left - first + outputs) }
 {
     first.saturating_sub(left - first) <= outputs
@@ -34,7 +35,7 @@ fn push_fences(
     left: u32,
     outputs: u32,
 ) -> Result<(), AllocError>
-    requires size { left ≤ 16 }
+    requires size { left ≤ most_steps }
     requires filled { IsFence below.old.items }
     ensures fences { OnOk result (fences.new.items ≡ fences.old.items ++
         stacked_on below.old.items (listed_fences left outputs)) }
@@ -59,7 +60,7 @@ fn push_fences(
 /// of them. They are in lexicographic order; for 0 steps there is the one fence without levels. An
 /// error means that memory ran out.
 pub fn fences(alloc: Global, r: u32, outputs: u32) -> Result<Vec<Fence>, AllocError>
-    requires { r ≤ 16 }
+    requires { r ≤ most_steps }
     ensures exact { IfOk result (λ fences. fences.items ≡ listed_fences r outputs) }
     ensures listed { IfOk result (λ fences. AreListed r outputs fences.items) }
 {

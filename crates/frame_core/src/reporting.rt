@@ -109,7 +109,8 @@ fn write_parts<N: Sink>(note: &mut N, parts: &[Vec<u8>]) -> Result<(), WriteFaul
 fn write_to_last<N: Sink>(note: &mut N, parts: &[Vec<u8>], last: &[u8]) -> Result<(), WriteFault>
     ensures all { OnOk result (Appends (N.written note.old) (N.written note.new) (joined (texts_of parts.now) ++
         last.now)) }
-    ensures prefix { AppendsPrefix (N.written note.old) (N.written note.new) (joined (texts_of parts.now) ++ last.now) }
+    ensures prefix { AppendsPrefix (N.written note.old) (N.written note.new) (joined (texts_of parts.now) ++
+        last.now) }
     ensures faultless { OnOk result (N.faults note.new ≡ N.faults note.old) }
     ensures only_if_rose { OnErr result (Rose (N.faults note.old) (N.faults note.new)) }
     ensures never_falls { N.faults note.old ≤ N.faults note.new }

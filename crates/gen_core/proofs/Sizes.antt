@@ -11,6 +11,8 @@ use Rattle.gen_core.specs.Generated.{block_inputs, block_outputs, block_tables, 
 use Rattle.gen_core.proofs.BlockLaws.{of_all, of_length}
 use Rattle.gen_core.proofs.Inputs.{of_inputs}
 use Rattle.gen_core.proofs.Tables.{IsShort, names_short, IsTiny, tables_tiny, block_few}
+use Rattle.settings.specs.Limits.{most_blocks}
+use Rattle.net_theory.specs.Limits.{most_of_netlist}
 
 inputs_short : (n : ℕ) → n ≤ 2 ^ 64 → All IsShort (of_blocks block_inputs n)
 inputs_short n low = of_all IsShort block_inputs n (λ k below. of_inputs (λ (ns : List Name). All IsShort ns) k
@@ -81,12 +83,12 @@ table_short t is =
 
 -- ---- the whole text
 
-short_text : (inputs outputs : List Name) (ts : List Table) (n : ℕ) → n ≤ 10000 → length inputs ≤ n * 3 →
+short_text : (inputs outputs : List Name) (ts : List Table) (n : ℕ) → n ≤ most_blocks → length inputs ≤ n * 3 →
     length outputs ≤ n * 1 → length ts ≤ n * 4 → length (list_text (codes ".inputs") inputs) ≤ 9 + length inputs * 31 →
     length (list_text (codes ".outputs") outputs) ≤ 9 + length outputs * 31 →
     length (flat_map table_text ts) ≤ length ts * 100 →
     length (model_text (codes "gen") ++ list_text (codes ".inputs") inputs ++ list_text (codes ".outputs") outputs ++
-    [] ++ [] ++ flat_map table_text ts ++ codes ".end\n") ≤ 16777216
+    [] ++ [] ++ flat_map table_text ts ++ codes ".end\n") ≤ most_of_netlist
 short_text inputs outputs ts n few i o t a b c =
     let first = model_text (codes "gen") in
     let second = list_text (codes ".inputs") inputs in
@@ -109,7 +111,7 @@ short_text inputs outputs ts n few i o t a b c =
       c,
     )
 
-pub text_small : (n : ℕ) → n ≤ 10000 → length (generated_text n) ≤ 16777216
+pub text_small : (n : ℕ) → n ≤ most_blocks → length (generated_text n) ≤ most_of_netlist
 unfolding spelled generated
 text_small n few =
     let low : n ≤ 2 ^ 64 = omega (arith, few) in

@@ -17,6 +17,8 @@ use Rattle.gen_core.specs.Generated.{name_of, block_inputs, block_outputs, block
 use Rattle.gen_core.proofs.BlockLaws.{of_all, of_length, of_has, of_found}
 use Rattle.gen_core.proofs.Inputs.{names_are, inputs_names, inputs_differ}
 use Rattle.gen_core.proofs.Tables.{all_layered, all_spelled, block_few, all_narrow, tables_cheap, output_driven}
+use Rattle.net_theory.specs.Limits.{most_gates}
+use Rattle.settings.specs.Limits.{most_blocks}
 
 outputs_names : (n : ℕ) → n ≤ 2 ^ 64 → All IsName (of_blocks block_outputs n)
 outputs_names n low = of_all IsName block_outputs n (λ k below. names_are k (codes "y") (omega (arith, low, below)) refl)
@@ -77,7 +79,7 @@ used_is n m low there =
 
 -- ---- the document
 
-cost_low : (n : ℕ) → n ≤ 10000 → cost (generated n) ≤ 100000
+cost_low : (n : ℕ) → n ≤ most_blocks → cost (generated n) ≤ most_gates
 unfolding cost generated
 cost_low n few = omega (arith, tables_cheap (tables_of n) (all_narrow n (omega (arith, few))), of_length block_tables 4 n block_few, few)
 
@@ -99,7 +101,7 @@ free_is : (n : ℕ) → AreControlsFree (generated n)
 unfolding generated
 free_is n = All-nil (λ (l : LatchLine). IsFreeOf (map table_output (tables_of n)) l.latch.control)
 
-well_is : (n : ℕ) → n ≤ 10000 → IsWellFormed (generated n)
+well_is : (n : ℕ) → n ≤ most_blocks → IsWellFormed (generated n)
 well_is n few =
     let low : n < 2 ^ 64 = omega (arith, few) in
     let is = spelled_is n low in
@@ -117,7 +119,7 @@ well_is n few =
       acyclic = layered_acyclic (generated n) (sources_differ n low) (layers n low);
     }
 
-pub is_netlist : ((d : Document) → IsBlifSpelling d → AreControlsFree d → IsReadBack blif_format (spelled d) d) → (n : ℕ) → n ≤ 10000 → IsNetlist blif_format (generated_text n)
+pub is_netlist : ((d : Document) → IsBlifSpelling d → AreControlsFree d → IsReadBack blif_format (spelled d) d) → (n : ℕ) → n ≤ most_blocks → IsNetlist blif_format (generated_text n)
 is_netlist read n few =
     let back = read (generated n) (spelled_is n (omega (arith, few))) (free_is n) in
     record { listed = back.listed; said = back.said; well = subst IsWellFormed (sym back.document) (well_is n few) }

@@ -3,7 +3,8 @@
 ghost use Rattle.std.specs.Prelude.{◌≡◌, ◌<◌, ◌^◌, [], ◌∷◌, ◌++◌, IfOk, OnOk, length, option_to_list};
 ghost use Rattle.std.specs.Option.{option_copied};
 ghost use Rattle.gen_core.specs.Generated.{name_of as name_of_letter, names_of as names_of_letters};
-ghost use Rattle.gen_core.specs.Generated.{table_of as table_of_letters, exclusive, conjunction, choice, block_inputs};
+ghost use Rattle.gen_core.specs.Generated.{table_of as table_of_letters, exclusive, conjunction, choice};
+ghost use Rattle.gen_core.specs.Generated.{block_inputs};
 ghost use Rattle.gen_core.specs.Generated.{block_tables};
 
 use net_document::{Body, Cover, Cube, Name, Table};

@@ -1,12 +1,17 @@
-//! What an improved net is: definitions that the passes of `improve` share. A net leads to another one that can take its
-//! place (`specs/Leading`). A candidate window is a root, a partner or none, and a count (`Candidate`); `specs/LocalSpecification` says what
-//! its replacement has to compute, `specs/Settled` when no window of a net has a smaller one, `specs/Undecided` when a
-//! search left it open, and `specs/Candidates` in which order windows are tried. `specs/Improvement` puts these together.
+//! What an improved net is: definitions that the passes of `improve` share.
 //!
-//! It stands on definitions and types alone: whoever searches, windows, walks or moves, stands above it.
+//! - `specs/Leading.antt`: when a net may replace another one.
+//! - `Candidate`: a window, told by its root, a partner or none, and its number of gates.
+//! - `specs/LocalSpecification.antt`: what the replacement of a window has to compute.
+//! - `specs/Settled.antt`: no window of a net has a smaller replacement. `specs/Undecided.antt`: a search left a window
+//!   open. `specs/Candidates.antt`: the order in which windows are tried.
+//! - `specs/Improvement.antt`: what improvement makes of a net.
+//!
+//! It rests on definitions and types alone. Everything that searches, by windows, walks or moves, is above it.
 //!
 //! ```text
-//! Undecided { visit: Visit { root: 9, partner: None, count: 6 }, search } // its certificate leaves 6 gates open
+//! // a window of 6 gates at node 9 that a search left open, with its certificate
+//! Undecided { candidate: Candidate { root: 9, partner: None, count: 6 }, search }
 //! ```
 #![tactic(auto)]
 

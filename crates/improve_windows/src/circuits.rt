@@ -87,7 +87,9 @@ fn left_of<S: Solver>(
     })
 }
 
-/// An improved circuit, and the document that BLIF writes for it.
+/// Improves a circuit, and makes the document that BLIF writes for it: cleanup, moves over the whole net and walks
+/// over convex windows, and then resynthesis, until no window up to the cap has a shorter chain, or
+/// `settings.rounds` rounds have changed something.
 #[tactic(auto, using(crate::specs::ImprovingLaws::improving))]
 pub(crate) fn improve_written<S: Solver>(
     alloc: Global,
@@ -118,23 +120,4 @@ pub(crate) fn improve_written<S: Solver>(
         undecided,
     };
     Ok(Written { improved, document })
-}
-
-/// Improves a circuit: cleanup, moves over the whole net and walks over convex windows, and then resynthesis,
-/// until no window up to the cap has a shorter chain, or `settings.rounds` rounds have changed something.
-pub fn improve_circuit<S: Solver>(
-    alloc: Global,
-    circuit: Circuit,
-    settings: ImproveSettings,
-) -> Result<Improved, AllocError>
-    requires proper { IsProper circuit }
-    requires range { IsInRange settings }
-    ensures { IfOk result (λ i. IsBetter blif_format settings circuit i.circuit i.before i.after i.settled
-        i.undecided.items) }
-{
-    let Written {
-        improved,
-        document: _,
-    } = improve_written::<S>(alloc, circuit, settings)?;
-    Ok(improved)
 }

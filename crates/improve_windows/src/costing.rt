@@ -38,6 +38,7 @@ pub(crate) fn costed(alloc: Global, circuit: &Circuit) -> Result<CostedDocument,
     ensures cheap { IfOk result (λ w. w.cost ≤ length circuit.now.net.gates) }
     ensures room { IfOk result (λ _. HasRoomForNames circuit.now) }
 {
+    // for the prover: the laws of BLIF
     blif_is_a_format();
     let document = document_of(alloc, circuit)?;
     let cost = document_cost(alloc, &document)?;

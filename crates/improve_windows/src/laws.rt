@@ -11,7 +11,8 @@ ghost use Rattle.improve_windows.specs.Improving.{IsReported};
 
 /// Only netlists are improved, and the result is a netlist again.
 pub fn improved_texts_are_netlists()
-    ensures read { (f : Format) (s : ImproveSettings) (bytes text report : List ℕ) → IsReported f s bytes text report →
+    ensures read { (f : Format) (s : ImproveSettings) (bytes text report : List ℕ) →
+        IsReported f s bytes text report →
         IsNetlist f bytes }
     ensures written { (f : Format) (s : ImproveSettings) (bytes text report : List ℕ) →
         IsReported f s bytes text report → IsNetlist f text }

@@ -13,24 +13,13 @@ use restructure::restructured;
 use resyn_core::{Resynthesized, resynthesize};
 use sat_solve::Solver;
 use settings::ImproveSettings;
+use settings::thresholds::{
+    LEAST_MOVED_GATES, LEAST_ROUNDS_OF_MOVES, MOST_GATES_OF_SMALL_NET, MOST_GATES_OF_TURNS,
+    MOST_TURNS,
+};
 use std::alloc::{AllocError, Global};
 use walk_core::walked;
 use window_trial::{WindowAttempts, many_merged};
-
-/// A net of fewer gates isn't moved, unless `effort` asks for rounds of moves: its few windows cover it.
-const LEAST_MOVED: usize = 6;
-
-/// The least number of rounds of size-preserving moves for a small net, whatever `effort` says.
-const FEW_ROUNDS: u32 = 3;
-
-/// The most gates of a small net.
-const FEW_GATES: usize = 1000;
-
-/// The most times that moves follow resynthesis.
-const MOST_TURNS: u32 = 8;
-
-/// In a net of more gates moves don't follow resynthesis.
-const MANY_GATES: usize = 10_000;
 
 /// An improved net.
 #[derive(Drop)]
@@ -63,18 +52,18 @@ fn resynthesized<S: Solver>(
     })
 }
 
-/// Whether a net is moved: where `effort` asks for rounds of moves, and otherwise from `LEAST_MOVED` gates
+/// Whether a net is moved: where `effort` asks for rounds of moves, and otherwise from `LEAST_MOVED_GATES` gates
 /// on.
 fn is_moved(net: &Net, effort: u32) -> bool {
-    effort > 0 || LEAST_MOVED <= net.gates().len()
+    effort > 0 || LEAST_MOVED_GATES <= net.gates().len()
 }
 
 /// The number of rounds of size-preserving moves for a net.
 fn rounds_of(net: &Net, effort: u32) -> u32 {
-    if net.gates().len() > FEW_GATES {
+    if net.gates().len() > MOST_GATES_OF_SMALL_NET {
         effort
     } else {
-        effort.max(FEW_ROUNDS)
+        effort.max(LEAST_ROUNDS_OF_MOVES)
     }
 }
 
@@ -82,7 +71,7 @@ fn rounds_of(net: &Net, effort: u32) -> u32 {
 /// without such rounds found nothing before, they would find nothing again.
 fn turns_of(net: &Net, before: usize, rounds: u32) -> u32 {
     let gates = net.gates().len();
-    if gates > MANY_GATES || (rounds == 0 && gates == before) {
+    if gates > MOST_GATES_OF_TURNS || (rounds == 0 && gates == before) {
         0
     } else {
         MOST_TURNS

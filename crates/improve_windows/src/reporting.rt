@@ -2,7 +2,8 @@
 //! certificates, and whether all others were decided.
 ghost use Rattle.std.specs.Prelude.{◌≡◌, ◌++◌, IfOk, OnOk, All};
 ghost use Rattle.std.specs.List.{flat_map};
-ghost use Rattle.improve_windows.specs.Report.{name_at, partner_text, window_text, first_line, last_line, report_text};
+ghost use Rattle.improve_windows.specs.Report.{name_at, partner_text, window_text, first_line, last_line};
+ghost use Rattle.improve_windows.specs.Report.{report_text};
 ghost use Rattle.improve_windows.specs.ReportLaws.{CanBeWritten};
 
 use cert_text::write_certificate;

@@ -95,6 +95,7 @@ pub fn improve_blif<S: Solver>(
     ensures refused { IfErr result (IsRefusedText blif_format bytes.now) }
     ensures complete { IfErr result (λ e. IsNetlist blif_format bytes.now → e ≡ Memory) }
 {
+    // for the prover: the laws of BLIF
     blif_is_a_format();
     let circuit = read_blif(alloc, bytes)?;
     let Written { improved, document } = improve_written::<S>(alloc, circuit, settings)?;
@@ -122,6 +123,7 @@ pub fn improve_bench<S: Solver>(
     ensures refused { IfErr result (IsRefusedText bench_format bytes.now) }
     ensures complete { IfErr result (λ e. IsNetlist bench_format bytes.now → e ≡ Memory) }
 {
+    // for the prover: the laws of BENCH
     bench_is_a_format();
     circuits_cost_the_same();
     let circuit = read_bench(alloc, bytes)?;

@@ -19,6 +19,7 @@ use Rattle.lane_sim.specs.LaneLaws.{at_prefix, is_new, with_new, gate_put, gates
 use Rattle.lane_sim.specs.PatternLaws.{at_after, nodes_count}
 use Rattle.lane_sim.specs.Rows.{IsOperandOf, IsCombinedPut, AreGatesOf}
 use Rattle.lane_sim.specs.Words.{Words, AreWords, width_of}
+use Rattle.net_theory.specs.Limits.{most_leaves}
 
 -- ---- words that begin with a cone's
 
@@ -99,12 +100,12 @@ base_code c above w width a b items lanes has width_is a_is b_is items_are lanes
     base_done c above w width ((a + b) * width) lanes has width_is (ap (λ (n : ℕ). n * width) count) (lanes_are ∙ ap (take ((a + b) * width)) items_are)
 
 -- a row of at most 12 leaves has at most 64 words
-pub few_words : (n rows width : ℕ) → n ≤ 12 → rows ≡ 2 ^ n → width ≡ width_of rows → width ≤ 64
+pub few_words : (n rows width : ℕ) → n ≤ most_leaves → rows ≡ 2 ^ n → width ≡ width_of rows → width ≤ 64
 few_words n rows width few rows_are width_is =
     let less : 2 ^ n ≤ 4096 = most n few in
     omega (arith, less, rows_are, width_is)
   where
-    most : (k : ℕ) → k ≤ 12 → 2 ^ k ≤ 2 ^ 12
+    most : (k : ℕ) → k ≤ most_leaves → 2 ^ k ≤ 2 ^ 12
     most k low = pow_mono low
 
 -- ---- gates

@@ -10,6 +10,7 @@ use Rattle.lane_sim.specs.Cone.{Cone, IsCone, IsSigAmong, AreApart, node_of}
 use Rattle.lane_sim.specs.LaneLaws.{at_prefix}
 use Rattle.lane_sim.specs.PatternLaws.{at_after, gate_operand, no_operand}
 use Rattle.lane_sim.specs.Checking.{numbered, MayComeNext, AreDistinctLeaves, AreNext}
+use Rattle.net_theory.specs.Limits.{most_leaves}
 
 -- ---- the index of a node
 
@@ -92,7 +93,7 @@ all_fresh leaves gates new next i k p a b low =
     (λ r. gate_fresh leaves gates r.0 k p next r.2 b (omega (arith, low, r.1)))
     (in_parts leaves (map node_of gates) i p a)
 
-pub checked_cone : (leaves : List ℕ) (gates : List (ℕ × Gate)) → length leaves ≤ 12 → AreDistinctLeaves leaves → AreNext leaves gates → IsCone (record { leaves = leaves; gates = gates })
+pub checked_cone : (leaves : List ℕ) (gates : List (ℕ × Gate)) → length leaves ≤ most_leaves → AreDistinctLeaves leaves → AreNext leaves gates → IsCone (record { leaves = leaves; gates = gates })
 checked_cone leaves gates few new next =
     record { few = few; apart = fresh_apart (numbered leaves gates) (all_fresh leaves gates new next); gates = λ i x at. (next.each i x at).gate }
 

@@ -6,6 +6,7 @@ use Rattle.net_theory.specs.declared.data.Sig.{Sig}
 use Rattle.net_theory.specs.declared.data.Sig.TheVariants.{Zero, One, Node}
 use Rattle.net_theory.specs.declared.data.Gate.{Gate}
 use Rattle.net_theory.specs.Net.{gate_value}
+use Rattle.net_theory.specs.Limits.{most_leaves}
 
 -- Leaves are nodes, and each gate is paired with its node. Nodes need not be in ascending order.
 -- Example: XOR of the nodes 4 and 9 at node 12 is leaves = 4, 9 and the one gate (12, 6 on `Node 4` and
@@ -38,7 +39,7 @@ pub record IsGateOver (ps : List ℕ) (g : Gate) : Type 0 where
 
 -- At most 12 leaves; all nodes are distinct; the operands of each gate are constants, leaves or earlier gates.
 pub record IsCone (c : Cone) : Type 0 where
-  pub few : length c.leaves ≤ 12
+  pub few : length c.leaves ≤ most_leaves
   pub apart : AreApart (nodes c)
   pub gates : (i : ℕ) (x : ℕ × Gate) → slice_get c.gates i ≡ Some x → IsGateOver (c.leaves ++ map node_of (take i c.gates)) x.1
 

@@ -22,6 +22,7 @@ use Rattle.lane_sim.specs.Rows.{IsOperandOf}
 use Rattle.lane_sim.specs.Seen.{pattern_at, IsRowCount, AllEnd, AreOperands}
 use Rattle.lane_sim.specs.SeenLaws.{above_zero, at_most_32}
 use Rattle.lane_sim.specs.Words.{Words, AreWords, pattern, pattern_under, width_of}
+use Rattle.net_theory.specs.Limits.{most_leaves}
 
 -- ---- patterns
 
@@ -178,13 +179,13 @@ same_pattern c w signals os j b words are room low within =
 
 -- ---- the number of words
 
-pub cone_rows : (n : ℕ) → n ≤ 12 → 1 * 2 ^ n % 4294967296 ≡ 2 ^ n
+pub cone_rows : (n : ℕ) → n ≤ most_leaves → 1 * 2 ^ n % 4294967296 ≡ 2 ^ n
 cone_rows n few = one_shl n 32 (omega (arith, few))
 
-pub cone_width : (n : ℕ) → n ≤ 12 → width_of (1 * 2 ^ n % 4294967296) ≤ 64
+pub cone_width : (n : ℕ) → n ≤ most_leaves → width_of (1 * 2 ^ n % 4294967296) ≤ 64
 cone_width n few =
     let less : 2 ^ n ≤ 4096 = most n few in
     omega (arith, cone_rows n few, less)
   where
-    most : (k : ℕ) → k ≤ 12 → 2 ^ k ≤ 2 ^ 12
+    most : (k : ℕ) → k ≤ most_leaves → 2 ^ k ≤ 2 ^ 12
     most k low = pow_mono low

@@ -1,7 +1,8 @@
 //! The patterns of operands that occur under the assignments of one word, or of four words. The set of
 //! assignments is split by one operand after the other; a branch without assignments ends.
 
-ghost use Rattle.std.specs.Prelude.{◌≡◌, ℕ, ◌+◌, ◌-◌, ◌*◌, ◌≤◌, ◌<◌, ◌^◌, length, min, slice_get, slice_index_or, All};
+ghost use Rattle.std.specs.Prelude.{◌≡◌, ℕ, ◌+◌, ◌-◌, ◌*◌, ◌≤◌, ◌<◌, ◌^◌, length, min, slice_get, slice_index_or};
+ghost use Rattle.std.specs.Prelude.{All};
 ghost use Rattle.std.specs.Prelude.{IfSome, IfNone};
 ghost use Rattle.net_theory.specs.declared.data.Gate.{Gate as GateValue};
 ghost use Rattle.lane_sim.specs.Cone.{IsSigAmong, nodes, node_of};

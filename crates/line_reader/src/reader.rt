@@ -135,7 +135,7 @@ impl<S: LineStage> PieceReader<S> {
         } = self;
         let mut unfinished = unfinished;
         if unfinished.extend_from_slice(text).is_err() {
-            // dropped here as a whole: at the exit of the function each of its fields would be dropped on its own
+            // for the prover: dropped here at once; left to the exit, each of its fields would be
             drop(stage);
             return Err(S::no_memory());
         }
@@ -174,7 +174,7 @@ impl<S: LineStage> PieceReader<S> {
         }
         let mut line = unfinished;
         if line.extend_from_slice(text).is_err() {
-            // dropped here as a whole: at the exit of the function each of its fields would be dropped on its own
+            // for the prover: dropped here at once; left to the exit, each of its fields would be
             drop(stage);
             return Err(S::no_memory());
         }

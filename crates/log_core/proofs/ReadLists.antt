@@ -11,6 +11,7 @@ use Rattle.cnf_core.specs.Codes.{code_of}
 use Rattle.log_core.specs.Numbers.{numbers_from}
 use Rattle.log_core.specs.Lists.{step, stepped, ids_written, ids_from, variable_at, literal_at, literals_written, literals_from}
 use Rattle.log_core.proofs.ReadNumbers.{written-read, numbers_from-none}
+use Rattle.sat_theory.specs.Limits.{most_id}
 
 step-up : (last id : ℕ) → last ≤ id → step last id ≡ 2 * (id - last)
 unfolding step
@@ -20,7 +21,7 @@ step-down : (last id : ℕ) → id < last → step last id ≡ 2 * (last - id) -
 unfolding step
 step-down last id down = rw (lt-leb last id down) refl
 
-stepped-up : (last n : ℕ) → n % 2 ≡ 0 → stepped last n ≡ min (last + n / 2) 4294967295
+stepped-up : (last n : ℕ) → n % 2 ≡ 0 → stepped last n ≡ min (last + n / 2) most_id
 unfolding stepped
 stepped-up last n even = rw (eq-eqb (n % 2) 0 even) refl
 
@@ -29,13 +30,13 @@ unfolding stepped
 stepped-down last n odd = rw (ne_eqb (n % 2) 0 odd) refl
 
 -- decoding the difference gives the id back
-pub stepped-step : (last id : ℕ) → id ≤ 4294967295 → stepped last (step last id) ≡ id
+pub stepped-step : (last id : ℕ) → id ≤ most_id → stepped last (step last id) ≡ id
 stepped-step last id low = ⊎_elim
     (λ (down : id < last). rw (step-down last id down) (stepped-down last (2 * (last - id) - 1) (omega arith) ∙ (let back : last - ((2 * (last - id) - 1) / 2 + 1) ≡ id = omega arith in back)))
-    (λ (up : last ≤ id). rw (step-up last id up) (stepped-up last (2 * (id - last)) (omega arith) ∙ (let back : min (last + 2 * (id - last) / 2) 4294967295 ≡ id = omega arith in back)))
+    (λ (up : last ≤ id). rw (step-up last id up) (stepped-up last (2 * (id - last)) (omega arith) ∙ (let back : min (last + 2 * (id - last) / 2) most_id ≡ id = omega arith in back)))
     (cases_lt id last)
 
-pub step-le : (last id : ℕ) → last ≤ 4294967295 → id ≤ 4294967295 → step last id ≤ 17179869184
+pub step-le : (last id : ℕ) → last ≤ most_id → id ≤ most_id → step last id ≤ 17179869184
 step-le last id last_low low = ⊎_elim
     (λ (down : id < last). rw (step-down last id down) (omega arith))
     (λ (up : last ≤ id). rw (step-up last id up) (omega arith))
@@ -43,16 +44,16 @@ step-le last id last_low low = ⊎_elim
 
 -- ids within 32 bits
 abbrev pub AreIds : List ℕ → Type 0
-AreIds ids = All (λ id. id ≤ 4294967295) ids
+AreIds ids = All (λ id. id ≤ most_id) ids
 
 abbrev IsLow : ℕ → Type 0
-IsLow id = id ≤ 4294967295
+IsLow id = id ≤ most_id
 
-pub ids_read : (last : ℕ) (ids : List ℕ) → last ≤ 4294967295 → AreIds ids → ids_from last (numbers_from 0 (ids_written last ids)) ≡ ids
+pub ids_read : (last : ℕ) (ids : List ℕ) → last ≤ most_id → AreIds ids → ids_from last (numbers_from 0 (ids_written last ids)) ≡ ids
 unfolding ids_written ids_from
 ids_read last [] low are = rw (numbers_from-none 0) refl
 ids_read last (id ∷ ids) low are =
-    let first : id ≤ 4294967295 = All-head IsLow id ids are in
+    let first : id ≤ most_id = All-head IsLow id ids are in
     let others : AreIds ids = All-tail IsLow id ids are in
     rw (written-read (step last id) (ids_written id ids) (step-le last id low first), stepped-step last id first) (ap (λ (xs : List ℕ). id ∷ xs) (ids_read id ids first others))
 

@@ -4,6 +4,7 @@ use Rattle.std.specs.List.{flat_map}
 use Rattle.sat_theory.specs.Formula.{signed}
 use Rattle.cnf_core.specs.Codes.{code_of}
 use Rattle.log_core.specs.Numbers.{numbers_from, written}
+use Rattle.sat_theory.specs.Limits.{most_id, most_variable}
 
 -- the zigzag encoding of the difference between consecutive ids: up by d is 2 d, down by d is 2 d - 1
 unfoldable pub step : ℕ → ℕ → ℕ
@@ -11,7 +12,7 @@ step last id = if nat_le last id then 2 * (id - last) else 2 * (last - id) - 1
 
 -- the id that a step leads to, clamped to 32 bits
 unfoldable pub stepped : ℕ → ℕ → ℕ
-stepped last n = if n % 2 == 0 then min (last + n / 2) 4294967295 else last - (n / 2 + 1)
+stepped last n = if n % 2 == 0 then min (last + n / 2) most_id else last - (n / 2 + 1)
 
 -- ids as bytes: each as the step from the one before. Example: after 0, the ids 7, 9, 8 are 14, 4,
 -- 1.
@@ -30,7 +31,7 @@ ids_of bytes = ids_from 0 (numbers_from 0 bytes)
 
 -- n clamped to the variables 1 to 2147483647
 unfoldable pub variable_at : ℕ → ℕ
-variable_at n = max 1 (min n 2147483647)
+variable_at n = max 1 (min n most_variable)
 
 -- the literal that a number encodes: of a variable v, 2 v is v and 2 v + 1 is -v
 unfoldable pub literal_at : ℕ → ℤ

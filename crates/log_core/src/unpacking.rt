@@ -11,6 +11,9 @@ use cnf_core::Lit;
 use lrat_text::Line;
 use std::alloc::{AllocError, Global};
 
+/// The greatest variable.
+const MOST_VARIABLE: u64 = sat_theory::MOST_VARIABLE as u64;
+
 /// The ids that bytes spell, at most one for each byte.
 #[tactic(auto, using(crate::proofs::Taken::taken))]
 fn ids_of(alloc: Global, bytes: &[u8]) -> Result<Vec<u32>, AllocError>
@@ -27,12 +30,12 @@ fn ids_of(alloc: Global, bytes: &[u8]) -> Result<Vec<u32>, AllocError>
     Ok(ids)
 }
 
-/// The literal that a number encodes, with its variable clamped to 1 to 2147483647.
+/// The literal that a number encodes, with its variable clamped to 1 to `MOST_VARIABLE`.
 #[tactic(auto, unfolding(crate::specs::Lists::literal_at, crate::specs::Lists::variable_at))]
 pub(crate) fn literal_at(number: u64) -> Lit
     ensures { result ≡ spec.literal_at number }
 {
-    let variable = (number / 2).min(2_147_483_647).max(1) as u32;
+    let variable = (number / 2).min(MOST_VARIABLE).max(1) as u32;
     Lit::of(variable, number % 2 == 0)
 }
 

@@ -114,7 +114,8 @@ fn put_lits(out: &mut Vec<u8>, bytes: &[u8])
 /// Appends the addition of the literals and hints that bytes spell.
 #[tactic(auto, using(crate::proofs::Spelled::pieces))]
 fn put_addition(out: &mut Vec<u8>, id: u32, lits: &[u8], hints: &[u8])
-    requires room { vec_len out.old + MOST_CHARACTERS * (length lits.now + length hints.now + 2) ≤ vec_capacity out.old }
+    requires room { vec_len out.old + MOST_CHARACTERS * (length lits.now + length hints.now + 2) ≤ vec_capacity
+        out.old }
     ensures { out.new.items ≡ out.old.items ++ line_text (theory.Add id (literals_of lits.now) (ids_of hints.now)) }
 {
     put_id(out, id);

@@ -145,7 +145,8 @@ impl Checker {
     fn add(&mut self, id: u32, lits: Vec<Lit>, hints: &[u32]) -> Result<(), CheckError>
         requires { IsClause lits.items }
         ensures exact { Judges result (addition_fault (state_of self.old) id lits.items hints.now) }
-        ensures next { OnOk result (state_of self.new ≡ next (state_of self.old) (theory.Add id lits.items hints.now)) }
+        ensures next { OnOk result (state_of self.new ≡
+            next (state_of self.old) (theory.Add id lits.items hints.now)) }
         ensures refuted { OnOk result (self.new.refuted ≡ (self.old.refuted || is_empty lits.items)) }
         ensures unchanged { OnErr result (self.new ≡ self.old) }
     {

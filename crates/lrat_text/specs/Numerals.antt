@@ -3,6 +3,7 @@ use Rattle.std.specs.Prelude.{ℕ, ℤ, pos, Bool, false, ◌==◌, if◌then◌
 use Rattle.text_core.specs.Numbers.{number_up_to}
 use Rattle.text_core.specs.Items.{split_from}
 use Rattle.sat_theory.specs.Formula.{opposite}
+use Rattle.sat_theory.specs.Limits.{most_id, most_variable}
 
 -- None if an item isn't a number in its range; else Some of the number, or Some None for the 0 that ends a list
 abbrev pub or_end : Option ℕ → Option (Option ℕ)
@@ -11,7 +12,7 @@ or_end (Some n) = Some (if n == 0 then None else Some n)
 
 -- an id, from 1 to 4294967295
 abbrev pub id_in : List ℕ → Option (Option ℕ)
-id_in item = or_end (number_up_to 4294967295 item)
+id_in item = or_end (number_up_to most_id item)
 
 abbrev pub positive : Option ℕ → Option (Option ℤ)
 positive None = None
@@ -25,7 +26,7 @@ negative (Some n) = if n == 0 then None else Some (Some (opposite (pos n)))
 -- a literal, from -2147483647 to 2147483647, with a minus sign (byte 45) for a negated variable
 abbrev pub literal_in : List ℕ → Option (Option ℤ)
 literal_in [] = None
-literal_in (b ∷ bs) = if b == 45 then negative (number_up_to 2147483647 bs) else positive (number_up_to 2147483647 (b ∷ bs))
+literal_in (b ∷ bs) = if b == 45 then negative (number_up_to most_variable bs) else positive (number_up_to most_variable (b ∷ bs))
 
 abbrev pub begins_minus : List ℕ → Bool
 begins_minus [] = false

@@ -22,6 +22,7 @@ use Rattle.lrat_text.specs.declared.error.LineError.{LineError}
 use Rattle.lrat_text.specs.declared.error.LineError.TheVariants.{RatHint, RepeatedVariable}
 use Rattle.lrat_text.specs.Numerals.{or_end, id_in, positive, negative, literal_in, begins_minus, is_letter_d}
 use Rattle.lrat_text.specs.Reading.{item_then, end_of, is_repeated, hints_of, lits_of, ids_of}
+use Rattle.sat_theory.specs.Limits.{most_id, most_variable}
 
 -- ---- numbers
 
@@ -55,29 +56,29 @@ or_end_cases (Some n) r is =
 id_ends : (w : List ℕ) → id_in w ≡ Some None → w ≡ nought
 id_ends w is =
     ⊎_elim
-    (λ (at_end : (number_up_to 4294967295 w ≡ Some 0) × (None ≡ None)). (number_spells 4294967295 0 w (omega arith) at_end.0).1 ∙ decimal_0)
-    (λ (found : (n : ℕ) × (0 < n) × (number_up_to 4294967295 w ≡ Some n) × (None ≡ Some n)). let n : ℕ = found.0 in let no_ : None ≡ Some n = found.3 in absurd cc)
-    (or_end_cases (number_up_to 4294967295 w) None is)
+    (λ (at_end : (number_up_to most_id w ≡ Some 0) × (None ≡ None)). (number_spells most_id 0 w (omega arith) at_end.0).1 ∙ decimal_0)
+    (λ (found : (n : ℕ) × (0 < n) × (number_up_to most_id w ≡ Some n) × (None ≡ Some n)). let n : ℕ = found.0 in let no_ : None ≡ Some n = found.3 in absurd cc)
+    (or_end_cases (number_up_to most_id w) None is)
 
 pub id_spells : (w : List ℕ) (n : ℕ) → id_in w ≡ Some (Some n) → IsId n × (w ≡ decimal n)
 id_spells w n is =
     ⊎_elim
-    (λ (at_end : (number_up_to 4294967295 w ≡ Some 0) × (Some n ≡ None)). let no_ : Some n ≡ None = at_end.1 in absurd cc)
-    (λ (found : (m : ℕ) × (0 < m) × (number_up_to 4294967295 w ≡ Some m) × (Some n ≡ Some m)).
+    (λ (at_end : (number_up_to most_id w ≡ Some 0) × (Some n ≡ None)). let no_ : Some n ≡ None = at_end.1 in absurd cc)
+    (λ (found : (m : ℕ) × (0 < m) × (number_up_to most_id w ≡ Some m) × (Some n ≡ Some m)).
     let m : ℕ = found.0 in
     let same : Some n ≡ Some m = found.3 in
     let equal : m ≡ n = cc in
-    let spelled = number_spells 4294967295 m w (omega arith) found.2 in
+    let spelled = number_spells most_id m w (omega arith) found.2 in
     let above : 0 < n = rw (← equal) found.1 in
     let below : n < 2 ^ 32 = rw (← equal) (omega (arith, spelled.0)) in
     ((above, below), spelled.1 ∙ ap decimal equal))
-    (or_end_cases (number_up_to 4294967295 w) (Some n) is)
+    (or_end_cases (number_up_to most_id w) (Some n) is)
 
 pub id_back : (n : ℕ) → IsId n → id_in (decimal n) ≡ Some (Some n)
-id_back n is = ap or_end (number_back 4294967295 n (omega (arith, is.1)) (omega (arith, is.1))) ∙ rw (not_0 n is.0) refl
+id_back n is = ap or_end (number_back most_id n (omega (arith, is.1)) (omega (arith, is.1))) ∙ rw (not_0 n is.0) refl
 
 id_end_back : id_in nought ≡ Some None
-id_end_back = ap id_in (sym decimal_0) ∙ ap or_end (number_back 4294967295 0 (omega arith) (omega arith))
+id_end_back = ap id_in (sym decimal_0) ∙ ap or_end (number_back most_id 0 (omega arith) (omega arith))
 
 -- the first byte of a number is a digit
 minus_first : (w : List ℕ) → 48 < get_or w 0 0 → begins_minus w ≡ false
@@ -125,12 +126,12 @@ record SpellsLiteral (w : List ℕ) (z : ℤ) : Type 0 where
   small : variable z < 2 ^ 31
   text : w ≡ signed_decimal z
 
-negative_spells : (bs : List ℕ) (z : ℤ) → negative (number_up_to 2147483647 bs) ≡ Some (Some z) → SpellsLiteral (45 ∷ bs) z
+negative_spells : (bs : List ℕ) (z : ℤ) → negative (number_up_to most_variable bs) ≡ Some (Some z) → SpellsLiteral (45 ∷ bs) z
 negative_spells bs z is =
-    let found = negative_cases (number_up_to 2147483647 bs) (Some z) is in
+    let found = negative_cases (number_up_to most_variable bs) (Some z) is in
     let n : ℕ = found.0 in
     let some : 0 < n = found.1 in
-    let spelled = number_spells 2147483647 n bs (omega arith) found.2 in
+    let spelled = number_spells most_variable n bs (omega arith) found.2 in
     let same : Some z ≡ Some (opposite (pos n)) = found.3 in
     let e : z ≡ opposite (pos n) = cc in
     let v : variable z ≡ n = ap variable e ∙ opposite_variable n in
@@ -140,55 +141,55 @@ negative_spells bs z is =
       text = ap (λ (t : List ℕ). 45 ∷ t) spelled.1 ∙ sym (ap signed_decimal e ∙ opposite_text n some);
     }
 
-positive_spells : (w : List ℕ) (z : ℤ) → positive (number_up_to 2147483647 w) ≡ Some (Some z) → SpellsLiteral w z
+positive_spells : (w : List ℕ) (z : ℤ) → positive (number_up_to most_variable w) ≡ Some (Some z) → SpellsLiteral w z
 positive_spells w z is =
     ⊎_elim
-    (λ (none : (number_up_to 2147483647 w ≡ Some 0) × (Some z ≡ None)). let no_ : Some z ≡ None = none.1 in absurd cc)
-    (λ (found : (n : ℕ) × (0 < n) × (number_up_to 2147483647 w ≡ Some n) × (Some z ≡ Some (pos n))).
+    (λ (none : (number_up_to most_variable w ≡ Some 0) × (Some z ≡ None)). let no_ : Some z ≡ None = none.1 in absurd cc)
+    (λ (found : (n : ℕ) × (0 < n) × (number_up_to most_variable w ≡ Some n) × (Some z ≡ Some (pos n))).
     let n : ℕ = found.0 in
     let some : 0 < n = found.1 in
-    let spelled = number_spells 2147483647 n w (omega arith) found.2 in
+    let spelled = number_spells most_variable n w (omega arith) found.2 in
     let same : Some z ≡ Some (pos n) = found.3 in
     let e : z ≡ pos n = cc in
     let v : variable z ≡ n = ap variable e in
     record { some = rw v some; small = rw v (omega (arith, spelled.0)); text = spelled.1 ∙ sym (ap signed_decimal e) })
-    (positive_cases (number_up_to 2147483647 w) (Some z) is)
+    (positive_cases (number_up_to most_variable w) (Some z) is)
 
 literal_spells : (w : List ℕ) (z : ℤ) → literal_in w ≡ Some (Some z) → SpellsLiteral w z
 literal_spells [] z is = absurd cc
 literal_spells (b ∷ bs) z is =
     ⊎_elim
-    (λ (minus : ((b == 45) ≡ true) × (negative (number_up_to 2147483647 bs) ≡ Some (Some z))). rw (eqb-true b 45 minus.0) (negative_spells bs z minus.1))
-    (λ (plain : ((b == 45) ≡ false) × (positive (number_up_to 2147483647 (b ∷ bs)) ≡ Some (Some z))). positive_spells (b ∷ bs) z plain.1)
-    (if_cases (b == 45) (negative (number_up_to 2147483647 bs)) (positive (number_up_to 2147483647 (b ∷ bs))) (Some (Some z)) is)
+    (λ (minus : ((b == 45) ≡ true) × (negative (number_up_to most_variable bs) ≡ Some (Some z))). rw (eqb-true b 45 minus.0) (negative_spells bs z minus.1))
+    (λ (plain : ((b == 45) ≡ false) × (positive (number_up_to most_variable (b ∷ bs)) ≡ Some (Some z))). positive_spells (b ∷ bs) z plain.1)
+    (if_cases (b == 45) (negative (number_up_to most_variable bs)) (positive (number_up_to most_variable (b ∷ bs))) (Some (Some z)) is)
 
 literal_ends : (w : List ℕ) → literal_in w ≡ Some None → w ≡ nought
 literal_ends [] is = absurd cc
 literal_ends (b ∷ bs) is =
     ⊎_elim
-    (λ (minus : ((b == 45) ≡ true) × (negative (number_up_to 2147483647 bs) ≡ Some None)). let found =
-    negative_cases (number_up_to 2147483647 bs) None minus.1 in let no_ : None ≡ Some (opposite (pos found.0)) =
+    (λ (minus : ((b == 45) ≡ true) × (negative (number_up_to most_variable bs) ≡ Some None)). let found =
+    negative_cases (number_up_to most_variable bs) None minus.1 in let no_ : None ≡ Some (opposite (pos found.0)) =
     found.3 in absurd cc)
-    (λ (plain : ((b == 45) ≡ false) × (positive (number_up_to 2147483647 (b ∷ bs)) ≡ Some None)).
+    (λ (plain : ((b == 45) ≡ false) × (positive (number_up_to most_variable (b ∷ bs)) ≡ Some None)).
     ⊎_elim
-    (λ (at_end : (number_up_to 2147483647 (b ∷ bs) ≡ Some 0) × (None ≡ None)). (number_spells 2147483647 0 (b ∷ bs) (omega arith) at_end.0).1 ∙ decimal_0)
-    (λ (found : (n : ℕ) × (0 < n) × (number_up_to 2147483647 (b ∷ bs) ≡ Some n) × (None ≡ Some (pos n))). let no_ : None ≡ Some (pos found.0) = found.3 in absurd cc)
-    (positive_cases (number_up_to 2147483647 (b ∷ bs)) None plain.1))
-    (if_cases (b == 45) (negative (number_up_to 2147483647 bs)) (positive (number_up_to 2147483647 (b ∷ bs))) (Some None) is)
+    (λ (at_end : (number_up_to most_variable (b ∷ bs) ≡ Some 0) × (None ≡ None)). (number_spells most_variable 0 (b ∷ bs) (omega arith) at_end.0).1 ∙ decimal_0)
+    (λ (found : (n : ℕ) × (0 < n) × (number_up_to most_variable (b ∷ bs) ≡ Some n) × (None ≡ Some (pos n))). let no_ : None ≡ Some (pos found.0) = found.3 in absurd cc)
+    (positive_cases (number_up_to most_variable (b ∷ bs)) None plain.1))
+    (if_cases (b == 45) (negative (number_up_to most_variable bs)) (positive (number_up_to most_variable (b ∷ bs))) (Some None) is)
 
-literal_plain : (w : List ℕ) → begins_minus w ≡ false → literal_in w ≡ positive (number_up_to 2147483647 w)
+literal_plain : (w : List ℕ) → begins_minus w ≡ false → literal_in w ≡ positive (number_up_to most_variable w)
 literal_plain [] is = refl
 literal_plain (b ∷ bs) is = rw is refl
 
 pub literal_back : (z : ℤ) → 0 < variable z → variable z < 2 ^ 31 → literal_in (signed_decimal z) ≡ Some (Some z)
 literal_back (pos n) some small =
     literal_plain (decimal n) (number_minus n some (omega (arith, small)))
-    ∙ ap positive (number_back 2147483647 n (omega (arith, small)) (omega (arith, small)))
+    ∙ ap positive (number_back most_variable n (omega (arith, small)) (omega (arith, small)))
     ∙ rw (not_0 n some) refl
-literal_back (negsuc n) some small = ap negative (number_back 2147483647 (suc n) (omega (arith, small)) (omega (arith, small))) ∙ rw (not_0 (suc n) (omega arith)) refl
+literal_back (negsuc n) some small = ap negative (number_back most_variable (suc n) (omega (arith, small)) (omega (arith, small))) ∙ rw (not_0 (suc n) (omega arith)) refl
 
 pub literal_end_back : literal_in nought ≡ Some None
-literal_end_back = ap literal_in (sym decimal_0) ∙ ap literal_in decimal_0 ∙ ap positive (ap (number_up_to 2147483647) (sym decimal_0) ∙ number_back 2147483647 0 (omega arith) (omega arith))
+literal_end_back = ap literal_in (sym decimal_0) ∙ ap literal_in decimal_0 ∙ ap positive (ap (number_up_to most_variable) (sym decimal_0) ∙ number_back most_variable 0 (omega arith) (omega arith))
 
 -- ---- lists
 

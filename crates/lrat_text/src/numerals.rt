@@ -4,9 +4,11 @@ ghost use Rattle.text_core.specs.Items.{items_left, size_left};
 ghost use Rattle.text_core.specs.Numbers.{number_up_to as number_up_to_of};
 ghost use Rattle.lrat_text.specs.Numerals as spec;
 ghost use Rattle.lrat_text.specs.Numerals.{first_of, after_first};
+ghost use Rattle.sat_theory.specs.Limits.{most_variable};
 
 use crate::numbers::next_number;
 use cnf_core::Lit;
+use sat_theory::{MOST_ID, MOST_VARIABLE};
 
 /// The id that the first item of a text spells, or None for the 0 that ends a list, and the text after the
 /// item's blank; None as a whole if the item isn't a number in the range.
@@ -17,7 +19,7 @@ pub(crate) fn next_id(text: &[u8]) -> Option<(Option<u32>, Option<&[u8]>)>
     ensures rest { IfSome result (λ x. after_first text.now ≡ items_left x.1) }
     ensures shorter { IfSome result (λ x. size_left x.1 < length text.now + 1) }
 {
-    let Some((id, rest)) = next_number(4_294_967_295, text) else {
+    let Some((id, rest)) = next_number(MOST_ID, text) else {
         return None;
     };
     if id == 0 {
@@ -30,9 +32,9 @@ pub(crate) fn next_id(text: &[u8]) -> Option<(Option<u32>, Option<&[u8]>)>
 #[tactic(auto, using(crate::proofs::Entries::entries))]
 fn after_minus(text: &[u8]) -> Option<&[u8]>
     ensures none { IfNone result (spec.literal_in (first_of text.now) ≡
-        spec.positive (number_up_to_of 2147483647 (first_of text.now))) }
+        spec.positive (number_up_to_of most_variable (first_of text.now))) }
     ensures literal { IfSome result (λ digits. spec.literal_in (first_of text.now) ≡
-        spec.negative (number_up_to_of 2147483647 (first_of digits.now))) }
+        spec.negative (number_up_to_of most_variable (first_of digits.now))) }
     ensures rest { IfSome result (λ digits. after_first text.now ≡ after_first digits.now) }
     ensures shorter { IfSome result (λ digits. length digits.now < length text.now) }
 {
@@ -52,7 +54,7 @@ pub(crate) fn next_literal(text: &[u8]) -> Option<(Option<Lit>, Option<&[u8]>)>
     ensures shorter { IfSome result (λ x. size_left x.1 < length text.now + 1) }
 {
     if let Some(digits) = after_minus(text) {
-        let Some((variable, rest)) = next_number(2_147_483_647, digits) else {
+        let Some((variable, rest)) = next_number(MOST_VARIABLE, digits) else {
             return None;
         };
         if variable == 0 {
@@ -61,7 +63,7 @@ pub(crate) fn next_literal(text: &[u8]) -> Option<(Option<Lit>, Option<&[u8]>)>
         let lit = Lit::new(variable as i32);
         return Some((Some(lit.opposite()), rest));
     }
-    let Some((variable, rest)) = next_number(2_147_483_647, text) else {
+    let Some((variable, rest)) = next_number(MOST_VARIABLE, text) else {
         return None;
     };
     if variable == 0 {

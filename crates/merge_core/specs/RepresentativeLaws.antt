@@ -14,6 +14,7 @@ use Rattle.lane_sim.specs.Words.{Words, AreWords, width_of}
 use Rattle.merge_core.specs.Whole.{cone_of}
 use Rattle.merge_core.specs.WholeLaws.{count_at, count_length, whole_nodes, whole_value}
 use Rattle.merge_core.specs.Representatives.{word_of, IsRepresentativeIn, HaveRepresentatives, IsRepresentative, AreRepresentatives}
+use Rattle.net_theory.specs.Limits.{most_leaves}
 
 -- ---- the order of signatures
 
@@ -34,7 +35,7 @@ node_at n p some within =
     ∙ ap Some here
 
 -- a bit of a signal's signature is its value under an assignment
-signal_bit : (n : Net) (w : Words) (given : ℕ → Bool) (s : Sig) (j b : ℕ) → IsNet n → n.sources ≤ 12 →
+signal_bit : (n : Net) (w : Words) (given : ℕ → Bool) (s : Sig) (j b : ℕ) → IsNet n → n.sources ≤ most_leaves →
     AreWords (cone_of n) w → 64 * j + b ≡ row_of n.sources given → b < 64 → row_of n.sources given < w.signatures →
     IsSigBelow (end_of n) s → digit (word_of w.lanes (width_of w.signatures) s j) b ≡ sig_value (value n given) s
 signal_bit n w given Zero j b net few words row low within below = digit_spread false b low
@@ -53,7 +54,7 @@ below_end node end One low below = tt
 below_end node end (Node p) low below = (below.0, omega (arith, low, below.1))
 
 -- Each assignment has a bit in the signature, so equal signatures mean equal values under every assignment.
-pub words_representative : (n : Net) (w : Words) (node : ℕ) (s : Sig) → IsNet n → n.sources ≤ 12 →
+pub words_representative : (n : Net) (w : Words) (node : ℕ) (s : Sig) → IsNet n → n.sources ≤ most_leaves →
     AreWords (cone_of n) w → 1 ≤ node → node < end_of n → IsRepresentativeIn w.lanes (width_of w.signatures) node s →
     IsRepresentative n node s
 words_representative n w node s net few words some within is = record {
@@ -103,7 +104,7 @@ words_room n w lanes end width sources words last same is own =
     omega (arith, size)
 
 pub representatives_all : (n : Net) (w : Words) (lanes : List ℕ) (end width sources : ℕ)
-    (representatives : List (Option Sig)) → IsNet n → n.sources ≤ 12 → AreWords (cone_of n) w → end ≡ end_of n →
+    (representatives : List (Option Sig)) → IsNet n → n.sources ≤ most_leaves → AreWords (cone_of n) w → end ≡ end_of n →
     sources ≡ n.sources → width ≡ width_of (2 ^ sources) → lanes ≡ w.lanes →
     HaveRepresentatives lanes width end representatives → AreRepresentatives n representatives
 representatives_all n w lanes end width sources representatives net few words last same is own have = record {

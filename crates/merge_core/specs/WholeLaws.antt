@@ -13,6 +13,7 @@ use Rattle.net_theory.specs.ValueLaws.{value-source, values_after-gate}
 use Rattle.lane_sim.specs.Cone.{Cone, IsCone, IsGateOver, IsSigAmong, AreApart, node_of, nodes, value_in}
 use Rattle.lane_sim.specs.ConeLaws.{cone_leaf, cone_gate}
 use Rattle.merge_core.specs.Whole.{count_from, numbered_from, cone_of}
+use Rattle.net_theory.specs.Limits.{most_leaves}
 
 -- ---- numbers in order
 
@@ -165,7 +166,7 @@ among count (Node p) below =
     let here : 1 + (p - 1) ≡ p = omega (arith, below.0) in
     (p - 1, count_at 1 count (p - 1) (omega (arith, below.0, below.1)) ∙ ap Some here)
 
-pub whole_cone : (n : Net) → IsNet n → n.sources ≤ 12 → IsCone (cone_of n)
+pub whole_cone : (n : Net) → IsNet n → n.sources ≤ most_leaves → IsCone (cone_of n)
 whole_cone n net few = record {
   few = omega (arith, few, count_length 1 n.sources);
   apart = subst AreApart (sym (whole_nodes n)) (count_apart 1 (n.sources + length n.gates));
@@ -184,7 +185,7 @@ whole_cone n net few = record {
 abbrev cone_put : List ℕ → List (ℕ × Gate) → Cone
 cone_put leaves gates = record { leaves = leaves; gates = gates }
 
-pub cone_whole : (n : Net) (sources : ℕ) (leaves : List ℕ) (gates : List (ℕ × Gate)) → IsNet n → n.sources ≤ 12 →
+pub cone_whole : (n : Net) (sources : ℕ) (leaves : List ℕ) (gates : List (ℕ × Gate)) → IsNet n → n.sources ≤ most_leaves →
     sources ≡ n.sources → leaves ≡ count_from 1 sources → gates ≡ numbered_from (n.sources + 1) n.gates →
     IsCone (record { leaves = leaves; gates = gates })
 cone_whole n sources leaves gates net few same are numbered =
@@ -240,7 +241,7 @@ values_below n row given (suc end) p net cone bits low some within =
     (cases_lt p (n.sources + 1))
 
 -- Under each assignment, a node has in the cone the value that it has in the net.
-pub whole_value : (n : Net) (given : ℕ → Bool) (p : ℕ) → IsNet n → n.sources ≤ 12 → 1 ≤ p → p < end_of n → value_in (cone_of n) (row_of n.sources given) p ≡ value n given p
+pub whole_value : (n : Net) (given : ℕ → Bool) (p : ℕ) → IsNet n → n.sources ≤ most_leaves → 1 ≤ p → p < end_of n → value_in (cone_of n) (row_of n.sources given) p ≡ value n given p
 whole_value n given p net few some within =
     values_below n (row_of n.sources given) given (suc p) p net (whole_cone n net few)
     (λ q some_q low_q. row_digit given n.sources (n.sources - q) q (omega (arith, low_q)) some_q)

@@ -5,7 +5,8 @@ ghost use Rattle.net_theory.specs.Net.{IsGateAt, end_of};
 ghost use Rattle.net_theory.specs.Implements.{Implements};
 ghost use Rattle.net_theory.specs.Moving.{sources_stay};
 ghost use Rattle.net_core.specs.Marks.{nodes_of, kept};
-ghost use Rattle.merge_core.specs.Merging.{HaveDistinctKeys, AreKeys, HaveOperatorsOf, IsFoundOrAppended, IsStrashStep};
+ghost use Rattle.merge_core.specs.Merging.{HaveDistinctKeys, AreKeys, HaveOperatorsOf, IsFoundOrAppended};
+ghost use Rattle.merge_core.specs.Merging.{IsStrashStep};
 ghost use Rattle.merge_core.specs.Merging.{IsMerged};
 
 use crate::key::{StrashKey, key_of};

@@ -4,6 +4,7 @@ ghost use Rattle.net_theory.specs.Net.{end_of};
 ghost use Rattle.lane_sim.specs.Words.{AreWords, width_of as width_of_rows};
 ghost use Rattle.merge_core.specs.Whole.{cone_of};
 ghost use Rattle.merge_core.specs.Representatives.{IsRepresentativeIn, HaveRepresentatives, AreRepresentatives};
+ghost use Rattle.net_theory.specs.Limits.{most_leaves};
 
 use crate::signatures::{are_all, are_same, hash_of, signature_start};
 use crate::whole::whole_cone;
@@ -14,7 +15,7 @@ use std::collections::HashMap;
 
 /// The number of words of a signature over `sources` sources.
 fn width_of(sources: u32) -> usize
-    requires { sources ≤ 12 }
+    requires { sources ≤ most_leaves }
     ensures { result ≡ width_of_rows (2 ^ sources) }
 {
     ((1u32 << sources) as usize + 63) / 64
@@ -110,7 +111,7 @@ fn representatives_by(
     words: &Words,
     end: u32,
 ) -> Result<Vec<Option<Sig>>, AllocError>
-    requires few { net.now.sources ≤ 12 }
+    requires few { net.now.sources ≤ most_leaves }
     requires words { AreWords (cone_of net.now) words.now }
     requires end { end ≡ end_of net.now }
     ensures { IfOk result (λ representatives. AreRepresentatives net.now representatives.items) }

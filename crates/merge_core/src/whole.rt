@@ -1,6 +1,7 @@
 //! A whole net as one cone: its leaves are the sources, and its gates are all gates of the net.
 ghost use Rattle.std.specs.Prelude.{◌≡◌, ◌+◌, ◌≤◌, IfOk};
 ghost use Rattle.merge_core.specs.Whole.{count_from, numbered_from, cone_of};
+ghost use Rattle.net_theory.specs.Limits.{most_leaves};
 
 use lane_sim::Cone;
 use net_core::{Gate, Net};
@@ -35,7 +36,7 @@ fn numbered_gates(alloc: Global, net: &Net) -> Result<Vec<(u32, Gate)>, AllocErr
 /// The cone of all gates of a net over its sources. It needs no check, since the gates of a net are in topological
 /// order.
 pub fn whole_cone(alloc: Global, net: &Net) -> Result<Cone, AllocError>
-    requires { net.now.sources ≤ 12 }
+    requires { net.now.sources ≤ most_leaves }
     ensures { IfOk result (λ cone. cone ≡ cone_of net.now) }
 {
     let leaves = source_nodes(alloc, net.sources())?;

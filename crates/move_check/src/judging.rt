@@ -1,6 +1,6 @@
 //! Checks a candidate before it replaces a net.
 ghost use Rattle.std.specs.Prelude.{◌≡◌, ◌≤◌, true, length, IfOk, IfSome};
-ghost use Rattle.sat_solve.specs.Budgets.{most_budget};
+ghost use Rattle.sat_theory.specs.Limits.{most_conflicts};
 ghost use Rattle.net_theory.specs.Implements.{IsCleanedUp};
 ghost use Rattle.op_basis.specs.Basis.{members};
 ghost use Rattle.equiv_core.specs.Limits.{AreSmall};
@@ -16,7 +16,7 @@ use sat_solve::Solver;
 use std::alloc::{AllocError, Global};
 
 /// The most gates of nets that are compared (`AreSmall`).
-const MOST_GATES: usize = 100_000;
+const MOST_GATES: usize = net_theory::MOST_GATES as usize;
 
 /// The most sources, and the most sinks, of nets that are compared: fewer than 300,000,000 (`IsSmall`).
 const MOST_SOURCES_OR_SINKS: usize = 299_999_999;
@@ -53,7 +53,7 @@ pub fn judged<S: Solver>(
     basis: Basis,
     budget: u32,
 ) -> Result<Option<Net>, AllocError>
-    requires budget { (1 ≤ budget) × (budget ≤ most_budget) }
+    requires budget { (1 ≤ budget) × (budget ≤ most_conflicts) }
     ensures cleaned_up { IfOk result (λ found. IfSome found (IsCleanedUp net.now)) }
     ensures lean { IfOk result (λ found. IfSome found (λ m. length m.gates ≤ length candidate.now.gates)) }
     ensures operators { IfOk result (λ found. IfSome found (HasOperatorsWithin (members basis) net.now)) }

@@ -15,6 +15,7 @@ use Rattle.net_core.specs.declared.error.NetError.TheVariants.{TooManyGates}
 use Rattle.net_document.specs.Listed.{Listed, IsWellListed, AreControlsFree}
 use Rattle.net_document.specs.Refusals.{repeated, missing, twice_or, undriven_in, fault_of}
 use Rattle.net_document.specs.TimesLaws.{has_times, times_has, distinct_times, times_distinct, repeated_distinct, missing_driven}
+use Rattle.net_theory.specs.Limits.{most_gates}
 
 -- an undriven name of the first list comes first
 pub missing-some : (driven xs ys : List Name) (n : Name) → missing driven xs ≡ Some n → missing driven (xs ++ ys) ≡ Some n
@@ -40,7 +41,7 @@ pub ruleset missings = (common_steps, missing-some, missing-none)
 -- ---- no faults
 
 pub record HasNoFault (l : Listed) : Type 0 where
-  pub gates : cost l.document ≤ 100000
+  pub gates : cost l.document ≤ most_gates
   pub once : repeated [] l.driven ≡ None
   pub driven : missing l.driven (l.used ++ l.document.outputs) ≡ None
 
@@ -60,7 +61,7 @@ no_fault l e =
     (λ few.
     let t = twice_none (repeated [] l.driven) (undriven_in (missing l.driven (l.used ++ l.document.outputs))) (sym (cond-false _ _ _ few) ∙ e) in
     record { gates = grind (arith, common_steps, few); once = t.0; driven = undriven_none (missing l.driven (l.used ++ l.document.outputs)) t.1 })
-    (cases_Bool (nat_lt 100000 (cost l.document)))
+    (cases_Bool (nat_lt most_gates (cost l.document)))
 
 no_names : are_distinct [] ≡ true
 unfolding are_distinct

@@ -26,6 +26,7 @@ use Rattle.net_theory.specs.NetOf.{Signals, Growth, with_signal, with_sources, s
 use Rattle.net_theory.specs.NetLaws.{IsGrowth, spent, start_growth, tables_grown}
 use Rattle.net_core.specs.Growing.{built}
 use Rattle.net_build.specs.Parts.{growth, AreSignalsBelow, FitsTable, IsPartlyBuilt}
+use Rattle.net_theory.specs.Limits.{most_gates}
 
 -- ---- signals of the net
 
@@ -100,7 +101,7 @@ unfolding with_table
 table_gates sources g t = refl
 
 pub table_fits : (d : Document) (n : Net) (signals : Signals) (k : ℕ) (left : List ℕ) (t : Table) → IsWellFormed d →
-    source_count d + 100000 < 2 ^ 31 → IsPartlyBuilt d n signals (k ∷ left) → slice_get d.tables k ≡ Some t →
+    source_count d + most_gates < 2 ^ 31 → IsPartlyBuilt d n signals (k ∷ left) → slice_get d.tables k ≡ Some t →
     FitsTable n t
 unfolding cost
 table_fits d n signals k left t well small b at =

@@ -11,6 +11,7 @@ use Rattle.net_core.specs.declared.whole.Body.{Body}
 use Rattle.net_core.specs.declared.whole.Body.TheVariants.{Cubes, Joined}
 use Rattle.net_core.specs.Wholes.{cover_of, IsBody, JoinsSome}
 use Rattle.net_build.specs.Parts.{merged_by}
+use Rattle.net_theory.specs.Limits.{most_cubes}
 
 -- a body is valid if its cover is and it joins at least one input
 pub body_good : (b : Body) → JoinsSome b → IsCover (cover_of b) → IsBody b
@@ -29,7 +30,7 @@ merged_cover t c is e = subst (λ (m : Table). IsCover m.cover) (sym e) (merged_
 pub merged_width : (t : Table) (c : Option Cover) → IsTable t → merged_by t c ≡ merged_table t → (merged_by t c).cover.width ≡ length (merged_by t c).inputs
 merged_width t c is e = subst (λ (m : Table). m.cover.width ≡ length m.inputs) (sym e) (merged_is t is.cover is.width).width
 
-few_by : (t : Table) (ns : List Name) → length t.cover.cubes ≤ 4096 → length (merged t ns).cover.cubes ≤ 4096
+few_by : (t : Table) (ns : List Name) → length t.cover.cubes ≤ most_cubes → length (merged t ns).cover.cubes ≤ most_cubes
 few_by t [] few = few
 few_by t (a ∷ []) few = few
 few_by t (a ∷ b ∷ []) few =
@@ -38,19 +39,19 @@ few_by t (a ∷ b ∷ []) few =
       output = t.output;
       cover = unary_cover (cover_value t.cover (false ∷ false ∷ [])) (cover_value t.cover (true ∷ true ∷ []));
     }) t
-    (λ (m : Table). length m.cover.cubes ≤ 4096)
+    (λ (m : Table). length m.cover.cubes ≤ most_cubes)
     (λ same. two (cover_value t.cover (false ∷ false ∷ [])) (cover_value t.cover (true ∷ true ∷ [])))
     (λ other. few) where
-      two : (x y : Bool) → length (unary_cover x y).cubes ≤ 4096
+      two : (x y : Bool) → length (unary_cover x y).cubes ≤ most_cubes
       two true true = omega arith
       two true false = omega arith
       two false true = omega arith
       two false false = omega arith
 few_by t (a ∷ b ∷ c ∷ ns) few = few
 
-pub merged_few : (t : Table) (c : Option Cover) → IsTable t → merged_by t c ≡ merged_table t → length (merged_by t c).cover.cubes ≤ 4096
+pub merged_few : (t : Table) (c : Option Cover) → IsTable t → merged_by t c ≡ merged_table t → length (merged_by t c).cover.cubes ≤ most_cubes
 unfolding merged_table
-merged_few t c is e = subst (λ (m : Table). length m.cover.cubes ≤ 4096) (sym e) (few_by t t.inputs is.few)
+merged_few t c is e = subst (λ (m : Table). length m.cover.cubes ≤ most_cubes) (sym e) (few_by t t.inputs is.few)
 
 pub ruleset merges = (common_steps, merged-other)
 

@@ -15,6 +15,7 @@ use Rattle.graph_core.specs.Cycles.{IsFirstCyclicNode}
 use Rattle.net_document.specs.Listed.{Listed, IsWellListed, AreControlsFree}
 use Rattle.net_document.specs.Refusals.{fault_of}
 use Rattle.net_build.proofs.Faults.{listed_well, outputs_distinct}
+use Rattle.net_theory.specs.Limits.{most_gates}
 
 pub cyclic_first : (d : Document) (k : ℕ) (t : Table) → are_distinct (map table_output d.tables) ≡ true →
     IsFirstCyclicNode (graph_of d.tables) (Some k) → slice_get d.tables k ≡ Some t → IsFirstCyclic d t.output
@@ -42,7 +43,7 @@ pub order_good : (d : Document) (order : List ℕ) → order_of (graph_of d.tabl
 order_good d order e = order_is (graph_of d.tables) order (graph_closed d) e
 
 pub circuit_good : (l : Listed) (order : List ℕ) (c : Circuit) → IsWellListed l → AreControlsFree l.document →
-    fault_of l ≡ None → source_count l.document + 100000 < 2 ^ 31 →
+    fault_of l ≡ None → source_count l.document + most_gates < 2 ^ 31 →
     order_of (graph_of l.document.tables) ≡ Some order → c ≡ circuit_of l.document (net_in_order l.document order) →
     IsCircuitOf l.document c
 circuit_good l order c is free none small e same =

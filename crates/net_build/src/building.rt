@@ -10,6 +10,7 @@ ghost use Rattle.net_theory.specs.NetOf.{grown_by, table_built, with_table, with
 ghost use Rattle.net_theory.specs.NetOf.{source_count, net_in_order};
 ghost use Rattle.net_theory.specs.Document.{source_names};
 ghost use Rattle.net_build.specs.Parts.{growth, AreSignalsBelow, CanExpand, FitsTable, IsPartlyBuilt};
+ghost use Rattle.net_theory.specs.Limits.{most_gates};
 
 use crate::merging::{first_alone, merged_cover};
 use crate::signals::{number_latches, number_names, push_signals, set_signal, sinks_of};
@@ -98,7 +99,7 @@ fn add_tables(
     order: &[u32],
 ) -> Result<(), AllocError>
     requires well { IsWellFormed document.now }
-    requires small { source_count document.now + 100000 < 2 ^ 31 }
+    requires small { source_count document.now + most_gates < 2 ^ 31 }
     requires begun { IsPartlyBuilt document.now net.old (get is_same signals.old) order.now }
     ensures grown { OnOk result (growth net.new.gates (get is_same signals.new) ≡
         with_tables (source_count document.now) document.now.tables (growth net.old.gates (get is_same signals.old))
@@ -116,7 +117,7 @@ fn add_tables(
 /// Binds the names of the sources to the nodes from 1 on.
 #[tactic(auto, using(crate::proofs::Growths::sources))]
 fn number_sources(signals: &mut IndexMap<Name, Sig>, document: &Document) -> Result<(), AllocError>
-    requires { source_count document.now + 100000 < 2 ^ 31 }
+    requires { source_count document.now + most_gates < 2 ^ 31 }
     ensures { OnOk result (get is_same signals.new ≡
         with_sources (get is_same signals.old) 1 (source_names document.now)) }
 {
@@ -135,7 +136,7 @@ fn net_over(
     signals: &mut IndexMap<Name, Sig>,
 ) -> Result<Net, AllocError>
     requires well { IsWellFormed document.now }
-    requires small { source_count document.now + 100000 < 2 ^ 31 }
+    requires small { source_count document.now + most_gates < 2 ^ 31 }
     requires order { IsTopologicalOrder (graph_of document.now.tables) order.now }
     requires signals { get is_same signals.old ≡ with_sources (λ n. None) 1 (source_names document.now) }
     ensures { IfOk result (λ net. net ≡ net_in_order document.now order.now) }
@@ -150,7 +151,7 @@ fn net_over(
 /// The net of a document whose tables have the topological order `order`.
 pub fn grow(alloc: Global, document: &Document, order: &[u32]) -> Result<Net, AllocError>
     requires well { IsWellFormed document.now }
-    requires small { source_count document.now + 100000 < 2 ^ 31 }
+    requires small { source_count document.now + most_gates < 2 ^ 31 }
     requires order { IsTopologicalOrder (graph_of document.now.tables) order.now }
     ensures { IfOk result (λ net. net ≡ net_in_order document.now order.now) }
 {

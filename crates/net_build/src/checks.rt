@@ -4,11 +4,13 @@ ghost use Rattle.std.specs.Prelude.{◌≡◌, ◌<◌, ◌≤◌, ◌^◌, [], 
 ghost use Rattle.net_theory.specs.Cost.{cost};
 ghost use Rattle.net_document.specs.Listed.{IsWellListed};
 ghost use Rattle.net_document.specs.Refusals.{repeated, missing, fault_of, IsRefusedListing};
+ghost use Rattle.net_theory.specs.Limits.{most_gates};
 
 use crate::merging::total_cost;
 use indexmap::IndexSet;
 use net_core::{Name, NetError};
 use net_document::Listed;
+use net_theory::MOST_GATES;
 use std::alloc::{AllocError, Global};
 
 /// Adds driven names to `set` and returns the first one that is already there.
@@ -61,7 +63,7 @@ fn first_undriven(
 /// Refuses an undriven name, if there is no other fault.
 #[tactic(auto, unfolding(net_document::specs::Refusals::fault_of))]
 fn check_used(driven: &IndexSet<Name>, listed: &Listed) -> Result<(), NetError>
-    requires few { cost listed.now.document ≤ 100000 }
+    requires few { cost listed.now.document ≤ most_gates }
     requires once { repeated [] listed.now.driven ≡ None }
     requires driven { driven.now.keys ≡ listed.now.driven }
     ensures good { IfOk result (λ _. fault_of listed.now ≡ None) }
@@ -77,7 +79,7 @@ fn check_used(driven: &IndexSet<Name>, listed: &Listed) -> Result<(), NetError>
 /// before and has the driven names after.
 #[tactic(auto, unfolding(net_document::specs::Refusals::fault_of))]
 fn check_names(driven: &mut IndexSet<Name>, listed: &Listed) -> Result<(), NetError>
-    requires few { cost listed.now.document ≤ 100000 }
+    requires few { cost listed.now.document ≤ most_gates }
     requires none { driven.old.keys ≡ [] }
     ensures good { IfOk result (λ _. fault_of listed.now ≡ None) }
     ensures refused { IfErr result (IsRefusedListing listed.now) }
@@ -97,7 +99,7 @@ pub fn check(alloc: Global, listed: &Listed) -> Result<(), NetError>
     ensures refused { IfErr result (IsRefusedListing listed.now) }
 {
     let gates = total_cost(alloc, &listed.document.tables)?;
-    if gates > 100_000 {
+    if gates > MOST_GATES {
         return Err(NetError::TooManyGates(gates));
     }
     let mut driven = IndexSet::new(alloc);

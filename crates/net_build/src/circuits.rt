@@ -12,6 +12,7 @@ ghost use Rattle.net_theory.specs.NetOf.{source_count, graph_of as graph_of_tabl
 ghost use Rattle.net_document.specs.Listed.{IsWellListed, AreControlsFree};
 ghost use Rattle.net_document.specs.Refusals.{fault_of, IsRefusedListing};
 ghost use Rattle.net_build.specs.Parts.{IsCyclicError};
+ghost use Rattle.net_theory.specs.Limits.{most_gates};
 
 use crate::building::{grow, table_at};
 use crate::checks::check;
@@ -83,7 +84,7 @@ fn document_graph(alloc: Global, document: &Document) -> Result<Vec<Fanins>, All
 
 /// The net of a document, or an error with the first table's output on a combinational loop.
 fn ordered_net(alloc: Global, document: &Document) -> Result<Net, NetError>
-    requires small { source_count document.now + 100000 < 2 ^ 31 }
+    requires small { source_count document.now + most_gates < 2 ^ 31 }
     requires few { length document.now.tables < 2 ^ 31 }
     requires distinct { are_distinct (map table_output document.now.tables) ≡ true }
     requires ready { (order : List ℕ) → order_of (graph_of_tables document.now.tables) ≡ Some order →

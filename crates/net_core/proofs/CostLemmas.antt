@@ -9,6 +9,7 @@ use Rattle.net_theory.specs.Cover.{Cover, IsCover, is_cube, is_cube_byte}
 use Rattle.net_theory.specs.Cost.{literal_count, literal_sum, is_not, cubes_cost, wide_cost}
 use Rattle.net_theory.specs.Expansion.{is_plain}
 use Rattle.net_core.proofs.Wide.{wide_cost-some}
+use Rattle.net_theory.specs.Limits.{most_table_inputs, most_cubes}
 
 pub cost_plain : (c : Cover) → c.parity ≡ false → is_plain c.cubes ≡ true → 0 ≡ wide_cost c
 unfolding wide_cost cubes_cost
@@ -22,16 +23,16 @@ cost_else c cubed e turned = omega (arith, wide_cost-some c cubed e ∙ ap (λ (
 
 -- ---- bounds
 
-cube_narrow : (width : ℕ) (cube : List ℕ) → width ≤ 256 → is_cube width cube ≡ true → literal_count cube ≤ 256
+cube_narrow : (width : ℕ) (cube : List ℕ) → width ≤ most_table_inputs → is_cube width cube ≡ true → literal_count cube ≤ most_table_inputs
 cube_narrow width cube narrow is =
     omega (arith, eqb-true (length cube) width (and_parts (length cube == width) (list_all is_cube_byte cube) is).0, count_by-le-length (λ (b : ℕ). b == 48 || b == 49) cube)
 
-cubes_few : (width : ℕ) (cubes : List (List ℕ)) → width ≤ 256 → AllByRecursion (λ (cube : List ℕ). is_cube width cube ≡ true) cubes → literal_sum cubes ≤ 256 * length cubes
+cubes_few : (width : ℕ) (cubes : List (List ℕ)) → width ≤ most_table_inputs → AllByRecursion (λ (cube : List ℕ). is_cube width cube ≡ true) cubes → literal_sum cubes ≤ most_table_inputs * length cubes
 cubes_few width [] narrow are = omega arith
 cubes_few width (c ∷ cubes) narrow are =
     omega (arith, sum_by-cons literal_count c cubes, cube_narrow width c narrow are.0, cubes_few width cubes narrow are.1)
 
-pub few_literals : (c : Cover) → IsCover c → c.width ≤ 256 → length c.cubes ≤ 4096 → literal_sum c.cubes < 2 ^ 31
+pub few_literals : (c : Cover) → IsCover c → c.width ≤ most_table_inputs → length c.cubes ≤ most_cubes → literal_sum c.cubes < 2 ^ 31
 few_literals c is narrow few = omega (arith, cubes_few c.width c.cubes narrow (recursion_from_All (λ (cube : List ℕ). is_cube c.width cube ≡ true) c.cubes is.cubes))
 
 pub ruleset costs = (common_steps, cost_plain, cost_not, cost_else, few_literals)

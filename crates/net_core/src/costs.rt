@@ -5,6 +5,7 @@ ghost use Rattle.net_theory.specs.Cover.{IsCover};
 ghost use Rattle.net_theory.specs.Cost.{unary_cost as unary_cost_of, binary_cost as binary_cost_of};
 ghost use Rattle.net_theory.specs.Cost.{literal_count as literal_count_of, literal_sum, is_not as is_not_of};
 ghost use Rattle.net_theory.specs.Cost.{wide_cost as wide_cost_of, cover_cost as cover_cost_of};
+ghost use Rattle.net_theory.specs.Limits.{most_table_inputs, most_cubes};
 
 use crate::cover::{Cover, Cube};
 use crate::expansion::is_plain;
@@ -92,8 +93,8 @@ fn wide_cost(cover: &Cover) -> u32
 #[tactic(auto, using(crate::proofs::CostLemmas::costs))]
 pub fn cover_cost<T>(cover: &Cover, inputs: &[T]) -> u32
     requires cover { IsCover cover.now }
-    requires narrow { cover.now.width ≤ 256 }
-    requires few { length cover.now.cubes ≤ 4096 }
+    requires narrow { cover.now.width ≤ most_table_inputs }
+    requires few { length cover.now.cubes ≤ most_cubes }
     ensures { result ≡ cover_cost_of cover.now inputs.now }
 {
     match inputs {

@@ -190,7 +190,8 @@ fn push_terms(
     ensures terms { IfOk result (λ outs. terms gates.new.items outs.items ≡
         terms_from sources inputs.now (terms gates.old.items []) cubes.now) }
     ensures size { IfOk result (λ outs. vec_len outs ≡ length cubes.now) }
-    ensures count { IfOk result (λ outs. vec_len gates.new + vec_len outs ≡ vec_len gates.old + literal_sum cubes.now) }
+    ensures count { IfOk result (λ outs. vec_len gates.new + vec_len outs ≡
+        vec_len gates.old + literal_sum cubes.now) }
     ensures prefix { IsPrefixOfGates gates.old.items gates.new.items }
 {
     let mut outs = Vec::new(alloc);

@@ -1,6 +1,7 @@
 //! The names of a circuit's gates in the written text.
 
-ghost use Rattle.std.specs.Prelude.{◌≡◌, ◌^◌, ◌+◌, ◌-◌, ◌≤◌, ◌<◌, [], length, map, slice_get, vec_len, All, OnOk, IfOk};
+ghost use Rattle.std.specs.Prelude.{◌≡◌, ◌^◌, ◌+◌, ◌-◌, ◌≤◌, ◌<◌, [], length, map, slice_get, vec_len, All, OnOk};
+ghost use Rattle.std.specs.Prelude.{IfOk};
 ghost use Rattle.std.specs.List.{filter_map};
 ghost use Rattle.net_theory.specs.Document.{has, latch_output};
 ghost use Rattle.net_theory.specs.Naming.{control_of, taken_names, taken_set, numbered as numbered_of, each_once};

@@ -10,6 +10,7 @@ ghost use Rattle.net_theory.specs.Expansion.{unary_word as unary_word_of, binary
 ghost use Rattle.net_theory.specs.Expansion.{unsigned as unsigned_of, expanded};
 ghost use Rattle.net_core.specs.Growing.{built, IsPrefixOfGates};
 ghost use Rattle.net_core.specs.Wholes.{whole_cover, cover_of, IsBody, joined_bits};
+ghost use Rattle.net_theory.specs.Limits.{most_table_inputs, most_cubes};
 
 use crate::costs::{binary_cost, cover_cost, unary_cost};
 use crate::cover::Cover;
@@ -204,8 +205,8 @@ pub fn body_value(body: &Body, bits: &[bool]) -> bool
 pub fn body_cost<T>(body: &Body, inputs: &[T]) -> u32
     requires body { IsBody body.now }
     requires width { (cover_of body.now).width ≡ length inputs.now }
-    requires narrow { length inputs.now ≤ 256 }
-    requires few { length (cover_of body.now).cubes ≤ 4096 }
+    requires narrow { length inputs.now ≤ most_table_inputs }
+    requires few { length (cover_of body.now).cubes ≤ most_cubes }
     ensures { result ≡ cover_cost_of (cover_of body.now) inputs.now }
 {
     match body {

@@ -13,6 +13,7 @@ use Rattle.net_document.specs.Listed.{Listed, IsWellListed, times}
 use Rattle.net_document.specs.Refusals.{repeated, missing, undriven_in, twice_or, fault_of, IsRefusedListing}
 use Rattle.net_document.specs.TimesLaws.{has_times, times_has, distinct_times, times_distinct}
 use Rattle.net_document.specs.Format.{Format, IsNetlist, IsReported, IsRefusedText, HasNetFault, ListsWell}
+use Rattle.net_theory.specs.Limits.{most_gates}
 
 -- ---- documents without a fault
 
@@ -42,7 +43,7 @@ pub fault_none : (l : Listed) → IsWellListed l → IsWellFormed l.document →
 unfolding fault_of
 fault_none l is well =
     let distinct : are_distinct l.driven ≡ true = times_distinct l.driven (λ n. omega (arith, is.driven n, distinct_times (driven_names l.document) n well.driven_once)) in
-    cond-false (nat_lt 100000 (cost l.document)) _ _ (le-ltb 100000 (cost l.document) well.gates)
+    cond-false (nat_lt most_gates (cost l.document)) _ _ (le-ltb most_gates (cost l.document) well.gates)
     ∙ ap (λ (r : Option Name). twice_or r (undriven_in (missing l.driven (l.used ++ l.document.outputs)))) (repeated_none [] l.driven distinct)
     ∙ ap undriven_in (missing_none l.driven (l.used ++ l.document.outputs) (listed_driven l is well))
 

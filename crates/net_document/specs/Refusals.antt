@@ -6,6 +6,7 @@ use Rattle.net_theory.specs.Dependence.{IsFirstCyclic}
 use Rattle.net_core.specs.declared.error.NetError.{NetError}
 use Rattle.net_core.specs.declared.error.NetError.TheVariants.{Memory, TooManyGates, DrivenTwice, Undriven, Cycle}
 use Rattle.net_document.specs.Listed.{Listed}
+use Rattle.net_theory.specs.Limits.{most_gates}
 
 -- the first name that occurs earlier in the list
 -- Example: of a, b, c, b, a it is b.
@@ -29,7 +30,7 @@ twice_or (Some n) next = Some (DrivenTwice n)
 -- The first of these errors: more than 100,000 gates; the first name that is driven a second time; the first
 -- undriven name that a table or a latch reads; the first undriven output.
 unfoldable pub fault_of : Listed → Option NetError
-fault_of l = if nat_lt 100000 (cost l.document) then Some (TooManyGates (cost l.document)) else twice_or (repeated [] l.driven) (undriven_in (missing l.driven (l.used ++ l.document.outputs)))
+fault_of l = if nat_lt most_gates (cost l.document) then Some (TooManyGates (cost l.document)) else twice_or (repeated [] l.driven) (undriven_in (missing l.driven (l.used ++ l.document.outputs)))
 
 -- The document may be refused with this error. A combinational loop is reported only if there is no other fault.
 -- Out of memory is always possible.

@@ -1,7 +1,11 @@
-//! Parsed netlists (syntax trees), common to all formats, and the errors that are found after parsing. The
-//! semantics of a document is defined in `net_theory`. The `specs/` of this crate add the order in which a text
-//! drives and reads names, the errors that depend on it, and formats as values: what a text lists, how a
-//! circuit is written, and what relates the two.
+//! Parsed netlists (syntax trees), common to all formats, the errors that are found after parsing, and the lexical
+//! rules that the formats share. The semantics of a document is defined in `net_theory`. The `specs/` of this crate
+//! add the order in which a text drives and reads names, the errors that depend on it, and formats as values: what a
+//! text lists, how a circuit is written, and what relates the two.
+//!
+//! - `src/document.rt`, `src/names.rt`: documents, and their names as lists.
+//! - `src/contents.rt`: a line without its CR, its comment and the blanks at its end.
+//! - `src/name_bytes.rt`: which bytes are a name, and the limits of lines and words.
 //!
 //! ```text
 //! // .inputs a b      .names a b y

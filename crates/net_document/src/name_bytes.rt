@@ -3,18 +3,20 @@ ghost use Rattle.std.specs.Prelude.{◌≡◌};
 ghost use Rattle.net_theory.specs.Document.{is_name as is_name_of, is_name_byte as is_name_byte_of};
 ghost use Rattle.net_document.specs.Limits.{is_long_line as is_long_line_of, is_long_word as is_long_word_of};
 
-/// Whether a line of `size` bytes is too long (more than 1,048,576 bytes).
+use net_theory::{MOST_LINE_BYTES, MOST_NAME_BYTES};
+
+/// Whether a line of `size` bytes is too long.
 pub fn is_long_line(size: usize) -> bool
     ensures { result ≡ is_long_line_of size }
 {
-    size > 1_048_576
+    size > MOST_LINE_BYTES
 }
 
-/// Whether a word is too long (more than 1,024 bytes).
+/// Whether a word is too long.
 pub fn is_long_word(word: &[u8]) -> bool
     ensures { result ≡ is_long_word_of word.now }
 {
-    word.len() > 1024
+    word.len() > MOST_NAME_BYTES
 }
 
 /// Whether a byte can be part of a name.

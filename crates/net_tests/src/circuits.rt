@@ -17,6 +17,7 @@ fn is_written(alloc: Global, bytes: &[u8], wanted: &[u8]) -> Result<bool, AllocE
             return Ok(false);
         }
     };
+    // for the prover: the law that `write_bench` requires
     circuits_of_texts_can_be_written();
     let mut text = Vec::new(alloc);
     write_bench(&circuit, &mut text)?;

@@ -12,6 +12,7 @@ use Rattle.net_theory.specs.Circuit.{Circuit, IsCircuitOf}
 use Rattle.net_theory.specs.CircuitLaws.{circuit_of, circuit_is}
 use Rattle.net_theory.specs.Reach.{IsReachedFrom, is_sink, reach}
 use Rattle.net_theory.specs.ReachLaws.{sink_in, in_sinks, marked_reached, reached_marked}
+use Rattle.net_theory.specs.Limits.{most_gates}
 
 pub value-source_node : (n : Net) (given : ℕ → Bool) (p : ℕ) → p ≤ n.sources → value n given p ≡ given p
 value-source_node n given p low = value-source given n.sources p n.gates low
@@ -19,7 +20,7 @@ value-source_node n given p low = value-source given n.sources p n.gates low
 pub value-gate_node : (n : Net) (given : ℕ → Bool) (i : ℕ) (g : Gate) → IsNet n → slice_get n.gates i ≡ Some g → value n given (n.sources + 1 + i) ≡ gate_value (value n given) g
 value-gate_node n given i g is at = values_after-gate given (n.sources + 1) i n.gates g at (is.gates.each i g at)
 
-pub well_formed_circuit : (d : Document) → IsWellFormed d → source_count d + 100000 < 2 ^ 31 → (c : Circuit) × IsCircuitOf d c
+pub well_formed_circuit : (d : Document) → IsWellFormed d → source_count d + most_gates < 2 ^ 31 → (c : Circuit) × IsCircuitOf d c
 well_formed_circuit d well small =
     let order = acyclic_order d well.acyclic in
     (circuit_of d (net_in_order d order.0), circuit_is d order.0 well order.1 small)

@@ -8,6 +8,7 @@ use Rattle.net_theory.specs.Behaviour.{IsMapOf, HasOneMap}
 use Rattle.net_theory.specs.WellFormed.{IsLatch}
 use Rattle.net_theory.specs.NetOf.{net_of}
 use Rattle.net_theory.specs.Cost.{cost}
+use Rattle.net_theory.specs.Limits.{most_gates}
 
 -- A net with names. The net's sources are the inputs, then the latches' outputs; its sinks are the outputs,
 -- then the latches' inputs, each in order.
@@ -47,7 +48,7 @@ pub record IsProper (c : Circuit) : Type 0 where
       slice_index_or c.outputs i [] ≡ slice_index_or c.outputs j [] →
       slice_index_or c.net.sinks i Zero ≡ slice_index_or c.net.sinks j Zero
   pub controls : All (λ (l : Latch). IsControlApart c.outputs (sources_of c) l.control) c.latches
-  pub gates : length c.net.gates ≤ 100000
+  pub gates : length c.net.gates ≤ most_gates
 
 -- the bit of a source node, by the bit of its name
 abbrev pub by_node : List Name → (Name → Bool) → ℕ → Bool

@@ -21,6 +21,7 @@ use Rattle.net_theory.specs.GraphLaws.{graph_closed, length-graph_of}
 use Rattle.net_theory.specs.WellFormed.{IsFreeOf, IsLatch, IsLatchLine, IsWellFormed}
 use Rattle.net_theory.specs.Circuit.{Circuit, IsControlApart, IsProper, Describes, IsCircuitOf}
 use Rattle.net_theory.specs.NetLaws.{IsGrowth, TableStands, HasSignal, name_value, net_bits, spent_all, start_growth, tables_grown, source_bit, signal_is, map_same}
+use Rattle.net_theory.specs.Limits.{most_gates}
 
 -- the circuit with the names of `d` and the net `n`
 abbrev pub circuit_of : Document → Net → Circuit
@@ -127,7 +128,7 @@ map_all P f xs each =
     at_all P (map f xs) (λ k y e. let r = at_map f xs k y e in subst P r.2 (each k r.0 r.1))
 
 proper_is : (d : Document) (order : List ℕ) → IsWellFormed d → IsTopologicalOrder (graph_of d.tables) order →
-    source_count d + 100000 < 2 ^ 31 → length (grown_all d order).gates ≡ cost d →
+    source_count d + most_gates < 2 ^ 31 → length (grown_all d order).gates ≡ cost d →
     IsProper (circuit_of d (net_in_order d order))
 unfolding net_in_order
 proper_is d order well is small count =
@@ -171,7 +172,8 @@ count_is d order well is =
     (all_grown d order well is).count ∙ spent_all 0 d.tables order (λ k low. subst (λ (x : ℕ). has_ended order x ≡ true) (omega arith) (ended_all d order is k low))
 
 -- The net whose gates are in topological order of the tables is the net of the circuit.
-pub circuit_is : (d : Document) (order : List ℕ) → IsWellFormed d → order_of (graph_of d.tables) ≡ Some order → source_count d + 100000 < 2 ^ 31 → IsCircuitOf d (circuit_of d (net_in_order d order))
+pub circuit_is : (d : Document) (order : List ℕ) → IsWellFormed d → order_of (graph_of d.tables) ≡ Some order →
+    source_count d + most_gates < 2 ^ 31 → IsCircuitOf d (circuit_of d (net_in_order d order))
 unfolding net_of net_in_order
 circuit_is d order well e small =
     let is : IsTopologicalOrder (graph_of d.tables) order = order_is (graph_of d.tables) order (graph_closed d) e in

@@ -4,6 +4,7 @@ use Rattle.std.specs.List.{list_any, flat_map}
 use Rattle.std.specs.Cmp.Lexicographic.{pointwise}
 use Rattle.net_theory.specs.declared.data.Trigger.{Trigger}
 use Rattle.net_theory.specs.Cover.{Cover}
+use Rattle.net_theory.specs.Limits.{most_name_bytes}
 
 -- ---- names
 
@@ -24,7 +25,7 @@ is_name (b ∷ c ∷ bs) = is_name_byte b && is_name (c ∷ bs)
 -- a name of at most 1,024 bytes
 pub record IsName (name : Name) : Type 0 where
   pub spelled : is_name name ≡ true
-  pub short : length name ≤ 1024
+  pub short : length name ≤ most_name_bytes
 
 -- whether two names are equal
 abbrev pub is_same : Name → Name → Bool

@@ -1,4 +1,5 @@
 pub use Rattle.chain_theory.specs.Operator
+pub mod Limits
 pub mod Net
 pub mod ValueLaws
 pub mod Cover

@@ -5,6 +5,7 @@ use Rattle.net_theory.specs.Cover.{IsCover}
 use Rattle.net_theory.specs.Document.{Name, IsName, has, are_distinct, Table, Latch, LatchLine, Document, driven_names, used_names, table_output}
 use Rattle.net_theory.specs.Dependence.{IsAcyclic}
 use Rattle.net_theory.specs.Cost.{cost}
+use Rattle.net_theory.specs.Limits.{most_gates, most_table_inputs, most_cubes}
 
 abbrev pub IsControl : Option (Trigger × Name) → Type 0
 IsControl None = Unit {0}
@@ -29,8 +30,8 @@ pub record IsTable (t : Table) : Type 0 where
   pub output : IsName t.output
   pub width : t.cover.width ≡ length t.inputs
   pub cover : IsCover t.cover
-  pub narrow : length t.inputs ≤ 256
-  pub few : length t.cover.cubes ≤ 4096
+  pub narrow : length t.inputs ≤ most_table_inputs
+  pub few : length t.cover.cubes ≤ most_cubes
 
 -- the control isn't among the names
 abbrev pub IsFreeOf : List Name → Option (Trigger × Name) → Type 0
@@ -48,7 +49,7 @@ pub record IsWellFormed (d : Document) : Type 0 where
   pub latches : All IsLatchLine d.latches
   pub tables : All IsTable d.tables
   pub controls : All (λ (l : LatchLine). IsFreeOf (map table_output d.tables) l.latch.control) d.latches
-  pub gates : cost d ≤ 100000
+  pub gates : cost d ≤ most_gates
   pub driven_once : are_distinct (driven_names d) ≡ true
   pub used_driven : All (λ n. has (driven_names d) n ≡ true) (used_names d)
   pub acyclic : IsAcyclic d

@@ -23,6 +23,7 @@ ghost use Rattle.net_theory.specs.Implements.{Implements, IsCleanedUp};
 ghost use Rattle.net_theory.specs.Dangling.{cleanup};
 ghost use Rattle.net_theory.specs.Operators.{HasOperator};
 ghost use Rattle.net_theory.specs.ExchangeLaws.{with_net};
+ghost use Rattle.net_theory.specs.Limits.{most_gates};
 
 /// The value of a source is the bit given to it; the value of a gate is its operator applied to the
 /// values of its operands.
@@ -66,7 +67,8 @@ pub fn tables_have_an_order()
 /// under every assignment its sinks have the values that the document's tables determine. The bound on
 /// the sources keeps the net below 2^31 nodes.
 pub fn documents_have_circuits()
-    ensures { (d : Document) → IsWellFormed d → source_count d + 100000 < 2 ^ 31 → (c : Circuit) × IsCircuitOf d c }
+    ensures { (d : Document) → IsWellFormed d → source_count d + most_gates < 2 ^ 31 → (c : Circuit) ×
+        IsCircuitOf d c }
 {}
 
 /// The marks computed by `reach` are exactly the transitive fanin of the roots; `is_sink` has the nodes of the

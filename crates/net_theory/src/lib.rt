@@ -15,6 +15,11 @@
 
 mod data;
 pub mod laws;
+mod limits;
 pub mod plain;
 
 pub use data::{Gate, Sig, Signed, Trigger};
+pub use limits::{
+    MOST_CUBES, MOST_GATES, MOST_LINE_BYTES, MOST_NAME_BYTES, MOST_OF_NETLIST, MOST_OF_TWO,
+    MOST_TABLE_INPUTS,
+};

@@ -29,6 +29,8 @@ use Rattle.window_core.specs.ExpandingLaws.{among_left}
 use Rattle.observe_core.specs.Putting.{ArePutGates, IsAbove, IsPutCone}
 use Rattle.observe_core.specs.PuttingLaws.{put_values, put_is_cone, all_nodes}
 use Rattle.observe_core.specs.Differing.{bit_in, IsDifferenceAdded, RowsDiffer, AreAdded, put_bits, IsDistinguished, ArePutWords, AreDistinguished, AreDistinguishing}
+use Rattle.net_theory.specs.Limits.{most_leaves}
+use Rattle.chain_theory.specs.Limits.{most_outputs}
 
 -- ---- bits
 
@@ -139,8 +141,8 @@ pub some_word : (k width : ℕ) → width ≡ width_of (2 ^ k) → 1 ≤ width
 some_word k width is = omega (arith, is, above_zero k)
 
 -- some bits give the leaves one row and the outputs another
-pub some_bits : (leaves outputs : List ℕ) (row bits : ℕ) → IsRising leaves → length leaves ≤ 12 → IsRising outputs →
-    length outputs ≤ 12 → ((q : ℕ) → among leaves q ≡ true → among outputs q ≡ false) → (f : ℕ → Bool) ×
+pub some_bits : (leaves outputs : List ℕ) (row bits : ℕ) → IsRising leaves → length leaves ≤ most_leaves → IsRising outputs →
+    length outputs ≤ most_leaves → ((q : ℕ) → among leaves q ≡ true → among outputs q ≡ false) → (f : ℕ → Bool) ×
     HasRow f leaves row × HasRow f outputs bits
 some_bits leaves outputs row bits rising_l few_l rising_o few_o beside =
     let f : ℕ → Bool = λ q. if among outputs q then value_in (directly_observable outputs) bits q else value_in (directly_observable leaves) row q in (
@@ -162,7 +164,7 @@ some_bits leaves outputs row bits rising_l few_l rising_o few_o beside =
     none_after [] = refl
     none_after (x ∷ xs) = ap (λ (ys : List ℕ). x ∷ ys) (none_after xs)
 
-    own : (ps : List ℕ) (r i : ℕ) → IsRising ps → length ps ≤ 12 → i < length ps → value_in (directly_observable ps) r (slice_index_or ps i 0) ≡ digit r (length ps - (i + 1))
+    own : (ps : List ℕ) (r i : ℕ) → IsRising ps → length ps ≤ most_leaves → i < length ps → value_in (directly_observable ps) r (slice_index_or ps i 0) ≡ digit r (length ps - (i + 1))
     own ps r i rising few low =
         let cone : IsCone (directly_observable ps) = record {
           few = few;
@@ -185,7 +187,7 @@ put_words n outputs bits s fanout_cone put w net cone above gates are =
 
 -- One more value of the outputs.
 pub distinguished_more : (n : Net) (outputs : List ℕ) (bits : ℕ) (s c : Cone) (fanout_cone cone_outputs : List ℕ)
-    (none w : Words) (start : ℕ) (old new : List ℕ) → IsNet n → IsAbove n outputs s fanout_cone → length outputs ≤ 12 →
+    (none w : Words) (start : ℕ) (old new : List ℕ) → IsNet n → IsAbove n outputs s fanout_cone → length outputs ≤ most_leaves →
     ArePutWords n outputs 0 s fanout_cone none → IsPutCone n outputs bits s fanout_cone c → AreWords c w →
     start ≡ length (nodes s) → length old ≡ width_of (2 ^ length s.leaves) →
     ((p : ℕ) → among cone_outputs p ≡ true → among fanout_cone p ≡ true)
@@ -251,7 +253,7 @@ distinguished_more n outputs bits s c fanout_cone cone_outputs none w start old 
 -- the same by the code's own lists
 pub distinguished_code : (n : Net) (outputs : List ℕ) (bits : ℕ) (s c : Cone) (fanout_cone cone_outputs : List ℕ)
     (none w : Words) (first second : List ℕ) (a b : ℕ) (old new : List ℕ) → IsNet n → IsAbove n outputs s fanout_cone →
-    length outputs ≤ 8 → ArePutWords n outputs 0 s fanout_cone none → IsPutCone n outputs bits s fanout_cone c →
+    length outputs ≤ most_outputs → ArePutWords n outputs 0 s fanout_cone none → IsPutCone n outputs bits s fanout_cone c →
     AreWords c w → first ≡ none.lanes → second ≡ w.lanes → a ≡ length s.leaves → b ≡ length s.gates →
     length old ≡ width_of (2 ^ length s.leaves) → ((p : ℕ) → among cone_outputs p ≡ true → among fanout_cone p ≡ true)
     → AreAdded first second (a + b) fanout_cone cone_outputs (length fanout_cone) old new →
@@ -278,7 +280,7 @@ distinguished_start n outputs s fanout_cone cone_outputs none differ net above f
 
 -- In the end all values were simulated.
 pub distinguished_end : (n : Net) (outputs : List ℕ) (s : Cone) (fanout_cone cone_outputs : List ℕ) (differ : List ℕ) →
-    IsAbove n outputs s fanout_cone → length outputs ≤ 12 →
+    IsAbove n outputs s fanout_cone → length outputs ≤ most_leaves →
     AreDistinguished n outputs s cone_outputs (2 ^ length outputs) differ →
     AreDistinguishing n s.leaves outputs cone_outputs differ
 distinguished_end n outputs s fanout_cone cone_outputs differ above few was =

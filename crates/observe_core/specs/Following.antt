@@ -6,6 +6,7 @@ use Rattle.window_theory.specs.Nodes.{among, IsRising, AreJust}
 use Rattle.window_theory.specs.Paths.{IsGate, Reads}
 use Rattle.window_core.specs.Fanouts.{IsLater}
 use Rattle.observe_theory.specs.FanoutCone.{IsFollower, AreFollowing, AreFanoutCone}
+use Rattle.window_theory.specs.Limits.{most_of_fanout_cone}
 
 -- the least gate outside some gates that reads a node, or 0 where there is none
 pub record IsLeastFanout (n : Net) (gates : List ℕ) (node r : ℕ) : Type 0 where
@@ -60,5 +61,5 @@ pub record HasFanoutCone (n : Net) (gates all fanout_cone : List ℕ) : Type 0 w
   pub is : AreFanoutCone n gates fanout_cone
   pub rising : IsRising all
   pub same : HaveSame all (fanout_cone ++ gates)
-  pub few : length all ≤ length gates + 16
+  pub few : length all ≤ length gates + most_of_fanout_cone
   pub are : (q : ℕ) → among all q ≡ true → IsGate n q

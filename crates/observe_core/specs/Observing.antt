@@ -14,6 +14,7 @@ use Rattle.window_theory.specs.Window.{Window}
 use Rattle.observe_theory.specs.FanoutCone.{FanoutCone}
 use Rattle.observe_theory.specs.Unobservable.{IsConeRoot, IsUnobservable}
 use Rattle.observe_theory.specs.Observed.{IsObservedOf}
+use Rattle.net_theory.specs.Limits.{most_leaves}
 
 -- a node of one of two lists
 abbrev pub IsEither : List ℕ → List ℕ → ℕ → Type 0
@@ -31,7 +32,7 @@ pub record ArePutTogether (one other left both : List ℕ) : Type 0 where
 pub record IsObservingCone (n : Net) (w : Window) (t : FanoutCone) (c : Cone) : Type 0 where
   pub first : List ℕ
   pub just : AreJust (IsConeRoot w t) first
-  pub few : length first ≤ 12
+  pub few : length first ≤ most_leaves
   pub expands_to : ExpandsTo n first c.leaves
   pub above : AreAbove n c.leaves c.gates
   pub covered : AreLeavesOrGates c.leaves c.gates first

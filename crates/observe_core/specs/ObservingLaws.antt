@@ -35,6 +35,8 @@ use Rattle.observe_core.specs.TakingLaws.{fanout_cone_outside}
 use Rattle.observe_core.specs.Putting.{IsAbove}
 use Rattle.observe_core.specs.Differing.{bit_in, IsDistinguished, AreDistinguishing}
 use Rattle.observe_core.specs.Observing.{IsEither, ArePutTogether, IsObservingCone, IsObservableMask}
+use Rattle.net_theory.specs.Limits.{most_leaves}
+use Rattle.chain_theory.specs.Limits.{most_inputs}
 
 -- ---- the fanout cone depends on the window
 
@@ -254,12 +256,12 @@ mask_is n w t c signals differ mask net is hidden cone signals_are size distingu
     }
 
 -- where no row is unobservable the mask has all bits
-all_ones : (k row : ℕ) → k ≤ 6 → row < 2 ^ k → digit 18446744073709551615 row ≡ true
+all_ones : (k row : ℕ) → k ≤ most_inputs → row < 2 ^ k → digit 18446744073709551615 row ≡ true
 all_ones k row few low =
     let wide : 2 ^ k ≤ 2 ^ 6 = pow_mono few in
     ap (λ (x : ℕ). x == 1) (bit_at_ones 64 row (omega (arith, low, wide)))
 
-pub all_seen : (n : Net) (w : Window) (t : FanoutCone) → length w.inputs ≤ 6 → ((row : ℕ) → IsUnobservable n w t row → ⊥) → IsObservableMask n w t 18446744073709551615
+pub all_seen : (n : Net) (w : Window) (t : FanoutCone) → length w.inputs ≤ most_inputs → ((row : ℕ) → IsUnobservable n w t row → ⊥) → IsObservableMask n w t 18446744073709551615
 all_seen n w t few none =
     record {
       seen = λ row low on unobservable. none row unobservable;
@@ -269,14 +271,14 @@ all_seen n w t few none =
 pub directly_observable_seen : (n : Net) (w : Window) (t : FanoutCone) (row : ℕ) → t.directly_observable ≡ true → IsUnobservable n w t row → ⊥
 directly_observable_seen n w t row directly_observable unobservable = both_ways t.directly_observable unobservable.hidden directly_observable
 
-pub many_seen : (n : Net) (w : Window) (t : FanoutCone) (first : List ℕ) (row : ℕ) → AreJust (IsConeRoot w t) first → 12 < length first → IsUnobservable n w t row → ⊥
+pub many_seen : (n : Net) (w : Window) (t : FanoutCone) (first : List ℕ) (row : ℕ) → AreJust (IsConeRoot w t) first → most_leaves < length first → IsUnobservable n w t row → ⊥
 many_seen n w t first row just many unobservable =
     let same : unobservable.observing.first ≡ first = just_same (IsConeRoot w t) unobservable.observing.first first unobservable.observing.just just in
     omega (arith, ap (length {A = ℕ}) same, unobservable.observing.few, many)
 
 -- the observing fanin cone by the code's own list of first leaves
 pub observing_code : (n : Net) (w : Window) (t : FanoutCone) (c : Cone) (first list : List ℕ) → list ≡ first →
-    AreJust (IsConeRoot w t) first → length first ≤ 12 → ExpandsTo n list c.leaves → AreAbove n c.leaves c.gates →
+    AreJust (IsConeRoot w t) first → length first ≤ most_leaves → ExpandsTo n list c.leaves → AreAbove n c.leaves c.gates →
     AreLeavesOrGates c.leaves c.gates list → ((p : ℕ) → among (gate_nodes c.gates) p ≡ true → IsInFanin n list p) →
     IsObservingCone n w t c
 observing_code n w t c first list same just few expands_to above covered in_fanin =

@@ -15,6 +15,7 @@ use Rattle.observe_theory.specs.FanoutConeLaws.{follower_high}
 use Rattle.observe_theory.specs.JoinedLaws.{in_prefix, in_back, in_parts, is_off, out_back}
 use Rattle.observe_core.specs.Following.{IsNextFollower, HaveSame, IsConeTaking, HasFanoutCone}
 use Rattle.observe_core.specs.Kept.{IsBoth, HasSome}
+use Rattle.window_theory.specs.Limits.{most_of_fanout_cone}
 
 -- ---- lists with the same nodes
 
@@ -105,7 +106,7 @@ joined n gates all fanout_cone count w =
     (λ q e. ⊎_elim (λ a. in_prefix fanout_cone gates q (w.just.all q a)) (λ b. in_back fanout_cone gates q b) (in_parts w.taken gates q (sym (w.same q) ∙ e)))
     (λ q e. w.same q ∙ ⊎_elim (λ a. in_prefix w.taken gates q (w.just.only q a)) (λ b. in_back w.taken gates q b) (in_parts fanout_cone gates q e))
 
-pub taking_none : (n : Net) (gates all fanout_cone : List ℕ) (count p : ℕ) → count ≤ 16 → p ≡ 0 →
+pub taking_none : (n : Net) (gates all fanout_cone : List ℕ) (count p : ℕ) → count ≤ most_of_fanout_cone → p ≡ 0 →
     IsNextFollower n all p → IsConeTaking n gates count all fanout_cone → HasFanoutCone n gates all fanout_cone
 taking_none n gates all fanout_cone count p low none follower was =
     record {
@@ -122,7 +123,7 @@ taking_none n gates all fanout_cone count p low none follower was =
       are = was.are;
     }
 
-pub taking_end : (n : Net) (gates all fanout_cone : List ℕ) (count : ℕ) → count ≡ 16 → IsConeTaking n gates count all fanout_cone → HasFanoutCone n gates all fanout_cone
+pub taking_end : (n : Net) (gates all fanout_cone : List ℕ) (count : ℕ) → count ≡ most_of_fanout_cone → IsConeTaking n gates count all fanout_cone → HasFanoutCone n gates all fanout_cone
 taking_end n gates all fanout_cone count full was =
     record {
       is = record {

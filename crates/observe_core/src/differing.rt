@@ -10,6 +10,7 @@ ghost use Rattle.window_theory.specs.Nodes.{among};
 ghost use Rattle.observe_core.specs.Differing.{IsDifferenceAdded, AreAdded, AreDistinguishing};
 ghost use Rattle.observe_core.specs.Forcing.{StandsAbove, HaveBits, Distinguish};
 ghost use Rattle.observe_core.specs.Putting.{IsAbove};
+ghost use Rattle.chain_theory.specs.Limits.{most_outputs};
 
 use crate::forcing::Forced;
 use crate::putting::put_gates;
@@ -158,7 +159,7 @@ pub(crate) fn distinguishing(
     fanout_cone: &[u32],
     cone_outputs: &[u32],
 ) -> Result<Vec<u64>, AllocError>
-    requires few { length outputs.now ≤ 8 }
+    requires few { length outputs.now ≤ most_outputs }
     requires above { IsAbove net.now outputs.now fanin_cone.now fanout_cone.now }
     requires words { AreWords fanin_cone.now words.now }
     requires cone_outputs { (p : ℕ) → among cone_outputs.now p ≡ true → among fanout_cone.now p ≡ true }

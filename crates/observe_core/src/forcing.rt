@@ -3,6 +3,7 @@
 ghost use Rattle.std.specs.Prelude.{◌≡◌, ℕ, ◌≤◌, ◌++◌, true, length};
 ghost use Rattle.lane_sim.specs.Cone.{nodes};
 ghost use Rattle.window_theory.specs.Nodes.{among};
+ghost use Rattle.chain_theory.specs.Limits.{most_outputs};
 
 use lane_sim::{Cone, Index};
 use window_core::Net;
@@ -17,7 +18,7 @@ pub(crate) struct Forced<'a> {
     pub(crate) fanout_cone: &'a [u32],
     pub(crate) cone_outputs: &'a [u32],
     pub(crate) index: &'a Index,
-    ghost few: { length outputs.now ≤ 8 },
+    ghost few: { length outputs.now ≤ most_outputs },
     ghost outputs_within: { (p : ℕ) → among cone_outputs.now p ≡ true → among fanout_cone.now p ≡ true },
     ghost indexed: { index.now ≡ nodes fanin_cone.now ++ fanout_cone.now },
 }

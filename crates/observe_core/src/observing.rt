@@ -7,6 +7,7 @@ ghost use Rattle.window_theory.specs.Nodes.{IsRising, AreJust};
 ghost use Rattle.window_theory.specs.Window.{Belongs};
 ghost use Rattle.observe_theory.specs.FanoutCone.{IsFanoutCone};
 ghost use Rattle.observe_core.specs.Observing.{IsEither, IsObservingCone, IsObservableMask};
+ghost use Rattle.net_theory.specs.Limits.{most_leaves};
 
 use crate::differing::distinguishing;
 use crate::shape::FanoutCone;
@@ -31,8 +32,8 @@ fn first_leaves(alloc: Global, inputs: &[u32], side_inputs: &[u32]) -> Result<Ve
 
 /// Whether there are more nodes than a fanin cone may start from.
 fn are_too_many(nodes: &[u32]) -> bool
-    ensures yes { result ≡ true → 12 < length nodes.now }
-    ensures no { result ≡ false → length nodes.now ≤ 12 }
+    ensures yes { result ≡ true → most_leaves < length nodes.now }
+    ensures no { result ≡ false → length nodes.now ≤ most_leaves }
 {
     nodes.len() > MOST_LEAVES
 }

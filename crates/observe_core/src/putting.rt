@@ -8,6 +8,7 @@ ghost use Rattle.window_theory.specs.Paths.{IsGate};
 ghost use Rattle.window_core.specs.Gates.{IsGateOf};
 ghost use Rattle.observe_core.specs.Putting.{put_node as put_node_of, put_sig as put_sig_of, put_gate as put_gate_of};
 ghost use Rattle.observe_core.specs.Putting.{HasPut, ArePutGates};
+ghost use Rattle.chain_theory.specs.Limits.{most_outputs};
 
 use std::alloc::{AllocError, Global};
 use window_core::{Gate, Net, Sig, gate_at};
@@ -22,7 +23,7 @@ fn constant(bit: bool) -> Sig
 /// The node, or the constant that replaces it: the first output has the most significant of the bits.
 #[tactic(auto, unfolding(crate::specs::Putting::put_node))]
 fn put_node(outputs: &[u32], bits: u32, node: u32) -> Sig
-    requires { length outputs.now ≤ 8 }
+    requires { length outputs.now ≤ most_outputs }
     ensures { result ≡ put_node_of outputs.now bits node }
 {
     let mut left = outputs;
@@ -37,7 +38,7 @@ fn put_node(outputs: &[u32], bits: u32, node: u32) -> Sig
 
 /// The signal, or the constant that replaces it.
 fn put_sig(outputs: &[u32], bits: u32, sig: Sig) -> Sig
-    requires { length outputs.now ≤ 8 }
+    requires { length outputs.now ≤ most_outputs }
     ensures { result ≡ put_sig_of outputs.now bits sig }
 {
     match sig {
@@ -48,7 +49,7 @@ fn put_sig(outputs: &[u32], bits: u32, sig: Sig) -> Sig
 
 /// The gate at a node, with its operands replaced.
 fn put_gate(net: &Net, outputs: &[u32], bits: u32, node: u32) -> Gate
-    requires few { length outputs.now ≤ 8 }
+    requires few { length outputs.now ≤ most_outputs }
     requires gate { IsGate net.now node }
     ensures { (g : GateValue) × IsGateOf net.now node g × (result ≡ put_gate_of outputs.now bits g) }
 {
@@ -68,7 +69,7 @@ fn put_fanout_cone(
     fanout_cone: &[u32],
     gates: &mut Vec<(u32, Gate)>,
 ) -> Result<(), AllocError>
-    requires few { length outputs.now ≤ 8 }
+    requires few { length outputs.now ≤ most_outputs }
     requires fanout_cone { (p : ℕ) → among fanout_cone.now p ≡ true → IsGate net.now p }
     ensures { OnOk result (HasPut net.now outputs.now bits fanout_cone.now [] gates.old.items gates.new.items) }
 {
@@ -88,7 +89,7 @@ pub(crate) fn put_gates(
     bits: u32,
     fanout_cone: &[u32],
 ) -> Result<Vec<(u32, Gate)>, AllocError>
-    requires few { length outputs.now ≤ 8 }
+    requires few { length outputs.now ≤ most_outputs }
     requires fanout_cone { (p : ℕ) → among fanout_cone.now p ≡ true → IsGate net.now p }
     ensures { IfOk result (λ gates. ArePutGates net.now outputs.now bits fanout_cone.now gates.items) }
 {

@@ -5,6 +5,7 @@ use Rattle.net_theory.specs.Net.{Net}
 use Rattle.window_theory.specs.Nodes.{among, AreJust}
 use Rattle.window_theory.specs.Paths.{Reads}
 use Rattle.window_theory.specs.Window.{Window, IsReadBy, IsOutput}
+use Rattle.window_theory.specs.Limits.{most_of_fanout_cone}
 
 -- ---- the gates of a fanout cone
 
@@ -31,8 +32,8 @@ AreFollowing n gates (p ∷ before) = IsLeastFollower n (before ++ gates) p × A
 pub record AreFanoutCone (n : Net) (gates fanout_cone : List ℕ) : Type 0 where
   pub taken : List ℕ
   pub following : AreFollowing n gates taken
-  pub few : length taken ≤ 16
-  pub all : length taken < 16 → (p : ℕ) → IsFollower n (taken ++ gates) p → ⊥
+  pub few : length taken ≤ most_of_fanout_cone
+  pub all : length taken < most_of_fanout_cone → (p : ℕ) → IsFollower n (taken ++ gates) p → ⊥
   pub just : AreJust (λ p. among taken p ≡ true) fanout_cone
 
 -- ---- the inputs and outputs of the fanout cone

@@ -6,6 +6,7 @@ use Rattle.window_theory.specs.Window.{Window}
 use Rattle.window_theory.specs.FaninCone.{ExpandsTo}
 use Rattle.window_theory.specs.Care.{values_with, HasRow}
 use Rattle.observe_theory.specs.FanoutCone.{FanoutCone}
+use Rattle.net_theory.specs.Limits.{most_leaves}
 
 -- the nodes from which the observing fanin cone is expanded: the inputs of the window and of its fanout cone
 abbrev pub IsConeRoot : Window → FanoutCone → ℕ → Type 0
@@ -16,7 +17,7 @@ IsConeRoot w t p = (among w.inputs p ≡ true) ⊎ (among t.side_inputs p ≡ tr
 pub record AreObserving (n : Net) (w : Window) (t : FanoutCone) (leaves : List ℕ) : Type 0 where
   pub first : List ℕ
   pub just : AreJust (IsConeRoot w t) first
-  pub few : length first ≤ 12
+  pub few : length first ≤ most_leaves
   pub fanin_cone : ExpandsTo n first leaves
 
 -- the values where the leaves and the window's outputs are forced to given bits

@@ -38,7 +38,8 @@ pub fn unobservable_rows_keep_the_sinks()
     ensures { (n : Net) (w : Window) (t : FanoutCone) (row i : ℕ) (s : Sig) (given put : ℕ → Bool) → IsNet n →
         Belongs n w →
         IsFanoutCone n w t → IsUnobservable n w t row → HasRow (value n given) w.inputs row → ArePut n given put →
-        slice_get n.sinks i ≡ Some s → sig_value (values_with n (among w.outputs) put) s ≡ sig_value (value n given) s }
+        slice_get n.sinks i ≡ Some s → sig_value (values_with n (among w.outputs) put) s ≡
+        sig_value (value n given) s }
 {}
 
 /// A chain that implements the observed specification of a window can be substituted for it: it
@@ -46,7 +47,8 @@ pub fn unobservable_rows_keep_the_sinks()
 pub fn observed_chains_keep_the_sinks()
     ensures fit { (n : Net) (w : Window) (s : Specification) (c : Chain) → IsChain c → IsObservedOf n w s →
         Agrees c s → Fits w c }
-    ensures sinks { (n : Net) (w : Window) (s : Specification) (c : Chain) (given : ℕ → Bool) → IsNet n → Belongs n w →
+    ensures sinks { (n : Net) (w : Window) (s : Specification) (c : Chain) (given : ℕ → Bool) → IsNet n →
+        Belongs n w →
         IsChain c → IsObservedOf n w s → Agrees c s → map (sig_value (substituted_value n w c given)) n.sinks ≡
         sink_values n given }
 {}
@@ -54,7 +56,8 @@ pub fn observed_chains_keep_the_sinks()
 /// A window has exactly one fanout cone, and the same chains implement all its observed specifications. So if
 /// no chain of fewer steps implements one of them, none implements the others.
 pub fn observed_specifications_are_one()
-    ensures fanout_cone { (n : Net) (w : Window) (t u : FanoutCone) → IsFanoutCone n w t → IsFanoutCone n w u → t ≡ u }
+    ensures fanout_cone { (n : Net) (w : Window) (t u : FanoutCone) → IsFanoutCone n w t → IsFanoutCone n w u →
+        t ≡ u }
     ensures chains { (n : Net) (w : Window) (s z : Specification) (basis : Basis) (r : ℕ) → IsObservedOf n w s →
         IsObservedOf n w z →
         HasChain s basis r → HasChain z basis r }

@@ -4,12 +4,10 @@ ghost use Rattle.std.specs.Prelude.{IfOk};
 ghost use Rattle.resub_core.specs.Smaller.{IsNoLarger};
 
 use resub_core::{resub, resub_level};
+use settings::thresholds::MOST_NEW_GATES;
 use share_core::share;
 use std::alloc::{AllocError, Global};
 use xag_core::Xag;
-
-/// The most new gates that replace one gate.
-const NEW_GATES: u32 = 2;
 
 /// The graph after sharing and resubstitution, as long as these leave fewer gates.
 #[tactic(auto, using(resub_core::specs::SmallerLaws::replacing))]
@@ -17,7 +15,7 @@ fn reduced(alloc: Global, xag: &Xag) -> Result<Xag, AllocError>
     ensures { IfOk result (IsNoLarger xag.now) }
 {
     let mut best = share(alloc, xag, None)?;
-    for new_gates in 0..=NEW_GATES {
+    for new_gates in 0..=MOST_NEW_GATES {
         best = resub(alloc, &best, new_gates)?;
     }
     Ok(best)
@@ -31,7 +29,7 @@ fn round(alloc: Global, xag: &Xag, seed: u64) -> Result<Xag, AllocError>
 {
     let moved = resub_level(alloc, xag, seed)?;
     let shared = share(alloc, &moved, Some(seed))?;
-    let left = resub(alloc, &shared, NEW_GATES)?;
+    let left = resub(alloc, &shared, MOST_NEW_GATES)?;
     Ok(left)
 }
 

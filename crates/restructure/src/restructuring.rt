@@ -10,14 +10,9 @@ use move_check::judged;
 use net_core::Net;
 use op_basis::Basis;
 use sat_solve::Solver;
+use settings::thresholds::{MOST_GATES_MOVED_TWICE, MOVE_CONFLICTS};
 use std::alloc::{AllocError, Global};
 use xag_core::{Xag, from_net, into_net};
-
-/// The conflict limit of the equivalence check.
-const MOST_CLAUSES: u32 = 100_000;
-
-/// The most gates of a net whose moves are made in both orders.
-const MOST_TWICE: usize = 10_000;
 
 /// The set of a net's operators together with those of `bits`.
 fn operators_of(net: &Net, bits: u16) -> u16 {
@@ -42,10 +37,10 @@ fn graph_after(
 
 /// The graph after moves, made twice, with the gates in depth-first order and in the order of the net, since
 /// the regions of resubstitution depend on the order. The smaller graph is taken, the first where both have
-/// as many gates. For a net of more than `MOST_TWICE` gates only the first is made.
+/// as many gates. For a net of more than `MOST_GATES_MOVED_TWICE` gates only the first is made.
 fn best_graph(alloc: Global, net: &Net, rounds: u32) -> Result<Xag, AllocError> {
     let walked = graph_after(alloc, net, false, rounds)?;
-    if net.gates().len() > MOST_TWICE {
+    if net.gates().len() > MOST_GATES_MOVED_TWICE {
         return Ok(walked);
     }
     let given = graph_after(alloc, net, true, rounds)?;
@@ -85,5 +80,5 @@ pub fn restructured<S: Solver>(
     if candidate.gates().len() >= net.gates().len() {
         return Ok(None);
     }
-    judged::<S>(alloc, net, &candidate, basis, MOST_CLAUSES)
+    judged::<S>(alloc, net, &candidate, basis, MOVE_CONFLICTS)
 }

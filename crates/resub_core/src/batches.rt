@@ -107,7 +107,7 @@ fn after_batch(
 {
     let mut batch = Batch::new(alloc, xag)?;
     let found = with_all(alloc, xag, finder, &mut batch, terms);
-    // dropped here at once: left to the exits, each of its fields would be
+    // for the prover: dropped here at once; left to the exits, each of its fields would be
     drop(batch);
     Ok(taken(xag, found?, terms))
 }

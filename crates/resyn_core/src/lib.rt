@@ -12,22 +12,8 @@
 //! final net, so each window has no shorter chain or is named (`IsResynthesized`, which holds for each part of a
 //! round and composes). Nothing has to be known of the candidates that are skipped after a change.
 //!
-//! In ABC and mockturtle these are called:
-//!
-//! | Here | There |
-//! |---|---|
-//! | net; source; sink | logic network of two-input nodes; combinational input; combinational output |
-//! | reads; is read | fanin; fanout |
-//! | window; root; count | window, subcircuit; the node that it grows from; number of its nodes |
-//! | partner of a root | node that shares a fanin with it; an MFFC has none, a window may have two roots |
-//! | convex | no path leaves the window and comes back |
-//! | fanin cone; its leaves | bounded fanin cone; a cut of at most 12 inputs |
-//! | care row; other rows | care minterm; satisfiability don't-cares (SDC) |
-//! | fanout cone; its outputs | transitive fanout (TFO) of at most 16 nodes; where it is observed |
-//! | unobservable row | observability don't-care (ODC) |
-//! | local specification of a window | local function with SDCs, and with `observe` with ODCs too |
-//! | shorter chain for a window | exact resynthesis, replacement with a gain |
-//! | settled; stopped; undecided | fixpoint; limit of rounds reached; conflict limit reached |
+//! A window here is a subcircuit grown from a root; unlike an MFFC it may have a second root, the partner, which shares
+//! a fanin with the first. `settled` is the fixpoint, `stopped` that the limit of rounds was reached.
 //!
 //! ```text
 //! let result = resynthesize(alloc, &mut attempts)?; // result.settled, result.undecided; attempts.net()

@@ -1,6 +1,7 @@
 //! One round: structurally equal gates are merged, and then every window is attempted in order.
 ghost use Rattle.std.specs.Prelude.{◌+◌, ◌≤◌, IfOk, OnOk};
-ghost use Rattle.improve_theory.specs.Candidates.{IsNoCandidate, IsThis, IsOfCounts, IsOfPartners, IsOfRoot, IsOfRoots};
+ghost use Rattle.improve_theory.specs.Candidates.{IsNoCandidate, IsThis, IsOfCounts, IsOfPartners, IsOfRoot};
+ghost use Rattle.improve_theory.specs.Candidates.{IsOfRoots};
 ghost use Rattle.improve_theory.specs.Candidates.{IsNextPartner};
 ghost use Rattle.net_theory.specs.Net.{end_of};
 ghost use Rattle.resyn_core.specs.Resynthesized.{loop_state, IsResynthesized};
@@ -159,7 +160,8 @@ fn attempt_all<T: Attempts>(
     round: &mut Round,
 ) -> Result<(), AllocError>
     requires cap { 1 ≤ (T.settings_of attempts.old).cap }
-    ensures { OnOk result (IsResynthesized (IsOfRoots (T.settings_of attempts.old).cap (end_of (T.net_of attempts.old)))
+    ensures { OnOk result (IsResynthesized (IsOfRoots (T.settings_of attempts.old).cap
+        (end_of (T.net_of attempts.old)))
         (loop_state (T.settings_of attempts.old) (T.net_of attempts.old) round.old)
         (loop_state (T.settings_of attempts.new) (T.net_of attempts.new) round.new)) }
 {
@@ -198,7 +200,8 @@ pub fn make_round<T: Attempts>(
     round: &mut Round,
 ) -> Result<(), AllocError>
     requires cap { 1 ≤ (T.settings_of attempts.old).cap }
-    ensures { OnOk result (IsResynthesized (IsOfRoots (T.settings_of attempts.old).cap (end_of (T.net_of attempts.old)))
+    ensures { OnOk result (IsResynthesized (IsOfRoots (T.settings_of attempts.old).cap
+        (end_of (T.net_of attempts.old)))
         (loop_state (T.settings_of attempts.old) (T.net_of attempts.old) round.old)
         (loop_state (T.settings_of attempts.new) (T.net_of attempts.new) round.new)) }
 {

@@ -1,5 +1,5 @@
-//! Reading and writing arrays at any index. Reading past the end gives a default, and writing past the end does nothing,
-//! so that a search needs no bounds of its own.
+//! Reading and writing arrays at any index. Reading past the end gives a default, and writing past the end does
+//! nothing, so that a search needs no bounds of its own.
 
 /// The entry at `index`, or `other` past the end.
 pub fn entry<T: Copy>(row: &[T], index: u32, other: T) -> T {

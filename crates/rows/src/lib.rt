@@ -1,6 +1,6 @@
-//! What heuristics need and nothing is promised of: reproducible random words, and rows of numbers, marks and words that
-//! can be read and written at any index. An index beyond the end reads as 0 and writes nothing, so a search needs no
-//! bounds of its own, and every call ends without a fault.
+//! What heuristics need and nothing is promised of: reproducible random words, and arrays that can be read and written
+//! at any index. Reading past the end gives a default and writing past the end does nothing, so that a search needs no
+//! bounds of its own and every call returns.
 //!
 //! ```text
 //! let mut random = Random::new(7);

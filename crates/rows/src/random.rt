@@ -1,6 +1,6 @@
-//! Pseudorandom words for heuristic choices, the same in every run: xorshift with 64 bits of state (Marsaglia, 2003), read from the middle of the
-//! state, or multiplied as a whole (Vigna, "An experimental exploration of Marsaglia's xorshift generators, scrambled",
-//! 2016).
+//! Pseudorandom words for heuristic choices, the same in every run: xorshift with 64 bits of state (Marsaglia, 2003),
+//! read from the middle of the state, or multiplied as a whole (Vigna, "An experimental exploration of Marsaglia's
+//! xorshift generators, scrambled", 2016).
 
 /// The factor of a scrambled word.
 const FACTOR: u64 = 0x2545_f491_4f6c_dd1d;

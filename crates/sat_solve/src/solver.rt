@@ -47,7 +47,7 @@ pub trait Solver: Drop {
     ghost use Rattle.std.specs.Prelude.{◌≡◌, ℕ, ◌*◌, ◌^◌, ◌<◌, ◌≤◌, length, max, IfOk};
     ghost use Rattle.sat_theory.specs.Formula.{Formula, IsWithin, bits_of, Satisfies};
     ghost use Rattle.sat_theory.specs.Log.{Refutes, ReachesBudget, KeepsHalf, DeletesQuarter};
-    ghost use Rattle.sat_solve.specs.Budgets.{most_budget};
+    ghost use Rattle.sat_theory.specs.Limits.{most_conflicts};
     ghost use Rattle.sat_solve.specs.Answering.{IfSat, IfUnsat, IfOpen, IfLogged, IsDecided};
 
     /// The formula that it solves, and the least number of additions of a log that leaves it undecided.
@@ -61,7 +61,7 @@ pub trait Solver: Drop {
     fn new(alloc: Global, cnf: &Cnf, least: u32) -> Result<Self, AllocError>
     where
         Self: Sized,
-        requires most { least ≤ most_budget }
+        requires most { least ≤ most_conflicts }
         ensures solver { IfOk result (IsSolverOf cnf.now least) }
         ensures vars { IfOk result (λ s. vars_of s ≡ cnf.now.vars) };
 
@@ -89,16 +89,18 @@ pub trait Solver: Drop {
     where
         Self: Sized,
         requires some { 0 < budget }
-        requires most { budget ≤ most_budget }
+        requires most { budget ≤ most_conflicts }
         ensures bits { (f : Formula) (least : ℕ) → IsSolverOf f least self →
             IfOk result (λ s. IfSat s (λ bits. length bits ≡ f.vars)) }
         ensures sat { (f : Formula) (least : ℕ) → IsSolverOf f least self →
             IfOk result (λ s. IfSat s (λ bits. Satisfies (bits_of bits) f)) }
-        ensures unsat { (f : Formula) (least : ℕ) → IsSolverOf f least self → IfOk result (λ s. IfUnsat s (Refutes f)) }
+        ensures unsat { (f : Formula) (least : ℕ) → IsSolverOf f least self →
+            IfOk result (λ s. IfUnsat s (Refutes f)) }
         ensures open { (f : Formula) (least : ℕ) → IsSolverOf f least self →
             IfOk result (λ s. IfOpen s (λ lines. ReachesBudget f lines (max least budget))) }
         // At the end of an open log at least half of its additions are live.
-        ensures kept { (f : Formula) (least : ℕ) → IsSolverOf f least self → IfOk result (λ s. IfOpen s (KeepsHalf f)) }
+        ensures kept { (f : Formula) (least : ℕ) → IsSolverOf f least self →
+            IfOk result (λ s. IfOpen s (KeepsHalf f)) }
         // A log that refutes, or leaves open, deletes about a quarter of its additions or more, and no clause of
         // the formula.
         ensures thinned { (f : Formula) (least : ℕ) → IsSolverOf f least self →
@@ -113,7 +115,7 @@ pub trait Solver: Drop {
     where
         Self: Sized,
         requires some { 0 < budget }
-        requires most { budget ≤ most_budget }
+        requires most { budget ≤ most_conflicts }
         ensures bits { IfOk result (λ s. IfSat s (λ bits. length bits ≡ cnf.now.vars)) }
         ensures sat { IfOk result (λ s. IfSat s (λ bits. Satisfies (bits_of bits) cnf.now)) }
         ensures unsat { IfOk result (λ s. IfUnsat s (Refutes cnf.now)) }

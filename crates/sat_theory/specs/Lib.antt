@@ -1,3 +1,4 @@
+pub mod Limits
 pub mod Formula
 pub mod Line
 pub mod State

@@ -4,6 +4,7 @@ use Rattle.sat_theory.specs.Formula.{Formula}
 use Rattle.sat_theory.specs.Line.{Line, Add, Delete, IsLine, IsAdding}
 use Rattle.sat_theory.specs.State.{State, start, next}
 use Rattle.sat_theory.specs.Holding.{Holds}
+use Rattle.sat_theory.specs.Limits.{slack}
 
 unfoldable pub after : State → List Line → State
 after s [] = s
@@ -79,10 +80,10 @@ SparesFormula f (Add id lits hints) = Unit {0}
 SparesFormula f (Delete id ids) = All (λ k. length f.clauses < k) ids
 
 -- A log deletes a quarter if it deletes nothing but its own additions, and at its end at most about three quarters
--- of them are live: 3/4 of the additions, and vars + 2000 more.
+-- of them are live: 3/4 of the additions, and vars + slack more.
 pub record DeletesQuarter (f : Formula) (lines : List Line) : Type 0 where
   pub spares : All (SparesFormula f) lines
-  pub few : 4 * live_additions (after (start f) lines) lines ≤ 3 * additions lines + 4 * f.vars + 8000
+  pub few : 4 * live_additions (after (start f) lines) lines ≤ 3 * additions lines + 4 * f.vars + 4 * slack
 
 -- the log deletes nothing
 abbrev pub DeletesNothing : List Line → Type 0

@@ -14,4 +14,7 @@
 #![tactic(auto)]
 
 pub mod laws;
+mod limits;
 pub mod plain;
+
+pub use limits::{MOST_CONFLICTS, MOST_ID, MOST_VARIABLE, SLACK};

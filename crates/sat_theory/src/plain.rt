@@ -1,6 +1,7 @@
 //! The definitions, computed literally: clauses are looked up by linear search, and a set of literals is a list.
 //! It is there to be read, and to test faster checkers against.
-ghost use Rattle.std.specs.Prelude.{◌≡◌, ℕ, ◌-◌, ◌^◌, ◌<◌, ◌↔◌, [], ℤ, IsTrue, IfOk, OnOk, OnErr, IfSome, IfNone, Some};
+ghost use Rattle.std.specs.Prelude.{◌≡◌, ℕ, ◌-◌, ◌^◌, ◌<◌, ◌↔◌, [], ℤ, IsTrue, IfOk, OnOk, OnErr, IfSome, IfNone};
+ghost use Rattle.std.specs.Prelude.{Some};
 ghost use Rattle.std.specs.Prelude.{None, All, List};
 ghost use Rattle.std.specs.Option.{option_map};
 ghost use Rattle.sat_theory.specs.Formula.{bits_of, variable, IsWithin, IsTrueClause};

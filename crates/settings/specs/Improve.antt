@@ -1,18 +1,10 @@
 -- Settings of netlist improvement.
-use Rattle.std.specs.Prelude.{ℕ, ◌≤◌, ◌<◌, false}
+use Rattle.std.specs.Prelude.{◌≤◌, ◌<◌, false}
 use Rattle.op_basis.specs.Text.{all_set}
 use Rattle.settings.specs.declared.methods.Method.TheVariants.{Ssv}
-use Rattle.settings.specs.Synth.{most_conflicts}
+use Rattle.sat_theory.specs.Limits.{most_conflicts}
+use Rattle.settings.specs.Limits.{default_conflicts, most_gates_of_window, most_rounds, most_effort}
 use Rattle.settings.specs.declared.improve.ImproveSettings.{ImproveSettings}
-
-abbrev pub most_gates_of_window : ℕ
-most_gates_of_window = 8
-
-abbrev pub most_rounds : ℕ
-most_rounds = 100000
-
-abbrev pub most_effort : ℕ
-most_effort = 1000
 
 -- `s.basis` isn't empty, and the numbers are in their ranges
 pub record IsInRange (s : ImproveSettings) : Type 0 where
@@ -26,4 +18,4 @@ pub record IsInRange (s : ImproveSettings) : Type 0 where
 
 -- the defaults
 abbrev pub defaults : ImproveSettings
-defaults = record { basis = all_set; method = Ssv; cap = 5; rounds = 1000; conflicts = 100000; observe = false; effort = 0 }
+defaults = record { basis = all_set; method = Ssv; cap = 5; rounds = 1000; conflicts = default_conflicts; observe = false; effort = 0 }

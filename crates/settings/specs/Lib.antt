@@ -1,3 +1,4 @@
+pub mod Limits
 pub mod Methods
 pub mod Synth
 pub mod Improve

@@ -1,14 +1,11 @@
 -- Settings of exact synthesis.
-use Rattle.std.specs.Prelude.{ℕ, ◌≤◌, ◌<◌}
+use Rattle.std.specs.Prelude.{◌≤◌, ◌<◌}
+use Rattle.sat_theory.specs.Limits.{most_conflicts}
+use Rattle.chain_theory.specs.Limits.{most_steps}
 use Rattle.op_basis.specs.Text.{all_set}
 use Rattle.settings.specs.declared.methods.Method.TheVariants.{Ssv}
+use Rattle.settings.specs.Limits.{default_conflicts}
 use Rattle.settings.specs.declared.synth.SynthSettings.{SynthSettings}
-
-abbrev pub most_steps : ℕ
-most_steps = 16
-
-abbrev pub most_conflicts : ℕ
-most_conflicts = 10000000
 
 -- `s.basis` isn't empty, and the numbers are in their ranges
 pub record IsInRange (s : SynthSettings) : Type 0 where
@@ -19,4 +16,4 @@ pub record IsInRange (s : SynthSettings) : Type 0 where
 
 -- the defaults
 abbrev pub defaults : SynthSettings
-defaults = record { basis = all_set; method = Ssv; max = most_steps; conflicts = 100000 }
+defaults = record { basis = all_set; method = Ssv; max = most_steps; conflicts = default_conflicts }

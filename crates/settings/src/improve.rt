@@ -3,16 +3,8 @@ ghost use Rattle.std.specs.Prelude.{◌≡◌};
 ghost use Rattle.settings.specs.Improve.{defaults, IsInRange};
 
 use crate::Method;
+use crate::limits::DEFAULT_CONFLICTS;
 use op_basis::Basis;
-
-/// The greatest `cap`.
-pub const MOST_GATES_OF_WINDOW: u32 = 8;
-
-/// The greatest `rounds`.
-pub const MOST_ROUNDS: u32 = 100_000;
-
-/// The greatest `effort`.
-pub const MOST_EFFORT: u32 = 1000;
 
 /// Settings of netlist improvement, apart from the netlist.
 #[derive(Clone, Copy, PartialEq, Eq)]
@@ -49,7 +41,7 @@ impl ImproveSettings {
             method: Method::Ssv,
             cap: 5,
             rounds: 1000,
-            conflicts: 100_000,
+            conflicts: DEFAULT_CONFLICTS,
             observe: false,
             effort: 0,
         }

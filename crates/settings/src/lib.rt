@@ -1,7 +1,8 @@
 //! Settings of exact synthesis and of netlist improvement as data, with ranges and defaults: shared by the code
 //! that parses them, that searches or improves by them, and that writes them into a certificate. The crate
-//! depends on `op_basis` for bases and on `chain_theory` for the greatest number of steps, and on nothing that
-//! encodes, searches or parses.
+//! depends on `op_basis` for bases, on `chain_theory` and `sat_theory` for the most steps and conflicts, and on
+//! nothing that encodes, searches or parses. `limits` has the greatest numbers and `thresholds` the numbers that
+//! heuristics go by.
 //!
 //! `specs/Synth.antt` and `specs/Improve.antt` define the valid ranges (`IsInRange`) and the defaults
 //! (`defaults`); `specs/Methods.antt` names each method. Names and methods correspond one to one
@@ -15,10 +16,14 @@
 
 mod improve;
 pub mod laws;
+mod limits;
 mod methods;
 mod synth;
+pub mod thresholds;
 
 pub use chain_theory::MOST_STEPS;
-pub use improve::{ImproveSettings, MOST_EFFORT, MOST_GATES_OF_WINDOW, MOST_ROUNDS};
+pub use improve::ImproveSettings;
+pub use limits::{DEFAULT_CONFLICTS, MOST_BLOCKS, MOST_EFFORT, MOST_GATES_OF_WINDOW, MOST_ROUNDS};
 pub use methods::{Method, method_name, method_named};
-pub use synth::{MOST_CONFLICTS, SynthSettings};
+pub use sat_theory::MOST_CONFLICTS;
+pub use synth::SynthSettings;

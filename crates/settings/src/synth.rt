@@ -2,12 +2,10 @@
 ghost use Rattle.std.specs.Prelude.{◌≡◌};
 ghost use Rattle.settings.specs.Synth.{defaults, IsInRange};
 
+use crate::limits::DEFAULT_CONFLICTS;
 use crate::methods::Method;
 use chain_theory::MOST_STEPS;
 use op_basis::Basis;
-
-/// The greatest `conflicts`.
-pub const MOST_CONFLICTS: u32 = 10_000_000;
 
 /// Settings of exact synthesis, apart from the truth tables.
 #[derive(Clone, Copy, PartialEq, Eq)]
@@ -33,7 +31,7 @@ impl SynthSettings {
             basis: Basis::new(u16::MAX),
             method: Method::Ssv,
             max: MOST_STEPS,
-            conflicts: 100_000,
+            conflicts: DEFAULT_CONFLICTS,
         }
     }
 }

@@ -2,15 +2,9 @@
 
 use crate::kind::TreeKind;
 use rows::{bit_at, put};
+use settings::thresholds::{MOST_ROW_LITERALS, MOST_VISITED_OF_TREE};
 use std::alloc::{AllocError, Global};
 use xag_core::{Context, Xag, XagGate};
-
-/// The most literals of a row, since the number of its pairs grows quadratically.
-const MOST_LITERALS: usize = 100;
-
-/// The most gates of a tree that are visited; a gate with several fanouts in the tree is visited once for
-/// each.
-const MOST_STEPS: usize = 400;
 
 /// A root and the literals of its tree, ascending.
 #[derive(Drop)]
@@ -74,7 +68,7 @@ fn sort_operand(
     let goes_on = xag.is_gate(node)
         && kind.goes_on(xag.gate(node), literal)
         && (kind.through_all || !bit_at(roots, node));
-    if goes_on && pending.len() + literals.len() < MOST_LITERALS {
+    if goes_on && pending.len() + literals.len() < MOST_ROW_LITERALS {
         pending.push(node)?;
     } else {
         literals.push(literal)?;
@@ -93,7 +87,7 @@ fn tree_literals(
     let mut literals = Vec::new(alloc);
     let mut pending = Vec::new(alloc);
     pending.push(root)?;
-    for _step in 0..MOST_STEPS {
+    for _step in 0..MOST_VISITED_OF_TREE {
         let Some(node) = pending.pop() else {
             return Ok(literals);
         };

@@ -4,11 +4,9 @@
 use crate::collecting::LiteralRow;
 use crate::pairs::{LiteralPair, PairCounts};
 use rows::{Random, at, put};
+use settings::thresholds::MOST_PAIRS;
 use std::alloc::{AllocError, Global};
 use xag_core::{NONE, Substitution, XagGate};
-
-/// The most pairs that are counted at the start.
-const MOST_PAIRS: usize = 4_000_000;
 
 /// The most ranks that are taken off the heap.
 const MOST_RANKS: u64 = 1_000_000_000;

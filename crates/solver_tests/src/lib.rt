@@ -1,5 +1,7 @@
-//! Tests of `cnf_core` and of the crates from `cdcl_theory` to `cdcl_core`: satisfaction of formulas, the
-//! parts of the solver, and the solver on formulas of increasing difficulty, with each of its logs checked.
+//! Tests of refutations and of the solver. Of `sat_theory`, `lrat_text` and `lrat_check`: lines of logs as texts, the
+//! checker, and `plain`, which computes the definitions. Of `cnf_core` and the crates from `cdcl_theory` to
+//! `cdcl_core`: satisfaction of formulas, the parts of the solver, and the solver on formulas of increasing
+//! difficulty, with each of its logs checked. `building` makes formulas.
 #![tactic(auto)]
 
 #[cfg(test)]

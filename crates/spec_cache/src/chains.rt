@@ -3,7 +3,8 @@ ghost use Rattle.std.specs.Prelude.{◌≡◌, map, IfOk};
 ghost use Rattle.chain_core.specs.Steps.{steps_of};
 ghost use Rattle.spec_cache.specs.Order.{IsOrder};
 ghost use Rattle.spec_cache.specs.ListLaws.{permuted_step as permuted_step_of};
-ghost use Rattle.spec_cache.specs.OrderLaws.{permuted_place as permuted_place_of, permuted_steps as permuted_steps_of};
+ghost use Rattle.spec_cache.specs.OrderLaws.{permuted_place as permuted_place_of};
+ghost use Rattle.spec_cache.specs.OrderLaws.{permuted_steps as permuted_steps_of};
 ghost use Rattle.spec_cache.specs.OrderLaws.{permuted_out as permuted_out_of, permuted_chain as permuted_chain_of};
 
 use chain_core::{Chain, Step};

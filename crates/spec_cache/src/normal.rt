@@ -4,6 +4,7 @@ ghost use Rattle.std.specs.Prelude.{◌≡◌, ◌<◌, ◌≤◌, length, IfOk}
 ghost use Rattle.spec_cache.specs.Order.{IsInput, IsOrder, IsPermuting, IsInverse};
 ghost use Rattle.spec_cache.specs.Ranks.{comes_before as comes_before_of, rank as rank_of};
 ghost use Rattle.spec_cache.specs.Permuting.{IsPlaceOf};
+ghost use Rattle.chain_theory.specs.Limits.{most_inputs};
 
 use op_basis::input_word;
 use std::alloc::{AllocError, Global};
@@ -37,7 +38,7 @@ fn step_of(k: u32) -> u32
 /// specified rows `care`. It combines three counts: the specified rows where the input is 1, those of them with
 /// the value 1, and the specified pairs of rows where flipping the input flips the value.
 fn counts(on: u64, care: u64, k: u32) -> u64
-    requires { k < 6 }
+    requires { k < most_inputs }
 {
     let high = input_word(k);
     let step = step_of(k);
@@ -52,7 +53,7 @@ fn counts(on: u64, care: u64, k: u32) -> u64
 
 /// The signature of the input with weight 2^k over all outputs.
 fn weight(spec: &Spec, k: u32) -> u64
-    requires { k < 6 }
+    requires { k < most_inputs }
 {
     let mut weight = 0u64;
     for output in 0..spec.on().len().min(spec.care().len()) {
@@ -90,7 +91,7 @@ fn comes_before(weights: &[u64], index: u32, other: u32) -> bool
 /// How many signatures sort before that at `index`.
 #[tactic(auto, using(crate::specs::Ranks::ranking))]
 fn rank(weights: &[u64], index: u32) -> u32
-    requires few { length weights.now ≤ 6 }
+    requires few { length weights.now ≤ most_inputs }
     requires index { index < length weights.now }
     ensures rank { result ≡ rank_of weights.now index }
     ensures low { result < length weights.now }
@@ -105,7 +106,7 @@ fn rank(weights: &[u64], index: u32) -> u32
 /// The rank of each signature, counted from 1.
 #[tactic(auto, using(crate::specs::Permuting::permuting))]
 fn ranked(alloc: Global, weights: &[u64]) -> Result<Vec<u32>, AllocError>
-    requires { length weights.now ≤ 6 }
+    requires { length weights.now ≤ most_inputs }
     ensures { IfOk result (λ order. IsPermuting (length weights.now) order.items) }
 {
     let mut order = Vec::with_capacity(alloc, MOST_INPUTS as usize)?;
@@ -128,7 +129,7 @@ pub fn normal_order(alloc: Global, spec: &Spec) -> Result<Vec<u32>, AllocError>
 /// The position of a number in an order, counted from 1; the number itself if it isn't in it.
 #[tactic(auto, using(crate::specs::Permuting::permuting))]
 fn place_of(order: &[u32], number: u32) -> u32
-    requires few { length order.now ≤ 6 }
+    requires few { length order.now ≤ most_inputs }
     requires number { IsInput (length order.now) number }
     ensures input { IsInput (length order.now) result }
     ensures place { IsPlaceOf order.now number result }
@@ -144,7 +145,7 @@ fn place_of(order: &[u32], number: u32) -> u32
 /// The inverse of an order.
 #[tactic(auto, using(crate::specs::Permuting::permuting))]
 pub fn inverse(alloc: Global, order: &[u32]) -> Result<Vec<u32>, AllocError>
-    requires { length order.now ≤ 6 }
+    requires { length order.now ≤ most_inputs }
     ensures order { IfOk result (λ back. IsOrder (length order.now) back.items) }
     ensures back { IfOk result (λ back. IsPermuting (length order.now) order.now →
         IsInverse (length order.now) order.now back.items) }

@@ -5,13 +5,14 @@ ghost use Rattle.chain_theory.specs.Specification.{input as input_of};
 ghost use Rattle.tt_core.specs.Words.{specification};
 ghost use Rattle.spec_cache.specs.Order.{IsOrder, permuted_row as permuted_row_of, permuted_word as permuted_word_of};
 ghost use Rattle.spec_cache.specs.Order.{IsPermuted};
+ghost use Rattle.chain_theory.specs.Limits.{most_inputs};
 
 use std::alloc::{AllocError, Global};
 use tt_core::Spec;
 
 /// The value of input `j` of `n` in row `t`.
 fn input(n: u32, t: u32, j: u32) -> bool
-    requires inputs { n ≤ 6 }
+    requires inputs { n ≤ most_inputs }
     requires input { j ≤ n }
     ensures { result ≡ input_of n t j }
 {
@@ -21,7 +22,7 @@ fn input(n: u32, t: u32, j: u32) -> bool
 /// The row that gives each input the value that row `t` gives its new number.
 #[tactic(auto, using(crate::proofs::Growing::growing))]
 fn permuted_row(n: u32, order: &[u32], t: u32) -> u32
-    requires inputs { n ≤ 6 }
+    requires inputs { n ≤ most_inputs }
     requires order { IsOrder n order.now }
     ensures row { result ≡ permuted_row_of n order.now t }
     ensures within { result < 2 ^ n }
@@ -44,7 +45,7 @@ fn digit(word: u64, t: u32) -> bool
 /// The word with its rows permuted by an order of the inputs.
 #[tactic(auto, using(crate::proofs::Growing::growing))]
 fn permuted_word(n: u32, order: &[u32], word: u64) -> u64
-    requires inputs { n ≤ 6 }
+    requires inputs { n ≤ most_inputs }
     requires order { IsOrder n order.now }
     ensures { result ≡ permuted_word_of n order.now word }
 {
@@ -64,7 +65,7 @@ fn permuted_words(
     order: &[u32],
     words: &[u64],
 ) -> Result<Vec<u64>, AllocError>
-    requires inputs { n ≤ 6 }
+    requires inputs { n ≤ most_inputs }
     requires order { IsOrder n order.now }
     ensures { IfOk result (λ permuted. permuted.items ≡ map (permuted_word_of n order.now) words.now) }
 {
@@ -82,7 +83,8 @@ fn permuted_words(
 pub fn permuted_spec(alloc: Global, spec: &Spec, order: &[u32]) -> Result<Spec, AllocError>
     requires { IsOrder spec.now.n order.now }
     ensures inputs { IfOk result (λ permuted. permuted.n ≡ spec.now.n) }
-    ensures permuted { IfOk result (λ permuted. IsPermuted (specification spec.now) (specification permuted) order.now) }
+    ensures permuted { IfOk result (λ permuted. IsPermuted (specification spec.now)
+        (specification permuted) order.now) }
 {
     let n = spec.n();
     let on = permuted_words(alloc, n, order, spec.on())?;

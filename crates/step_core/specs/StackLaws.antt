@@ -13,6 +13,7 @@ use Rattle.chain_laws.specs.Follow.{run, run_below, with_own, own_has, step_at}
 use Rattle.op_basis.specs.WordOperator.{input_word, on_words}
 use Rattle.step_core.specs.Steps.{step_word, word_in}
 use Rattle.step_core.specs.StepStacks.{StackView, IsStepStack, HasStepWords}
+use Rattle.chain_theory.specs.Limits.{most_inputs}
 
 -- ---- words of steps and of more steps
 
@@ -69,7 +70,7 @@ more_inputs n before word words longer are is e = subst (AreInputs n (before + 1
   ];
 })
 
-pub inputs_whole : (n : ℕ) (words : List ℕ) (steps : List held.Step) → n ≤ 6 → steps ≡ [] → AreInputs n n words → HasStepWords (stack_of n steps) words
+pub inputs_whole : (n : ℕ) (words : List ℕ) (steps : List held.Step) → n ≤ most_inputs → steps ≡ [] → AreInputs n n words → HasStepWords (stack_of n steps) words
 inputs_whole n words steps few none are = subst (λ (ss : List held.Step). HasStepWords (stack_of n ss) words) (sym none) (record {
   stack = record { inputs = few; few = omega arith; are = no_steps n };
   count = omega (arith, are.count);

@@ -2,6 +2,7 @@
 use Rattle.std.specs.Prelude.{◌≡◌, ℕ, ◌+◌, ◌-◌, ◌≤◌, List, length, slice_index}
 use Rattle.chain_theory.specs.Chain.{Step, AreSteps}
 use Rattle.step_core.specs.Steps.{word_in}
+use Rattle.chain_theory.specs.Limits.{most_inputs}
 
 -- steps over n inputs
 pub record StackView : Type 0 where
@@ -10,7 +11,7 @@ pub record StackView : Type 0 where
 
 -- at most six inputs and six steps
 pub record IsStepStack (t : StackView) : Type 0 where
-  pub inputs : t.n ≤ 6
+  pub inputs : t.n ≤ most_inputs
   pub few : length t.steps ≤ 6
   pub are : AreSteps t.n t.steps
 

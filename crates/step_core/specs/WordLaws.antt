@@ -17,11 +17,12 @@ use Rattle.bound_core.specs.CountLaws.{no_digit}
 use Rattle.op_basis.specs.WordOperator.{differ, on_words, input_word}
 use Rattle.op_basis.specs.WordOperatorLaws.{digit_and, digit_xor, on_words_bit, input_digit}
 use Rattle.step_core.specs.Steps.{misses, step_word, word_in}
+use Rattle.chain_theory.specs.Limits.{most_inputs}
 
 -- ---- the words of places
 
 -- on a row the word of a place has the place's value
-pub word_row : (n t : ℕ) (steps : List Step) (p : ℕ) → n ≤ 6 → AreSteps n steps → t < 64 → 1 ≤ p → p ≤ n + length steps → digit (word_in n steps p) t ≡ values_on n t steps p
+pub word_row : (n t : ℕ) (steps : List Step) (p : ℕ) → n ≤ most_inputs → AreSteps n steps → t < 64 → 1 ≤ p → p ≤ n + length steps → digit (word_in n steps p) t ≡ values_on n t steps p
 unfolding word_in
 word_row n t steps p few are low from to =
     let at : AreStepsAt (n + 1) steps = record { each = are.each } in

@@ -13,7 +13,8 @@ ghost use Rattle.chain_laws.specs.Keys.{ComesBefore};
 ghost use Rattle.step_core.specs.Enumeration.{NoneWith, HasPair, IsGivenStep};
 ghost use Rattle.step_core.specs.Pruning.{are_compatible as are_alike_of, is_incompatible as is_apart_of};
 ghost use Rattle.step_core.specs.Pruning.{is_due as is_due_of, due as due_of, meets as meets_of};
-ghost use Rattle.step_core.specs.Pruning.{meets_some as meets_some_of, gives as gives_of, gives_some as gives_some_of};
+ghost use Rattle.step_core.specs.Pruning.{meets_some as meets_some_of, gives as gives_of};
+ghost use Rattle.step_core.specs.Pruning.{gives_some as gives_some_of};
 ghost use Rattle.step_core.specs.Pruning.{depends_on_one as follows_one_of, is_constant as is_constant_of};
 
 use crate::rules::Rules;

@@ -6,6 +6,7 @@ ghost use Rattle.chain_laws.specs.Follow.{step_at};
 ghost use Rattle.chain_core.specs.Steps.{step_of, steps_of};
 ghost use Rattle.step_core.specs.Steps.{word_in};
 ghost use Rattle.step_core.specs.StepStacks.{IsStepStack};
+ghost use Rattle.chain_theory.specs.Limits.{most_inputs};
 
 use chain_core::Step;
 use op_basis::{input_word, on_words};
@@ -37,7 +38,7 @@ impl Model for StepStack {
 impl StepStack {
     /// The empty stack over `n` inputs; `to_skip` solutions are to be skipped.
     pub fn new(alloc: Global, n: u32, to_skip: u32) -> Result<StepStack, AllocError>
-        requires { n ≤ 6 }
+        requires { n ≤ most_inputs }
         ensures inputs { IfOk result (λ stack. stack.n ≡ n) }
         ensures empty { IfOk result (λ stack. stack.steps ≡ []) }
     {

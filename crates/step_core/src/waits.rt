@@ -5,7 +5,8 @@
 ghost use Rattle.std.specs.Prelude.{◌≡◌, ◌+◌, ◌<◌, ◌≤◌, false, length};
 ghost use Rattle.chain_theory.specs.Operator.{Basis as Operators};
 ghost use Rattle.step_core.specs.Enumeration.{NoneWith, HasPair};
-ghost use Rattle.step_core.specs.Waits.{reads_at as reads_at_of, is_read as is_read_of, has_in_support as asks_for_of};
+ghost use Rattle.step_core.specs.Waits.{reads_at as reads_at_of, is_read as is_read_of};
+ghost use Rattle.step_core.specs.Waits.{has_in_support as asks_for_of};
 ghost use Rattle.step_core.specs.Waits.{is_in_some_support as is_asked_of, is_needed as is_needed_of};
 ghost use Rattle.step_core.specs.Waits.{waits as waits_of, waiting as waiting_of};
 

@@ -19,7 +19,8 @@ pub fn roots_do_not_matter()
     ensures specification { (n : Net) (w v : Window) (s : Specification) → HaveSameLists w v →
         IsSpecificationOf n w s → IsSpecificationOf n v s }
     ensures meet { (n : Net) (w v : Window) (c : Chain) → HaveSameLists w v → Meets n w c → Meets n v c }
-    ensures rebuild_substituted { (n m : Net) (w v : Window) (c : Chain) → HaveSameLists w v → IsSubstitution n w c m →
+    ensures rebuild_substituted { (n m : Net) (w v : Window) (c : Chain) → HaveSameLists w v →
+        IsSubstitution n w c m →
         IsSubstitution n v c m }
 {}
 
@@ -37,7 +38,8 @@ pub fn substitution_keeps_the_sinks()
         IsSubstituted n w c m }
     ensures implements { (n m : Net) (w : Window) (c : Chain) → IsSubstituted n w c m →
         length c.steps ≤ length w.gates → Implements n m }
-    ensures cleaned_up { (first n m left : Net) (w : Window) (c : Chain) → IsCleanedUp first n → IsSubstituted n w c m →
+    ensures cleaned_up { (first n m left : Net) (w : Window) (c : Chain) → IsCleanedUp first n →
+        IsSubstituted n w c m →
         length c.steps ≤ length w.gates → IsCleanedUp m left → IsCleanedUp first left }
     ensures operators { (n m : Net) (w : Window) (c : Chain) → IsSubstitution n w c m → HasOldOperators n c m }
 {}

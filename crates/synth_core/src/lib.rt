@@ -7,6 +7,9 @@
 //! out. The theorem: the texts, one after the other, are a valid certificate for the tables in the input, with the
 //! verdict that the last call returns; and `begin` refuses exactly an input that isn't tables alone.
 //!
+//! `certify_depth` (`src/least_depth.rt`) does the same for the fewest levels among the chains of the fewest steps,
+//! by `depth_core`: its text is a valid depth certificate, or a certificate whose verdict is no minimum.
+//!
 //! ```text
 //! let begun = begin(alloc, b"inputs 2\n0110\n", &SynthSettings::defaults())?;
 //! let piece = next_piece::<Cdcl>(alloc, begun.search)?; // section of size 0; at last the trailer, Minimum(1)

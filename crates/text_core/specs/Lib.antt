@@ -1,5 +1,6 @@
 pub mod Splits
 pub mod Items
+pub mod Limits
 pub mod Lines
 pub mod Numbers
 pub mod ReadBack

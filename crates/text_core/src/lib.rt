@@ -10,7 +10,7 @@
 //! ```text
 //! let (text, ended, rest) = next_line(b"inputs 3\n01").unwrap(); // b"inputs 3", true, b"01"
 //! let digits = after(b"inputs ", text).unwrap();                 // b"3"
-//! let inputs = number_up_to(999_999_999, digits);                // Some(3)
+//! let inputs = number_up_to(MOST_NUMBER, digits);                // Some(3)
 //! ```
 #![tactic(auto)]
 
@@ -23,5 +23,5 @@ mod words;
 pub use items::next_item;
 pub use laws::{laws_of_items, laws_of_lines, laws_of_numbers, laws_of_rests, laws_of_words};
 pub use lines::next_line;
-pub use numbers::{number_up_to, push_number};
+pub use numbers::{MOST_NUMBER, number_up_to, push_number};
 pub use words::{after, begins_lower};

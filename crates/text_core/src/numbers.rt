@@ -5,8 +5,11 @@ ghost use Rattle.text_core.specs.Numbers as spec;
 use itoa::Buffer;
 use std::alloc::AllocError;
 
+/// The greatest number of a text: nine digits, so that sums of a few of them fit in 32 bits.
+pub const MOST_NUMBER: u32 = 999_999_999;
+
 /// The number that the whole text spells: decimal digits, no sign, no leading 0. None if it spells no number,
-/// or one above `limit`. With the limit 999999999 a number has at most nine digits.
+/// or one above `limit`.
 #[tactic(auto, unfolding(crate::specs::Numbers::number_from))]
 pub fn number_up_to(limit: u32, text: &[u8]) -> Option<u32>
     ensures { result ≡ spec.number_up_to limit text.now }

@@ -1,7 +1,8 @@
 //! The trail as a list of literals with two tables: the position at which each literal became false, and the
 //! reason of each variable. The invariant `IsTrail` says that list and tables agree; backtracking removes the
 //! last literals one by one, with their entries.
-ghost use Rattle.std.specs.Prelude.{◌≡◌, ℤ, negsuc, ◌+◌, ◌-◌, ◌<◌, ◌≤◌, ◌↔◌, [], length, slice_index_or, IsTrue, IfOk};
+ghost use Rattle.std.specs.Prelude.{◌≡◌, ℤ, negsuc, ◌+◌, ◌-◌, ◌<◌, ◌≤◌, ◌↔◌, [], length, slice_index_or, IsTrue};
+ghost use Rattle.std.specs.Prelude.{IfOk};
 ghost use Rattle.std.specs.Prelude.{OnOk, OnErr};
 ghost use Rattle.sat_theory.specs.Formula.{variable as variable_of};
 ghost use Rattle.cdcl_theory.specs.Trails.{IsTrail, IsBacktracked, pushed, falsified_at as falsified_in, reason_of};

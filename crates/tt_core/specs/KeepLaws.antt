@@ -8,6 +8,7 @@ use Rattle.chain_theory.specs.Operator.{digit}
 use Rattle.tt_core.specs.Cells.{on_bit, care_bit, word_of}
 use Rattle.tt_core.specs.Words.{IsSpec}
 use Rattle.tt_core.specs.CellWordLaws.{IsBit, on_is_bit, care_is_bit}
+use Rattle.chain_theory.specs.Limits.{most_outputs}
 
 -- the digits of a word are the bits of its characters
 pub word_bit : (bit : ℕ → ℕ) → IsBit bit → (xs : List ℕ) (t d : ℕ) → t < length xs → bit_at (word_of bit xs) t ≡ bit (get_or xs t d)
@@ -56,7 +57,7 @@ pairs_push R (a ∷ xs) (b ∷ ys) x y (suc i) same each last = pairs_push R xs 
 
 -- One more table line keeps the invariant of a specification.
 pub kept : (n : ℕ) (on care on' care' text : List ℕ) → IsSpec (record { n = n; on = on; care = care }) →
-    length on < 8 → length text ≡ 2 ^ n → on' ≡ on ++ word_of on_bit text ∷ [] → care' ≡ care ++
+    length on < most_outputs → length text ≡ 2 ^ n → on' ≡ on ++ word_of on_bit text ∷ [] → care' ≡ care ++
     word_of care_bit text ∷ [] → IsSpec (record { n = n; on = on'; care = care' })
 kept n on care on' care' text spec room rows on-is care-is =
     rw (on-is, care-is) record {

@@ -13,6 +13,7 @@ use Rattle.tt_core.specs.Words.{Words, IsSpec, specification, cell_of}
 use Rattle.tt_core.specs.Live.{trivial_value, fits_rows, inputs_from, is_live, live_among, live_outputs, words_of, live_words}
 use Rattle.tt_core.specs.KeepLaws.{pairs_push}
 use Rattle.tt_core.specs.RowLaws.{row_below}
+use Rattle.chain_theory.specs.Limits.{most_outputs}
 
 -- before the first row every out fits
 pub fits_none : (s : Specification) (h : ℕ) (out : Out) → fits_rows s h out 0 ≡ true
@@ -100,7 +101,7 @@ part_cells w part is h t some low = ap (λ (x : Words). cell_of x h t) is ∙ li
 
 -- One more output, copied from another one, keeps the invariant of a specification.
 pub kept_copy : (w : Words) (on care on' care' : List ℕ) (h : ℕ) → IsSpec w →
-    IsSpec (record { n = w.n; on = on; care = care }) → length on < 8 → on' ≡ on ++ slice_index w.on (h - 1) ∷ [] →
+    IsSpec (record { n = w.n; on = on; care = care }) → length on < most_outputs → on' ≡ on ++ slice_index w.on (h - 1) ∷ [] →
     care' ≡ care ++ slice_index w.care (h - 1) ∷ [] → IsSpec (record { n = w.n; on = on'; care = care' })
 kept_copy w on care on' care' h whole spec room on-is care-is =
     rw (on-is, care-is) record {

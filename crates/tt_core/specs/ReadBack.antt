@@ -23,6 +23,8 @@ use Rattle.tt_core.specs.Spelling.{character, inputs_line, IsTableLine, EndsTabl
 use Rattle.tt_core.specs.CellWordLaws.{on_is_bit, care_is_bit}
 use Rattle.tt_core.specs.KeepLaws.{word_bit, word_none}
 use Rattle.tt_core.specs.SpelledLaws.{IsRow, on_word, care_word}
+use Rattle.chain_theory.specs.Limits.{most_outputs}
+use Rattle.text_core.specs.Limits.{most_number}
 
 -- digits that agree as tests agree as numbers
 same_digit : (a b : ℕ) → a < 2 → b < 2 → (a == 1) ≡ (b == 1) → a ≡ b
@@ -105,8 +107,8 @@ cell_not_lower (x ∷ xs) some good = grind (arith, common_steps)
 not_zero : (k : ℕ) → 0 < k → (k == 0) ≡ false
 not_zero k some = not_true _ (λ is. let e : k ≡ 0 = eqb-true k 0 is in omega arith)
 
-not_eight : (k : ℕ) → k < 8 → (k == 8) ≡ false
-not_eight k room = not_true _ (λ is. let e : k ≡ 8 = eqb-true k 8 is in omega arith)
+not_eight : (k : ℕ) → k < most_outputs → (k == most_outputs) ≡ false
+not_eight k room = not_true _ (λ is. let e : k ≡ most_outputs = eqb-true k most_outputs is in omega arith)
 
 -- a table line has at least one cell
 has_row : (n : ℕ) (l : Line) → IsRow n l → 0 < length l.text
@@ -123,7 +125,7 @@ end_back w [] end some = rw (not_zero (length w.on) some) refl
 end_back w (l ∷ ls) end some = rw (end, not_zero (length w.on) some) refl
 
 -- one more line
-row_step : (w : Words) (l : Line) (ls : List Line) → IsRow w.n l → length w.on < 8 → rows_of w (l ∷ ls) ≡ rows_of (with_row w l.text) ls
+row_step : (w : Words) (l : Line) (ls : List Line) → IsRow w.n l → length w.on < most_outputs → rows_of w (l ∷ ls) ≡ rows_of (with_row w l.text) ls
 unfolding rows_of
 row_step w l ls good room = rw (cell_not_lower l.text (has_row w.n l good) good.cells, not_eight (length w.on) room, no_fault w.n (2 + length w.on) l good) refl
 
@@ -150,7 +152,7 @@ regroup xs x y ys e = append_assoc xs (x ∷ []) ys ∙ ap (λ (z : ℕ). xs ++ 
 
 -- lines that spell the words still to be read
 rows_back : (n : ℕ) (on care us vs : List ℕ) (ls rest : List Line) → length vs ≡ length us → AreRows n ls us vs →
-    rest ≡ drop (length us) ls → EndsTables rest → 0 < length on + length us → length on + length us ≤ 8 →
+    rest ≡ drop (length us) ls → EndsTables rest → 0 < length on + length us → length on + length us ≤ most_outputs →
     rows_of (record { n = n; on = on; care = care }) ls ≡
     Ok (record { words = record { n = n; on = on ++ us; care = care ++ vs }; rest = rest })
 rows_back n on care [] [] ls rest same rows following end some few = rw (append-nil on, append-nil care, ← following) (end_back (record { n = n; on = on; care = care }) rest end (omega arith))
@@ -169,7 +171,7 @@ rows_back n on care (u ∷ us) (v ∷ vs) (l ∷ ls) rest same rows following en
 
 -- the header that is written for a number of inputs is read as it
 header_back : (n : ℕ) → n ≤ 6 → inputs_of (inputs_line n) ≡ Some n
-header_back n few = rw (word_back (codes "inputs ") (decimal n)) (number_back 999999999 n (omega arith) (omega arith))
+header_back n few = rw (word_back (codes "inputs ") (decimal n)) (number_back most_number n (omega arith) (omega arith))
 
 not_over : (n : ℕ) → n ≤ 6 → nat_lt 6 n ≡ false
 not_over n few = not_true _ (λ is. let e : 6 < n = ltb-true 6 n is in omega arith)

@@ -19,6 +19,7 @@ use Rattle.tt_core.specs.Tables.{Read, inputs_of, row_fault, with_row, end_of, u
 use Rattle.tt_core.specs.Spelling.{character, inputs_line, IsTableLine, EndsTables, SpellsTables}
 use Rattle.tt_core.specs.CellWordLaws.{on_is_bit, care_is_bit}
 use Rattle.tt_core.specs.KeepLaws.{word_bit}
+use Rattle.text_core.specs.Limits.{most_number}
 
 -- a well-formed table line: cells alone, as many as there are rows, and an LF
 pub record IsRow (n : ℕ) (l : Line) : Type 0 where
@@ -104,8 +105,8 @@ header_read : (l : Line) (n : ℕ) → inputs_of l ≡ Some n → l ≡ inputs_l
 header_read l n e =
     elim (chosen l.ended _ _ _ e) [
       | inl (ended, some) ↦
-          let digits = and_then_ok (after (codes "inputs ") l.text) (number_up_to 999999999) n some in
-          let spelled = number_spells 999999999 n digits.0 (lit< tt) digits.2 in
+          let digits = and_then_ok (after (codes "inputs ") l.text) (number_up_to most_number) n some in
+          let spelled = number_spells most_number n digits.0 (lit< tt) digits.2 in
           line_is l (codes "inputs " ++ decimal n) (word_spells (codes "inputs ") l.text digits.0 digits.1 ∙ ap (λ (xs : List ℕ). codes "inputs " ++ xs) spelled.1) ended
       | inr (_, none) ↦ absurd cc
     ]

@@ -9,6 +9,8 @@ use Rattle.tt_core.specs.declared.error.SpecError.{SpecError}
 use Rattle.tt_core.specs.declared.error.SpecError.TheVariants.{BadHeader, BadRow, WrongLength, TooManyInputs, TooManyOutputs, NoOutput}
 use Rattle.tt_core.specs.Cells.{is_cell, on_bit, care_bit, word_of}
 use Rattle.tt_core.specs.Words.{Words}
+use Rattle.chain_theory.specs.Limits.{most_inputs, most_outputs}
+use Rattle.text_core.specs.Limits.{most_number}
 
 -- what was read: the specification's words, and the lines after the tables
 pub record Read : Type 0 where
@@ -17,7 +19,7 @@ pub record Read : Type 0 where
 
 -- the number of inputs in a header line
 abbrev pub inputs_of : Line → Option ℕ
-inputs_of l = if l.ended then option_and_then (number_up_to 999999999) (after (codes "inputs ") l.text) else None
+inputs_of l = if l.ended then option_and_then (number_up_to most_number) (after (codes "inputs ") l.text) else None
 
 -- the error of a table line of n inputs, if there is one
 abbrev pub row_fault : ℕ → ℕ → Line → Option SpecError
@@ -39,14 +41,15 @@ unless_fault (Some fault) read = Err fault
 -- the result for the table lines that are left, after those of w
 unfoldable pub rows_of : Words → List Line → Result Read SpecError
 rows_of w [] = end_of w []
-rows_of w (l ∷ ls) = if begins_lower l.text then end_of w
-    (l ∷ ls) else (if length w.on == 8 then Err TooManyOutputs else unless_fault (row_fault w.n (2 + length w.on) l)
-    (rows_of (with_row w l.text) ls))
+rows_of w (l ∷ ls) = if begins_lower l.text then end_of w (l ∷ ls)
+    else (if length w.on == most_outputs then Err TooManyOutputs
+    else unless_fault (row_fault w.n (2 + length w.on) l) (rows_of (with_row w l.text) ls))
 
 -- the result for the lines after the header
 abbrev pub after_inputs : Option ℕ → List Line → Result Read SpecError
 after_inputs None ls = Err (BadHeader 1)
-after_inputs (Some n) ls = if nat_lt 6 n then Err TooManyInputs else rows_of (record { n = n; on = []; care = [] }) ls
+after_inputs (Some n) ls = if nat_lt most_inputs n then Err TooManyInputs
+    else rows_of (record { n = n; on = []; care = [] }) ls
 
 -- Lines are checked from the top. Errors of the header come in the order BadHeader, TooManyInputs, and
 -- those of a table line in the order TooManyOutputs, BadRow, WrongLength. Lines are numbered from 1.

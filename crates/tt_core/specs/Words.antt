@@ -4,6 +4,7 @@ use Rattle.chain_theory.specs.Operator.{digit}
 use Rattle.chain_theory.specs.Specification.{Specification}
 use Rattle.chain_theory.specs.declared.data.Cell.{Cell}
 use Rattle.chain_theory.specs.declared.data.Cell.TheVariants.{Zero, One, Free}
+use Rattle.chain_theory.specs.Limits.{most_inputs, most_outputs}
 
 -- n inputs, and for each output a word of its values and a word of the rows that are specified (its
 -- care set): row t is the binary digit of weight 2 ^ t.
@@ -16,8 +17,8 @@ pub record Words : Type 0 where
 -- The words are a specification: at most six inputs and eight outputs, both lists of one length, a
 -- value of 1 only on a specified row, and specified rows only among the 2 ^ n.
 pub record IsSpec (w : Words) : Type 0 where
-  pub inputs : w.n ≤ 6
-  pub outputs : length w.on ≤ 8
+  pub inputs : w.n ≤ most_inputs
+  pub outputs : length w.on ≤ most_outputs
   pub together : length w.care ≡ length w.on
   pub inside : (i t : ℕ) → digit (slice_index w.on i) t ≡ true → digit (slice_index w.care i) t ≡ true
   pub rows : (i t : ℕ) → 2 ^ w.n ≤ t → digit (slice_index w.care i) t ≡ false

@@ -5,6 +5,7 @@ ghost use Rattle.std.specs.Prelude.{◌≡◌, ℕ, ◌+◌, ◌-◌, ◌<◌, �
 ghost use Rattle.tt_core.specs.Live.{trivial_value as trivial_value_of, fits as fits_of, trivial_of};
 ghost use Rattle.tt_core.specs.Live.{is_live as is_live_of, live_outputs, live_words};
 ghost use Rattle.tt_core.specs.Words.{IsSpec, specification};
+ghost use Rattle.chain_theory.specs.Limits.{most_outputs};
 
 use crate::cells::push_both;
 use crate::{Spec, row};
@@ -81,7 +82,7 @@ fn push_output(
 ) -> Result<(), AllocError>
     requires output { (1 ≤ h) × (h ≤ length spec.now.on) }
     requires whole { IsSpec spec.now }
-    requires room { length on.old.items < 8 }
+    requires room { length on.old.items < most_outputs }
     requires spec { IsSpec (record { n = spec.now.n; on = on.old.items; care = care.old.items }) }
     ensures values { OnOk result (on.new.items ≡ on.old.items ++ slice_index spec.now.on (h - 1) ∷ []) }
     ensures cares { OnOk result (care.new.items ≡ care.old.items ++ slice_index spec.now.care (h - 1) ∷ []) }

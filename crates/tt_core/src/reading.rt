@@ -11,14 +11,12 @@ ghost use Rattle.tt_core.specs.Used.{read_of};
 ghost use Rattle.tt_core.specs.Tables.{inputs_of, end_of, tables_of};
 ghost use Rattle.tt_core.specs.Spelling.{SpellsTables};
 ghost use Rattle.tt_core.specs.Words.{Words, IsSpec, specification};
+ghost use Rattle.chain_theory.specs.Limits.{most_outputs};
 
 use crate::cells::{are_cells, push_both, row_words};
 use crate::{MOST_INPUTS, MOST_OUTPUTS, Spec, SpecError};
 use std::alloc::{AllocError, Global};
-use text_core::{after, begins_lower, next_line, number_up_to};
-
-/// The greatest number of nine digits.
-const GREATEST: u32 = 999_999_999;
+use text_core::{MOST_NUMBER, after, begins_lower, next_line, number_up_to};
 
 /// What was read from a text: the specification, and the numbers of bytes and lines of its tables.
 #[derive(Drop)]
@@ -39,7 +37,7 @@ pub fn inputs(text: &[u8], ended: bool) -> Option<u32>
     if !ended {
         return None;
     }
-    number_up_to(GREATEST, after(b"inputs ", text)?)
+    number_up_to(MOST_NUMBER, after(b"inputs ", text)?)
 }
 
 /// Appends the output of a table line of `0`, `1` and `-` to the words of the outputs before it. An
@@ -52,7 +50,7 @@ pub fn push_row(
     text: &[u8],
 ) -> Result<(), AllocError>
     requires spec { IsSpec (record { n = n; on = on.old.items; care = care.old.items }) }
-    requires room { length on.old.items < 8 }
+    requires room { length on.old.items < most_outputs }
     requires rows { length text.now ≡ 2 ^ n }
     ensures values { OnOk result (on.new.items ≡ on.old.items ++ word_of on_bit text.now ∷ []) }
     ensures cares { OnOk result (care.new.items ≡ care.old.items ++ word_of care_bit text.now ∷ []) }

@@ -4,6 +4,7 @@ ghost use Rattle.std.specs.Prelude.{◌≡◌, ◌^◌, ◌<◌, ◌≤◌, leng
 ghost use Rattle.tt_core.specs.Symmetry.{exchanged as exchanged_of, exchanged_bit as exchanged_bit_of};
 ghost use Rattle.tt_core.specs.Symmetry.{renamed as renamed_of, IsSymmetricOutput, IsSymmetric};
 ghost use Rattle.tt_core.specs.Words.{specification};
+ghost use Rattle.chain_theory.specs.Limits.{most_inputs};
 
 use crate::{Spec, row};
 
@@ -32,7 +33,7 @@ fn exchanged_bit(n: u32, p: u32, q: u32, t: u32, j: u32) -> bool
 /// Row `t` of `n` inputs with the bits of `p` and `q` exchanged.
 #[tactic(auto, using(crate::proofs::Exchange::growing))]
 fn exchanged(n: u32, p: u32, q: u32, t: u32) -> u32
-    requires inputs { n ≤ 6 }
+    requires inputs { n ≤ most_inputs }
     requires exchange { (p ≤ n) × (q ≤ n) }
     ensures row { result ≡ exchanged_of n p q t }
     ensures within { result < 2 ^ n }

@@ -7,6 +7,8 @@ use Rattle.window_theory.specs.Window.{Window, AreTaken, Takes, IsInput, IsOutpu
 use Rattle.window_theory.specs.WindowLaws.{taken_rising}
 use Rattle.window_theory.specs.GrowthLaws.{window_partner, window_inputs}
 use Rattle.window_core.specs.Shape.{IsShaped}
+use Rattle.chain_theory.specs.Limits.{most_inputs, most_outputs}
+use Rattle.settings.specs.Limits.{most_gates_of_window}
 
 pub takes_these : (n : Net) (root : ℕ) (partner : Option ℕ) (gates : List ℕ) → IsNet n → AreTaken n root partner gates → Takes n root partner (length gates) gates
 takes_these n root partner gates net are =
@@ -22,15 +24,15 @@ pub no_partner : (n : Net) (root : ℕ) (partner : Option ℕ) (gates : List ℕ
 no_partner n root partner gates w net are none is = none (window_partner n root partner (length gates) gates w (takes_these n root partner gates net are) is)
 
 pub many_inputs : (n : Net) (root : ℕ) (partner : Option ℕ) (gates inputs : List ℕ) (w : Window) → IsNet n →
-    AreTaken n root partner gates → AreJust (IsInput n gates) inputs → 6 < length inputs →
+    AreTaken n root partner gates → AreJust (IsInput n gates) inputs → most_inputs < length inputs →
     IsWindow n root partner (length gates) w → ⊥
 many_inputs n root partner gates inputs w net are just many is =
-    let few : length inputs ≤ 6 = window_inputs n root partner (length gates) gates inputs w (takes_these n root partner gates net are) just is in
+    let few : length inputs ≤ most_inputs = window_inputs n root partner (length gates) gates inputs w (takes_these n root partner gates net are) just is in
     omega (arith, few, many)
 
 pub window_is : (n : Net) (root : ℕ) (partner : Option ℕ) (gates inputs outputs : List ℕ) → IsNet n →
-    AreTaken n root partner gates → HasPartner partner gates → AreJust (IsInput n gates) inputs → length inputs ≤ 6 →
-    AreJust (IsOutput n gates) outputs → length outputs ≤ 8
+    AreTaken n root partner gates → HasPartner partner gates → AreJust (IsInput n gates) inputs → length inputs ≤ most_inputs →
+    AreJust (IsOutput n gates) outputs → length outputs ≤ most_outputs
     → IsWindow n root partner (length gates) (record { root = root; partner = partner; gates = gates; inputs = inputs; outputs = outputs })
 window_is n root partner gates inputs outputs net are has just_in few_in just_out few_out =
     record {
@@ -45,8 +47,8 @@ window_is n root partner gates inputs outputs net are has just_in few_in just_ou
     }
 
 pub window_shaped : (n : Net) (root : ℕ) (partner : Option ℕ) (gates inputs outputs : List ℕ) → IsNet n →
-    AreTaken n root partner gates → 1 ≤ length gates → length gates ≤ 8 → AreJust (IsInput n gates) inputs →
-    length inputs ≤ 6 → AreJust (IsOutput n gates) outputs → length outputs ≤ 8
+    AreTaken n root partner gates → 1 ≤ length gates → length gates ≤ most_gates_of_window → AreJust (IsInput n gates) inputs →
+    length inputs ≤ most_inputs → AreJust (IsOutput n gates) outputs → length outputs ≤ most_outputs
     → IsShaped (record { root = root; partner = partner; gates = gates; inputs = inputs; outputs = outputs })
 window_shaped n root partner gates inputs outputs net are some few just_in few_in just_out few_out =
     record {

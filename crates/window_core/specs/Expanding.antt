@@ -11,13 +11,14 @@ use Rattle.window_theory.specs.Paths.{HasPath}
 use Rattle.window_theory.specs.FaninCone.{ExpandsTo}
 use Rattle.window_core.specs.Gates.{IsGateOf}
 use Rattle.window_core.specs.Rising.{put_sig}
+use Rattle.net_theory.specs.Limits.{most_leaves}
 
 abbrev pub gate_nodes : List (ℕ × Gate) → List ℕ
 gate_nodes gates = map node_of gates
 
 -- The gates are those of the net at their nodes, ascend, and read the leaves or each other.
 pub record AreAbove (n : Net) (leaves : List ℕ) (gates : List (ℕ × Gate)) : Type 0 where
-  pub few : length leaves ≤ 12
+  pub few : length leaves ≤ most_leaves
   pub leaves_rising : IsRising leaves
   pub gates_rising : IsRising (gate_nodes gates)
   pub apart : (p : ℕ) → among leaves p ≡ true → among (gate_nodes gates) p ≡ true → ⊥
@@ -55,7 +56,7 @@ pub record IsExpanded (n : Net) (old new : List ℕ) (before after : List (ℕ �
   pub prefix : List ℕ
   pub of : IsGateOf n node gate
   pub parts : old ≡ prefix ++ node ∷ []
-  pub few : length (leaves_after prefix gate) ≤ 12
+  pub few : length (leaves_after prefix gate) ≤ most_leaves
   pub leaves : new ≡ leaves_after prefix gate
   pub gates : after ≡ before ++ (node, gate) ∷ []
 

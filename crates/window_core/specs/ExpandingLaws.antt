@@ -20,6 +20,7 @@ use Rattle.window_core.specs.Expanding.{gate_nodes, IsInFanin, IsFaninCone, IsEx
 use Rattle.window_core.specs.GrowingLaws.{of_gate, of_reads, reads_of}
 use Rattle.window_core.specs.RisingLaws.{put_rising, put_own, put_only, put_kept, put_new, put_old}
 use Rattle.window_core.specs.PartnerSearchLaws.{among_end, end_among, prefix_among}
+use Rattle.net_theory.specs.Limits.{most_leaves}
 
 -- ---- putting the node that a signal names
 
@@ -206,9 +207,9 @@ expands_this n leaves prefix p g net rising parts of =
     }
 
 pub too_many : (n : Net) (leaves prefix : List ℕ) (p : ℕ) (g : Gate) → IsNet n → IsRising leaves → leaves ≡ prefix ++
-    p ∷ [] → IsGateOf n p g → 12 < length (leaves_after prefix g) → IsFullyExpanded n leaves
+    p ∷ [] → IsGateOf n p g → most_leaves < length (leaves_after prefix g) → IsFullyExpanded n leaves
 too_many n leaves prefix p g net rising parts of many in_fanin expands =
-    subst (λ (xs : List ℕ). 12 < length xs) (expands_one n leaves (leaves_after prefix g) in_fanin (expands_this n leaves prefix p g net rising parts of) expands) many
+    subst (λ (xs : List ℕ). most_leaves < length xs) (expands_one n leaves (leaves_after prefix g) in_fanin (expands_this n leaves prefix p g net rising parts of) expands) many
 
 pub no_gate : (n : Net) (leaves prefix : List ℕ) (p : ℕ) → IsRising leaves → leaves ≡ prefix ++ p ∷ [] → p ≤ n.sources → IsFullyExpanded n leaves
 no_gate n leaves prefix p rising parts low in_fanin expands =
@@ -232,7 +233,7 @@ last_is_gate n leaves prefix p parts within above =
 some_same : {A : Type 0} (x y : A) → Some x ≡ Some y → x ≡ y
 some_same x y e = cc
 
-fanin_cone_of : (n : Net) (nodes : List ℕ) → IsRising nodes → length nodes ≤ 12 → ((p : ℕ) → among nodes p ≡ true → p < end_of n) → IsFaninCone n nodes nodes []
+fanin_cone_of : (n : Net) (nodes : List ℕ) → IsRising nodes → length nodes ≤ most_leaves → ((p : ℕ) → among nodes p ≡ true → p < end_of n) → IsFaninCone n nodes nodes []
 unfolding IsRising
 fanin_cone_of n nodes rising few within =
     record {
@@ -253,7 +254,7 @@ fanin_cone_of n nodes rising few within =
     }
 
 pub fanin_cone_start : (n : Net) (nodes leaves : List ℕ) (gates : List (ℕ × Gate)) → IsRising nodes →
-    length nodes ≤ 12 → ((p : ℕ) → among nodes p ≡ true → p < end_of n) → leaves ≡ nodes → gates ≡ [] →
+    length nodes ≤ most_leaves → ((p : ℕ) → among nodes p ≡ true → p < end_of n) → leaves ≡ nodes → gates ≡ [] →
     IsFaninCone n nodes leaves (reverse gates)
 fanin_cone_start n nodes leaves gates rising few within same none =
     subst (λ (xs : List (ℕ × Gate)). IsFaninCone n nodes leaves (reverse xs)) (sym none) (subst (λ (ls : List ℕ). IsFaninCone n nodes ls []) (sym same) (fanin_cone_of n nodes rising few within))
@@ -273,7 +274,7 @@ read_after n nodes p q reads is =
 
 -- the gate that is expanded is below the others
 fanin_cone_step : (n : Net) (nodes leaves prefix : List ℕ) (gates : List (ℕ × Gate)) (p : ℕ) (g : Gate) → IsNet n →
-    leaves ≡ prefix ++ p ∷ [] → IsGateOf n p g → length (leaves_after prefix g) ≤ 12 →
+    leaves ≡ prefix ++ p ∷ [] → IsGateOf n p g → length (leaves_after prefix g) ≤ most_leaves →
     IsFaninCone n nodes leaves gates → IsFaninCone n nodes (leaves_after prefix g) ((p, g) ∷ gates)
 unfolding IsRising
 fanin_cone_step n nodes leaves prefix gates p g net parts of few was =

@@ -38,6 +38,7 @@ use Rattle.window_core.specs.GrowingLaws.{of_reads}
 use Rattle.window_core.specs.NotingLaws.{at_last}
 use Rattle.window_core.specs.ExpandingLaws.{among_left, among_right}
 use Rattle.window_core.specs.ConeLaws.{among_get, get_among, cone_part, above_cone}
+use Rattle.chain_theory.specs.Limits.{most_inputs, most_outputs}
 
 some_same : {A : Type 0} (x y : A) → Some x ≡ Some y → x ≡ y
 some_same x y e = cc
@@ -183,7 +184,8 @@ pub numbered_nodes : (n : Net) (ps : List ℕ) (gates : List (ℕ × Gate)) → 
 numbered_nodes n ps gates are = sym (nothing_after (gate_nodes gates)) ∙ are.parts
 
 -- the gates of a window are above its inputs
-pub inner_above : (n : Net) (w : Window) (inputs : List ℕ) (gates : List (ℕ × Gate)) → Belongs n w → inputs ≡ w.inputs → length w.inputs ≤ 6 → AreNumbered n w.gates [] gates → AreAbove n inputs gates
+pub inner_above : (n : Net) (w : Window) (inputs : List ℕ) (gates : List (ℕ × Gate)) → Belongs n w →
+    inputs ≡ w.inputs → length w.inputs ≤ most_inputs → AreNumbered n w.gates [] gates → AreAbove n inputs gates
 inner_above n w inputs gates is same few are =
     let own : gate_nodes gates ≡ w.gates = numbered_nodes n w.gates gates are in
     let inside : (p : ℕ) → among (gate_nodes gates) p ≡ true → among w.gates p ≡ true = λ p e. ap (λ (xs : List ℕ). among xs p) (sym own) ∙ e in
@@ -217,11 +219,11 @@ index_there (x ∷ xs) (suc i) p e = omega (arith, index_there xs i p e)
 pub index_found : (xs : List ℕ) (i p : ℕ) → among (drop i xs) p ≡ true → slice_index_or xs i 0 ≡ p → slice_get xs i ≡ Some p
 index_found xs i p there is = slice_get-get_or xs i 0 (index_there xs i p there) ∙ ap Some is
 
-one_word : (k : ℕ) → k ≤ 6 → width_of (2 ^ k) ≡ 1
+one_word : (k : ℕ) → k ≤ most_inputs → width_of (2 ^ k) ≡ 1
 one_word k few = let most : 2 ^ k ≤ 2 ^ 6 = pow_mono few in omega (arith, most, above_zero k)
 
 pub word_index : (c : Cone) (w : Words) (inputs gates : List ℕ) (i p : ℕ) → AreWords c w → c.leaves ≡ inputs →
-    gate_nodes c.gates ≡ gates → length inputs ≤ 6 → slice_get gates i ≡ Some p → length inputs + i < length w.lanes
+    gate_nodes c.gates ≡ gates → length inputs ≤ most_inputs → slice_get gates i ≡ Some p → length inputs + i < length w.lanes
 word_index c w inputs gates i p words leaves own few at =
     let rows : w.rows ≡ 2 ^ length inputs = words.rows ∙ ap (λ (xs : List ℕ). 2 ^ length xs) leaves in
     let width : width_of w.rows ≡ 1 = ap (λ (r : ℕ). width_of r) rows ∙ one_word (length inputs) few in
@@ -232,7 +234,7 @@ word_index c w inputs gates i p words leaves own few at =
     omega (arith, count, size, slice_get_within gates i p at)
 
 pub word_values : (c : Cone) (w : Words) (inputs gates : List ℕ) (i p : ℕ) → AreWords c w → c.leaves ≡ inputs →
-    gate_nodes c.gates ≡ gates → length inputs ≤ 6 → slice_get gates i ≡ Some p →
+    gate_nodes c.gates ≡ gates → length inputs ≤ most_inputs → slice_get gates i ≡ Some p →
     HasGateValues c p (slice_index_or w.lanes (length inputs + i) 0)
 word_values c w inputs gates i p words leaves own few at t low =
     let rows : w.rows ≡ 2 ^ length inputs = words.rows ∙ ap (λ (xs : List ℕ). 2 ^ length xs) leaves in
@@ -295,8 +297,8 @@ past_end (x ∷ xs) (suc i) low = past_end xs i (omega (arith, low))
 no_digit : (t : ℕ) → digit 0 t ≡ true → ⊥
 no_digit t e = both_ways (digit 0 t) (ap (λ (x : ℕ). x == 1) (bit_at-zero t)) e
 
-pub masked_spec : (c : Cone) (mask n : ℕ) (outputs on care : List ℕ) → AreMasked c mask outputs [] on care → n ≤ 6 →
-    length outputs ≤ 8 → ((t : ℕ) → digit mask t ≡ true → t < 2 ^ n) → IsSpec (record { n = n; on = on; care = care })
+pub masked_spec : (c : Cone) (mask n : ℕ) (outputs on care : List ℕ) → AreMasked c mask outputs [] on care → n ≤ most_inputs →
+    length outputs ≤ most_outputs → ((t : ℕ) → digit mask t ≡ true → t < 2 ^ n) → IsSpec (record { n = n; on = on; care = care })
 masked_spec c mask n outputs on care are few_in few_out low =
     let count : length on ≡ length outputs = are.size ∙ ap (length {A = ℕ}) (all_done c mask outputs on care are) in
     record {

@@ -17,6 +17,7 @@ use Rattle.window_core.specs.Gates.{IsGateOf}
 use Rattle.window_core.specs.Fanouts.{node_of, IsEarlier, IsEarlierOf, AreEarlier}
 use Rattle.window_core.specs.PartnerSearch.{IsPartnerSearch}
 use Rattle.window_core.specs.GrowingLaws.{reads_of, of_reads}
+use Rattle.window_theory.specs.Limits.{most_partners}
 
 -- ---- one more node at the end
 
@@ -159,7 +160,7 @@ walk_more n root a b next x y first second partners new w net is some first_is s
     })
 
 pub walk_none : (n : Net) (root a b next count : ℕ) (partners : List ℕ) → IsPartnerSearch n root a b partners →
-    next ≡ max a b → next ≡ 0 → length partners ≡ count → count ≤ 8 → ArePartners n root partners
+    next ≡ max a b → next ≡ 0 → length partners ≡ count → count ≤ most_partners → ArePartners n root partners
 walk_none n root a b next count partners w is none size few =
     record {
       falling = w.falling;
@@ -172,7 +173,7 @@ walk_none n root a b next count partners w is none size few =
           (w.all h s);
     }
 
-pub walk_full : (n : Net) (root a b count : ℕ) (partners : List ℕ) → IsPartnerSearch n root a b partners → length partners ≡ count → count ≡ 8 → ArePartners n root partners
+pub walk_full : (n : Net) (root a b count : ℕ) (partners : List ℕ) → IsPartnerSearch n root a b partners → length partners ≡ count → count ≡ most_partners → ArePartners n root partners
 walk_full n root a b count partners w size full =
     record {
       falling = w.falling;

@@ -7,6 +7,7 @@ ghost use Rattle.window_theory.specs.Paths.{IsGate};
 ghost use Rattle.window_theory.specs.Window as definition;
 ghost use Rattle.window_theory.specs.Window.{AreTaken, HasPartner, IsPartnerOrNone, IsWindow};
 ghost use Rattle.window_core.specs.Fanouts.{AreFanouts};
+ghost use Rattle.settings.specs.Limits.{most_gates_of_window};
 
 use crate::ends::all_inputs;
 use crate::fanouts::{Fanouts, fanouts_of};
@@ -40,7 +41,7 @@ fn window_of(
     requires fanouts { AreFanouts net.now fanouts.now }
     requires taken { AreTaken net.now root partner gates.items }
     requires some { 1 ≤ length gates.items }
-    requires few { length gates.items ≤ 8 }
+    requires few { length gates.items ≤ most_gates_of_window }
     ensures some { IfOk result (λ answer. IfSome answer (λ w. IsWindow net.now root partner (length gates.items) w)) }
     ensures none { IfOk result (λ answer. IfNone answer ((w : definition.Window) →
         IsWindow net.now root partner (length gates.items) w → ⊥)) }
@@ -72,7 +73,7 @@ pub fn window_by(
     requires root { IsGate net.now root }
     requires partner { IsPartnerOrNone net.now root partner }
     requires some { 1 ≤ count }
-    requires few { count ≤ 8 }
+    requires few { count ≤ most_gates_of_window }
     ensures some { IfOk result (λ answer. IfSome answer (λ w. IsWindow net.now root partner count w)) }
     ensures none { IfOk result (λ answer. IfNone answer ((w : definition.Window) →
         IsWindow net.now root partner count w → ⊥)) }
@@ -94,7 +95,7 @@ pub fn window(
     requires root { IsGate net.now root }
     requires partner { IsPartnerOrNone net.now root partner }
     requires some { 1 ≤ count }
-    requires few { count ≤ 8 }
+    requires few { count ≤ most_gates_of_window }
     ensures some { IfOk result (λ answer. IfSome answer (λ w. IsWindow net.now root partner count w)) }
     ensures none { IfOk result (λ answer. IfNone answer ((w : definition.Window) →
         IsWindow net.now root partner count w → ⊥)) }

@@ -11,6 +11,7 @@ ghost use Rattle.window_theory.specs.FaninCone.{ExpandsTo, IsFullyExpanded};
 ghost use Rattle.window_core.specs.Rising.{put_sig as put_sig_in};
 ghost use Rattle.window_core.specs.Expanding.{AreAbove, AreLeavesOrGates, IsInFanin, IsExpanded, leaves_after};
 ghost use Rattle.window_core.specs.Expanding.{gate_nodes, same_node as same_node_of};
+ghost use Rattle.net_theory.specs.Limits.{most_leaves};
 
 use crate::growing::gate_at;
 use crate::rising::{has, put_sig};
@@ -74,9 +75,9 @@ fn count_leaves_after(prefix: &[u32], gate: &Gate) -> usize
 fn is_too_much(leaves: &[u32], gate: &Gate) -> bool
     requires { IsRising leaves.now }
     ensures yes { result ≡ true → (prefix : List ℕ) (p : ℕ) → leaves.now ≡ prefix ++ p ∷ [] →
-        12 < length (leaves_after prefix gate.now) }
+        most_leaves < length (leaves_after prefix gate.now) }
     ensures no { result ≡ false → (prefix : List ℕ) (p : ℕ) → leaves.now ≡ prefix ++ p ∷ [] →
-        length (leaves_after prefix gate.now) ≤ 12 }
+        length (leaves_after prefix gate.now) ≤ most_leaves }
 {
     match leaves.split_last() {
         Some((_last, prefix)) => count_leaves_after(prefix, gate) > MOST_LEAVES,
@@ -151,7 +152,7 @@ fn cone_of(net: &Net, leaves: Vec<u32>, gates: Vec<(u32, Gate)>) -> Cone
 /// nodes and their transitive fanin.
 pub fn fanin_cone(alloc: Global, net: &Net, nodes: &[u32]) -> Result<Cone, AllocError>
     requires rising { IsRising nodes.now }
-    requires few { length nodes.now ≤ 12 }
+    requires few { length nodes.now ≤ most_leaves }
     requires within { (p : ℕ) → among nodes.now p ≡ true → p < end_of net.now }
     ensures leaves { IfOk result (λ cone. ExpandsTo net.now nodes.now cone.leaves) }
     ensures gates { IfOk result (λ cone. AreAbove net.now cone.leaves cone.gates) }

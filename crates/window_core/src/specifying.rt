@@ -15,6 +15,7 @@ ghost use Rattle.window_theory.specs.Window.{Belongs};
 ghost use Rattle.window_theory.specs.Care.{IsSpecificationOf};
 ghost use Rattle.window_core.specs.Expanding.{AreAbove, gate_nodes};
 ghost use Rattle.window_core.specs.Masking.{IsCareMask, AreNumbered, HasGateValues, AreMasked};
+ghost use Rattle.chain_theory.specs.Limits.{most_inputs};
 
 use crate::expanding::fanin_cone;
 use crate::growing::gate_at;
@@ -33,7 +34,7 @@ pub fn signals_of(alloc: Global, nodes: &[u32]) -> Result<Vec<Sig>, AllocError>
 
 /// The patterns that some nodes take in a cone, as the bits of a mask.
 fn shown_by(alloc: Global, cone: &Cone, nodes: &[u32]) -> Result<u64, AllocError>
-    requires few { length nodes.now ≤ 6 }
+    requires few { length nodes.now ≤ most_inputs }
     requires known { All (IsSigAmong (nodes_in cone.now)) (map sigs.Node nodes.now) }
     ensures { IfOk result (λ mask. ArePatterns cone.now (map sigs.Node nodes.now) mask) }
 {
@@ -45,7 +46,7 @@ fn shown_by(alloc: Global, cone: &Cone, nodes: &[u32]) -> Result<u64, AllocError
 /// The care rows of some nodes, as the bits of a mask.
 fn care_rows(alloc: Global, net: &Net, nodes: &[u32]) -> Result<u64, AllocError>
     requires rising { IsRising nodes.now }
-    requires few { length nodes.now ≤ 6 }
+    requires few { length nodes.now ≤ most_inputs }
     requires within { (p : ℕ) → among nodes.now p ≡ true → p < end_of net.now }
     ensures { IfOk result (λ mask. IsCareMask net.now nodes.now mask) }
 {
@@ -107,7 +108,7 @@ fn gate_word(window: &Window, cone: &Cone, words: &Words, node: u32) -> u64
     requires words { AreWords cone.now words.now }
     requires leaves { cone.now.leaves ≡ window.now.inputs }
     requires gates { gate_nodes cone.now.gates ≡ window.now.gates }
-    requires few { length window.now.inputs ≤ 6 }
+    requires few { length window.now.inputs ≤ most_inputs }
     requires node { among window.now.gates node ≡ true }
     ensures { HasGateValues cone.now node result }
 {

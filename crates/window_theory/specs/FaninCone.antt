@@ -4,6 +4,7 @@ use Rattle.std.proofs.Common.{◌≢◌}
 use Rattle.net_theory.specs.Net.{Net}
 use Rattle.window_theory.specs.Nodes.{among, AreJust}
 use Rattle.window_theory.specs.Paths.{IsGate, Reads}
+use Rattle.net_theory.specs.Limits.{most_leaves}
 
 -- the greatest leaf that is a gate
 pub record IsGreatestGate (n : Net) (leaves : List ℕ) (p : ℕ) : Type 0 where
@@ -23,10 +24,10 @@ pub record Expands (n : Net) (leaves after : List ℕ) : Type 0 where
 
 -- no leaf is a gate, or expanding the greatest would give more than 12 leaves
 abbrev pub IsFullyExpanded : Net → List ℕ → Type 0
-IsFullyExpanded n leaves = (after : List ℕ) → Expands n leaves after → 12 < length after
+IsFullyExpanded n leaves = (after : List ℕ) → Expands n leaves after → most_leaves < length after
 
 -- The leaves after all expansions of a list of nodes.
 -- Example: where gate 3 is AND of the sources 1 and 2, the leaves of 2, 3 are 1, 2.
 pub data ExpandsTo (n : Net) : List ℕ → List ℕ → Type 0 where
   stays : (leaves : List ℕ) → IsFullyExpanded n leaves → ExpandsTo n leaves leaves
-  goes_on : (leaves after last : List ℕ) → Expands n leaves after → length after ≤ 12 → ExpandsTo n after last → ExpandsTo n leaves last
+  goes_on : (leaves after last : List ℕ) → Expands n leaves after → length after ≤ most_leaves → ExpandsTo n after last → ExpandsTo n leaves last

@@ -12,6 +12,7 @@ use Rattle.window_theory.specs.NodeLaws.{listed, just_listed, just_same}
 use Rattle.window_theory.specs.Paths.{IsGate}
 use Rattle.window_theory.specs.WindowLaws.{reads_low, gate_high, gate_at}
 use Rattle.window_theory.specs.FaninCone.{IsGreatestGate, IsExpandedLeaf, Expands, IsFullyExpanded, ExpandsTo, stays, goes_on}
+use Rattle.net_theory.specs.Limits.{most_leaves}
 
 -- ---- fanins, as a test
 
@@ -91,7 +92,7 @@ expands_one n leaves a b first second =
 abbrev HasGatesBelow : Net → ℕ → List ℕ → Type 0
 HasGatesBelow n count leaves = (p : ℕ) → among leaves p ≡ true → IsGate n p → p ≤ n.sources + count
 
-no_gates : (n : Net) (leaves after : List ℕ) → HasGatesBelow n 0 leaves → Expands n leaves after → 12 < length after
+no_gates : (n : Net) (leaves after : List ℕ) → HasGatesBelow n 0 leaves → Expands n leaves after → most_leaves < length after
 no_gates n leaves after low expands =
     absurd (omega (arith, low expands.node expands.greatest.leaf expands.greatest.gate, (gate_high n expands.node expands.greatest.gate).0))
 
@@ -144,8 +145,8 @@ expands_to n (suc count) bound leaves net below low =
     let step = expanded n leaves bound p net below greatest in
     let expands : Expands n leaves step.0 = record { node = p; greatest = greatest; just = step.1 } in
     ⊎_elim
-    (λ (many : 12 < length step.0). (leaves, stays leaves (λ after other. subst (λ (xs : List ℕ). 12 < length xs) (expands_one n leaves step.0 after expands other) many)))
-    (λ (few : length step.0 ≤ 12).
+    (λ (many : most_leaves < length step.0). (leaves, stays leaves (λ after other. subst (λ (xs : List ℕ). most_leaves < length xs) (expands_one n leaves step.0 after expands other) many)))
+    (λ (few : length step.0 ≤ most_leaves).
     let rest = expands_to n count bound step.0 net
     (λ q e. after_below n leaves bound p q net below (below p greatest.leaf) (step.1.only q e))
     (after_gates n leaves step.0 count p net low refl step.1) in
@@ -164,7 +165,7 @@ last_stays : (n : Net) (nodes last : List ℕ) → IsFullyExpanded n nodes → E
 last_stays n _ _ ends (stays leaves e) = refl
 last_stays n _ _ ends (goes_on leaves after last expands few rest) = absurd (omega (arith, ends after expands, few))
 
-goes_further : (n : Net) (nodes after last : List ℕ) → Expands n nodes after → length after ≤ 12 → ExpandsTo n nodes last → ExpandsTo n after last
+goes_further : (n : Net) (nodes after last : List ℕ) → Expands n nodes after → length after ≤ most_leaves → ExpandsTo n nodes last → ExpandsTo n after last
 goes_further n _ after _ expands few (stays leaves ends) = absurd (omega (arith, ends after expands, few))
 goes_further n _ after _ expands few (goes_on leaves other last also less further) = subst (λ (xs : List ℕ). ExpandsTo n xs last) (expands_one n leaves other after also expands) further
 

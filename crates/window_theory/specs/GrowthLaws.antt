@@ -7,6 +7,7 @@ use Rattle.window_theory.specs.Nodes.{AreJust}
 use Rattle.window_theory.specs.Window.{Window, IsCandidate, AreTaken, Takes, IsInput, IsOutput, HasPartner, IsWindow}
 use Rattle.window_theory.specs.WindowLaws.{taken_one, gates_one}
 use Rattle.window_theory.specs.NodeLaws.{just_same}
+use Rattle.chain_theory.specs.Limits.{most_inputs, most_outputs}
 
 -- Where more gates can be taken than those of xs, a candidate for xs is left.
 taken_next : (n : Net) (root : ℕ) (partner : Option ℕ) (xs ys : List ℕ) → AreTaken n root partner xs → AreTaken n root partner ys → length xs < length ys → (p : ℕ) × IsCandidate n root partner xs p
@@ -43,14 +44,14 @@ window_partner n root partner count gates w takes is =
 
 pub window_inputs : (n : Net) (root : ℕ) (partner : Option ℕ) (count : ℕ) (gates inputs : List ℕ) (w : Window) →
     Takes n root partner count gates → AreJust (IsInput n gates) inputs → IsWindow n root partner count w →
-    length inputs ≤ 6
+    length inputs ≤ most_inputs
 window_inputs n root partner count gates inputs w takes just is =
     let own : AreJust (IsInput n gates) w.inputs = subst (λ (gs : List ℕ). AreJust (IsInput n gs) w.inputs) (gates_one n root partner count w.gates gates is.takes takes) is.inputs in
-    subst (λ (ps : List ℕ). length ps ≤ 6) (just_same (IsInput n gates) w.inputs inputs own just) is.few_inputs
+    subst (λ (ps : List ℕ). length ps ≤ most_inputs) (just_same (IsInput n gates) w.inputs inputs own just) is.few_inputs
 
 pub window_outputs : (n : Net) (root : ℕ) (partner : Option ℕ) (count : ℕ) (gates outputs : List ℕ) (w : Window) →
     Takes n root partner count gates → AreJust (IsOutput n gates) outputs → IsWindow n root partner count w →
-    length outputs ≤ 8
+    length outputs ≤ most_outputs
 window_outputs n root partner count gates outputs w takes just is =
     let own : AreJust (IsOutput n gates) w.outputs = subst (λ (gs : List ℕ). AreJust (IsOutput n gs) w.outputs) (gates_one n root partner count w.gates gates is.takes takes) is.outputs in
-    subst (λ (ps : List ℕ). length ps ≤ 8) (just_same (IsOutput n gates) w.outputs outputs own just) is.few_outputs
+    subst (λ (ps : List ℕ). length ps ≤ most_outputs) (just_same (IsOutput n gates) w.outputs outputs own just) is.few_outputs

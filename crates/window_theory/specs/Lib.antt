@@ -1,3 +1,4 @@
+pub mod Limits
 pub use Rattle.net_theory.specs.Net
 pub use Rattle.chain_theory.specs.Specification
 pub mod Nodes

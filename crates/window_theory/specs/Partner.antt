@@ -3,6 +3,7 @@ use Rattle.std.specs.Prelude.{◌≡◌, ℕ, ◌≤◌, ◌<◌, true, List, le
 use Rattle.net_theory.specs.Net.{Net}
 use Rattle.window_theory.specs.Nodes.{among, IsFalling}
 use Rattle.window_theory.specs.Paths.{Reads}
+use Rattle.window_theory.specs.Limits.{most_partners}
 
 -- h is below g and shares a fanin with it
 pub record SharesBelow (n : Net) (g h : ℕ) : Type 0 where
@@ -18,8 +19,8 @@ pub record SharesBelow (n : Net) (g h : ℕ) : Type 0 where
 pub record ArePartners (n : Net) (g : ℕ) (partners : List ℕ) : Type 0 where
   pub falling : IsFalling partners
   pub share : (h : ℕ) → among partners h ≡ true → SharesBelow n g h
-  pub few : length partners ≤ 8
-  pub others : (h : ℕ) → SharesBelow n g h → (among partners h ≡ true) ⊎ ((length partners ≡ 8) × ((q : ℕ) → among partners q ≡ true → h < q))
+  pub few : length partners ≤ most_partners
+  pub others : (h : ℕ) → SharesBelow n g h → (among partners h ≡ true) ⊎ ((length partners ≡ most_partners) × ((q : ℕ) → among partners q ≡ true → h < q))
 
 pub record IsPartner (n : Net) (g h : ℕ) : Type 0 where
   pub partners : List ℕ

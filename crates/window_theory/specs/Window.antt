@@ -6,6 +6,7 @@ use Rattle.net_theory.specs.Reach.{is_sink}
 use Rattle.window_theory.specs.Nodes.{among, IsRising, AreJust}
 use Rattle.window_theory.specs.Paths.{IsGate, Reads, HasPath}
 use Rattle.window_theory.specs.Partner.{IsPartner}
+use Rattle.chain_theory.specs.Limits.{most_inputs, most_outputs}
 
 -- a window, a small subcircuit, by its nodes: its gates, its inputs and its outputs
 pub record Window : Type 0 where
@@ -112,5 +113,5 @@ pub record IsWindow (n : Net) (root : ℕ) (partner : Option ℕ) (count : ℕ) 
   pub has_partner : HasPartner partner w.gates
   pub inputs : AreJust (IsInput n w.gates) w.inputs
   pub outputs : AreJust (IsOutput n w.gates) w.outputs
-  pub few_inputs : length w.inputs ≤ 6
-  pub few_outputs : length w.outputs ≤ 8
+  pub few_inputs : length w.inputs ≤ most_inputs
+  pub few_outputs : length w.outputs ≤ most_outputs

@@ -13,10 +13,12 @@ ghost use Rattle.window_theory.specs.Window.{Window, IsCandidate, AreTaken, Take
 ghost use Rattle.window_theory.specs.Window.{Belongs, IsWindow};
 ghost use Rattle.window_theory.specs.FaninCone.{ExpandsTo};
 ghost use Rattle.window_theory.specs.FaninConeLaws.{AreBelow};
-ghost use Rattle.window_theory.specs.Care.{values_with, IsGiven, IsEvaluatedPart, HasRow, IsCareRow, IsSpecificationOf};
+ghost use Rattle.window_theory.specs.Care.{values_with, IsGiven, IsEvaluatedPart, HasRow, IsCareRow};
+ghost use Rattle.window_theory.specs.Care.{IsSpecificationOf};
 ghost use Rattle.window_theory.specs.Care.{HasNoFewer};
 ghost use Rattle.window_theory.specs.CarePartLaws.{AreInside};
 ghost use Rattle.window_theory.specs.Substituted.{Fits, IsSubstitution};
+ghost use Rattle.chain_theory.specs.Limits.{most_inputs, most_outputs};
 
 /// A convex set of gates with exactly its inputs and outputs belongs to the net, and the gates of every
 /// window that belongs are convex. The inputs of the window of a root are below all its gates, so this window
@@ -49,10 +51,10 @@ pub fn windows_end()
         Takes n root partner count gates → IsWindow n root partner count w → HasPartner partner gates }
     ensures inputs { (n : Net) (root : ℕ) (partner : Option ℕ) (count : ℕ) (gates inputs : List ℕ) (w : Window) →
         Takes n root partner count gates → AreJust (IsInput n gates) inputs → IsWindow n root partner count w →
-        length inputs ≤ 6 }
+        length inputs ≤ most_inputs }
     ensures outputs { (n : Net) (root : ℕ) (partner : Option ℕ) (count : ℕ) (gates outputs : List ℕ) (w : Window) →
         Takes n root partner count gates → AreJust (IsOutput n gates) outputs → IsWindow n root partner count w →
-        length outputs ≤ 8 }
+        length outputs ≤ most_outputs }
 {}
 
 /// Values where the bits of some nodes are fixed, without recursion: sources and fixed nodes have their given
@@ -122,7 +124,8 @@ pub fn chains_take_places()
         Belongs n w →
         IsChain c → IsSpecificationOf n w s → Agrees c s → IsSubstitution n w c m →
         sink_values m given ≡ sink_values n given }
-    ensures implements { (n m : Net) (w : Window) (s : Specification) (c : Chain) → IsNet n → Belongs n w → IsChain c →
+    ensures implements { (n m : Net) (w : Window) (s : Specification) (c : Chain) → IsNet n → Belongs n w →
+        IsChain c →
         IsSpecificationOf n w s → Agrees c s → IsSubstitution n w c m → length c.steps ≤ length w.gates →
         Implements n m }
 {}

@@ -1,19 +1,17 @@
-//! Improvement of a net, with the attempts that resynthesis makes: windows, specifications, searches and
+//! The attempts that resynthesis makes, on a net with its index: windows, their local specifications, searches and
 //! substitution.
 //!
 //! It stands on `window_core` for the windows, on `walk_core` for their local specifications and for
-//! replacing a window by a chain, on `decide_core` for the search of a shorter chain, on `merge_core` and
-//! `table_merge` for equal gates, and on any `Solver` of `sat_solve`; it implements the trait `Attempts` of
-//! `resyn_core`. The net is kept with its index, which is made anew when the net changes.
+//! replacing a window by a chain, on `decide_core` for the search of a shorter chain, on `merge_core` for equal
+//! gates, and on any `Solver` of `sat_solve`. The index is made anew when the net changes.
 //!
-//! What is proved of `improve_net`: the net that it returns implements the given one, and if it is settled,
-//! no listed window up to the cap has a shorter chain for its local specification, but for those that are
-//! named. Besides resynthesis it makes moves over the whole net (`restructure`) and walks over convex windows
-//! (`walk_core`).
+//! The theorem is that `WindowAttempts` implements the trait `Attempts` of `resyn_core`: an attempt without a gain
+//! leaves the net unchanged and has no shorter chain, one that stays undecided has a valid certificate, and after any
+//! other the new net may replace the old one and has fewer gates.
 //!
 //! ```text
-//! let left = improve_net::<S>(alloc, &net, ImproveSettings::usual())?;
-//! left.net; // no window of at most 5 gates has a shorter chain, if left.settled
+//! let mut attempts = WindowAttempts::<S>::new(alloc, net, settings)?;
+//! resynthesize(alloc, &mut attempts)?; // then attempts.into_net()
 //! ```
 #![tactic(auto)]
 

@@ -5,10 +5,8 @@ ghost use Rattle.improve_theory.specs.Leading.{IsReplacement};
 
 use merge_core::functional_reduction;
 use net_core::{Net, remove_dangling};
+use settings::thresholds::MOST_UNHASHED_GATES;
 use std::alloc::{AllocError, Global};
-
-/// A net of at most this many gates is left to moves and windows.
-const MANY_EQUAL: usize = 1000;
 
 /// The net in which gates with the same value under every assignment are merged, without dangling gates.
 /// Where it has more than 12 sources there is only the cleanup.
@@ -28,7 +26,7 @@ pub fn many_merged(alloc: Global, net: Net, cap: u32) -> Result<Net, AllocError>
     ensures replaces { (basis : Basis) → IfOk result (IsReplacement basis net) }
     ensures fewer { IfOk result (λ left. length left.gates ≤ length net.gates) }
 {
-    if cap < 2 || net.gates().len() <= MANY_EQUAL {
+    if cap < 2 || net.gates().len() <= MOST_UNHASHED_GATES {
         return Ok(net);
     }
     let left = equal_merged(alloc, &net)?;

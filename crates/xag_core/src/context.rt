@@ -3,10 +3,8 @@
 
 use crate::xag::{Xag, mark_sinks};
 use rows::{at, bit_at, put, raise};
+use settings::thresholds::MOST_GATES_OF_MFFC;
 use std::alloc::{AllocError, Global};
-
-/// The most gates of an MFFC whose operands `mffc_of` visits.
-const LARGEST_MFFC: usize = 200;
 
 /// The fanouts of all nodes in one row, those of a node from its start to the start of the next; the
 /// reference counts; and whether a sink reads each node.
@@ -130,7 +128,7 @@ impl Context {
     /// Grows an MFFC by the operands that nothing else reads, and returns how many of its gates released
     /// their operands.
     fn grow_mffc(&mut self, xag: &Xag, mffc: &mut Vec<u32>) -> Result<usize, AllocError> {
-        for index in 0..LARGEST_MFFC {
+        for index in 0..MOST_GATES_OF_MFFC {
             let Some(member) = mffc.get(index) else {
                 return Ok(index);
             };
@@ -138,7 +136,7 @@ impl Context {
             self.release(xag, gate.first, mffc)?;
             self.release(xag, gate.second, mffc)?;
         }
-        Ok(LARGEST_MFFC)
+        Ok(MOST_GATES_OF_MFFC)
     }
 
     /// Undoes the release: the first `count` gates of the MFFC reference their operands again.
@@ -162,7 +160,7 @@ impl Context {
 
     /// The listed MFFC of a gate is about to be removed: its operands lose a reference for each gate.
     pub fn release_mffc(&mut self, xag: &Xag, mffc: &[u32]) {
-        for member in mffc.iter().take(LARGEST_MFFC) {
+        for member in mffc.iter().take(MOST_GATES_OF_MFFC) {
             let gate = xag.gate(*member);
             self.lower(gate.first >> 1);
             self.lower(gate.second >> 1);

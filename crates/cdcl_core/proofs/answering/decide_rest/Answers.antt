@@ -5,17 +5,17 @@ use Rattle.cdcl_core.proofs.UnderWay.{under_way_restarted}
 use Rattle.cdcl_core.proofs.Showing.{open_less}
 use Rattle.cdcl_core.proofs.answering.decide_rest.Goals as goal
 
-pub total-total_budget-requires-clause-given : goal.total-total_budget-requires-clause-given
-total-total_budget-requires-clause-given c = (under_way_restarted c.args.search.now c.close.new.self
+pub total_budget-total-requires-clause-given : goal.total_budget-total-requires-clause-given
+total_budget-total-requires-clause-given c = (under_way_restarted c.args.search.now c.close.new.self
     c.requires.under_way c.close.ensures.searching c.close.ensures.visited c.close.ensures.restarted).given
 
-pub total-total_budget-requires-clause-few : goal.total-total_budget-requires-clause-few
-total-total_budget-requires-clause-few c =
+pub total_budget-total-requires-clause-few : goal.total_budget-total-requires-clause-few
+total_budget-total-requires-clause-few c =
     let way : IsUnderWay c.close.new.self = under_way_restarted c.args.search.now c.close.new.self c.requires.under_way c.close.ensures.searching c.close.ensures.visited c.close.ensures.restarted in
     omega (arith, way.few)
 
-pub total-total_budget-requires-clause-least : goal.total-total_budget-requires-clause-least
-total-total_budget-requires-clause-least c = (under_way_restarted c.args.search.now c.close.new.self
+pub total_budget-total-requires-clause-least : goal.total_budget-total-requires-clause-least
+total_budget-total-requires-clause-least c = (under_way_restarted c.args.search.now c.close.new.self
     c.requires.under_way c.close.ensures.searching c.close.ensures.visited c.close.ensures.restarted).least
 
 pub returns-clause-bits : goal.returns-clause-bits
@@ -35,24 +35,24 @@ returns-clause-thinned c = λ f logged. c.answer.ensures.thinned f (logged_resta
 
 pub returns-clause-open : goal.returns-clause-open
 returns-clause-open c = λ f logged none.
-    let low : max c.args.search.now.least c.args.budget ≤ c.total-total_budget.result =
+    let low : max c.args.search.now.least c.args.budget ≤ c.total_budget-total.result =
     omega (
       arith,
-      c.total-total_budget.ensures.least,
-      c.total-total_budget.ensures.budget,
+      c.total_budget-total.ensures.least,
+      c.total_budget-total.ensures.budget,
       c.close.ensures.restarted.least,
     ) in
-    open_less f c.answer.result (max c.args.search.now.least c.args.budget) c.total-total_budget.result low
+    open_less f c.answer.result (max c.args.search.now.least c.args.budget) c.total_budget-total.result low
     (c.answer.ensures.open f (logged_restarted f c.args.search.now c.close.new.self logged c.close.ensures.restarted)
     none)
 
 pub returns-clause-decides : goal.returns-clause-decides
 returns-clause-decides c = λ f logged none enough.
-    let low : max c.args.search.now.least c.args.budget ≤ c.total-total_budget.result =
+    let low : max c.args.search.now.least c.args.budget ≤ c.total_budget-total.result =
     omega (
       arith,
-      c.total-total_budget.ensures.least,
-      c.total-total_budget.ensures.budget,
+      c.total_budget-total.ensures.least,
+      c.total_budget-total.ensures.budget,
       c.close.ensures.restarted.least,
     ) in
     c.answer.ensures.decides f (logged_restarted f c.args.search.now c.close.new.self logged c.close.ensures.restarted) none (omega (arith, low, enough))

@@ -3,7 +3,7 @@ use Rattle.std.proofs.Common.{◌≡◌, ◌≤◌, ℕ, Option, Some, None, Lis
 use Rattle.std.specs.Prelude.{IfSome}
 use Rattle.text_core.specs.Numbers.{number_up_to}
 use Rattle.text_core.specs.ReadBack.{number_spells}
-use Rattle.settings.specs.Synth.{most_steps}
+use Rattle.chain_theory.specs.Limits.{most_steps}
 use Rattle.cert_file.proofs.header.max_in.Goals as goal
 
 within : (o : Option ℕ) (text : List ℕ) → o ≡ number_up_to most_steps text → IfSome o (λ n. n ≤ most_steps)

@@ -1,7 +1,8 @@
-use Rattle.std.proofs.Common.{◌≡◌, ◌++◌, ◌+◌, ◌-◌}
+use Rattle.std.proofs.Common.{◌+◌, ◌-◌}
 use Rattle.std.specs.List.{flat_map, range_with_len}
+use Rattle.clause_core.specs.Clauses.{Appends}
 use Rattle.enc_theory.specs.Cuts.{exchange_pair}
 use Rattle.enc_cuts.proofs.exchange.push_exchange_with.Given as goal
 
 abbrev pub invariant-loop-q : goal.invariant-loop-q
-invariant-loop-q l = l.list ≡ record l.initial.list { clauses = l.initial.list.clauses ++ flat_map (exchange_pair l.spec l.steps l.p) (range_with_len (l.p + 1) (l.q - (l.p + 1))) }
+invariant-loop-q l = Appends l.initial.list l.list (flat_map (exchange_pair l.spec l.steps l.p) (range_with_len (l.p + 1) (l.q - (l.p + 1))))

@@ -1,7 +1,8 @@
-use Rattle.std.proofs.Common.{◌++◌, ◌+◌, ◌-◌, ◌≡◌}
+use Rattle.std.proofs.Common.{◌+◌, ◌-◌}
 use Rattle.std.specs.List.{range_with_len, flat_map}
+use Rattle.clause_core.specs.Clauses.{Appends}
 use Rattle.enc_theory.specs.Select.{falling_step}
 use Rattle.enc_select.proofs.descents.push_falling_steps.Given as goal
 
 abbrev pub invariant-loop-step : goal.invariant-loop-step
-invariant-loop-step l = l.list ≡ record l.initial.list { clauses = l.initial.list.clauses ++ flat_map (falling_step l.z) (range_with_len (l.z.n + 1) (l.step - (l.z.n + 1))) }
+invariant-loop-step l = Appends l.initial.list l.list (flat_map (falling_step l.z) (range_with_len (l.z.n + 1) (l.step - (l.z.n + 1))))

@@ -1,7 +1,8 @@
-use Rattle.std.proofs.Common.{◌++◌, ◌+◌, ◌-◌, ◌≡◌}
+use Rattle.std.proofs.Common.{◌+◌, ◌-◌}
 use Rattle.std.specs.List.{range_with_len, flat_map}
+use Rattle.clause_core.specs.Clauses.{Appends}
 use Rattle.enc_theory.specs.Select.{trivial_step}
 use Rattle.enc_select.proofs.trivial.push_trivial.Given as goal
 
 abbrev pub invariant-loop-i : goal.invariant-loop-i
-invariant-loop-i l = l.list ≡ record l.initial.list { clauses = l.initial.list.clauses ++ flat_map (trivial_step l.constants l.basis l.z) (range_with_len (l.z.n + 1) (l.i - (l.z.n + 1))) }
+invariant-loop-i l = Appends l.initial.list l.list (flat_map (trivial_step l.constants l.basis l.z) (range_with_len (l.z.n + 1) (l.i - (l.z.n + 1))))

@@ -31,7 +31,7 @@ unreachable-requires c =
 
 pub returns : goal.returns
 returns c =
-    subst (IsFirstCyclic c.args.document.now) (sym (c.in_ok-name.ensures ∙ ap (λ (t : Table). t.output) c.after-document.view_is))
+    subst (IsFirstCyclic c.args.document.now) (sym (c.in_ok-name.ensures ∙ ap (λ (t : Table). t.output) c.behind-document.view_is))
     (cyclic_first c.args.document.now c.in-Some.table c.table_at.result.now c.requires.distinct
     (subst (λ (r : Option ℕ). IsFirstCyclicNode (graph_of c.args.document.now.tables) r) c.in-Some.is
     (subst (λ (g : Graph). IsFirstCyclicNode g c.in_ok-first.first) c.requires.graph c.in_ok-first.ensures))

@@ -1,0 +1,81 @@
+#!/usr/bin/env python3
+"""vectors.py [--write]: the test vectors of the encodings, computed again by tools/dimacs.
+
+`crates/enc_theory/specs/*Vectors.antt` have lines `vector N ON CARE BASIS SIZE VARS CLAUSES LITERALS CHECKSUM` (and
+`fenced`, with the fence after SIZE): a question, and the outline of its formula, which the prover compares with the
+definition of the encoding. This script computes each outline with the formulas of tools/dimacs, which follow
+docs/FORMATS.md and share nothing with the definitions. It prints how many vectors of each file are the same, and each
+that isn't. With --write it puts the computed numbers into the files.
+
+Status 0; 1 where a vector differs, or for other arguments."""
+import importlib.machinery
+import importlib.util
+import os
+import re
+import sys
+
+TOP = os.path.dirname(os.path.dirname(os.path.realpath(__file__)))
+FILES = {'Plain': 'plain', 'Ssv': 'ssv', 'Select': 'select', 'Fence': 'fence'}
+LIST = r'(\[\]|\((?:\d+ ∷ )*\[\]\))'
+LINE = re.compile(rf'\b(vector|fenced) (\d+) {LIST} {LIST} (\d+) (\d+)( {LIST})? (\d+ \d+ \d+ \d+)(?= *$)', re.MULTILINE)
+
+
+def tool(name):
+    """A script of tools/ as a module."""
+    loader = importlib.machinery.SourceFileLoader(name, f'{TOP}/tools/{name}')
+    module = importlib.util.module_from_spec(importlib.util.spec_from_loader(name, loader))
+    loader.exec_module(module)
+    return module
+
+
+def numbers(text):
+    return [int(word) for word in re.findall(r'\d+', text or '')]
+
+
+def outline(formula):
+    """The numbers of variables, clauses and literals, and the checksum, as `enc_theory` `Vectors` defines them."""
+    checksum = 0
+    for clause in formula.clauses:
+        for literal in [*clause, 0]:
+            checksum = (31 * checksum + literal) % 2**32
+    return len(formula.numbers), len(formula.clauses), sum(map(len, formula.clauses)), checksum
+
+
+def computed(dimacs, method, line):
+    """The line with the outline that tools/dimacs computes."""
+    rows = range(2 ** int(line[2]))
+    tables = [
+        ''.join(str(on >> t & 1) if care >> t & 1 else '-' for t in rows)
+        for on, care in zip(numbers(line[3]), numbers(line[4]))
+    ]
+    basis = dimacs.Basis(','.join(f'{op:04b}' for op in range(16) if int(line[5]) >> op & 1))
+    fence = tuple(numbers(line[7])) if line[1] == 'fenced' else None
+    formula = dimacs.formula_of(tables, basis, method, int(line[6]), fence)
+    return line[0].removesuffix(line[9]) + ' '.join(map(str, outline(formula)))
+
+
+def main():
+    if sys.argv[1:] not in ([], ['--write']):
+        print(__doc__)
+        return 0 if sys.argv[1:] == ['--help'] else 1
+    sys.dont_write_bytecode = True
+    dimacs, differ = tool('dimacs'), 0
+    for name, method in FILES.items():
+        path = f'{TOP}/crates/enc_theory/specs/{name}Vectors.antt'
+        with open(path, encoding='utf-8') as file:
+            text = file.read()
+        pairs = [(line[0], computed(dimacs, method, line)) for line in LINE.finditer(text)]
+        for old, new in pairs:
+            if old != new:
+                differ += 1
+                print(f'{name}: {old}: computed {new}')
+        same = sum(old == new for old, new in pairs)
+        print(f'{name}: {len(pairs)} vectors, {same} the same')
+        if sys.argv[1:] == ['--write']:
+            again = dict(pairs)
+            with open(path, 'w', encoding='utf-8') as file:
+                file.write(LINE.sub(lambda line: again[line[0]], text))
+    return 1 if differ and sys.argv[1:] == [] else 0
+
+
+sys.exit(main())
