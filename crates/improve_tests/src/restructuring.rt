@@ -23,8 +23,10 @@ fn gates_left(alloc: Global, text: &str, basis: u16) -> Option<usize> {
     }
 }
 
-/// All operators, and NAND alone.
+/// All operators, those of gates in BENCH, and NAND alone.
 const ALL: u16 = 65_535;
+
+const BENCH: u16 = 17_346;
 
 const NAND: u16 = 16_384;
 
@@ -38,22 +40,28 @@ const MOVED: &[(&str, &str, u16, Option<usize>)] = &[
         Some(3),
     ),
     (
-        "NOTs between NANDs go, and NANDs are left",
-        "INPUT(a)\nINPUT(b)\nINPUT(c)\nINPUT(d)\nOUTPUT(y)\np = NAND(a, b)\nq = NAND(p, p)\n\
-            r = NAND(q, q)\nt = NAND(c, d)\nu = NAND(t, t)\nv = NAND(u, u)\ny = NAND(r, v)\n",
-        NAND,
-        Some(3),
-    ),
-    (
-        "two ANDs of three by NANDs share a pair and its complement",
+        "NANDs of three share a pair, which becomes an AND",
         "INPUT(a)\nINPUT(b)\nINPUT(c)\nINPUT(d)\nOUTPUT(y)\nOUTPUT(z)\n\
             p = NAND(b, c)\nq = NAND(p, p)\ny = NAND(a, q)\n\
             r = NAND(a, d)\nt = NAND(r, r)\nz = NAND(t, b)\n",
-        NAND,
-        Some(4),
+        BENCH,
+        Some(3),
     ),
     (
-        "XOR by four NANDs is least over NAND",
+        "a NOT after an AND goes into a NAND",
+        "INPUT(a)\nINPUT(b)\nINPUT(c)\nOUTPUT(y)\np = AND(a, b)\nn = NOT(p)\ny = AND(n, c)\n",
+        BENCH,
+        Some(2),
+    ),
+    (
+        "one NOT of an input stays",
+        "INPUT(a)\nINPUT(b)\nOUTPUT(y)\nOUTPUT(z)\nn = NOT(a)\ny = AND(n, b)\n\
+            m = NOT(a)\nz = NAND(b, m)\n",
+        BENCH,
+        Some(3),
+    ),
+    (
+        "XOR by four NANDs stays over NAND",
         "INPUT(a)\nINPUT(b)\nOUTPUT(y)\nn = NAND(a, b)\np = NAND(a, n)\nq = NAND(b, n)\n\
             y = NAND(p, q)\n",
         NAND,
