@@ -36,8 +36,8 @@ node_at n p some within =
 
 -- a bit of a signal's signature is its value under an assignment
 signal_bit : (n : Net) (w : Words) (given : ℕ → Bool) (s : Sig) (j b : ℕ) → IsNet n → n.sources ≤ most_leaves →
-    AreWords (cone_of n) w → 64 * j + b ≡ row_of n.sources given → b < 64 → row_of n.sources given < w.signatures →
-    IsSigBelow (end_of n) s → digit (word_of w.lanes (width_of w.signatures) s j) b ≡ sig_value (value n given) s
+    AreWords (cone_of n) w → 64 * j + b ≡ row_of n.sources given → b < 64 → row_of n.sources given < w.rows →
+    IsSigBelow (end_of n) s → digit (word_of w.lanes (width_of w.rows) s j) b ≡ sig_value (value n given) s
 signal_bit n w given Zero j b net few words row low within below = digit_spread false b low
 signal_bit n w given One j b net few words row low within below = digit_spread true b low
 signal_bit n w given (Node p) j b net few words row low within below =
@@ -45,8 +45,8 @@ signal_bit n w given (Node p) j b net few words row low within below =
     ∙ ap (λ (r : ℕ). value_in (cone_of n) r p) row
     ∙ whole_value n given p net few below.0 below.1
 
-all_rows : (n : Net) (w : Words) → AreWords (cone_of n) w → w.signatures ≡ 2 ^ n.sources
-all_rows n w words = words.signatures ∙ ap (λ (k : ℕ). 2 ^ k) (count_length 1 n.sources)
+all_rows : (n : Net) (w : Words) → AreWords (cone_of n) w → w.rows ≡ 2 ^ n.sources
+all_rows n w words = words.rows ∙ ap (λ (k : ℕ). 2 ^ k) (count_length 1 n.sources)
 
 below_end : (node end : ℕ) (s : Sig) → node ≤ end → IsSigBelow node s → IsSigBelow end s
 below_end node end Zero low below = tt
@@ -55,13 +55,13 @@ below_end node end (Node p) low below = (below.0, omega (arith, low, below.1))
 
 -- Each assignment has a bit in the signature, so equal signatures mean equal values under every assignment.
 pub words_representative : (n : Net) (w : Words) (node : ℕ) (s : Sig) → IsNet n → n.sources ≤ most_leaves →
-    AreWords (cone_of n) w → 1 ≤ node → node < end_of n → IsRepresentativeIn w.lanes (width_of w.signatures) node s →
+    AreWords (cone_of n) w → 1 ≤ node → node < end_of n → IsRepresentativeIn w.lanes (width_of w.rows) node s →
     IsRepresentative n node s
 words_representative n w node s net few words some within is = record {
   below = is.below;
   same = λ given.
       let row : ℕ = row_of n.sources given in
-      let low : row < w.signatures = subst (λ (r : ℕ). row < r) (sym (all_rows n w words)) (row_low given n.sources) in
+      let low : row < w.rows = subst (λ (r : ℕ). row < r) (sym (all_rows n w words)) (row_low given n.sources) in
       let whole : 64 * (row / 64) + row % 64 ≡ row = omega arith in
       sym (signal_bit n w given s (row / 64) (row % 64) net few words whole (omega arith) low (below_end node (end_of n) s (omega (arith, within)) is.below))
       ∙ ap (λ (x : ℕ). digit x (row % 64)) (is.same (row / 64) (omega (arith, low)))
@@ -87,7 +87,7 @@ words_more lanes width node representatives new o have is some more = record {
 nodes_count : (n : Net) → length (nodes (cone_of n)) ≡ n.sources + length n.gates
 nodes_count n = ap (length {A = ℕ}) (whole_nodes n) ∙ count_length 1 (n.sources + length n.gates)
 
-same_width : (n : Net) (w : Words) (width sources : ℕ) → AreWords (cone_of n) w → sources ≡ n.sources → width ≡ width_of (2 ^ sources) → width ≡ width_of w.signatures
+same_width : (n : Net) (w : Words) (width sources : ℕ) → AreWords (cone_of n) w → sources ≡ n.sources → width ≡ width_of (2 ^ sources) → width ≡ width_of w.rows
 same_width n w width sources words same is =
     is ∙ ap (λ (k : ℕ). width_of (2 ^ k)) same ∙ ap (λ (r : ℕ). width_of r) (sym (all_rows n w words))
 
@@ -99,7 +99,7 @@ words_room n w lanes end width sources words last same is own =
     let size : length lanes ≡ (end - 1) * width =
     ap (length {A = ℕ}) own
     ∙ words.size
-    ∙ ap (λ (k : ℕ). k * width_of w.signatures) count
+    ∙ ap (λ (k : ℕ). k * width_of w.rows) count
     ∙ ap (λ (k : ℕ). (end - 1) * k) (sym (same_width n w width sources words same is)) in
     omega (arith, size)
 
