@@ -71,7 +71,7 @@ same_gates source d e = ap (λ (ts : List Table). record {
   tables = ts;
 }) (ap (map (λ t. line_table (line_of source t))) e ∙ sym e)
 
-pub text_is : (c : Circuit) → IsFormat blif.blif_format blif.CanWriteBench → IsWritable c → IsTextOf bench_format (circuit_text c) c
+pub text_is : (c : Circuit) → IsFormat blif.blif_format blif.CanWriteBlif → IsWritable c → IsTextOf bench_format (circuit_text c) c
 text_is c format can =
     let old = format.read_back c (can.fits.proper, can.room) in
     let d = written c in
@@ -98,7 +98,7 @@ text_is c format can =
     }))
     can.fits.source
 
-pub cost_is : (c : Circuit) → IsFormat blif.blif_format blif.CanWriteBench → IsWritable c → cost (as_gates (first_source c) (written c)) ≡ cost (written c)
+pub cost_is : (c : Circuit) → IsFormat blif.blif_format blif.CanWriteBlif → IsWritable c → cost (as_gates (first_source c) (written c)) ≡ cost (written c)
 cost_is c format can =
     let old = format.read_back c (can.fits.proper, can.room) in
     let d = written c in

@@ -170,7 +170,7 @@ exchanged_is c m can implements operate =
     let words = other_words c m can operate in
     record { writable = record { fits = other_fits c m can.writable.fits implements words; room = can.writable.room }; operators = words }
 
-pub bench_is_format : IsFormat blif.blif_format blif.CanWriteBench → IsFormat bench_format CanWriteBench
+pub bench_is_format : IsFormat blif.blif_format blif.CanWriteBlif → IsFormat bench_format CanWriteBench
 bench_is_format format = record {
   lists = texts_list;
   proper = λ c can. can.writable.fits.proper;
