@@ -147,23 +147,23 @@ blif_improved s bytes text report c k before after settled named format is bette
 
 -- an improved circuit of a text is one that BENCH can express
 pub bench_fits : (s : ImproveSettings) (bytes : List ℕ) (c k : Circuit) (before after : ℕ) (settled : Bool)
-    (named : List Undecided) → IsFormat bench_format bench.CanWriteBlif → FitsFormat bench_format s →
+    (named : List Undecided) → IsFormat bench_format bench.CanWriteBench → FitsFormat bench_format s →
     IsCircuitOfText bench_format bytes c → k ≡ record c { net = k.net } →
     IsBetter blif_format s c k before after settled named → HasRoomForNames k → IsBenchCircuit k
 bench_fits s bytes c k before after settled named format fits is same better room =
-    (writable bench_format bench.CanWriteBlif s bytes c k settled named format is fits same better.left
+    (writable bench_format bench.CanWriteBench s bytes c k settled named format is fits same better.left
     room).writable.fits
 
 pub bench_improved : (s : ImproveSettings) (bytes text report : List ℕ) (c k : Circuit) (before after : ℕ)
-    (settled : Bool) (named : List Undecided) → IsFormat bench_format bench.CanWriteBlif →
+    (settled : Bool) (named : List Undecided) → IsFormat bench_format bench.CanWriteBench →
     ((x : Circuit) → bench.IsWritable x → cost (bench_written x) ≡ cost (written x)) → FitsFormat bench_format s →
     IsCircuitOfText bench_format bytes c → k ≡ record c { net = k.net } →
     IsBetter blif_format s c k before after settled named → HasRoomForNames k → text ≡ gates.circuit_text k →
     report ≡ report_text (gate_names k) k.net.sources before after settled named →
     IsReported bench_format s bytes text report
 bench_improved s bytes text report c k before after settled named format same_cost fits is same better room spelled all_reported =
-    let can = writable bench_format bench.CanWriteBlif s bytes c k settled named format is fits same better.left room in
-    reported bench_format bench.CanWriteBlif s bytes text report c k before after settled named format is
+    let can = writable bench_format bench.CanWriteBench s bytes c k settled named format is fits same better.left room in
+    reported bench_format bench.CanWriteBench s bytes text report c k before after settled named format is
     (better_there blif_format bench_format s c k before after settled named (same_cost k can.writable) better) can
     spelled all_reported
 
