@@ -22,7 +22,7 @@ depth_asks bytes b is =
     let valid = is.is_depth.valid in
     let last = line (method_line h.method) ∷ line (conflicts_line h.conflicts) ∷ line (max_line h.max) ∷ [] in
     let sections = flat_map section_lines b.certificate.sections ++ trailer_lines b.certificate.chain b.certificate.verdict in
-    let following = line (depth_line (levels_of b.verdict)) ∷ flat_lines b.parts b.verdict in
+    let following = line (depth_line (levels_of b.verdict)) ∷ flat_lines b.subproblems b.verdict in
     let basis = line (basis_line h.basis) ∷ last in
     record {
       spec = valid.header.tables;
