@@ -1,6 +1,6 @@
 //! Which nodes SAT sweeping merges, if its questions are answered by truth tables. No contract states this. The
 //! numbers were counted by hand.
-ghost use Rattle.std.specs.Prelude.{◌≡◌, Unit};
+ghost use Rattle.std.specs.Prelude.{◌≡◌};
 
 use crate::circuits::circuit;
 use cnf_core::{Cnf, Lit};
