@@ -333,7 +333,8 @@ fn push_others(
     requires { names.now ≡ gate_names circuit.now }
     ensures { OnOk result
         (tables.new.items ≡ tables.old.items
-        ++ output_tables_of (node_name_of circuit.now) (written.driven_before circuit.now) circuit.now.outputs circuit.now.net.sinks) }
+        ++ output_tables_of (node_name_of circuit.now) (written.driven_before circuit.now)
+        circuit.now.outputs circuit.now.net.sinks) }
 {
     let mut written = IndexSet::new(alloc);
     take_written(circuit, names, &mut written)?;

@@ -7,11 +7,11 @@
 //! ```
 #![tactic(auto)]
 
+mod cover_lines;
 mod keywords;
 mod latches;
 mod logical;
 mod reading;
-mod rows;
 mod statements;
 mod walking;
 mod words;

@@ -40,7 +40,8 @@ fn live_count(spec: &Spec) -> u32
 }
 
 /// Whether some live output uses input `before` + 1.
-#[tactic(auto, using(crate::proofs::Loops::passing), unfolding(crate::specs::Counts::is_in_use, crate::specs::Counts::live_uses))]
+#[tactic(auto, // for the prover
+using(crate::proofs::Loops::passing), unfolding(crate::specs::Counts::is_in_use, crate::specs::Counts::live_uses))]
 fn is_in_use(spec: &Spec, before: u32) -> bool
     requires input { before < spec.now.n }
     requires room { before + 1 < 4294967296 }
@@ -68,7 +69,8 @@ fn inputs_in_use(spec: &Spec) -> u32
 }
 
 /// Whether output `before` + 1 is live and differs from each live output before it.
-#[tactic(auto, using(crate::proofs::Loops::passing), unfolding(crate::specs::Counts::is_new, crate::specs::Counts::live_compatible))]
+#[tactic(auto, // for the prover
+using(crate::proofs::Loops::passing), unfolding(crate::specs::Counts::is_new, crate::specs::Counts::live_compatible))]
 fn is_new(spec: &Spec, before: u32) -> bool
     requires output { before < length spec.now.on }
     requires room { before + 1 < 4294967296 }

@@ -81,7 +81,9 @@ pub(crate) fn basis_in(alloc: Global, line: &TextLine) -> Result<Option<Basis>, 
 }
 
 /// The line after the tables, which must be that of the basis.
-#[tactic(auto, unfolding(cert_theory::specs::Judging::with_tables, cert_theory::specs::Judging::after_tables, crate::specs::HeaderLines::header_by, crate::specs::HeaderLines::with_basis))]
+#[tactic(auto, // for the prover
+unfolding(cert_theory::specs::Judging::with_tables, cert_theory::specs::Judging::after_tables, // for the prover
+crate::specs::HeaderLines::header_by, crate::specs::HeaderLines::with_basis))]
 fn at_basis(
     alloc: Global,
     n: u32,
@@ -112,7 +114,9 @@ fn at_basis(
 }
 
 /// A table, or the line after the tables.
-#[tactic(auto, unfolding(cert_theory::specs::Judging::with_tables, tt_core::specs::Tables::rows_of, crate::specs::HeaderLines::header_by))]
+#[tactic(auto, // for the prover
+unfolding(cert_theory::specs::Judging::with_tables, tt_core::specs::Tables::rows_of, // for the prover
+crate::specs::HeaderLines::header_by))]
 pub(crate) fn at_tables(
     alloc: Global,
     n: u32,

@@ -47,7 +47,9 @@ fn push_method(text: &mut Vec<u8>, method: Method) -> Result<(), AllocError>
 }
 
 /// Appends the lines of the conflict limit and of the greatest size.
-#[tactic(auto, unfolding(cert_theory::specs::Spelling::conflicts_line, cert_theory::specs::Spelling::max_line, crate::specs::Texts::spelled))]
+#[tactic(auto, // for the prover
+unfolding(cert_theory::specs::Spelling::conflicts_line, cert_theory::specs::Spelling::max_line, // for the prover
+crate::specs::Texts::spelled))]
 fn push_bounds(text: &mut Vec<u8>, conflicts: u32, max: u32) -> Result<(), AllocError>
     ensures { OnOk result (text.new.items ≡ text.old.items ++
         (spelled (spelling.conflicts_line conflicts) ++ spelled (spelling.max_line max))) }

@@ -1,3 +1,3 @@
 pub mod Commands
 pub mod Ends
-pub mod Obeying
+pub mod Dispatching

@@ -58,7 +58,8 @@ fn at_name(lead: Field, variant: &'static [u8], line: u32, name: Name) -> ErrorL
 }
 
 /// The error line of a fault of a netlist, after the word `lead` unless that is `Nothing`.
-#[tactic(auto, unfolding(crate::specs::NetLines::named_net, frame_core::specs::Reported::memory, frame_core::specs::Views::shown))]
+#[tactic(auto, // for the prover
+unfolding(crate::specs::NetLines::named_net, frame_core::specs::Reported::memory, frame_core::specs::Views::shown))]
 pub fn name_net(lead: Field, error: NetError) -> ErrorLine
     ensures { line_value result ≡ shown (lead ∷ []) ++ named_net error }
 {

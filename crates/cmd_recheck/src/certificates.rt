@@ -79,7 +79,9 @@ fn at(lead: Field, name: &'static [u8], number: u32) -> ErrorLine
 }
 
 /// The error line of a fault, after the word `lead` unless that is `Nothing`.
-#[tactic(auto, unfolding(crate::specs::RecheckReport::named_certificate, frame_core::specs::Reported::memory, frame_core::specs::Views::shown))]
+#[tactic(auto, // for the prover
+unfolding(crate::specs::RecheckReport::named_certificate, frame_core::specs::Reported::memory, // for the prover
+frame_core::specs::Views::shown))]
 pub(crate) fn name_certificate(lead: Field, error: CertificateError) -> ErrorLine
     ensures { line_value result ≡ shown (lead ∷ []) ++ named_certificate error }
 {

@@ -31,7 +31,8 @@ fn depth_status(error: DepthError) -> Status
 }
 
 /// The error line of a fault in the certificate of the fewest steps.
-#[tactic(auto, unfolding(frame_core::specs::Reported::memory, frame_core::specs::Views::shown), using(crate::proofs::RecheckingDepth::inside))]
+#[tactic(auto, unfolding(frame_core::specs::Reported::memory, frame_core::specs::Views::shown), // for the prover
+using(crate::proofs::RecheckingDepth::inside))]
 fn name_inside(error: CertificateError) -> ErrorLine
     ensures { line_value result ≡ named_inside error }
 {
@@ -42,7 +43,9 @@ fn name_inside(error: CertificateError) -> ErrorLine
 }
 
 /// The error line of a fault.
-#[tactic(auto, unfolding(crate::specs::RecheckDepthReport::named_depth, frame_core::specs::Reported::memory, frame_core::specs::Views::shown))]
+#[tactic(auto, // for the prover
+unfolding(crate::specs::RecheckDepthReport::named_depth, frame_core::specs::Reported::memory, // for the prover
+frame_core::specs::Views::shown))]
 fn name_depth(error: DepthError) -> ErrorLine
     ensures { line_value result ≡ named_depth error }
 {
@@ -71,7 +74,8 @@ fn refusal_of(error: DepthError) -> Refusal
 }
 
 /// The text of a verdict.
-#[tactic(auto, unfolding(crate::specs::RecheckDepthReport::levels_text, depth_theory::specs::DepthSpelling::levels_line))]
+#[tactic(auto, // for the prover
+unfolding(crate::specs::RecheckDepthReport::levels_text, depth_theory::specs::DepthSpelling::levels_line))]
 fn levels_bytes(alloc: Global, verdict: DepthVerdict) -> Result<Vec<u8>, AllocError>
     ensures { IfOk result (λ text. text.items ≡ levels_text verdict) }
 {

@@ -31,7 +31,8 @@ pub fn check_depth(alloc: Global, bytes: &[u8]) -> Result<DepthVerdict, DepthErr
     ensures accepted { (b : DepthCertificate) → IsDepthText bytes.now b → Gives (λ v. v) result (Ok b.verdict) }
     // The verdict is true of the tables and the basis in the text.
     ensures means { IfOk result (λ v. (b : DepthCertificate) (is : IsDepthText bytes.now b) →
-        Means (specification b.certificate.header.spec) (members b.certificate.header.basis) (length is.is_depth.chain.steps) v) }
+        Means (specification b.certificate.header.spec) (members b.certificate.header.basis)
+        (length is.is_depth.chain.steps) v) }
     // A text is refused exactly if the definition has a fault, and with the first one from the top.
     ensures exact { judging.Judged (Gives (λ v. v) result) (lines_of bytes.now) }
 {

@@ -6,14 +6,15 @@ ghost use Rattle.chain_theory.specs.Limits.{most_steps};
 use crate::push_cuts;
 use clause_core::ClauseList;
 use cnf_core::Cnf;
-use enc_frame::{Layout, Pairs, push_common, sizes};
+use enc_base::{Layout, Pairs, push_common, sizes};
 use op_basis::Basis;
 use std::alloc::{AllocError, Global};
 use tt_core::{Spec, live_spec};
 
 /// The formula of size `r` over the given pairs: the clauses that define chains of the live outputs, and the
 /// constraints.
-#[tactic(auto, using(crate::proofs::Pieces::limits), unfolding(crate::specs::Formula::with_cuts, crate::specs::Formula::live_with_cuts))]
+#[tactic(auto, using(crate::proofs::Pieces::limits), // for the prover
+unfolding(crate::specs::Formula::with_cuts, crate::specs::Formula::live_with_cuts))]
 pub fn formula_with_cuts<P: Pairs>(
     alloc: Global,
     spec: &Spec,

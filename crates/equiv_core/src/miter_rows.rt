@@ -14,7 +14,8 @@ use std::alloc::{AllocError, Global};
 
 /// Adds the clause of the gate at node `node` for the operand values `a` and `b`: the gate has its operator's
 /// value.
-#[tactic(auto, using(crate::specs::RowLaws::gate_within, crate::specs::RowLaws::added_one), unfolding(equiv_theory::specs::Miter::gate_row))]
+#[tactic(auto, using(crate::specs::RowLaws::gate_within, crate::specs::RowLaws::added_one), // for the prover
+unfolding(equiv_theory::specs::Miter::gate_row))]
 fn push_gate_row(
     alloc: Global,
     list: &mut ClauseList,

@@ -76,7 +76,8 @@ fn first_other(first: &[bool], second: &[bool]) -> Option<usize>
 }
 
 /// The first sink, counted from 0, whose values in the two nets differ, given the values `sources` of the sources.
-#[tactic(auto, using(crate::specs::SinkLaws::found_first, crate::specs::SinkLaws::found_none, crate::specs::SinkLaws::sinks_long))]
+#[tactic(auto, // for the prover
+using(crate::specs::SinkLaws::found_first, crate::specs::SinkLaws::found_none, crate::specs::SinkLaws::sinks_long))]
 pub(crate) fn first_difference(
     alloc: Global,
     first: &Net,

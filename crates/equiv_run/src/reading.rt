@@ -15,7 +15,7 @@ use crate::answer::{CompareError, Compared, EquivOutcome};
 use crate::splitting::split;
 use crate::writing::{differ_text, logged_text_of};
 use blif_core::{Circuit, NetError, read_blif};
-use equiv_core::{Equiv, EquivError, equiv};
+use equiv_core::{EquivError, EquivResult, equiv};
 use sat_solve::Solver;
 use std::alloc::Global;
 
@@ -46,7 +46,10 @@ fn read_second(alloc: Global, bytes: &[u8]) -> Result<Circuit, CompareError>
 }
 
 /// Compares two circuits, and writes the answer.
-#[tactic(auto, using(crate::specs::CircuitAnswers::answer_equal, crate::specs::CircuitAnswers::answer_differ, crate::specs::CircuitAnswers::answer_undecided), unfolding(crate::specs::Texts::equal_text, crate::specs::Texts::undecided_text))]
+#[tactic(auto, // for the prover
+using(crate::specs::CircuitAnswers::answer_equal, crate::specs::CircuitAnswers::answer_differ, // for the prover
+crate::specs::CircuitAnswers::answer_undecided), unfolding(crate::specs::Texts::equal_text, // for the prover
+crate::specs::Texts::undecided_text))]
 fn compare_circuits<S: Solver>(
     alloc: Global,
     first: &Circuit,
@@ -62,14 +65,14 @@ fn compare_circuits<S: Solver>(
     ensures refused { IfErr result (IsOther first.now second.now) }
 {
     match equiv::<S>(alloc, first, second, conflicts) {
-        Ok(Equiv::Equal(log)) => {
+        Ok(EquivResult::Equal(log)) => {
             let text = logged_text_of(alloc, b"equal\n", &log)?;
             Ok(Compared {
                 text,
                 outcome: EquivOutcome::Equal,
             })
         }
-        Ok(Equiv::Differ { sink, at }) => {
+        Ok(EquivResult::Differ { sink, at }) => {
             let text = differ_text(
                 alloc,
                 &first.outputs,
@@ -82,7 +85,7 @@ fn compare_circuits<S: Solver>(
                 outcome: EquivOutcome::Differ,
             })
         }
-        Ok(Equiv::Undecided(log)) => {
+        Ok(EquivResult::Undecided(log)) => {
             let text = logged_text_of(alloc, b"undecided\n", &log)?;
             Ok(Compared {
                 text,

@@ -49,7 +49,8 @@ fn add_body(
 }
 
 /// Appends the gates of a table to a net.
-#[tactic(auto, using(crate::proofs::Growths::tables, crate::proofs::Merged::body_good), unfolding(net_theory::specs::NetOf::with_table))]
+#[tactic(auto, using(crate::proofs::Growths::tables, crate::proofs::Merged::body_good), // for the prover
+unfolding(net_theory::specs::NetOf::with_table))]
 fn add_table(
     alloc: Global,
     net: &mut Net,

@@ -40,7 +40,8 @@ fn unary_cover(alloc: Global, at_zero: bool, at_one: bool) -> Result<Cover, Allo
 }
 
 /// The cover of one input that replaces the cover of a table with two inputs of the same name.
-#[tactic(auto, using(crate::proofs::Merged::merges, crate::proofs::Merged::body_good), unfolding(net_theory::specs::Cost::merged_table))]
+#[tactic(auto, using(crate::proofs::Merged::merges, crate::proofs::Merged::body_good), // for the prover
+unfolding(net_theory::specs::Cost::merged_table))]
 pub fn merged_cover(alloc: Global, table: &Table) -> Result<Option<Cover>, AllocError>
     requires { IsTable table.now }
     ensures { IfOk result (λ cover. merged_by table.now cover ≡ merged_table table.now) }
@@ -67,7 +68,8 @@ pub fn first_alone(names: &[Name]) -> &[Name]
 }
 
 /// The number of gates into which a table is decomposed.
-#[tactic(auto, using(crate::proofs::Merged::costs, crate::proofs::Merged::body_good), unfolding(net_theory::specs::Cost::table_cost))]
+#[tactic(auto, // for the prover
+using(crate::proofs::Merged::costs, crate::proofs::Merged::body_good), unfolding(net_theory::specs::Cost::table_cost))]
 fn table_cost(alloc: Global, table: &Table) -> Result<u32, AllocError>
     requires { IsTable table.now }
     ensures { IfOk result (λ cost. cost ≡ table_cost_of table.now) }

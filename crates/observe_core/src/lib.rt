@@ -15,17 +15,17 @@
 //! ```
 #![tactic(auto)]
 
-mod differing;
-mod following;
-mod forcing;
+mod fanout_cone;
+mod forced_outputs;
 mod lists;
-mod narrowing;
+mod next_fanout;
 mod observing;
-mod putting;
+mod output_differences;
+mod relaxing;
 mod shape;
-mod trailing;
+mod with_constants;
 
+pub use fanout_cone::{fanout_cone, fanout_cone_by};
 pub use lists::lists_of;
-pub use narrowing::{observed_spec, observed_spec_by};
+pub use relaxing::{observed_spec, observed_spec_by};
 pub use shape::FanoutCone;
-pub use trailing::{fanout_cone, fanout_cone_by};

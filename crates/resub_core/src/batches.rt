@@ -1,7 +1,7 @@
 //! Batches, for large graphs: the replacements of a whole pass are made at once, so that the graph is rebuilt
 //! once a pass. Each replacement reads nodes below its target alone: whichever are made, every edge leads down, so that
-//! there is no cycle; and those that a batch notes don't meet (`marks`). How many gates they save together is counted as
-//! they are noted, but only roughly, so that the graph that comes out is taken only where it isn't larger.
+//! there is no cycle; and those that a batch notes don't meet (`marks`). How many gates they save together is counted
+//! as they are noted, but only roughly, so that the graph that comes out is taken only where it isn't larger.
 ghost use Rattle.std.specs.Prelude.{IfOk, IfSome};
 ghost use Rattle.xag_core.specs.Xag.{HasEnds};
 ghost use Rattle.resub_core.specs.Smaller.{IsNoLarger};
@@ -78,7 +78,8 @@ pub fn is_large(xag: &Xag, terms: Terms) -> bool {
     xag.gates().len() > few
 }
 
-/// Notes replacements in a pass over all gates, or over some at random where the graph may keep its size, and makes them.
+/// Notes replacements in a pass over all gates, or over some at random where the graph may keep its size, and makes
+/// them.
 fn with_all(
     alloc: Global,
     xag: &Xag,

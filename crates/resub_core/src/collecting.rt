@@ -75,8 +75,8 @@ fn list(
     Ok(())
 }
 
-/// Lists the divisors in a region that was set up, and in the gates beside it, among the nodes below `end`. The gates of
-/// `mffc` are left out: the target, and those that go with it.
+/// Lists the divisors in a region that was set up, and in the gates beside it, among the nodes below `end`. The gates
+/// of `mffc` are left out: the target, and those that go with it.
 pub fn collect(
     divisors: &mut Divisors,
     xag: &Xag,

@@ -140,7 +140,8 @@ impl Finder {
         }
     }
 
-    /// Whether a recipe is worth a trial: it has fewer gates than go for it, or, where the graph may keep its size, as many.
+    /// Whether a recipe is worth a trial: it has fewer gates than go for it, or, where the graph may keep its size, as
+    /// many.
     fn is_worth(&mut self, xag: &Xag, recipe: Recipe, terms: Terms) -> bool {
         let gone = self.gone(xag, recipe);
         self.forget(xag, recipe);
@@ -310,8 +311,8 @@ impl Finder {
         self.random.below(of) == 0
     }
 
-    /// Notes a recipe with exactly `gates` new gates, if there is one: the first, or one at random where the graph may keep
-    /// its size. True where there is.
+    /// Notes a recipe with exactly `gates` new gates, if there is one: the first, or one at random where the graph may
+    /// keep its size. True where there is.
     fn note_with(
         &mut self,
         alloc: Global,

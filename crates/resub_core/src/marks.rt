@@ -8,8 +8,8 @@ use region_core::Region;
 use rows::{bit_at, put};
 use std::alloc::{AllocError, Global};
 
-/// By nodes: whether it is a target that is changed, whether a region that was noted has it above its leaves, and whether a
-/// recipe reads it.
+/// By nodes: whether it is a target that is changed, whether a region that was noted has it above its leaves, and
+/// whether a recipe reads it.
 #[derive(Drop)]
 pub struct Marks {
     changed: Vec<bool>,

@@ -110,7 +110,8 @@ fn vary(
     Ok(())
 }
 
-/// The graph after batches while it is large, and then after single targets until none changes, or for some twenty passes.
+/// The graph after batches while it is large, and then after single targets until none changes, or for some twenty
+/// passes.
 #[tactic(auto, using(crate::specs::SmallerLaws::replacing))]
 fn reduced(alloc: Global, xag: &Xag, finder: &mut Finder, terms: Terms) -> Result<Xag, AllocError>
     ensures { IfOk result (IsNoLarger xag.now) }

@@ -66,7 +66,8 @@ pub fn first_word(rows: &[u64]) -> usize {
     rows.len()
 }
 
-/// The first word from `start` on in which a literal is 0 in some row of `rows`, the number of words where there is none.
+/// The first word from `start` on in which a literal is 0 in some row of `rows`, the number of words where there is
+/// none.
 fn first_zero(start: usize, rows: &[u64], row: &[u64], literal: u32) -> usize {
     let turn = complement_mask(literal);
     for word in start..rows.len() {

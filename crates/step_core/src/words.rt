@@ -44,7 +44,8 @@ pub(crate) fn is_met(spec: &Spec, stack: &StepStack, output: u32) -> bool
 }
 
 /// Whether each output has a step with its values.
-#[tactic(auto, using(crate::specs::LoopLaws::passing), unfolding(crate::specs::Steps::is_missing, crate::specs::Steps::all_met))]
+#[tactic(auto, // for the prover
+using(crate::specs::LoopLaws::passing), unfolding(crate::specs::Steps::is_missing, crate::specs::Steps::all_met))]
 pub(crate) fn all_met(spec: &Spec, stack: &StepStack) -> bool
     requires inputs { stack.now.n ≡ spec.now.n }
     ensures { result ≡ all_met_of spec.now stack.now.steps }

@@ -1,5 +1,5 @@
-//! The window of a set of gates. It is one where the set is convex, so that its inputs don't depend on its gates, and there
-//! are at most six of them.
+//! The window of a set of gates. It is one where the set is convex, so that its inputs don't depend on its gates, and
+//! there are at most six of them.
 ghost use Rattle.std.specs.Prelude.{◌≡◌, ◌≤◌, length, IfOk, IfSome, IfNone};
 ghost use Rattle.window_theory.specs.Nodes.{AreJust};
 ghost use Rattle.window_theory.specs.Window as definition;
@@ -21,8 +21,8 @@ fn root_of(gates: &[u32]) -> u32 {
     }
 }
 
-/// The window of a set of at most 8 gates, with exactly their inputs and outputs. None comes exactly where it doesn't belong
-/// to the net, since the set isn't convex, or has more than 6 inputs.
+/// The window of a set of at most 8 gates, with exactly their inputs and outputs. None comes exactly where it doesn't
+/// belong to the net, since the set isn't convex, or has more than 6 inputs.
 pub fn convex_window(
     alloc: Global,
     net: &Net,

@@ -1,5 +1,6 @@
-//! Sets of gates that grow at random from a root: by an operand of a gate of the set, by a reader of it, or by a reader of its
-//! operand, which shares the operand with it. No set has more than six inputs. Nothing depends on which set it is.
+//! Sets of gates that grow at random from a root: by an operand of a gate of the set, by a reader of it, or by a
+//! reader of its operand, which shares the operand with it. No set has more than six inputs. Nothing depends on which
+//! set it is.
 ghost use Rattle.std.specs.Prelude.{◌≡◌, ◌+◌, ◌≤◌, true, length, IfOk, IfSome};
 ghost use Rattle.window_theory.specs.Paths.{IsGate};
 ghost use Rattle.window_core.specs.Fanouts.{AreFanouts};

@@ -77,8 +77,8 @@ fn tried_window(
     }
 }
 
-/// The net with a chain in the place of a window that grows from a root to at most `count` gates, if it does, and there is a
-/// chain that is wanted.
+/// The net with a chain in the place of a window that grows from a root to at most `count` gates, if it does, and
+/// there is a chain that is wanted.
 #[tactic(auto, using(crate::specs::TryingLaws::trying))]
 pub(crate) fn tried(
     alloc: Global,

@@ -178,8 +178,8 @@ fn is_walked(net: &Net, cap: u32) -> bool {
     cap >= 2 && net.gates().len() <= MOST_WALKED
 }
 
-/// The net without its dead gates, after a strict walk and then `rounds` rounds of a level walk and a strict one, if it has
-/// fewer gates: it can stand in the net's place.
+/// The net without its dead gates, after a strict walk and then `rounds` rounds of a level walk and a strict one, if
+/// it has fewer gates: it can stand in the net's place.
 #[tactic(auto, using(crate::specs::WalkingLaws::walking))]
 pub fn walked(
     alloc: Global,
