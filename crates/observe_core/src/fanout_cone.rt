@@ -12,7 +12,7 @@ ghost use Rattle.observe_core.specs.Following.{HasFanoutCone};
 ghost use Rattle.observe_core.specs.Kept.{IsBoth, HasSome};
 
 use crate::next_fanout::next_follower;
-use crate::shape::{FanoutCone, MOST_OF_FANOUT_CONE};
+use crate::shape::{FanoutCone, MOST_GATES_IN_BOTH, MOST_OF_FANOUT_CONE};
 use std::alloc::{AllocError, Global};
 use window_core::{
     Fanouts, Gate, Net, Sig, Window, all_inputs, all_outputs, fanouts_of, gate_at, has, put,
@@ -190,9 +190,9 @@ pub fn fanout_cone_by(
     ensures { IfOk result (λ fanout_cone. IsFanoutCone net.now window.now fanout_cone) }
 {
     let _sources = net.sources(); // for the prover: brings the net's invariant into the proof
-    let mut all = Vec::with_capacity(alloc, 24)?;
+    let mut all = Vec::with_capacity(alloc, MOST_GATES_IN_BOTH)?;
     all.extend_from_slice(window.gates())?;
-    let mut gates = Vec::with_capacity(alloc, 16)?;
+    let mut gates = Vec::with_capacity(alloc, MOST_OF_FANOUT_CONE)?;
     take_fanout_cone(net, fanouts, &mut all, &mut gates)?;
     fanout_cone_of(alloc, net, fanouts, window, &all, gates)
 }

@@ -5,6 +5,9 @@ use std::marker::Model;
 /// The most gates of a fanout cone.
 pub(crate) const MOST_OF_FANOUT_CONE: usize = 16;
 
+/// The most gates of a window and its fanout cone together.
+pub(crate) const MOST_GATES_IN_BOTH: usize = 24;
+
 /// The fanout cone of a window: at most 16 gates of its transitive fanout, their fanins outside the window
 /// and the cone (side inputs), and the gates of the cone that a sink or a gate outside reads (its outputs);
 /// and whether a sink or a gate outside reads the window itself. Each list is ascending.

@@ -7,6 +7,7 @@ use Rattle.chain_theory.specs.declared.data.Out.{Out}
 use Rattle.chain_laws.specs.NormalForm.{IsNormalForm}
 use Rattle.chain_laws.specs.Keys.{larger}
 use Rattle.tt_core.specs.Words.{Words, specification}
+use Rattle.step_core.specs.Limits.{most_enumerated_steps}
 use Rattle.step_core.specs.Steps.{IsSolution, AreOver}
 use Rattle.step_core.specs.StepStacks.{StackView}
 
@@ -48,7 +49,7 @@ IsGivenStep this s = s ≡ this
 -- the stack has steps over the basis, and room for `left` more
 pub record IsEnumerating (w : Words) (basis : Basis) (t : StackView) (left : ℕ) : Type 0 where
   pub inputs : t.n ≡ w.n
-  pub room : length t.steps + left ≤ 6
+  pub room : length t.steps + left ≤ most_enumerated_steps
   pub over : AreOver basis t.steps
 
 -- The outcome of an enumeration from the stack `old`. Found: the stack `new` is a solution with `left` more

@@ -1,3 +1,4 @@
+pub mod Limits
 pub mod LeastChains
 pub mod Steps
 pub mod StepStacks

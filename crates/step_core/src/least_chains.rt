@@ -5,6 +5,7 @@ ghost use Rattle.chain_theory.specs.Operator.{Basis as Operators};
 ghost use Rattle.op_basis.specs.Basis.{members};
 ghost use Rattle.tt_core.specs.Words.{specification};
 ghost use Rattle.tt_core.specs.Live.{live_words};
+ghost use Rattle.step_core.specs.Limits.{most_enumerated_steps};
 ghost use Rattle.step_core.specs.LeastChains.{IsChainWithin, IsLeastAnswer};
 ghost use Rattle.step_core.specs.Steps.{IsSolution, AreOver};
 ghost use Rattle.step_core.specs.Outs.{AreMet};
@@ -41,7 +42,7 @@ fn solution_steps(
     basis: Basis,
     size: u32,
 ) -> Result<Option<StepStack>, AllocError>
-    requires { size ≤ 6 }
+    requires { size ≤ most_enumerated_steps }
     ensures inputs { IfOk result (λ found. IfSome found (λ stack. stack.n ≡ spec.now.n)) }
     ensures solution { IfOk result (λ found. IfSome found (λ stack. IsSolution spec.now (members basis) stack.steps)) }
     ensures size { IfOk result (λ found. IfSome found (λ stack. length stack.steps ≡ size)) }
@@ -64,7 +65,7 @@ fn first_size(
     basis: Basis,
     most: u32,
 ) -> Result<Option<Chain>, AllocError>
-    requires most { most ≤ 6 }
+    requires most { most ≤ most_enumerated_steps }
     requires live { live.now ≡ live_words spec.now }
     ensures { IfOk result (λ found. IsLeastAnswer (specification spec.now) (members basis) most found) }
 {
@@ -88,7 +89,7 @@ pub fn least_chain(
     basis: Basis,
     most: u32,
 ) -> Result<Option<Chain>, AllocError>
-    requires { most ≤ 6 }
+    requires { most ≤ most_enumerated_steps }
     ensures { IfOk result (λ found. IsLeastAnswer (specification spec.now) (members basis) most found) }
 {
     let live = live_spec(alloc, spec)?;
@@ -105,7 +106,7 @@ fn size_after(
     most: u32,
     number: u32,
 ) -> Result<Option<Chain>, AllocError>
-    requires most { most ≤ 6 }
+    requires most { most ≤ most_enumerated_steps }
     requires live { live.now ≡ live_words spec.now }
     ensures { IfOk result (λ found. IfSome found (λ chain.
         IsChainWithin (specification spec.now) (members basis) most chain)) }
@@ -134,7 +135,7 @@ pub fn nth_chain(
     most: u32,
     number: u32,
 ) -> Result<Option<Chain>, AllocError>
-    requires { most ≤ 6 }
+    requires { most ≤ most_enumerated_steps }
     ensures { IfOk result (λ found. IfSome found (λ chain.
         IsChainWithin (specification spec.now) (members basis) most chain)) }
 {

@@ -4,6 +4,7 @@ ghost use Rattle.std.specs.Prelude.{◌≡◌, ◌+◌, ◌-◌, ◌++◌, ◌�
 ghost use Rattle.chain_theory.specs.Chain.{IsStepAt};
 ghost use Rattle.chain_laws.specs.Follow.{step_at};
 ghost use Rattle.chain_core.specs.Steps.{step_of, steps_of};
+ghost use Rattle.step_core.specs.Limits.{most_enumerated_steps};
 ghost use Rattle.step_core.specs.Steps.{word_in};
 ghost use Rattle.step_core.specs.StepStacks.{IsStepStack};
 ghost use Rattle.chain_theory.specs.Limits.{most_inputs};
@@ -92,7 +93,7 @@ impl StepStack {
 
     /// Pushes a step, at the next place. An error means that memory ran out.
     pub fn push(&mut self, step: Step) -> Result<(), AllocError>
-        requires room { length self.old.steps < 6 }
+        requires room { length self.old.steps < most_enumerated_steps }
         requires at { IsStepAt (self.old.n + 1 + length self.old.steps) (step_of step) }
         ensures inputs { OnOk result (self.new.n ≡ self.old.n) }
         ensures steps { OnOk result (self.new.steps ≡ self.old.steps ++ step_of step ∷ []) }

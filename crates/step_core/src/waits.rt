@@ -4,6 +4,7 @@
 //! after it.
 ghost use Rattle.std.specs.Prelude.{◌≡◌, ◌+◌, ◌<◌, ◌≤◌, false, length};
 ghost use Rattle.chain_theory.specs.Operator.{Basis as Operators};
+ghost use Rattle.step_core.specs.Limits.{most_enumerated_steps};
 ghost use Rattle.step_core.specs.Enumeration.{NoneWith, HasPair};
 ghost use Rattle.step_core.specs.Waits.{reads_at as reads_at_of, is_read as is_read_of};
 ghost use Rattle.step_core.specs.Waits.{has_in_support as asks_for_of};
@@ -121,7 +122,7 @@ pub(crate) fn leaves_few(
 ) -> bool
     requires inputs { stack.now.n ≡ spec.now.n }
     requires some { 1 ≤ left }
-    requires few { left ≤ 6 }
+    requires few { left ≤ most_enumerated_steps }
     requires waiting { waiting ≡ waiting_of spec.now stack.now.steps }
     requires low_from { 1 ≤ low }
     requires low { low ≤ high }

@@ -2,6 +2,7 @@
 //! index has the reference counts, so the rest of the net needn't be visited.
 
 ghost use Rattle.std.specs.Prelude.{◌≡◌, ℕ, ◌≤◌, true, length, IfOk};
+ghost use Rattle.window_theory.specs.Limits.{most_gates_in_both};
 ghost use Rattle.window_theory.specs.Nodes.{among, IsRising, AreJust};
 ghost use Rattle.window_theory.specs.Paths.{IsGate};
 ghost use Rattle.window_theory.specs.Window.{IsOutput};
@@ -36,7 +37,7 @@ fn named_in(node: u32, gate: &Gate) -> u32
 fn inside_uses(net: &Net, gates: &[u32], node: u32) -> u32
     requires rising { IsRising gates.now }
     requires gates { (p : ℕ) → among gates.now p ≡ true → IsGate net.now p }
-    requires few { length gates.now ≤ 24 }
+    requires few { length gates.now ≤ most_gates_in_both }
     ensures value { result ≡ inside_of net.now gates.now node }
     ensures few { result ≤ 48 }
 {
@@ -54,7 +55,7 @@ fn is_output(net: &Net, fanouts: &Fanouts, gates: &[u32], node: u32) -> bool
     requires index { AreFanouts net.now fanouts.now }
     requires rising { IsRising gates.now }
     requires gates { (p : ℕ) → among gates.now p ≡ true → IsGate net.now p }
-    requires few { length gates.now ≤ 24 }
+    requires few { length gates.now ≤ most_gates_in_both }
     requires inside { among gates.now node ≡ true }
     ensures yes { result ≡ true → IsOutput net.now gates.now node }
     ensures no { IsOutput net.now gates.now node → result ≡ true }
@@ -74,7 +75,7 @@ pub fn all_outputs(
     requires index { AreFanouts net.now fanouts.now }
     requires rising { IsRising gates.now }
     requires gates { (p : ℕ) → among gates.now p ≡ true → IsGate net.now p }
-    requires few { length gates.now ≤ 24 }
+    requires few { length gates.now ≤ most_gates_in_both }
     ensures outputs { IfOk result (λ outputs. AreJust (IsOutput net.now gates.now) outputs.items) }
     ensures few { IfOk result (λ outputs. length outputs.items ≤ length gates.now) }
 {
