@@ -11,7 +11,7 @@ use Rattle.net_theory.specs.NameLaws.{has_left, has_right, has_either, has_map_a
 use Rattle.net_theory.specs.WellFormed.{IsTable, IsFreeOf, IsWellFormed}
 use Rattle.net_theory.specs.Cost.{table_cost, cost}
 use Rattle.net_theory.specs.Dependence.{ReadsTable, DependsOn, at_once, by_way_of}
-use Rattle.net_theory.specs.Behaviour.{HoldsIn, IsMapOf}
+use Rattle.net_theory.specs.Behaviour.{HoldsIn, IsValuationOf}
 use Rattle.net_theory.specs.Circuit.{Circuit, Describes}
 
 -- the document with every table replaced
@@ -140,7 +140,7 @@ holds_like source v t u is holds = ap v is.output ∙ holds ∙ sym (is.value v)
 holds_back : (source : Name) (v : Name → Bool) (t u : Table) → DoesLike source t u → HoldsIn v u → HoldsIn v t
 holds_back source v t u is holds = ap v (sym is.output) ∙ holds ∙ is.value v
 
-map_like : (source : Name) (f : Table → Table) (d : Document) (given v : Name → Bool) → DoLike source f d → IsMapOf d given v → IsMapOf (with_tables d f) given v
+map_like : (source : Name) (f : Table → Table) (d : Document) (given v : Name → Bool) → DoLike source f d → IsValuationOf d given v → IsValuationOf (with_tables d f) given v
 map_like source f d given v are is = record {
   sources = is.sources;
   tables = at_all (HoldsIn v) (map f d.tables) (λ k u e. let a = at_map f d.tables k u e in
@@ -148,7 +148,7 @@ map_like source f d given v are is = record {
       (all_at (HoldsIn v) d.tables k a.0 is.tables a.1)));
 }
 
-map_back : (source : Name) (f : Table → Table) (d : Document) (given v : Name → Bool) → DoLike source f d → IsMapOf (with_tables d f) given v → IsMapOf d given v
+map_back : (source : Name) (f : Table → Table) (d : Document) (given v : Name → Bool) → DoLike source f d → IsValuationOf (with_tables d f) given v → IsValuationOf d given v
 map_back source f d given v are is = record {
   sources = is.sources;
   tables = at_all (HoldsIn v) d.tables (λ k t e. holds_back source v t (f t) (like_at source f d are k t e) (all_at (HoldsIn v) (map f d.tables) k (f t) is.tables (map_at f d.tables k t e)));

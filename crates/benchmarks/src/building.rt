@@ -3,7 +3,7 @@ ghost use Rattle.std.specs.Prelude.{◌≤◌, length};
 
 use cnf_core::Cnf;
 use enc_fence::FenceEnc;
-use enc_frame::Encoding;
+use enc_base::Encoding;
 use enc_select::Select;
 use enc_ssv::{Plain, Ssv};
 use op_basis::Basis;

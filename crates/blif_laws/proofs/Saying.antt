@@ -16,7 +16,7 @@ use Rattle.net_core.specs.declared.error.NetError.{NetError}
 use Rattle.blif_text.specs.Reading.{◌>>=◌}
 use Rattle.blif_text.specs.Logical.{logical_from, logical_of}
 use Rattle.net_document.specs.Contents.{is_nothing}
-use Rattle.blif_text.specs.Rows.{bit_in, row_in, with_row, row_of}
+use Rattle.blif_text.specs.Rows.{bit_in, cover_line_in, with_row, row_of}
 use Rattle.blif_text.specs.Latches.{trigger_in, init_in, tail_with, with_control, tail_by, tail_by_both, tail_in, latch_with, latch_of}
 use Rattle.blif_text.specs.Statements.{Said, nothing, closed, are_names, with_model, prefix_of, last_of, empty_table}
 use Rattle.blif_text.specs.Statements.{table_of, with_table, with_latch, directed, begins_dot, keyword_of, stated}
@@ -325,8 +325,8 @@ cube_no_dot width b bs is =
     let no : false ≡ true = subst (λ (x : ℕ). is_cube_byte x ≡ true) same first in
     cc)
 
-row_words_back : (width : ℕ) (cube : List ℕ) → is_cube width cube ≡ true → row_in width ((row_line cube).first ∷ (row_line cube).rest) ≡ Some (record { cube = cube; on = true })
-unfolding row_in bit_in
+row_words_back : (width : ℕ) (cube : List ℕ) → is_cube width cube ≡ true → cover_line_in width ((row_line cube).first ∷ (row_line cube).rest) ≡ Some (record { cube = cube; on = true })
+unfolding cover_line_in bit_in
 row_words_back width [] is =
     let parts = and_parts (0 == width) true is in
     let none : 0 ≡ width = eqb-true 0 width parts.0 in

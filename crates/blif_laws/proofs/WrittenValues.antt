@@ -11,7 +11,7 @@ use Rattle.net_theory.specs.declared.data.Gate.{Gate}
 use Rattle.net_theory.specs.Net.{IsSigBelow, IsGateAt, end_of, sig_value, gate_value, values_of}
 use Rattle.net_theory.specs.Document.{Name, has, latch_input}
 use Rattle.net_theory.specs.NameLaws.{has_index, has_at, has_either, all_at}
-use Rattle.net_theory.specs.Behaviour.{HoldsIn, IsMapOf}
+use Rattle.net_theory.specs.Behaviour.{HoldsIn, IsValuationOf}
 use Rattle.net_theory.specs.ValueLaws.{value-source, values_after-gate}
 use Rattle.net_theory.specs.Circuit.{Circuit, IsProper, sources_of, by_node, values_by_name, Describes}
 use Rattle.net_theory.specs.Naming.{taken_names, gate_names, first_spare, second_spare, node_name}
@@ -58,7 +58,7 @@ record IsMap (c : Circuit) (given v : Name → Bool) : Type 0 where
   sources : (i : ℕ) (n : Name) → slice_get (sources_of c) i ≡ Some n → v n ≡ given n
   tables : All (HoldsIn v) (all_tables c)
 
-map_of : (c : Circuit) (given v : Name → Bool) → IsProper c → IsMapOf (written c) given v → IsMap c given v
+map_of : (c : Circuit) (given v : Name → Bool) → IsProper c → IsValuationOf (written c) given v → IsMap c given v
 map_of c given v is maps = record {
   sources = λ i n at. all_at (λ m. v m ≡ given m) (sources_of c) i n (subst (λ (ns : List Name). All (λ m. v m ≡ given m) ns) (written_sources c is) maps.sources) at;
   tables = subst (All (HoldsIn v)) (tables_are c) maps.tables;

@@ -11,7 +11,7 @@ use Rattle.net_theory.specs.NameLaws.{has_none, has_first, has_cases, has_left, 
 use Rattle.net_theory.specs.NameLaws.{has_all, all_has, same_name, same_itself, cons_distinct, distinct_apart}
 use Rattle.net_theory.specs.NameLaws.{append_distinct}
 use Rattle.net_theory.specs.NetLaws.{map_same}
-use Rattle.net_theory.specs.Behaviour.{HoldsIn, HasOneMap}
+use Rattle.net_theory.specs.Behaviour.{HoldsIn, HasOneValuation}
 use Rattle.net_theory.specs.Dependence.{ReadsTable, DependsOn, at_once, by_way_of, IsAcyclic}
 
 -- the table reads only names of `before` and drives a new name
@@ -138,7 +138,7 @@ one_map before (t ∷ ts) v w a hv hw same n had =
     one_map (before ++ t.output ∷ []) ts v w a.1 (All-tail (HoldsIn v) t ts hv) (All-tail (HoldsIn w) t ts hw) more n
     (subst (λ (ns : List Name). has ns n ≡ true) (sym (append_assoc before (t.output ∷ []) (map table_output ts))) had)
 
-pub layered_map : (d : Document) (given : Name → Bool) → AreLayered (source_names d) d.tables → HasOneMap d given
+pub layered_map : (d : Document) (given : Name → Bool) → AreLayered (source_names d) d.tables → HasOneValuation d given
 layered_map d given a = record {
   some = (
     values_by given d.tables,

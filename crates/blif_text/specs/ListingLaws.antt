@@ -10,7 +10,7 @@ use Rattle.std.proofs.lemmas.List.{length-map}
 use Rattle.net_theory.specs.declared.data.Trigger.{Trigger}
 use Rattle.net_theory.specs.Cover.{Cover, cover_value}
 use Rattle.net_theory.specs.Cost.{unary_cost, binary_cost, unary_cover, merged, merged_table, is_not, cubes_cost, wide_cost, cover_cost, table_cost, cost, literal_sum}
-use Rattle.net_theory.specs.Expansion.{unary_word, binary_word, is_plain}
+use Rattle.net_theory.specs.Expansion.{unary_word, binary_word, is_constant_cover}
 use Rattle.net_theory.specs.Document.{Name, has, is_same, Table, LatchLine, table_output, table_inputs, latch_of, latch_input, latch_output}
 use Rattle.net_theory.specs.NameLaws.{all_at, at_all}
 use Rattle.net_theory.specs.WellFormed.{IsTable, IsFreeOf}
@@ -65,7 +65,7 @@ binary_small w = cond_both _ 0 1 (λ (n : ℕ). n ≤ 1) (λ e. omega arith) (λ
 cubes_small : (c : Cover) → cubes_cost c ≤ 1 + literal_sum c.cubes
 unfolding cubes_cost
 cubes_small c =
-    cond_both (is_plain c.cubes) 0 _ (λ (n : ℕ). n ≤ 1 + literal_sum c.cubes)
+    cond_both (is_constant_cover c.cubes) 0 _ (λ (n : ℕ). n ≤ 1 + literal_sum c.cubes)
     (λ e. omega arith)
     (λ e. cond_both (is_not c.on c.cubes) 1 0 (λ (n : ℕ). (literal_sum c.cubes - 1) + n ≤ 1 + literal_sum c.cubes) (λ f. omega arith) (λ f. omega arith))
 

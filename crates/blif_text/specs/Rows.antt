@@ -22,10 +22,10 @@ row_with cube None = None
 row_with cube (Some on) = Some (record { cube = cube; on = on })
 
 -- the cube and the output value of a cover line, in a table of the given width; None if it is malformed
-unfoldable pub row_in : ℕ → List (List ℕ) → Option CoverRow
-row_in width (value ∷ []) = if width == 0 then row_with [] (bit_in value) else None
-row_in width (cube ∷ value ∷ []) = if is_cube width cube then row_with cube (bit_in value) else None
-row_in width other = None
+unfoldable pub cover_line_in : ℕ → List (List ℕ) → Option CoverRow
+cover_line_in width (value ∷ []) = if width == 0 then row_with [] (bit_in value) else None
+cover_line_in width (cube ∷ value ∷ []) = if is_cube width cube then row_with cube (bit_in value) else None
+cover_line_in width other = None
 
 abbrev pub agrees : Bool → Bool → Bool
 agrees true on = on
@@ -46,4 +46,4 @@ with_row line t (Some row) = if nat_le most_cubes (length t.cover.cubes) then Er
 -- Adds a cover line to a table. A malformed line is refused first, then a line past the 4,096th, then an output
 -- value that differs from that of the table's first line.
 unfoldable pub row_of : ℕ → Table → List (List ℕ) → Result Table NetError
-row_of line t words = with_row line t (row_in t.cover.width words)
+row_of line t words = with_row line t (cover_line_in t.cover.width words)

@@ -18,7 +18,7 @@ use Rattle.blif_text.specs.declared.keywords.BlifKeyword.TheVariants.{Model, Inp
 use Rattle.blif_text.specs.Logical.{Logical}
 use Rattle.blif_text.specs.Words.{words_of, has_long}
 use Rattle.net_document.specs.Contents.{is_nothing}
-use Rattle.blif_text.specs.Rows.{CoverRow, bit_in, row_with, row_in, agrees, with_row, row_of}
+use Rattle.blif_text.specs.Rows.{CoverRow, bit_in, row_with, cover_line_in, agrees, with_row, row_of}
 use Rattle.blif_text.specs.Latches.{LatchTail, trigger_in, init_in, tail_with, with_control, tail_by, tail_by_both, tail_in, latch_with, latch_of}
 use Rattle.blif_text.specs.Statements.{Said, closed, are_names, with_model, prefix_of, last_of, empty_table, table_of}
 use Rattle.blif_text.specs.Statements.{with_table, with_latch, directed, covered, after_end, begins_dot, keyword_of}
@@ -118,8 +118,8 @@ with_fits width words cube (Some on) row is size e =
       cube_in None = []
       cube_in (Some r) = r.cube
 
-row_fits : (width : ℕ) (words : List (List ℕ)) (row : CoverRow) → row_in width words ≡ Some row → FitsRow width words row
-unfolding row_in
+row_fits : (width : ℕ) (words : List (List ℕ)) (row : CoverRow) → cover_line_in width words ≡ Some row → FitsRow width words row
+unfolding cover_line_in
 row_fits width [] row e = absurd cc
 row_fits width (v ∷ []) row e =
     cond_both (width == 0) (row_with [] (bit_in v)) None (λ (r : Option CoverRow). r ≡ Some row → FitsRow width (v ∷ []) row)
@@ -180,7 +180,7 @@ with_row_fine line t words (Some row) is fits =
 
 row_fine : (line : ℕ) (t : Table) (words : List (List ℕ)) → IsCubeTable t → IfOk (row_of line t words) (IsMore t words)
 unfolding row_of
-row_fine line t words is = with_row_fine line t words (row_in t.cover.width words) is (λ row e. row_fits t.cover.width words row e)
+row_fine line t words is = with_row_fine line t words (cover_line_in t.cover.width words) is (λ row e. row_fits t.cover.width words row e)
 
 -- ---- latches
 

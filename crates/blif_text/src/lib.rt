@@ -11,7 +11,7 @@ mod keywords;
 mod latches;
 mod logical;
 mod reading;
-mod rows;
+mod cover_lines;
 mod statements;
 mod walking;
 mod words;

@@ -1,5 +1,5 @@
 //! Logical lines: a line that ends with `\` is continued by the next one. The content of a line follows the rules
-//! shared by the netlist formats (`net_text`).
+//! shared by the netlist formats (`net_document`).
 
 ghost use Rattle.std.specs.Prelude.{◌≡◌, ◌+◌, ◌≤◌, ◌<◌, ◌^◌, length, IfOk, IfSome};
 ghost use Rattle.blif_text.specs.Logical.{logical_of};

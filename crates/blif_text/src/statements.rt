@@ -17,7 +17,7 @@ use crate::keywords::{BlifKeyword, keyword_of};
 use crate::latches::latch_of;
 use crate::logical::LogicalLine;
 use crate::reading::{Control, CoverTable, Reading};
-use crate::rows::take_row;
+use crate::cover_lines::take_cover_line;
 use crate::words::{add_words, are_names, count_words, has_long, is_word, next_word};
 use net_document::{Cover, LatchLine, Name, NetError, Trigger, add_copies, is_long_line, is_name};
 use net_theory::MOST_TABLE_INPUTS;
@@ -241,7 +241,7 @@ fn cover(alloc: Global, line: u32, reading: &mut Reading, text: &[u8]) -> Result
     ensures { Gives (λ _. reading.new) result (covered line reading.old reading.old.current (words_of text.now)) }
 {
     match &mut reading.current {
-        Some(table) => take_row(alloc, line, table, text),
+        Some(table) => take_cover_line(alloc, line, table, text),
         None => Err(NetError::Syntax(line)),
     }
 }

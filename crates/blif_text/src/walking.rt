@@ -38,7 +38,7 @@ fn take_lines(alloc: Global, reading: &mut Reading, bytes: &[u8]) -> Result<(), 
 
 /// The parser state at the end of a text.
 #[tactic(auto, unfolding(crate::specs::Statements::said_of))]
-pub fn read_said(alloc: Global, bytes: &[u8]) -> Result<Reading, NetError>
+pub fn parse_all(alloc: Global, bytes: &[u8]) -> Result<Reading, NetError>
     requires { length bytes.now < 2 ^ 31 }
     ensures { Gives (λ r. r) result (said_of bytes.now) }
 {
@@ -135,7 +135,7 @@ pub fn read_listed(alloc: Global, bytes: &[u8]) -> Result<Listed, NetError>
     ensures few { IfOk result (λ l. length l.document.tables ≤ length bytes.now) }
     ensures small { IfOk result (λ l. 2 * source_count l.document + cost l.document ≤ length bytes.now) }
 {
-    let reading = read_said(alloc, bytes)?;
+    let reading = parse_all(alloc, bytes)?;
     check_controls(alloc, &reading)?;
     Ok(listed_by(reading))
 }

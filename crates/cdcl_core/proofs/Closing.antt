@@ -4,7 +4,7 @@ use Rattle.sat_theory.specs.Formula.{Formula}
 use Rattle.sat_theory.specs.Line.{Line}
 use Rattle.sat_theory.specs.Log.{additions, HasEmpty, Refutes, ReachesBudget, KeepsHalf}
 use Rattle.cdcl_core.specs.declared.search.Search.{Search}
-use Rattle.cdcl_core.specs.Searching.{IsAccounted, AreNew}
+use Rattle.cdcl_core.specs.Searching.{IsAccounted, AreUnsubsumed}
 use Rattle.cdcl_core.specs.SearchEnds.{HasRefuted, HasReachedBudget}
 use Rattle.cdcl_core.specs.Reduction.{with_deletion, MoreDeleted}
 use Rattle.cdcl_core.proofs.Gone.{additions_gone, new_gone, reaches_gone, log_kept}
@@ -19,7 +19,7 @@ refuted_thin f s t refuted gone accounted = record {
 pub spent_thin : (f : Formula) (budget : ℕ) (s t : Search) → HasReachedBudget f budget s → MoreDeleted s.lines t.lines → IsAccounted f t → (Contains f.clauses [] → ⊥) → ReachesBudget f t.lines budget
 spent_thin f budget s t spent gone accounted none =
     log_spent f t.clauses t.lines t.deleted t.least budget accounted.log
-    (subst (λ (ls : List Line). AreNew f ls) (sym gone.is) (new_gone f s.lines gone.own gone.ids spent.logged.new))
+    (subst (λ (ls : List Line). AreUnsubsumed f ls) (sym gone.is) (new_gone f s.lines gone.own gone.ids spent.logged.new))
     none
     (subst (λ (ls : List Line). budget ≤ additions ls) (sym gone.is)
     (let same : additions (with_deletion s.lines gone.own gone.ids) ≡ additions s.lines =

@@ -11,7 +11,7 @@ use Rattle.std.proofs.lemmas.List.Quantifiers.{all_pairs_push}
 use Rattle.sat_theory.specs.Formula.{Formula}
 use Rattle.sat_theory.specs.Line.{Line, Delete, IsId}
 use Rattle.sat_theory.specs.State.{State, by_id, start, next, without, is_listed}
-use Rattle.sat_theory.specs.Log.{after, EachLine, IsStep, AddsUnsubsumed, AddsEmpty, added_ids, additions, live_additions, HasEmpty, SparesFormula, DeletesQuarter, KeepsHalf}
+use Rattle.sat_theory.specs.Log.{after, EachLine, IsStep, AddsUnsubsumed, AddsEmpty, added_ids, additions, live_additions, HasEmpty, SparesFormula, BoundsLiveAdditions, KeepsHalf}
 use Rattle.sat_theory.specs.FewAdditions.{AddsSome}
 use Rattle.sat_theory.specs.LogLaws.{after-push, EachLine-push, EachLine-front, EachLine-last, added_ids-delete}
 use Rattle.clause_db.specs.Sorted.{sorted}
@@ -19,7 +19,7 @@ use Rattle.clause_db.specs.Stored.{Stored, live_in, IsStored}
 use Rattle.clause_db.specs.StoredLaws.{live_inside}
 use Rattle.clause_db.specs.Deleting.{IsDeleted}
 use Rattle.clause_db.specs.DeletingLaws.{still_live, kept_live}
-use Rattle.cdcl_core.specs.Searching.{IsShownAs, IsStateOf, IsLog, AreNew}
+use Rattle.cdcl_core.specs.Searching.{IsShownAs, IsStateOf, IsLog, AreUnsubsumed}
 use Rattle.cdcl_core.specs.Reduction.{with_deletion}
 use Rattle.cdcl_core.proofs.Formulas.{by_id_inside}
 use Rattle.cdcl_core.proofs.Counts.{AreFrom, count_dropped, count_none}
@@ -284,7 +284,7 @@ pub additions_gone : (lines : List Line) (own : ℕ) (ids : List ℕ) → additi
 additions_gone lines own [] = refl
 additions_gone lines own (x ∷ xs) = additions_delete lines own (x ∷ xs)
 
-pub new_gone : (f : Formula) (lines : List Line) (own : ℕ) (ids : List ℕ) → AreNew f lines → AreNew f (with_deletion lines own ids)
+pub new_gone : (f : Formula) (lines : List Line) (own : ℕ) (ids : List ℕ) → AreUnsubsumed f lines → AreUnsubsumed f (with_deletion lines own ids)
 new_gone f lines own [] are = are
 new_gone f lines own (x ∷ xs) are = record {
   fresh = EachLine-push AddsUnsubsumed (start f) lines (Delete own (x ∷ xs)) are.fresh tt;
@@ -309,10 +309,10 @@ log_kept f s lines deleted least log enough =
     let half : 2 * deleted ≤ additions lines = ⊎_elim (λ (low : 2 * deleted ≤ least). omega (arith, low, enough)) (λ (half : 2 * deleted ≤ additions lines). half) log.half in
     omega (arith, all, half)
 
--- A log with few enough live additions is thinned.
-pub log_thinned : (f : Formula) (s : Stored) (lines : List Line) (deleted least : ℕ) → IsLog f s lines deleted least →
-    (length f.clauses + 4 * (deleted + s.vars + slack) < length s.clauses → ⊥) → DeletesQuarter f lines
-log_thinned f s lines deleted least log meet_final_bound = record {
+-- A log with few enough live additions is live_bounded.
+pub log_live_bounded : (f : Formula) (s : Stored) (lines : List Line) (deleted least : ℕ) → IsLog f s lines deleted least →
+    (length f.clauses + 4 * (deleted + s.vars + slack) < length s.clauses → ⊥) → BoundsLiveAdditions f lines
+log_live_bounded f s lines deleted least log meet_final_bound = record {
   spares = log.spares;
   few =
       (let all : live_additions (after (start f) lines) lines + deleted ≡ additions lines = live_are f s lines deleted least log in

@@ -8,7 +8,7 @@ use Rattle.sat_theory.specs.Formula.{variable, opposite, IsClause}
 use Rattle.cdcl_theory.specs.Propagation.{IsFalsifiedUpTo, Implies, IsSettled, IsFalsified}
 use Rattle.cdcl_theory.specs.Trails.{TrailState, falsified_at, IsTrail}
 use Rattle.clause_db.specs.Members.{AreMembersOf, all_of_members}
-use Rattle.cdcl_core.specs.ClauseStatuses.{IsLeft}
+use Rattle.cdcl_core.specs.ClauseStatuses.{IsUnit}
 
 -- the literal at one of the first i indices has no value, and all others there are false
 pub record IsOneLeft (positions : ℤ → ℕ) (lits : List ℤ) (i : ℕ) (l : ℤ) : Type 0 where
@@ -74,7 +74,7 @@ seen_left positions lits i l within at up free seen = record {
 pub seen_all : (positions : ℤ → ℕ) (lits : List ℤ) (i : ℕ) → length lits ≤ i → HasSeen positions lits i None → All (λ m. 0 < positions m) lits
 seen_all positions lits i done seen = λ k d low. seen.each k d (omega arith)
 
-pub seen_one : (positions : ℤ → ℕ) (lits : List ℤ) (i : ℕ) (l : ℤ) → length lits ≤ i → HasSeen positions lits i (Some l) → IsLeft positions lits l
+pub seen_one : (positions : ℤ → ℕ) (lits : List ℤ) (i : ℕ) (l : ℤ) → length lits ≤ i → HasSeen positions lits i (Some l) → IsUnit positions lits l
 seen_one positions lits i l done seen = record {
   there = (seen.index, seen.inside, seen.here l);
   up = seen.up;
@@ -112,7 +112,7 @@ pub ruleset judging = (common_steps, seen_none, seen_down, seen_left, seen_all, 
 
 -- The unit clause is the reason of its literal.
 pub left_implies : (live : ℕ → Option (List ℤ)) (t : TrailState) (id : ℕ) (row : List ℤ) (l : ℤ) → IsTrail t →
-    AreMembersOf live id row → IsLeft (falsified_at t) row l → Implies live (falsified_at t) (length t.lits) l id
+    AreMembersOf live id row → IsUnit (falsified_at t) row l → Implies live (falsified_at t) (length t.lits) l id
 left_implies live t id row l trail read left = record {
   clause = read.clause;
   is_live = read.is_live;

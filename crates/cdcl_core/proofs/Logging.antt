@@ -21,7 +21,7 @@ use Rattle.clause_db.specs.Stored.{Stored, live_at, live_in, IsStored, none_stor
 use Rattle.clause_db.specs.StoredLaws.{live_in-add, live_in-start, live_inside, live_added, added_old, added_new, added_cases, all_added-vars}
 use Rattle.cdcl_core.specs.declared.search.Search.{Search}
 use Rattle.cdcl_core.specs.declared.deciding.DecisionHeap.{DecisionHeap}
-use Rattle.cdcl_core.specs.Searching.{IsShownAs, IsStateOf, IsLog, AreNew, IsCovered, AreCovered, IsLogged}
+use Rattle.cdcl_core.specs.Searching.{IsShownAs, IsStateOf, IsLog, AreUnsubsumed, IsCovered, AreCovered, IsLogged}
 use Rattle.cdcl_core.proofs.Formulas.{by_id_inside, All-self}
 use Rattle.cdcl_core.proofs.Beginning.{count_begun}
 use Rattle.cdcl_core.proofs.Counts.{count_pushed}
@@ -195,7 +195,7 @@ new_in_state f s st lits state covered new id clause is inside =
 
 -- it isn't empty either
 pub new_added : (f : Formula) (s : Search) (id : ℕ) (lits : List ℤ) (hints : List ℕ) → IsLogged f s →
-    IsUnsubsumed (live_in s.clauses) lits → 0 < length lits → AreNew f (s.lines ++ Add id lits hints ∷ [])
+    IsUnsubsumed (live_in s.clauses) lits → 0 < length lits → AreUnsubsumed f (s.lines ++ Add id lits hints ∷ [])
 new_added f s id lits hints logged new some = record {
   fresh = EachLine-push AddsUnsubsumed (start f) s.lines (Add id lits hints) logged.new.fresh (new_in_state f s (after (start f) s.lines) lits logged.log.state logged.covered new);
   some = All-push AddsSome s.lines (Add id lits hints) logged.new.some some;
@@ -262,7 +262,7 @@ log_begun f least = record {
   half = inl (omega arith);
 }
 
-pub new_begun : (f : Formula) → AreNew f []
+pub new_begun : (f : Formula) → AreUnsubsumed f []
 unfolding EachLine
 new_begun f = record { fresh = tt; some = All-nil AddsSome }
 

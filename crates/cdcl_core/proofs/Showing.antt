@@ -6,14 +6,14 @@ use Rattle.std.proofs.lemmas.List.Elements.{All-contains, All-cons, All-nil}
 use Rattle.sat_theory.specs.Formula.{variable, opposite, Formula, IsFormula, IsClause, IsWithin, bits_of, literal_value, IsTrueClause, Satisfies}
 use Rattle.sat_theory.specs.Line.{Line, Add, Delete}
 use Rattle.sat_theory.specs.State.{State, start}
-use Rattle.sat_theory.specs.Log.{EachLine, IsStep, AddsEmpty, additions, Refutes, ReachesBudget, DeletesQuarter, SparesFormula, after, added_ids, live_additions}
+use Rattle.sat_theory.specs.Log.{EachLine, IsStep, AddsEmpty, additions, Refutes, ReachesBudget, BoundsLiveAdditions, SparesFormula, after, added_ids, live_additions}
 use Rattle.sat_theory.specs.FewAdditions.{AddsSome}
 use Rattle.cdcl_theory.specs.Propagation.{AllSettled, IsSettled}
 use Rattle.cdcl_theory.specs.Trails.{TrailState, falsified_at}
 use Rattle.clause_db.specs.Stored.{Stored, live_in, IsStored}
 use Rattle.trail_core.specs.Values.{Follows, HaveValues}
 use Rattle.cdcl_core.specs.declared.search.Search.{Search}
-use Rattle.cdcl_core.specs.Searching.{IsLog, AreNew, IsCovered, IsLogged}
+use Rattle.cdcl_core.specs.Searching.{IsLog, AreUnsubsumed, IsCovered, IsLogged}
 use Rattle.cdcl_core.proofs.Formulas.{named}
 use Rattle.std.specs.Prelude.{Result, Ok, Err, IfOk}
 use Rattle.sat_solve.specs.declared.solver.Solved.{Solved}
@@ -79,7 +79,7 @@ not_both (Delete id ids) some empty = empty
 
 -- A log of at least `budget` additions reaches the budget.
 pub log_spent : (f : Formula) (s : Stored) (lines : List Line) (deleted least budget : ℕ) →
-    IsLog f s lines deleted least → AreNew f lines → (Contains f.clauses [] → ⊥) → budget ≤ additions lines →
+    IsLog f s lines deleted least → AreUnsubsumed f lines → (Contains f.clauses [] → ⊥) → budget ≤ additions lines →
     ReachesBudget f lines budget
 log_spent f s lines deleted least budget log new none enough = record {
   holds = log.holds;
@@ -94,8 +94,8 @@ unfolding added_ids
 nothing f = (let none : live_additions (after (start f) []) [] ≡ 0 = refl in omega (arith, none))
 
 -- Without lines there is nothing to delete.
-pub thinned_at_once : (f : Formula) (lines : List Line) → lines ≡ [] → DeletesQuarter f lines
-thinned_at_once f lines none = rw none (record { spares = All-nil (SparesFormula f); few = nothing f })
+pub live_bounded_at_once : (f : Formula) (lines : List Line) → lines ≡ [] → BoundsLiveAdditions f lines
+live_bounded_at_once f lines none = rw none (record { spares = All-nil (SparesFormula f); few = nothing f })
 
 -- A log that reaches a budget reaches smaller ones.
 pub spent_less : (f : Formula) (lines : List Line) (less more : ℕ) → less ≤ more → ReachesBudget f lines more → ReachesBudget f lines less

@@ -2,13 +2,13 @@
 use Rattle.std.proofs.Common.{◌≡◌, ℕ, ◌+◌, ◌<◌, ◌∙◌, ℤ, List, [], length, Some, subst, sym, ap, arith, refl}
 use Rattle.sat_theory.specs.Formula.{Formula}
 use Rattle.sat_theory.specs.Line.{Line}
-use Rattle.sat_theory.specs.Log.{DeletesQuarter}
+use Rattle.sat_theory.specs.Log.{BoundsLiveAdditions}
 use Rattle.clause_db.specs.Stored.{Stored, live_in}
 use Rattle.cdcl_core.specs.declared.search.Search.{Search}
-use Rattle.cdcl_core.specs.Searching.{IsSearching, HasWatchInvariant, IsLog, AreNew, AreCovered, IsAccounted, IsLogged}
+use Rattle.cdcl_core.specs.Searching.{IsSearching, HasWatchInvariant, IsLog, AreUnsubsumed, AreCovered, IsAccounted, IsLogged}
 use Rattle.cdcl_core.specs.Reduction.{with_deletion, IsPending, ExceedsFinalBound, HasReduced}
 use Rattle.cdcl_core.proofs.Logging.{covered_same}
-use Rattle.cdcl_core.proofs.Gone.{new_gone, log_thinned, log_all_gone}
+use Rattle.cdcl_core.proofs.Gone.{new_gone, log_live_bounded, log_all_gone}
 
 -- nothing is deleted yet
 pub pending_none : (f : Formula) (s : Search) (ids : List ℕ) → ids ≡ [] → IsAccounted f s → IsPending f s ids
@@ -34,10 +34,10 @@ pub logged_written : (f : Formula) (a s t : Search) (ids : List ℕ) → IsLogge
     t ≡ record s { lines = t.lines } → IsLogged f t
 logged_written f a s t ids logged covered before pending lines same =
     let accounted : IsAccounted f t = accounted_written f s t ids pending lines same in
-    let old : AreNew f s.lines = subst (λ (ls : List Line). AreNew f ls) (sym before) logged.new in
+    let old : AreUnsubsumed f s.lines = subst (λ (ls : List Line). AreUnsubsumed f ls) (sym before) logged.new in
     record {
       log = accounted.log;
-      new = subst (λ (ls : List Line). AreNew f ls) (sym lines) (new_gone f s.lines (length s.clauses.clauses) ids old);
+      new = subst (λ (ls : List Line). AreUnsubsumed f ls) (sym lines) (new_gone f s.lines (length s.clauses.clauses) ids old);
       given = accounted.given;
       covered = covered_same f s t covered (ap (λ (x : Search). x.clauses.clauses) same) (ap (λ (x : Search). x.given) same) (ap (λ (x : Search). x.shorter) same);
     }
@@ -103,11 +103,11 @@ logged_after f a b same logged = subst (λ (x : Search). IsLogged f x) (sym same
       covered_same f a (record a { clause_scores = b.clause_scores }) logged.covered refl refl refl;
 })
 
--- A log with few enough live additions is thinned.
-pub thinned_written : (f : Formula) (s t : Search) → (ExceedsFinalBound s → ⊥) → t ≡ record s { lines = t.lines } → IsAccounted f t → DeletesQuarter f t.lines
-thinned_written f s t meet_final_bound same accounted =
+-- A log with few enough live additions is live_bounded.
+pub live_bounded_written : (f : Formula) (s t : Search) → (ExceedsFinalBound s → ⊥) → t ≡ record s { lines = t.lines } → IsAccounted f t → BoundsLiveAdditions f t.lines
+live_bounded_written f s t meet_final_bound same accounted =
     let still : ExceedsFinalBound t → ⊥ = subst (λ (x : Search). ExceedsFinalBound x → ⊥) (sym same) meet_final_bound in
-    log_thinned f t.clauses t.lines t.deleted t.least accounted.log (λ less. still (omega (arith, less, accounted.given)))
+    log_live_bounded f t.clauses t.lines t.deleted t.least accounted.log (λ less. still (omega (arith, less, accounted.given)))
 
 -- If all additions are deleted, few enough are live.
 pub thin_at_end : (f : Formula) (s : Search) (ids : List ℕ) → IsPending f s ids → ((id : ℕ) (clause : List ℤ) → s.given < id → live_in s.clauses id ≡ Some clause → ⊥) → ExceedsFinalBound s → ⊥

@@ -60,7 +60,7 @@ pub record MayDelete (s : Search) (id : ℕ) : Type 0 where
 abbrev pub ExceedsFinalBound : Search → Type 0
 ExceedsFinalBound s = s.given + 4 * (s.deleted + s.clauses.vars + slack) < length s.clauses.clauses
 
--- too many additions are live for that bound (IsThick) during a search, when the irredundant ones, which are
+-- too many additions are live for that bound (`ExceedsFinalBound`) during a search, when the irredundant ones, which are
 -- never deleted, don't count
 abbrev pub ExceedsBound : Search → Type 0
 ExceedsBound s = s.given + (s.shorter.high - s.shorter.low) + 4 * (s.deleted + s.clauses.vars + slack) < length s.clauses.clauses

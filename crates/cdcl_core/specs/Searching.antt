@@ -52,8 +52,8 @@ pub record IsLog (f : Formula) (clauses : Stored) (lines : List theory.Line) (de
   pub gone : live_additions (after (start f) lines) lines + deleted ≡ additions lines
   pub half : (2 * deleted ≤ least) ⊎ (2 * deleted ≤ additions lines)
 
--- each addition is a clause with a literal that no live clause subsumes
-pub record AreNew (f : Formula) (lines : List theory.Line) : Type 0 where
+-- each addition is a nonempty clause that no live clause subsumed when it was added
+pub record AreUnsubsumed (f : Formula) (lines : List theory.Line) : Type 0 where
   pub fresh : EachLine AddsUnsubsumed (start f) lines
   pub some : All AddsSome lines
 
@@ -82,7 +82,7 @@ pub record IsAccounted (f : Formula) (s : Search) : Type 0 where
 -- moreover the log hasn't added the empty clause, and the live clauses imply the formula's
 pub record IsLogged (f : Formula) (s : Search) : Type 0 where
   pub log : IsLog f s.clauses s.lines s.deleted s.least
-  pub new : AreNew f s.lines
+  pub new : AreUnsubsumed f s.lines
   pub given : s.given ≡ length f.clauses
   pub covered : AreCovered f s
 

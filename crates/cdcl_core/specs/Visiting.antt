@@ -8,8 +8,8 @@ use Rattle.clause_db.specs.Stored.{Stored, live_in, Watches, rewatched}
 use Rattle.clause_db.specs.Moving.{IsMovable}
 use Rattle.clause_db.specs.declared.lists.Watch.{Watch}
 use Rattle.cdcl_core.specs.WatchInvariant.{HasTrueAt}
-use Rattle.cdcl_core.specs.declared.visiting.Fate.{Fate}
-use Rattle.cdcl_core.specs.declared.visiting.Fate.TheVariants.{Kept, Moved, Falsified}
+use Rattle.cdcl_core.specs.declared.visiting.Visited.{Visited}
+use Rattle.cdcl_core.specs.declared.visiting.Visited.TheVariants.{Kept, Moved, Falsified}
 
 -- the id at an index in the watch list of a literal
 abbrev pub id_at : Stored → ℤ → ℕ → ℕ
@@ -43,7 +43,7 @@ pub record IsFound (a b : Stored) (s t : TrailState) (id : ℕ) : Type 0 where
   pub same_trail : t ≡ s
   pub falsified : IsFalsified (live_in b) (falsified_at t) id
 
-abbrev pub IsFate : Stored → Stored → TrailState → TrailState → ℤ → ℕ → Fate → Type 0
+abbrev pub IsFate : Stored → Stored → TrailState → TrailState → ℤ → ℕ → Visited → Type 0
 IsFate a b s t l index Kept = KeepsWatch a b s t l index
 IsFate a b s t l index Moved = IsMoved a b s t l index
 IsFate a b s t l index (Falsified id) = IsFound a b s t id

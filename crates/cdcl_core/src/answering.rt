@@ -1,7 +1,7 @@
 //! The answers of the solver, from the end of its search.
 ghost use Rattle.std.specs.Prelude.{◌≡◌, ℕ, ◌+◌, ◌*◌, ◌^◌, ◌<◌, ◌≤◌, [], length, max, Contains, IfOk};
 ghost use Rattle.sat_theory.specs.Formula.{Formula, IsFormula, bits_of, Satisfies};
-ghost use Rattle.sat_theory.specs.Log.{Refutes, ReachesBudget, KeepsHalf, DeletesQuarter};
+ghost use Rattle.sat_theory.specs.Log.{Refutes, ReachesBudget, KeepsHalf, BoundsLiveAdditions};
 ghost use Rattle.sat_theory.specs.Limits.{most_conflicts};
 ghost use Rattle.sat_solve.specs.Answering.{IfSat, IfUnsat, IfOpen, IfLogged, IsDecided};
 ghost use Rattle.clause_db.specs.Stored.{IsStored};
@@ -27,7 +27,7 @@ fn decide_rest(search: &mut Search, alloc: Global, budget: u32) -> Result<Solved
     ensures open { (f : Formula) → IsLogged f search.old → (Contains f.clauses [] → ⊥) →
         IfOk result (λ s. IfOpen s (λ lines. ReachesBudget f lines (max search.old.least budget))) }
     ensures kept { (f : Formula) → IsLogged f search.old → IfOk result (λ s. IfOpen s (KeepsHalf f)) }
-    ensures thinned { (f : Formula) → IsLogged f search.old → IfOk result (λ s. IfLogged s (DeletesQuarter f)) }
+    ensures live_bounded { (f : Formula) → IsLogged f search.old → IfOk result (λ s. IfLogged s (BoundsLiveAdditions f)) }
     ensures decides { (f : Formula) → IsLogged f search.old → (Contains f.clauses [] → ⊥) →
         2 * 3 ^ f.vars ≤ max search.old.least budget → IfOk result IsDecided }
 {
@@ -55,8 +55,8 @@ pub(crate) fn conclude(
         IfOk result (λ s. IfOpen s (λ lines. ReachesBudget f lines (max least budget))) }
     ensures kept { (f : Formula) (least : ℕ) → FitsStatusOf f least search.old status →
         IfOk result (λ s. IfOpen s (KeepsHalf f)) }
-    ensures thinned { (f : Formula) (least : ℕ) → FitsStatusOf f least search.old status →
-        IfOk result (λ s. IfLogged s (DeletesQuarter f)) }
+    ensures live_bounded { (f : Formula) (least : ℕ) → FitsStatusOf f least search.old status →
+        IfOk result (λ s. IfLogged s (BoundsLiveAdditions f)) }
     ensures decides { (f : Formula) (least : ℕ) → FitsStatusOf f least search.old status →
         2 * 3 ^ f.vars ≤ max least budget → IfOk result IsDecided }
 {
@@ -83,7 +83,7 @@ fn answer(search: &mut Search, alloc: Global, budget: u32) -> Result<Solved, All
     ensures open { (f : Formula) → IsLogged f search.old → (Contains f.clauses [] → ⊥) →
         IfOk result (λ s. IfOpen s (λ lines. ReachesBudget f lines budget)) }
     ensures kept { (f : Formula) → IsLogged f search.old → IfOk result (λ s. IfOpen s (KeepsHalf f)) }
-    ensures thinned { (f : Formula) → IsLogged f search.old → IfOk result (λ s. IfLogged s (DeletesQuarter f)) }
+    ensures live_bounded { (f : Formula) → IsLogged f search.old → IfOk result (λ s. IfLogged s (BoundsLiveAdditions f)) }
     ensures decides { (f : Formula) → IsLogged f search.old → (Contains f.clauses [] → ⊥) → 2 * 3 ^ f.vars ≤ budget →
         IfOk result IsDecided }
 {
@@ -102,7 +102,7 @@ fn log_of(search: &mut Search, alloc: Global) -> Result<Log, AllocError>
         IfOk result (λ log. ReachesBudget f log budget) }
     ensures kept { (f : Formula) (budget : ℕ) → HasReachedBudget f budget search.old →
         IfOk result (λ log. KeepsHalf f log) }
-    ensures thinned { (f : Formula) → IsAccounted f search.old → IfOk result (λ log. DeletesQuarter f log) }
+    ensures live_bounded { (f : Formula) → IsAccounted f search.old → IfOk result (λ log. BoundsLiveAdditions f log) }
 {
     search.meet_final_bound()?;
     Ok(mem::replace(&mut search.lines, Log::new(alloc)))

@@ -29,7 +29,7 @@ const SCALE: u64 = 1 << 40;
 const INCREMENT_DIVISOR: u64 = 1000;
 
 /// Clauses over at most this number of levels (LBD) are never candidates.
-const FEW_LEVELS: u32 = 4;
+const LOW_LBD: u32 = 4;
 
 /// Clauses with a part in one of this number of last conflicts are no candidates.
 const RECENT: usize = 2000;
@@ -56,13 +56,13 @@ struct ClauseScore {
     activity: u64,
     /// the number of the last conflict in which it had a part
     used: u32,
-    /// the number of levels of its literals when it was learnt (LBD), capped at `FEW_LEVELS` + 1
-    levels: u32,
+    /// the number of levels of its literals when it was learnt (LBD), capped at `LOW_LBD` + 1
+    lbd: u32,
 }
 
 /// A candidate for deletion.
 #[derive(Clone, Copy)]
-struct Candidate {
+struct DeletionCandidate {
     activity: u64,
     id: u32,
 }
@@ -150,14 +150,14 @@ impl ClauseScores {
     }
 
     /// The number of levels of a learnt clause (LBD): those of its false literals, and one for the level of
-    /// the conflict. It stops counting above `FEW_LEVELS`.
+    /// the conflict. It stops counting above `LOW_LBD`.
     fn levels(&mut self, trail: &Trail, starts: &[usize], lits: &[Lit]) -> u32
         requires { IsWithin trail.now.vars lits.now }
     {
         let number = self.clause_scores.len() + 1;
         let mut levels = 1u32;
         for lit in lits {
-            if levels > FEW_LEVELS {
+            if levels > LOW_LBD {
                 return levels;
             }
             let place = trail.falsified_at(*lit) as usize;
@@ -250,7 +250,7 @@ impl ClauseScores {
             return None;
         }
         let clause_score = self.clause_scores[index];
-        if clause_score.levels <= FEW_LEVELS
+        if clause_score.levels <= LOW_LBD
             || clause_score.used as usize + RECENT >= self.conflicts
         {
             return None;
@@ -263,11 +263,11 @@ impl ClauseScores {
     }
 
     /// The candidates in the order of ids.
-    fn candidates(&self, alloc: Global, clauses: &ClauseDb) -> Result<Vec<Candidate>, AllocError> {
+    fn candidates(&self, alloc: Global, clauses: &ClauseDb) -> Result<Vec<DeletionCandidate>, AllocError> {
         let mut candidates = Vec::new(alloc);
         for index in 0..self.clause_scores.len() {
             if let Some(clause_score) = self.candidate_at(clauses, index) {
-                candidates.push(Candidate {
+                candidates.push(DeletionCandidate {
                     activity: clause_score.activity,
                     id: self.id(index),
                 })?;
@@ -297,7 +297,7 @@ impl ClauseScores {
 }
 
 /// The median activity of the candidates: half of them have less.
-fn middle(alloc: Global, candidates: &[Candidate]) -> Result<Option<u64>, AllocError> {
+fn middle(alloc: Global, candidates: &[DeletionCandidate]) -> Result<Option<u64>, AllocError> {
     let mut activities = Vec::with_capacity(alloc, candidates.len())?;
     for candidate in candidates {
         activities.push(candidate.activity)?;

@@ -10,7 +10,7 @@
 //! match Cdcl::solve(alloc, &cnf, 100000)? {
 //!     Solved::Sat(assign) => ..,   // satisfied(&cnf, &assign)
 //!     Solved::Unsat(log) => ..,    // it adds the empty clause, unless the formula has it
-//!     Solved::Open(log) => ..,     // at least 100000 additions, each of a new clause
+//!     Solved::Open(log) => ..,     // at least 100000 additions, each unsubsumed when added
 //! }
 //! ```
 //!
@@ -46,7 +46,7 @@
 //! | `unassign_all` | unassign everything, level 0 too |
 //! | log, line, hint | LRAT proof, step, antecedent id |
 //! | `KeepsHalf` | at least half of the additions are live at the end |
-//! | `DeletesQuarter`, `meet_final_bound` | at most about three quarters are; the deletions at the end for that |
+//! | `BoundsLiveAdditions`, `meet_final_bound` | at most about three quarters are; the deletions at the end for that |
 //! | `SearchEnd`: `Satisfied`, `Refuted`, `BudgetReached` | SAT, UNSAT, limit reached |
 //! | `KeepsWatchInvariant`, `HasWatchInvariant` | watch invariant; it up to `head` |
 //! | `IsSettled` | a clause is neither unit nor falsified |

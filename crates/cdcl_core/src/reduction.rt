@@ -7,7 +7,7 @@
 //! few enough.
 ghost use Rattle.std.specs.Prelude.{◌≡◌, ◌+◌, ◌*◌, ◌<◌, ◌↔◌, length, IsTrue, IsFalse, IsSome, OnOk};
 ghost use Rattle.sat_theory.specs.Formula.{Formula, IsWithin};
-ghost use Rattle.sat_theory.specs.Log.{DeletesQuarter};
+ghost use Rattle.sat_theory.specs.Log.{BoundsLiveAdditions};
 ghost use Rattle.clause_db.specs.Stored.{live_in, IsStored};
 ghost use Rattle.cdcl_core.specs.Reduction.{NoneImplied, SomeImplied};
 ghost use Rattle.sat_theory.specs.Limits.{slack};
@@ -20,8 +20,8 @@ use trail_core::Trail;
 /// A log may have four times as many additions as deleted ones, variables and this number together.
 const SLACK: u64 = sat_theory::SLACK as u64;
 
-/// The least number of clauses deleted at once when too many are live, if so many may be: so the scan over
-/// all clauses is rare.
+/// If too many clauses are live, at least this many are deleted in one scan (if deletable), so that scans are
+/// rare.
 const LEAST_DELETED: usize = 1000;
 
 /// Whether the additions, without the `standing` irredundant ones, are more than four times the deleted ones,
@@ -301,7 +301,7 @@ impl Search {
         ensures gone { OnOk result (MoreDeleted self.old.lines self.new.lines) }
         ensures least { OnOk result (self.new.least ≡ self.old.least) }
         ensures accounted { (f : Formula) → IsAccounted f self.old → OnOk result (IsAccounted f self.new) }
-        ensures thinned { (f : Formula) → IsAccounted f self.old → OnOk result (DeletesQuarter f self.new.lines) }
+        ensures live_bounded { (f : Formula) → IsAccounted f self.old → OnOk result (BoundsLiveAdditions f self.new.lines) }
     {
         let mut gone = Vec::new(*self.starts.allocator());
         self.delete_to_final_bound(&mut gone)?;

@@ -1,11 +1,11 @@
 //! The decision variables of a call under assumptions. The variables of the assumptions are decision
-//! variables, and once a decision variable has a value, the fanins of its gate become decision variables too
-//! (the lazy cone of a gate), unless the value is one of level 0. Of those without a value, one of greatest
+//! variables. Justification: once a decision variable has a value, the fanins of its gate become decision variables
+//! too (the J-frontier moves to them), unless the value is one of level 0. Of those without a value, one of greatest
 //! rank is decided first: the last gate in topological order, if each gate ranks above its fanins. Everything
 //! else is left to propagation. A variable is called open while it is a decision variable of the current
 //! call.
 //!
-//! A call has a work limit: the trail literals looked at and the hints of learnt clauses are counted, since a
+//! A call has a work limit: the trail literals propagated (ticks) and the hints of learnt clauses are counted, since a
 //! few conflicts far from the assumptions may cost as much as many.
 //!
 //! The contracts promise only that a decision has no value: which variable is decided has no effect on
@@ -41,7 +41,7 @@ pub(crate) struct Scope {
     pub(crate) fixed: usize,
     /// the work list of `open`: variables still to be added
     pub(crate) left: Vec<u32>,
-    /// the number of trail literals that the current call looked at
+    /// the number of trail literals that the current call propagated
     pub(crate) seen: u64,
     /// the number of hints of all clauses learnt before the call
     pub(crate) hints: u64,

@@ -26,7 +26,7 @@ use trail_core::Trail;
 /// it.
 const FIRST_CONFLICTS: u32 = 300;
 
-/// The greatest number of clauses of a formula that is strengthened, and of strengthened clauses added.
+/// Larger formulas aren't strengthened, and at most this many strengthened clauses are added.
 const MOST_STRENGTHENED: u32 = 400_000;
 
 /// An id that no clause gets.

@@ -20,7 +20,7 @@ use std::alloc::AllocError;
 use trail_core::Trail;
 
 /// The outcome of a visit of a clause.
-pub(crate) enum Fate {
+pub(crate) enum Visited {
     /// It has a true literal, and keeps its watch.
     Kept,
     /// It watches another literal.
@@ -71,7 +71,7 @@ fn visit(
     clauses: &mut ClauseDb,
     falsified: Lit,
     index: usize,
-) -> Result<Fate, AllocError>
+) -> Result<Visited, AllocError>
     requires whole { IsTrail trail.old }
     requires stored { IsStored clauses.old }
     requires vars { clauses.old.vars ≡ trail.old.vars }
@@ -86,18 +86,18 @@ fn visit(
     let other = other_watch(lits, falsified);
     if trail.falsified_at(other.opposite()) > 0 {
         clauses.set_blocker(falsified, index, other);
-        return Ok(Fate::Kept);
+        return Ok(Visited::Kept);
     }
     if let Some(found) = find_replacement(trail, lits, 2) {
         clauses.rewatch_at(falsified, index, found.lit, found.place)?;
-        return Ok(Fate::Moved);
+        return Ok(Visited::Moved);
     }
     let id = clauses.id_at(falsified, index);
     if trail.falsified_at(other) > 0 {
-        return Ok(Fate::Falsified(id));
+        return Ok(Visited::Falsified(id));
     }
     trail.push(other, id)?;
-    Ok(Fate::Kept)
+    Ok(Visited::Kept)
 }
 
 /// The first index from `from` on whose blocking literal isn't true.
@@ -137,12 +137,12 @@ fn visit_watching(
     let mut index = 0;
     while let Some(next) = first_unblocked(trail, clauses.watching(falsified), index) {
         match visit(trail, clauses, falsified, next)? {
-            Fate::Kept => index = next + 1,
-            Fate::Moved => {
+            Visited::Kept => index = next + 1,
+            Visited::Moved => {
                 index = next;
                 continue;
             }
-            Fate::Falsified(id) => return Ok(Some(id)),
+            Visited::Falsified(id) => return Ok(Some(id)),
         }
     }
     Ok(None)

@@ -15,8 +15,8 @@ use Rattle.lrat_check.specs.Judging.{line_fault}
 use Rattle.lrat_check.specs.Seen.{Refuses}
 use Rattle.lrat_check.specs.declared.error.CheckError.{CheckError}
 use Rattle.lrat_check.specs.declared.error.CheckError.TheVariants.{UnknownId, NotUnit, NoConflict, UnknownDelete, IdNotGreater, UnknownVariable, Memory}
-use Rattle.cert_theory.specs.declared.data.Ended.{Ended}
-use Rattle.cert_theory.specs.declared.data.Ended.TheVariants.{Refuted, Open}
+use Rattle.cert_theory.specs.declared.data.LogEnd.{LogEnd}
+use Rattle.cert_theory.specs.declared.data.LogEnd.TheVariants.{Refuted, Open}
 use Rattle.cert_theory.specs.declared.data.SubproblemError.{SubproblemError}
 use Rattle.cert_theory.specs.declared.data.SubproblemError.TheVariants.{NotNew}
 use Rattle.cert_theory.specs.Gives.{◌>>=◌, SubproblemFails}
@@ -30,15 +30,15 @@ use Rattle.cert_file.specs.declared.subproblem.SubproblemReader.{SubproblemReade
 use Rattle.cert_file.specs.declared.subproblem.SubproblemStep.{SubproblemStep}
 
 -- a line that can be read
-abbrev after_spelling : Formula → Ended → List theory.Line → theory.Line → Result theory.Line SubproblemError
+abbrev after_spelling : Formula → LogEnd → List theory.Line → theory.Line → Result theory.Line SubproblemError
 after_spelling f ended log line = refused (line_fault (state_after f log) line) line >>= λ held. or_not_new ended (state_after f log) held
 
-logged_is : (f : Formula) (ended : Ended) (log : List theory.Line) (l : Line) (line : theory.Line) → spelled_in l ≡ Ok line → logged_in f ended log l ≡ after_spelling f ended log line
+logged_is : (f : Formula) (ended : LogEnd) (log : List theory.Line) (l : Line) (line : theory.Line) → spelled_in l ≡ Ok line → logged_in f ended log l ≡ after_spelling f ended log line
 unfolding logged_in
 logged_is f ended log l line e = ap (λ (r : Result theory.Line SubproblemError). r >>= after_spelling f ended log) e
 
 -- a line that can't be parsed
-pub unspelled : (f : Formula) (ended : Ended) (log : List theory.Line) (l : Line) (e : SubproblemError) → SubproblemFails e (spelled_in l) → SubproblemFails e (logged_in f ended log l)
+pub unspelled : (f : Formula) (ended : LogEnd) (log : List theory.Line) (l : Line) (e : SubproblemError) → SubproblemFails e (spelled_in l) → SubproblemFails e (logged_in f ended log l)
 unfolding logged_in
 unspelled f ended log l e fails = subproblem_fails_bind e (spelled_in l) (after_spelling f ended log) fails
 
@@ -68,7 +68,7 @@ refusal_fails (UnknownVariable v) e o line next claim is =
 refusal_fails Memory e o line next claim is = subst (λ (d : SubproblemError). SubproblemFails d (refused o line >>= next)) (sym is) tt
 
 -- a line that doesn't hold
-pub refused_line : (f : Formula) (ended : Ended) (log : List theory.Line) (l : Line) (line : theory.Line) (c : Checked)
+pub refused_line : (f : Formula) (ended : LogEnd) (log : List theory.Line) (l : Line) (line : theory.Line) (c : Checked)
     (fault : CheckError) (e : SubproblemError) → spelled_in l ≡ Ok line → HasAccepted f log c →
     Refuses fault (line_fault (state_of c) line) → IsRefusal fault e → SubproblemFails e (logged_in f ended log l)
 refused_line f ended log l line c fault e spelled accepted claim is =
@@ -83,13 +83,13 @@ fresh_is f log c (theory.Add id lits hints) b accepted new =
     at ∙ ap (λ (s : State). is_fresh s (theory.Add id lits hints)) accepted.state
 fresh_is f log c (theory.Delete id ids) b accepted new = new
 
-allowed_is : (f : Formula) (ended : Ended) (log : List theory.Line) (c : Checked) (line : theory.Line) (b : Bool) →
+allowed_is : (f : Formula) (ended : LogEnd) (log : List theory.Line) (c : Checked) (line : theory.Line) (b : Bool) →
     HasAccepted f log c → MayAdd c ended line b → or_not_new ended (state_after f log) line ≡
     cond b (Ok line) (Err NotNew)
 allowed_is f Refuted log c line b accepted may = sym (ap (λ (x : Bool). cond x (Ok line) (Err NotNew)) may)
 allowed_is f Open log c line b accepted may = ap (λ (x : Bool). cond x (Ok line) (Err NotNew)) (sym (fresh_is f log c line b accepted may))
 
-pub held_line : (f : Formula) (ended : Ended) (log : List theory.Line) (l : Line) (line : theory.Line) (c : Checked)
+pub held_line : (f : Formula) (ended : LogEnd) (log : List theory.Line) (l : Line) (line : theory.Line) (c : Checked)
     (b : Bool) → spelled_in l ≡ Ok line → HasAccepted f log c → line_fault (state_of c) line ≡ None →
     MayAdd c ended line b → logged_in f ended log l ≡ cond b (Ok line) (Err NotNew)
 held_line f ended log l line c b spelled accepted claim may =
@@ -128,7 +128,7 @@ abbrev one_more : theory.Line → Result (Option theory.Line) SubproblemError
 one_more line = Ok (Some line)
 
 -- a line is either of the two
-by_test : (f : Formula) (conflicts : ℕ) (ended : Ended) (log : List theory.Line) (l : Line) (done : Bool) →
+by_test : (f : Formula) (conflicts : ℕ) (ended : LogEnd) (log : List theory.Line) (l : Line) (done : Bool) →
     is_line done_text l ≡ done → subproblem_in f conflicts ended log l ≡
     cond done (done_in f conflicts ended log >>= stop) (logged_in f ended log l >>= one_more)
 unfolding subproblem_in
@@ -150,27 +150,27 @@ done_goes f conflicts log reader l reading is closes =
     by_test f conflicts reader.ended log l true is
     ∙ ap (λ (r : Result (Unit {0}) SubproblemError). r >>= stop) (closed_is f conflicts log reader reading ∙ closes)
 
-pub logged_fails : (f : Formula) (conflicts : ℕ) (ended : Ended) (log : List theory.Line) (l : Line)
+pub logged_fails : (f : Formula) (conflicts : ℕ) (ended : LogEnd) (log : List theory.Line) (l : Line)
     (e : SubproblemError) → is_line done_text l ≡ false → SubproblemFails e (logged_in f ended log l) →
     SubproblemFails e (subproblem_in f conflicts ended log l)
 logged_fails f conflicts ended log l e is fails =
     subproblem_fails_is e _ _ (by_test f conflicts ended log l false is) (subproblem_fails_bind e (logged_in f ended log l) one_more fails)
 
-pub logged_goes : (f : Formula) (conflicts : ℕ) (ended : Ended) (log : List theory.Line) (l : Line)
+pub logged_goes : (f : Formula) (conflicts : ℕ) (ended : LogEnd) (log : List theory.Line) (l : Line)
     (line : theory.Line) → is_line done_text l ≡ false → logged_in f ended log l ≡ Ok line →
     subproblem_in f conflicts ended log l ≡ Ok (Some line)
 logged_goes f conflicts ended log l line is read = by_test f conflicts ended log l false is ∙ ap (λ (r : Result theory.Line SubproblemError). r >>= one_more) read
 
 -- ---- faults that are passed on
 
-pub logged_err : (r : Result ℕ SubproblemError) (e : SubproblemError) (f : Formula) (ended : Ended)
+pub logged_err : (r : Result ℕ SubproblemError) (e : SubproblemError) (f : Formula) (ended : LogEnd)
     (log : List theory.Line) (l : Line) (c : Checked) → IsErrAnd r (λ d. d ≡ e) →
     SubproblemFails e (logged_in f ended log l) → IsLogged f ended log l c r
 logged_err (Ok added) e f ended log l c is fails = absurd is
 logged_err (Err d) e f ended log l c is fails = subst (λ (x : SubproblemError). SubproblemFails x (logged_in f ended log l)) (sym is) fails
 
 pub fed_err : (r : Result SubproblemStep SubproblemError) (e : SubproblemError) (f : Formula) (conflicts : ℕ)
-    (ended : Ended) (log : List theory.Line) (l : Line) → IsErrAnd r (λ d. d ≡ e) →
+    (ended : LogEnd) (log : List theory.Line) (l : Line) → IsErrAnd r (λ d. d ≡ e) →
     SubproblemFails e (subproblem_in f conflicts ended log l) → IsFed f conflicts ended log l r
 fed_err (Ok step) e f conflicts ended log l is fails = absurd is
 fed_err (Err d) e f conflicts ended log l is fails = subst (λ (x : SubproblemError). SubproblemFails x (subproblem_in f conflicts ended log l)) (sym is) fails

@@ -8,7 +8,7 @@ use Rattle.enc_theory.specs.declared.subproblem.Subproblem.{Subproblem}
 use Rattle.enc_theory.specs.declared.subproblem.Subproblem.TheVariants.{Whole, Levels}
 use Rattle.cert_theory.specs.Certificate.{formula_of}
 use Rattle.cert_theory.specs.declared.data.Header.{Header}
-use Rattle.cert_theory.specs.declared.data.Ended.{Ended}
+use Rattle.cert_theory.specs.declared.data.LogEnd.{LogEnd}
 use Rattle.cert_theory.specs.declared.data.Verdict.{Verdict}
 use Rattle.cert_theory.specs.declared.data.CertificateError.{CertificateError}
 use Rattle.cert_theory.specs.declared.data.CertificateError.TheVariants.{Syntax}
@@ -35,20 +35,20 @@ pub begun_fails : (h : Header) (number size : ℕ) (low : Option ℕ) (subproble
     sections_of h number (progress size low (Begun subproblem later)) (l ∷ ls) ≡ Err (Syntax number)
 unfolding sections_of
 begun_fails h number size low subproblem later l ls none =
-    ap (λ (o : Option Ended). (or_syntax number o >>= λ ended. come (progress size low (Within subproblem later ended []))) >>= go_on h number ls) none
+    ap (λ (o : Option LogEnd). (or_syntax number o >>= λ ended. come (progress size low (Within subproblem later ended []))) >>= go_on h number ls) none
 
 pub begun_goes : (h : Header) (number size : ℕ) (low : Option ℕ) (subproblem : Subproblem) (later : List Subproblem)
-    (l : Line) (ls : List Line) (ended : Ended) → ended_in l ≡ Some ended →
+    (l : Line) (ls : List Line) (ended : LogEnd) → ended_in l ≡ Some ended →
     sections_of h number (progress size low (Begun subproblem later)) (l ∷ ls) ≡
     sections_of h (number + 1) (progress size low (Within subproblem later ended [])) ls
 unfolding sections_of
 begun_goes h number size low subproblem later l ls ended e =
-    ap (λ (o : Option Ended). (or_syntax number o >>= λ ended. come (progress size low (Within subproblem later ended []))) >>= go_on h number ls) e
+    ap (λ (o : Option LogEnd). (or_syntax number o >>= λ ended. come (progress size low (Within subproblem later ended []))) >>= go_on h number ls) e
 
 -- ---- the lines of a log
 
 pub subproblem_fails : (h : Header) (number size : ℕ) (low : Option ℕ) (subproblem : Subproblem)
-    (later : List Subproblem) (ended : Ended) (log : List theory.Line) (l : Line) (ls : List Line)
+    (later : List Subproblem) (ended : LogEnd) (log : List theory.Line) (l : Line) (ls : List Line)
     (e : SubproblemError) → SubproblemFails e (subproblem_in (formula_of h size subproblem) h.conflicts ended log l) →
     Fails (fault_at number e) (sections_of h number (progress size low (Within subproblem later ended log)) (l ∷ ls))
 unfolding sections_of
@@ -58,7 +58,7 @@ subproblem_fails h number size low subproblem later ended log l ls e fails =
     (fails_bind (fault_at number e) (at_line number read) (λ step. come (after_line size low subproblem later ended log step)) (located_fails number e read fails))
 
 pub subproblem_goes : (h : Header) (number size : ℕ) (low : Option ℕ) (subproblem : Subproblem)
-    (later : List Subproblem) (ended : Ended) (log : List theory.Line) (l : Line) (ls : List Line)
+    (later : List Subproblem) (ended : LogEnd) (log : List theory.Line) (l : Line) (ls : List Line)
     (step : Option theory.Line) → subproblem_in (formula_of h size subproblem) h.conflicts ended log l ≡ Ok step →
     sections_of h number (progress size low (Within subproblem later ended log)) (l ∷ ls) ≡
     sections_of h (number + 1) (after_line size low subproblem later ended log step) ls

@@ -6,7 +6,7 @@ ghost use Rattle.chain_theory.specs.Limits.{most_steps};
 use cert_theory::Header;
 use cnf_core::Cnf;
 use enc_fence::FenceEnc;
-use enc_frame::Encoding;
+use enc_base::Encoding;
 use enc_select::Select;
 use enc_ssv::{Plain, Ssv};
 use enc_theory::Subproblem;

@@ -29,7 +29,7 @@ mod stepping;
 mod subproblem;
 mod trailer;
 
-pub use cert_theory::{CertificateError, Ended, Header, SubproblemError, Verdict};
+pub use cert_theory::{CertificateError, LogEnd, Header, SubproblemError, Verdict};
 pub use checking::check_certificate;
 pub use claim::Claim;
 pub use fence_names::is_fence_name;

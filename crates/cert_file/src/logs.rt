@@ -18,20 +18,20 @@ use crate::lines::{TextLine, fault_at, is_line};
 use crate::sections::due;
 use crate::stage::{Running, Stage};
 use crate::subproblem::{SubproblemReader, SubproblemStep};
-use cert_theory::{CertificateError, Ended};
+use cert_theory::{CertificateError, LogEnd};
 use cnf_core::Cnf;
 use std::alloc::{AllocError, Global};
 
 /// How a log ends, by its first line.
 #[tactic(auto, unfolding(cert_theory::specs::SubproblemLines::ended_in))]
-pub fn ended_in(line: &TextLine) -> Option<Ended>
+pub fn ended_in(line: &TextLine) -> Option<LogEnd>
     ensures { result ≡ subproblems.ended_in (line_of line.now) }
 {
     if is_line(b"refuted", line) {
-        return Some(Ended::Refuted);
+        return Some(LogEnd::Refuted);
     }
     if is_line(b"open", line) {
-        return Some(Ended::Open);
+        return Some(LogEnd::Open);
     }
     None
 }
@@ -67,17 +67,17 @@ pub(crate) fn at_begun(
 }
 
 /// The first open size (or level), updated by the log of one more.
-pub fn low_with(low: Option<u32>, end: Ended, next: u32) -> Option<u32>
+pub fn low_with(low: Option<u32>, end: LogEnd, next: u32) -> Option<u32>
     ensures { result ≡ judging.low_with low end next }
 {
     match (low, end) {
-        (None, Ended::Open) => Some(next),
+        (None, LogEnd::Open) => Some(next),
         _ => low,
     }
 }
 
 /// The state after the log of a subproblem.
-fn following(running: Running, end: Ended) -> Stage
+fn following(running: Running, end: LogEnd) -> Stage
     requires { IsRunning running }
     ensures keeps { (number : ℕ) → IsStage result number }
     ensures stands { (number : ℕ) (ls : List lines.Line) (answer : Answer) →

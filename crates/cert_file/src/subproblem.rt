@@ -14,7 +14,7 @@ ghost use Rattle.cert_theory.specs.SubproblemLines as judging;
 ghost use Rattle.cert_theory.specs.Spelling.{done_text};
 ghost use Rattle.cert_file.specs.Logged.{IsLogged, IsRefusal, MayAdd, added_by, is_unsubsumed_by, IsReading, IsFed};
 
-use cert_theory::{Ended, SubproblemError};
+use cert_theory::{LogEnd, SubproblemError};
 use cnf_core::Cnf;
 use lrat_check::{CheckError, Checker};
 use lrat_text::{Line, LineError, read_line};
@@ -25,7 +25,7 @@ use std::alloc::{AllocError, Global};
 pub struct SubproblemReader {
     pub(crate) checker: Checker,
     /// How the log says that it will end.
-    pub(crate) ended: Ended,
+    pub(crate) ended: LogEnd,
     /// How many more additions an open log needs.
     pub(crate) missing: u32,
 }
@@ -46,7 +46,7 @@ impl SubproblemReader {
         alloc: Global,
         cnf: Cnf,
         conflicts: u32,
-        end: Ended,
+        end: LogEnd,
     ) -> Result<SubproblemReader, AllocError>
         ensures reading { IfOk result (λ reader. IsReading cnf conflicts [] reader) }
         ensures ended { IfOk result (λ reader. reader.ended ≡ end) }
@@ -60,7 +60,7 @@ impl SubproblemReader {
     }
 
     /// How the log says that it will end.
-    pub fn ended(&self) -> Ended
+    pub fn ended(&self) -> LogEnd
         ensures { result ≡ self.now.ended }
     {
         self.ended
@@ -105,12 +105,12 @@ impl SubproblemReader {
 }
 
 /// A checker of a formula. Only open logs need the index for subsumption tests.
-fn checker_of(alloc: Global, cnf: Cnf, end: Ended) -> Result<Checker, AllocError>
+fn checker_of(alloc: Global, cnf: Cnf, end: LogEnd) -> Result<Checker, AllocError>
     ensures { IfOk result (HasAccepted cnf []) }
 {
     match end {
-        Ended::Refuted => Checker::new(alloc, cnf),
-        Ended::Open => Checker::indexed(alloc, cnf),
+        LogEnd::Refuted => Checker::new(alloc, cnf),
+        LogEnd::Open => Checker::indexed(alloc, cnf),
     }
 }
 
@@ -159,12 +159,12 @@ fn added_by(line: &Line) -> u32
 }
 
 /// Whether a log may add what a line adds; only open logs are restricted.
-fn may_add(checker: &Checker, end: Ended, line: &Line) -> bool
+fn may_add(checker: &Checker, end: LogEnd, line: &Line) -> bool
     ensures { MayAdd checker.now end (line_value line.now) result }
 {
     match end {
-        Ended::Refuted => true,
-        Ended::Open => is_unsubsumed(checker, line),
+        LogEnd::Refuted => true,
+        LogEnd::Open => is_unsubsumed(checker, line),
     }
 }
 
@@ -182,7 +182,7 @@ fn refusal(fault: CheckError) -> SubproblemError
 fn logged(
     alloc: Global,
     checker: &mut Checker,
-    end: Ended,
+    end: LogEnd,
     text: &[u8],
     lf: bool,
 ) -> Result<u32, SubproblemError>
@@ -203,16 +203,16 @@ fn logged(
 }
 
 /// Checks at the end of a log: whether there is an empty clause, and whether there are enough additions.
-fn closed(empty: bool, enough: bool, end: Ended) -> Result<(), SubproblemError>
+fn closed(empty: bool, enough: bool, end: LogEnd) -> Result<(), SubproblemError>
     ensures { GivesSubproblem (λ x. x) result (judging.closed empty enough end) }
 {
     match end {
-        Ended::Refuted => {
+        LogEnd::Refuted => {
             if !empty {
                 return Err(SubproblemError::NotRefuted);
             }
         }
-        Ended::Open => {
+        LogEnd::Open => {
             if empty {
                 return Err(SubproblemError::EmptyClauseDerived);
             }

@@ -28,8 +28,8 @@ use Rattle.chain_core.specs.Spelling.{line}
 use Rattle.chain_core.specs.WrittenListLaws.{line_is}
 use Rattle.settings.specs.declared.methods.Method.{Method}
 use Rattle.settings.specs.declared.methods.Method.TheVariants.{Plain, Ssv, Select, Fence}
-use Rattle.cert_theory.specs.declared.data.Ended.{Ended}
-use Rattle.cert_theory.specs.declared.data.Ended.TheVariants as ends
+use Rattle.cert_theory.specs.declared.data.LogEnd.{LogEnd}
+use Rattle.cert_theory.specs.declared.data.LogEnd.TheVariants as ends
 use Rattle.cert_theory.specs.declared.data.SubproblemError.TheVariants as subproblem_errors
 use Rattle.cert_theory.specs.declared.data.Header.{Header}
 use Rattle.settings.specs.Methods.{method_text, method_named}
@@ -159,16 +159,16 @@ size_spells h number size l e =
     let same : read.0 ≡ size = eqb-true _ _ each.0 in
     (halves.1 ∙ ap (λ (n : ℕ). line (codes "size " ++ decimal n)) same, subst (λ (n : ℕ). n ≤ h.max) same (grind (arith, nat_tests)))
 
-pub ended_spells : (l : Line) (ended : Ended) → ended_in l ≡ Some ended → l ≡ line (ended_text ended)
+pub ended_spells : (l : Line) (ended : LogEnd) → ended_in l ≡ Some ended → l ≡ line (ended_text ended)
 unfolding ended_in
 ended_spells l ended e =
     ⊎_elim
     (λ (refuted : (is_line (codes "refuted") l ≡ true) × (Some ends.Refuted ≡ Some ended)). is_line_spells
-    (codes "refuted") l refuted.0 ∙ ap (λ (x : Ended). line (ended_text x)) (some_is ends.Refuted ended refuted.1))
+    (codes "refuted") l refuted.0 ∙ ap (λ (x : LogEnd). line (ended_text x)) (some_is ends.Refuted ended refuted.1))
     (λ (rest : (is_line (codes "refuted") l ≡ false) × (cond (is_line (codes "open") l) (Some ends.Open) None ≡ Some ended)).
     ⊎_elim
     (λ (opened : (is_line (codes "open") l ≡ true) × (Some ends.Open ≡ Some ended)). is_line_spells
-    (codes "open") l opened.0 ∙ ap (λ (x : Ended). line (ended_text x)) (some_is ends.Open ended opened.1))
+    (codes "open") l opened.0 ∙ ap (λ (x : LogEnd). line (ended_text x)) (some_is ends.Open ended opened.1))
     (λ (neither : (is_line (codes "open") l ≡ false) × (None ≡ Some ended)). absurd (let e = neither.1 in cc))
     (chosen (is_line (codes "open") l) (Some ends.Open) None (Some ended) rest.1))
     (chosen (is_line (codes "refuted") l) (Some ends.Refuted) (cond (is_line (codes "open") l) (Some ends.Open) None) (Some ended) e)

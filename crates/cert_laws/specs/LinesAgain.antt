@@ -23,8 +23,8 @@ use Rattle.chain_core.specs.Spelling.{line}
 use Rattle.settings.specs.declared.methods.Method.{Method}
 use Rattle.settings.specs.declared.methods.Method.TheVariants.{Plain, Ssv, Select, Fence}
 use Rattle.cert_theory.specs.declared.data.Header.{Header}
-use Rattle.cert_theory.specs.declared.data.Ended.{Ended}
-use Rattle.cert_theory.specs.declared.data.Ended.TheVariants as ends
+use Rattle.cert_theory.specs.declared.data.LogEnd.{LogEnd}
+use Rattle.cert_theory.specs.declared.data.LogEnd.TheVariants as ends
 use Rattle.cert_theory.specs.declared.data.Verdict.{Verdict}
 use Rattle.cert_theory.specs.declared.data.Verdict.TheVariants as verdicts
 use Rattle.settings.specs.Methods.{method_text, method_named}
@@ -76,7 +76,7 @@ pub size_begins : (size : ℕ) → begins (codes "size ") (line (size_line size)
 unfolding size_line after
 size_begins size = refl
 
-pub ended_again : (ended : Ended) → ended_in (line (ended_text ended)) ≡ Some ended
+pub ended_again : (ended : LogEnd) → ended_in (line (ended_text ended)) ≡ Some ended
 unfolding ended_in
 ended_again ends.Refuted = refl
 ended_again ends.Open = refl

@@ -13,8 +13,8 @@ use Rattle.lrat_check.specs.Judging.{line_fault}
 use Rattle.lrat_check.specs.FaultLaws.{line_holds}
 use Rattle.lrat_check.specs.declared.error.CheckError.{CheckError}
 use Rattle.chain_core.specs.Spelling.{line}
-use Rattle.cert_theory.specs.declared.data.Ended.{Ended}
-use Rattle.cert_theory.specs.declared.data.Ended.TheVariants as ends
+use Rattle.cert_theory.specs.declared.data.LogEnd.{LogEnd}
+use Rattle.cert_theory.specs.declared.data.LogEnd.TheVariants as ends
 use Rattle.cert_theory.specs.declared.data.SubproblemError.{SubproblemError}
 use Rattle.cert_theory.specs.declared.data.SubproblemError.TheVariants.{NotRefuted, EmptyClauseDerived, TooShort, NotNew}
 use Rattle.cert_theory.specs.Certificate.{EndsAs}
@@ -26,15 +26,15 @@ use Rattle.cert_laws.specs.FreshLaws.{IsLow, log_low, fresh_from_test}
 use Rattle.cert_laws.specs.LineSpellings.{log_spells}
 
 -- in an open log no addition is subsumed
-abbrev pub AreFresh : Ended → Formula → List theory.Line → Type 0
+abbrev pub AreFresh : LogEnd → Formula → List theory.Line → Type 0
 AreFresh ends.Refuted f log = Unit {0}
 AreFresh ends.Open f log = EachLine AddsUnsubsumed (start f) log
 
-pub record IsLog (f : Formula) (ended : Ended) (log : List theory.Line) : Type 0 where
+pub record IsLog (f : Formula) (ended : LogEnd) (log : List theory.Line) : Type 0 where
   pub holds : EachLine IsStep (start f) log
   pub fresh : AreFresh ended f log
 
-pub no_log : (f : Formula) (ended : Ended) → IsLog f ended []
+pub no_log : (f : Formula) (ended : LogEnd) → IsLog f ended []
 unfolding EachLine
 no_log f ends.Refuted = record { holds = tt; fresh = tt }
 no_log f ends.Open = record { holds = tt; fresh = tt }
@@ -49,7 +49,7 @@ abbrev pub fine : Result (Unit {0}) SubproblemError
 fine = Ok tt
 
 -- the end of a log
-pub closed_is : (f : Formula) (conflicts : ℕ) (ended : Ended) (log : List theory.Line) → IsLog f ended log → done_in f conflicts ended log ≡ Ok tt → EndsAs f conflicts ended log
+pub closed_is : (f : Formula) (conflicts : ℕ) (ended : LogEnd) (log : List theory.Line) → IsLog f ended log → done_in f conflicts ended log ≡ Ok tt → EndsAs f conflicts ended log
 unfolding done_in
 closed_is f conflicts ends.Refuted log is e =
     let empty = test_ok (has_empty f log) fine NotRefuted tt e in
@@ -73,22 +73,22 @@ refused_ok (Some d) line x e = absurd cc
 line_ok : (line x : theory.Line) → taken line ≡ Ok x → line ≡ x
 line_ok line x e = cc
 
-new_ok : (ended : Ended) (s : State) (line x : theory.Line) → or_not_new ended s line ≡ Ok x → line ≡ x
+new_ok : (ended : LogEnd) (s : State) (line x : theory.Line) → or_not_new ended s line ≡ Ok x → line ≡ x
 new_ok ends.Refuted s line x e = cc
 new_ok ends.Open s line x e = let tests = test_ok (is_fresh s line) (taken line) NotNew x e in line_ok line x tests.1
 
-new_fresh : (ended : Ended) (f : Formula) (log : List theory.Line) (line x : theory.Line) → IsLow (state_after f log) →
+new_fresh : (ended : LogEnd) (f : Formula) (log : List theory.Line) (line x : theory.Line) → IsLow (state_after f log) →
     AreFresh ended f log → or_not_new ended (state_after f log) line ≡ Ok x → AreFresh ended f (log ++ line ∷ [])
 new_fresh ends.Refuted f log line x low fresh e = tt
 new_fresh ends.Open f log line x low fresh e =
     let tests = test_ok (is_fresh (state_after f log) line) (taken line) NotNew x e in
     EachLine-push AddsUnsubsumed (start f) log line fresh (fresh_from_test (state_after f log) line low tests.0)
 
-pub record IsLogged (f : Formula) (ended : Ended) (log : List theory.Line) (l : Line) (x : theory.Line) : Type 0 where
+pub record IsLogged (f : Formula) (ended : LogEnd) (log : List theory.Line) (l : Line) (x : theory.Line) : Type 0 where
   pub log_is : IsLog f ended (log ++ x ∷ [])
   pub line_is : l ≡ log_line x
 
-pub logged_is : (f : Formula) (ended : Ended) (log : List theory.Line) (l : Line) (x : theory.Line) → IsLog f ended log → logged_in f ended log l ≡ Ok x → IsLogged f ended log l x
+pub logged_is : (f : Formula) (ended : LogEnd) (log : List theory.Line) (l : Line) (x : theory.Line) → IsLog f ended log → logged_in f ended log l ≡ Ok x → IsLogged f ended log l x
 unfolding logged_in
 logged_is f ended log l x is e =
     let spelled = bind_ok (spelled_in l) _ x e in

@@ -17,8 +17,8 @@ use Rattle.tt_core.specs.Words.{specification}
 use Rattle.op_basis.specs.Basis.{members}
 use Rattle.enc_theory.specs.declared.subproblem.Subproblem.{Subproblem}
 use Rattle.cert_theory.specs.declared.data.Header.{Header}
-use Rattle.cert_theory.specs.declared.data.Ended.{Ended}
-use Rattle.cert_theory.specs.declared.data.Ended.TheVariants as ends
+use Rattle.cert_theory.specs.declared.data.LogEnd.{LogEnd}
+use Rattle.cert_theory.specs.declared.data.LogEnd.TheVariants as ends
 use Rattle.cert_theory.specs.declared.data.Verdict.{Verdict}
 use Rattle.cert_theory.specs.Coding.{coding_of}
 use Rattle.cert_laws.specs.CodingLaws.{method_is_coding, IsCoding}
@@ -58,7 +58,7 @@ log_of h size (p ∷ ps) subproblem logs none (suc k, within, at) =
     (k, (let more : suc k < suc (length (map subproblem_of ps)) = within in omega arith), at)
 
 -- a log that ends refuted excludes all assignments
-refutes : (h : Header) (size : ℕ) (subproblem : Subproblem) (log : List Line) (ended : Ended) →
+refutes : (h : Header) (size : ℕ) (subproblem : Subproblem) (log : List Line) (ended : LogEnd) →
     is_open_end ended ≡ false → EndsAs (formula_of h size subproblem) h.conflicts ended log →
     Refutes (formula_of h size subproblem) log
 refutes h size subproblem log ends.Refuted is ends_as = ends_as

@@ -15,8 +15,8 @@ use Rattle.chain_core.specs.Spelling.{line}
 use Rattle.enc_theory.specs.declared.subproblem.Subproblem.{Subproblem}
 use Rattle.enc_theory.specs.declared.subproblem.Subproblem.TheVariants.{Whole, Levels}
 use Rattle.cert_theory.specs.declared.data.Header.{Header}
-use Rattle.cert_theory.specs.declared.data.Ended.{Ended}
-use Rattle.cert_theory.specs.declared.data.Ended.TheVariants as ends
+use Rattle.cert_theory.specs.declared.data.LogEnd.{LogEnd}
+use Rattle.cert_theory.specs.declared.data.LogEnd.TheVariants as ends
 use Rattle.cert_theory.specs.declared.data.Verdict.{Verdict}
 use Rattle.cert_theory.specs.declared.data.CertificateError.{CertificateError}
 use Rattle.cert_laws.specs.CodingLaws.{method_is_coding}
@@ -34,11 +34,11 @@ use Rattle.chain_theory.specs.Limits.{most_steps}
 
 -- ---- subproblems
 
-pub log_holds : (f : Formula) (conflicts : ℕ) (ended : Ended) (log : List theory.Line) → EndsAs f conflicts ended log → EachLine IsStep (start f) log
+pub log_holds : (f : Formula) (conflicts : ℕ) (ended : LogEnd) (log : List theory.Line) → EndsAs f conflicts ended log → EachLine IsStep (start f) log
 log_holds f conflicts ends.Refuted log is = is.holds
 log_holds f conflicts ends.Open log is = is.holds
 
-pub log_fresh : (f : Formula) (conflicts : ℕ) (ended : Ended) (log : List theory.Line) → EndsAs f conflicts ended log → WasFresh ended (start f) log
+pub log_fresh : (f : Formula) (conflicts : ℕ) (ended : LogEnd) (log : List theory.Line) → EndsAs f conflicts ended log → WasFresh ended (start f) log
 log_fresh f conflicts ends.Refuted log is = tt
 log_fresh f conflicts ends.Open log is = is.fresh
 
@@ -71,16 +71,16 @@ name_step h number size low sizes later ls =
     sections_of h (number + 1) next ls) (name_again (may_follow (line (fence_text sizes))) sizes)
 
 ended_step : (h : Header) (number size : ℕ) (low : Option ℕ) (subproblem : Subproblem) (later : List Subproblem)
-    (ended : Ended) (ls : List Line) → sections_of h number (progress size low (Begun subproblem later))
+    (ended : LogEnd) (ls : List Line) → sections_of h number (progress size low (Begun subproblem later))
     (line (ended_text ended) ∷ ls) ≡ sections_of h (number + 1) (progress size low (Within subproblem later ended []))
     ls
 unfolding sections_of
 ended_step h number size low subproblem later ended ls =
-    ap (λ (o : Option Ended). (or_syntax number o >>= λ e. come (progress size low (Within subproblem later e []))) >>= λ next. sections_of h (number + 1) next ls) (ended_again ended)
+    ap (λ (o : Option LogEnd). (or_syntax number o >>= λ e. come (progress size low (Within subproblem later e []))) >>= λ next. sections_of h (number + 1) next ls) (ended_again ended)
 
 -- the lines of a log are accepted
 log_again : (h : Header) (number size : ℕ) (low : Option ℕ) (subproblem : Subproblem) (later : List Subproblem)
-    (ended : Ended) (log : List theory.Line) (following : List Line) (v : Verdict) →
+    (ended : LogEnd) (log : List theory.Line) (following : List Line) (v : Verdict) →
     IsFormula (formula_of h size subproblem) → EndsAs (formula_of h size subproblem) h.conflicts ended log →
     Onward h size (low_with low ended size) later following v
     → sections_of h number (progress size low (Begun subproblem later)) (line (ended_text ended) ∷ (map log_line log ++ line done_text ∷ following)) ≡ Ok v
@@ -92,7 +92,7 @@ log_again h number size low subproblem later ended log following v formula is on
 
 -- a subproblem, with its name
 subproblem_again : (subproblem : Subproblem) (h : Header) (number size : ℕ) (low : Option ℕ) (later : List Subproblem)
-    (ended : Ended) (log : List theory.Line) (following : List Line) (v : Verdict) →
+    (ended : LogEnd) (log : List theory.Line) (following : List Line) (v : Verdict) →
     IsFormula (formula_of h size subproblem) → EndsAs (formula_of h size subproblem) h.conflicts ended log →
     Onward h size (low_with low ended size) later following v
     → sections_of h number (before size low (subproblem ∷ later)) (name_lines subproblem ++ (line (ended_text ended) ∷ (map log_line log ++ line done_text ∷ following))) ≡ Ok v

@@ -15,8 +15,8 @@ use Rattle.chain_core.specs.Spelling.{line}
 use Rattle.enc_theory.specs.declared.subproblem.Subproblem.{Subproblem}
 use Rattle.enc_theory.specs.declared.subproblem.Subproblem.TheVariants.{Whole, Levels}
 use Rattle.cert_theory.specs.declared.data.Header.{Header}
-use Rattle.cert_theory.specs.declared.data.Ended.{Ended}
-use Rattle.cert_theory.specs.declared.data.Ended.TheVariants as ends
+use Rattle.cert_theory.specs.declared.data.LogEnd.{LogEnd}
+use Rattle.cert_theory.specs.declared.data.LogEnd.TheVariants as ends
 use Rattle.cert_theory.specs.declared.data.Verdict.{Verdict}
 use Rattle.cert_theory.specs.declared.data.CertificateError.{CertificateError}
 use Rattle.cert_theory.specs.declared.data.SubproblemError.{SubproblemError}
@@ -62,7 +62,7 @@ pub record SubproblemsRest (h : Header) (size : ℕ) (low : Option ℕ) (due : L
   pub rest : Rest h (size + 1) (low_after low size subproblems) following v
   pub lines : ls ≡ flat_map subproblem_lines subproblems ++ following
 
-pub record LogRest (h : Header) (size : ℕ) (low : Option ℕ) (subproblem : Subproblem) (later : List Subproblem) (ended : Ended) (log : List theory.Line) (ls : List Line) (v : Verdict) : Type 0 where
+pub record LogRest (h : Header) (size : ℕ) (low : Option ℕ) (subproblem : Subproblem) (later : List Subproblem) (ended : LogEnd) (log : List theory.Line) (ls : List Line) (v : Verdict) : Type 0 where
   pub more : List theory.Line
   pub ends_as : EndsAs (formula_of h size subproblem) h.conflicts ended (log ++ more)
   pub following : List Line
@@ -70,7 +70,7 @@ pub record LogRest (h : Header) (size : ℕ) (low : Option ℕ) (subproblem : Su
   pub lines : ls ≡ map log_line more ++ line done_text ∷ following
 
 pub record BegunRest (h : Header) (size : ℕ) (low : Option ℕ) (subproblem : Subproblem) (later : List Subproblem) (ls : List Line) (v : Verdict) : Type 0 where
-  pub ended : Ended
+  pub ended : LogEnd
   pub following : List Line
   pub rest : LogRest h size low subproblem later ended [] following v
   pub lines : ls ≡ line (ended_text ended) ∷ following
@@ -121,7 +121,7 @@ low_some low size [] = refl
 low_some low size (p ∷ ps) = low_some low size ps
 
 -- the first open size with a section's subproblems, and those of the sections after it
-low_first : (ended : Ended) (size : ℕ) (ps : List SubproblemLog) (o : Option ℕ) →
+low_first : (ended : LogEnd) (size : ℕ) (ps : List SubproblemLog) (o : Option ℕ) →
     low_or (low_after None size ps) o ≡ cond (any_open ps) (Some size) o →
     low_or (low_after (low_with None ended size) size ps) o ≡ cond (is_open_end ended || any_open ps) (Some size) o
 low_first ends.Refuted size ps o rest = rest
@@ -165,7 +165,7 @@ size_rest h size low l ls v first subproblems =
 -- ---- subproblems
 
 -- the lines of a subproblem, and those after it
-pub subproblem_text : (subproblem : Subproblem) (ended : Ended) (log : List theory.Line) (following : List Line) →
+pub subproblem_text : (subproblem : Subproblem) (ended : LogEnd) (log : List theory.Line) (following : List Line) →
     subproblem_lines (record { subproblem = subproblem; ended = ended; log = log }) ++
     following ≡ name_lines subproblem ++ (line (ended_text ended) ∷ (map log_line log ++ line done_text ∷ following))
 unfolding subproblem_lines
@@ -274,7 +274,7 @@ due_case h number size low sizes later l ls v e =
     record { text = name_spells (may_follow l) sizes l (unit_is name read.0 (located_ok (fault_at number) name read.0 read.1)); next = ap (go_on h number ls) same ∙ next.2 }
 
 record BegunCase (h : Header) (number size : ℕ) (low : Option ℕ) (subproblem : Subproblem) (later : List Subproblem) (l : Line) (ls : List Line) (v : Verdict) : Type 0 where
-  ended : Ended
+  ended : LogEnd
   read : ended_in l ≡ Some ended
   next : sections_of h (number + 1) (progress size low (Within subproblem later ended [])) ls ≡ Ok v
 
@@ -289,13 +289,13 @@ begun_case h number size low subproblem later l ls v e =
     record { ended = read.0; read = read_ok number (ended_in l) read.0 read.1; next = ap (go_on h number ls) same ∙ next.2 }
 
 record DoneCase (h : Header) (number size : ℕ) (low : Option ℕ) (subproblem : Subproblem) (later : List Subproblem)
-    (ended : Ended) (log : List theory.Line) (l : Line) (ls : List Line) (v : Verdict) : Type 0 where
+    (ended : LogEnd) (log : List theory.Line) (l : Line) (ls : List Line) (v : Verdict) : Type 0 where
   is_done : is_line (codes "done") l ≡ true
   closes : done_in (formula_of h size subproblem) h.conflicts ended log ≡ Ok tt
   next : sections_of h (number + 1) (before size (low_with low ended size) later) ls ≡ Ok v
 
 record LoggedCase (h : Header) (number size : ℕ) (low : Option ℕ) (subproblem : Subproblem) (later : List Subproblem)
-    (ended : Ended) (log : List theory.Line) (l : Line) (ls : List Line) (v : Verdict) : Type 0 where
+    (ended : LogEnd) (log : List theory.Line) (l : Line) (ls : List Line) (v : Verdict) : Type 0 where
   x : theory.Line
   read : logged_in (formula_of h size subproblem) ended log l ≡ Ok x
   next : sections_of h (number + 1) (progress size low (Within subproblem later ended (log ++ x ∷ []))) ls ≡ Ok v
@@ -307,7 +307,7 @@ abbrev one_more : theory.Line → Result (Option theory.Line) SubproblemError
 one_more line = Ok (Some line)
 
 -- a line is either of the two
-pub subproblem_done : (f : Formula) (conflicts : ℕ) (ended : Ended) (log : List theory.Line) (l : Line) →
+pub subproblem_done : (f : Formula) (conflicts : ℕ) (ended : LogEnd) (log : List theory.Line) (l : Line) →
     subproblem_in f conflicts ended log l ≡ Ok None → (is_line (codes "done") l ≡ true) ×
     (done_in f conflicts ended log ≡ Ok tt)
 unfolding subproblem_in
@@ -321,7 +321,7 @@ subproblem_done f conflicts ended log l e =
     absurd (let more = read.2 in cc))
     (chosen (is_line (codes "done") l) (done_in f conflicts ended log >>= stop) (logged_in f ended log l >>= one_more) (Ok None) e)
 
-pub subproblem_logged : (f : Formula) (conflicts : ℕ) (ended : Ended) (log : List theory.Line) (l : Line)
+pub subproblem_logged : (f : Formula) (conflicts : ℕ) (ended : LogEnd) (log : List theory.Line) (l : Line)
     (x : theory.Line) → subproblem_in f conflicts ended log l ≡ Ok (Some x) → logged_in f ended log l ≡ Ok x
 unfolding subproblem_in
 subproblem_logged f conflicts ended log l x e =
@@ -338,7 +338,7 @@ subproblem_logged f conflicts ended log l x e =
     one_is y z e = cc
 
 within_step : (h : Header) (number size : ℕ) (low : Option ℕ) (subproblem : Subproblem) (later : List Subproblem)
-    (ended : Ended) (log : List theory.Line) (l : Line) (ls : List Line) (v : Verdict) (step : Option theory.Line)
+    (ended : LogEnd) (log : List theory.Line) (l : Line) (ls : List Line) (v : Verdict) (step : Option theory.Line)
     → subproblem_in (formula_of h size subproblem) h.conflicts ended log l ≡ Ok step →
     sections_of h (number + 1) (after_line size low subproblem later ended log step) ls ≡ Ok v →
     DoneCase h number size low subproblem later ended log l ls v ⊎
@@ -354,7 +354,7 @@ within_step h number size low subproblem later ended log l ls v (Some x) e next 
     })
 
 within_cases : (h : Header) (number size : ℕ) (low : Option ℕ) (subproblem : Subproblem) (later : List Subproblem)
-    (ended : Ended) (log : List theory.Line) (l : Line) (ls : List Line) (v : Verdict) →
+    (ended : LogEnd) (log : List theory.Line) (l : Line) (ls : List Line) (v : Verdict) →
     sections_of h number (progress size low (Within subproblem later ended log)) (l ∷ ls) ≡ Ok v →
     DoneCase h number size low subproblem later ended log l ls v ⊎
     LoggedCase h number size low subproblem later ended log l ls v
@@ -367,7 +367,7 @@ within_cases h number size low subproblem later ended log l ls v e =
     within_step h number size low subproblem later ended log l ls v step.0 (located_ok (fault_at number) read step.0 step.1) (ap (go_on h number ls) same ∙ next.2)
 
 done_rest : (h : Header) (number size : ℕ) (low : Option ℕ) (subproblem : Subproblem) (later : List Subproblem)
-    (ended : Ended) (log : List theory.Line) (l : Line) (ls : List Line) (v : Verdict) →
+    (ended : LogEnd) (log : List theory.Line) (l : Line) (ls : List Line) (v : Verdict) →
     IsLog (formula_of h size subproblem) ended log → DoneCase h number size low subproblem later ended log l ls v →
     SubproblemsRest h size (low_with low ended size) later ls v →
     LogRest h size low subproblem later ended log (l ∷ ls) v
@@ -381,7 +381,7 @@ done_rest h number size low subproblem later ended log l ls v is done rest = rec
 }
 
 logged_rest : (h : Header) (size : ℕ) (low : Option ℕ) (subproblem : Subproblem) (later : List Subproblem)
-    (ended : Ended) (log : List theory.Line) (x : theory.Line) (l : Line) (ls : List Line) (v : Verdict) →
+    (ended : LogEnd) (log : List theory.Line) (x : theory.Line) (l : Line) (ls : List Line) (v : Verdict) →
     l ≡ log_line x → LogRest h size low subproblem later ended (log ++ x ∷ []) ls v →
     LogRest h size low subproblem later ended log (l ∷ ls) v
 logged_rest h size low subproblem later ended log x l ls v first rest = record {

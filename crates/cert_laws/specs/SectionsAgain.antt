@@ -27,8 +27,8 @@ use Rattle.chain_core.specs.Spelling.{line, count_text, step_lines, out_line}
 use Rattle.chain_core.specs.WrittenBlockLaws.{count_at_back, lines_read}
 use Rattle.enc_theory.specs.declared.subproblem.Subproblem.{Subproblem}
 use Rattle.cert_theory.specs.declared.data.Header.{Header}
-use Rattle.cert_theory.specs.declared.data.Ended.{Ended}
-use Rattle.cert_theory.specs.declared.data.Ended.TheVariants as ends
+use Rattle.cert_theory.specs.declared.data.LogEnd.{LogEnd}
+use Rattle.cert_theory.specs.declared.data.LogEnd.TheVariants as ends
 use Rattle.cert_theory.specs.declared.data.Verdict.{Verdict}
 use Rattle.cert_theory.specs.declared.data.CertificateError.{CertificateError}
 use Rattle.cert_theory.specs.declared.data.CertificateError.TheVariants.{SizeOutOfOrder, NotRefuted, WrongVerdict}
@@ -197,21 +197,21 @@ trailer_again h number size low (Some c) v header short is =
 
 -- ---- logs
 
-abbrev pub WasFresh : Ended → State → List theory.Line → Type 0
+abbrev pub WasFresh : LogEnd → State → List theory.Line → Type 0
 WasFresh ends.Refuted s log = Unit {0}
 WasFresh ends.Open s log = EachLine AddsUnsubsumed s log
 
-fresh_first : (ended : Ended) (s : State) (x : theory.Line) (more : List theory.Line) → WasFresh ended s (x ∷ more) → or_not_new ended s x ≡ Ok x
+fresh_first : (ended : LogEnd) (s : State) (x : theory.Line) (more : List theory.Line) → WasFresh ended s (x ∷ more) → or_not_new ended s x ≡ Ok x
 unfolding EachLine
 fresh_first ends.Refuted s x more fresh = refl
 fresh_first ends.Open s x more fresh = ap (λ (t : Bool). let r : Result theory.Line SubproblemError = cond t (Ok x) (Err subproblem_errors.NotNew) in r) (test_from_fresh s x fresh.0)
 
-fresh_more : (ended : Ended) (s : State) (x : theory.Line) (more : List theory.Line) → WasFresh ended s (x ∷ more) → WasFresh ended (next s x) more
+fresh_more : (ended : LogEnd) (s : State) (x : theory.Line) (more : List theory.Line) → WasFresh ended s (x ∷ more) → WasFresh ended (next s x) more
 unfolding EachLine
 fresh_more ends.Refuted s x more fresh = tt
 fresh_more ends.Open s x more fresh = fresh.1
 
-logged_again : (f : Formula) (ended : Ended) (log : List theory.Line) (x : theory.Line) (more : List theory.Line) →
+logged_again : (f : Formula) (ended : LogEnd) (log : List theory.Line) (x : theory.Line) (more : List theory.Line) →
     AreClauses (state_after f log).live → IsStep (state_after f log) x →
     WasFresh ended (state_after f log) (x ∷ more) → logged_in f ended log (log_line x) ≡ Ok x
 unfolding logged_in
@@ -227,7 +227,7 @@ none_false false none = refl
 abbrev fine : Result (Unit {0}) SubproblemError
 fine = Ok tt
 
-done_again : (f : Formula) (conflicts : ℕ) (ended : Ended) (log : List theory.Line) → EndsAs f conflicts ended log → done_in f conflicts ended log ≡ Ok tt
+done_again : (f : Formula) (conflicts : ℕ) (ended : LogEnd) (log : List theory.Line) → EndsAs f conflicts ended log → done_in f conflicts ended log ≡ Ok tt
 unfolding done_in
 done_again f conflicts ends.Refuted log is = ap (λ (t : Bool). cond t fine (Err subproblem_errors.NotRefuted)) (has_is f log is.reaches)
 done_again f conflicts ends.Open log is =
@@ -243,11 +243,11 @@ abbrev one_more : theory.Line → Result (Option theory.Line) SubproblemError
 one_more line = Ok (Some line)
 
 -- the end, and one more line
-pub subproblem_ends : (f : Formula) (conflicts : ℕ) (ended : Ended) (log : List theory.Line) → EndsAs f conflicts ended log → subproblem_in f conflicts ended log (line done_text) ≡ Ok None
+pub subproblem_ends : (f : Formula) (conflicts : ℕ) (ended : LogEnd) (log : List theory.Line) → EndsAs f conflicts ended log → subproblem_in f conflicts ended log (line done_text) ≡ Ok None
 unfolding subproblem_in
 subproblem_ends f conflicts ended log is = ap (λ (r : Result (Unit {0}) SubproblemError). r >>= stop) (done_again f conflicts ended log is)
 
-pub subproblem_goes : (f : Formula) (conflicts : ℕ) (ended : Ended) (log : List theory.Line) (x : theory.Line)
+pub subproblem_goes : (f : Formula) (conflicts : ℕ) (ended : LogEnd) (log : List theory.Line) (x : theory.Line)
     (more : List theory.Line) → AreClauses (state_after f log).live → IsStep (state_after f log) x →
     WasFresh ended (state_after f log) (x ∷ more) → subproblem_in f conflicts ended log (log_line x) ≡ Ok (Some x)
 unfolding subproblem_in
@@ -262,7 +262,7 @@ abbrev come : Progress → Result Progress CertificateError
 come p = Ok p
 
 pub within_again : (more : List theory.Line) (h : Header) (number size : ℕ) (low : Option ℕ) (subproblem : Subproblem)
-    (later : List Subproblem) (ended : Ended) (log : List theory.Line) (following : List Line) (v : Verdict)
+    (later : List Subproblem) (ended : LogEnd) (log : List theory.Line) (following : List Line) (v : Verdict)
     → AreClauses (state_after (formula_of h size subproblem) log).live →
     EachLine IsStep (state_after (formula_of h size subproblem) log) more →
     WasFresh ended (state_after (formula_of h size subproblem) log) more →

@@ -31,8 +31,8 @@ use Rattle.chain_core.specs.WrittenBlockLaws.{lines_back, block_written}
 use Rattle.settings.specs.declared.methods.Method.{Method}
 use Rattle.settings.specs.declared.methods.Method.TheVariants.{Plain, Ssv, Select, Fence}
 use Rattle.cert_theory.specs.declared.data.Header.{Header}
-use Rattle.cert_theory.specs.declared.data.Ended.{Ended}
-use Rattle.cert_theory.specs.declared.data.Ended.TheVariants as ends
+use Rattle.cert_theory.specs.declared.data.LogEnd.{LogEnd}
+use Rattle.cert_theory.specs.declared.data.LogEnd.TheVariants as ends
 use Rattle.cert_theory.specs.declared.data.Verdict.{Verdict}
 use Rattle.cert_theory.specs.declared.data.Verdict.TheVariants as verdicts
 use Rattle.settings.specs.Methods.{method_text}
@@ -189,7 +189,7 @@ unfolding EachLine
 whole_lines s [] each = whole_none
 whole_lines s (l ∷ ls) each = whole_cons (log_line l) (map log_line ls) (whole_log l each.0.is_line) (whole_lines (next s l) ls each.1)
 
-free_ended : (ended : Ended) → is_free 10 (ended_text ended) ≡ true
+free_ended : (ended : LogEnd) → is_free 10 (ended_text ended) ≡ true
 unfolding is_free
 free_ended ends.Refuted = refl
 free_ended ends.Open = refl
@@ -202,7 +202,7 @@ free_end : is_free 10 end_text ≡ true
 unfolding is_free
 free_end = refl
 
-pub whole_ended : (ended : Ended) → IsWhole (line (ended_text ended) ∷ [])
+pub whole_ended : (ended : LogEnd) → IsWhole (line (ended_text ended) ∷ [])
 whole_ended ended = whole_line (ended_text ended) (free_ended ended)
 
 free_sizes : (sizes : List ℕ) → AllByRecursion (λ size. size < 2 ^ 64) sizes → is_free 10 (flat_map (λ size. 32 ∷ decimal size) sizes) ≡ true

@@ -1,4 +1,4 @@
-//! Tests of the public functions of the crates from `bundle_core` to `synth_core`: certificates as texts, judged
+//! Tests of the public functions of the crates from `cert_theory` to `synth_core`: certificates as texts, judged
 //! and written, the log of one subproblem, the search, the cache of decided specifications, and the results of
 //! `synth`.
 #![tactic(auto)]

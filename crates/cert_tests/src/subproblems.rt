@@ -1,5 +1,5 @@
 //! The log of one subproblem, line by line.
-use cert_file::{Ended, SubproblemError, SubproblemReader, SubproblemStep};
+use cert_file::{LogEnd, SubproblemError, SubproblemReader, SubproblemStep};
 use cnf_core::{Clause, Cnf};
 use lrat_check::CheckError;
 use lrat_text::{Line, read_line};
@@ -30,7 +30,7 @@ fn formula(alloc: Global) -> Result<Cnf, AllocError> {
 }
 
 /// A reader of a log over the clauses.
-fn reader(alloc: Global, conflicts: u32, end: Ended) -> Result<SubproblemReader, AllocError> {
+fn reader(alloc: Global, conflicts: u32, end: LogEnd) -> Result<SubproblemReader, AllocError> {
     SubproblemReader::new(alloc, formula(alloc)?, conflicts, end)
 }
 
@@ -58,7 +58,7 @@ fn second(
 /// How a log ends, how many additions an open one needs, two lines, and whether the log continues after them.
 const LOGS: &[(
     &str,
-    Ended,
+    LogEnd,
     u32,
     &[u8],
     &[u8],
@@ -66,7 +66,7 @@ const LOGS: &[(
 )] = &[
     (
         "refuted",
-        Ended::Refuted,
+        LogEnd::Refuted,
         9,
         b"4 0 3 1 2 0",
         b"done",
@@ -74,7 +74,7 @@ const LOGS: &[(
     ),
     (
         "refuted without the empty clause",
-        Ended::Refuted,
+        LogEnd::Refuted,
         9,
         b"4 2 0 1 2 0",
         b"done",
@@ -82,7 +82,7 @@ const LOGS: &[(
     ),
     (
         "open with enough additions",
-        Ended::Open,
+        LogEnd::Open,
         1,
         b"4 2 0 1 2 0",
         b"done",
@@ -90,7 +90,7 @@ const LOGS: &[(
     ),
     (
         "open with too few additions",
-        Ended::Open,
+        LogEnd::Open,
         2,
         b"4 2 0 1 2 0",
         b"done",
@@ -98,7 +98,7 @@ const LOGS: &[(
     ),
     (
         "open with the empty clause",
-        Ended::Open,
+        LogEnd::Open,
         1,
         b"4 0 3 1 2 0",
         b"done",
@@ -106,7 +106,7 @@ const LOGS: &[(
     ),
     (
         "open with a clause that isn't new",
-        Ended::Open,
+        LogEnd::Open,
         1,
         b"4 2 0 1 2 0",
         b"5 2 0 4 0",
@@ -114,7 +114,7 @@ const LOGS: &[(
     ),
     (
         "refuted, with one line more",
-        Ended::Refuted,
+        LogEnd::Refuted,
         1,
         b"4 2 0 1 2 0",
         b"5 2 0 4 0",
@@ -122,7 +122,7 @@ const LOGS: &[(
     ),
     (
         "refuted, with a line that doesn't hold",
-        Ended::Refuted,
+        LogEnd::Refuted,
         1,
         b"4 2 0 1 2 0",
         b"5 0 9 0",
@@ -130,7 +130,7 @@ const LOGS: &[(
     ),
     (
         "refuted, with a line that isn't one of a log",
-        Ended::Refuted,
+        LogEnd::Refuted,
         1,
         b"4 2 0 1 2 0",
         b"refuted",
@@ -141,7 +141,7 @@ const LOGS: &[(
 /// Whether a log of two lines has this answer.
 fn is_read(
     alloc: Global,
-    end: Ended,
+    end: LogEnd,
     conflicts: u32,
     first: &[u8],
     line: &[u8],

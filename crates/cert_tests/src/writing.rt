@@ -1,6 +1,6 @@
 //! Certificates as they are written, piece by piece.
 use cert_text::{write_header, write_section, write_trailer};
-use cert_theory::{Ended, Section, SubproblemLog, Verdict};
+use cert_theory::{LogEnd, Section, SubproblemLog, Verdict};
 use cnf_core::Lit;
 use enc_theory::Subproblem;
 use fence_core::Fence;
@@ -17,12 +17,12 @@ fn section(alloc: Global) -> Result<Section, AllocError> {
     log.add(5, &[Lit::of(2, true)], &[1, 2])?;
     let whole = SubproblemLog {
         subproblem: Subproblem::Whole,
-        ended: Ended::Refuted,
+        ended: LogEnd::Refuted,
         log: Log::new(alloc),
     };
     let fence = SubproblemLog {
         subproblem: Subproblem::Levels(Fence::new(vec![in alloc; 2, 1]?)),
-        ended: Ended::Open,
+        ended: LogEnd::Open,
         log,
     };
     Ok(Section {

@@ -7,7 +7,7 @@ ghost use Rattle.cert_theory.specs.Spelling as spelling;
 ghost use Rattle.cert_text.specs.Texts.{subproblems_text};
 
 use crate::tables::push_numbered;
-use cert_theory::{Ended, Section, SubproblemLog, fence_name};
+use cert_theory::{LogEnd, Section, SubproblemLog, fence_name};
 use enc_theory::Subproblem;
 use log_core::write_log;
 use std::alloc::AllocError;
@@ -29,12 +29,12 @@ fn push_name(text: &mut Vec<u8>, subproblem: &Subproblem) -> Result<(), AllocErr
 }
 
 /// Appends the first line of a log: `refuted` or `open`.
-fn push_ended(text: &mut Vec<u8>, ended: Ended) -> Result<(), AllocError>
+fn push_ended(text: &mut Vec<u8>, ended: LogEnd) -> Result<(), AllocError>
     ensures { OnOk result (text.new.items ≡ text.old.items ++ line_bytes (line (spelling.ended_text ended))) }
 {
     match ended {
-        Ended::Refuted => text.extend_from_slice(b"refuted\n"),
-        Ended::Open => text.extend_from_slice(b"open\n"),
+        LogEnd::Refuted => text.extend_from_slice(b"refuted\n"),
+        LogEnd::Open => text.extend_from_slice(b"open\n"),
     }
 }
 

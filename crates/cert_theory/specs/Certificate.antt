@@ -14,8 +14,8 @@ use Rattle.enc_theory.specs.declared.subproblem.Subproblem.{Subproblem}
 use Rattle.settings.specs.declared.synth.SynthSettings.{SynthSettings}
 use Rattle.settings.specs.Synth.{IsInRange}
 use Rattle.cert_theory.specs.declared.data.Header.{Header}
-use Rattle.cert_theory.specs.declared.data.Ended.{Ended}
-use Rattle.cert_theory.specs.declared.data.Ended.TheVariants as ends
+use Rattle.cert_theory.specs.declared.data.LogEnd.{LogEnd}
+use Rattle.cert_theory.specs.declared.data.LogEnd.TheVariants as ends
 use Rattle.cert_theory.specs.declared.data.Verdict.{Verdict}
 use Rattle.cert_theory.specs.declared.data.Verdict.TheVariants as verdicts
 use Rattle.cert_theory.specs.Coding.{coding_of}
@@ -25,7 +25,7 @@ use Rattle.cert_theory.specs.Coding.{coding_of}
 -- a log over the formula of a subproblem, and how it ends
 pub record SubproblemLog : Type 0 where
   pub subproblem : Subproblem
-  pub ended : Ended
+  pub ended : LogEnd
   pub log : List Line
 
 -- the logs of one size, one for each of its subproblems
@@ -63,7 +63,7 @@ formula_of h size subproblem = (coding_of h.method).formula h.spec h.basis size 
 -- A log that ends refuted refutes the subproblem's formula. A log that ends open holds over it, doesn't reach
 -- the empty clause, and has at least as many additions as the header says, none of them subsumed by a live
 -- clause.
-abbrev pub EndsAs : Formula → ℕ → Ended → List Line → Type 0
+abbrev pub EndsAs : Formula → ℕ → LogEnd → List Line → Type 0
 EndsAs f conflicts ends.Refuted log = Refutes f log
 EndsAs f conflicts ends.Open log = ReachesBudget f log conflicts
 
@@ -84,7 +84,7 @@ unfoldable pub AreSections : Header → ℕ → List Section → Type 0
 AreSections h size [] = Unit {0}
 AreSections h size (s ∷ ss) = IsSection h size s × AreSections h (size + 1) ss
 
-abbrev pub is_open_end : Ended → Bool
+abbrev pub is_open_end : LogEnd → Bool
 is_open_end ends.Refuted = false
 is_open_end ends.Open = true
 

@@ -30,8 +30,8 @@ use Rattle.settings.specs.Methods.{method_named}
 use Rattle.sat_theory.specs.Limits.{most_conflicts}
 use Rattle.chain_theory.specs.Limits.{most_steps}
 use Rattle.cert_theory.specs.declared.data.Header.{Header}
-use Rattle.cert_theory.specs.declared.data.Ended.{Ended}
-use Rattle.cert_theory.specs.declared.data.Ended.TheVariants as ends
+use Rattle.cert_theory.specs.declared.data.LogEnd.{LogEnd}
+use Rattle.cert_theory.specs.declared.data.LogEnd.TheVariants as ends
 use Rattle.cert_theory.specs.declared.data.Verdict.{Verdict}
 use Rattle.cert_theory.specs.declared.data.Verdict.TheVariants as verdicts
 use Rattle.cert_theory.specs.declared.data.CertificateError.{CertificateError}
@@ -156,7 +156,7 @@ pub data SectionState : Type 0 where
   Between : SectionState
   Due : (sizes : List ℕ) (later : List Subproblem) → SectionState
   Begun : (subproblem : Subproblem) (later : List Subproblem) → SectionState
-  Within : (subproblem : Subproblem) (later : List Subproblem) (ended : Ended) (log : List theory.Line) → SectionState
+  Within : (subproblem : Subproblem) (later : List Subproblem) (ended : LogEnd) (log : List theory.Line) → SectionState
 
 -- the current size (or the next), the first open size before it, and the state in its section
 pub record Progress : Type 0 where
@@ -174,7 +174,7 @@ before size low (Whole ∷ later) = record { size = size; low = low; place = Beg
 before size low (Levels sizes ∷ later) = record { size = size; low = low; place = Due sizes later }
 
 -- the first open size, updated by the log of one more subproblem
-abbrev pub low_with : Option ℕ → Ended → ℕ → Option ℕ
+abbrev pub low_with : Option ℕ → LogEnd → ℕ → Option ℕ
 low_with (Some low) ended size = Some low
 low_with None ends.Refuted size = None
 low_with None ends.Open size = Some size
@@ -214,7 +214,7 @@ may_follow l = is_fence_name l || is_some (number_after (codes "size ") l) ||
     is_count (number_after (codes "chain ") l) || is_some (not_found_in l)
 
 -- the state after a line of a log, or after its end
-abbrev pub after_line : ℕ → Option ℕ → Subproblem → List Subproblem → Ended → List theory.Line → Option theory.Line →
+abbrev pub after_line : ℕ → Option ℕ → Subproblem → List Subproblem → LogEnd → List theory.Line → Option theory.Line →
     Progress
 after_line size low subproblem later ended log None = before size (low_with low ended size) later
 after_line size low subproblem later ended log (Some line) =

@@ -1,15 +1,15 @@
 -- Bounds on the live additions of a search's logs, which keep them cheap to check. An open log keeps at least half
--- of its additions live (a refuting log needn't), and every log is thinned: at most about three quarters are live
+-- of its additions live (a refuting log needn't), and every log is live_bounded: at most about three quarters are live
 -- at the end.
 use Rattle.std.specs.Prelude.{ℕ, List, All}
-use Rattle.sat_theory.specs.Log.{HasEmpty, KeepsHalf, DeletesQuarter}
+use Rattle.sat_theory.specs.Log.{HasEmpty, KeepsHalf, BoundsLiveAdditions}
 use Rattle.cert_theory.specs.declared.data.Header.{Header}
 use Rattle.cert_theory.specs.Certificate.{SubproblemLog, Section, formula_of}
 
 -- the bounds of a subproblem's log, over its formula
 pub record HasLiveBounds (h : Header) (size : ℕ) (p : SubproblemLog) : Type 0 where
   pub kept : (HasEmpty (formula_of h size p.subproblem) p.log → ⊥) → KeepsHalf (formula_of h size p.subproblem) p.log
-  pub thinned : DeletesQuarter (formula_of h size p.subproblem) p.log
+  pub live_bounded : BoundsLiveAdditions (formula_of h size p.subproblem) p.log
 
 -- the bounds of all logs of a section
 pub record HasLiveBoundsIn (h : Header) (s : Section) : Type 0 where

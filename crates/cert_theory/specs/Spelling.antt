@@ -30,8 +30,8 @@ use Rattle.enc_theory.specs.declared.subproblem.Subproblem.TheVariants.{Whole, L
 use Rattle.settings.specs.declared.methods.Method.{Method}
 use Rattle.settings.specs.Methods.{method_text}
 use Rattle.cert_theory.specs.declared.data.Header.{Header}
-use Rattle.cert_theory.specs.declared.data.Ended.{Ended}
-use Rattle.cert_theory.specs.declared.data.Ended.TheVariants as ends
+use Rattle.cert_theory.specs.declared.data.LogEnd.{LogEnd}
+use Rattle.cert_theory.specs.declared.data.LogEnd.TheVariants as ends
 use Rattle.cert_theory.specs.declared.data.Verdict.{Verdict}
 use Rattle.cert_theory.specs.declared.data.Verdict.TheVariants as verdicts
 use Rattle.cert_theory.specs.Certificate.{SubproblemLog, Section, Certificate, IsValid, HasOutput}
@@ -82,7 +82,7 @@ unfoldable pub name_lines : Subproblem → List Line
 name_lines Whole = []
 name_lines (Levels sizes) = line (fence_text sizes) ∷ []
 
-abbrev pub ended_text : Ended → List ℕ
+abbrev pub ended_text : LogEnd → List ℕ
 ended_text ends.Refuted = codes "refuted"
 ended_text ends.Open = codes "open"
 

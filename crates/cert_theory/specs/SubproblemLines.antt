@@ -15,8 +15,8 @@ use Rattle.lrat_text.specs.declared.error.LineError.{LineError}
 use Rattle.lrat_check.specs.Checked.{is_empty, adds_empty}
 use Rattle.lrat_check.specs.Judging.{line_fault}
 use Rattle.lrat_check.specs.declared.error.CheckError.{CheckError}
-use Rattle.cert_theory.specs.declared.data.Ended.{Ended}
-use Rattle.cert_theory.specs.declared.data.Ended.TheVariants.{Refuted, Open}
+use Rattle.cert_theory.specs.declared.data.LogEnd.{LogEnd}
+use Rattle.cert_theory.specs.declared.data.LogEnd.TheVariants.{Refuted, Open}
 use Rattle.cert_theory.specs.declared.data.SubproblemError.{SubproblemError}
 use Rattle.cert_theory.specs.declared.data.SubproblemError.TheVariants.{Syntax, StepRefused, NotNew, NotRefuted}
 use Rattle.cert_theory.specs.declared.data.SubproblemError.TheVariants.{TooShort, EmptyClauseDerived}
@@ -36,7 +36,7 @@ name_in follows sizes l = if is_line (fence_text sizes) l then Ok tt
 
 -- ---- how the log ends, by its first line
 
-unfoldable pub ended_in : Line → Option Ended
+unfoldable pub ended_in : Line → Option LogEnd
 ended_in l = if is_line (codes "refuted") l then Some Refuted
     else (if is_line (codes "open") l then Some Open else None)
 
@@ -80,12 +80,12 @@ refused None line = Ok line
 refused (Some e) line = Err (StepRefused e)
 
 -- a log that leaves its subproblem open may add no subsumed clause
-abbrev pub or_not_new : Ended → State → theory.Line → Result theory.Line SubproblemError
+abbrev pub or_not_new : LogEnd → State → theory.Line → Result theory.Line SubproblemError
 or_not_new Refuted s line = Ok line
 or_not_new Open s line = if is_fresh s line then Ok line else Err NotNew
 
 -- one more line of a log: it can be parsed, it holds, and in an open log it adds no subsumed clause
-unfoldable pub logged_in : Formula → Ended → List theory.Line → Line → Result theory.Line SubproblemError
+unfoldable pub logged_in : Formula → LogEnd → List theory.Line → Line → Result theory.Line SubproblemError
 logged_in f ended log l = do
   line ← spelled_in l
   held ← refused (line_fault (state_after f log) line) line
@@ -94,16 +94,16 @@ logged_in f ended log l = do
 -- ---- the end of the log
 
 -- checks at the end: whether there is an empty clause, and whether there are enough additions
-abbrev pub closed : Bool → Bool → Ended → Result Unit SubproblemError
+abbrev pub closed : Bool → Bool → LogEnd → Result Unit SubproblemError
 closed empty enough Refuted = if empty then Ok tt else Err NotRefuted
 closed empty enough Open = if empty then Err EmptyClauseDerived else (if enough then Ok tt else Err TooShort)
 
 -- the line `done`; a log that leaves its subproblem open needs at least `conflicts` additions
-unfoldable pub done_in : Formula → ℕ → Ended → List theory.Line → Result Unit SubproblemError
+unfoldable pub done_in : Formula → ℕ → LogEnd → List theory.Line → Result Unit SubproblemError
 done_in f conflicts ended log = closed (has_empty f log) (nat_le conflicts (length (logs.added_ids log))) ended
 
 -- One more line: a line of the log, or None where it is the log's end.
-unfoldable pub subproblem_in : Formula → ℕ → Ended → List theory.Line → Line →
+unfoldable pub subproblem_in : Formula → ℕ → LogEnd → List theory.Line → Line →
     Result (Option theory.Line) SubproblemError
 subproblem_in f conflicts ended log l =
     if is_line done_text l

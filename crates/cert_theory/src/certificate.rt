@@ -3,7 +3,7 @@ use crate::{Header, Section, Verdict};
 use chain_core::Chain;
 use std::marker::Model;
 
-/// A certificate: the question, the logs of the sizes without a chain, the chain if one was found, and the
+/// A certificate: the header, the logs of the sizes without a chain, the chain if one was found, and the
 /// verdict.
 #[derive(Drop)]
 pub struct Certificate {

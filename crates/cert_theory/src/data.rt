@@ -6,7 +6,7 @@ use settings::Method;
 use std::alloc::{AllocError, AllocFailed};
 use tt_core::Spec;
 
-/// What is searched for: the question of a certificate.
+/// What is searched for: the header of a certificate.
 #[derive(Drop)]
 pub struct Header {
     /// The tables that a chain has to implement.
@@ -15,7 +15,8 @@ pub struct Header {
     pub basis: Basis,
     /// How a size is encoded as formulas.
     pub method: Method,
-    /// The least number of additions in a log that leaves its subproblem open, from 1 to 10,000,000.
+    /// The budget (`--conflicts`), from 1 to 10,000,000: a log that leaves its subproblem open has at least this
+    /// many additions.
     pub conflicts: u32,
     /// The greatest size to try, at most 16.
     pub max: u32,
@@ -23,7 +24,7 @@ pub struct Header {
 
 /// How the log of a subproblem ends.
 #[derive(Clone, Copy)]
-pub enum Ended {
+pub enum LogEnd {
     /// The log refutes the formula.
     Refuted,
     /// The limit was reached; the formula is left open.

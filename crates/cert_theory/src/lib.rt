@@ -29,7 +29,7 @@ mod subproblem_log;
 mod verdicts;
 
 pub use certificate::Certificate;
-pub use data::{CertificateError, Ended, Header, SubproblemError, Verdict};
+pub use data::{CertificateError, LogEnd, Header, SubproblemError, Verdict};
 pub use fence_names::fence_name;
 pub use section::Section;
 pub use subproblem_log::SubproblemLog;

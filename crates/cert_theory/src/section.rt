@@ -2,7 +2,7 @@
 ghost use Rattle.std.specs.Prelude.{◌≡◌};
 ghost use Rattle.cert_theory.specs.Certificate as certificates;
 
-use crate::{Ended, SubproblemLog};
+use crate::{LogEnd, SubproblemLog};
 use std::marker::Model;
 
 /// The logs of one size, one for each of its subproblems, in order.
@@ -27,6 +27,6 @@ impl Section {
     {
         self.subproblems
             .iter()
-            .any(|subproblem| subproblem.ended == Ended::Open)
+            .any(|subproblem| subproblem.ended == LogEnd::Open)
     }
 }

@@ -1,5 +1,5 @@
 //! The log of one subproblem. Contracts see its lines as values of `sat_theory`.
-use crate::Ended;
+use crate::LogEnd;
 use enc_theory::Subproblem;
 use log_core::Log;
 use std::marker::Model;
@@ -8,7 +8,7 @@ use std::marker::Model;
 #[derive(Drop)]
 pub struct SubproblemLog {
     pub subproblem: Subproblem,
-    pub ended: Ended,
+    pub ended: LogEnd,
     pub log: Log,
 }
 

@@ -19,7 +19,7 @@ use std::alloc::Global;
 use std::marker::PhantomData;
 
 /// Dispatches a command to its crate.
-fn obey<S: Source, O: Sink, N: Sink>(
+fn dispatch<S: Source, O: Sink, N: Sink>(
     alloc: Global,
     command: Command,
     source: &mut S,
@@ -87,5 +87,5 @@ pub fn run<S: Source, O: Sink, N: Sink>(
         report_error(note, &ErrorLine::plain(b"Usage"));
         return Status::Usage;
     };
-    obey(alloc, command, source, out, note)
+    dispatch(alloc, command, source, out, note)
 }

@@ -9,7 +9,7 @@ ghost use Rattle.frame_core.specs.declared.status.Status.TheVariants.{Done};
 ghost use Rattle.frame_core.specs.Task.{Task, HasReply};
 ghost use Rattle.frame_core.specs.Views.{Judges};
 
-use frame_core::{Ended, Refusal, Reply, Status, Stop, StreamJob, finish};
+use frame_core::{RunEnd, Refusal, Reply, Status, Stop, StreamJob, finish};
 use line_reader::{LineStage, PieceReader};
 use port_io::Sink;
 use std::alloc::{AllocError, Global};
@@ -160,7 +160,7 @@ impl<K: CertificateKind> StreamJob for Recheck<K> {
         kept: Reading<K::Lines>,
         out: &mut O,
         note: &mut N,
-    ) -> Ended {
+    ) -> RunEnd {
         finish(reply_of(alloc, &self.0, kept), out, note)
     }
 }

@@ -15,17 +15,17 @@ use Rattle.synth_core.specs.Certifying.{IsCertificate}
 use Rattle.synth_core.specs.declared.pieces.Piece.{Piece}
 use Rattle.synth_core.specs.declared.pieces.Piece.TheVariants as pieces
 use Rattle.synth_core.specs.Pieces.{IsInProgress, IsNextPiece}
-use Rattle.frame_core.specs.declared.replies.Ended.{Ended}
-use Rattle.frame_core.specs.declared.replies.Ended.TheVariants as ended
+use Rattle.frame_core.specs.declared.replies.RunEnd.{RunEnd}
+use Rattle.frame_core.specs.declared.replies.RunEnd.TheVariants as ended
 use Rattle.frame_core.specs.declared.status.Status.{Status}
 use Rattle.frame_core.specs.Outside.{PortState, IsFaultless}
 use Rattle.frame_core.specs.Task.{HasReply}
-use Rattle.frame_core.specs.Run.{IsLeft}
+use Rattle.frame_core.specs.Run.{IsTruncatedOutput}
 use Rattle.frame_core.specs.Performing.{Answers}
 use Rattle.frame_core.specs.PerformingLaws.{left_of, begun_left_of, answered, pieces_sent, pieces_truncated, pieces_out_of_memory}
 use Rattle.cmd_lines.specs.TableLines.{most_of_tables}
 use Rattle.cmd_synth.specs.SynthReport.{verdict_status, BeginsCertificate, synth_reply, synth_task}
-use Rattle.cmd_synth.specs.SynthWriting.{IsOut, GoesOut}
+use Rattle.cmd_synth.specs.SynthWriting.{IsOut, HasEndedAs}
 use Rattle.cmd_synth.specs.CertifiedLaws.{certified}
 
 -- ---- what was written
@@ -77,20 +77,20 @@ certified_by settings bytes before s verdict piece text steps is under = subst (
 -- ---- what is left
 
 out_of_memory_left : (settings : SynthSettings) (bytes : List ℕ) (s : State) (first now : PortState) →
-    length bytes ≤ most_of_tables → IsOut settings bytes first now s → IsLeft (synth_task settings) bytes first now
+    length bytes ≤ most_of_tables → IsOut settings bytes first now s → IsTruncatedOutput (synth_task settings) bytes first now
 out_of_memory_left settings bytes s first now within out =
     begun_left_of (synth_task settings) bytes out.text first now (begins settings bytes out.text s within out.in_progress) (prefix_whole first.bytes now.bytes out.text out.on_out)
 
 -- memory ran out
 pub out_of_memory_out : (settings : SynthSettings) (bytes : List ℕ) (s : State) (first now : PortState) →
     length bytes ≤ most_of_tables → IsOut settings bytes first now s →
-    GoesOut settings bytes ended.OutOfMemoryMidway first now
+    HasEndedAs settings bytes ended.OutOfMemoryMidway first now
 out_of_memory_out settings bytes s first now within out = (out_of_memory_left settings bytes s first now within out, out.faultless)
 
 -- the output failed in the header
 pub header_truncated : (settings : SynthSettings) (bytes text : List ℕ) (s : State) (first new : PortState) →
     length bytes ≤ most_of_tables → IsInProgress bytes settings s text → AppendsPrefix first.bytes new.bytes text →
-    Rose first.faults new.faults → GoesOut settings bytes ended.Truncated first new
+    Rose first.faults new.faults → HasEndedAs settings bytes ended.Truncated first new
 header_truncated settings bytes text s first new within under prefix rose =
     (begun_left_of (synth_task settings) bytes text first new (begins settings bytes text s within under) prefix, rose)
 
@@ -98,7 +98,7 @@ header_truncated settings bytes text s first new within under prefix rose =
 pub section_truncated : (settings : SynthSettings) (bytes piece : List ℕ) (s next : State)
     (first now new : PortState) → length bytes ≤ most_of_tables → (out : IsOut settings bytes first now s) →
     IsInProgress bytes settings next (out.text ++ piece) → AppendsPrefix now.bytes new.bytes piece →
-    Rose now.faults new.faults → GoesOut settings bytes ended.Truncated first new
+    Rose now.faults new.faults → HasEndedAs settings bytes ended.Truncated first new
 section_truncated settings bytes piece s next first now new within out under prefix rose = (
   begun_left_of (synth_task settings) bytes (out.text ++ piece) first new (begins settings bytes (out.text ++
       piece) next within under) (prefix_two first.bytes now.bytes new.bytes out.text piece out.on_out prefix),
@@ -118,7 +118,7 @@ its_reply settings bytes text verdict within certificate = record {
 pub trailer_truncated : (settings : SynthSettings) (bytes piece : List ℕ) (s : State) (verdict : Verdict)
     (first now new : PortState) → length bytes ≤ most_of_tables → (out : IsOut settings bytes first now s) →
     IsCertificate bytes settings (out.text ++ piece) verdict → AppendsPrefix now.bytes new.bytes piece →
-    Rose now.faults new.faults → GoesOut settings bytes ended.Truncated first new
+    Rose now.faults new.faults → HasEndedAs settings bytes ended.Truncated first new
 trailer_truncated settings bytes piece s verdict first now new within out certificate prefix rose = (
   left_of (synth_task settings) bytes (synth_reply (record { text = out.text ++ piece; verdict = verdict })) first new
       (its_reply settings bytes (out.text ++ piece) verdict within certificate)
@@ -130,7 +130,7 @@ trailer_truncated settings bytes piece s verdict first now new within out certif
 pub all_out : (settings : SynthSettings) (bytes piece : List ℕ) (s : State) (verdict : Verdict) (status : Status)
     (first now new : PortState) → length bytes ≤ most_of_tables → (out : IsOut settings bytes first now s) →
     IsCertificate bytes settings (out.text ++ piece) verdict → status ≡ verdict_status verdict →
-    Appends now.bytes new.bytes piece → IsFaultless now new → GoesOut settings bytes (ended.Answered status) first new
+    Appends now.bytes new.bytes piece → IsFaultless now new → HasEndedAs settings bytes (ended.Answered status) first new
 all_out settings bytes piece s verdict status first now new within out certificate is whole faultless = record {
   reply = synth_reply (record { text = out.text ++ piece; verdict = verdict });
   reports = its_reply settings bytes (out.text ++ piece) verdict within certificate;
@@ -142,8 +142,8 @@ all_out settings bytes piece s verdict status first now new within out certifica
 
 -- ---- as an answer
 
-pub went_out : (settings : SynthSettings) (bytes : List ℕ) (e : Ended) (out note : PortState × PortState) →
-    GoesOut settings bytes e out.0 out.1 → note.1 ≡ note.0 → Answers (synth_task settings) bytes e out note
+pub went_out : (settings : SynthSettings) (bytes : List ℕ) (e : RunEnd) (out note : PortState × PortState) →
+    HasEndedAs settings bytes e out.0 out.1 → note.1 ≡ note.0 → Answers (synth_task settings) bytes e out note
 went_out settings bytes ended.ReadFault out note goes same = absurd goes
 went_out settings bytes ended.TooLong out note goes same = absurd goes
 went_out settings bytes ended.Memory out note goes same = absurd goes

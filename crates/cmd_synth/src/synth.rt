@@ -7,14 +7,14 @@ ghost use Rattle.settings.specs.declared.synth.SynthSettings.{SynthSettings};
 ghost use Rattle.synth_core.specs.Pieces.{IsInProgress};
 ghost use Rattle.synth_core.specs.Tables.{tables_alone};
 ghost use Rattle.frame_core.specs.Outside.{PortState, port_state};
-ghost use Rattle.cmd_synth.specs.SynthWriting.{IsOut, Comes, GoesUpTo, GoesOut};
+ghost use Rattle.cmd_synth.specs.SynthWriting.{IsOut, IsAfterPiece, StaysWithinMax, HasEndedAs};
 ghost use Rattle.settings.specs.Synth.{IsInRange};
 ghost use Rattle.cmd_lines.specs.TableLines.{most_of_tables};
 ghost use Rattle.cmd_synth.specs.SynthReport.{verdict_status as verdict_status_of, synth_refusal, synth_task};
 ghost use Rattle.frame_core.specs.Views.{refusal_value, Judges};
 
 use cmd_lines::{MOST_BYTES_OF_TABLES, name_spec, spec_status};
-use frame_core::{Ended, Job, Refusal, Status, Stop, finish};
+use frame_core::{RunEnd, Job, Refusal, Status, Stop, finish};
 use port_io::{Sink, WriteFault, write_all};
 use sat_solve::Solver;
 use size_loop::SizeSearch;
@@ -49,7 +49,7 @@ pub(crate) enum Next {
     /// The search goes on.
     On(SizeSearch),
     /// The command has ended.
-    End(Ended),
+    End(RunEnd),
 }
 
 /// Searches the next size, and writes its section of the certificate.
@@ -57,30 +57,30 @@ pub(crate) enum Next {
 fn write_next<S: Solver, O: Sink>(alloc: Global, search: SizeSearch, out: &mut O) -> Next
     ensures comes { (settings : SynthSettings) (bytes : List ℕ) (first : PortState) → length bytes ≤ most_of_tables →
         IsOut settings bytes first (port_state O.written O.faults out.old) search →
-        Comes settings bytes first (port_state O.written O.faults out.new) result }
-    ensures up { GoesUpTo search result }
+        IsAfterPiece settings bytes first (port_state O.written O.faults out.new) result }
+    ensures up { StaysWithinMax search result }
 {
     let Ok(piece) = next_piece::<S>(alloc, search) else {
-        return Next::End(Ended::OutOfMemoryMidway);
+        return Next::End(RunEnd::OutOfMemoryMidway);
     };
     match piece {
         Piece::Section { search, text } => match write_all(out, &text) {
             Ok(()) => Next::On(search),
-            Err(WriteFault::WriteFault) => Next::End(Ended::Truncated),
+            Err(WriteFault::WriteFault) => Next::End(RunEnd::Truncated),
         },
         Piece::Trailer { text, verdict } => match write_all(out, &text) {
-            Ok(()) => Next::End(Ended::Answered(verdict_status(verdict))),
-            Err(WriteFault::WriteFault) => Next::End(Ended::Truncated),
+            Ok(()) => Next::End(RunEnd::Answered(verdict_status(verdict))),
+            Err(WriteFault::WriteFault) => Next::End(RunEnd::Truncated),
         },
     }
 }
 
 /// Writes the sections of a search and the trailer, each as soon as it is found.
 #[tactic(auto, using(crate::proofs::Writing::writing))]
-fn write_sections<S: Solver, O: Sink>(alloc: Global, search: SizeSearch, out: &mut O) -> Ended
+fn write_sections<S: Solver, O: Sink>(alloc: Global, search: SizeSearch, out: &mut O) -> RunEnd
     ensures { (settings : SynthSettings) (bytes : List ℕ) (first : PortState) → length bytes ≤ most_of_tables →
         IsOut settings bytes first (port_state O.written O.faults out.old) search →
-        GoesOut settings bytes result first (port_state O.written O.faults out.new) }
+        HasEndedAs settings bytes result first (port_state O.written O.faults out.new) }
 {
     let mut search = search;
     loop {
@@ -93,13 +93,13 @@ fn write_sections<S: Solver, O: Sink>(alloc: Global, search: SizeSearch, out: &m
 
 /// Writes a certificate, from its header on.
 #[tactic(auto, using(crate::proofs::Writing::writing))]
-fn write_certificate<S: Solver, O: Sink>(alloc: Global, begun: BegunSynthesis, out: &mut O) -> Ended
+fn write_certificate<S: Solver, O: Sink>(alloc: Global, begun: BegunSynthesis, out: &mut O) -> RunEnd
     ensures { (settings : SynthSettings) (bytes : List ℕ) → length bytes ≤ most_of_tables →
         IsInProgress bytes settings begun.search begun.text.items →
-        GoesOut settings bytes result (port_state O.written O.faults out.old) (port_state O.written O.faults out.new) }
+        HasEndedAs settings bytes result (port_state O.written O.faults out.old) (port_state O.written O.faults out.new) }
 {
     if let Err(WriteFault::WriteFault) = write_all(out, &begun.text) {
-        return Ended::Truncated;
+        return RunEnd::Truncated;
     }
     write_sections::<S, O>(alloc, begun.search, out)
 }
@@ -141,7 +141,7 @@ impl<S: Solver> Job for Synth<S> {
         bytes: &[u8],
         out: &mut O,
         note: &mut N,
-    ) -> Ended {
+    ) -> RunEnd {
         match begin(alloc, bytes, &self.settings) {
             Ok(begun) => write_certificate::<S, O>(alloc, begun, out),
             Err(error) => finish(Err(stop_of(error)), out, note),

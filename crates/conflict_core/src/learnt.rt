@@ -7,7 +7,8 @@ pub struct Learnt {
     /// Its literals: first the one of the conflict's level (the asserting literal), second the one of the
     /// others that became false last.
     pub lits: Vec<Lit>,
-    /// The position of the second one, the backjump target; 0 if there is no other.
+    /// 1 + the trail index at which the second literal became false (not a level): the backjump keeps the levels
+    /// that begin below it; 0 if the clause is unit.
     pub back: u32,
     /// The ids of the clauses from which it follows, in the order of a log's hints.
     pub hints: Vec<u32>,

@@ -1,5 +1,5 @@
-//! Which literals of a clause its others imply (are redundant), as a guess: the recursion promises only to
-//! stay in bounds. Each literal found is then resolved away by a step of the analysis, which is sound
+//! Guesses which literals are redundant, implied by the clause's others (MiniSat's `litRedundant`): the recursion
+//! promises only to stay in bounds. Each literal found is then resolved away by a step of the analysis, which is sound
 //! whatever was guessed.
 ghost use Rattle.std.specs.Prelude.{◌≡◌, ℤ, ◌+◌, ◌<◌, ◌≤◌, true, length, All, IfOk, IfSome};
 ghost use Rattle.sat_theory.specs.Formula.{variable as variable_of, IsWithin};

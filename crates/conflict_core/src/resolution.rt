@@ -1,7 +1,7 @@
 //! Resolution from a conflict back over the trail. The marked literals are the current resolvent, and each
 //! step resolves it with the reason of one of its literals. `IsResolution` says that the marked literals are all
 //! false, and that their clause follows by the ids used. Every step keeps this wherever it is made; the order
-//! of the steps, the choice of literals and the end of the resolution are other facts. The marked literals
+//! of the steps, the choice of literals and the end of the resolution are proved elsewhere. The marked literals
 //! are listed too, so that the marks are cleared in linear time.
 ghost use Rattle.std.specs.Prelude.{◌≡◌, ℤ, ◌+◌, ◌<◌, ◌≤◌, ◌∷◌, [], length, slice_index_or, IsSome, IfOk, OnOk};
 ghost use Rattle.std.specs.Prelude.{IfSome};

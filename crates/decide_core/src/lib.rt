@@ -5,8 +5,8 @@
 //! steps, and on `size_loop` for the search of a size. The search begins at the lower bound, with few conflicts.
 //! Only if a size stays open is a certificate made: the whole search is then repeated with the whole budget, and
 //! its verdict holds; if the budget is no greater than that of the first search, there is this search alone. What
-//! both searches find, and that the first was left open, is cached (`spec_memory`) for the tables with their
-//! inputs in a normal order (`spec_cache`); chains are permuted back. What stays open is searched again.
+//! both searches find, and that the first was left open, is cached (`spec_cache`) for the tables with their
+//! inputs in a normal order; chains are permuted back. What stays open is searched again.
 //!
 //! The theorem is that of `decide`: `Shorter` has a chain of at most `max` steps over the basis that implements
 //! the tables, `Least` comes only if there is no such chain, `Open` only with a valid certificate that leaves a

@@ -14,7 +14,7 @@ pub struct Question<'a> {
 }
 
 impl<'a> Question<'a> {
-    /// The question of a heading.
+    /// The question of a header.
     pub(crate) fn new(header: &'a Header) -> Question<'a>
         requires checked { IsHeader header.now }
         requires output { 0 < length header.now.spec.on }

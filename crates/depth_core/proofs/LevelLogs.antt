@@ -24,8 +24,8 @@ use Rattle.settings.specs.declared.methods.Method.{Method}
 use Rattle.settings.specs.declared.methods.Method.TheVariants.{Fence}
 use Rattle.cert_theory.specs.Coding.{coding_of}
 use Rattle.cert_theory.specs.declared.data.Header.{Header}
-use Rattle.cert_theory.specs.declared.data.Ended.{Ended}
-use Rattle.cert_theory.specs.declared.data.Ended.TheVariants as ends
+use Rattle.cert_theory.specs.declared.data.LogEnd.{LogEnd}
+use Rattle.cert_theory.specs.declared.data.LogEnd.TheVariants as ends
 use Rattle.cert_theory.specs.declared.data.Verdict.{Verdict}
 use Rattle.cert_theory.specs.declared.data.Verdict.TheVariants as verdicts
 use Rattle.cert_theory.specs.Certificate.{SubproblemLog, Section, Certificate, IsSubproblemLog, subproblem_of, is_open_end, first_open, found, not_found, IsFound, IsTrailer, IsValid}
@@ -156,9 +156,9 @@ pub ruleset kept = (common_steps, kept_with, kept_without)
 -- ---- the first open fence
 
 pub open_here : (p : SubproblemLog) (ps : List SubproblemLog) → p.ended ≡ ends.Open → open_levels (p ∷ ps) ≡ Some (subproblem_levels p.subproblem)
-open_here p ps is = ap (λ (x : Ended). option_map (λ (q : SubproblemLog). subproblem_levels q.subproblem) (cond (is_open_end x) (Some p) (find (λ q. is_open_end q.ended) ps))) is
+open_here p ps is = ap (λ (x : LogEnd). option_map (λ (q : SubproblemLog). subproblem_levels q.subproblem) (cond (is_open_end x) (Some p) (find (λ q. is_open_end q.ended) ps))) is
 
-closed_by : (p : SubproblemLog) (ps : List SubproblemLog) (x : Ended) → (x ≡ ends.Open → ⊥) →
+closed_by : (p : SubproblemLog) (ps : List SubproblemLog) (x : LogEnd) → (x ≡ ends.Open → ⊥) →
     option_map (λ (q : SubproblemLog). subproblem_levels q.subproblem)
     (cond (is_open_end x) (Some p) (find (λ q. is_open_end q.ended) ps)) ≡ open_levels ps
 closed_by p ps ends.Refuted other = refl

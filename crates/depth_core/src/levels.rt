@@ -8,7 +8,7 @@ ghost use Rattle.depth_theory.specs.DepthCertificate.{subproblem_levels, open_le
 ghost use Rattle.enc_theory.specs.Subproblems.{subproblems_for};
 ghost use Rattle.depth_core.specs.Flattened.{IsTriedLow, IsLevel, at_level, is_flatter};
 
-use cert_theory::{Ended, Header, SubproblemLog};
+use cert_theory::{LogEnd, Header, SubproblemLog};
 use chain_core::Chain;
 use enc_fence::FenceEnc;
 use enc_theory::Subproblem;
@@ -135,7 +135,7 @@ pub(crate) fn open_levels(subproblems: &[SubproblemLog]) -> Option<usize>
 {
     let mut left = subproblems;
     while let Some((subproblem, rest)) = left.split_first() {
-        if subproblem.ended == Ended::Open {
+        if subproblem.ended == LogEnd::Open {
             return Some(levels_in(&subproblem.subproblem));
         }
         left = rest;

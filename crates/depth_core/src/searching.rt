@@ -14,7 +14,7 @@ use cert_theory::{Certificate, Header, Section, SubproblemLog, Verdict};
 use chain_core::{Chain, depth_of};
 use depth_theory::DepthVerdict;
 use enc_fence::FenceEnc;
-use enc_frame::Encoding;
+use enc_base::Encoding;
 use op_basis::Basis;
 use sat_solve::Solver;
 use settings::Method;

@@ -15,7 +15,7 @@ use Rattle.settings.specs.declared.methods.Method.{Method}
 use Rattle.settings.specs.declared.methods.Method.TheVariants.{Fence}
 use Rattle.cert_theory.specs.Coding.{coding_of}
 use Rattle.sat_theory.specs.Line as theory
-use Rattle.cert_theory.specs.declared.data.Ended.{Ended}
+use Rattle.cert_theory.specs.declared.data.LogEnd.{LogEnd}
 use Rattle.cert_theory.specs.declared.data.SubproblemError.{SubproblemError}
 use Rattle.cert_theory.specs.declared.data.SubproblemError.TheVariants as subproblem_errors
 use Rattle.cert_theory.specs.Gives.{◌>>=◌, SubproblemFails}
@@ -217,16 +217,16 @@ due_begins f fence number l is_named next read = λ lines ls answer is same.
 pub begun_fails : (f : FenceCursor) (fence : List ℕ) (later : List (List ℕ)) (number : ℕ) (l : Line) (ls : List Line) →
     ended_in l ≡ None → flat f number (Begun fence later) (l ∷ ls) ≡ Err (errors.Syntax number)
 unfolding flat_from
-begun_fails f fence later number l ls none = ap (λ (o : Option Ended). or_syntax number o >>= λ ended. flat f (number + 1) (Within fence later ended []) ls) none
+begun_fails f fence later number l ls none = ap (λ (o : Option LogEnd). or_syntax number o >>= λ ended. flat f (number + 1) (Within fence later ended []) ls) none
 
 pub begun_goes : (f : FenceCursor) (fence : List ℕ) (later : List (List ℕ)) (number : ℕ) (l : Line) (ls : List Line)
-    (ended : Ended) → ended_in l ≡ Some ended → flat f number (Begun fence later) (l ∷ ls) ≡
+    (ended : LogEnd) → ended_in l ≡ Some ended → flat f number (Begun fence later) (l ∷ ls) ≡
     flat f (number + 1) (Within fence later ended []) ls
 unfolding flat_from
-begun_goes f fence later number l ls ended e = ap (λ (o : Option Ended). or_syntax number o >>= λ x. flat f (number + 1) (Within fence later x []) ls) e
+begun_goes f fence later number l ls ended e = ap (λ (o : Option LogEnd). or_syntax number o >>= λ x. flat f (number + 1) (Within fence later x []) ls) e
 
 -- the lines of a log
-abbrev pub stepping : FenceCursor → List ℕ → List (List ℕ) → ℕ → Ended → List theory.Line → List Line → Option theory.Line → Answer
+abbrev pub stepping : FenceCursor → List ℕ → List (List ℕ) → ℕ → LogEnd → List theory.Line → List Line → Option theory.Line → Answer
 stepping f fence later number ended log ls step =
     flat_from f.header f.size f.levels (number + 1) (after_line f.low fence later ended log step).low
     (after_line f.low fence later ended log step).place ls
@@ -240,7 +240,7 @@ located_fails number subproblem_errors.TooShort read is = ap (at_line number) is
 located_fails number subproblem_errors.EmptyClauseDerived read is = ap (at_line number) is
 located_fails number subproblem_errors.Memory read is = tt
 
-pub subproblem_fails : (f : FenceCursor) (fence : List ℕ) (later : List (List ℕ)) (number : ℕ) (ended : Ended)
+pub subproblem_fails : (f : FenceCursor) (fence : List ℕ) (later : List (List ℕ)) (number : ℕ) (ended : LogEnd)
     (log : List theory.Line) (l : Line) (ls : List Line) (e : SubproblemError) →
     SubproblemFails e (subproblem_in (formula_of f.header f.size (Levels fence)) f.header.conflicts ended log l) →
     Fails (fault_at number e) (flat f number (Within fence later ended log) (l ∷ ls))
@@ -249,7 +249,7 @@ subproblem_fails f fence later number ended log l ls e fails =
     let read = subproblem_in (formula_of f.header f.size (Levels fence)) f.header.conflicts ended log l in
     fails_bind (fault_at number e) (at_line number read) (stepping f fence later number ended log ls) (located_fails number e read fails)
 
-pub subproblem_goes : (f : FenceCursor) (fence : List ℕ) (later : List (List ℕ)) (number : ℕ) (ended : Ended)
+pub subproblem_goes : (f : FenceCursor) (fence : List ℕ) (later : List (List ℕ)) (number : ℕ) (ended : LogEnd)
     (log : List theory.Line) (l : Line) (ls : List Line) (step : Option theory.Line) →
     subproblem_in (formula_of f.header f.size (Levels fence)) f.header.conflicts ended log l ≡ Ok step →
     flat f number (Within fence later ended log) (l ∷ ls) ≡ stepping f fence later number ended log ls step

@@ -12,8 +12,8 @@ use Rattle.chain_core.specs.Spelling.{line}
 use Rattle.chain_theory.specs.Levels.{depth}
 use Rattle.enc_theory.specs.declared.subproblem.Subproblem.{Subproblem}
 use Rattle.enc_theory.specs.declared.subproblem.Subproblem.TheVariants.{Levels}
-use Rattle.cert_theory.specs.declared.data.Ended.{Ended}
-use Rattle.cert_theory.specs.declared.data.Ended.TheVariants.{Refuted, Open}
+use Rattle.cert_theory.specs.declared.data.LogEnd.{LogEnd}
+use Rattle.cert_theory.specs.declared.data.LogEnd.TheVariants.{Refuted, Open}
 use Rattle.cert_theory.specs.declared.data.Header.{Header}
 use Rattle.cert_theory.specs.Certificate.{SubproblemLog, IsSubproblemLog, EndsAs, subproblem_of, is_open_end, formula_of}
 use Rattle.cert_theory.specs.Spelling.{subproblem_lines, end_text, certificate_lines, text_of}
@@ -83,14 +83,14 @@ log_at : (h : Header) (size : ℕ) (prefix later : List SubproblemLog) (log : Su
 log_at h size [] later log each = each.0
 log_at h size (p ∷ prefix) later log each = log_at h size prefix later log each.1
 
-open_end : (e : Ended) → is_open_end e ≡ true → e ≡ Open
+open_end : (e : LogEnd) → is_open_end e ≡ true → e ≡ Open
 open_end Refuted is = absurd cc
 open_end Open is = refl
 
-ends_open : (h : Header) (size : ℕ) (subproblem : Subproblem) (ended : Ended) (log : List theory.Line) → ended ≡ Open →
+ends_open : (h : Header) (size : ℕ) (subproblem : Subproblem) (ended : LogEnd) (log : List theory.Line) → ended ≡ Open →
     EndsAs (formula_of h size subproblem) h.conflicts ended log →
     ReachesBudget (formula_of h size subproblem) log h.conflicts
-ends_open h size subproblem ended log is_open ends = subst (λ (e : Ended). EndsAs (formula_of h size subproblem) h.conflicts e log) is_open ends
+ends_open h size subproblem ended log is_open ends = subst (λ (e : LogEnd). EndsAs (formula_of h size subproblem) h.conflicts e log) is_open ends
 
 spent_by : (h : Header) (size : ℕ) (log : SubproblemLog) (subproblem : Subproblem) → log.ended ≡ Open →
     log.subproblem ≡ subproblem → IsSubproblemLog h size log →

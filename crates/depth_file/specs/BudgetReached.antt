@@ -2,7 +2,7 @@
 use Rattle.std.specs.Prelude.{◌≡◌, ℕ, List, ◌++◌, length, Contains}
 use Rattle.sat_theory.specs.Log.{ReachesBudget}
 use Rattle.enc_theory.specs.declared.subproblem.Subproblem.TheVariants.{Levels}
-use Rattle.cert_theory.specs.declared.data.Ended.TheVariants.{Open}
+use Rattle.cert_theory.specs.declared.data.LogEnd.TheVariants.{Open}
 use Rattle.cert_theory.specs.declared.data.Header.{Header}
 use Rattle.cert_theory.specs.Certificate.{SubproblemLog, formula_of}
 use Rattle.cert_theory.specs.Spelling.{subproblem_lines, text_of}

@@ -22,11 +22,11 @@ use crate::fences::flatter_subproblems;
 use crate::lines::{depth_at, fault_at, name_at, verdict_at};
 use crate::stage::{FenceCursor, Stage};
 use cert_file::{SubproblemReader, SubproblemStep, TextLine, ended_in, is_line, low_with};
-use cert_theory::{Ended, Header};
+use cert_theory::{LogEnd, Header};
 use cnf_core::Cnf;
 use depth_theory::{DepthError, DepthVerdict};
 use enc_fence::FenceEnc;
-use enc_frame::Encoding;
+use enc_base::Encoding;
 use enc_theory::Subproblem;
 use std::alloc::{AllocError, Global};
 
@@ -154,7 +154,7 @@ fn at_begun(alloc: Global, flat: FenceCursor, line: &TextLine) -> Result<Stage, 
 
 /// The stage after a fence whose log has ended.
 #[tactic(auto, using(crate::proofs::Going::going))]
-fn following(flat: FenceCursor, end: Ended) -> Stage
+fn following(flat: FenceCursor, end: LogEnd) -> Stage
     requires { IsRunning flat }
     ensures keeps { IsStage result }
     ensures fed { fed_of result ≡ 0 }

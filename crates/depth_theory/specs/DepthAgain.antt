@@ -31,8 +31,8 @@ use Rattle.settings.specs.declared.methods.Method.TheVariants.{Fence}
 use Rattle.enc_laws.specs.Fence.{fence_is_formula}
 use Rattle.cert_theory.specs.Coding.{coding_of}
 use Rattle.cert_theory.specs.declared.data.Header.{Header}
-use Rattle.cert_theory.specs.declared.data.Ended.{Ended}
-use Rattle.cert_theory.specs.declared.data.Ended.TheVariants as ends
+use Rattle.cert_theory.specs.declared.data.LogEnd.{LogEnd}
+use Rattle.cert_theory.specs.declared.data.LogEnd.TheVariants as ends
 use Rattle.cert_theory.specs.declared.data.Verdict.{Verdict}
 use Rattle.cert_theory.specs.declared.data.Verdict.TheVariants as certificate_verdicts
 use Rattle.cert_theory.specs.declared.data.SubproblemError.{SubproblemError}
@@ -115,16 +115,16 @@ trailer_again h size d number low v short is =
 abbrev Continues : Header → ℕ → ℕ → Option ℕ → List (List ℕ) → List Line → DepthVerdict → Type 0
 Continues h size d low later following v = (number : ℕ) → flat_from h size d number low (Due later) following ≡ Ok v
 
-abbrev next_step : Header → ℕ → ℕ → ℕ → Option ℕ → List ℕ → List (List ℕ) → Ended → List theory.Line → List Line → Option theory.Line → Answer
+abbrev next_step : Header → ℕ → ℕ → ℕ → Option ℕ → List ℕ → List (List ℕ) → LogEnd → List theory.Line → List Line → Option theory.Line → Answer
 next_step h size d number low fence later ended log ls step = flat_from h size d (number + 1) (after_line low fence later ended log step).low (after_line low fence later ended log step).place ls
 
-fresh_more : (ended : Ended) (s : State) (x : theory.Line) (more : List theory.Line) → WasFresh ended s (x ∷ more) → WasFresh ended (next s x) more
+fresh_more : (ended : LogEnd) (s : State) (x : theory.Line) (more : List theory.Line) → WasFresh ended s (x ∷ more) → WasFresh ended (next s x) more
 unfolding EachLine
 fresh_more ends.Refuted s x more fresh = tt
 fresh_more ends.Open s x more fresh = fresh.1
 
 within_again : (more : List theory.Line) (h : Header) (size d number : ℕ) (low : Option ℕ) (fence : List ℕ)
-    (later : List (List ℕ)) (ended : Ended) (log : List theory.Line) (following : List Line) (v : DepthVerdict)
+    (later : List (List ℕ)) (ended : LogEnd) (log : List theory.Line) (following : List Line) (v : DepthVerdict)
     → AreClauses (state_after (formula_of h size (Levels fence)) log).live →
     EachLine IsStep (state_after (formula_of h size (Levels fence)) log) more →
     WasFresh ended (state_after (formula_of h size (Levels fence)) log) more →
@@ -158,16 +158,16 @@ name_step h size d number low fence later ls =
     flat_from h size d (number + 1) low (Begun fence later) ls)
     (name_again (may_follow (line (fence_text fence))) fence)
 
-ended_step : (h : Header) (size d number : ℕ) (low : Option ℕ) (fence : List ℕ) (later : List (List ℕ)) (ended : Ended)
+ended_step : (h : Header) (size d number : ℕ) (low : Option ℕ) (fence : List ℕ) (later : List (List ℕ)) (ended : LogEnd)
     (ls : List Line) → flat_from h size d number low (Begun fence later) (line (ended_text ended) ∷ ls) ≡
     flat_from h size d (number + 1) low (Within fence later ended []) ls
 unfolding flat_from
 ended_step h size d number low fence later ended ls =
-    ap (λ (o : Option Ended). or_syntax number o >>= λ e. flat_from h size d (number + 1) low (Within fence later e []) ls) (ended_again ended)
+    ap (λ (o : Option LogEnd). or_syntax number o >>= λ e. flat_from h size d (number + 1) low (Within fence later e []) ls) (ended_again ended)
 
 -- a log, with the name of its fence
 subproblem_again : (h : Header) (size d number : ℕ) (low : Option ℕ) (fence : List ℕ) (later : List (List ℕ))
-    (ended : Ended) (log : List theory.Line) (following : List Line) (v : DepthVerdict) →
+    (ended : LogEnd) (log : List theory.Line) (following : List Line) (v : DepthVerdict) →
     IsFormula (formula_of h size (Levels fence)) → EndsAs (formula_of h size (Levels fence)) h.conflicts ended log →
     Continues h size d (low_with low ended (length fence)) later following v
     → flat_from h size d number low (Due (fence ∷ later)) (name_lines (Levels fence) ++ (line (ended_text ended) ∷ (map log_line log ++ line done_text ∷ following))) ≡ Ok v

@@ -11,7 +11,7 @@ use Rattle.enc_theory.specs.declared.subproblem.Subproblem.TheVariants.{Levels}
 use Rattle.settings.specs.declared.methods.Method.{Method}
 use Rattle.settings.specs.declared.methods.Method.TheVariants as methods
 use Rattle.cert_theory.specs.declared.data.Header.{Header}
-use Rattle.cert_theory.specs.declared.data.Ended.{Ended}
+use Rattle.cert_theory.specs.declared.data.LogEnd.{LogEnd}
 use Rattle.cert_theory.specs.declared.data.Verdict.{Verdict}
 use Rattle.cert_theory.specs.declared.data.Verdict.TheVariants.{Minimum}
 use Rattle.cert_theory.specs.declared.data.CertificateError.{CertificateError}
@@ -98,7 +98,7 @@ may_follow l = is_fence_name l || is_some (levels_in l)
 pub data Place : Type 0 where
   Due : (fences : List (List ℕ)) → Place
   Begun : (fence : List ℕ) (later : List (List ℕ)) → Place
-  Within : (fence : List ℕ) (later : List (List ℕ)) (ended : Ended) (log : List theory.Line) → Place
+  Within : (fence : List ℕ) (later : List (List ℕ)) (ended : LogEnd) (log : List theory.Line) → Place
 
 -- what is due, and the number of levels of the first open fence before it
 pub record Progress : Type 0 where
@@ -106,7 +106,7 @@ pub record Progress : Type 0 where
   pub place : Place
 
 -- what is due after a line of a log, or after its end
-abbrev pub after_line : Option ℕ → List ℕ → List (List ℕ) → Ended → List theory.Line → Option theory.Line → Progress
+abbrev pub after_line : Option ℕ → List ℕ → List (List ℕ) → LogEnd → List theory.Line → Option theory.Line → Progress
 after_line low fence later ended log None = record { low = low_with low ended (length fence); place = Due later }
 after_line low fence later ended log (Some line) =
     record { low = low; place = Within fence later ended (log ++ line ∷ []) }

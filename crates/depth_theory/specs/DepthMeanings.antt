@@ -26,8 +26,8 @@ use Rattle.settings.specs.declared.methods.Method.{Method}
 use Rattle.settings.specs.declared.methods.Method.TheVariants.{Fence}
 use Rattle.enc_laws.specs.Fence.{HasFence, fence_complete_at, fence_is_formula}
 use Rattle.cert_theory.specs.declared.data.Header.{Header}
-use Rattle.cert_theory.specs.declared.data.Ended.{Ended}
-use Rattle.cert_theory.specs.declared.data.Ended.TheVariants as ends
+use Rattle.cert_theory.specs.declared.data.LogEnd.{LogEnd}
+use Rattle.cert_theory.specs.declared.data.LogEnd.TheVariants as ends
 use Rattle.cert_theory.specs.declared.data.Verdict.{Verdict}
 use Rattle.cert_theory.specs.Coding.{coding_of}
 use Rattle.cert_theory.specs.Certificate.{SubproblemLog, formula_of, EndsAs, IsSubproblemLog, subproblem_of, is_open_end, first_open, IsFound, IsTrailer}
@@ -49,7 +49,7 @@ no_solution_by m w basis size fence log v same refutes satisfies =
     let over : Refutes (fence_formula w basis size fence) log = subst (λ (x : Method). Refutes ((coding_of x).formula w basis size (Levels fence)) log) same refutes in
     no_assignment (fence_formula w basis size fence) log v (fence_is_formula w basis size fence) over satisfies
 
-ends_refuted : (h : Header) (size : ℕ) (subproblem : Subproblem) (log : List Line) (ended : Ended) →
+ends_refuted : (h : Header) (size : ℕ) (subproblem : Subproblem) (log : List Line) (ended : LogEnd) →
     is_open_end ended ≡ false → EndsAs (formula_of h size subproblem) h.conflicts ended log →
     Refutes (formula_of h size subproblem) log
 ends_refuted h size subproblem log ends.Refuted is ends_as = ends_as

@@ -15,8 +15,8 @@ use Rattle.enc_theory.specs.declared.subproblem.Subproblem.TheVariants.{Levels}
 use Rattle.settings.specs.declared.methods.Method.{Method}
 use Rattle.settings.specs.declared.methods.Method.TheVariants.{Plain, Ssv, Select, Fence}
 use Rattle.cert_theory.specs.declared.data.Header.{Header}
-use Rattle.cert_theory.specs.declared.data.Ended.{Ended}
-use Rattle.cert_theory.specs.declared.data.Ended.TheVariants as ends
+use Rattle.cert_theory.specs.declared.data.LogEnd.{LogEnd}
+use Rattle.cert_theory.specs.declared.data.LogEnd.TheVariants as ends
 use Rattle.cert_theory.specs.declared.data.Verdict.{Verdict}
 use Rattle.cert_theory.specs.declared.data.Verdict.TheVariants as certificate_verdicts
 use Rattle.cert_theory.specs.declared.data.CertificateError.{CertificateError}
@@ -102,7 +102,7 @@ record FlatRest (h : Header) (size d : ℕ) (low : Option ℕ) (due : List (List
   verdict : v ≡ levels_found (low_or low (open_levels subproblems)) d
   lines : ls ≡ flat_lines subproblems v
 
-record LogRest (h : Header) (size d : ℕ) (low : Option ℕ) (fence : List ℕ) (later : List (List ℕ)) (ended : Ended) (log : List theory.Line) (ls : List Line) (v : DepthVerdict) : Type 0 where
+record LogRest (h : Header) (size d : ℕ) (low : Option ℕ) (fence : List ℕ) (later : List (List ℕ)) (ended : LogEnd) (log : List theory.Line) (ls : List Line) (v : DepthVerdict) : Type 0 where
   more : List theory.Line
   ends_as : EndsAs (formula_of h size (Levels fence)) h.conflicts ended (log ++ more)
   following : List Line
@@ -110,7 +110,7 @@ record LogRest (h : Header) (size d : ℕ) (low : Option ℕ) (fence : List ℕ)
   lines : ls ≡ map log_line more ++ line done_text ∷ following
 
 record BegunRest (h : Header) (size d : ℕ) (low : Option ℕ) (fence : List ℕ) (later : List (List ℕ)) (ls : List Line) (v : DepthVerdict) : Type 0 where
-  ended : Ended
+  ended : LogEnd
   following : List Line
   rest : LogRest h size d low fence later ended [] following v
   lines : ls ≡ line (ended_text ended) ∷ following
@@ -126,7 +126,7 @@ IsAt h size (Begun fence later) = Unit {0}
 IsAt h size (Within fence later ended log) = IsLog (formula_of h size (Levels fence)) ended log
 
 -- the first open fence, with one more fence before it
-pub low_step : (low : Option ℕ) (fence : List ℕ) (ended : Ended) (log : List theory.Line) (ps : List SubproblemLog) →
+pub low_step : (low : Option ℕ) (fence : List ℕ) (ended : LogEnd) (log : List theory.Line) (ps : List SubproblemLog) →
     low_or (low_with low ended (length fence)) (open_levels ps) ≡
     low_or low (open_levels (record { subproblem = Levels fence; ended = ended; log = log } ∷ ps))
 low_step (Some low) fence ended log ps = refl
@@ -154,7 +154,7 @@ begun_more h size d low fence later l ls v first begun =
     }
 
 -- one more line of a log at the head
-logged_more : (h : Header) (size d : ℕ) (low : Option ℕ) (fence : List ℕ) (later : List (List ℕ)) (ended : Ended)
+logged_more : (h : Header) (size d : ℕ) (low : Option ℕ) (fence : List ℕ) (later : List (List ℕ)) (ended : LogEnd)
     (log : List theory.Line) (x : theory.Line) (l : Line) (ls : List Line) (v : DepthVerdict) → l ≡ log_line x →
     LogRest h size d low fence later ended (log ++ x ∷ []) ls v → LogRest h size d low fence later ended log (l ∷ ls) v
 logged_more h size d low fence later ended log x l ls v first rest = record {
@@ -165,7 +165,7 @@ logged_more h size d low fence later ended log x l ls v first rest = record {
   lines = λ i. first i ∷ rest.lines i;
 }
 
-done_more : (h : Header) (size d : ℕ) (low : Option ℕ) (fence : List ℕ) (later : List (List ℕ)) (ended : Ended)
+done_more : (h : Header) (size d : ℕ) (low : Option ℕ) (fence : List ℕ) (later : List (List ℕ)) (ended : LogEnd)
     (log : List theory.Line) (l : Line) (ls : List Line) (v : DepthVerdict) → l ≡ line done_text →
     EndsAs (formula_of h size (Levels fence)) h.conflicts ended log →
     FlatRest h size d (low_with low ended (length fence)) later ls v →
@@ -194,10 +194,10 @@ trailer_rest h size d number low l ls v e =
     }
 
 -- a line of a log, or its end
-abbrev Continues : Header → ℕ → ℕ → ℕ → Option ℕ → List ℕ → List (List ℕ) → Ended → List theory.Line → List Line → Option theory.Line → Answer
+abbrev Continues : Header → ℕ → ℕ → ℕ → Option ℕ → List ℕ → List (List ℕ) → LogEnd → List theory.Line → List Line → Option theory.Line → Answer
 Continues h size d number low fence later ended log ls step = flat_from h size d (number + 1) (after_line low fence later ended log step).low (after_line low fence later ended log step).place ls
 
-within_by : (h : Header) (size d number : ℕ) (low : Option ℕ) (fence : List ℕ) (later : List (List ℕ)) (ended : Ended)
+within_by : (h : Header) (size d number : ℕ) (low : Option ℕ) (fence : List ℕ) (later : List (List ℕ)) (ended : LogEnd)
     (log : List theory.Line) (l : Line) (ls : List Line) (v : DepthVerdict) (step : Option theory.Line)
     → IsLog (formula_of h size (Levels fence)) ended log →
     subproblem_in (formula_of h size (Levels fence)) h.conflicts ended log l ≡ Ok step →

@@ -25,8 +25,8 @@ use Rattle.chain_core.specs.Spelling.{line, step_text, step_lines, out_text, out
 use Rattle.enc_theory.specs.declared.subproblem.Subproblem.{Subproblem}
 use Rattle.enc_theory.specs.declared.subproblem.Subproblem.TheVariants.{Whole, Levels}
 use Rattle.cert_theory.specs.declared.data.Header.{Header}
-use Rattle.cert_theory.specs.declared.data.Ended.{Ended}
-use Rattle.cert_theory.specs.declared.data.Ended.TheVariants as ends
+use Rattle.cert_theory.specs.declared.data.LogEnd.{LogEnd}
+use Rattle.cert_theory.specs.declared.data.LogEnd.TheVariants as ends
 use Rattle.cert_theory.specs.declared.data.Verdict.{Verdict}
 use Rattle.cert_theory.specs.declared.data.Verdict.TheVariants as verdicts
 use Rattle.cert_theory.specs.Certificate.{SubproblemLog, Section, Certificate, IsSubproblemLog, IsSection, AreSections, IsValid, formula_of}
@@ -131,7 +131,7 @@ unfolding name_lines fence_text
 endless_name Whole = endless_none
 endless_name (Levels sizes) = endless_text (codes "fence" ++ flat_map (λ size. 32 ∷ decimal size) sizes) refl
 
-endless_ended : (ended : Ended) → IsEndless (line (ended_text ended) ∷ [])
+endless_ended : (ended : LogEnd) → IsEndless (line (ended_text ended) ∷ [])
 endless_ended ends.Refuted = endless_text (codes "refuted") refl
 endless_ended ends.Open = endless_text (codes "open") refl
 

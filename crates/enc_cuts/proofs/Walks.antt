@@ -4,7 +4,7 @@ use Rattle.std.specs.Prelude.{ℤ}
 use Rattle.std.specs.List.{flat_map}
 use Rattle.std.proofs.lemmas.Grind.{common_steps}
 use Rattle.clause_core.specs.declared.raw.RawLit.{RawLit}
-use Rattle.enc_theory.specs.declared.data.Sizes.{Sizes}
+use Rattle.enc_theory.specs.declared.data.Dimensions.{Dimensions}
 use Rattle.enc_theory.specs.Pairs.{StepSlots}
 use Rattle.enc_theory.specs.Cuts.{used_by, used, order_slot, order_with, order, no_reapplication_later, no_reapplication_all, exchange_slot, readers_without, exchange_steps}
 
@@ -15,11 +15,11 @@ pub walked : (f : List StepSlots → List (List ℤ)) (piece old new all : List 
 walked f piece old new all left later s is split one before =
     ap (λ (xs : List (List ℤ)). xs ++ f later) is ∙ append_assoc old piece (f later) ∙ ap (λ (xs : List (List ℤ)). old ++ xs) (sym one) ∙ ap (λ (xs : List StepSlots). old ++ f xs) (sym split) ∙ before
 
-pub used-step : (z : Sizes) (s : StepSlots) (later : List StepSlots) → used z (s ∷ later) ≡ used_by z s later ++ used z later
+pub used-step : (z : Dimensions) (s : StepSlots) (later : List StepSlots) → used z (s ∷ later) ≡ used_by z s later ++ used z later
 unfolding used
 used-step z s later = refl
 
-pub used-none : (z : Sizes) → used z [] ≡ []
+pub used-none : (z : Dimensions) → used z [] ≡ []
 unfolding used
 used-none z = refl
 

@@ -8,7 +8,7 @@ use Rattle.op_basis.specs.Closed.{const_closed, polarity_closed, reapply_closed}
 use Rattle.tt_core.specs.Words.{Words}
 use Rattle.clause_core.specs.declared.raw.RawLit.{RawLit}
 use Rattle.clause_core.specs.declared.raw.RawLit.TheVariants.{Var}
-use Rattle.enc_theory.specs.declared.data.Sizes.{Sizes}
+use Rattle.enc_theory.specs.declared.data.Dimensions.{Dimensions}
 use Rattle.enc_theory.specs.declared.data.Slot.{Slot}
 use Rattle.clause_core.specs.Clauses.{written}
 use Rattle.enc_theory.specs.Numbering.{places, outputs, f_var}
@@ -21,8 +21,8 @@ use Rattle.enc_theory.specs.Cuts.{no_reapplication_slot, has_place, reading, no_
 use Rattle.enc_theory.specs.Cuts.{no_reapplication_all, no_reapplication, may_exchange, reads_without, readers_without}
 use Rattle.enc_theory.specs.Cuts.{exchange_slot, exchange_steps, exchange_pair, exchange_with, exchange, row_0_at}
 use Rattle.enc_theory.specs.Cuts.{row_0, cuts}
-use Rattle.enc_frame.specs.Room.{IsSmall}
-use Rattle.enc_frame.specs.Counts.{common-few}
+use Rattle.enc_base.specs.Room.{IsSmall}
+use Rattle.enc_base.specs.Counts.{common-few}
 use Rattle.clause_core.specs.CountLaws.{flat_map-few, pieces-few, written-few, times-few}
 use Rattle.chain_theory.specs.Limits.{most_steps, most_inputs}
 
@@ -31,38 +31,38 @@ pub if-few : (test : Bool) (clauses : List (List ℤ)) (k : ℕ) → length clau
 if-few true clauses k few = few
 if-few false clauses k few = omega arith
 
-used-few : (z : Sizes) (steps : List StepSlots) → length (used z steps) ≤ length steps
+used-few : (z : Dimensions) (steps : List StepSlots) → length (used z steps) ≤ length steps
 unfolding used used_by
 used-few z [] = omega arith
 used-few z (s ∷ later) = rw length-append (omega (arith, written-few (map (drives z s.place) (outputs z) ++ flat_map (readers s.place) later), used-few z later))
 
 -- ---- trivial steps
 
-other-few : (basis : ℕ) (z : Sizes) (i op : ℕ) → length (other_operator basis z i op) ≤ 1
+other-few : (basis : ℕ) (z : Dimensions) (i op : ℕ) → length (other_operator basis z i op) ≤ 1
 unfolding other_operator
 other-few basis z i op = if-few (members basis op) (written _) 1 (written-few _)
 
-pub idle-few : (constants : Bool) (basis : ℕ) (z : Sizes) (i : ℕ) → length (not_idle constants basis z i) ≤ 4
+pub idle-few : (constants : Bool) (basis : ℕ) (z : Dimensions) (i : ℕ) → length (not_idle constants basis z i) ≤ 4
 unfolding not_idle
 idle-few true basis z i = let all = pieces-few (other_operator basis z i) 1 (0 ∷ 3 ∷ 5 ∷ 15 ∷ []) (λ op. other-few basis z i op) in omega (arith, all)
 idle-few false basis z i = let all = pieces-few (other_operator basis z i) 1 (3 ∷ 5 ∷ []) (λ op. other-few basis z i op) in omega (arith, all)
 
-equal-few : (constants : Bool) (z : Sizes) (i : ℕ) (u : Slot) → length (equal_raw constants z i u) ≤ 2
+equal-few : (constants : Bool) (z : Dimensions) (i : ℕ) (u : Slot) → length (equal_raw constants z i u) ≤ 2
 unfolding equal_raw
 equal-few true z i u = rw length-append (omega (arith, written-few (Var u.var false ∷ Var (f_var z i false false) true ∷ []), written-few (Var u.var false ∷ Var (f_var z i true true) false ∷ [])))
 equal-few false z i u = omega (arith, written-few (Var u.var false ∷ Var (f_var z i false false) true ∷ Var (f_var z i true true) false ∷ []))
 
-negations-few : (basis : ℕ) (z : Sizes) (s : StepSlots) → length (negations basis z s) ≤ 2
+negations-few : (basis : ℕ) (z : Dimensions) (s : StepSlots) → length (negations basis z s) ≤ 2
 unfolding negations negation_raw
 negations-few basis z s = let all = pieces-few (negation_raw basis z s) 1 (10 ∷ 12 ∷ []) (λ op. if-few (members basis op) (written _) 1 (written-few _)) in omega (arith, all)
 
-trivial_at-few : (constants : Bool) (basis : ℕ) (z : Sizes) (s : StepSlots) → length (not_trivial_at constants basis z s) ≤ 6 + length s.slots * 2
+trivial_at-few : (constants : Bool) (basis : ℕ) (z : Dimensions) (s : StepSlots) → length (not_trivial_at constants basis z s) ≤ 6 + length s.slots * 2
 unfolding not_trivial_at equal_slot
 trivial_at-few constants basis z s =
     let equals = pieces-few (equal_slot constants z s.place) 2 s.slots (λ u. if-few (u.j == u.k) (equal_raw constants z s.place u) 2 (equal-few constants z s.place u)) in
     rw (length-append, length-append) (omega (arith, idle-few constants basis z s.place, equals, negations-few basis z s))
 
-trivial-few : (constants : Bool) (basis : ℕ) (z : Sizes) (steps : List StepSlots) → length (flat_map (not_trivial_at constants basis z) steps) ≤ length steps * 6 + slot_count steps * 2
+trivial-few : (constants : Bool) (basis : ℕ) (z : Dimensions) (steps : List StepSlots) → length (flat_map (not_trivial_at constants basis z) steps) ≤ length steps * 6 + slot_count steps * 2
 unfolding slot_count
 trivial-few constants basis z [] = omega arith
 trivial-few constants basis z (s ∷ later) = rw length-append (omega (arith, trivial_at-few constants basis z s, trivial-few constants basis z later))
@@ -148,14 +148,14 @@ exchange-few w steps inputs few =
     let all : length (flat_map (exchange_with w steps) (range_with_len 1 w.n)) ≤ w.n * 96000 = flat_map-few (exchange_with w steps) 96000 1 w.n (λ p low high. row p) in
     omega (arith, all)
 
-pub row_0-few : (basis : ℕ) (z : Sizes) → IsSmall z → length (row_0 basis z) ≤ 16
+pub row_0-few : (basis : ℕ) (z : Dimensions) → IsSmall z → length (row_0 basis z) ≤ 16
 unfolding row_0 row_0_at
 row_0-few basis z small =
     let all : length (flat_map (row_0_at z) (range_with_len (z.n + 1) z.r)) ≤ z.r * 1 = flat_map-few (row_0_at z) 1 (z.n + 1) z.r (λ i low high. written-few _) in
     if-few (polarity_closed (members basis)) (flat_map (row_0_at z) (places z)) 16 (omega (arith, all, small.steps))
 
 -- The constraints are few enough for a formula.
-pub cuts-few : (w : Words) (basis : ℕ) (z : Sizes) (steps : List StepSlots) → IsSmall z → w.n ≤ most_inputs →
+pub cuts-few : (w : Words) (basis : ℕ) (z : Dimensions) (steps : List StepSlots) → IsSmall z → w.n ≤ most_inputs →
     length steps ≤ most_steps → slot_count steps ≤ 16000 → length (cuts w basis z steps) ≤ 600000000
 unfolding cuts not_trivial no_reapplication
 cuts-few w basis z steps small inputs few slots =
@@ -172,6 +172,6 @@ cuts-few w basis z steps small inputs few slots =
     ))
 
 -- the clauses that define chains and the constraints together
-pub both-few : (w : Words) (basis : ℕ) (z : Sizes) (steps : List StepSlots) → IsSmall z → w.n ≤ most_inputs → length steps ≤ most_steps →
+pub both-few : (w : Words) (basis : ℕ) (z : Dimensions) (steps : List StepSlots) → IsSmall z → w.n ≤ most_inputs → length steps ≤ most_steps →
     slot_count steps ≤ 16000 → length (common w basis z steps ++ cuts w basis z steps) ≤ 610000000
 both-few w basis z steps small inputs few slots = rw length-append (omega (arith, common-few w basis z steps small few slots, cuts-few w basis z steps small inputs few slots))

@@ -4,7 +4,7 @@ use Rattle.std.specs.Prelude.{if◌then◌else◌}
 use Rattle.std.specs.List.{flat_map}
 use Rattle.std.proofs.lemmas.List.Elements.{All-nil, All-cons, All-append, All-head, All-tail, All-map, All-filter, Contains-get_or}
 use Rattle.clause_core.specs.declared.raw.RawLit.TheVariants.{Var}
-use Rattle.enc_theory.specs.declared.data.Sizes.{Sizes}
+use Rattle.enc_theory.specs.declared.data.Dimensions.{Dimensions}
 use Rattle.enc_theory.specs.declared.data.Slot.{Slot}
 use Rattle.enc_theory.specs.Numbering.{f_var, g_var, outputs}
 use Rattle.enc_theory.specs.Pairs.{StepSlots}
@@ -14,9 +14,9 @@ use Rattle.enc_laws.specs.Bounds.{f_positive, f_below, g_positive, g_below}
 use Rattle.clause_core.specs.Holds.{range_inside}
 use Rattle.enc_laws.specs.Layouts.{IsStepPlace}
 use Rattle.clause_core.specs.Clauses.{IsWithin}
-use Rattle.enc_frame.specs.Room.{HasRoom, IsPlace, HasSlots}
+use Rattle.enc_base.specs.Room.{HasRoom, IsPlace, HasSlots}
 use Rattle.clause_core.specs.WithinLaws.{within_var, four}
-use Rattle.enc_frame.specs.RoomLaws.{within_first}
+use Rattle.enc_base.specs.RoomLaws.{within_first}
 use Rattle.enc_cuts.specs.Vars.{HasVar, HaveVars, step_has_vars}
 
 -- what holds of the elements of each piece holds of all
@@ -27,12 +27,12 @@ pieces_each {X} {Y} P Q f (x ∷ xs) each have = All-append P (f x) (flat_map f 
 map_each : {X Y : Type 0} (P : Y → Type 0) (f : X → Y) (xs : List X) → ((x : X) → Contains xs x → P (f x)) → All P (map f xs)
 map_each {X} {Y} P f xs each = All-map P f xs (λ k d low. each (get_or xs k d) (Contains-get_or xs k d low))
 
-step_place : (z : Sizes) (i : ℕ) → IsPlace z i → IsStepPlace z i
+step_place : (z : Dimensions) (i : ℕ) → IsPlace z i → IsStepPlace z i
 step_place z i is = record { from = is.from; to = is.below }
 
 -- ---- a step's operator and its outputs
 
-pub operator_within : (z : Sizes) (vars i op : ℕ) → HasRoom z vars → IsPlace z i → All (IsWithin vars) (operator_raw z i op)
+pub operator_within : (z : Dimensions) (vars i op : ℕ) → HasRoom z vars → IsPlace z i → All (IsWithin vars) (operator_raw z i op)
 unfolding operator_raw
 operator_within z vars i op room place =
     let at = step_place z i place in
@@ -42,7 +42,7 @@ operator_within z vars i op room place =
     (within_first z vars (f_var z i true false) _ room (f_positive z i true false, f_below z i true false at))
     (within_first z vars (f_var z i true true) _ room (f_positive z i true true, f_below z i true true at))
 
-pub drivers_within : (z : Sizes) (vars i : ℕ) → HasRoom z vars → IsPlace z i → All (IsWithin vars) (map (drives z i) (outputs z))
+pub drivers_within : (z : Dimensions) (vars i : ℕ) → HasRoom z vars → IsPlace z i → All (IsWithin vars) (map (drives z i) (outputs z))
 unfolding drives driver
 drivers_within z vars i room place = map_each (IsWithin vars) (drives z i) (outputs z) (λ h c.
     let (some, low) = range_inside 1 z.m h c in
@@ -59,7 +59,7 @@ readers_within : (vars p : ℕ) (s : StepSlots) → HaveVars vars s → All (IsW
 unfolding readers reader chosen
 readers_within vars p s have = pieces_each (IsWithin vars) (HasVar vars) (reader p) s.slots (λ u has. one_if vars (reads u p) u has) have.each
 
-pub all_readers_within : (z : Sizes) (vars p : ℕ) (steps : List StepSlots) → All (HasSlots z vars) steps → All (IsWithin vars) (flat_map (readers p) steps)
+pub all_readers_within : (z : Dimensions) (vars p : ℕ) (steps : List StepSlots) → All (HasSlots z vars) steps → All (IsWithin vars) (flat_map (readers p) steps)
 all_readers_within z vars p steps have = pieces_each (IsWithin vars) (HasSlots z vars) (readers p) steps (λ s has. readers_within vars p s (step_has_vars z vars s has)) have
 
 pub equal_pairs_within : (vars : ℕ) (s : StepSlots) → HaveVars vars s → All (IsWithin vars) (flat_map equal_pair s.slots)

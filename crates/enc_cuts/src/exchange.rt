@@ -8,7 +8,7 @@ ghost use Rattle.enc_cuts.specs.Vars.{HasVar, HaveVars};
 
 use crate::slots::reads_without;
 use clause_core::{ClauseList, RawLit};
-use enc_frame::StepSlots;
+use enc_base::StepSlots;
 use enc_theory::Slot;
 use std::alloc::{AllocError, Global};
 use tt_core::{Spec, symmetric};
@@ -155,7 +155,7 @@ fn push_exchange_with(
     Ok(())
 }
 
-/// Writes that of two symmetric inputs p < q, no step reads q without p before some step has read p without q.
+/// Appends the clauses that of two symmetric inputs p < q, no step reads q without p before some step has read p without q.
 #[tactic(auto, using(clause_core::specs::RangeLaws::loops), unfolding(enc_theory::specs::Cuts::exchange))]
 pub(crate) fn push_exchange(
     alloc: Global,

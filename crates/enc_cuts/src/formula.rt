@@ -6,7 +6,7 @@ ghost use Rattle.chain_theory.specs.Limits.{most_steps};
 use crate::push_cuts;
 use clause_core::ClauseList;
 use cnf_core::Cnf;
-use enc_frame::{Layout, Pairs, push_common, sizes};
+use enc_base::{Layout, Pairs, push_common, sizes};
 use op_basis::Basis;
 use std::alloc::{AllocError, Global};
 use tt_core::{Spec, live_spec};

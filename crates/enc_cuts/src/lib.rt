@@ -9,7 +9,8 @@
 //! push_cuts(alloc, &mut list, &live, basis, z, &layout.steps)?;   // and the constraints
 //! ```
 //!
-//! `formula_with_cuts` makes a formula of both. The constraints that don't mention pairs are public for MSV.
+//! `formula_with_cuts` makes a formula of both. The constraints that don't mention pairs are public for
+//! `enc_select` (MSV: multiple selection variables).
 //!
 //! The constraints, and their names in the literature:
 //!
@@ -26,7 +27,7 @@
 ghost use Rattle.std.specs.Prelude.{All, OnOk};
 ghost use Rattle.clause_core.specs.Clauses.{Appends};
 ghost use Rattle.enc_theory.specs.Cuts.{cuts as cuts_of};
-ghost use Rattle.enc_frame.specs.Room.{HasRoom, HasSlots, AreFor};
+ghost use Rattle.enc_base.specs.Room.{HasRoom, HasSlots, AreFor};
 
 mod exchange;
 mod formula;
@@ -47,8 +48,8 @@ use crate::trivial::push_not_trivial;
 pub use crate::trivial::{push_not_idle, push_operator};
 use crate::used::push_used;
 use clause_core::ClauseList;
-use enc_frame::StepSlots;
-use enc_theory::Sizes;
+use enc_base::StepSlots;
+use enc_theory::Dimensions;
 use op_basis::Basis;
 use std::alloc::{AllocError, Global};
 use tt_core::Spec;
@@ -62,7 +63,7 @@ pub fn push_cuts(
     list: &mut ClauseList,
     spec: &Spec,
     basis: Basis,
-    z: Sizes,
+    z: Dimensions,
     steps: &[StepSlots],
 ) -> Result<(), AllocError>
     requires room { HasRoom z list.old.vars }

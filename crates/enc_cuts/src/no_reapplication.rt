@@ -9,7 +9,7 @@ ghost use Rattle.enc_cuts.specs.Vars.{HasVar, HaveVars};
 
 use crate::slots::{push_not_both, reads};
 use clause_core::ClauseList;
-use enc_frame::StepSlots;
+use enc_base::StepSlots;
 use enc_theory::Slot;
 use op_basis::Basis;
 use std::alloc::{AllocError, Global};
@@ -155,7 +155,7 @@ fn push_no_reapplication_all(
     Ok(())
 }
 
-/// Writes that there is no re-application, if the basis is closed under it.
+/// Appends the no-re-application clauses, if the basis allows them (`CutSet`).
 #[tactic(auto, unfolding(enc_theory::specs::Cuts::no_reapplication))]
 pub(crate) fn push_no_reapplication(
     alloc: Global,

@@ -8,7 +8,7 @@ ghost use Rattle.enc_cuts.specs.Vars.{HasVar, HaveVars};
 
 use crate::slots::push_not_both;
 use clause_core::ClauseList;
-use enc_frame::StepSlots;
+use enc_base::StepSlots;
 use enc_theory::Slot;
 use std::alloc::{AllocError, Global};
 
@@ -105,7 +105,7 @@ fn push_order_with(
     }
 }
 
-/// Writes that no step's pair comes before that of the step before it.
+/// Appends the clauses that no step's pair comes before that of the step before it.
 #[tactic(auto, using(crate::proofs::Walks::order_walk))]
 pub(crate) fn push_order(
     alloc: Global,

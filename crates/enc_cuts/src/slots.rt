@@ -4,11 +4,11 @@ ghost use Rattle.clause_core.specs.Clauses.{Appends};
 ghost use Rattle.enc_theory.specs.Numbering.{outputs};
 ghost use Rattle.enc_theory.specs.Cuts.{drives, reads as reads_of, reads_without as reads_without_of, not_both};
 ghost use Rattle.enc_cuts.specs.Vars.{HasVar};
-ghost use Rattle.enc_frame.specs.Room.{IsSmall, IsPlace};
+ghost use Rattle.enc_base.specs.Room.{IsSmall, IsPlace};
 
 use clause_core::{ClauseList, RawLit};
-use enc_frame::g_var;
-use enc_theory::{Sizes, Slot};
+use enc_base::g_var;
+use enc_theory::{Dimensions, Slot};
 use std::alloc::{AllocError, Global};
 
 /// Whether the place is an operand of the pair.
@@ -27,7 +27,7 @@ pub(crate) fn reads_without(p: u32, q: u32, slot: Slot) -> bool
 
 /// Adds for each output the literal that the step drives it.
 #[tactic(auto, using(clause_core::specs::RangeLaws::loops), unfolding(enc_theory::specs::Cuts::drives, enc_theory::specs::Families::driver))]
-pub fn push_drivers(raws: &mut Vec<RawLit>, z: Sizes, place: u32) -> Result<(), AllocError>
+pub fn push_drivers(raws: &mut Vec<RawLit>, z: Dimensions, place: u32) -> Result<(), AllocError>
     requires small { IsSmall z }
     requires place { IsPlace z place }
     ensures { OnOk result (raws.new.items ≡ raws.old.items ++ map (drives z place) (outputs z)) }

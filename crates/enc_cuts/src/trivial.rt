@@ -6,17 +6,17 @@ ghost use Rattle.clause_core.specs.Clauses.{Appends};
 ghost use Rattle.enc_theory.specs.Families.{operator_raw};
 ghost use Rattle.enc_theory.specs.Cuts.{other_operator, not_idle, equal_raw, equal_slot, equal_pair, negation_raw};
 ghost use Rattle.enc_theory.specs.Cuts.{negations, not_trivial_at, not_trivial};
-ghost use Rattle.enc_frame.specs.Room.{IsSmall, HasRoom, IsPlace, IsSlot, HasSlots};
+ghost use Rattle.enc_base.specs.Room.{IsSmall, HasRoom, IsPlace, IsSlot, HasSlots};
 
 use clause_core::{ClauseList, RawLit};
-use enc_frame::{StepSlots, f_var};
-use enc_theory::{Sizes, Slot};
+use enc_base::{StepSlots, f_var};
+use enc_theory::{Dimensions, Slot};
 use op_basis::{Basis, Op};
 use std::alloc::{AllocError, Global};
 
 /// Adds the literals that the operator of step `i` isn't `op`.
 #[tactic(auto, unfolding(enc_theory::specs::Families::operator_raw))]
-pub fn push_operator(raws: &mut Vec<RawLit>, z: Sizes, i: u32, op: Op) -> Result<(), AllocError>
+pub fn push_operator(raws: &mut Vec<RawLit>, z: Dimensions, i: u32, op: Op) -> Result<(), AllocError>
     requires small { IsSmall z }
     requires place { IsPlace z i }
     ensures { OnOk result (raws.new.items ≡ raws.old.items ++ operator_raw z i op) }
@@ -34,7 +34,7 @@ fn push_other_operator(
     alloc: Global,
     list: &mut ClauseList,
     basis: Basis,
-    z: Sizes,
+    z: Dimensions,
     i: u32,
     op: Op,
 ) -> Result<(), AllocError>
@@ -50,14 +50,14 @@ fn push_other_operator(
     list.push(alloc, &raws)
 }
 
-/// Writes that step `i` is no projection, and no constant for bases where constants aren't needed.
+/// Appends the clauses that step `i` is no projection, and no constant for bases where constants aren't needed.
 #[tactic(auto, using(crate::specs::PieceLaws::pieces), unfolding(enc_theory::specs::Cuts::not_idle))]
 pub fn push_not_idle(
     alloc: Global,
     list: &mut ClauseList,
     constants: bool,
     basis: Basis,
-    z: Sizes,
+    z: Dimensions,
     i: u32,
 ) -> Result<(), AllocError>
     requires room { HasRoom z list.old.vars }
@@ -80,7 +80,7 @@ fn push_equal(
     alloc: Global,
     list: &mut ClauseList,
     constants: bool,
-    z: Sizes,
+    z: Dimensions,
     i: u32,
     slot: Slot,
 ) -> Result<(), AllocError>
@@ -105,7 +105,7 @@ fn push_equal_slot(
     alloc: Global,
     list: &mut ClauseList,
     constants: bool,
-    z: Sizes,
+    z: Dimensions,
     i: u32,
     slot: Slot,
 ) -> Result<(), AllocError>
@@ -150,7 +150,7 @@ fn push_negation(
     alloc: Global,
     list: &mut ClauseList,
     basis: Basis,
-    z: Sizes,
+    z: Dimensions,
     step: &StepSlots,
     op: Op,
 ) -> Result<(), AllocError>
@@ -167,13 +167,13 @@ fn push_negation(
     list.push(alloc, &raws)
 }
 
-/// Writes that negations have equal operands.
+/// Appends the clauses that negations have equal operands.
 #[tactic(auto, using(crate::specs::PieceLaws::pieces), unfolding(enc_theory::specs::Cuts::negations))]
 fn push_negations(
     alloc: Global,
     list: &mut ClauseList,
     basis: Basis,
-    z: Sizes,
+    z: Dimensions,
     step: &StepSlots,
 ) -> Result<(), AllocError>
     requires room { HasRoom z list.old.vars }
@@ -190,7 +190,7 @@ fn push_equal_slots(
     alloc: Global,
     list: &mut ClauseList,
     constants: bool,
-    z: Sizes,
+    z: Dimensions,
     step: &StepSlots,
 ) -> Result<(), AllocError>
     requires room { HasRoom z list.old.vars }
@@ -204,14 +204,14 @@ fn push_equal_slots(
     Ok(())
 }
 
-/// Writes that a step isn't trivial.
+/// Appends the clauses that a step isn't trivial.
 #[tactic(auto, unfolding(enc_theory::specs::Cuts::not_trivial_at))]
 fn push_not_trivial_at(
     alloc: Global,
     list: &mut ClauseList,
     constants: bool,
     basis: Basis,
-    z: Sizes,
+    z: Dimensions,
     step: &StepSlots,
 ) -> Result<(), AllocError>
     requires room { HasRoom z list.old.vars }
@@ -223,13 +223,13 @@ fn push_not_trivial_at(
     push_negations(alloc, list, basis, z, step)
 }
 
-/// Writes that no step is trivial.
+/// Appends the clauses that no step is trivial.
 #[tactic(auto, using(clause_core::specs::RangeLaws::loops), unfolding(enc_theory::specs::Cuts::not_trivial))]
 pub(crate) fn push_not_trivial(
     alloc: Global,
     list: &mut ClauseList,
     basis: Basis,
-    z: Sizes,
+    z: Dimensions,
     steps: &[StepSlots],
 ) -> Result<(), AllocError>
     requires room { HasRoom z list.old.vars }

@@ -3,12 +3,12 @@ ghost use Rattle.std.specs.Prelude.{◌≡◌, ◌++◌, All, OnOk};
 ghost use Rattle.std.specs.List.{flat_map};
 ghost use Rattle.clause_core.specs.Clauses.{Appends};
 ghost use Rattle.enc_theory.specs.Cuts.{reader, readers, used_by, used};
-ghost use Rattle.enc_frame.specs.Room.{HasRoom, HasSlots};
+ghost use Rattle.enc_base.specs.Room.{HasRoom, HasSlots};
 
 use crate::slots::{push_drivers, reads};
 use clause_core::{ClauseList, RawLit};
-use enc_frame::StepSlots;
-use enc_theory::{Sizes, Slot};
+use enc_base::StepSlots;
+use enc_theory::{Dimensions, Slot};
 use std::alloc::{AllocError, Global};
 
 /// Adds the pair's selection literal if the pair has the place.
@@ -54,7 +54,7 @@ fn push_all_readers(
 fn push_used_by(
     alloc: Global,
     list: &mut ClauseList,
-    z: Sizes,
+    z: Dimensions,
     step: &StepSlots,
     later: &[StepSlots],
 ) -> Result<(), AllocError>
@@ -69,12 +69,12 @@ fn push_used_by(
     list.push(alloc, &raws)
 }
 
-/// Writes that each step drives an output or is read.
+/// Appends the clauses that each step drives an output or is read.
 #[tactic(auto, using(crate::proofs::Walks::used_walk))]
 pub(crate) fn push_used(
     alloc: Global,
     list: &mut ClauseList,
-    z: Sizes,
+    z: Dimensions,
     steps: &[StepSlots],
 ) -> Result<(), AllocError>
     requires room { HasRoom z list.old.vars }

@@ -7,7 +7,7 @@ use Rattle.op_basis.specs.Closed.{swap_closed}
 use Rattle.sat_theory.specs.Formula.{Assignment}
 use Rattle.tt_core.specs.Live.{live_words}
 use Rattle.tt_core.specs.Words.{Words}
-use Rattle.enc_theory.specs.declared.data.Sizes.{Sizes}
+use Rattle.enc_theory.specs.declared.data.Dimensions.{Dimensions}
 use Rattle.enc_theory.specs.Families.{common}
 use Rattle.enc_theory.specs.Decode.{decoded}
 use Rattle.enc_theory.specs.Fence.{fence_layout, fence_formula, fence_live, fence_decoded}
@@ -18,13 +18,13 @@ use Rattle.enc_cuts.specs.Formula.{with_cuts, live_with_cuts}
 use Rattle.enc_fence.specs.StepPairs.{step_pairs, layout-same}
 
 -- with the pairs of all places, including inputs, the layout is the fence's
-pub fence_laid : (basis : ℕ) (fence levels : List ℕ) (z : Sizes) (n : ℕ) (ordered : Bool) → n ≡ z.n →
+pub fence_laid : (basis : ℕ) (fence levels : List ℕ) (z : Dimensions) (n : ℕ) (ordered : Bool) → n ≡ z.n →
     ordered ≡ swap_closed (members basis) → levels ≡ fence →
     layout (step_pairs ordered n levels) z ≡ fence_layout basis fence z
 fence_laid basis fence levels z n ordered inputs is same = rw (inputs, is, same) (layout-same (swap_closed (members basis)) fence z)
 
 -- so the chain that an assignment spells over that layout is the fence's
-pub small_in : (w : Words) (basis r : ℕ) (fence : List ℕ) (v : Assignment) (z : Sizes) (steps : List StepSlots) →
+pub small_in : (w : Words) (basis r : ℕ) (fence : List ℕ) (v : Assignment) (z : Dimensions) (steps : List StepSlots) →
     z ≡ sizes_of (live_words w) r → steps ≡ fence_layout basis fence z →
     IsSmallChain (fence_decoded w basis r fence v) → IsSmallChain (decoded w z steps v)
 unfolding fence_decoded

@@ -5,13 +5,13 @@ use Rattle.std.specs.List.{range_with_len, flat_map}
 use Rattle.std.proofs.lemmas.Bool.{cases_lt, lt-ltb, le-ltb, le-leb, lt-leb, cond-true, cond-false}
 use Rattle.std.proofs.lemmas.List.Elements.{All-nil}
 use Rattle.enc_theory.specs.declared.data.Pair.{Pair}
-use Rattle.enc_theory.specs.declared.data.Sizes.{Sizes}
+use Rattle.enc_theory.specs.declared.data.Dimensions.{Dimensions}
 use Rattle.enc_theory.specs.Numbering.{s_first}
 use Rattle.enc_theory.specs.Pairs.{pairs_with, StepSlots, numbered, laid, layout}
 use Rattle.enc_theory.specs.Fence.{places_under, fence_pairs}
-use Rattle.enc_frame.specs.Room.{IsPair}
+use Rattle.enc_base.specs.Room.{IsPair}
 use Rattle.clause_core.specs.CountLaws.{flat_map-each, flat_map-few}
-use Rattle.enc_frame.specs.PairLaws.{with-below, with-few}
+use Rattle.enc_base.specs.PairLaws.{with-below, with-few}
 
 -- the pairs of the step at a place; an input has none
 unfoldable pub step_pairs : Bool → ℕ → List ℕ → ℕ → List Pair
@@ -104,5 +104,5 @@ laid-same a b v place (suc count) same =
     ap (λ (pairs : List Pair). record { place = place; slots = numbered v pairs } ∷ laid a (v + length pairs) (place + 1) count) own
     ∙ ap (λ (steps : List StepSlots). record { place = place; slots = numbered v (b place) } ∷ steps) (laid-same a b (v + length (b place)) (place + 1) count (λ p from. same p (omega arith)))
 
-pub layout-same : (ordered : Bool) (fence : List ℕ) (z : Sizes) → layout (step_pairs ordered z.n fence) z ≡ layout (fence_pairs ordered z.n fence) z
+pub layout-same : (ordered : Bool) (fence : List ℕ) (z : Dimensions) → layout (step_pairs ordered z.n fence) z ≡ layout (fence_pairs ordered z.n fence) z
 layout-same ordered fence z = laid-same (step_pairs ordered z.n fence) (fence_pairs ordered z.n fence) (s_first z) (z.n + 1) z.r (λ p from. those_of_step ordered z.n fence p (omega arith))

@@ -14,7 +14,7 @@ use crate::pairs::FencePairs;
 use chain_core::Chain;
 use cnf_core::{Assign, Cnf};
 use enc_cuts::formula_with_cuts;
-use enc_frame::{Encoding, Layout, decode, sizes};
+use enc_base::{Encoding, Layout, decode, sizes};
 use enc_theory::Subproblem;
 use fence_core::fences;
 use op_basis::Basis;

@@ -5,7 +5,7 @@ ghost use Rattle.enc_theory.specs.Pairs.{pairs_with};
 ghost use Rattle.enc_theory.specs.Fence.{places_under as places_under_of};
 ghost use Rattle.enc_fence.specs.StepPairs.{step_pairs};
 
-use enc_frame::{Pairs, push_pairs_with};
+use enc_base::{Pairs, push_pairs_with};
 use enc_theory::Pair;
 use std::alloc::{AllocError, Global};
 

@@ -6,31 +6,31 @@ use Rattle.std.proofs.lemmas.Bool.{lt-ltb, le-ltb}
 use Rattle.std.proofs.Math.Nat.{mul_comm}
 use Rattle.std.proofs.lemmas.Nat.{div-mul-add, mod-mul-add, mul-add-lt}
 use Rattle.sat_theory.specs.Formula.{Assignment}
-use Rattle.enc_theory.specs.declared.data.Sizes.{Sizes}
+use Rattle.enc_theory.specs.declared.data.Dimensions.{Dimensions}
 use Rattle.enc_theory.specs.Numbering.{x_var, g_var, f_first, bits_word, f_var, s_first}
 use Rattle.enc_laws.specs.Bounds.{word_low}
 use Rattle.enc_laws.specs.Layouts.{IsStepPlace}
 
 -- the number of the last variable before those of outputs
-abbrev pub x_count : Sizes → ℕ
+abbrev pub x_count : Dimensions → ℕ
 x_count z = z.r * 2 ^ z.n
 
 -- given values by place and row, outputs by output and place, operators by place and two bits, and later
 -- variables by number
-unfoldable pub built : Sizes → (ℕ → ℕ → Bool) → (ℕ → ℕ → Bool) → (ℕ → Bool → Bool → Bool) → (ℕ → Bool) → Assignment
+unfoldable pub built : Dimensions → (ℕ → ℕ → Bool) → (ℕ → ℕ → Bool) → (ℕ → Bool → Bool → Bool) → (ℕ → Bool) → Assignment
 built z value out operator rest x =
     if nat_lt x (x_count z + 1) then value ((x - 1) / 2 ^ z.n + (z.n + 1)) ((x - 1) % 2 ^ z.n)
     else (if nat_lt x (f_first z) then out ((x - (x_count z + 1)) / z.r + 1) ((x - (x_count z + 1)) % z.r + (z.n + 1))
     else (if nat_lt x (s_first z) then operator ((x - f_first z) / 4 + (z.n + 1)) ((x - f_first z) % 4 / 2 == 1) ((x - f_first z) % 4 % 2 == 1)
     else rest x))
 
-abbrev in_value : Sizes → (ℕ → ℕ → Bool) → ℕ → Bool
+abbrev in_value : Dimensions → (ℕ → ℕ → Bool) → ℕ → Bool
 in_value z value x = value ((x - 1) / 2 ^ z.n + (z.n + 1)) ((x - 1) % 2 ^ z.n)
 
-abbrev in_out : Sizes → (ℕ → ℕ → Bool) → ℕ → Bool
+abbrev in_out : Dimensions → (ℕ → ℕ → Bool) → ℕ → Bool
 in_out z out x = out ((x - (x_count z + 1)) / z.r + 1) ((x - (x_count z + 1)) % z.r + (z.n + 1))
 
-abbrev in_operator : Sizes → (ℕ → Bool → Bool → Bool) → ℕ → Bool
+abbrev in_operator : Dimensions → (ℕ → Bool → Bool → Bool) → ℕ → Bool
 in_operator z operator x = operator ((x - f_first z) / 4 + (z.n + 1)) ((x - f_first z) % 4 / 2 == 1) ((x - f_first z) % 4 % 2 == 1)
 
 -- the word of two bits spells them
@@ -40,7 +40,7 @@ word_bits f true false = refl
 word_bits f false true = refl
 word_bits f false false = refl
 
-module _ (z : Sizes) (value : ℕ → ℕ → Bool) (out : ℕ → ℕ → Bool) (operator : ℕ → Bool → Bool → Bool) (rest : ℕ → Bool) where
+module _ (z : Dimensions) (value : ℕ → ℕ → Bool) (out : ℕ → ℕ → Bool) (operator : ℕ → Bool → Bool → Bool) (rest : ℕ → Bool) where
   by_x : (x : ℕ) → x < x_count z + 1 → built z value out operator rest x ≡ in_value z value x
   unfolding built
   by_x x low = rw (lt-ltb x (x_count z + 1) low) refl

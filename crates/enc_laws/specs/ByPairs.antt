@@ -8,7 +8,7 @@ use Rattle.chain_laws.specs.NormalForm.{IsNormalForm}
 use Rattle.sat_theory.specs.Formula.{Formula, IsFormula, Assignment, Satisfies}
 use Rattle.tt_core.specs.Words.{Words, specification}
 use Rattle.tt_core.specs.Live.{live_words}
-use Rattle.enc_theory.specs.declared.data.Sizes.{Sizes}
+use Rattle.enc_theory.specs.declared.data.Dimensions.{Dimensions}
 use Rattle.enc_theory.specs.declared.data.Pair.{Pair}
 use Rattle.clause_core.specs.Clauses.{IsSatisfiable}
 use Rattle.enc_theory.specs.Numbering.{sizes_of, s_first}
@@ -62,7 +62,7 @@ formula_by pairs w basis r =
 module _ (pairs : ℕ → List Pair) (w : Words) (basis r : ℕ) (below : AreBelow w.n pairs) where
   pub by_pairs_decodes : (v : Assignment) → Satisfies v (formula_by pairs (live_words w) basis r) → IsFor w basis r (decoded w (sizes_of (live_words w) r) (layout pairs (sizes_of (live_words w) r)) v)
   by_pairs_decodes v satisfies =
-      let z : Sizes = sizes_of (live_words w) r in
+      let z : Dimensions = sizes_of (live_words w) r in
       let (chain, cut) = holds_both v (common (live_words w) basis z (layout pairs z))
       (cuts (live_words w) basis z (layout pairs z))
       (holds_satisfied v (formula_by pairs (live_words w) basis r) satisfies) in
@@ -72,7 +72,7 @@ module _ (pairs : ℕ → List Pair) (w : Words) (basis r : ℕ) (below : AreBel
   pub by_pairs_has_pair : (v : Assignment) → Satisfies v (formula_by pairs (live_words w) basis r) → (i : ℕ) (d : Step)
       → slice_get (map (decoded_step (sizes_of (live_words w) r) v) (layout pairs (sizes_of (live_words w) r))) i ≡ Some d → Contains (pairs (w.n + 1 + i)) (pair d.j d.k)
   by_pairs_has_pair v satisfies i d at =
-      let z : Sizes = sizes_of (live_words w) r in
+      let z : Dimensions = sizes_of (live_words w) r in
       let laid = layout_is_laid pairs z below in
       let (chain, cut) = holds_both v (common (live_words w) basis z (layout pairs z))
       (cuts (live_words w) basis z (layout pairs z))
@@ -86,7 +86,7 @@ module _ (pairs : ℕ → List Pair) (w : Words) (basis r : ℕ) (below : AreBel
       IsNormalForm (members basis) (specification (live_words w)) c → IsAllowed pairs (live_words w) r c →
       IsSatisfiable (formula_by pairs (live_words w) basis r)
   normal_form_satisfies c is normal_form allowed =
-      let z : Sizes = sizes_of (live_words w) r in
+      let z : Dimensions = sizes_of (live_words w) r in
       let v : Assignment = assignment_of z (layout pairs z) c in
       let placed : IsPlaced (live_words w) basis r (layout pairs z) c = record { is = is; laid = layout_is_laid pairs z below; pairs = allowed_pairs pairs (live_words w) r c below allowed } in (
         assignment_of z (layout pairs z) c,
@@ -98,7 +98,7 @@ module _ (pairs : ℕ → List Pair) (w : Words) (basis r : ℕ) (below : AreBel
 
   pub by_pairs_is_formula : IsFormula (formula_by pairs (live_words w) basis r)
   by_pairs_is_formula =
-      let z : Sizes = sizes_of (live_words w) r in
+      let z : Dimensions = sizes_of (live_words w) r in
       let laid = layout_is_laid pairs z below in
       let room = layout_has_room pairs z below in
       are_formula (formula_by pairs (live_words w) basis r) (clauses_both (vars_of z (layout pairs z)) (common (live_words w) basis z (layout pairs z)) (cuts (live_words w) basis z (layout pairs z))

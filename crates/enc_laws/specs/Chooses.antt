@@ -5,7 +5,7 @@ use Rattle.sat_theory.specs.Formula.{Assignment}
 use Rattle.tt_core.specs.Words.{Words}
 use Rattle.enc_theory.specs.declared.data.Side.{Side}
 use Rattle.enc_theory.specs.declared.data.Side.TheVariants.{First, Second}
-use Rattle.enc_theory.specs.declared.data.Sizes.{Sizes}
+use Rattle.enc_theory.specs.declared.data.Dimensions.{Dimensions}
 use Rattle.clause_core.specs.Clauses.{written}
 use Rattle.enc_theory.specs.Numbering.{places, rows, f_var}
 use Rattle.enc_theory.specs.Families.{out_exists, out_values, operators}
@@ -24,7 +24,7 @@ use Rattle.enc_laws.specs.SelectVars.{IsBelow, choice_positive, value_positive}
 
 -- The assignment gives each step a lower place for each operand, the operand the value of that place, and the
 -- step its operator's value of its operands' values; and drivers have the values of their outputs' cells.
-pub record Chooses (w : Words) (basis : ℕ) (z : Sizes) (v : Assignment) : Type 0 where
+pub record Chooses (w : Words) (basis : ℕ) (z : Dimensions) (v : Assignment) : Type 0 where
   pub tables : MeetsTables w basis z v
   pub choice : (side : Side) (i : ℕ) → IsStepPlace z i → (j : ℕ) × (1 ≤ j) × (j < i) × (v (choice_var z side i j) ≡ true)
   pub copy : (side : Side) (i j t : ℕ) → IsBelow z i j → t < 2 ^ z.n → v (choice_var z side i j) ≡ true → v (value_var z side i t) ≡ x_bit z v j t
@@ -38,23 +38,23 @@ below_there i j from to = range_contains 1 (i - 1) j from (omega arith)
 pub there_below : (i j : ℕ) → Contains (below i) j → (1 ≤ j) × (j < i)
 there_below i j c = let (from, to) = range_inside 1 (i - 1) j c in (from, omega arith)
 
-pub is_below : (z : Sizes) (i j : ℕ) → IsStepPlace z i → Contains (below i) j → IsBelow z i j
+pub is_below : (z : Dimensions) (i j : ℕ) → IsStepPlace z i → Contains (below i) j → IsBelow z i j
 is_below z i j place c = let (from, to) = there_below i j c in record { place = place; from = from; to = to }
 
 -- ---- each step has operands
 
-choice_bits : (z : Sizes) (v : Assignment) (side : Side) (i : ℕ) → holds v (choice_exists z i side) ≡ list_any (λ j. v (choice_var z side i j)) (below i)
+choice_bits : (z : Dimensions) (v : Assignment) (side : Side) (i : ℕ) → holds v (choice_exists z i side) ≡ list_any (λ j. v (choice_var z side i j)) (below i)
 unfolding choice_exists chooses raw_value same
 choice_bits z v side i = holds-written v (map (chooses z side i) (below i))
     (positive-map (chooses z side i) (below i) (λ j c. choice_positive z side i j))
     ∙ raws_bit-map v (chooses z side i) (below i)
 
-choice_of_side : (z : Sizes) (v : Assignment) (side : Side) (i : ℕ) → holds v (choices_exist z i) ≡ true → holds v (choice_exists z i side) ≡ true
+choice_of_side : (z : Dimensions) (v : Assignment) (side : Side) (i : ℕ) → holds v (choices_exist z i) ≡ true → holds v (choice_exists z i side) ≡ true
 unfolding choices_exist
 choice_of_side z v First i all = (holds_both v (choice_exists z i First) (choice_exists z i Second) all).0
 choice_of_side z v Second i all = (holds_both v (choice_exists z i First) (choice_exists z i Second) all).1
 
-choice_get : (z : Sizes) (v : Assignment) (side : Side) (i : ℕ) → holds v (operands_exist z) ≡ true → IsStepPlace z i → (j : ℕ) × (1 ≤ j) × (j < i) × (v (choice_var z side i j) ≡ true)
+choice_get : (z : Dimensions) (v : Assignment) (side : Side) (i : ℕ) → holds v (operands_exist z) ≡ true → IsStepPlace z i → (j : ℕ) × (1 ≤ j) × (j < i) × (v (choice_var z side i j) ≡ true)
 unfolding operands_exist
 choice_get z v side i all is =
     let at_i = choice_of_side z v side i (holds_each v (choices_exist z) (places z) i all (place_there z i is)) in
@@ -62,7 +62,7 @@ choice_get z v side i all is =
     let (from, to) = there_below i found.element found.inside in
     (found.element, from, to, found.passes)
 
-choice_make : (z : Sizes) (v : Assignment) → ((side : Side) (i : ℕ) → IsStepPlace z i → (j : ℕ) × (1 ≤ j) × (j < i) × (v (choice_var z side i j) ≡ true)) → holds v (operands_exist z) ≡ true
+choice_make : (z : Dimensions) (v : Assignment) → ((side : Side) (i : ℕ) → IsStepPlace z i → (j : ℕ) × (1 ≤ j) × (j < i) × (v (choice_var z side i j) ≡ true)) → holds v (operands_exist z) ≡ true
 unfolding operands_exist choices_exist
 choice_make z v each = each_holds v (choices_exist z) (places z) (λ i c.
     let one : (side : Side) → holds v (choice_exists z i side) ≡ true = λ side.
@@ -72,7 +72,7 @@ choice_make z v each = each_holds v (choices_exist z) (places z) (λ i c.
 
 -- ---- an operand has the value of its place
 
-copy_bits : (z : Sizes) (v : Assignment) (side : Side) (i j t : ℕ) (e : Bool) →
+copy_bits : (z : Dimensions) (v : Assignment) (side : Side) (i j t : ℕ) (e : Bool) →
     holds v (written (copy_raw z side i j t e)) ≡ (not (v (choice_var z side i j)) ||
     (same (v (value_var z side i t)) e || (same (x_bit z v j t) (not e) || false)))
 unfolding copy_raw raws_bit raw_value same
@@ -97,12 +97,12 @@ copy_true true u true false is = rw (is refl) refl
 copy_true true u false true is = rw (is refl) refl
 copy_true true u false false is = rw (is refl) refl
 
-copy_row_get : (z : Sizes) (v : Assignment) (side : Side) (i j t : ℕ) (e : Bool) → holds v (copy_row z side i j t) ≡ true → holds v (written (copy_raw z side i j t e)) ≡ true
+copy_row_get : (z : Dimensions) (v : Assignment) (side : Side) (i j t : ℕ) (e : Bool) → holds v (copy_row z side i j t) ≡ true → holds v (written (copy_raw z side i j t e)) ≡ true
 unfolding copy_row
 copy_row_get z v side i j t true all = (holds_both v (written (copy_raw z side i j t false)) (written (copy_raw z side i j t true)) all).1
 copy_row_get z v side i j t false all = (holds_both v (written (copy_raw z side i j t false)) (written (copy_raw z side i j t true)) all).0
 
-copy_get : (z : Sizes) (v : Assignment) (side : Side) (i j t : ℕ) → holds v (copies z side) ≡ true → IsBelow z i j →
+copy_get : (z : Dimensions) (v : Assignment) (side : Side) (i j t : ℕ) → holds v (copies z side) ≡ true → IsBelow z i j →
     t < 2 ^ z.n → v (choice_var z side i j) ≡ true → v (value_var z side i t) ≡ x_bit z v j t
 unfolding copies copy_step copy_place
 copy_get z v side i j t all is row true_ =
@@ -111,7 +111,7 @@ copy_get z v side i j t all is row true_ =
     let at_t = holds_each v (copy_row z side i j) (rows z) t at_j (row_there z t row) in
     copied (v (choice_var z side i j)) (v (value_var z side i t)) (x_bit z v j t) true_ (sym (copy_bits z v side i j t (x_bit z v j t)) ∙ copy_row_get z v side i j t (x_bit z v j t) at_t)
 
-copy_make : (z : Sizes) (v : Assignment) (side : Side) →
+copy_make : (z : Dimensions) (v : Assignment) (side : Side) →
     ((i j t : ℕ) → IsBelow z i j → t < 2 ^ z.n → v (choice_var z side i j) ≡ true →
     v (value_var z side i t) ≡ x_bit z v j t) → holds v (copies z side) ≡ true
 unfolding copies copy_step copy_place copy_row
@@ -123,14 +123,14 @@ copy_make z v side each =
 
 -- ---- a step has its operator's value
 
-result_bits : (z : Sizes) (v : Assignment) (i t : ℕ) (a b c : Bool)
+result_bits : (z : Dimensions) (v : Assignment) (i t : ℕ) (a b c : Bool)
     → holds v (result_clause z i t a b c) ≡ clause_of true (x_bit z v i t) (v (value_var z First i t)) (v (value_var z Second i t)) (v (f_var z i b c)) a b c
 unfolding result_clause result_raw raws_bit raw_value same
 result_bits z v i t a b c =
     holds-written v (result_raw z i t a b c) (x_is_positive z i t (not a), (value_positive z First i t, (value_positive z Second i t, (f_positive z i b c, tt))))
     ∙ rw (x_is_value z v i t (not a)) refl
 
-four_get : (z : Sizes) (v : Assignment) (i t : ℕ) (a b c : Bool) → holds v (result_bit z i t a) ≡ true → holds v (result_clause z i t a b c) ≡ true
+four_get : (z : Dimensions) (v : Assignment) (i t : ℕ) (a b c : Bool) → holds v (result_bit z i t a) ≡ true → holds v (result_clause z i t a b c) ≡ true
 unfolding result_bit
 four_get z v i t a b c all =
     let (three, last) = holds_both v _ (result_clause z i t a true true) all in
@@ -141,13 +141,13 @@ four_get z v i t a b c all =
       | false ↦ elim [ true ↦ second | false ↦ first ]
     ]) c
 
-result_row_get : (z : Sizes) (v : Assignment) (i t : ℕ) (a b c : Bool) → holds v (result_row z i t) ≡ true → holds v (result_clause z i t a b c) ≡ true
+result_row_get : (z : Dimensions) (v : Assignment) (i t : ℕ) (a b c : Bool) → holds v (result_row z i t) ≡ true → holds v (result_clause z i t a b c) ≡ true
 unfolding result_row
 result_row_get z v i t a b c all =
     let (low, high) = holds_both v (result_bit z i t false) (result_bit z i t true) all in
     four_get z v i t a b c ((elim a as (λ a. holds v (result_bit z i t a) ≡ true) [ true ↦ high | false ↦ low ]))
 
-four_make : (z : Sizes) (v : Assignment) (i t : ℕ) (a : Bool) → ((b c : Bool) → holds v (result_clause z i t a b c) ≡ true) → holds v (result_bit z i t a) ≡ true
+four_make : (z : Dimensions) (v : Assignment) (i t : ℕ) (a : Bool) → ((b c : Bool) → holds v (result_clause z i t a b c) ≡ true) → holds v (result_bit z i t a) ≡ true
 unfolding result_bit
 four_make z v i t a each =
     both_hold v _ (result_clause z i t a true true)
@@ -156,7 +156,7 @@ four_make z v i t a each =
     (each true false))
     (each true true)
 
-result_get : (z : Sizes) (v : Assignment) (i t : ℕ) → holds v (results z) ≡ true → IsStepPlace z i → t < 2 ^ z.n →
+result_get : (z : Dimensions) (v : Assignment) (i t : ℕ) → holds v (results z) ≡ true → IsStepPlace z i → t < 2 ^ z.n →
     x_bit z v i t ≡ v (f_var z i (v (value_var z First i t)) (v (value_var z Second i t)))
 unfolding results result_step
 result_get z v i t all is row =
@@ -167,7 +167,7 @@ result_get z v i t all is row =
     let k : Bool = v (value_var z Second i t) in
     clause_gives true x j k (v (f_var z i j k)) refl (sym (result_bits z v i t x j k) ∙ result_row_get z v i t x j k at_t)
 
-result_make : (z : Sizes) (v : Assignment) → ((i t : ℕ) → IsStepPlace z i → t < 2 ^ z.n →
+result_make : (z : Dimensions) (v : Assignment) → ((i t : ℕ) → IsStepPlace z i → t < 2 ^ z.n →
     x_bit z v i t ≡ v (f_var z i (v (value_var z First i t)) (v (value_var z Second i t)))) → holds v (results z) ≡ true
 unfolding results result_step result_row
 result_make z v each =
@@ -179,7 +179,7 @@ result_make z v each =
 -- ---- all families
 
 -- An assignment that satisfies the clauses has the properties,
-pub chooses_from : (w : Words) (basis : ℕ) (z : Sizes) (v : Assignment) → holds v (chosen_chain w basis z) ≡ true → Chooses w basis z v
+pub chooses_from : (w : Words) (basis : ℕ) (z : Dimensions) (v : Assignment) → holds v (chosen_chain w basis z) ≡ true → Chooses w basis z v
 unfolding chosen_chain
 chooses_from w basis z v all =
     let (six, seventh) = holds_both v _ (operators basis z) all in
@@ -197,7 +197,7 @@ chooses_from w basis z v all =
     }
 
 -- and an assignment with the properties satisfies the clauses.
-pub chooses_to : (w : Words) (basis : ℕ) (z : Sizes) (v : Assignment) → Chooses w basis z v → holds v (chosen_chain w basis z) ≡ true
+pub chooses_to : (w : Words) (basis : ℕ) (z : Dimensions) (v : Assignment) → Chooses w basis z v → holds v (chosen_chain w basis z) ≡ true
 unfolding chosen_chain
 chooses_to w basis z v is =
     both_hold v _ (operators basis z)

@@ -10,7 +10,7 @@ use Rattle.sat_theory.specs.Formula.{Assignment}
 use Rattle.tt_core.specs.Words.{Words}
 use Rattle.enc_theory.specs.declared.data.Side.{Side}
 use Rattle.enc_theory.specs.declared.data.Side.TheVariants.{First, Second}
-use Rattle.enc_theory.specs.declared.data.Sizes.{Sizes}
+use Rattle.enc_theory.specs.declared.data.Dimensions.{Dimensions}
 use Rattle.enc_theory.specs.Numbering.{sizes_of, places}
 use Rattle.enc_theory.specs.Select.{choice_var, value_first, value_var}
 use Rattle.clause_core.specs.Holds.{any_get, any_make}
@@ -26,17 +26,17 @@ operand First s = s.j
 operand Second s = s.k
 
 -- the number is that of a selection variable that is true of the chain
-abbrev step_chooses : Sizes → Chain → ℕ → ℕ → Bool
+abbrev step_chooses : Dimensions → Chain → ℕ → ℕ → Bool
 step_chooses z c x i = choice_var z First i (step_at c i).j == x || choice_var z Second i (step_at c i).k == x
 
-unfoldable pub choice_bit : Sizes → Chain → ℕ → Bool
+unfoldable pub choice_bit : Dimensions → Chain → ℕ → Bool
 choice_bit z c x = list_any (step_chooses z c x) (places z)
 
 -- the value of an operand, by the number of its variable among those of its side
-unfoldable pub operand_bit : Sizes → Chain → Side → ℕ → Bool
+unfoldable pub operand_bit : Dimensions → Chain → Side → ℕ → Bool
 operand_bit z c side x = value c (x % 2 ^ z.n) (operand side (step_at c (x / 2 ^ z.n + (z.n + 1))))
 
-unfoldable pub select_rest : Sizes → Chain → ℕ → Bool
+unfoldable pub select_rest : Dimensions → Chain → ℕ → Bool
 select_rest z c x =
     if nat_lt x (value_first z First) then choice_bit z c x
     else (if nat_lt x (value_first z Second) then operand_bit z c First (x - value_first z First) else operand_bit z c Second (x - value_first z Second))
@@ -50,11 +50,11 @@ pub record IsOfChoices (w : Words) (r : ℕ) (c : Chain) (v : Assignment) : Type
 
 -- ---- the parts of the variables
 
-rest_choice : (z : Sizes) (c : Chain) (side : Side) (i j : ℕ) → IsBelow z i j → select_rest z c (choice_var z side i j) ≡ choice_bit z c (choice_var z side i j)
+rest_choice : (z : Dimensions) (c : Chain) (side : Side) (i j : ℕ) → IsBelow z i j → select_rest z c (choice_var z side i j) ≡ choice_bit z c (choice_var z side i j)
 unfolding select_rest
 rest_choice z c side i j is = rw (lt-ltb (choice_var z side i j) (value_first z First) (choice_below z side i j is)) refl
 
-rest_value : (z : Sizes) (c : Chain) (side : Side) (i t : ℕ) → IsStepPlace z i → t < 2 ^ z.n → select_rest z c (value_var z side i t) ≡ operand_bit z c side ((i - (z.n + 1)) * 2 ^ z.n + t)
+rest_value : (z : Dimensions) (c : Chain) (side : Side) (i t : ℕ) → IsStepPlace z i → t < 2 ^ z.n → select_rest z c (value_var z side i t) ≡ operand_bit z c side ((i - (z.n + 1)) * 2 ^ z.n + t)
 unfolding select_rest value_var value_first
 rest_value z c First i t is row =
     let low = row_low z i t is row in
@@ -70,14 +70,14 @@ rest_value z c Second i t is row =
     let back : value_first z Second + (i - (z.n + 1)) * 2 ^ z.n + t - value_first z Second ≡ (i - (z.n + 1)) * 2 ^ z.n + t = omega arith in
     rw (le-ltb x first (omega arith), le-ltb x second (omega arith), back) refl
 
-operand_bit_is : (z : Sizes) (c : Chain) (side : Side) (i t : ℕ) → IsStepPlace z i → t < 2 ^ z.n → operand_bit z c side ((i - (z.n + 1)) * 2 ^ z.n + t) ≡ value c t (operand side (step_at c i))
+operand_bit_is : (z : Dimensions) (c : Chain) (side : Side) (i t : ℕ) → IsStepPlace z i → t < 2 ^ z.n → operand_bit z c side ((i - (z.n + 1)) * 2 ^ z.n + t) ≡ value c t (operand side (step_at c i))
 unfolding operand_bit
 operand_bit_is z c side i t is row =
     let from = is.from in
     let place : i - (z.n + 1) + (z.n + 1) ≡ i = omega arith in
     rw (div-mul-add (i - (z.n + 1)) (2 ^ z.n) t row, mod-mul-add (i - (z.n + 1)) (2 ^ z.n) t row, place) refl
 
-side_chooses : (z : Sizes) (c : Chain) (side : Side) (i : ℕ) → step_chooses z c (choice_var z side i (operand side (step_at c i))) i ≡ true
+side_chooses : (z : Dimensions) (c : Chain) (side : Side) (i : ℕ) → step_chooses z c (choice_var z side i (operand side (step_at c i))) i ≡ true
 side_chooses z c First i = or_left (choice_var z First i (step_at c i).j == choice_var z First i (step_at c i).j)
     (choice_var z Second i (step_at c i).k == choice_var z First i (step_at c i).j)
     (eq-eqb (choice_var z First i (step_at c i).j) (choice_var z First i (step_at c i).j) refl)
@@ -97,7 +97,7 @@ only_its : (w : Words) (basis r : ℕ) (c : Chain) (side : Side) (l j : ℕ) →
     operand side (step_at c l) ≡ j
 unfolding choice_bit
 only_its w basis r c side l j is below true_ =
-    let z : Sizes = sizes_of w r in
+    let z : Dimensions = sizes_of w r in
     let x : ℕ = choice_var (sizes_of w r) side l j in
     let found = any_get (step_chooses z c x) (places z) true_ in
     let i : ℕ = found.element in
@@ -114,7 +114,7 @@ only_its w basis r c side l j is below true_ =
 pub select_bits : (w : Words) (basis r : ℕ) (c : Chain) → IsFor w basis r c → IsOfChoices w r c (chain_bits (sizes_of w r) c (select_rest (sizes_of w r) c))
 unfolding choice_bit
 select_bits w basis r c is =
-    let z : Sizes = sizes_of w r in
+    let z : Dimensions = sizes_of w r in
     let rest : (side : Side) (i j : ℕ) → IsBelow (sizes_of w r) i j →
     chain_bits (sizes_of w r) c (select_rest (sizes_of w r) c) (choice_var (sizes_of w r) side i j) ≡
     choice_bit (sizes_of w r) c (choice_var (sizes_of w r) side i j) = λ side i j below.

@@ -8,7 +8,7 @@ use Rattle.tt_core.specs.Words.{Words}
 use Rattle.clause_core.specs.declared.raw.RawLit.TheVariants.{Var}
 use Rattle.enc_theory.specs.declared.data.Side.{Side}
 use Rattle.enc_theory.specs.declared.data.Side.TheVariants.{First, Second}
-use Rattle.enc_theory.specs.declared.data.Sizes.{Sizes}
+use Rattle.enc_theory.specs.declared.data.Dimensions.{Dimensions}
 use Rattle.clause_core.specs.Clauses.{written}
 use Rattle.enc_theory.specs.Numbering.{places, rows, outputs, f_var}
 use Rattle.enc_theory.specs.Families.{out_exists, out_values, operator_raw, operators}
@@ -18,7 +18,7 @@ use Rattle.enc_theory.specs.Select.{choices_exist, operands_exist, copy_raw, cop
 use Rattle.enc_theory.specs.Select.{result_raw, result_clause, result_bit, result_row, result_step, results}
 use Rattle.enc_theory.specs.Select.{chosen_chain, not_these, rising_pair, rising_from, rising_step, rising, choosers}
 use Rattle.enc_theory.specs.Select.{used_step, used_steps, equal_choice, negation_pair, negation_from, negation_step}
-use Rattle.enc_theory.specs.Select.{trivial_step, trivial_steps, falling_pair, falling_from, falling_step, falling}
+use Rattle.enc_theory.specs.Select.{trivial_step, trivial_steps, falling_pair, falling_from, falling_step, not_falling}
 use Rattle.enc_theory.specs.Select.{different, no_reapplication_operand, no_reapplication_operands}
 use Rattle.enc_theory.specs.Select.{no_reapplication_from, no_reapplication_after, no_reapplication_step}
 use Rattle.enc_theory.specs.Select.{no_reapplication_steps, chosen_cuts}
@@ -36,7 +36,7 @@ clauses_unless : (vars : ℕ) (test : Bool) (clauses : List (List ℤ)) → AreC
 clauses_unless vars true clauses are = no_clauses vars
 clauses_unless vars false clauses are = are
 
-module _ (w : Words) (basis : ℕ) (z : Sizes) where
+module _ (w : Words) (basis : ℕ) (z : Dimensions) where
   room : HasRoom (select_vars z) z []
   room = room_without_pairs (select_vars z) z (first_within z)
 
@@ -172,8 +172,8 @@ module _ (w : Words) (basis : ℕ) (z : Sizes) where
       (clauses_each (select_vars z) (equal_choice constants z i) (below i) (λ j in_below. equal_clauses constants i j (is_below z i j place in_below))))
       (clauses_each (select_vars z) (negation_step basis z i) (10 ∷ 12 ∷ []) (λ op c. negation_clauses i op place)))
 
-  falling_clauses : AreClauses (select_vars z) (falling basis z)
-  unfolding falling falling_step falling_from falling_pair
+  falling_clauses : AreClauses (select_vars z) (not_falling basis z)
+  unfolding not_falling falling_step falling_from falling_pair
   falling_clauses = clauses_if (select_vars z) (swap_closed (members basis)) (flat_map (falling_step z) (range_with_len (z.n + 1) (z.r - 1)))
       (clauses_each (select_vars z) (falling_step z) (range_with_len (z.n + 1) (z.r - 1)) (λ i in_places.
       clauses_each (select_vars z) (falling_from z i) (below i) (λ k in_below.
@@ -224,7 +224,7 @@ module _ (w : Words) (basis : ℕ) (z : Sizes) where
   chosen_cuts_clauses =
       clauses_both (select_vars z) _ (row_0 basis z)
       (clauses_both (select_vars z) _ (no_reapplication_steps basis z)
-      (clauses_both (select_vars z) _ (falling basis z)
+      (clauses_both (select_vars z) _ (not_falling basis z)
       (clauses_both (select_vars z) _ (trivial_steps basis z)
       (clauses_both (select_vars z) (rising basis z) (used_steps z) rising_clauses used_clauses)
       trivial_clauses)

@@ -14,7 +14,7 @@ use Rattle.clause_core.specs.declared.raw.RawLit.{RawLit}
 use Rattle.clause_core.specs.declared.raw.RawLit.TheVariants.{Var}
 use Rattle.enc_theory.specs.declared.data.Side.{Side}
 use Rattle.enc_theory.specs.declared.data.Side.TheVariants.{First, Second}
-use Rattle.enc_theory.specs.declared.data.Sizes.{Sizes}
+use Rattle.enc_theory.specs.declared.data.Dimensions.{Dimensions}
 use Rattle.clause_core.specs.Clauses.{written}
 use Rattle.enc_theory.specs.Numbering.{sizes_of, places, outputs, f_var}
 use Rattle.enc_theory.specs.Families.{operator_raw}
@@ -22,7 +22,7 @@ use Rattle.enc_theory.specs.Cuts.{drives, not_idle, row_0}
 use Rattle.enc_theory.specs.Select.{choice_var, below, above, chooses, not_these, rising_pair, rising_from, rising_step}
 use Rattle.enc_theory.specs.Select.{rising, choosers, used_step, used_steps, equal_choice, negation_pair, negation_from}
 use Rattle.enc_theory.specs.Select.{negation_step, trivial_step, trivial_steps, falling_pair, falling_from}
-use Rattle.enc_theory.specs.Select.{falling_step, falling, different, no_reapplication_operand}
+use Rattle.enc_theory.specs.Select.{falling_step, not_falling, different, no_reapplication_operand}
 use Rattle.enc_theory.specs.Select.{no_reapplication_operands, no_reapplication_from, no_reapplication_after}
 use Rattle.enc_theory.specs.Select.{no_reapplication_step, no_reapplication_steps, chosen_cuts}
 use Rattle.enc_laws.specs.Bounds.{f_positive}
@@ -47,7 +47,7 @@ unless_both true true more e = e refl refl
 unless_both true false more e = refl
 unless_both false b more e = refl
 
-pub these_positive : (z : Sizes) (i j k : ℕ) → ArePositive (not_these z i j k)
+pub these_positive : (z : Dimensions) (i j k : ℕ) → ArePositive (not_these z i j k)
 these_positive z i j k = (choice_positive z First i j, (choice_positive z Second i k, tt))
 
 -- the operands of a step, each once
@@ -94,7 +94,7 @@ module _ (w : Words) (basis r : ℕ) (c : Chain) (v : Assignment) (choices : IsO
   pub rising_holds : holds v (rising basis (sizes_of w r)) ≡ true
   unfolding rising rising_step rising_from rising_pair
   rising_holds =
-      let z : Sizes = sizes_of w r in
+      let z : Dimensions = sizes_of w r in
       if_holds v (swap_closed (members basis)) (flat_map (rising_step z) (places z)) (λ closed.
       each_holds v (rising_step z) (places z) (λ i in_places. each_holds v (rising_from z i) (below i) (λ j in_below.
       each_holds v (rising_pair z i j) (below j) (λ k in_lower.
@@ -120,7 +120,7 @@ module _ (w : Words) (basis r : ℕ) (c : Chain) (v : Assignment) (choices : IsO
   chooser_bit : (side : Side) (i l : ℕ) → IsStepPlace (sizes_of w r) l → i < l → operand side (step_at c l) ≡ i → raws_bit v (flat_map (choosers (sizes_of w r) i) (above (sizes_of w r) i)) ≡ true
   unfolding chooses raw_value same
   chooser_bit side i l place less e =
-      let z : Sizes = sizes_of w r in
+      let z : Dimensions = sizes_of w r in
       let to = place.to in
       raws_make v (flat_map (choosers z i) (above z i)) (Var (choice_var z side l i) true)
       (flat_map_make (choosers z i) (above z i) l (Var (choice_var z side l i) true) (range_contains (i + 1) (w.n + r - i) l (omega arith) (omega arith)) (chooser_there side i l))
@@ -160,7 +160,7 @@ module _ (w : Words) (basis r : ℕ) (c : Chain) (v : Assignment) (choices : IsO
   pub used_steps_hold : holds v (used_steps (sizes_of w r)) ≡ true
   unfolding used_steps used_step
   used_steps_hold =
-      let z : Sizes = sizes_of w r in
+      let z : Dimensions = sizes_of w r in
       each_holds v (used_step z) (places z) (λ i in_places.
       let place = there_place z i in_places in
       let outs : List RawLit = map (drives z i) (outputs z) in
@@ -188,7 +188,7 @@ module _ (w : Words) (basis r : ℕ) (c : Chain) (v : Assignment) (choices : IsO
   equal_holds : (i j : ℕ) (constants : Bool) → IsBelow (sizes_of w r) i j → const_closed (members basis) ≡ constants → holds v (equal_choice constants (sizes_of w r) i j) ≡ true
   unfolding equal_choice raws_bit raw_value same
   equal_holds i j true at closed =
-      let z : Sizes = sizes_of w r in
+      let z : Dimensions = sizes_of w r in
       let negates : (step_at c i).j ≡ j → (step_at c i).k ≡ j → NegatesBoth (step_at c i).op =
       λ j_is k_is. normal_form.equal_negate closed (i - (c.n + 1)) (step_at c i) (is_step i at.place) (j_is
       ∙ sym k_is) in
@@ -199,7 +199,7 @@ module _ (w : Words) (basis r : ℕ) (c : Chain) (v : Assignment) (choices : IsO
       one_bit (f_var z i true true) false (ap not (choices.of.operators i true true at.place
       ∙ (negates j_is k_is).1))))
   equal_holds i j false at closed =
-      let z : Sizes = sizes_of w r in
+      let z : Dimensions = sizes_of w r in
       these_hold i j j (Var (f_var z i false false) true ∷ Var (f_var z i true true) false ∷ []) at at (f_positive z i false false, (f_positive z i true true, tt)) (λ j_is k_is.
       not_zero_one (v (f_var z i false false)) (v (f_var z i true true)) (λ low high.
       normal_form.equal_no_copy (i - (c.n + 1)) (step_at c i) (is_step i at.place) (j_is ∙ sym k_is)
@@ -211,7 +211,7 @@ module _ (w : Words) (basis r : ℕ) (c : Chain) (v : Assignment) (choices : IsO
   negation_pair_holds : (i op j k : ℕ) → op < 16 → IsNegation op → IsBelow (sizes_of w r) i j → IsBelow (sizes_of w r) i k → holds v (negation_pair (sizes_of w r) i op j k) ≡ true
   unfolding negation_pair holds
   negation_pair_holds i op j k low negation first second =
-      let z : Sizes = sizes_of w r in
+      let z : Dimensions = sizes_of w r in
       let raws : List RawLit = operator_raw z i op in
       let these : List RawLit = not_these z i j k in
       ⊎_elim
@@ -231,7 +231,7 @@ module _ (w : Words) (basis r : ℕ) (c : Chain) (v : Assignment) (choices : IsO
   negation_step_holds : (i op : ℕ) → op < 16 → IsNegation op → IsStepPlace (sizes_of w r) i → holds v (negation_step basis (sizes_of w r) i op) ≡ true
   unfolding negation_step negation_from
   negation_step_holds i op low negation place =
-      let z : Sizes = sizes_of w r in
+      let z : Dimensions = sizes_of w r in
       if_holds v (members basis op) (flat_map (negation_from z i op) (below i)) (λ member.
       each_holds v (negation_from z i op) (below i) (λ j in_below. each_holds v (negation_pair z i op j) (below i)
       (λ k in_below'.
@@ -240,7 +240,7 @@ module _ (w : Words) (basis r : ℕ) (c : Chain) (v : Assignment) (choices : IsO
   pub trivial_steps_hold : holds v (trivial_steps basis (sizes_of w r)) ≡ true
   unfolding trivial_steps trivial_step holds
   trivial_steps_hold =
-      let z : Sizes = sizes_of w r in
+      let z : Dimensions = sizes_of w r in
       let constants : Bool = const_closed (members basis) in
       each_holds v (trivial_step constants basis z) (places z) (λ i in_places.
       let place = there_place z i in_places in
@@ -257,7 +257,7 @@ module _ (w : Words) (basis r : ℕ) (c : Chain) (v : Assignment) (choices : IsO
       IsStepPlace (sizes_of w r) (i + 1) → 1 ≤ l → l < k → k < i → holds v (falling_pair (sizes_of w r) i k l) ≡ true
   unfolding falling_pair raws_bit raw_value same
   falling_pair_holds i k l closed place next some less low =
-      let z : Sizes = sizes_of w r in
+      let z : Dimensions = sizes_of w r in
       let a : Step = step_at c i in
       let b : Step = step_at c (i + 1) in
       let from = place.from in
@@ -273,10 +273,10 @@ module _ (w : Words) (basis r : ℕ) (c : Chain) (v : Assignment) (choices : IsO
       let rises' : (step_at c (i + 1)).j ≤ (step_at c (i + 1)).k = normal_form.operands_rise closed (i + 1 - (c.n + 1)) (step_at c (i + 1)) at' in
       normal_form.in_order (i - (c.n + 1)) (step_at c i) (step_at c (i + 1)) at (subst (λ (x : ℕ). IsStep c x (step_at c (i + 1))) index at') (inl (omega arith)))
 
-  pub falling_holds : holds v (falling basis (sizes_of w r)) ≡ true
-  unfolding falling falling_step falling_from
+  pub falling_holds : holds v (not_falling basis (sizes_of w r)) ≡ true
+  unfolding not_falling falling_step falling_from
   falling_holds =
-      let z : Sizes = sizes_of w r in
+      let z : Dimensions = sizes_of w r in
       if_holds v (swap_closed (members basis)) (flat_map (falling_step z) (range_with_len (w.n + 1) (r - 1)))
       (λ closed. each_holds v (falling_step z) (range_with_len (w.n + 1) (r - 1)) (λ i in_places.
       let (from, to) = range_inside (w.n + 1) (r - 1) i in_places in
@@ -304,7 +304,7 @@ module _ (w : Words) (basis r : ℕ) (c : Chain) (v : Assignment) (choices : IsO
       (o ≡ k) → holds v (no_reapplication_operand ordered (sizes_of w r) i l j k o) ≡ true
   unfolding no_reapplication_operand holds
   no_reapplication_operand_holds ordered i l j k o closed later less first second one =
-      let z : Sizes = sizes_of w r in
+      let z : Dimensions = sizes_of w r in
       let place = first.place in
       let from = place.from in
       let j_from = first.from in
@@ -332,7 +332,7 @@ module _ (w : Words) (basis r : ℕ) (c : Chain) (v : Assignment) (choices : IsO
   pub no_reapplication_steps_hold : holds v (no_reapplication_steps basis (sizes_of w r)) ≡ true
   unfolding no_reapplication_steps no_reapplication_step no_reapplication_after no_reapplication_from no_reapplication_operands
   no_reapplication_steps_hold =
-      let z : Sizes = sizes_of w r in
+      let z : Dimensions = sizes_of w r in
       let ordered : Bool = swap_closed (members basis) in
       if_holds v (reapply_closed (members basis)) (flat_map (no_reapplication_step ordered z) (places z)) (λ closed.
       each_holds v (no_reapplication_step ordered z) (places z) (λ i in_places.
@@ -355,10 +355,10 @@ module _ (w : Words) (basis r : ℕ) (c : Chain) (v : Assignment) (choices : IsO
   pub chosen_cuts_hold : holds v (chosen_cuts basis (sizes_of w r)) ≡ true
   unfolding chosen_cuts
   chosen_cuts_hold =
-      let z : Sizes = sizes_of w r in
+      let z : Dimensions = sizes_of w r in
       both_hold v _ (row_0 basis z)
       (both_hold v _ (no_reapplication_steps basis z)
-      (both_hold v _ (falling basis z)
+      (both_hold v _ (not_falling basis z)
       (both_hold v _ (trivial_steps basis z)
       (both_hold v (rising basis z) (used_steps z) rising_holds used_steps_hold)
       trivial_steps_hold)

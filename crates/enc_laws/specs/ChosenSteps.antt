@@ -15,7 +15,7 @@ use Rattle.sat_theory.specs.Formula.{Assignment}
 use Rattle.tt_core.specs.Words.{Words}
 use Rattle.enc_theory.specs.declared.data.Side.{Side}
 use Rattle.enc_theory.specs.declared.data.Side.TheVariants.{First, Second}
-use Rattle.enc_theory.specs.declared.data.Sizes.{Sizes}
+use Rattle.enc_theory.specs.declared.data.Dimensions.{Dimensions}
 use Rattle.enc_theory.specs.Numbering.{places, f_var}
 use Rattle.enc_theory.specs.Decode.{first_driver}
 use Rattle.enc_theory.specs.Select.{choice_var, value_var, below, first_choice, chosen_step}
@@ -27,17 +27,17 @@ use Rattle.enc_laws.specs.SelectVars.{IsBelow}
 use Rattle.enc_laws.specs.Chooses.{Chooses, below_there, is_below}
 
 -- the first place whose selection variable is true
-pub record IsFirstChoice (z : Sizes) (v : Assignment) (side : Side) (i : ℕ) (js : List ℕ) (j : ℕ) : Type 0 where
+pub record IsFirstChoice (z : Dimensions) (v : Assignment) (side : Side) (i : ℕ) (js : List ℕ) (j : ℕ) : Type 0 where
   pub inside : Contains js j
   pub true_ : v (choice_var z side i j) ≡ true
 
-here_or_later : (z : Sizes) (v : Assignment) (side : Side) (i j : ℕ) (js : List ℕ) (later : ℕ) (b : Bool) →
+here_or_later : (z : Dimensions) (v : Assignment) (side : Side) (i j : ℕ) (js : List ℕ) (later : ℕ) (b : Bool) →
     v (choice_var z side i j) ≡ b → (b ≡ false → IsFirstChoice z v side i js later) →
     IsFirstChoice z v side i (j ∷ js) (if b then j else later)
 here_or_later z v side i j js later true e found = record { inside = contains_head j js; true_ = e }
 here_or_later z v side i j js later false e found = let more = found refl in record { inside = contains_tail j later js more.inside; true_ = more.true_ }
 
-first_choice_is : (z : Sizes) (v : Assignment) (side : Side) (i : ℕ) (js : List ℕ) → list_any (λ j. v (choice_var z side i j)) js ≡ true → IsFirstChoice z v side i js (first_choice z v side i js)
+first_choice_is : (z : Dimensions) (v : Assignment) (side : Side) (i : ℕ) (js : List ℕ) → list_any (λ j. v (choice_var z side i j)) js ≡ true → IsFirstChoice z v side i js (first_choice z v side i js)
 unfolding first_choice
 first_choice_is z v side i [] any = absurd cc
 first_choice_is z v side i (j ∷ js) any =
@@ -46,10 +46,10 @@ first_choice_is z v side i (j ∷ js) any =
     ∙ any))
 
 -- the operand that the assignment spells
-abbrev pub spelled_operand : Sizes → Assignment → Side → ℕ → ℕ
+abbrev pub spelled_operand : Dimensions → Assignment → Side → ℕ → ℕ
 spelled_operand z v side i = first_choice z v side i (below i)
 
-module _ (w : Words) (basis : ℕ) (z : Sizes) (v : Assignment) (is : Chooses w basis z v) where
+module _ (w : Words) (basis : ℕ) (z : Dimensions) (v : Assignment) (is : Chooses w basis z v) where
   choice_is : (side : Side) (i : ℕ) → IsStepPlace z i → IsFirstChoice z v side i (below i) (spelled_operand z v side i)
   choice_is side i place =
       let (j, from, to, true_) = is.choice side i place in

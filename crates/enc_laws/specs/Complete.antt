@@ -16,7 +16,7 @@ use Rattle.op_basis.specs.Basis.{members}
 use Rattle.op_basis.specs.Laws.{operator_only}
 use Rattle.sat_theory.specs.Formula.{Assignment}
 use Rattle.tt_core.specs.Words.{Words, cell_of}
-use Rattle.enc_theory.specs.declared.data.Sizes.{Sizes}
+use Rattle.enc_theory.specs.declared.data.Dimensions.{Dimensions}
 use Rattle.enc_theory.specs.declared.data.Slot.{Slot}
 use Rattle.enc_theory.specs.Numbering.{sizes_of, x_var, g_var, f_var, s_first}
 use Rattle.enc_theory.specs.Pairs.{StepSlots}
@@ -49,11 +49,11 @@ slot_bit c steps x = list_any (λ s. list_any (λ u. (u.var == x) && is_pair_of 
 
 -- The assignment of a chain: the values of its steps, its outputs, its operators, and the variables after
 -- these,
-abbrev pub chain_bits : Sizes → Chain → (ℕ → Bool) → Assignment
+abbrev pub chain_bits : Dimensions → Chain → (ℕ → Bool) → Assignment
 chain_bits z c rest = built z (λ i t. value c t i) (λ h i. is_place i (out_at c.outs h)) (λ i b c'. apply (step_at c i).op b c') rest
 
 -- which here are selection variables.
-abbrev pub assignment_of : Sizes → List StepSlots → Chain → Assignment
+abbrev pub assignment_of : Dimensions → List StepSlots → Chain → Assignment
 assignment_of z steps c = chain_bits z c (slot_bit c steps)
 
 -- a variable is the selection variable of at most one slot, and the pair of each step has a slot
@@ -110,7 +110,7 @@ bits_of_chain w r c rest = record {
   operators = λ i b b' is. built_f (sizes_of w r) (λ i t. value c t i) (λ h i. is_place i (out_at c.outs h)) (λ i b c'. apply (step_at c i).op b c') rest i b b' is;
 }
 
-pub bits_after_are : (z : Sizes) (c : Chain) (rest : ℕ → Bool) (x : ℕ) → s_first z ≤ x → chain_bits z c rest x ≡ rest x
+pub bits_after_are : (z : Dimensions) (c : Chain) (rest : ℕ → Bool) (x : ℕ) → s_first z ≤ x → chain_bits z c rest x ≡ rest x
 bits_after_are z c rest x bits_after = built_s z (λ i t. value c t i) (λ h i. is_place i (out_at c.outs h)) (λ i b c'. apply (step_at c i).op b c') rest x bits_after
 
 module _ (w : Words) (basis r : ℕ) (c : Chain) where

@@ -8,7 +8,7 @@ use Rattle.op_basis.specs.Closed.{const_closed, polarity_closed, reapply_closed}
 use Rattle.tt_core.specs.Words.{Words}
 use Rattle.clause_core.specs.declared.raw.RawLit.{RawLit}
 use Rattle.clause_core.specs.declared.raw.RawLit.TheVariants.{Var}
-use Rattle.enc_theory.specs.declared.data.Sizes.{Sizes}
+use Rattle.enc_theory.specs.declared.data.Dimensions.{Dimensions}
 use Rattle.enc_theory.specs.declared.data.Slot.{Slot}
 use Rattle.clause_core.specs.Clauses.{written}
 use Rattle.enc_theory.specs.Numbering.{places, outputs, f_var, x_is}
@@ -46,7 +46,7 @@ one_if vars false raw is = tt
 
 -- ---- clauses without pairs
 
-module _ (vars basis : ℕ) (z : Sizes) (steps : List StepSlots) (room : HasRoom vars z steps) where
+module _ (vars basis : ℕ) (z : Dimensions) (steps : List StepSlots) (room : HasRoom vars z steps) where
   pub operator_of : (i : ℕ) (b c bit : Bool) → IsStepPlace z i → IsOf vars (Var (f_var z i b c) bit)
   operator_of i b c bit place = (f_positive z i b c, (let common = room.common in omega (arith, f_below z i b c place)))
 
@@ -76,7 +76,7 @@ module _ (vars basis : ℕ) (z : Sizes) (steps : List StepSlots) (room : HasRoom
 
 -- ---- a layout with room for its variables
 
-module _ (vars basis : ℕ) (w : Words) (z : Sizes) (steps : List StepSlots) (room : HasRoom vars z steps) (laid : IsLaid z steps) where
+module _ (vars basis : ℕ) (w : Words) (z : Dimensions) (steps : List StepSlots) (room : HasRoom vars z steps) (laid : IsLaid z steps) where
   chosen_of : (s : StepSlots) (u : Slot) (bit : Bool) → Contains steps s → Contains s.slots u → IsOf vars (Var u.var bit)
   chosen_of s u bit in_steps in_slots = (room.positive s u record { step = in_steps; slot = in_slots }, room.slots s u record { step = in_steps; slot = in_slots })
 

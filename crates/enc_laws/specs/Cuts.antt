@@ -14,7 +14,7 @@ use Rattle.tt_core.specs.Symmetry.{IsSymmetric}
 use Rattle.tt_core.specs.Words.{Words, specification}
 use Rattle.clause_core.specs.declared.raw.RawLit.{RawLit}
 use Rattle.clause_core.specs.declared.raw.RawLit.TheVariants.{Var}
-use Rattle.enc_theory.specs.declared.data.Sizes.{Sizes}
+use Rattle.enc_theory.specs.declared.data.Dimensions.{Dimensions}
 use Rattle.enc_theory.specs.declared.data.Slot.{Slot}
 use Rattle.clause_core.specs.Clauses.{written}
 use Rattle.enc_theory.specs.Numbering.{sizes_of, outputs, f_var}
@@ -292,7 +292,7 @@ module _ (w : Words) (basis r : ℕ) (steps : List StepSlots) (c : Chain) (place
   unfolding negation_raw
   negation_holds normal_form s op in_steps low negation =
       let v : Assignment = assignment_of (sizes_of w r) steps c in
-      let z : Sizes = sizes_of w r in
+      let z : Dimensions = sizes_of w r in
       let at : IsStepPlace (sizes_of w r) s.place = laid_is_place (sizes_of w r) steps s placed.laid in_steps in
       if_holds v (members basis op) (written (operator_raw z s.place op ++ flat_map equal_pair s.slots)) (λ member.
       holds-written v (operator_raw z s.place op ++
@@ -312,7 +312,7 @@ module _ (w : Words) (basis r : ℕ) (steps : List StepSlots) (c : Chain) (place
   unfolding not_trivial not_trivial_at not_idle equal_slot negations holds
   not_trivial_holds normal_form =
       let v : Assignment = assignment_of (sizes_of w r) steps c in
-      let z : Sizes = sizes_of w r in
+      let z : Dimensions = sizes_of w r in
       each_holds v (not_trivial_at (const_closed (members basis)) basis z) steps (λ s in_steps.
       let at : IsStepPlace (sizes_of w r) s.place = laid_is_place (sizes_of w r) steps s placed.laid in_steps in
       both_hold v (not_idle (const_closed (members basis)) basis z s.place ++ flat_map (equal_slot (const_closed (members basis)) z s.place) s.slots) (negations basis z s)
@@ -410,7 +410,7 @@ module _ (w : Words) (basis r : ℕ) (steps : List StepSlots) (c : Chain) (place
   unfolding cuts
   cuts_hold normal_form =
       let v : Assignment = assignment_of (sizes_of w r) steps c in
-      let z : Sizes = sizes_of w r in
+      let z : Dimensions = sizes_of w r in
       both_hold v _ (row_0 basis z)
       (both_hold v _ (exchange w steps)
       (both_hold v _ (no_reapplication basis steps)

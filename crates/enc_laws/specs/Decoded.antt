@@ -7,7 +7,7 @@ use Rattle.op_basis.specs.Basis.{members}
 use Rattle.sat_theory.specs.Formula.{Assignment}
 use Rattle.tt_core.specs.Words.{Words, specification}
 use Rattle.tt_core.specs.Live.{live_words}
-use Rattle.enc_theory.specs.declared.data.Sizes.{Sizes}
+use Rattle.enc_theory.specs.declared.data.Dimensions.{Dimensions}
 use Rattle.enc_theory.specs.Numbering.{sizes_of, places}
 use Rattle.enc_theory.specs.Pairs.{StepSlots}
 use Rattle.enc_theory.specs.Families.{common}
@@ -29,7 +29,7 @@ pub for_is_there : (w : Words) (basis r : ℕ) (c : Chain) → IsFor w basis r c
 for_is_there w basis r c is = record { chain = c; is_chain = is.is_chain; size = is.size; is_over = is.is_over; agrees = is.agrees }
 
 -- the steps that are spelled, and the drivers of live outputs
-abbrev pub live_chain : Sizes → List Step → Assignment → Chain
+abbrev pub live_chain : Dimensions → List Step → Assignment → Chain
 live_chain z steps v = spelled z steps (λ h. first_driver z v h (places z))
 
 spelled_is_whole : (w : Words) (r : ℕ) (steps : List Step) (v : Assignment) → with_outs w (sizes_of (live_words w) r) steps v ≡ whole_chain w (live_chain (sizes_of (live_words w) r) steps v)
@@ -41,7 +41,7 @@ pub spelled_is_for : (w : Words) (basis r : ℕ) (steps : List Step) (v : Assign
     (λ h. first_driver (sizes_of (live_words w) r) v h (places (sizes_of (live_words w) r)))
     → ((outs : List Out) → IsOver (members basis) (record { n = w.n; steps = steps; outs = outs })) → IsFor w basis r (with_outs w (sizes_of (live_words w) r) steps v)
 spelled_is_for w basis r steps v is over =
-    let z : Sizes = sizes_of (live_words w) r in
+    let z : Dimensions = sizes_of (live_words w) r in
     let agrees : Agrees (live_chain z steps v) (specification (live_words w)) = spelled_agrees (live_words w) z v steps (λ h. first_driver z v h (places z)) refl refl is in
     subst (IsFor w basis r) (sym (spelled_is_whole w r steps v)) record {
       is_chain = restored_is_chain w (live_chain z steps v) (spelled_is_chain (live_words w) z v steps (λ h. first_driver z v h (places z)) is) refl agrees.outputs;
@@ -57,6 +57,6 @@ pub decoded_is_for : (w : Words) (basis r : ℕ) (steps : List StepSlots) (v : A
     ≡ true → IsFor w basis r (decoded w (sizes_of (live_words w) r) steps v)
 unfolding decoded
 decoded_is_for w basis r steps v laid all =
-    let z : Sizes = sizes_of (live_words w) r in
+    let z : Dimensions = sizes_of (live_words w) r in
     let solves : Solves (live_words w) basis z steps v = solves_from (live_words w) basis z steps v laid all in
     spelled_is_for w basis r (map (decoded_step z v) steps) v (solved_spells (live_words w) basis z steps v laid solves) (λ outs. solved_is_over (live_words w) basis z steps v outs laid solves)

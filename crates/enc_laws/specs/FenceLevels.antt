@@ -16,7 +16,7 @@ use Rattle.tt_core.specs.Live.{live_words}
 use Rattle.clause_core.specs.Clauses.{IsSatisfiable}
 use Rattle.clause_core.specs.Holds.{flat_map_get, range_inside}
 use Rattle.enc_theory.specs.declared.data.Pair.{Pair}
-use Rattle.enc_theory.specs.declared.data.Sizes.{Sizes}
+use Rattle.enc_theory.specs.declared.data.Dimensions.{Dimensions}
 use Rattle.enc_theory.specs.Numbering.{sizes_of}
 use Rattle.enc_theory.specs.Pairs.{pair, pairs_with, layout}
 use Rattle.enc_theory.specs.Decode.{decoded_step, decoded}
@@ -115,7 +115,7 @@ pub fence_has_levels : (w : Words) (basis r : ℕ) (fence : List ℕ) (v : Assig
 unfolding fence_formula fence_live fence_decoded decoded
 fence_has_levels w basis r fence v satisfies =
     let ordered : Bool = swap_closed (members basis) in
-    let z : Sizes = sizes_of (live_words w) r in
+    let z : Dimensions = sizes_of (live_words w) r in
     let steps : List Step = map (decoded_step z v) (layout (fence_pairs ordered w.n fence) z) in
     let is : IsFor w basis r (fence_decoded w basis r fence v) = fence_decodes w basis r fence v satisfies in
     λ p from to.

@@ -8,7 +8,7 @@ use Rattle.chain_theory.specs.declared.data.Cell.TheVariants.{Zero, One, Free}
 use Rattle.op_basis.specs.Basis.{members}
 use Rattle.tt_core.specs.Words.{Words, cell_of}
 use Rattle.clause_core.specs.declared.raw.RawLit.TheVariants.{Var}
-use Rattle.enc_theory.specs.declared.data.Sizes.{Sizes}
+use Rattle.enc_theory.specs.declared.data.Dimensions.{Dimensions}
 use Rattle.enc_theory.specs.declared.data.Pair.{Pair}
 use Rattle.enc_theory.specs.declared.data.Slot.{Slot}
 use Rattle.clause_core.specs.Clauses.{written}
@@ -26,27 +26,27 @@ use Rattle.enc_laws.specs.Layouts.{IsStepPlace, IsSlotOf, IsLaid, AreBelow, numb
 -- ---- the families that define chains
 
 -- room for all variables except selection variables, and for these too
-pub record HasRoom (vars : ℕ) (z : Sizes) (steps : List StepSlots) : Type 0 where
+pub record HasRoom (vars : ℕ) (z : Dimensions) (steps : List StepSlots) : Type 0 where
   pub common : s_first z ≤ vars + 1
   pub slots : (s : StepSlots) (u : Slot) → IsSlotOf steps s u → u.var ≤ vars
   pub positive : (s : StepSlots) (u : Slot) → IsSlotOf steps s u → 1 ≤ u.var
 
 -- if there are no pairs, room for all other variables is enough
-pub room_without_pairs : (vars : ℕ) (z : Sizes) → s_first z ≤ vars + 1 → HasRoom vars z []
+pub room_without_pairs : (vars : ℕ) (z : Dimensions) → s_first z ≤ vars + 1 → HasRoom vars z []
 room_without_pairs vars z common = record {
   common = common;
   slots = λ s u is. absurd (omega (arith, is.step.1));
   positive = λ s u is. absurd (omega (arith, is.step.1));
 }
 
-pub x_is_of : (vars : ℕ) (z : Sizes) (steps : List StepSlots) (j t : ℕ) (bit : Bool) → HasRoom vars z steps → j < z.n + 1 + z.r → t < 2 ^ z.n → IsOf vars (x_is z j t bit)
+pub x_is_of : (vars : ℕ) (z : Dimensions) (steps : List StepSlots) (j t : ℕ) (bit : Bool) → HasRoom vars z steps → j < z.n + 1 + z.r → t < 2 ^ z.n → IsOf vars (x_is z j t bit)
 unfolding x_is
 x_is_of vars z steps j t bit room low row = ⊎_elim
     (λ (step : z.n < j). rw (lt-leb j z.n step) (x_positive z j t, (let common = room.common in omega (arith, x_below z j t (record { from = omega arith; to = low }) row))))
     (λ (inp : j ≤ z.n). rw (le-leb j z.n inp) tt)
     (cases_lt z.n j)
 
-pub driver_clauses : (vars : ℕ) (z : Sizes) (steps : List StepSlots) → HasRoom vars z steps → AreClauses vars (out_exists z)
+pub driver_clauses : (vars : ℕ) (z : Dimensions) (steps : List StepSlots) → HasRoom vars z steps → AreClauses vars (out_exists z)
 unfolding out_exists out_exists_at driver
 driver_clauses vars z steps room = clauses_each vars (out_exists_at z) (outputs z) (λ h in_outputs.
     let (some, low) = range_inside 1 z.m h in_outputs in
@@ -56,7 +56,7 @@ driver_clauses vars z steps room = clauses_each vars (out_exists_at z) (outputs 
     let common = room.common in
     (g_positive z h i is, omega (arith, g_below z h i some (omega arith) is)))))
 
-out_clauses : (vars : ℕ) (z : Sizes) (steps : List StepSlots) (h i t : ℕ) (cell : Cell) → HasRoom vars z steps →
+out_clauses : (vars : ℕ) (z : Dimensions) (steps : List StepSlots) (h i t : ℕ) (cell : Cell) → HasRoom vars z steps →
     1 ≤ h → h ≤ z.m → IsStepPlace z i → t < 2 ^ z.n → AreClauses vars (out_value_at z h i t cell)
 unfolding out_value_at out_value_is
 out_clauses vars z steps h i t Zero room some low is row =
@@ -71,7 +71,7 @@ out_clauses vars z steps h i t One room some low is row =
     )
 out_clauses vars z steps h i t Free room some low is row = no_clauses vars
 
-pub outs_clauses : (vars : ℕ) (w : Words) (z : Sizes) (steps : List StepSlots) → HasRoom vars z steps → AreClauses vars (out_values w z)
+pub outs_clauses : (vars : ℕ) (w : Words) (z : Dimensions) (steps : List StepSlots) → HasRoom vars z steps → AreClauses vars (out_values w z)
 unfolding out_values out_values_at out_values_of out_value
 outs_clauses vars w z steps room =
     clauses_each vars (out_values_at w z) (outputs z) (λ h in_outputs. clauses_each vars (out_values_of w z h) (places z) (λ i in_places. clauses_each vars (out_value w z h i) (rows z) (λ t in_rows.
@@ -80,13 +80,13 @@ outs_clauses vars w z steps room =
     let (start, end) = range_inside 0 (2 ^ z.n) t in_rows in
     out_clauses vars z steps h i t (cell_of w h t) room some (omega arith) (record { from = from; to = to }) (omega arith))))
 
-pair_clauses : (vars : ℕ) (z : Sizes) (steps : List StepSlots) → HasRoom vars z steps → AreClauses vars (pair_exists steps)
+pair_clauses : (vars : ℕ) (z : Dimensions) (steps : List StepSlots) → HasRoom vars z steps → AreClauses vars (pair_exists steps)
 unfolding pair_exists pair_exists_at chosen
 pair_clauses vars z steps room = clauses_each vars pair_exists_at steps (λ s in_steps. written_clauses vars (map chosen s.slots) (are_of-map vars chosen s.slots (λ u in_slots.
     let is : IsSlotOf steps s u = record { step = in_steps; slot = in_slots } in
     (room.positive s u is, room.slots s u is))))
 
-one_value_clauses : (vars : ℕ) (z : Sizes) (steps : List StepSlots) (s : StepSlots) (u : Slot) (t : ℕ) (a b c : Bool) →
+one_value_clauses : (vars : ℕ) (z : Dimensions) (steps : List StepSlots) (s : StepSlots) (u : Slot) (t : ℕ) (a b c : Bool) →
     HasRoom vars z steps → IsLaid z steps → IsStepPlace z s.place → IsSlotOf steps s u → t < 2 ^ z.n →
     AreClauses vars (value_clause z s.place u t a b c)
 unfolding value_clause value_raw
@@ -110,7 +110,7 @@ one_value_clauses vars z steps s u t a b c room laid place is row =
       ),
     )
 
-values_clauses : (vars : ℕ) (z : Sizes) (steps : List StepSlots) → HasRoom vars z steps → IsLaid z steps → AreClauses vars (values z steps)
+values_clauses : (vars : ℕ) (z : Dimensions) (steps : List StepSlots) → HasRoom vars z steps → IsLaid z steps → AreClauses vars (values z steps)
 unfolding values value_step value_slot value_row value_bit
 values_clauses vars z steps room laid =
     clauses_each vars (value_step z) steps (λ s in_steps. clauses_each vars (value_slot z s.place) s.slots (λ u in_slots. clauses_each vars (value_row z s.place u) (rows z) (λ t in_rows.
@@ -125,7 +125,7 @@ values_clauses vars z steps room laid =
     (one a false false) (one a false true)) (one a true false)) (one a true true) in
     clauses_both vars (value_bit z s.place u t false) (value_bit z s.place u t true) (four false) (four true))))
 
-operator_clauses : (vars : ℕ) (basis : ℕ) (z : Sizes) (steps : List StepSlots) (i op : ℕ) → HasRoom vars z steps → IsStepPlace z i → AreClauses vars (operator_clause basis z i op)
+operator_clauses : (vars : ℕ) (basis : ℕ) (z : Dimensions) (steps : List StepSlots) (i op : ℕ) → HasRoom vars z steps → IsStepPlace z i → AreClauses vars (operator_clause basis z i op)
 unfolding operator_clause operator_raw
 operator_clauses vars basis z steps i op room is =
     let common = room.common in
@@ -135,13 +135,13 @@ operator_clauses vars basis z steps i op room is =
       | false ↦ written_clauses vars (operator_raw z i op) (of false false, (of false true, (of true false, (of true true, tt))))
     ]
 
-pub operators_clauses : (vars basis : ℕ) (z : Sizes) (steps : List StepSlots) → HasRoom vars z steps → AreClauses vars (operators basis z)
+pub operators_clauses : (vars basis : ℕ) (z : Dimensions) (steps : List StepSlots) → HasRoom vars z steps → AreClauses vars (operators basis z)
 unfolding operators operators_at
 operators_clauses vars basis z steps room = clauses_each vars (operators_at basis z) (places z) (λ i in_places. clauses_each vars (operator_clause basis z i) (range_with_len 0 16) (λ op in_range.
     let (from, to) = range_inside (z.n + 1) z.r i in_places in
     operator_clauses vars basis z steps i op room (record { from = from; to = to })))
 
-pub common_clauses : (vars : ℕ) (w : Words) (basis : ℕ) (z : Sizes) (steps : List StepSlots) → HasRoom vars z steps → IsLaid z steps → AreClauses vars (common w basis z steps)
+pub common_clauses : (vars : ℕ) (w : Words) (basis : ℕ) (z : Dimensions) (steps : List StepSlots) → HasRoom vars z steps → IsLaid z steps → AreClauses vars (common w basis z steps)
 unfolding common
 common_clauses vars w basis z steps room laid =
     clauses_both vars _ (operators basis z)
@@ -172,7 +172,7 @@ slot_within pairs v place (suc count) s u is = ⊎_elim
     omega (arith, length-numbered v (pairs place)))
     (contains_cases (record { place = place; slots = numbered v (pairs place) }) s (laid pairs (v + length (pairs place)) (place + 1) count) is.step)
 
-pub layout_has_room : (pairs : ℕ → List Pair) (z : Sizes) → AreBelow z.n pairs → HasRoom (vars_of z (layout pairs z)) z (layout pairs z)
+pub layout_has_room : (pairs : ℕ → List Pair) (z : Dimensions) → AreBelow z.n pairs → HasRoom (vars_of z (layout pairs z)) z (layout pairs z)
 layout_has_room pairs z below = record {
   common = let some = s_positive z in omega arith;
   slots = λ s u is. let some = s_positive z in omega (arith, slot_within pairs (s_first z) (z.n + 1) z.r s u is);

@@ -6,7 +6,7 @@ use Rattle.op_basis.specs.Basis.{members}
 use Rattle.sat_theory.specs.Formula.{IsFormula, Assignment, Satisfies}
 use Rattle.tt_core.specs.Words.{Words, specification}
 use Rattle.tt_core.specs.Live.{is_live, live_words}
-use Rattle.enc_theory.specs.declared.data.Sizes.{Sizes}
+use Rattle.enc_theory.specs.declared.data.Dimensions.{Dimensions}
 use Rattle.enc_theory.specs.declared.data.Pair.{Pair}
 use Rattle.clause_core.specs.Clauses.{IsSatisfiable}
 use Rattle.enc_theory.specs.Numbering.{sizes_of}
@@ -76,7 +76,7 @@ all_allowed w basis r c is = record {
 pub plain_decodes : (w : Words) (basis r : ℕ) (v : Assignment) → Satisfies v (plain_formula w basis r) → IsFor w basis r (plain_decoded w r v)
 unfolding plain_formula plain_live plain_decoded
 plain_decodes w basis r v satisfies =
-    let z : Sizes = sizes_of (live_words w) r in
+    let z : Dimensions = sizes_of (live_words w) r in
     decoded_is_for w basis r (plain_layout z) v (layout_is_laid (pairs_below false) z (pairs_are_below false w.n)) (holds_satisfied v (plain_formula w basis r) satisfies)
 
 -- If the formula is satisfiable, a chain of r steps over the basis implements the tables,
@@ -87,7 +87,7 @@ plain_sound w basis r (v, satisfies) = for_is_there w basis r (plain_decoded w r
 pub plain_complete : (w : Words) (basis r : ℕ) → HasChain (specification w) (members basis) r → IsSatisfiable (plain_formula w basis r)
 unfolding plain_formula plain_live
 plain_complete w basis r has =
-    let z : Sizes = sizes_of (live_words w) r in
+    let z : Dimensions = sizes_of (live_words w) r in
     let is : IsFor w basis r has.chain = record { is_chain = has.is_chain; size = has.size; is_over = has.is_over; agrees = has.agrees } in
     let of_live : IsFor (live_words w) basis r (picked w has.chain) = picked_is_for w basis r has.chain is in
     let v : Assignment = assignment_of z (plain_layout z) (picked w has.chain) in (
@@ -101,6 +101,6 @@ plain_complete w basis r has =
 pub plain_is_formula : (w : Words) (basis r : ℕ) → IsFormula (plain_formula w basis r)
 unfolding plain_formula plain_live
 plain_is_formula w basis r =
-    let z : Sizes = sizes_of (live_words w) r in
+    let z : Dimensions = sizes_of (live_words w) r in
     are_formula (plain_formula w basis r) (common_clauses (vars_of z (plain_layout z)) (live_words w) basis z (plain_layout z)
     (layout_has_room (pairs_below false) z (pairs_are_below false w.n)) (layout_is_laid (pairs_below false) z (pairs_are_below false w.n)))

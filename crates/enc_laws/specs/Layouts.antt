@@ -4,7 +4,7 @@ use Rattle.std.specs.Prelude.{slice_get, max}
 use Rattle.std.specs.List.{flat_map, range_with_len}
 use Rattle.std.proofs.lemmas.Bool.{cases_order}
 use Rattle.std.proofs.lemmas.Option.{slice_get-get_or}
-use Rattle.enc_theory.specs.declared.data.Sizes.{Sizes}
+use Rattle.enc_theory.specs.declared.data.Dimensions.{Dimensions}
 use Rattle.enc_theory.specs.declared.data.Pair.{Pair}
 use Rattle.enc_theory.specs.declared.data.Slot.{Slot}
 use Rattle.enc_theory.specs.Numbering.{s_first}
@@ -12,7 +12,7 @@ use Rattle.enc_theory.specs.Pairs.{pair, pairs_of, pairs_with, pairs_below, Step
 use Rattle.clause_core.specs.Holds.{contains_head, contains_tail, contains_cases, range_contains, range_inside, flat_map_get, flat_map_make}
 
 -- a place of a step
-pub record IsStepPlace (z : Sizes) (i : ℕ) : Type 0 where
+pub record IsStepPlace (z : Dimensions) (i : ℕ) : Type 0 where
   pub from : z.n + 1 ≤ i
   pub to : i < z.n + 1 + z.r
 
@@ -30,13 +30,13 @@ pub record IsSlotOf (steps : List StepSlots) (s : StepSlots) (u : Slot) : Type 0
 
 -- The steps have consecutive places, and each has pairs of lower places; the selection variables come after all
 -- others.
-pub record IsLaid (z : Sizes) (steps : List StepSlots) : Type 0 where
+pub record IsLaid (z : Dimensions) (steps : List StepSlots) : Type 0 where
   pub count : length steps ≡ z.r
   pub places : (k : ℕ) (s : StepSlots) → slice_get steps k ≡ Some s → s.place ≡ z.n + 1 + k
   pub below : (s : StepSlots) (u : Slot) → IsSlotOf steps s u → IsPairBelow s.place u.j u.k
   pub bits_after : (s : StepSlots) (u : Slot) → IsSlotOf steps s u → s_first z ≤ u.var
 
-pub laid_is_place : (z : Sizes) (steps : List StepSlots) (s : StepSlots) → IsLaid z steps → Contains steps s → IsStepPlace z s.place
+pub laid_is_place : (z : Dimensions) (steps : List StepSlots) (s : StepSlots) → IsLaid z steps → Contains steps s → IsStepPlace z s.place
 laid_is_place z steps s laid (k, low, at) =
     let place = laid.places k s (slice_get-get_or steps k s low ∙ ap Some at) in
     let count = laid.count in
@@ -206,7 +206,7 @@ laid_once pairs v place (suc count) s s' u u' is is' e = ⊎_elim
 pub record AreBelow (n : ℕ) (pairs : ℕ → List Pair) : Type 0 where
   pub each : (place : ℕ) (p : Pair) → n + 1 ≤ place → Contains (pairs place) p → IsPairBelow place p.j p.k
 
-pub layout_is_laid : (pairs : ℕ → List Pair) (z : Sizes) → AreBelow z.n pairs → IsLaid z (layout pairs z)
+pub layout_is_laid : (pairs : ℕ → List Pair) (z : Dimensions) → AreBelow z.n pairs → IsLaid z (layout pairs z)
 layout_is_laid pairs z are = record {
   count = laid_count pairs (s_first z) (z.n + 1) z.r;
   places = λ k s at. laid_place pairs (s_first z) (z.n + 1) z.r k s at;
@@ -214,11 +214,11 @@ layout_is_laid pairs z are = record {
   bits_after = λ s u is. (laid_slot pairs (s_first z) (z.n + 1) z.r s u is).from;
 }
 
-pub layout_once : (pairs : ℕ → List Pair) (z : Sizes) (s s' : StepSlots) (u u' : Slot) → IsSlotOf (layout pairs z) s u → IsSlotOf (layout pairs z) s' u' → u.var ≡ u'.var → IsSameSlot s s' u u'
+pub layout_once : (pairs : ℕ → List Pair) (z : Dimensions) (s s' : StepSlots) (u u' : Slot) → IsSlotOf (layout pairs z) s u → IsSlotOf (layout pairs z) s' u' → u.var ≡ u'.var → IsSameSlot s s' u u'
 layout_once pairs z s s' u u' is is' e = laid_once pairs (s_first z) (z.n + 1) z.r s s' u u' is is' e
 
 -- each pair of a step has a slot there
-pub layout_has : (pairs : ℕ → List Pair) (z : Sizes) (s : StepSlots) (j k : ℕ) → Contains (layout pairs z) s → Contains (pairs s.place) (pair j k) → HasSlot s.slots j k
+pub layout_has : (pairs : ℕ → List Pair) (z : Dimensions) (s : StepSlots) (j k : ℕ) → Contains (layout pairs z) s → Contains (pairs s.place) (pair j k) → HasSlot s.slots j k
 layout_has pairs z s j k c has =
     let step = laid_step pairs (s_first z) (z.n + 1) z.r s c in
     subst (λ (x : List Slot). HasSlot x j k) (sym step.slots) (pair_has_slot step.first (pairs s.place) (pair j k) has)

@@ -15,7 +15,7 @@ use Rattle.chain_laws.specs.NormalForm.{IsStep, IsOut, IsNormalForm}
 use Rattle.sat_theory.specs.Formula.{Assignment}
 use Rattle.tt_core.specs.Words.{Words, specification}
 use Rattle.clause_core.specs.declared.raw.RawLit.{RawLit}
-use Rattle.enc_theory.specs.declared.data.Sizes.{Sizes}
+use Rattle.enc_theory.specs.declared.data.Dimensions.{Dimensions}
 use Rattle.clause_core.specs.Clauses.{written}
 use Rattle.enc_theory.specs.Numbering.{sizes_of, places, outputs, g_var, x_is}
 use Rattle.enc_theory.specs.Families.{driver, operator_raw}
@@ -33,7 +33,7 @@ use Rattle.enc_laws.specs.PairTests.{if_holds}
 pub step_index : (w : Words) (basis r : ℕ) (c : Chain) → IsFor w basis r c → (i : ℕ) → IsStepPlace (sizes_of w r) i → c.n + 1 + (i - (c.n + 1)) ≡ i
 step_index w basis r c is i place = let from = place.from in let inputs = is.agrees.inputs in omega arith
 
-pub drives_positive : (z : Sizes) (i : ℕ) → IsStepPlace z i → ArePositive (map (drives z i) (outputs z))
+pub drives_positive : (z : Dimensions) (i : ℕ) → IsStepPlace z i → ArePositive (map (drives z i) (outputs z))
 unfolding drives driver
 drives_positive z i place = positive-map (drives z i) (outputs z) (λ h c. g_positive z h i place)
 
@@ -88,7 +88,7 @@ module _ (w : Words) (basis r : ℕ) (c : Chain) (v : Assignment) (of : IsOfChai
   pub row_0_holds : IsNormalForm (members basis) (specification w) c → holds v (row_0 basis (sizes_of w r)) ≡ true
   unfolding row_0 row_0_at raws_bit
   row_0_holds normal_form =
-      let z : Sizes = sizes_of w r in
+      let z : Dimensions = sizes_of w r in
       if_holds v (polarity_closed (members basis)) (flat_map (row_0_at z) (places z)) (λ closed. each_holds v (row_0_at z) (places z) (λ i in_places.
       let at : IsStepPlace (sizes_of w r) i = there_place z i in_places in
       let outs : List RawLit = map (drives z i) (outputs z) in

@@ -12,7 +12,7 @@ use Rattle.chain_theory.specs.declared.data.Cell.TheVariants as cells
 use Rattle.tt_core.specs.Symmetry.{IsSymmetric, exchanged}
 use Rattle.tt_core.specs.Words.{Words, specification, cell_of}
 use Rattle.clause_core.specs.declared.raw.RawLit.{RawLit}
-use Rattle.enc_theory.specs.declared.data.Sizes.{Sizes}
+use Rattle.enc_theory.specs.declared.data.Dimensions.{Dimensions}
 use Rattle.enc_theory.specs.declared.data.Slot.{Slot}
 use Rattle.enc_theory.specs.Pairs.{StepSlots}
 use Rattle.enc_theory.specs.Families.{operator_raw}
@@ -48,7 +48,7 @@ no_copy_bits true true high never = refl
 no_copy_bits true false true never = absurd (never refl refl refl)
 no_copy_bits true false false never = refl
 
-pub operator_positive : (z : Sizes) (i op : ℕ) → ArePositive (operator_raw z i op)
+pub operator_positive : (z : Dimensions) (i op : ℕ) → ArePositive (operator_raw z i op)
 unfolding operator_raw
 operator_positive z i op = (f_positive z i false false, (f_positive z i false true, (f_positive z i true false, (f_positive z i true true, tt))))
 

@@ -4,7 +4,7 @@ use Rattle.std.specs.Prelude.{slice_get}
 use Rattle.std.proofs.lemmas.Option.{slice_get-get_or}
 use Rattle.chain_theory.specs.Chain.{Chain}
 use Rattle.tt_core.specs.Words.{Words}
-use Rattle.enc_theory.specs.declared.data.Sizes.{Sizes}
+use Rattle.enc_theory.specs.declared.data.Dimensions.{Dimensions}
 use Rattle.enc_theory.specs.Numbering.{sizes_of}
 use Rattle.enc_theory.specs.Pairs.{StepSlots}
 use Rattle.clause_core.specs.Holds.{contains_tail, contains_cases}
@@ -20,7 +20,7 @@ pub record IsRest (steps later : List StepSlots) (place : ℕ) : Type 0 where
   pub has : (s : StepSlots) → Contains steps s → place ≤ s.place → Contains later s
   pub places : (k : ℕ) (s : StepSlots) → slice_get later k ≡ Some s → s.place ≡ place + k
 
-pub rest_all : (z : Sizes) (steps : List StepSlots) → IsLaid z steps → IsRest steps steps (z.n + 1)
+pub rest_all : (z : Dimensions) (steps : List StepSlots) → IsLaid z steps → IsRest steps steps (z.n + 1)
 rest_all z steps laid = record { inside = λ s c. c; has = λ s c low. c; places = laid.places }
 
 pub rest_head : (steps : List StepSlots) (s : StepSlots) (later : List StepSlots) (place : ℕ) → IsRest steps (s ∷ later) place → s.place ≡ place

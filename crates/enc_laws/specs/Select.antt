@@ -8,7 +8,7 @@ use Rattle.chain_laws.specs.Least.{minimum_is_in_normal_form}
 use Rattle.sat_theory.specs.Formula.{IsFormula, Assignment, Satisfies}
 use Rattle.tt_core.specs.Words.{Words, specification}
 use Rattle.tt_core.specs.Live.{live_words}
-use Rattle.enc_theory.specs.declared.data.Sizes.{Sizes}
+use Rattle.enc_theory.specs.declared.data.Dimensions.{Dimensions}
 use Rattle.clause_core.specs.Clauses.{IsSatisfiable}
 use Rattle.enc_theory.specs.Numbering.{sizes_of, places}
 use Rattle.enc_theory.specs.Select.{select_vars, chosen_chain, chosen_cuts, select_live, select_formula, chosen_step, select_decoded}
@@ -28,7 +28,7 @@ use Rattle.enc_laws.specs.ChosenClauses.{chain_clauses, chosen_cuts_clauses}
 pub select_decodes : (w : Words) (basis r : ℕ) (v : Assignment) → Satisfies v (select_formula w basis r) → IsFor w basis r (select_decoded w r v)
 unfolding select_formula select_live select_decoded
 select_decodes w basis r v satisfies =
-    let z : Sizes = sizes_of (live_words w) r in
+    let z : Dimensions = sizes_of (live_words w) r in
     let (chain, cuts) = holds_both v (chosen_chain (live_words w) basis z) (chosen_cuts basis z) (holds_satisfied v (select_live (live_words w) basis r) satisfies) in
     let chooses : Chooses (live_words w) basis z v = chooses_from (live_words w) basis z v chain in
     spelled_is_for w basis r (map (chosen_step z v) (places z)) v (chosen_spells (live_words w) basis z v chooses) (λ outs. chosen_is_over (live_words w) basis z v chooses w.n outs)
@@ -42,7 +42,7 @@ normal_form_selects : (w : Words) (basis r : ℕ) (c : Chain) → IsFor (live_wo
     IsNormalForm (members basis) (specification (live_words w)) c → IsSatisfiable (select_live (live_words w) basis r)
 unfolding select_live
 normal_form_selects w basis r c is normal_form =
-    let z : Sizes = sizes_of (live_words w) r in
+    let z : Dimensions = sizes_of (live_words w) r in
     let v : Assignment = chain_bits z c (select_rest z c) in
     let choices : IsOfChoices (live_words w) r c v = select_bits (live_words w) basis r c is in (
       chain_bits z c (select_rest z c),
@@ -64,7 +64,7 @@ select_complete w basis r minimum =
 pub select_is_formula : (w : Words) (basis r : ℕ) → IsFormula (select_formula w basis r)
 unfolding select_formula select_live
 select_is_formula w basis r =
-    let z : Sizes = sizes_of (live_words w) r in
+    let z : Dimensions = sizes_of (live_words w) r in
     are_formula (select_live (live_words w) basis r)
     (clauses_both (select_vars z) (chosen_chain (live_words w) basis z) (chosen_cuts basis z)
     (chain_clauses (live_words w) basis z) (chosen_cuts_clauses (live_words w) basis z))

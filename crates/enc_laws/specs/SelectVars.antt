@@ -5,7 +5,7 @@ use Rattle.std.proofs.lemmas.Bool.{cases_lt, cases_order}
 use Rattle.std.proofs.lemmas.Nat.{mul-add-lt}
 use Rattle.enc_theory.specs.declared.data.Side.{Side}
 use Rattle.enc_theory.specs.declared.data.Side.TheVariants.{First, Second}
-use Rattle.enc_theory.specs.declared.data.Sizes.{Sizes}
+use Rattle.enc_theory.specs.declared.data.Dimensions.{Dimensions}
 use Rattle.enc_theory.specs.Numbering.{s_first}
 use Rattle.enc_theory.specs.Select.{operand_count, choice_first, choice_var, value_first, value_var, select_vars}
 use Rattle.enc_laws.specs.Bounds.{s_positive}
@@ -21,15 +21,15 @@ count_step n q (suc p) less = ⊎_elim
     (cases_lt q p)
 
 -- the number of a selection variable among those of its side
-abbrev pub offset : Sizes → ℕ → ℕ → ℕ
+abbrev pub offset : Dimensions → ℕ → ℕ → ℕ
 offset z i j = operand_count z.n (i - (z.n + 1)) + (j - 1)
 
-pub record IsBelow (z : Sizes) (i j : ℕ) : Type 0 where
+pub record IsBelow (z : Dimensions) (i j : ℕ) : Type 0 where
   pub place : IsStepPlace z i
   pub from : 1 ≤ j
   pub to : j < i
 
-offset_low : (z : Sizes) (i j : ℕ) → IsBelow z i j → offset z i j < operand_count z.n z.r
+offset_low : (z : Dimensions) (i j : ℕ) → IsBelow z i j → offset z i j < operand_count z.n z.r
 offset_low z i j is =
     let place = is.place in
     let from = place.from in
@@ -38,7 +38,7 @@ offset_low z i j is =
     let j_to = is.to in
     omega (arith, count_step z.n (i - (z.n + 1)) z.r (omega arith))
 
-offset_rises : (z : Sizes) (i j l k : ℕ) → IsBelow z i j → IsBelow z l k → i < l → offset z i j < offset z l k
+offset_rises : (z : Dimensions) (i j l k : ℕ) → IsBelow z i j → IsBelow z l k → i < l → offset z i j < offset z l k
 offset_rises z i j l k is is' less =
     let place = is.place in
     let from = place.from in
@@ -48,15 +48,15 @@ offset_rises z i j l k is is' less =
 
 -- ---- selection variables
 
-pub choice_from : (z : Sizes) (side : Side) (i j : ℕ) → s_first z ≤ choice_var z side i j
+pub choice_from : (z : Dimensions) (side : Side) (i j : ℕ) → s_first z ≤ choice_var z side i j
 unfolding choice_var choice_first
 choice_from z First i j = omega arith
 choice_from z Second i j = omega arith
 
-pub choice_positive : (z : Sizes) (side : Side) (i j : ℕ) → 1 ≤ choice_var z side i j
+pub choice_positive : (z : Dimensions) (side : Side) (i j : ℕ) → 1 ≤ choice_var z side i j
 choice_positive z side i j = omega (arith, choice_from z side i j, s_positive z)
 
-pub choice_below : (z : Sizes) (side : Side) (i j : ℕ) → IsBelow z i j → choice_var z side i j < value_first z First
+pub choice_below : (z : Dimensions) (side : Side) (i j : ℕ) → IsBelow z i j → choice_var z side i j < value_first z First
 unfolding choice_var choice_first value_first
 choice_below z First i j is = omega (arith, offset_low z i j is)
 choice_below z Second i j is = omega (arith, offset_low z i j is)
@@ -67,7 +67,7 @@ pub record IsSameChoice (side side' : Side) (i i' j j' : ℕ) : Type 0 where
   pub places : i ≡ i'
   pub operands : j ≡ j'
 
-same_offset : (z : Sizes) (side : Side) (i i' j j' : ℕ) → IsBelow z i j → IsBelow z i' j' → offset z i j ≡ offset z i' j' → IsSameChoice side side i i' j j'
+same_offset : (z : Dimensions) (side : Side) (i i' j j' : ℕ) → IsBelow z i j → IsBelow z i' j' → offset z i j ≡ offset z i' j' → IsSameChoice side side i i' j j'
 same_offset z side i i' j j' is is' e = ⊎_elim
     (λ (here : i ≡ i').
     let from = is.from in
@@ -80,7 +80,7 @@ same_offset z side i i' j j' is is' e = ⊎_elim
     apart)
     (cases_order i i')
 
-pub choice_once : (z : Sizes) (side side' : Side) (i i' j j' : ℕ) → IsBelow z i j → IsBelow z i' j' → choice_var z side i j ≡ choice_var z side' i' j' → IsSameChoice side side' i i' j j'
+pub choice_once : (z : Dimensions) (side side' : Side) (i i' j j' : ℕ) → IsBelow z i j → IsBelow z i' j' → choice_var z side i j ≡ choice_var z side' i' j' → IsSameChoice side side' i i' j j'
 unfolding choice_var choice_first
 choice_once z First First i i' j j' is is' e = same_offset z First i i' j j' is is' (omega arith)
 choice_once z First Second i i' j j' is is' e = absurd (omega (arith, offset_low z i j is))
@@ -90,7 +90,7 @@ choice_once z Second Second i i' j j' is is' e = same_offset z Second i i' j j' 
 -- ---- values of operands
 
 -- the number of a step's row among those of its side
-pub row_low : (z : Sizes) (i t : ℕ) → IsStepPlace z i → t < 2 ^ z.n → (i - (z.n + 1)) * 2 ^ z.n + t < z.r * 2 ^ z.n
+pub row_low : (z : Dimensions) (i t : ℕ) → IsStepPlace z i → t < 2 ^ z.n → (i - (z.n + 1)) * 2 ^ z.n + t < z.r * 2 ^ z.n
 row_low z i t is row =
     let from = is.from in
     let to = is.to in
@@ -98,25 +98,25 @@ row_low z i t is row =
     let turned : 2 ^ z.n * z.r ≡ z.r * 2 ^ z.n = mul_comm (2 ^ z.n) z.r in
     omega arith
 
-pub value_after : (z : Sizes) (side : Side) (i t : ℕ) → s_first z ≤ value_var z side i t
+pub value_after : (z : Dimensions) (side : Side) (i t : ℕ) → s_first z ≤ value_var z side i t
 unfolding value_var value_first
 value_after z First i t = omega arith
 value_after z Second i t = omega arith
 
-pub value_positive : (z : Sizes) (side : Side) (i t : ℕ) → 1 ≤ value_var z side i t
+pub value_positive : (z : Dimensions) (side : Side) (i t : ℕ) → 1 ≤ value_var z side i t
 value_positive z side i t = omega (arith, value_after z side i t, s_positive z)
 
 -- ---- all are within the number of variables
 
-pub value_within : (z : Sizes) (side : Side) (i t : ℕ) → IsStepPlace z i → t < 2 ^ z.n → value_var z side i t ≤ select_vars z
+pub value_within : (z : Dimensions) (side : Side) (i t : ℕ) → IsStepPlace z i → t < 2 ^ z.n → value_var z side i t ≤ select_vars z
 unfolding value_var value_first select_vars
 value_within z First i t is row = omega (arith, row_low z i t is row, s_positive z)
 value_within z Second i t is row = omega (arith, row_low z i t is row, s_positive z)
 
-pub choice_within : (z : Sizes) (side : Side) (i j : ℕ) → IsBelow z i j → choice_var z side i j ≤ select_vars z
+pub choice_within : (z : Dimensions) (side : Side) (i j : ℕ) → IsBelow z i j → choice_var z side i j ≤ select_vars z
 unfolding value_first select_vars
 choice_within z side i j is = omega (arith, choice_below z side i j is, s_positive z)
 
-pub first_within : (z : Sizes) → s_first z ≤ select_vars z + 1
+pub first_within : (z : Dimensions) → s_first z ≤ select_vars z + 1
 unfolding select_vars
 first_within z = omega (arith, s_positive z)

@@ -14,7 +14,7 @@ use Rattle.op_basis.specs.Laws.{operator_values, operator_low, operator_only}
 use Rattle.sat_theory.specs.Formula.{Assignment}
 use Rattle.tt_core.specs.Words.{Words, cell_of}
 use Rattle.clause_core.specs.declared.raw.RawLit.TheVariants.{Fixed, Var}
-use Rattle.enc_theory.specs.declared.data.Sizes.{Sizes}
+use Rattle.enc_theory.specs.declared.data.Dimensions.{Dimensions}
 use Rattle.enc_theory.specs.declared.data.Slot.{Slot}
 use Rattle.clause_core.specs.Clauses.{written}
 use Rattle.enc_theory.specs.Numbering.{places, rows, outputs, x_var, g_var, f_var, x_is}
@@ -31,45 +31,45 @@ use Rattle.enc_laws.specs.Bounds.{x_positive, g_positive, f_positive, slot_posit
 use Rattle.enc_laws.specs.Layouts.{IsStepPlace, IsSlotOf, IsLaid}
 
 -- the bit of a place on a row
-unfoldable pub x_bit : Sizes → Assignment → ℕ → ℕ → Bool
+unfoldable pub x_bit : Dimensions → Assignment → ℕ → ℕ → Bool
 x_bit z v j t = if leb j z.n then input z.n t j else v (x_var z j t)
 
 -- The assignment gives each output a driver whose values meet the output's cells, and each step an operator of
 -- the basis, however steps select their operands.
-pub record MeetsTables (w : Words) (basis : ℕ) (z : Sizes) (v : Assignment) : Type 0 where
+pub record MeetsTables (w : Words) (basis : ℕ) (z : Dimensions) (v : Assignment) : Type 0 where
   pub driver : (h : ℕ) → 1 ≤ h → h ≤ z.m → (i : ℕ) × IsStepPlace z i × (v (g_var z h i) ≡ true)
   pub out : (h i t : ℕ) → 1 ≤ h → h ≤ z.m → IsStepPlace z i → t < 2 ^ z.n → v (g_var z h i) ≡ true → is_met (cell_of w h t) (x_bit z v i t) ≡ true
   pub operator : (i : ℕ) → IsStepPlace z i → members basis (operator_in z v i) ≡ true
 
 -- It also gives each step a pair, and the values of the operator at that pair.
-pub record Solves (w : Words) (basis : ℕ) (z : Sizes) (steps : List StepSlots) (v : Assignment) : Type 0 where
+pub record Solves (w : Words) (basis : ℕ) (z : Dimensions) (steps : List StepSlots) (v : Assignment) : Type 0 where
   pub tables : MeetsTables w basis z v
   pub pair : (s : StepSlots) → Contains steps s → (u : Slot) × Contains s.slots u × (v u.var ≡ true)
   pub value : (s : StepSlots) (u : Slot) (t : ℕ) → IsSlotOf steps s u → t < 2 ^ z.n → v u.var ≡ true → x_bit z v s.place t ≡ v (f_var z s.place (x_bit z v u.j t) (x_bit z v u.k t))
 
 -- ---- places, rows, outputs
 
-pub place_there : (z : Sizes) (i : ℕ) → IsStepPlace z i → Contains (places z) i
+pub place_there : (z : Dimensions) (i : ℕ) → IsStepPlace z i → Contains (places z) i
 place_there z i is = range_contains (z.n + 1) z.r i is.from is.to
 
-pub there_place : (z : Sizes) (i : ℕ) → Contains (places z) i → IsStepPlace z i
+pub there_place : (z : Dimensions) (i : ℕ) → Contains (places z) i → IsStepPlace z i
 there_place z i c = let (from, to) = range_inside (z.n + 1) z.r i c in record { from = from; to = to }
 
-pub row_there : (z : Sizes) (t : ℕ) → t < 2 ^ z.n → Contains (rows z) t
+pub row_there : (z : Dimensions) (t : ℕ) → t < 2 ^ z.n → Contains (rows z) t
 row_there z t low = range_contains 0 (2 ^ z.n) t (omega arith) (omega arith)
 
-pub there_row : (z : Sizes) (t : ℕ) → Contains (rows z) t → t < 2 ^ z.n
+pub there_row : (z : Dimensions) (t : ℕ) → Contains (rows z) t → t < 2 ^ z.n
 there_row z t c = let (from, to) = range_inside 0 (2 ^ z.n) t c in omega arith
 
-output_there : (z : Sizes) (h : ℕ) → 1 ≤ h → h ≤ z.m → Contains (outputs z) h
+output_there : (z : Dimensions) (h : ℕ) → 1 ≤ h → h ≤ z.m → Contains (outputs z) h
 output_there z h some low = range_contains 1 z.m h some (omega arith)
 
-there_output : (z : Sizes) (h : ℕ) → Contains (outputs z) h → (1 ≤ h) × (h ≤ z.m)
+there_output : (z : Dimensions) (h : ℕ) → Contains (outputs z) h → (1 ≤ h) × (h ≤ z.m)
 there_output z h c = let (from, to) = range_inside 1 z.m h c in (from, omega arith)
 
 -- ---- literals
 
-pub x_is_positive : (z : Sizes) (j t : ℕ) (bit : Bool) → IsPositive (x_is z j t bit)
+pub x_is_positive : (z : Dimensions) (j t : ℕ) (bit : Bool) → IsPositive (x_is z j t bit)
 unfolding x_is
 x_is_positive z j t bit = elim (leb j z.n) as (λ b. IsPositive (if b then Fixed (if input z.n t j then bit else not bit) else Var (x_var z j t) bit)) [
   | true ↦ tt
@@ -84,7 +84,7 @@ fixed_value false true = refl
 fixed_value false false = refl
 
 -- the literal means what it is named for
-pub x_is_value : (z : Sizes) (v : Assignment) (j t : ℕ) (bit : Bool) → raw_value v (x_is z j t bit) ≡ same (x_bit z v j t) bit
+pub x_is_value : (z : Dimensions) (v : Assignment) (j t : ℕ) (bit : Bool) → raw_value v (x_is z j t bit) ≡ same (x_bit z v j t) bit
 unfolding x_is x_bit raw_value
 x_is_value z v j t bit = elim (leb j z.n) as (λ b.
     raw_value v (if b then Fixed (if input z.n t j then bit else not bit) else Var (x_var z j t) bit) ≡
@@ -95,17 +95,17 @@ x_is_value z v j t bit = elim (leb j z.n) as (λ b.
 
 -- ---- each output has a driver
 
-drives : (z : Sizes) (v : Assignment) (h : ℕ) → holds v (out_exists_at z h) ≡ list_any (λ i. v (g_var z h i)) (places z)
+drives : (z : Dimensions) (v : Assignment) (h : ℕ) → holds v (out_exists_at z h) ≡ list_any (λ i. v (g_var z h i)) (places z)
 unfolding out_exists_at driver raw_value same
 drives z v h = holds-written v (map (driver z h) (places z)) (positive-map (driver z h) (places z) (λ i c. g_positive z h i (there_place z i c))) ∙ raws_bit-map v (driver z h) (places z)
 
-driver_from : (z : Sizes) (v : Assignment) (h : ℕ) → holds v (out_exists z) ≡ true → 1 ≤ h → h ≤ z.m → (i : ℕ) × IsStepPlace z i × (v (g_var z h i) ≡ true)
+driver_from : (z : Dimensions) (v : Assignment) (h : ℕ) → holds v (out_exists z) ≡ true → 1 ≤ h → h ≤ z.m → (i : ℕ) × IsStepPlace z i × (v (g_var z h i) ≡ true)
 unfolding out_exists
 driver_from z v h all some low =
     let found = any_get (λ i. v (g_var z h i)) (places z) (sym (drives z v h) ∙ holds_each v (out_exists_at z) (outputs z) h all (output_there z h some low)) in
     (found.element, there_place z found.element found.inside, found.passes)
 
-driver_to : (z : Sizes) (v : Assignment) → ((h : ℕ) → 1 ≤ h → h ≤ z.m → (i : ℕ) × IsStepPlace z i × (v (g_var z h i) ≡ true)) → holds v (out_exists z) ≡ true
+driver_to : (z : Dimensions) (v : Assignment) → ((h : ℕ) → 1 ≤ h → h ≤ z.m → (i : ℕ) × IsStepPlace z i × (v (g_var z h i) ≡ true)) → holds v (out_exists z) ≡ true
 unfolding out_exists
 driver_to z v each = each_holds v (out_exists_at z) (outputs z) (λ h c.
     let (some, low) = there_output z h c in
@@ -114,7 +114,7 @@ driver_to z v each = each_holds v (out_exists_at z) (outputs z) (λ h c.
 
 -- ---- a driver has the values of its output's cells
 
-pub out_bits : (z : Sizes) (v : Assignment) (h i t : ℕ) (bit : Bool) → IsStepPlace z i → holds v (out_value_is z h i t bit) ≡ (not (v (g_var z h i)) || (same (x_bit z v i t) bit || false))
+pub out_bits : (z : Dimensions) (v : Assignment) (h i t : ℕ) (bit : Bool) → IsStepPlace z i → holds v (out_value_is z h i t bit) ≡ (not (v (g_var z h i)) || (same (x_bit z v i t) bit || false))
 unfolding out_value_is raws_bit raw_value same
 out_bits z v h i t bit is =
     holds-written v (Var (g_var z h i) false ∷ x_is z i t bit ∷ []) (g_positive z h i is, (x_is_positive z i t bit, tt))
@@ -138,19 +138,19 @@ unfolding same
 met_zero true e = e
 met_zero false e = refl
 
-out_from : (z : Sizes) (v : Assignment) (h i t : ℕ) (cell : Cell) → IsStepPlace z i → holds v (out_value_at z h i t cell) ≡ true → v (g_var z h i) ≡ true → is_met cell (x_bit z v i t) ≡ true
+out_from : (z : Dimensions) (v : Assignment) (h i t : ℕ) (cell : Cell) → IsStepPlace z i → holds v (out_value_at z h i t cell) ≡ true → v (g_var z h i) ≡ true → is_met cell (x_bit z v i t) ≡ true
 unfolding out_value_at same
 out_from z v h i t Zero is all true_ = zero_met (x_bit z v i t) (met_from (v (g_var z h i)) (x_bit z v i t) false (sym (out_bits z v h i t false is) ∙ all) true_)
 out_from z v h i t One is all true_ = met_from (v (g_var z h i)) (x_bit z v i t) true (sym (out_bits z v h i t true is) ∙ all) true_
 out_from z v h i t Free is all true_ = refl
 
-out_to : (z : Sizes) (v : Assignment) (h i t : ℕ) (cell : Cell) → IsStepPlace z i → (v (g_var z h i) ≡ true → is_met cell (x_bit z v i t) ≡ true) → holds v (out_value_at z h i t cell) ≡ true
+out_to : (z : Dimensions) (v : Assignment) (h i t : ℕ) (cell : Cell) → IsStepPlace z i → (v (g_var z h i) ≡ true → is_met cell (x_bit z v i t) ≡ true) → holds v (out_value_at z h i t cell) ≡ true
 unfolding out_value_at same holds
 out_to z v h i t Zero is met = out_bits z v h i t false is ∙ met_to (v (g_var z h i)) (x_bit z v i t) false (λ e. met_zero (x_bit z v i t) (met e))
 out_to z v h i t One is met = out_bits z v h i t true is ∙ met_to (v (g_var z h i)) (x_bit z v i t) true met
 out_to z v h i t Free is met = refl
 
-outs_from : (w : Words) (z : Sizes) (v : Assignment) (h i t : ℕ) → holds v (out_values w z) ≡ true → 1 ≤ h → h ≤ z.m →
+outs_from : (w : Words) (z : Dimensions) (v : Assignment) (h i t : ℕ) → holds v (out_values w z) ≡ true → 1 ≤ h → h ≤ z.m →
     IsStepPlace z i → t < 2 ^ z.n → v (g_var z h i) ≡ true → is_met (cell_of w h t) (x_bit z v i t) ≡ true
 unfolding out_values out_values_at out_values_of out_value
 outs_from w z v h i t all some low is row true_ =
@@ -159,7 +159,7 @@ outs_from w z v h i t all some low is row true_ =
     let at_t = holds_each v (out_value w z h i) (rows z) t at_i (row_there z t row) in
     out_from z v h i t (cell_of w h t) is at_t true_
 
-outs_to : (w : Words) (z : Sizes) (v : Assignment) → ((h i t : ℕ) → 1 ≤ h → h ≤ z.m → IsStepPlace z i → t < 2 ^ z.n →
+outs_to : (w : Words) (z : Dimensions) (v : Assignment) → ((h i t : ℕ) → 1 ≤ h → h ≤ z.m → IsStepPlace z i → t < 2 ^ z.n →
     v (g_var z h i) ≡ true → is_met (cell_of w h t) (x_bit z v i t) ≡ true) → holds v (out_values w z) ≡ true
 unfolding out_values out_values_at out_values_of out_value
 outs_to w z v each =
@@ -170,20 +170,20 @@ outs_to w z v each =
 
 -- ---- a step has some pair
 
-pairs_bit : (z : Sizes) (v : Assignment) (steps : List StepSlots) (s : StepSlots) → IsLaid z steps → Contains steps s → holds v (pair_exists_at s) ≡ list_any (λ u. v u.var) s.slots
+pairs_bit : (z : Dimensions) (v : Assignment) (steps : List StepSlots) (s : StepSlots) → IsLaid z steps → Contains steps s → holds v (pair_exists_at s) ≡ list_any (λ u. v u.var) s.slots
 unfolding pair_exists_at chosen raw_value same
 pairs_bit z v steps s laid c = holds-written v (map chosen s.slots)
     (positive-map chosen s.slots (λ u in_slots. slot_positive z steps s u laid (record { step = c; slot = in_slots })))
     ∙ raws_bit-map v chosen s.slots
 
-pair_from : (z : Sizes) (v : Assignment) (steps : List StepSlots) (s : StepSlots) → IsLaid z steps →
+pair_from : (z : Dimensions) (v : Assignment) (steps : List StepSlots) (s : StepSlots) → IsLaid z steps →
     holds v (pair_exists steps) ≡ true → Contains steps s → (u : Slot) × Contains s.slots u × (v u.var ≡ true)
 unfolding pair_exists
 pair_from z v steps s laid all c =
     let found = any_get (λ u. v u.var) s.slots (sym (pairs_bit z v steps s laid c) ∙ holds_each v pair_exists_at steps s all c) in
     (found.element, found.inside, found.passes)
 
-pair_to : (z : Sizes) (v : Assignment) (steps : List StepSlots) → IsLaid z steps →
+pair_to : (z : Dimensions) (v : Assignment) (steps : List StepSlots) → IsLaid z steps →
     ((s : StepSlots) → Contains steps s → (u : Slot) × Contains s.slots u × (v u.var ≡ true)) →
     holds v (pair_exists steps) ≡ true
 unfolding pair_exists
@@ -196,7 +196,7 @@ pair_to z v steps laid each = each_holds v pair_exists_at steps (λ s c.
 abbrev pub clause_of : Bool → Bool → Bool → Bool → Bool → Bool → Bool → Bool → Bool
 clause_of s x j k f a b c = not s || (same x (not a) || (same j (not b) || (same k (not c) || (same f a || false))))
 
-value_bits : (z : Sizes) (v : Assignment) (steps : List StepSlots) (s : StepSlots) (u : Slot) (t : ℕ) (a b c : Bool) → IsLaid z steps → IsSlotOf steps s u
+value_bits : (z : Dimensions) (v : Assignment) (steps : List StepSlots) (s : StepSlots) (u : Slot) (t : ℕ) (a b c : Bool) → IsLaid z steps → IsSlotOf steps s u
     → holds v (value_clause z s.place u t a b c) ≡ clause_of (v u.var) (x_bit z v s.place t) (x_bit z v u.j t) (x_bit z v u.k t) (v (f_var z s.place b c)) a b c
 unfolding value_clause value_raw raws_bit raw_value same
 value_bits z v steps s u t a b c laid is =
@@ -212,7 +212,7 @@ value_bits z v steps s u t a b c laid is =
     )
     ∙ rw (x_is_value z v s.place t (not a), x_is_value z v u.j t (not b), x_is_value z v u.k t (not c)) refl
 
-four_get : (z : Sizes) (v : Assignment) (i : ℕ) (u : Slot) (t : ℕ) (a b c : Bool) → holds v (value_bit z i u t a) ≡ true → holds v (value_clause z i u t a b c) ≡ true
+four_get : (z : Dimensions) (v : Assignment) (i : ℕ) (u : Slot) (t : ℕ) (a b c : Bool) → holds v (value_bit z i u t a) ≡ true → holds v (value_clause z i u t a b c) ≡ true
 unfolding value_bit
 four_get z v i u t a b c all =
     let (three, last) = holds_both v _ (value_clause z i u t a true true) all in
@@ -223,13 +223,13 @@ four_get z v i u t a b c all =
       | false ↦ elim [ true ↦ second | false ↦ first ]
     ]) c
 
-row_get : (z : Sizes) (v : Assignment) (i : ℕ) (u : Slot) (t : ℕ) (a b c : Bool) → holds v (value_row z i u t) ≡ true → holds v (value_clause z i u t a b c) ≡ true
+row_get : (z : Dimensions) (v : Assignment) (i : ℕ) (u : Slot) (t : ℕ) (a b c : Bool) → holds v (value_row z i u t) ≡ true → holds v (value_clause z i u t a b c) ≡ true
 unfolding value_row
 row_get z v i u t a b c all =
     let (low, high) = holds_both v (value_bit z i u t false) (value_bit z i u t true) all in
     four_get z v i u t a b c ((elim a as (λ a. holds v (value_bit z i u t a) ≡ true) [ true ↦ high | false ↦ low ]))
 
-row_make : (z : Sizes) (v : Assignment) (i : ℕ) (u : Slot) (t : ℕ) → ((a b c : Bool) → holds v (value_clause z i u t a b c) ≡ true) → holds v (value_row z i u t) ≡ true
+row_make : (z : Dimensions) (v : Assignment) (i : ℕ) (u : Slot) (t : ℕ) → ((a b c : Bool) → holds v (value_clause z i u t a b c) ≡ true) → holds v (value_row z i u t) ≡ true
 unfolding value_row value_bit
 row_make z v i u t each =
     both_hold v (value_bit z i u t false) (value_bit z i u t true)
@@ -290,7 +290,7 @@ gives_clause true x j k f a b c value = ⊎_elim
     (other_or j b)))
     (other_or x a)
 
-value_from : (z : Sizes) (v : Assignment) (steps : List StepSlots) (s : StepSlots) (u : Slot) (t : ℕ) →
+value_from : (z : Dimensions) (v : Assignment) (steps : List StepSlots) (s : StepSlots) (u : Slot) (t : ℕ) →
     IsLaid z steps → holds v (values z steps) ≡ true → IsSlotOf steps s u → t < 2 ^ z.n → v u.var ≡ true →
     x_bit z v s.place t ≡ v (f_var z s.place (x_bit z v u.j t) (x_bit z v u.k t))
 unfolding values value_step value_slot
@@ -303,7 +303,7 @@ value_from z v steps s u t laid all is row true_ =
     let k : Bool = x_bit z v u.k t in
     clause_gives (v u.var) x j k (v (f_var z s.place j k)) true_ (sym (value_bits z v steps s u t x j k laid is) ∙ row_get z v s.place u t x j k at_t)
 
-value_to : (z : Sizes) (v : Assignment) (steps : List StepSlots) → IsLaid z steps →
+value_to : (z : Dimensions) (v : Assignment) (steps : List StepSlots) → IsLaid z steps →
     ((s : StepSlots) (u : Slot) (t : ℕ) → IsSlotOf steps s u → t < 2 ^ z.n → v u.var ≡ true →
     x_bit z v s.place t ≡ v (f_var z s.place (x_bit z v u.j t) (x_bit z v u.k t))) → holds v (values z steps) ≡ true
 unfolding values value_step value_slot
@@ -315,7 +315,7 @@ value_to z v steps laid each =
 
 -- ---- a step's operator is in the basis
 
-pub operator_bits : (z : Sizes) (v : Assignment) (i op : ℕ) →
+pub operator_bits : (z : Dimensions) (v : Assignment) (i op : ℕ) →
     holds v (written (operator_raw z i op)) ≡ (same (v (f_var z i false false)) (not (apply op false false)) ||
     (same (v (f_var z i false true)) (not (apply op false true)) ||
     (same (v (f_var z i true false)) (not (apply op true false)) ||
@@ -336,7 +336,7 @@ not_other true false e = e
 not_other false true e = sym e
 not_other false false e = refl
 
-operator_is_member : (basis : ℕ) (z : Sizes) (v : Assignment) (i op : ℕ) → holds v (operator_clause basis z i op) ≡ true → op ≡ operator_in z v i → members basis op ≡ true
+operator_is_member : (basis : ℕ) (z : Dimensions) (v : Assignment) (i op : ℕ) → holds v (operator_clause basis z i op) ≡ true → op ≡ operator_in z v i → members basis op ≡ true
 unfolding operator_clause
 operator_is_member basis z v i op all is = true_from_ne_false (members basis op) (λ no.
     let clause : holds v (written (operator_raw z i op)) ≡ true = (rw no at all) in
@@ -350,7 +350,7 @@ operator_is_member basis z v i op all is = true_from_ne_false (members basis op)
     ) at (operator_bits z v i op))
     clause)
 
-operator_from : (basis : ℕ) (z : Sizes) (v : Assignment) (i : ℕ) → holds v (operators basis z) ≡ true → IsStepPlace z i → members basis (operator_in z v i) ≡ true
+operator_from : (basis : ℕ) (z : Dimensions) (v : Assignment) (i : ℕ) → holds v (operators basis z) ≡ true → IsStepPlace z i → members basis (operator_in z v i) ≡ true
 unfolding operators operators_at
 operator_from basis z v i all is =
     let at_i = holds_each v (operators_at basis z) (places z) i all (place_there z i is) in
@@ -359,7 +359,7 @@ operator_from basis z v i all is =
     (operator_in z v i) at_i (range_contains 0 16 (operator_in z v i) (omega arith) low)) refl
 
 -- another operator than the step's differs from it at some pair of bits
-pub differs_from : (z : Sizes) (v : Assignment) (i op : ℕ) → op < 16 → (op ≡ operator_in z v i → ⊥) → holds v (written (operator_raw z i op)) ≡ true
+pub differs_from : (z : Dimensions) (v : Assignment) (i op : ℕ) → op < 16 → (op ≡ operator_in z v i → ⊥) → holds v (written (operator_raw z i op)) ≡ true
 differs_from z v i op low other = true_from_ne_false (holds v (written (operator_raw z i op))) (λ no.
     let all = sym (operator_bits z v i op) ∙ no in
     let (a, rest) = or_parts (same (v (f_var z i false false)) (not (apply op false false))) _ all in
@@ -377,13 +377,13 @@ differs_from z v i op low other = true_from_ne_false (holds v (written (operator
       ]
     ]) y)))
 
-operator_holds : (basis : ℕ) (z : Sizes) (v : Assignment) (i op : ℕ) (test : Bool) → members basis op ≡ test →
+operator_holds : (basis : ℕ) (z : Dimensions) (v : Assignment) (i op : ℕ) (test : Bool) → members basis op ≡ test →
     op < 16 → members basis (operator_in z v i) ≡ true → holds v (operator_clause basis z i op) ≡ true
 unfolding operator_clause holds
 operator_holds basis z v i op true is low member = rw is refl
 operator_holds basis z v i op false is low member = rw is (differs_from z v i op low (λ e. both_ways (members basis op) is (ap (members basis) e ∙ member)))
 
-operator_to : (basis : ℕ) (z : Sizes) (v : Assignment) → ((i : ℕ) → IsStepPlace z i → members basis (operator_in z v i) ≡ true) → holds v (operators basis z) ≡ true
+operator_to : (basis : ℕ) (z : Dimensions) (v : Assignment) → ((i : ℕ) → IsStepPlace z i → members basis (operator_in z v i) ≡ true) → holds v (operators basis z) ≡ true
 unfolding operators operators_at
 operator_to basis z v each =
     each_holds v (operators_at basis z) (places z) (λ i in_places. each_holds v (operator_clause basis z i) (range_with_len 0 16) (λ op in_range.
@@ -392,26 +392,26 @@ operator_to basis z v each =
 
 -- ---- the families without pairs
 
-pub meets_from : (w : Words) (basis : ℕ) (z : Sizes) (v : Assignment) → holds v (out_exists z) ≡ true → holds v (out_values w z) ≡ true → holds v (operators basis z) ≡ true → MeetsTables w basis z v
+pub meets_from : (w : Words) (basis : ℕ) (z : Dimensions) (v : Assignment) → holds v (out_exists z) ≡ true → holds v (out_values w z) ≡ true → holds v (operators basis z) ≡ true → MeetsTables w basis z v
 meets_from w basis z v drivers outs all = record {
   driver = λ h some low. driver_from z v h drivers some low;
   out = λ h i t some low is row true_. outs_from w z v h i t outs some low is row true_;
   operator = λ i is. operator_from basis z v i all is;
 }
 
-pub drivers_hold : (w : Words) (basis : ℕ) (z : Sizes) (v : Assignment) → MeetsTables w basis z v → holds v (out_exists z) ≡ true
+pub drivers_hold : (w : Words) (basis : ℕ) (z : Dimensions) (v : Assignment) → MeetsTables w basis z v → holds v (out_exists z) ≡ true
 drivers_hold w basis z v meets = driver_to z v meets.driver
 
-pub outs_hold : (w : Words) (basis : ℕ) (z : Sizes) (v : Assignment) → MeetsTables w basis z v → holds v (out_values w z) ≡ true
+pub outs_hold : (w : Words) (basis : ℕ) (z : Dimensions) (v : Assignment) → MeetsTables w basis z v → holds v (out_values w z) ≡ true
 outs_hold w basis z v meets = outs_to w z v meets.out
 
-pub operators_hold : (w : Words) (basis : ℕ) (z : Sizes) (v : Assignment) → MeetsTables w basis z v → holds v (operators basis z) ≡ true
+pub operators_hold : (w : Words) (basis : ℕ) (z : Dimensions) (v : Assignment) → MeetsTables w basis z v → holds v (operators basis z) ≡ true
 operators_hold w basis z v meets = operator_to basis z v meets.operator
 
 -- ---- all five families
 
 -- An assignment that satisfies the clauses has the properties,
-pub solves_from : (w : Words) (basis : ℕ) (z : Sizes) (steps : List StepSlots) (v : Assignment) → IsLaid z steps → holds v (common w basis z steps) ≡ true → Solves w basis z steps v
+pub solves_from : (w : Words) (basis : ℕ) (z : Dimensions) (steps : List StepSlots) (v : Assignment) → IsLaid z steps → holds v (common w basis z steps) ≡ true → Solves w basis z steps v
 unfolding common
 solves_from w basis z steps v laid all =
     let (four, fifth) = holds_both v _ (operators basis z) all in
@@ -425,7 +425,7 @@ solves_from w basis z steps v laid all =
     }
 
 -- and an assignment with the properties satisfies the clauses.
-pub solves_to : (w : Words) (basis : ℕ) (z : Sizes) (steps : List StepSlots) (v : Assignment) → IsLaid z steps → Solves w basis z steps v → holds v (common w basis z steps) ≡ true
+pub solves_to : (w : Words) (basis : ℕ) (z : Dimensions) (steps : List StepSlots) (v : Assignment) → IsLaid z steps → Solves w basis z steps v → holds v (common w basis z steps) ≡ true
 unfolding common
 solves_to w basis z steps v laid solves =
     both_hold v _ (operators basis z)

@@ -18,7 +18,7 @@ use Rattle.op_basis.specs.Laws.{operator_values, operator_low}
 use Rattle.chain_laws.specs.Follow.{values_are}
 use Rattle.sat_theory.specs.Formula.{Assignment}
 use Rattle.tt_core.specs.Words.{Words, specification, cell_of}
-use Rattle.enc_theory.specs.declared.data.Sizes.{Sizes}
+use Rattle.enc_theory.specs.declared.data.Dimensions.{Dimensions}
 use Rattle.enc_theory.specs.declared.data.Slot.{Slot}
 use Rattle.enc_theory.specs.declared.data.Pair.{Pair}
 use Rattle.enc_theory.specs.Numbering.{places, outputs, x_var, g_var, f_var}
@@ -30,38 +30,38 @@ use Rattle.enc_laws.specs.Solves.{x_bit, MeetsTables, Solves}
 
 -- ---- bits that follow steps
 
-pub x_bit-input : (z : Sizes) (v : Assignment) (j t : ℕ) → j ≤ z.n → x_bit z v j t ≡ input z.n t j
+pub x_bit-input : (z : Dimensions) (v : Assignment) (j t : ℕ) → j ≤ z.n → x_bit z v j t ≡ input z.n t j
 unfolding x_bit
 x_bit-input z v j t low = rw (le-leb j z.n low) refl
 
-pub x_bit-step : (z : Sizes) (v : Assignment) (j t : ℕ) → z.n < j → x_bit z v j t ≡ v (x_var z j t)
+pub x_bit-step : (z : Dimensions) (v : Assignment) (j t : ℕ) → z.n < j → x_bit z v j t ≡ v (x_var z j t)
 unfolding x_bit
 x_bit-step z v j t high = rw (lt-leb j z.n high) refl
 
 -- A list of steps: the assignment's bit of a step's place is its operator's value at its operands' bits, and
 -- each output has a driver whose bits meet its cells.
-pub record IsSpelled (w : Words) (z : Sizes) (v : Assignment) (list : List Step) (driver : ℕ → ℕ) : Type 0 where
+pub record IsSpelled (w : Words) (z : Dimensions) (v : Assignment) (list : List Step) (driver : ℕ → ℕ) : Type 0 where
   pub count : length list ≡ z.r
   pub steps : AreSteps z.n list
   pub follow : (i : ℕ) (s : Step) (t : ℕ) → slice_get list i ≡ Some s → t < 2 ^ z.n → x_bit z v (z.n + 1 + i) t ≡ apply s.op (x_bit z v s.j t) (x_bit z v s.k t)
   pub place : (h : ℕ) → 1 ≤ h → h ≤ z.m → IsStepPlace z (driver h)
   pub met : (h t : ℕ) → 1 ≤ h → h ≤ z.m → t < 2 ^ z.n → is_met (cell_of w h t) (x_bit z v (driver h) t) ≡ true
 
-unfoldable pub spelled_outs : (ℕ → ℕ) → Sizes → List Out
+unfoldable pub spelled_outs : (ℕ → ℕ) → Dimensions → List Out
 spelled_outs driver z = map (λ h. Place (driver h)) (outputs z)
 
-abbrev pub spelled : Sizes → List Step → (ℕ → ℕ) → Chain
+abbrev pub spelled : Dimensions → List Step → (ℕ → ℕ) → Chain
 spelled z steps driver = record { n = z.n; steps = steps; outs = spelled_outs driver z }
 
-length-spelled_outs : (driver : ℕ → ℕ) (z : Sizes) → length (spelled_outs driver z) ≡ z.m
+length-spelled_outs : (driver : ℕ → ℕ) (z : Dimensions) → length (spelled_outs driver z) ≡ z.m
 unfolding spelled_outs
 length-spelled_outs driver z = length-map-range_with_len (λ h. Place (driver h)) 1 z.m
 
-spelled_at : (driver : ℕ → ℕ) (z : Sizes) (k h : ℕ) (d : Out) → k < z.m → 1 + k ≡ h → get_or (spelled_outs driver z) k d ≡ Place (driver h)
+spelled_at : (driver : ℕ → ℕ) (z : Dimensions) (k h : ℕ) (d : Out) → k < z.m → 1 + k ≡ h → get_or (spelled_outs driver z) k d ≡ Place (driver h)
 unfolding spelled_outs
 spelled_at driver z k h d low e = get_or-map-range_with_len (λ h. Place (driver h)) 1 z.m k h d low e
 
-pub spelled_is_chain : (w : Words) (z : Sizes) (v : Assignment) (steps : List Step) (driver : ℕ → ℕ) → IsSpelled w z v steps driver → IsChain (spelled z steps driver)
+pub spelled_is_chain : (w : Words) (z : Dimensions) (v : Assignment) (steps : List Step) (driver : ℕ → ℕ) → IsSpelled w z v steps driver → IsChain (spelled z steps driver)
 spelled_is_chain w z v steps driver is = record {
   steps = is.steps;
   outs = λ k d low.
@@ -74,14 +74,14 @@ spelled_is_chain w z v steps driver is = record {
 }
 
 -- the bits are the values
-pub spelled_values : (w : Words) (z : Sizes) (v : Assignment) (steps : List Step) (driver : ℕ → ℕ) →
+pub spelled_values : (w : Words) (z : Dimensions) (v : Assignment) (steps : List Step) (driver : ℕ → ℕ) →
     IsSpelled w z v steps driver → (p t : ℕ) → 1 ≤ p → p < z.n + 1 + z.r → t < 2 ^ z.n →
     values_on z.n t steps p ≡ x_bit z v p t
 spelled_values w z v steps driver is p t some low row =
     values_are z.n t (λ q. x_bit z v q t) steps is.steps (λ q q_from q_low. x_bit-input z v q t q_low) (λ i s at. is.follow i s t at row) p some (let count = is.count in omega arith)
 
 -- and the chain implements the tables.
-pub spelled_agrees : (w : Words) (z : Sizes) (v : Assignment) (steps : List Step) (driver : ℕ → ℕ) → z.n ≡ w.n →
+pub spelled_agrees : (w : Words) (z : Dimensions) (v : Assignment) (steps : List Step) (driver : ℕ → ℕ) → z.n ≡ w.n →
     z.m ≡ length w.on → IsSpelled w z v steps driver → Agrees (spelled z steps driver) (specification w)
 spelled_agrees w z v steps driver inputs count is = record {
   inputs = inputs;
@@ -114,30 +114,30 @@ first_pair_is v [] any = absurd cc
 first_pair_is v (u ∷ us) any = head_or_later v u us (first_pair v us) (v u.var) refl (λ e. first_pair_is v us (sym (ap (λ (b : Bool). b || list_any (λ u. v u.var) us) e) ∙ any))
 
 -- the first step whose variable is true
-pub record IsFirstDriver (z : Sizes) (v : Assignment) (h : ℕ) (is : List ℕ) (i : ℕ) : Type 0 where
+pub record IsFirstDriver (z : Dimensions) (v : Assignment) (h : ℕ) (is : List ℕ) (i : ℕ) : Type 0 where
   pub inside : Contains is i
   pub true_ : v (g_var z h i) ≡ true
 
-here_or_later : (z : Sizes) (v : Assignment) (h i : ℕ) (is : List ℕ) (later : ℕ) (b : Bool) → v (g_var z h i) ≡ b →
+here_or_later : (z : Dimensions) (v : Assignment) (h i : ℕ) (is : List ℕ) (later : ℕ) (b : Bool) → v (g_var z h i) ≡ b →
     (b ≡ false → IsFirstDriver z v h is later) → IsFirstDriver z v h (i ∷ is) (if b then i else later)
 here_or_later z v h i is later true e found = record { inside = contains_head i is; true_ = e }
 here_or_later z v h i is later false e found = let more = found refl in record { inside = contains_tail i later is more.inside; true_ = more.true_ }
 
-pub first_driver_is : (z : Sizes) (v : Assignment) (h : ℕ) (is : List ℕ) → list_any (λ i. v (g_var z h i)) is ≡ true → IsFirstDriver z v h is (first_driver z v h is)
+pub first_driver_is : (z : Dimensions) (v : Assignment) (h : ℕ) (is : List ℕ) → list_any (λ i. v (g_var z h i)) is ≡ true → IsFirstDriver z v h is (first_driver z v h is)
 unfolding first_driver
 first_driver_is z v h [] any = absurd cc
 first_driver_is z v h (i ∷ is) any = here_or_later z v h i is (first_driver z v h is) (v (g_var z h i)) refl
     (λ e. first_driver_is z v h is (sym (ap (λ (b : Bool). b || list_any (λ i. v (g_var z h i)) is) e) ∙ any))
 
 -- it is a step, and meets the cells of its output
-pub driver_place : (w : Words) (basis : ℕ) (z : Sizes) (v : Assignment) (h : ℕ) → MeetsTables w basis z v → 1 ≤ h → h ≤ z.m → IsStepPlace z (first_driver z v h (places z))
+pub driver_place : (w : Words) (basis : ℕ) (z : Dimensions) (v : Assignment) (h : ℕ) → MeetsTables w basis z v → 1 ≤ h → h ≤ z.m → IsStepPlace z (first_driver z v h (places z))
 driver_place w basis z v h meets some low =
     let (i, place, true_) = meets.driver h some low in
     let first = first_driver_is z v h (places z) (any_make (λ (i : ℕ). v (g_var z h i)) (places z) i (range_contains (z.n + 1) z.r i place.from place.to) true_) in
     let (from, to) = range_inside (z.n + 1) z.r (first_driver z v h (places z)) first.inside in
     record { from = from; to = to }
 
-pub driver_met : (w : Words) (basis : ℕ) (z : Sizes) (v : Assignment) (h t : ℕ) → MeetsTables w basis z v → 1 ≤ h →
+pub driver_met : (w : Words) (basis : ℕ) (z : Dimensions) (v : Assignment) (h t : ℕ) → MeetsTables w basis z v → 1 ≤ h →
     h ≤ z.m → t < 2 ^ z.n → is_met (cell_of w h t) (x_bit z v (first_driver z v h (places z)) t) ≡ true
 driver_met w basis z v h t meets some low row =
     let (i, place, true_) = meets.driver h some low in
@@ -155,7 +155,7 @@ made_from f None y e = absurd cc
 made_from f (Some x) y e = record { from = x; at = refl; is = cc }
 
 -- the step that is spelled at a place
-pub record IsDecoded (z : Sizes) (steps : List StepSlots) (v : Assignment) (i : ℕ) (d : Step) : Type 0 where
+pub record IsDecoded (z : Dimensions) (steps : List StepSlots) (v : Assignment) (i : ℕ) (d : Step) : Type 0 where
   pub from : StepSlots
   pub slot : Slot
   pub place : from.place ≡ z.n + 1 + i
@@ -163,12 +163,12 @@ pub record IsDecoded (z : Sizes) (steps : List StepSlots) (v : Assignment) (i : 
   pub true_ : v slot.var ≡ true
   pub is : d ≡ record { j = slot.j; k = slot.k; op = operator_in z v from.place }
 
-with_pair : (z : Sizes) (v : Assignment) (s : StepSlots) (d : Step) → d ≡ decoded_step z v s → (u : Slot) →
+with_pair : (z : Dimensions) (v : Assignment) (s : StepSlots) (d : Step) → d ≡ decoded_step z v s → (u : Slot) →
     first_pair v s.slots ≡ pair u.j u.k → d ≡ record { j = u.j; k = u.k; op = operator_in z v s.place }
 unfolding decoded_step
 with_pair z v s d is u first = is ∙ ap (λ (p : Pair). record { j = p.j; k = p.k; op = operator_in z v s.place }) first
 
-pub decoded_is : (w : Words) (basis : ℕ) (z : Sizes) (steps : List StepSlots) (v : Assignment) (i : ℕ) (d : Step) →
+pub decoded_is : (w : Words) (basis : ℕ) (z : Dimensions) (steps : List StepSlots) (v : Assignment) (i : ℕ) (d : Step) →
     IsLaid z steps → Solves w basis z steps v → slice_get (map (decoded_step z v) steps) i ≡ Some d →
     IsDecoded z steps v i d
 decoded_is w basis z steps v i d laid solves at =
@@ -186,7 +186,7 @@ decoded_is w basis z steps v i d laid solves at =
     }
 
 -- An assignment with the properties spells steps, and a driver for each output.
-pub solved_spells : (w : Words) (basis : ℕ) (z : Sizes) (steps : List StepSlots) (v : Assignment) → IsLaid z steps →
+pub solved_spells : (w : Words) (basis : ℕ) (z : Dimensions) (steps : List StepSlots) (v : Assignment) → IsLaid z steps →
     Solves w basis z steps v → IsSpelled w z v (map (decoded_step z v) steps) (λ h. first_driver z v h (places z))
 solved_spells w basis z steps v laid solves = record {
   count = length-map steps (decoded_step z v) ∙ laid.count;
@@ -216,7 +216,7 @@ solved_spells w basis z steps v laid solves = record {
 }
 
 -- each step that is spelled is over the basis
-pub solved_is_over : (w : Words) (basis : ℕ) (z : Sizes) (steps : List StepSlots) (v : Assignment) (outs : List Out) →
+pub solved_is_over : (w : Words) (basis : ℕ) (z : Dimensions) (steps : List StepSlots) (v : Assignment) (outs : List Out) →
     IsLaid z steps → Solves w basis z steps v → IsOver (members basis) (record {
       n = z.n;
       steps = map (decoded_step z v) steps;
@@ -231,6 +231,6 @@ solved_is_over w basis z steps v outs laid solves = λ k d low.
     ap (λ (s : Step). members basis s.op) is.is ∙ solves.tables.operator is.from.place (record { from = omega arith; to = omega arith })
 
 -- The chain of an assignment, whatever the pairs.
-pub decoded_outs : (z : Sizes) (v : Assignment) → map (decoded_out z v) (outputs z) ≡ spelled_outs (λ h. first_driver z v h (places z)) z
+pub decoded_outs : (z : Dimensions) (v : Assignment) → map (decoded_out z v) (outputs z) ≡ spelled_outs (λ h. first_driver z v h (places z)) z
 unfolding decoded_out spelled_outs
 decoded_outs z v = refl

@@ -4,16 +4,16 @@ use Rattle.std.proofs.lemmas.Grind.{common_steps}
 use Rattle.chain_core.specs.Steps.{IsSmallChain}
 use Rattle.sat_theory.specs.Formula.{Assignment, Satisfies}
 use Rattle.tt_core.specs.Words.{Words, IsSpec}
-use Rattle.enc_theory.specs.declared.data.Sizes.{Sizes}
+use Rattle.enc_theory.specs.declared.data.Dimensions.{Dimensions}
 use Rattle.enc_theory.specs.Select.{select_vars, select_formula, select_decoded}
 use Rattle.enc_laws.specs.Select.{select_decodes}
-use Rattle.enc_frame.specs.Room.{HasRoom}
+use Rattle.enc_base.specs.Room.{HasRoom}
 use Rattle.enc_cuts.specs.ChainLaws.{small_chain}
 use Rattle.enc_select.specs.Room.{HasChoices}
 use Rattle.enc_select.proofs.Counts.{both-few}
 
 -- all variables have room
-pub has_all : (z : Sizes) (vars : ℕ) → HasRoom z vars → vars ≡ select_vars z → HasChoices z vars
+pub has_all : (z : Dimensions) (vars : ℕ) → HasRoom z vars → vars ≡ select_vars z → HasChoices z vars
 has_all z vars room is = record { room = room; all = omega arith }
 
 pub ruleset limits = (common_steps, both-few, has_all)

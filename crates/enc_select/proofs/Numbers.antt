@@ -2,12 +2,12 @@
 use Rattle.std.proofs.Common.{◌≡◌, ℕ, zero, suc, ◌+◌, ◌-◌, ◌*◌, ◌/◌, ◌^◌, ◌<◌, ◌≤◌, arith}
 use Rattle.std.proofs.lemmas.Grind.{common_steps}
 use Rattle.enc_theory.specs.declared.data.Side.{Side}
-use Rattle.enc_theory.specs.declared.data.Sizes.{Sizes}
+use Rattle.enc_theory.specs.declared.data.Dimensions.{Dimensions}
 use Rattle.enc_theory.specs.Select.{operand_count, choice_var, value_var, select_vars}
 use Rattle.enc_laws.specs.SelectVars.{choice_positive, choice_within, value_positive, value_within, first_within}
-use Rattle.enc_frame.specs.Room.{IsPlace}
+use Rattle.enc_base.specs.Room.{IsPlace}
 use Rattle.clause_core.specs.CountLaws.{times-few}
-use Rattle.enc_frame.specs.BoundLaws.{products}
+use Rattle.enc_base.specs.BoundLaws.{products}
 
 -- twice the count, without a division
 count_twice : (n s : ℕ) → 2 * operand_count n s + s ≡ 2 * (n * s) + s * s
@@ -35,10 +35,10 @@ part-few n s low few = times-few n s 6 16 low few
 pub ruleset counting = (common_steps, count_is, square_from, square-few, part-few)
 
 -- the computed numbers are those of variables
-pub choice_low : (z : Sizes) (side : Side) (i j : ℕ) → IsPlace z i → 1 ≤ j → j < i → choice_var z side i j ≤ select_vars z
+pub choice_low : (z : Dimensions) (side : Side) (i j : ℕ) → IsPlace z i → 1 ≤ j → j < i → choice_var z side i j ≤ select_vars z
 choice_low z side i j place from to = choice_within z side i j (record { place = record { from = place.from; to = place.below }; from = from; to = to })
 
-pub value_low : (z : Sizes) (side : Side) (i t : ℕ) → IsPlace z i → t < 2 ^ z.n → value_var z side i t ≤ select_vars z
+pub value_low : (z : Dimensions) (side : Side) (i t : ℕ) → IsPlace z i → t < 2 ^ z.n → value_var z side i t ≤ select_vars z
 value_low z side i t place row = value_within z side i t (record { from = place.from; to = place.below }) row
 
 pub ruleset choosing = (common_steps, choice_low, choice_positive)

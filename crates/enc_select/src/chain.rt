@@ -5,13 +5,13 @@ ghost use Rattle.enc_theory.specs.Select.{choice_exists, choices_exist, operands
 ghost use Rattle.enc_theory.specs.Select.{copy_place};
 ghost use Rattle.enc_theory.specs.Select.{copy_step, copies, result_clause, result_bit, result_row, result_step};
 ghost use Rattle.enc_theory.specs.Select.{results, chosen_chain};
-ghost use Rattle.enc_frame.specs.Room.{IsPlace, AreFor};
+ghost use Rattle.enc_base.specs.Room.{IsPlace, AreFor};
 ghost use Rattle.enc_select.specs.Room.{HasChoices};
 
 use crate::literals::{choice, value};
 use clause_core::{ClauseList, RawLit};
-use enc_frame::{f_var, push_operators, push_out_exists, push_out_values, rows, x_is};
-use enc_theory::{Side, Sizes};
+use enc_base::{f_var, push_operators, push_out_exists, push_out_values, rows, x_is};
+use enc_theory::{Side, Dimensions};
 use op_basis::Basis;
 use std::alloc::{AllocError, Global};
 use tt_core::Spec;
@@ -21,7 +21,7 @@ use tt_core::Spec;
 fn push_choice_exists(
     alloc: Global,
     list: &mut ClauseList,
-    z: Sizes,
+    z: Dimensions,
     i: u32,
     side: Side,
 ) -> Result<(), AllocError>
@@ -36,9 +36,9 @@ fn push_choice_exists(
     list.push(alloc, &raws)
 }
 
-/// Writes that each step has operands.
+/// Appends the clauses that each step has operands.
 #[tactic(auto, using(crate::proofs::Ranges::loops), unfolding(enc_theory::specs::Select::operands_exist, enc_theory::specs::Select::choices_exist))]
-fn push_operands_exist(alloc: Global, list: &mut ClauseList, z: Sizes) -> Result<(), AllocError>
+fn push_operands_exist(alloc: Global, list: &mut ClauseList, z: Dimensions) -> Result<(), AllocError>
     requires { HasChoices z list.old.vars }
     ensures { OnOk result (Appends list.old list.new (operands_exist z)) }
 {
@@ -63,7 +63,7 @@ struct CopyPosition {
 fn push_copy(
     alloc: Global,
     list: &mut ClauseList,
-    z: Sizes,
+    z: Dimensions,
     at: CopyPosition,
     bit: bool,
 ) -> Result<(), AllocError>
@@ -88,7 +88,7 @@ fn push_copy(
 fn push_copy_row(
     alloc: Global,
     list: &mut ClauseList,
-    z: Sizes,
+    z: Dimensions,
     at: CopyPosition,
 ) -> Result<(), AllocError>
     requires room { HasChoices z list.old.vars }
@@ -106,7 +106,7 @@ fn push_copy_row(
 fn push_copy_place(
     alloc: Global,
     list: &mut ClauseList,
-    z: Sizes,
+    z: Dimensions,
     side: Side,
     step: u32,
     place: u32,
@@ -137,7 +137,7 @@ fn push_copy_place(
 fn push_copy_step(
     alloc: Global,
     list: &mut ClauseList,
-    z: Sizes,
+    z: Dimensions,
     side: Side,
     i: u32,
 ) -> Result<(), AllocError>
@@ -151,9 +151,9 @@ fn push_copy_step(
     Ok(())
 }
 
-/// Writes that operands have the values of the selected places.
+/// Appends the clauses that operands have the values of the selected places.
 #[tactic(auto, using(crate::proofs::Ranges::loops), unfolding(enc_theory::specs::Select::copies))]
-fn push_copies(alloc: Global, list: &mut ClauseList, z: Sizes, side: Side) -> Result<(), AllocError>
+fn push_copies(alloc: Global, list: &mut ClauseList, z: Dimensions, side: Side) -> Result<(), AllocError>
     requires { HasChoices z list.old.vars }
     ensures { OnOk result (Appends list.old list.new (copies z side)) }
 {
@@ -169,7 +169,7 @@ fn push_copies(alloc: Global, list: &mut ClauseList, z: Sizes, side: Side) -> Re
 fn push_result_clause(
     alloc: Global,
     list: &mut ClauseList,
-    z: Sizes,
+    z: Dimensions,
     i: u32,
     t: u32,
     a: bool,
@@ -197,7 +197,7 @@ fn push_result_clause(
 fn push_result_bit(
     alloc: Global,
     list: &mut ClauseList,
-    z: Sizes,
+    z: Dimensions,
     i: u32,
     t: u32,
     a: bool,
@@ -218,7 +218,7 @@ fn push_result_bit(
 fn push_result_step(
     alloc: Global,
     list: &mut ClauseList,
-    z: Sizes,
+    z: Dimensions,
     i: u32,
 ) -> Result<(), AllocError>
     requires room { HasChoices z list.old.vars }
@@ -232,9 +232,9 @@ fn push_result_step(
     Ok(())
 }
 
-/// Writes that the value of each step is its operator's value at its operands' values.
+/// Appends the clauses that the value of each step is its operator's value at its operands' values.
 #[tactic(auto, using(crate::proofs::Ranges::loops), unfolding(enc_theory::specs::Select::results))]
-fn push_results(alloc: Global, list: &mut ClauseList, z: Sizes) -> Result<(), AllocError>
+fn push_results(alloc: Global, list: &mut ClauseList, z: Dimensions) -> Result<(), AllocError>
     requires { HasChoices z list.old.vars }
     ensures { OnOk result (Appends list.old list.new (results z)) }
 {
@@ -253,7 +253,7 @@ pub(crate) fn push_chain(
     list: &mut ClauseList,
     spec: &Spec,
     basis: Basis,
-    z: Sizes,
+    z: Dimensions,
 ) -> Result<(), AllocError>
     requires room { HasChoices z list.old.vars }
     requires tables { AreFor z spec.now }

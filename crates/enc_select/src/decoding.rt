@@ -5,20 +5,20 @@ ghost use Rattle.sat_theory.specs.Formula.{bits_of};
 ghost use Rattle.enc_theory.specs.Numbering.{places};
 ghost use Rattle.enc_theory.specs.Select.{below, first_choice as first_choice_of, chosen_step as chosen_step_of};
 ghost use Rattle.enc_theory.specs.Select.{select_decoded};
-ghost use Rattle.enc_frame.specs.Room.{IsSmall, IsPlace};
+ghost use Rattle.enc_base.specs.Room.{IsSmall, IsPlace};
 ghost use Rattle.chain_theory.specs.Limits.{most_steps};
 
 use crate::vars::choice_var;
 use chain_core::{Chain, Step};
 use cnf_core::Assign;
-use enc_frame::{bit, operator, sizes, with_outs};
-use enc_theory::{Side, Sizes};
+use enc_base::{bit, operator, sizes, with_outs};
+use enc_theory::{Side, Dimensions};
 use std::alloc::{AllocError, Global};
 use tt_core::{Spec, live_spec};
 
 /// The first place below step `i` whose selection variable is true.
 #[tactic(auto, using(crate::proofs::Choices::choices))]
-fn first_choice(bits: &[bool], z: Sizes, side: Side, i: u32) -> u32
+fn first_choice(bits: &[bool], z: Dimensions, side: Side, i: u32) -> u32
     requires small { IsSmall z }
     requires place { IsPlace z i }
     ensures { result ≡ first_choice_of z (bits_of bits.now) side i (below i) }
@@ -33,7 +33,7 @@ fn first_choice(bits: &[bool], z: Sizes, side: Side, i: u32) -> u32
 
 /// The step with its operands and its operator.
 #[tactic(auto, unfolding(enc_theory::specs::Select::chosen_step))]
-fn chosen_step(bits: &[bool], z: Sizes, i: u32) -> Step
+fn chosen_step(bits: &[bool], z: Dimensions, i: u32) -> Step
     requires small { IsSmall z }
     requires place { IsPlace z i }
     ensures { step_of result ≡ chosen_step_of z (bits_of bits.now) i }
@@ -47,7 +47,7 @@ fn chosen_step(bits: &[bool], z: Sizes, i: u32) -> Step
 
 /// All steps.
 #[tactic(auto, using(crate::proofs::Choices::steps))]
-fn chosen_steps(alloc: Global, bits: &[bool], z: Sizes) -> Result<Vec<Step>, AllocError>
+fn chosen_steps(alloc: Global, bits: &[bool], z: Dimensions) -> Result<Vec<Step>, AllocError>
     requires small { IsSmall z }
     ensures { IfOk result (λ steps. steps_of steps.items ≡ map (chosen_step_of z (bits_of bits.now)) (places z)) }
 {

@@ -4,30 +4,30 @@ ghost use Rattle.std.specs.Prelude.{◌≡◌, ◌+◌, ◌-◌, ◌<◌, ◌≤
 ghost use Rattle.std.specs.List.{flat_map, range_with_len};
 ghost use Rattle.clause_core.specs.Clauses.{Appends};
 ghost use Rattle.enc_theory.specs.declared.data.Side.TheVariants.{Second};
-ghost use Rattle.enc_theory.specs.Select.{rising, falling_step, falling};
-ghost use Rattle.enc_frame.specs.Room.{IsPlace};
+ghost use Rattle.enc_theory.specs.Select.{rising, falling_step, not_falling};
+ghost use Rattle.enc_base.specs.Room.{IsPlace};
 ghost use Rattle.enc_select.specs.Descents.{descent, descents_from, descents};
 ghost use Rattle.enc_select.specs.Room.{HasChoices};
 
 use crate::literals::choice;
 use clause_core::ClauseList;
-use enc_theory::{Side, Sizes};
+use enc_theory::{Side, Dimensions};
 use op_basis::Basis;
 use std::alloc::{AllocError, Global};
 
 /// An operand of a step.
 #[derive(Clone, Copy)]
-struct Operand {
+struct SelectedOperand {
     side: Side,
     step: u32,
 }
 
 /// The second operand of a step.
-fn second_of(step: u32) -> Operand
+fn second_of(step: u32) -> SelectedOperand
     ensures side { result.side ≡ Second }
     ensures step { result.step ≡ step }
 {
-    Operand {
+    SelectedOperand {
         side: Side::Second,
         step,
     }
@@ -38,9 +38,9 @@ fn second_of(step: u32) -> Operand
 fn push_descent(
     alloc: Global,
     list: &mut ClauseList,
-    z: Sizes,
-    own: Operand,
-    other: Operand,
+    z: Dimensions,
+    own: SelectedOperand,
+    other: SelectedOperand,
     k: u32,
     l: u32,
 ) -> Result<(), AllocError>
@@ -65,9 +65,9 @@ fn push_descent(
 fn push_descents_from(
     alloc: Global,
     list: &mut ClauseList,
-    z: Sizes,
-    own: Operand,
-    other: Operand,
+    z: Dimensions,
+    own: SelectedOperand,
+    other: SelectedOperand,
     k: u32,
 ) -> Result<(), AllocError>
     requires room { HasChoices z list.old.vars }
@@ -88,9 +88,9 @@ fn push_descents_from(
 fn push_descents(
     alloc: Global,
     list: &mut ClauseList,
-    z: Sizes,
-    own: Operand,
-    other: Operand,
+    z: Dimensions,
+    own: SelectedOperand,
+    other: SelectedOperand,
 ) -> Result<(), AllocError>
     requires room { HasChoices z list.old.vars }
     requires places { IsPlace z own.step }
@@ -104,14 +104,14 @@ fn push_descents(
     Ok(())
 }
 
-/// Writes that the first operand of each step is at most the second, if the basis is closed under exchanging
+/// Appends the clauses that the first operand of each step is at most the second, if the basis is closed under exchanging
 /// them.
 #[tactic(auto, using(crate::proofs::Falls::falls), unfolding(enc_theory::specs::Select::rising))]
-pub(crate) fn push_rising(
+pub(crate) fn push_operands_ordered(
     alloc: Global,
     list: &mut ClauseList,
     basis: Basis,
-    z: Sizes,
+    z: Dimensions,
 ) -> Result<(), AllocError>
     requires { HasChoices z list.old.vars }
     ensures { OnOk result (Appends list.old list.new (rising basis z)) }
@@ -120,7 +120,7 @@ pub(crate) fn push_rising(
         return Ok(());
     }
     for step in z.n + 1..z.n + 1 + z.r {
-        let first = Operand {
+        let first = SelectedOperand {
             side: Side::First,
             step,
         };
@@ -131,7 +131,7 @@ pub(crate) fn push_rising(
 
 /// The clauses of the second operands of all steps but the last, each with that of the next step.
 #[tactic(auto, using(crate::proofs::Falls::falls))]
-fn push_falling_steps(alloc: Global, list: &mut ClauseList, z: Sizes) -> Result<(), AllocError>
+fn push_falling_steps(alloc: Global, list: &mut ClauseList, z: Dimensions) -> Result<(), AllocError>
     requires room { HasChoices z list.old.vars }
     requires some { 1 ≤ z.r }
     ensures { OnOk result (Appends list.old list.new
@@ -143,16 +143,16 @@ fn push_falling_steps(alloc: Global, list: &mut ClauseList, z: Sizes) -> Result<
     Ok(())
 }
 
-/// Writes that second operands never decrease, if the basis is closed under exchanging operands.
-#[tactic(auto, using(crate::proofs::Ranges::without_steps), unfolding(enc_theory::specs::Select::falling))]
-pub(crate) fn push_falling(
+/// Appends the clauses that second operands never decrease from step to step, if the basis is closed under exchanging operands.
+#[tactic(auto, using(crate::proofs::Ranges::without_steps), unfolding(enc_theory::specs::Select::not_falling))]
+pub(crate) fn push_not_falling(
     alloc: Global,
     list: &mut ClauseList,
     basis: Basis,
-    z: Sizes,
+    z: Dimensions,
 ) -> Result<(), AllocError>
     requires { HasChoices z list.old.vars }
-    ensures { OnOk result (Appends list.old list.new (falling basis z)) }
+    ensures { OnOk result (Appends list.old list.new (not_falling basis z)) }
 {
     if basis.swap_closed() && z.r > 0 {
         return push_falling_steps(alloc, list, z);

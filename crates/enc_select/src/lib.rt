@@ -7,7 +7,7 @@
 //! let cnf = Select.formula(alloc, &spec, basis, r, &Subproblem::Whole)?;
 //! ```
 //!
-//! The clauses on outputs and operators are those of `enc_frame`, and the constraints that don't mention
+//! The clauses on outputs and operators are those of `enc_base`, and the constraints that don't mention
 //! operands are those of `enc_cuts`.
 //!
 //! - `chain` writes the clauses that define chains; `descents`, `used`, `trivial` and `no_reapplication` write the

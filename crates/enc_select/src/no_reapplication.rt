@@ -6,12 +6,12 @@ ghost use Rattle.enc_theory.specs.Numbering.{places};
 ghost use Rattle.enc_theory.specs.Select.{not_these, different, no_reapplication_operand, no_reapplication_operands};
 ghost use Rattle.enc_theory.specs.Select.{no_reapplication_from, no_reapplication_after, no_reapplication_step};
 ghost use Rattle.enc_theory.specs.Select.{no_reapplication_steps};
-ghost use Rattle.enc_frame.specs.Room.{IsPlace};
+ghost use Rattle.enc_base.specs.Room.{IsPlace};
 ghost use Rattle.enc_select.specs.Room.{HasChoices};
 
 use crate::literals::choice;
 use clause_core::ClauseList;
-use enc_theory::{Side, Sizes};
+use enc_theory::{Side, Dimensions};
 use op_basis::Basis;
 use std::alloc::{AllocError, Global};
 
@@ -28,7 +28,7 @@ struct Read {
 fn push_not_both(
     alloc: Global,
     list: &mut ClauseList,
-    z: Sizes,
+    z: Dimensions,
     read: Read,
     first: u32,
     second: u32,
@@ -58,7 +58,7 @@ fn push_no_reapplication_operand(
     alloc: Global,
     list: &mut ClauseList,
     ordered: bool,
-    z: Sizes,
+    z: Dimensions,
     read: Read,
     operand: u32,
 ) -> Result<(), AllocError>
@@ -82,7 +82,7 @@ fn push_no_reapplication_different(
     alloc: Global,
     list: &mut ClauseList,
     ordered: bool,
-    z: Sizes,
+    z: Dimensions,
     read: Read,
 ) -> Result<(), AllocError>
     requires room { HasChoices z list.old.vars }
@@ -107,7 +107,7 @@ fn push_no_reapplication_operands(
     alloc: Global,
     list: &mut ClauseList,
     ordered: bool,
-    z: Sizes,
+    z: Dimensions,
     read: Read,
 ) -> Result<(), AllocError>
     requires room { HasChoices z list.old.vars }
@@ -128,7 +128,7 @@ fn push_no_reapplication_from(
     alloc: Global,
     list: &mut ClauseList,
     ordered: bool,
-    z: Sizes,
+    z: Dimensions,
     step: u32,
     later: u32,
     first: u32,
@@ -156,7 +156,7 @@ fn push_no_reapplication_after(
     alloc: Global,
     list: &mut ClauseList,
     ordered: bool,
-    z: Sizes,
+    z: Dimensions,
     step: u32,
     later: u32,
 ) -> Result<(), AllocError>
@@ -176,7 +176,7 @@ fn push_no_reapplication_step(
     alloc: Global,
     list: &mut ClauseList,
     ordered: bool,
-    z: Sizes,
+    z: Dimensions,
     i: u32,
 ) -> Result<(), AllocError>
     requires room { HasChoices z list.old.vars }
@@ -195,7 +195,7 @@ fn push_no_reapplication_steps(
     alloc: Global,
     list: &mut ClauseList,
     ordered: bool,
-    z: Sizes,
+    z: Dimensions,
 ) -> Result<(), AllocError>
     requires { HasChoices z list.old.vars }
     ensures { OnOk result (Appends list.old list.new (flat_map (no_reapplication_step ordered z) (places z))) }
@@ -206,13 +206,13 @@ fn push_no_reapplication_steps(
     Ok(())
 }
 
-/// Writes that there is no re-application, if the basis is closed under it.
+/// Appends the no-re-application clauses, if the basis allows them (`CutSet`).
 #[tactic(auto, unfolding(enc_theory::specs::Select::no_reapplication_steps))]
 pub(crate) fn push_no_reapplication(
     alloc: Global,
     list: &mut ClauseList,
     basis: Basis,
-    z: Sizes,
+    z: Dimensions,
 ) -> Result<(), AllocError>
     requires { HasChoices z list.old.vars }
     ensures { OnOk result (Appends list.old list.new (no_reapplication_steps basis z)) }

@@ -7,7 +7,7 @@ ghost use Rattle.enc_select.specs.Room.{HasChoices};
 
 use crate::chain::push_chain;
 use crate::decoding::decode_chosen;
-use crate::descents::{push_falling, push_rising};
+use crate::descents::{push_not_falling, push_operands_ordered};
 use crate::no_reapplication::push_no_reapplication;
 use crate::trivial::push_trivial;
 use crate::used::push_used;
@@ -16,8 +16,8 @@ use chain_core::Chain;
 use clause_core::ClauseList;
 use cnf_core::{Assign, Cnf};
 use enc_cuts::push_row_0;
-use enc_frame::{Encoding, sizes};
-use enc_theory::{Sizes, Subproblem};
+use enc_base::{Encoding, sizes};
+use enc_theory::{Dimensions, Subproblem};
 use op_basis::Basis;
 use std::alloc::{AllocError, Global};
 use tt_core::{Spec, live_spec};
@@ -26,14 +26,14 @@ use tt_core::{Spec, live_spec};
 /// non-trivial; second operands never decrease; there is no re-application; and a step that drives no output is
 /// 0 on row 0.
 #[tactic(auto, unfolding(enc_theory::specs::Select::chosen_cuts))]
-fn push_cuts(alloc: Global, list: &mut ClauseList, basis: Basis, z: Sizes) -> Result<(), AllocError>
+fn push_cuts(alloc: Global, list: &mut ClauseList, basis: Basis, z: Dimensions) -> Result<(), AllocError>
     requires { HasChoices z list.old.vars }
     ensures { OnOk result (Appends list.old list.new (chosen_cuts basis z)) }
 {
-    push_rising(alloc, list, basis, z)?;
+    push_operands_ordered(alloc, list, basis, z)?;
     push_used(alloc, list, z)?;
     push_trivial(alloc, list, basis, z)?;
-    push_falling(alloc, list, basis, z)?;
+    push_not_falling(alloc, list, basis, z)?;
     push_no_reapplication(alloc, list, basis, z)?;
     push_row_0(alloc, list, basis, z)
 }

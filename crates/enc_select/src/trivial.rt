@@ -5,14 +5,14 @@ ghost use Rattle.clause_core.specs.Clauses.{Appends};
 ghost use Rattle.op_basis.specs.Closed.{const_closed};
 ghost use Rattle.enc_theory.specs.Select.{below, equal_choice, negation_pair, negation_from, negation_step};
 ghost use Rattle.enc_theory.specs.Select.{trivial_step, trivial_steps};
-ghost use Rattle.enc_frame.specs.Room.{IsPlace};
+ghost use Rattle.enc_base.specs.Room.{IsPlace};
 ghost use Rattle.enc_select.specs.Room.{HasChoices};
 
 use crate::literals::choice;
 use clause_core::{ClauseList, RawLit};
 use enc_cuts::{push_not_idle, push_operator};
-use enc_frame::f_var;
-use enc_theory::{Side, Sizes};
+use enc_base::f_var;
+use enc_theory::{Side, Dimensions};
 use op_basis::{Basis, Op};
 use std::alloc::{AllocError, Global};
 
@@ -22,7 +22,7 @@ fn push_equal(
     alloc: Global,
     list: &mut ClauseList,
     constants: bool,
-    z: Sizes,
+    z: Dimensions,
     i: u32,
     j: u32,
 ) -> Result<(), AllocError>
@@ -48,7 +48,7 @@ fn push_equals(
     alloc: Global,
     list: &mut ClauseList,
     constants: bool,
-    z: Sizes,
+    z: Dimensions,
     i: u32,
 ) -> Result<(), AllocError>
     requires room { HasChoices z list.old.vars }
@@ -67,7 +67,7 @@ fn push_equals(
 fn push_negation_pair(
     alloc: Global,
     list: &mut ClauseList,
-    z: Sizes,
+    z: Dimensions,
     i: u32,
     op: Op,
     j: u32,
@@ -94,7 +94,7 @@ fn push_negation_pair(
 fn push_negation_from(
     alloc: Global,
     list: &mut ClauseList,
-    z: Sizes,
+    z: Dimensions,
     i: u32,
     op: Op,
     j: u32,
@@ -115,7 +115,7 @@ fn push_negation_from(
 fn push_negation_all(
     alloc: Global,
     list: &mut ClauseList,
-    z: Sizes,
+    z: Dimensions,
     i: u32,
     op: Op,
 ) -> Result<(), AllocError>
@@ -129,13 +129,13 @@ fn push_negation_all(
     Ok(())
 }
 
-/// Writes that step `i` has `op`, a negation of an operand, only with equal operands, if `op` is in the basis.
+/// Appends the clauses that step `i` has `op`, a negation of an operand, only with equal operands, if `op` is in the basis.
 #[tactic(auto, unfolding(enc_theory::specs::Select::negation_step))]
 fn push_negation(
     alloc: Global,
     list: &mut ClauseList,
     basis: Basis,
-    z: Sizes,
+    z: Dimensions,
     i: u32,
     op: Op,
 ) -> Result<(), AllocError>
@@ -149,13 +149,13 @@ fn push_negation(
     Ok(())
 }
 
-/// Writes that negations have equal operands.
+/// Appends the clauses that negations have equal operands.
 #[tactic(auto, using(enc_cuts::specs::PieceLaws::pieces))]
 fn push_negations(
     alloc: Global,
     list: &mut ClauseList,
     basis: Basis,
-    z: Sizes,
+    z: Dimensions,
     i: u32,
 ) -> Result<(), AllocError>
     requires room { HasChoices z list.old.vars }
@@ -166,14 +166,14 @@ fn push_negations(
     push_negation(alloc, list, basis, z, i, Op::new(12))
 }
 
-/// Writes that step `i` isn't trivial.
+/// Appends the clauses that step `i` isn't trivial.
 #[tactic(auto, unfolding(enc_theory::specs::Select::trivial_step))]
 fn push_trivial_step(
     alloc: Global,
     list: &mut ClauseList,
     constants: bool,
     basis: Basis,
-    z: Sizes,
+    z: Dimensions,
     i: u32,
 ) -> Result<(), AllocError>
     requires room { HasChoices z list.old.vars }
@@ -185,13 +185,13 @@ fn push_trivial_step(
     push_negations(alloc, list, basis, z, i)
 }
 
-/// Writes that no step is trivial.
+/// Appends the clauses that no step is trivial.
 #[tactic(auto, using(crate::proofs::Ranges::loops), unfolding(enc_theory::specs::Select::trivial_steps))]
 pub(crate) fn push_trivial(
     alloc: Global,
     list: &mut ClauseList,
     basis: Basis,
-    z: Sizes,
+    z: Dimensions,
 ) -> Result<(), AllocError>
     requires { HasChoices z list.old.vars }
     ensures { OnOk result (Appends list.old list.new (trivial_steps basis z)) }

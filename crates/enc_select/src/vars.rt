@@ -4,11 +4,11 @@ ghost use Rattle.std.specs.Prelude.{◌≡◌, ◌+◌, ◌-◌, ◌*◌, ◌^�
 ghost use Rattle.enc_theory.specs.Select.{operand_count as operand_count_of, choice_first as choice_first_of};
 ghost use Rattle.enc_theory.specs.Select.{choice_var as choice_var_of, value_first as value_first_of};
 ghost use Rattle.enc_theory.specs.Select.{value_var as value_var_of, select_vars as select_vars_of};
-ghost use Rattle.enc_frame.specs.Room.{IsSmall, HasRoom, IsPlace};
+ghost use Rattle.enc_base.specs.Room.{IsSmall, HasRoom, IsPlace};
 ghost use Rattle.chain_theory.specs.Limits.{most_steps, most_inputs};
 
-use enc_frame::{rows, s_first};
-use enc_theory::{Side, Sizes};
+use enc_base::{rows, s_first};
+use enc_theory::{Side, Dimensions};
 
 /// The number of selection variables of one side for the first `steps` steps: an operand may be any lower
 /// place.
@@ -23,7 +23,7 @@ fn operand_count(n: u32, steps: u32) -> u32
 
 /// The first selection variable.
 #[tactic(auto, unfolding(enc_theory::specs::Select::choice_first))]
-fn choice_first(z: Sizes, side: Side) -> u32
+fn choice_first(z: Dimensions, side: Side) -> u32
     requires { IsSmall z }
     ensures value { result ≡ choice_first_of z side }
     ensures few { result ≤ 1441 }
@@ -36,7 +36,7 @@ fn choice_first(z: Sizes, side: Side) -> u32
 
 /// The selection variable that an operand of step `i` is place `j`.
 #[tactic(auto, using(crate::proofs::Numbers::choosing), unfolding(enc_theory::specs::Select::choice_var))]
-pub(crate) fn choice_var(z: Sizes, side: Side, i: u32, j: u32) -> u32
+pub(crate) fn choice_var(z: Dimensions, side: Side, i: u32, j: u32) -> u32
     requires small { IsSmall z }
     requires place { IsPlace z i }
     requires operand { (1 ≤ j) × (j < i) }
@@ -48,7 +48,7 @@ pub(crate) fn choice_var(z: Sizes, side: Side, i: u32, j: u32) -> u32
 
 /// The first variable of the operands' values.
 #[tactic(auto, using(crate::proofs::Numbers::valuing), unfolding(enc_theory::specs::Select::value_first))]
-fn value_first(z: Sizes, side: Side) -> u32
+fn value_first(z: Dimensions, side: Side) -> u32
     requires { IsSmall z }
     ensures value { result ≡ value_first_of z side }
     ensures few { result ≤ 2689 }
@@ -62,7 +62,7 @@ fn value_first(z: Sizes, side: Side) -> u32
 
 /// The variable of an operand's value on row `t`.
 #[tactic(auto, using(crate::proofs::Numbers::valuing), unfolding(enc_theory::specs::Select::value_var))]
-pub(crate) fn value_var(z: Sizes, side: Side, i: u32, t: u32) -> u32
+pub(crate) fn value_var(z: Dimensions, side: Side, i: u32, t: u32) -> u32
     requires small { IsSmall z }
     requires place { IsPlace z i }
     requires row { t < 2 ^ z.n }
@@ -74,7 +74,7 @@ pub(crate) fn value_var(z: Sizes, side: Side, i: u32, t: u32) -> u32
 
 /// The number of all variables.
 #[tactic(auto, using(crate::proofs::Numbers::valuing), unfolding(enc_theory::specs::Select::select_vars))]
-pub(crate) fn select_vars(z: Sizes) -> u32
+pub(crate) fn select_vars(z: Dimensions) -> u32
     requires { IsSmall z }
     ensures value { result ≡ select_vars_of z }
     ensures room { HasRoom z result }

@@ -6,7 +6,7 @@ use Rattle.op_basis.specs.Closed.{swap_closed}
 use Rattle.tt_core.specs.Words.{Words}
 use Rattle.enc_theory.specs.Pairs.{pairs_below}
 use Rattle.enc_theory.specs.Ssv.{ssv_formula, ssv_live}
-use Rattle.enc_frame.specs.Counts.{common-few}
+use Rattle.enc_base.specs.Counts.{common-few}
 use Rattle.enc_cuts.specs.Formula.{with_cuts, live_with_cuts}
 
 pub ruleset plain = (common_steps, common-few)

@@ -7,7 +7,7 @@ ghost use Rattle.chain_theory.specs.Limits.{most_steps};
 
 use chain_core::Chain;
 use cnf_core::Assign;
-use enc_frame::{AllPairs, Layout, decode, sizes};
+use enc_base::{AllPairs, Layout, decode, sizes};
 use std::alloc::{AllocError, Global};
 use tt_core::{Spec, live_spec};
 

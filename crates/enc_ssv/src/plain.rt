@@ -4,7 +4,7 @@ use crate::pairs::decode_pairs;
 use chain_core::Chain;
 use clause_core::ClauseList;
 use cnf_core::{Assign, Cnf};
-use enc_frame::{AllPairs, Encoding, Layout, push_common, sizes};
+use enc_base::{AllPairs, Encoding, Layout, push_common, sizes};
 use enc_theory::Subproblem;
 use op_basis::Basis;
 use std::alloc::{AllocError, Global};

@@ -5,7 +5,7 @@ use crate::pairs::decode_pairs;
 use chain_core::Chain;
 use cnf_core::{Assign, Cnf};
 use enc_cuts::formula_with_cuts;
-use enc_frame::{AllPairs, Encoding};
+use enc_base::{AllPairs, Encoding};
 use enc_theory::Subproblem;
 use op_basis::Basis;
 use std::alloc::{AllocError, Global};

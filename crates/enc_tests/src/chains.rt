@@ -4,7 +4,7 @@ ghost use Rattle.std.specs.Prelude.{◌<◌};
 use chain_core::{Chain, Out};
 use cnf_core::{Assign, satisfied};
 use enc_fence::FenceEnc;
-use enc_frame::Encoding;
+use enc_base::Encoding;
 use enc_select::Select;
 use enc_ssv::{Plain, Ssv};
 use op_basis::{Basis, read_basis};

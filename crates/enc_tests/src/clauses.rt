@@ -2,8 +2,8 @@
 ghost use Rattle.std.specs.Prelude.{◌≡◌};
 
 use clause_core::{ClauseList, RawLit};
-use enc_frame::{AllPairs, CutSet, Layout, cuts};
-use enc_theory::Sizes;
+use enc_base::{AllPairs, CutSet, Layout, cuts};
+use enc_theory::Dimensions;
 use op_basis::read_basis;
 use std::alloc::{AllocError, Global};
 
@@ -88,7 +88,7 @@ fn bases_allow_the_cuts_of_their_closures(rt: HostRuntime) {
 
 /// Whether one step over two inputs gets the given pairs and variables.
 fn are_laid(alloc: Global, ordered: bool, vars: u32, slots: &[(u32, u32, u32)]) -> bool {
-    let z = Sizes { n: 2, r: 1, m: 1 };
+    let z = Dimensions { n: 2, r: 1, m: 1 };
     let Ok(layout) = Layout::new(alloc, &AllPairs { ordered }, z) else {
         return false;
     };

@@ -3,7 +3,7 @@ ghost use Rattle.std.specs.Prelude.{◌≤◌};
 
 use chain_core::read_chain;
 use enc_fence::{FenceEnc, levels};
-use enc_frame::Encoding;
+use enc_base::Encoding;
 use enc_ssv::Ssv;
 use enc_theory::Subproblem;
 use fence_core::{Fence, fences};
@@ -39,7 +39,7 @@ fn are_listed(alloc: Global, r: u32, outputs: u32, numbers: &[u32]) -> bool
     left.is_empty()
 }
 
-/// Sizes, numbers of outputs, and the fences of the size, each followed by a 0.
+/// Dimensions, numbers of outputs, and the fences of the size, each followed by a 0.
 const LISTED: &[(&str, u32, u32, &[u32])] = &[
     ("no step", 0, 1, &[0]),
     ("three steps", 3, 1, &[1, 1, 1, 0, 2, 1, 0]),

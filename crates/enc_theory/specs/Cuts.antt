@@ -14,7 +14,7 @@ use Rattle.tt_core.specs.Symmetry.{exchanged}
 use Rattle.tt_core.specs.Words.{Words, cell_of}
 use Rattle.clause_core.specs.declared.raw.RawLit.{RawLit}
 use Rattle.clause_core.specs.declared.raw.RawLit.TheVariants.{Var}
-use Rattle.enc_theory.specs.declared.data.Sizes.{Sizes}
+use Rattle.enc_theory.specs.declared.data.Dimensions.{Dimensions}
 use Rattle.enc_theory.specs.declared.data.Slot.{Slot}
 use Rattle.clause_core.specs.Clauses.{written}
 use Rattle.enc_theory.specs.Numbering.{places, outputs, f_var, x_is}
@@ -24,7 +24,7 @@ use Rattle.enc_theory.specs.Families.{driver, chosen, operator_raw}
 -- ---- All steps used: for step i, one clause "i drives some output, or some later step has a pair with i".
 
 -- step i drives output h
-unfoldable pub drives : Sizes → ℕ → ℕ → RawLit
+unfoldable pub drives : Dimensions → ℕ → ℕ → RawLit
 drives z i h = driver z h i
 
 -- place p is an operand of the pair
@@ -37,36 +37,36 @@ reader p u = if reads u p then chosen u ∷ [] else []
 unfoldable pub readers : ℕ → StepSlots → List RawLit
 readers p s = flat_map (reader p) s.slots
 
-unfoldable pub used_by : Sizes → StepSlots → List StepSlots → List (List ℤ)
+unfoldable pub used_by : Dimensions → StepSlots → List StepSlots → List (List ℤ)
 used_by z s later = written (map (drives z s.place) (outputs z) ++ flat_map (readers s.place) later)
 
-unfoldable pub used : Sizes → List StepSlots → List (List ℤ)
+unfoldable pub used : Dimensions → List StepSlots → List (List ℤ)
 used z [] = []
 used z (s ∷ later) = used_by z s later ++ used z later
 
 -- ---- Non-trivial operators.
 
 -- "the step's operator isn't op", if op is in the basis
-unfoldable pub other_operator : ℕ → Sizes → ℕ → ℕ → List (List ℤ)
+unfoldable pub other_operator : ℕ → Dimensions → ℕ → ℕ → List (List ℤ)
 other_operator basis z i op = if members basis op then written (operator_raw z i op) else []
 
 -- the projections 0011 and 0101, and with them the constants 0000 and 1111
 abbrev pub idle_operators : Bool → List ℕ
 idle_operators constants = if constants then 0 ∷ 3 ∷ 5 ∷ 15 ∷ [] else 3 ∷ 5 ∷ []
 
-unfoldable pub not_idle : Bool → ℕ → Sizes → ℕ → List (List ℤ)
+unfoldable pub not_idle : Bool → ℕ → Dimensions → ℕ → List (List ℤ)
 not_idle constants basis z i = flat_map (other_operator basis z i) (idle_operators constants)
 
 -- With equal operands the operator is a negation, for bases where constants aren't needed: "the step doesn't
 -- have this pair, or the operator is 1 at 00", and the same with 0 at 11. For other bases it is at least not
 -- the identity.
-unfoldable pub equal_raw : Bool → Sizes → ℕ → Slot → List (List ℤ)
+unfoldable pub equal_raw : Bool → Dimensions → ℕ → Slot → List (List ℤ)
 equal_raw constants z i u =
     if constants then written (Var u.var false ∷ Var (f_var z i false false) true ∷ []) ++
     written (Var u.var false ∷ Var (f_var z i true true) false ∷ [])
     else written (Var u.var false ∷ Var (f_var z i false false) true ∷ Var (f_var z i true true) false ∷ [])
 
-unfoldable pub equal_slot : Bool → Sizes → ℕ → Slot → List (List ℤ)
+unfoldable pub equal_slot : Bool → Dimensions → ℕ → Slot → List (List ℤ)
 equal_slot constants z i u = if u.j == u.k then equal_raw constants z i u else []
 
 unfoldable pub equal_pair : Slot → List RawLit
@@ -74,18 +74,18 @@ equal_pair u = if u.j == u.k then chosen u ∷ [] else []
 
 -- A negation of an operand, 1010 or 1100, has that operand twice: "the operator isn't this one, or the step has
 -- some pair of equal operands".
-unfoldable pub negation_raw : ℕ → Sizes → StepSlots → ℕ → List (List ℤ)
+unfoldable pub negation_raw : ℕ → Dimensions → StepSlots → ℕ → List (List ℤ)
 negation_raw basis z s op = if members basis op then written (operator_raw z s.place op ++ flat_map equal_pair s.slots)
     else []
 
-unfoldable pub negations : ℕ → Sizes → StepSlots → List (List ℤ)
+unfoldable pub negations : ℕ → Dimensions → StepSlots → List (List ℤ)
 negations basis z s = flat_map (negation_raw basis z s) (10 ∷ 12 ∷ [])
 
-unfoldable pub not_trivial_at : Bool → ℕ → Sizes → StepSlots → List (List ℤ)
+unfoldable pub not_trivial_at : Bool → ℕ → Dimensions → StepSlots → List (List ℤ)
 not_trivial_at constants basis z s = not_idle constants basis z s.place ++
     flat_map (equal_slot constants z s.place) s.slots ++ negations basis z s
 
-unfoldable pub not_trivial : ℕ → Sizes → List StepSlots → List (List ℤ)
+unfoldable pub not_trivial : ℕ → Dimensions → List StepSlots → List (List ℤ)
 not_trivial basis z steps = flat_map (not_trivial_at (const_closed (members basis)) basis z) steps
 
 -- ---- Co-lexicographic order: for step i, a pair of it, and a pair of step i + 1 that comes before that one,
@@ -199,13 +199,13 @@ exchange w steps = flat_map (exchange_with w steps) (range_with_len 1 w.n)
 -- ---- Normal steps, if the basis is closed under complements: a step that drives no output is 0 on row 0. For
 -- step i "i is 0 on row 0, or i drives some output".
 
-unfoldable pub row_0_at : Sizes → ℕ → List (List ℤ)
+unfoldable pub row_0_at : Dimensions → ℕ → List (List ℤ)
 row_0_at z i = written (x_is z i 0 false ∷ map (drives z i) (outputs z))
 
-unfoldable pub row_0 : ℕ → Sizes → List (List ℤ)
+unfoldable pub row_0 : ℕ → Dimensions → List (List ℤ)
 row_0 basis z = if polarity_closed (members basis) then flat_map (row_0_at z) (places z) else []
 
 -- ---- All constraints, the six families in their order.
-unfoldable pub cuts : Words → ℕ → Sizes → List StepSlots → List (List ℤ)
+unfoldable pub cuts : Words → ℕ → Dimensions → List StepSlots → List (List ℤ)
 cuts w basis z steps = used z steps ++ not_trivial basis z steps ++ order steps ++ no_reapplication basis steps ++
     exchange w steps ++ row_0 basis z

@@ -9,7 +9,7 @@ use Rattle.op_basis.specs.Closed.{of_values}
 use Rattle.sat_theory.specs.Formula.{Assignment}
 use Rattle.tt_core.specs.Words.{Words, specification}
 use Rattle.tt_core.specs.Live.{trivial_of, live_among}
-use Rattle.enc_theory.specs.declared.data.Sizes.{Sizes}
+use Rattle.enc_theory.specs.declared.data.Dimensions.{Dimensions}
 use Rattle.enc_theory.specs.declared.data.Pair.{Pair}
 use Rattle.enc_theory.specs.declared.data.Slot.{Slot}
 use Rattle.enc_theory.specs.Numbering.{places, outputs, g_var, f_var}
@@ -21,18 +21,18 @@ first_pair v [] = pair 1 1
 first_pair v (u ∷ us) = if v u.var then pair u.j u.k else first_pair v us
 
 -- and the operator that its four variables spell
-abbrev pub operator_in : Sizes → Assignment → ℕ → ℕ
+abbrev pub operator_in : Dimensions → Assignment → ℕ → ℕ
 operator_in z v i = of_values (v (f_var z i false false)) (v (f_var z i false true)) (v (f_var z i true false)) (v (f_var z i true true))
 
-unfoldable pub decoded_step : Sizes → Assignment → StepSlots → Step
+unfoldable pub decoded_step : Dimensions → Assignment → StepSlots → Step
 decoded_step z v s = record { j = (first_pair v s.slots).j; k = (first_pair v s.slots).k; op = operator_in z v s.place }
 
 -- a live output is driven by the first step whose variable for it is true
-unfoldable pub first_driver : Sizes → Assignment → ℕ → List ℕ → ℕ
+unfoldable pub first_driver : Dimensions → Assignment → ℕ → List ℕ → ℕ
 first_driver z v h [] = z.n + 1
 first_driver z v h (i ∷ is) = if v (g_var z h i) then i else first_driver z v h is
 
-unfoldable pub decoded_out : Sizes → Assignment → ℕ → Out
+unfoldable pub decoded_out : Dimensions → Assignment → ℕ → Out
 decoded_out z v h = Place (first_driver z v h (places z))
 
 -- A trivial output is its constant or input; a live one is the next of the live outputs.
@@ -49,9 +49,9 @@ unfoldable pub restored : Specification → List Out → List Out
 restored s live = map (restored_at s live) (range_with_len 1 s.outputs)
 
 -- The chain with given steps, for truth tables; `z` has the number of live outputs.
-abbrev pub with_outs : Words → Sizes → List Step → Assignment → Chain
+abbrev pub with_outs : Words → Dimensions → List Step → Assignment → Chain
 with_outs w z steps v = record { n = w.n; steps = steps; outs = restored (specification w) (map (decoded_out z v) (outputs z)) }
 
 -- The chain whose steps have pairs.
-unfoldable pub decoded : Words → Sizes → List StepSlots → Assignment → Chain
+unfoldable pub decoded : Words → Dimensions → List StepSlots → Assignment → Chain
 decoded w z steps v = with_outs w z (map (decoded_step z v) steps) v

@@ -9,7 +9,7 @@ use Rattle.sat_theory.specs.Formula.{Formula, Assignment}
 use Rattle.tt_core.specs.Words.{Words}
 use Rattle.tt_core.specs.Live.{live_words}
 use Rattle.enc_theory.specs.declared.data.Pair.{Pair}
-use Rattle.enc_theory.specs.declared.data.Sizes.{Sizes}
+use Rattle.enc_theory.specs.declared.data.Dimensions.{Dimensions}
 use Rattle.enc_theory.specs.Numbering.{sizes_of}
 use Rattle.enc_theory.specs.Pairs.{StepSlots, pairs_with, layout, vars_of}
 use Rattle.enc_theory.specs.Families.{common}
@@ -29,7 +29,7 @@ places_under first count (q ∷ qs) k = if nat_lt k q then range_with_len first 
 unfoldable pub fence_pairs : Bool → ℕ → List ℕ → ℕ → List Pair
 fence_pairs ordered n fence i = flat_map (pairs_with ordered) (places_under 1 n fence (i - (n + 1)))
 
-abbrev pub fence_layout : ℕ → List ℕ → Sizes → List StepSlots
+abbrev pub fence_layout : ℕ → List ℕ → Dimensions → List StepSlots
 fence_layout basis fence z = layout (fence_pairs (swap_closed (members basis)) z.n fence) z
 
 -- the formula for tables whose outputs are all live, for a fence of r steps

@@ -1,7 +1,7 @@
 -- The pairs of operands, in their order, and their selection variables.
 use Rattle.std.specs.Prelude.{ℕ, zero, suc, ◌+◌, ◌-◌, Bool, List, [], ◌∷◌, length, if◌then◌else◌}
 use Rattle.std.specs.List.{range_with_len, flat_map}
-use Rattle.enc_theory.specs.declared.data.Sizes.{Sizes}
+use Rattle.enc_theory.specs.declared.data.Dimensions.{Dimensions}
 use Rattle.enc_theory.specs.declared.data.Pair.{Pair}
 use Rattle.enc_theory.specs.declared.data.Slot.{Slot}
 use Rattle.enc_theory.specs.Numbering.{s_first}
@@ -44,7 +44,7 @@ laid pairs v place (suc count) = record {
 
 -- All steps with the pairs that each may have: the selection variables follow all other variables, those of the
 -- first step first. Encodings by pairs differ in `pairs`.
-abbrev pub layout : (ℕ → List Pair) → Sizes → List StepSlots
+abbrev pub layout : (ℕ → List Pair) → Dimensions → List StepSlots
 layout pairs z = laid pairs (s_first z) (z.n + 1) z.r
 
 -- how many pairs there are
@@ -53,5 +53,5 @@ slot_count [] = 0
 slot_count (s ∷ steps) = length s.slots + slot_count steps
 
 -- the number of all variables
-abbrev pub vars_of : Sizes → List StepSlots → ℕ
+abbrev pub vars_of : Dimensions → List StepSlots → ℕ
 vars_of z steps = s_first z - 1 + slot_count steps

@@ -4,14 +4,14 @@ use Rattle.chain_theory.specs.Chain.{Chain}
 use Rattle.sat_theory.specs.Formula.{Formula, Assignment}
 use Rattle.tt_core.specs.Words.{Words}
 use Rattle.tt_core.specs.Live.{live_words}
-use Rattle.enc_theory.specs.declared.data.Sizes.{Sizes}
+use Rattle.enc_theory.specs.declared.data.Dimensions.{Dimensions}
 use Rattle.enc_theory.specs.Numbering.{sizes_of}
 use Rattle.enc_theory.specs.Pairs.{StepSlots, pairs_below, layout, vars_of}
 use Rattle.enc_theory.specs.Families.{common}
 use Rattle.enc_theory.specs.Decode.{decoded}
 
 -- each step with all pairs of lower places
-abbrev pub plain_layout : Sizes → List StepSlots
+abbrev pub plain_layout : Dimensions → List StepSlots
 plain_layout z = layout (pairs_below false) z
 
 -- the formula for tables whose outputs are all live

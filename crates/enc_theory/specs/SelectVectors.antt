@@ -18,7 +18,7 @@ use Rattle.enc_theory.specs.Select.{copy_place, copy_step, copies, result_raw, r
 use Rattle.enc_theory.specs.Select.{result_step, results, chosen_chain, rising_pair, rising_from, rising_step, rising}
 use Rattle.enc_theory.specs.Select.{choosers, used_step, used_steps, equal_choice, negation_pair, negation_from}
 use Rattle.enc_theory.specs.Select.{negation_step, trivial_step, trivial_steps, falling_pair, falling_from}
-use Rattle.enc_theory.specs.Select.{falling_step, falling, no_reapplication_operand, no_reapplication_operands}
+use Rattle.enc_theory.specs.Select.{falling_step, not_falling, no_reapplication_operand, no_reapplication_operands}
 use Rattle.enc_theory.specs.Select.{no_reapplication_from, no_reapplication_after, no_reapplication_step}
 use Rattle.enc_theory.specs.Select.{no_reapplication_steps, chosen_cuts, select_live, select_formula}
 use Rattle.enc_theory.specs.Vectors.{Vector, vector, with_clause, with_clauses, literal_count, outline, outline_by, expected}
@@ -102,7 +102,7 @@ unfolding fits_rows inputs_from first_fit is_live live_among words_of has simpli
     value_first value_var select_vars chooses choice_exists choices_exist operands_exist copy_raw copy_row copy_place
     copy_step copies result_raw result_clause result_bit result_row result_step results chosen_chain rising_pair
     rising_from rising_step rising choosers used_step used_steps equal_choice negation_pair negation_from negation_step
-    trivial_step trivial_steps falling_pair falling_from falling_step falling no_reapplication_operand
+    trivial_step trivial_steps falling_pair falling_from falling_step not_falling no_reapplication_operand
     no_reapplication_operands no_reapplication_from no_reapplication_after no_reapplication_step no_reapplication_steps
     chosen_cuts select_live select_formula
 select_is_expected = refl

@@ -7,7 +7,7 @@ use Rattle.op_basis.specs.Closed.{swap_closed}
 use Rattle.sat_theory.specs.Formula.{Formula, Assignment}
 use Rattle.tt_core.specs.Words.{Words}
 use Rattle.tt_core.specs.Live.{live_words}
-use Rattle.enc_theory.specs.declared.data.Sizes.{Sizes}
+use Rattle.enc_theory.specs.declared.data.Dimensions.{Dimensions}
 use Rattle.enc_theory.specs.Numbering.{sizes_of}
 use Rattle.enc_theory.specs.Pairs.{StepSlots, pairs_below, layout, vars_of}
 use Rattle.enc_theory.specs.Families.{common}
@@ -16,7 +16,7 @@ use Rattle.enc_theory.specs.Decode.{decoded}
 
 -- each step with all pairs of lower places; only those with j <= k if the basis is closed under exchanging the
 -- operands
-abbrev pub ssv_layout : ℕ → Sizes → List StepSlots
+abbrev pub ssv_layout : ℕ → Dimensions → List StepSlots
 ssv_layout basis z = layout (pairs_below (swap_closed (members basis))) z
 
 -- the formula for tables whose outputs are all live

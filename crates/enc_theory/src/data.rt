@@ -1,8 +1,9 @@
-//! The data of formulas: sizes, pairs of operands, and selection variables.
+//! The data of formulas: dimensions, pairs of operands, and selection variables (Kojevnikov, Kulikov and
+//! Yaroslavtsev, and Haaswijk and others, call the variables x, g, f and s).
 
-/// The sizes of a formula: `n` inputs, `r` steps and `m` outputs.
+/// The dimensions of a formula: `n` inputs, `r` steps and `m` outputs.
 #[derive(Clone, Copy)]
-pub struct Sizes {
+pub struct Dimensions {
     pub n: u32,
     pub r: u32,
     pub m: u32,

@@ -31,5 +31,5 @@ mod data;
 pub mod laws;
 mod subproblem;
 
-pub use data::{Pair, Side, Sizes, Slot};
+pub use data::{Pair, Side, Dimensions, Slot};
 pub use subproblem::Subproblem;

@@ -8,7 +8,7 @@ use std::alloc::{AllocError, AllocFailed};
 
 /// Whether two circuits are equivalent.
 #[derive(Drop)]
-pub enum Equiv {
+pub enum EquivResult {
     /// They are: the log refutes their miter.
     Equal(Log),
     /// They are not: under the values `at` of the sources, source 1 first, the values of `sink` differ. Sinks are

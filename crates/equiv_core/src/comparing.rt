@@ -3,7 +3,7 @@
 //! an input at which the circuits differ. A counterexample from the sweep is believed only after simulation.
 ghost use Rattle.std.specs.Prelude.{◌≡◌, ◌≤◌, ◌<◌, ◌*◌, ◌^◌, ℕ, length, Err, IfOk, IfErr, IfSome, OnOk};
 ghost use Rattle.sat_theory.specs.Formula.{Formula, bits_of, Satisfies};
-ghost use Rattle.sat_theory.specs.Log.{Refutes, ReachesBudget, KeepsHalf, DeletesQuarter};
+ghost use Rattle.sat_theory.specs.Log.{Refutes, ReachesBudget, KeepsHalf, BoundsLiveAdditions};
 ghost use Rattle.sat_theory.specs.Limits.{most_conflicts};
 ghost use Rattle.net_theory.specs.Circuit.{IsProper};
 ghost use Rattle.net_document.specs.Equivalence.{AreEquivalentCircuits};
@@ -13,7 +13,7 @@ ghost use Rattle.equiv_core.specs.declared.answer.EquivError.TheVariants.{Differ
 ghost use Rattle.equiv_core.specs.Limits.{IsSmall};
 ghost use Rattle.equiv_core.specs.Comparing.{IfEqual, IfDiffer, IfUndecided, IfLogged, IsDecided};
 
-use crate::answer::{Equiv, EquivError};
+use crate::answer::{EquivResult, EquivError};
 use crate::interface::same_interface;
 use crate::mitering::miter;
 use crate::values::first_difference;
@@ -130,7 +130,7 @@ fn finished<S: Solver>(
     solver: S,
     budget: u32,
     spent: u32,
-) -> Result<Equiv, AllocError>
+) -> Result<EquivResult, AllocError>
     requires comparable { AreComparable first.now second.now }
     requires small { IsSmall first.now }
     requires solver { S.IsSolverOf (miter_of first.now second.now) budget solver }
@@ -140,16 +140,16 @@ fn finished<S: Solver>(
     ensures undecided { IfOk result (λ e. IfUndecided e (λ lines.
         ReachesBudget (miter_of first.now second.now) lines budget)) }
     ensures kept { IfOk result (λ e. IfUndecided e (KeepsHalf (miter_of first.now second.now))) }
-    ensures thinned { IfOk result (λ e. IfLogged e (DeletesQuarter (miter_of first.now second.now))) }
+    ensures live_bounded { IfOk result (λ e. IfLogged e (BoundsLiveAdditions (miter_of first.now second.now))) }
     ensures decides { 2 * 3 ^ variables first.now second.now ≤ budget → IfOk result IsDecided }
 {
     let left = left_of(budget, spent);
     match solver.finish(alloc, left)? {
-        Solved::Unsat(log) => Ok(Equiv::Equal(log)),
-        Solved::Open(log) => Ok(Equiv::Undecided(log)),
+        Solved::Unsat(log) => Ok(EquivResult::Equal(log)),
+        Solved::Open(log) => Ok(EquivResult::Undecided(log)),
         Solved::Sat(assign) => {
             let Counterexample { sink, at } = counterexample_of(alloc, first, second, &assign)?;
-            Ok(Equiv::Differ { sink, at })
+            Ok(EquivResult::Differ { sink, at })
         }
     }
 }
@@ -162,7 +162,7 @@ pub(crate) fn compare<S: Solver>(
     second: &Net,
     cnf: &Cnf,
     budget: u32,
-) -> Result<Equiv, AllocError>
+) -> Result<EquivResult, AllocError>
     requires comparable { AreComparable first.now second.now }
     requires small { IsSmall first.now }
     requires miter { cnf.now ≡ miter_of first.now second.now }
@@ -172,7 +172,7 @@ pub(crate) fn compare<S: Solver>(
     ensures undecided { IfOk result (λ e. IfUndecided e (λ lines.
         ReachesBudget (miter_of first.now second.now) lines budget)) }
     ensures kept { IfOk result (λ e. IfUndecided e (KeepsHalf (miter_of first.now second.now))) }
-    ensures thinned { IfOk result (λ e. IfLogged e (DeletesQuarter (miter_of first.now second.now))) }
+    ensures live_bounded { IfOk result (λ e. IfLogged e (BoundsLiveAdditions (miter_of first.now second.now))) }
     ensures decides { 2 * 3 ^ variables first.now second.now ≤ budget → IfOk result IsDecided }
 {
     let _vars = cnf.vars(); // for the prover: brings in the bounds of the formula
@@ -180,7 +180,7 @@ pub(crate) fn compare<S: Solver>(
     let share = share_of(budget);
     let (difference, spent) = swept(alloc, first, second, &mut solver, share)?;
     if let Some(Counterexample { sink, at }) = difference {
-        return Ok(Equiv::Differ { sink, at });
+        return Ok(EquivResult::Differ { sink, at });
     }
     finished(alloc, first, second, solver, budget, spent)
 }
@@ -199,7 +199,7 @@ pub fn equiv<S: Solver>(
     first: &Circuit,
     second: &Circuit,
     budget: u32,
-) -> Result<Equiv, EquivError>
+) -> Result<EquivResult, EquivError>
     requires first { IsProper first.now }
     requires second { IsProper second.now }
     requires small { IsSmall first.now.net }
@@ -213,7 +213,7 @@ pub fn equiv<S: Solver>(
     ensures kept { IfOk result (λ e. IfUndecided e (KeepsHalf (miter_of first.now.net second.now.net))) }
     // At the end of either log at most three quarters of its additions, plus 2,000, plus the number of the miter's
     // variables, are live; and it deletes no clause of the miter.
-    ensures thinned { IfOk result (λ e. IfLogged e (DeletesQuarter (miter_of first.now.net second.now.net))) }
+    ensures live_bounded { IfOk result (λ e. IfLogged e (BoundsLiveAdditions (miter_of first.now.net second.now.net))) }
     ensures decides { 2 * 3 ^ variables first.now.net second.now.net ≤ budget → IfOk result IsDecided }
     ensures interface { IfOk result (λ _. HaveSameInterface first.now second.now) }
     ensures refused { IfErr result (λ e. e ≡ DifferentInterface → HaveSameInterface first.now second.now → ⊥) }

@@ -9,9 +9,9 @@
 //!
 //! ```text
 //! match equiv::<Cdcl>(alloc, &first, &second, 100000)? {
-//!     Equiv::Equal(log) => ..,           // refutes `miter(alloc, &first, &second)?`
-//!     Equiv::Differ { sink, at } => ..,  // sink 1 is the first output
-//!     Equiv::Undecided(log) => ..,
+//!     EquivResult::Equal(log) => ..,           // refutes `miter(alloc, &first, &second)?`
+//!     EquivResult::Differ { sink, at } => ..,  // sink 1 is the first output
+//!     EquivResult::Undecided(log) => ..,
 //! }
 //! ```
 //!
@@ -30,7 +30,7 @@ mod nets;
 mod numbering;
 mod values;
 
-pub use answer::{Equiv, EquivError};
+pub use answer::{EquivResult, EquivError};
 pub use comparing::equiv;
 pub use mitering::miter;
 pub use nets::equal_nets;

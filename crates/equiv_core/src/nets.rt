@@ -7,7 +7,7 @@ ghost use Rattle.equiv_theory.specs.Counterexample.{AreComparable, Differ as Are
 ghost use Rattle.equiv_core.specs.Limits.{AreSmall};
 ghost use Rattle.equiv_core.specs.Exhaustive.{IsNarrow};
 
-use crate::answer::Equiv;
+use crate::answer::EquivResult;
 use crate::comparing::compare;
 use crate::exhaustive::{agree, are_narrow};
 use crate::mitering::miter_nets;
@@ -44,8 +44,8 @@ pub fn equal_nets<S: Solver>(
     }
     let cnf = miter_nets(alloc, first, second)?;
     match compare::<S>(alloc, first, second, &cnf, budget)? {
-        Equiv::Equal(_) => Ok(true),
-        Equiv::Differ { sink: _, at: _ } => Ok(false),
-        Equiv::Undecided(_) => Ok(false),
+        EquivResult::Equal(_) => Ok(true),
+        EquivResult::Differ { sink: _, at: _ } => Ok(false),
+        EquivResult::Undecided(_) => Ok(false),
     }
 }

@@ -2,7 +2,7 @@
 use Rattle.std.specs.Prelude.{◌≡◌, ℕ, ◌*◌, ◌^◌, ◌≤◌, ◌<◌, Bool, List}
 use Rattle.std.proofs.Common.{arith}
 use Rattle.sat_theory.specs.Line.{Line}
-use Rattle.sat_theory.specs.Log.{Refutes, ReachesBudget, KeepsHalf, DeletesQuarter}
+use Rattle.sat_theory.specs.Log.{Refutes, ReachesBudget, KeepsHalf, BoundsLiveAdditions}
 use Rattle.net_theory.specs.Circuit.{Circuit}
 use Rattle.net_document.specs.Equivalence.{AreEquivalentCircuits}
 use Rattle.net_document.specs.Format.{HasNetFault}
@@ -20,7 +20,7 @@ pub record AreEqual (c k : Circuit) (text : List ℕ) : Type 0 where
   pub equivalent : AreEquivalentCircuits c k
   pub lines : List Line
   pub refutes : Refutes (miter c.net k.net) lines
-  pub thinned : DeletesQuarter (miter c.net k.net) lines
+  pub live_bounded : BoundsLiveAdditions (miter c.net k.net) lines
   pub text_is : text ≡ equal_text lines
 
 pub record AreDifferent (c k : Circuit) (text : List ℕ) : Type 0 where
@@ -35,7 +35,7 @@ pub record AreUndecided (budget : ℕ) (c k : Circuit) (text : List ℕ) : Type 
   pub lines : List Line
   pub spent : ReachesBudget (miter c.net k.net) lines budget
   pub kept : KeepsHalf (miter c.net k.net) lines
-  pub thinned : DeletesQuarter (miter c.net k.net) lines
+  pub live_bounded : BoundsLiveAdditions (miter c.net k.net) lines
   pub small : budget < 2 * 3 ^ variables c.net k.net
   pub text_is : text ≡ undecided_text lines
 
@@ -73,15 +73,15 @@ more : (n budget : ℕ) → (n ≤ budget → ⊥) → budget < n
 more n budget not = omega (arith, not)
 
 pub answer_equal : (budget : ℕ) (c k : Circuit) (lines : List Line) (text : List ℕ) → HaveSameInterface c k →
-    AreEquivalentCircuits c k → Refutes (miter c.net k.net) lines → DeletesQuarter (miter c.net k.net) lines →
+    AreEquivalentCircuits c k → Refutes (miter c.net k.net) lines → BoundsLiveAdditions (miter c.net k.net) lines →
     text ≡ equal_text lines → IsCircuitAnswer budget c k text Equal
-answer_equal budget c k lines text interface equivalent refutes thinned is =
+answer_equal budget c k lines text interface equivalent refutes live_bounded is =
     record {
       interface = interface;
       equivalent = equivalent;
       lines = lines;
       refutes = refutes;
-      thinned = thinned;
+      live_bounded = live_bounded;
       text_is = is;
     }
 
@@ -92,15 +92,15 @@ answer_differ budget c k sink bits text interface differ is = record { interface
 
 pub answer_undecided : (budget : ℕ) (c k : Circuit) (lines : List Line) (text : List ℕ) → HaveSameInterface c k →
     ReachesBudget (miter c.net k.net) lines budget → KeepsHalf (miter c.net k.net) lines →
-    DeletesQuarter (miter c.net k.net) lines → (2 * 3 ^ variables c.net k.net ≤ budget → ⊥) →
+    BoundsLiveAdditions (miter c.net k.net) lines → (2 * 3 ^ variables c.net k.net ≤ budget → ⊥) →
     text ≡ undecided_text lines → IsCircuitAnswer budget c k text Undecided
-answer_undecided budget c k lines text interface spent kept thinned not is =
+answer_undecided budget c k lines text interface spent kept live_bounded not is =
     record {
       interface = interface;
       lines = lines;
       spent = spent;
       kept = kept;
-      thinned = thinned;
+      live_bounded = live_bounded;
       small = more (2 * 3 ^ variables c.net k.net) budget not;
       text_is = is;
     }

@@ -4,7 +4,7 @@ use Rattle.std.specs.Prelude.{◌≡◌, ℕ, ◌+◌, ◌-◌, Bool, false, Lis
 use Rattle.std.proofs.Common.{arith, ap, sym, ◌∙◌, subst, length-append}
 use Rattle.std.proofs.lemmas.List.{length-map}
 use Rattle.net_theory.specs.Document.{Name, Document, Latch, latch_output, latches_of, source_names, sink_names}
-use Rattle.net_theory.specs.Behaviour.{IsMapOf}
+use Rattle.net_theory.specs.Behaviour.{IsValuationOf}
 use Rattle.net_theory.specs.WellFormed.{IsWellFormed}
 use Rattle.net_theory.specs.Net.{bit_of, sink_values}
 use Rattle.net_theory.specs.Circuit.{Circuit, IsProper, Describes, IsCircuitOf, sources_of}
@@ -55,7 +55,7 @@ sources_same c k same = ap (λ (ns : List Name). ns ++ map latch_output c.latche
 
 -- the values of a map at the sinks are those of the net
 map_values : (d : Document) (c : Circuit) (given v : Name → Bool) (bits : List Bool) → IsProper c → Describes d c →
-    map given (sources_of c) ≡ bits → IsMapOf d given v → map v (sink_names d) ≡ sink_values c.net (bit_of bits)
+    map given (sources_of c) ≡ bits → IsValuationOf d given v → map v (sink_names d) ≡ sink_values c.net (bit_of bits)
 map_values d c given v bits of describes is maps = describes.sinks given v maps ∙ values_are c given bits of is
 
 sinks_counted : (d : Document) (c : Circuit) → IsProper c → Describes d c → length (sink_names d) ≡ length c.net.sinks
@@ -80,10 +80,10 @@ documents_differ d e c k sink bits of_c of_k of_d of_e same first = record {
   differ = λ given v w is maps_v maps_w equal. first.first_sink.here.differ (sym (at given v is maps_v (sink - 1)) ∙ equal ∙ at' given w is maps_w (sink - 1));
   least = λ given v w is maps_v maps_w j before. at given v is maps_v j ∙ first.first_sink.least j before ∙ sym (at' given w is maps_w j);
 } where
-  at : (given v : Name → Bool) → map given (source_names d) ≡ bits → IsMapOf d given v → (i : ℕ) → sink_in d v i ≡ sink_bit c.net (bit_of bits) i
+  at : (given v : Name → Bool) → map given (source_names d) ≡ bits → IsValuationOf d given v → (i : ℕ) → sink_in d v i ≡ sink_bit c.net (bit_of bits) i
   at given v is maps i = ap (λ (bs : List Bool). slice_index_or bs i false) (map_values d c given v bits of_c of_d (ap (map given) (sym (names_same d c of_d)) ∙ is) maps)
 
-  at' : (given w : Name → Bool) → map given (source_names d) ≡ bits → IsMapOf e given w → (i : ℕ) → sink_in e w i ≡ sink_bit k.net (bit_of bits) i
+  at' : (given w : Name → Bool) → map given (source_names d) ≡ bits → IsValuationOf e given w → (i : ℕ) → sink_in e w i ≡ sink_bit k.net (bit_of bits) i
   at' given w is maps i = ap (λ (bs : List Bool). slice_index_or bs i false)
       (map_values e k given w bits of_k of_e (ap (map given) (sym (sources_same c k same))
       ∙ ap (map given) (sym (names_same d c of_d)) ∙ is) maps)
@@ -103,7 +103,7 @@ answered_of budget d e c k text Equal of_d of_e reported = record {
   nets = record { first_is = of_d.net; second_is = of_e.net };
   lines = reported.lines;
   refutes = reported.refutes;
-  thinned = reported.thinned;
+  live_bounded = reported.live_bounded;
   text_is = reported.text_is;
 }
 answered_of budget d e c k text Differ of_d of_e reported = record {
@@ -121,7 +121,7 @@ answered_of budget d e c k text Undecided of_d of_e reported = record {
   lines = reported.lines;
   spent = reported.spent;
   kept = reported.kept;
-  thinned = reported.thinned;
+  live_bounded = reported.live_bounded;
   small = reported.small;
   text_is = reported.text_is;
 }

@@ -2,9 +2,9 @@
 use Rattle.std.specs.Prelude.{◌≡◌, ◌≢◌, ℕ, ◌-◌, ◌*◌, ◌^◌, ◌≤◌, ◌<◌, Bool, false, List, length, map, take, drop}
 use Rattle.std.specs.Prelude.{slice_index_or, Some, None, Ok}
 use Rattle.sat_theory.specs.Line.{Line}
-use Rattle.sat_theory.specs.Log.{Refutes, ReachesBudget, KeepsHalf, DeletesQuarter}
+use Rattle.sat_theory.specs.Log.{Refutes, ReachesBudget, KeepsHalf, BoundsLiveAdditions}
 use Rattle.net_theory.specs.Document.{Name, Document, latches_of, source_names, sink_names}
-use Rattle.net_theory.specs.Behaviour.{IsMapOf, HasOneMap, IsEquivalent}
+use Rattle.net_theory.specs.Behaviour.{IsValuationOf, HasOneValuation, IsEquivalent}
 use Rattle.net_theory.specs.WellFormed.{IsWellFormed}
 use Rattle.net_theory.specs.Net.{Net}
 use Rattle.net_theory.specs.NetOf.{net_of}
@@ -53,15 +53,15 @@ sink_in d v i = slice_index_or (map v (sink_names d)) i false
 -- values; and under every one that does, the two maps differ at this output or next state, counted from 1, and
 -- agree at all before it.
 pub record DocumentsDiffer (d e : Document) (sink : ℕ) (bits : List Bool) : Type 0 where
-  pub first_has_one : (given : Name → Bool) → HasOneMap d given
-  pub second_has_one : (given : Name → Bool) → HasOneMap e given
+  pub first_has_one : (given : Name → Bool) → HasOneValuation d given
+  pub second_has_one : (given : Name → Bool) → HasOneValuation e given
   pub each_source : length bits ≡ length (source_names d)
   pub counted : 1 ≤ sink
   pub below : sink ≤ length (sink_names d)
   pub some : (given : Name → Bool) × (map given (source_names d) ≡ bits)
-  pub differ : (given v w : Name → Bool) → map given (source_names d) ≡ bits → IsMapOf d given v → IsMapOf e given w →
+  pub differ : (given v w : Name → Bool) → map given (source_names d) ≡ bits → IsValuationOf d given v → IsValuationOf e given w →
       sink_in d v (sink - 1) ≢ sink_in e w (sink - 1)
-  pub least : (given v w : Name → Bool) → map given (source_names d) ≡ bits → IsMapOf d given v → IsMapOf e given w →
+  pub least : (given v w : Name → Bool) → map given (source_names d) ≡ bits → IsValuationOf d given v → IsValuationOf e given w →
       (j : ℕ) → j < sink - 1 → sink_in d v j ≡ sink_in e w j
 
 -- the miter of the documents' nets
@@ -71,7 +71,7 @@ pub record HasMiter (d e : Document) (first second : Net) : Type 0 where
 
 -- ---- the answers
 
--- They are equivalent: the lines refute the miter of their nets, and are thinned.
+-- They are equivalent: the lines refute the miter of their nets, and are live_bounded.
 pub record IsEqualAnswer (d e : Document) (text : List ℕ) : Type 0 where
   pub same : IsEquivalent d e
   pub first : Net
@@ -79,7 +79,7 @@ pub record IsEqualAnswer (d e : Document) (text : List ℕ) : Type 0 where
   pub nets : HasMiter d e first second
   pub lines : List Line
   pub refutes : Refutes (miter first second) lines
-  pub thinned : DeletesQuarter (miter first second) lines
+  pub live_bounded : BoundsLiveAdditions (miter first second) lines
   pub text_is : text ≡ equal_text lines
 
 -- They differ under the values in the text, at the sink in the text and at none before it.
@@ -90,7 +90,7 @@ pub record IsDifferAnswer (d e : Document) (text : List ℕ) : Type 0 where
   pub text_is : text ≡ differ_text d.outputs (latches_of d) sink bits
 
 -- The lines have spent the budget on the miter of their nets, at least half of their additions are live at the
--- end, and they are thinned. A budget of twice three to the number of the miter's variables is never spent.
+-- end, and they are live_bounded. A budget of twice three to the number of the miter's variables is never spent.
 pub record IsUndecidedAnswer (budget : ℕ) (d e : Document) (text : List ℕ) : Type 0 where
   pub first : Net
   pub second : Net
@@ -98,7 +98,7 @@ pub record IsUndecidedAnswer (budget : ℕ) (d e : Document) (text : List ℕ) :
   pub lines : List Line
   pub spent : ReachesBudget (miter first second) lines budget
   pub kept : KeepsHalf (miter first second) lines
-  pub thinned : DeletesQuarter (miter first second) lines
+  pub live_bounded : BoundsLiveAdditions (miter first second) lines
   pub small : budget < 2 * 3 ^ variables first second
   pub text_is : text ≡ undecided_text lines
 

@@ -15,7 +15,7 @@ use crate::answer::{CompareError, Compared, EquivOutcome};
 use crate::splitting::split;
 use crate::writing::{differ_text, logged_text_of};
 use blif_core::{Circuit, NetError, read_blif};
-use equiv_core::{Equiv, EquivError, equiv};
+use equiv_core::{EquivResult, EquivError, equiv};
 use sat_solve::Solver;
 use std::alloc::Global;
 
@@ -62,14 +62,14 @@ fn compare_circuits<S: Solver>(
     ensures refused { IfErr result (IsOther first.now second.now) }
 {
     match equiv::<S>(alloc, first, second, conflicts) {
-        Ok(Equiv::Equal(log)) => {
+        Ok(EquivResult::Equal(log)) => {
             let text = logged_text_of(alloc, b"equal\n", &log)?;
             Ok(Compared {
                 text,
                 outcome: EquivOutcome::Equal,
             })
         }
-        Ok(Equiv::Differ { sink, at }) => {
+        Ok(EquivResult::Differ { sink, at }) => {
             let text = differ_text(
                 alloc,
                 &first.outputs,
@@ -82,7 +82,7 @@ fn compare_circuits<S: Solver>(
                 outcome: EquivOutcome::Differ,
             })
         }
-        Ok(Equiv::Undecided(log)) => {
+        Ok(EquivResult::Undecided(log)) => {
             let text = logged_text_of(alloc, b"undecided\n", &log)?;
             Ok(Compared {
                 text,

@@ -8,7 +8,7 @@ ghost use Rattle.equiv_core.specs.Limits.{IsSmall};
 use blif_core::{Circuit, read_blif};
 use cdcl_core::Cdcl;
 use cnf_core::{Clause, Cnf};
-use equiv_core::{Equiv, EquivError, equiv, miter};
+use equiv_core::{EquivResult, EquivError, equiv, miter};
 use std::alloc::Global;
 
 /// Whether a circuit has few sources and sinks.
@@ -76,11 +76,11 @@ enum Wanted {
 }
 
 /// Whether an answer is the expected one. If the miter is expected, any answer is.
-fn meets(answer: &Equiv, wanted: Wanted) -> bool {
+fn meets(answer: &EquivResult, wanted: Wanted) -> bool {
     match (answer, wanted) {
-        (Equiv::Equal(_), Wanted::Equal) => true,
-        (Equiv::Undecided(_), Wanted::Undecided) => true,
-        (Equiv::Differ { sink, at }, Wanted::Differ(place, bits)) => {
+        (EquivResult::Equal(_), Wanted::Equal) => true,
+        (EquivResult::Undecided(_), Wanted::Undecided) => true,
+        (EquivResult::Differ { sink, at }, Wanted::Differ(place, bits)) => {
             *sink == place && at.bits() == bits
         }
         (_, Wanted::Miter(_, _)) => true,

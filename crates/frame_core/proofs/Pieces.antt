@@ -5,7 +5,7 @@ use Rattle.port_io.specs.TextLaws.{appended-none, prefix_whole}
 use Rattle.port_io.specs.Bytes.{appended, Appends, AppendsPrefix}
 use Rattle.port_io.specs.Faults.{Rose}
 use Rattle.port_io.specs.declared.writing.WriteFault.{WriteFault}
-use Rattle.frame_core.specs.declared.replies.Ended.{Ended}
+use Rattle.frame_core.specs.declared.replies.RunEnd.{RunEnd}
 use Rattle.frame_core.specs.declared.replies.Field.{Field}
 use Rattle.frame_core.specs.declared.replies.Field.TheVariants.{Nothing, Known, Count, Name}
 use Rattle.frame_core.specs.Reported as reported
@@ -57,7 +57,7 @@ reported_line old new fields result prefix all cause =
     subst (λ (t : List ℕ). Writes old new t) (line_is fields) (written old new (codes "error:" ++ (parts_text fields ++ codes "\n")) result prefix all cause)
 
 -- The error line of a run is determined by how the run ended.
-pub reported_as : (old new : PortState) (e d : Ended) (a b : List reported.Field) → e ≡ d → line_in d ≡ Some b → a ≡ b → Writes old new (error_line a) → LineAfter old new (line_in e)
+pub reported_as : (old new : PortState) (e d : RunEnd) (a b : List reported.Field) → e ≡ d → line_in d ≡ Some b → a ≡ b → Writes old new (error_line a) → LineAfter old new (line_in e)
 reported_as old new e d a b is line same writes =
-    subst (λ (x : Ended). LineAfter old new (line_in x)) (sym is)
+    subst (λ (x : RunEnd). LineAfter old new (line_in x)) (sym is)
     (subst (λ (o : Option (List reported.Field)). LineAfter old new o) (sym line) (named_as old new a b same writes))

@@ -5,7 +5,7 @@ use Rattle.port_io.specs.Faults.{Rose}
 use Rattle.frame_core.specs.declared.replies.Reply.{Reply}
 use Rattle.frame_core.specs.declared.replies.Stop.{Stop}
 use Rattle.frame_core.specs.declared.replies.Stop.TheVariants as stops
-use Rattle.frame_core.specs.declared.replies.Ended.{Ended}
+use Rattle.frame_core.specs.declared.replies.RunEnd.{RunEnd}
 use Rattle.frame_core.specs.Outside.{PortState, IsFaultless}
 use Rattle.frame_core.specs.Reported as reported
 use Rattle.frame_core.specs.Task.{Task, HasReply, Refuses}
@@ -24,7 +24,7 @@ IsJudged task bytes (ReportTruncated reply) = HasReply task bytes reply
 IsJudged task bytes (NoAnswer refusal) = Refuses task bytes refusal
 
 -- A command answered these bytes: it ended with an outcome, and wrote what belongs to that outcome.
-pub record Answers (task : Task) (bytes : List ℕ) (e : Ended) (out note : PortState × PortState) : Type 0 where
+pub record Answers (task : Task) (bytes : List ℕ) (e : RunEnd) (out note : PortState × PortState) : Type 0 where
   pub outcome : Outcome
   pub ends : Ends e outcome
   pub judged : IsJudged task bytes outcome
@@ -33,7 +33,7 @@ pub record Answers (task : Task) (bytes : List ℕ) (e : Ended) (out note : Port
   pub never_falls : note.0.faults ≤ note.1.faults
 
 -- A command ran, up to the error line.
-pub record Performs (task : Task) (e : Ended) (source out note : PortState × PortState) : Type 0 where
+pub record Performs (task : Task) (e : RunEnd) (source out note : PortState × PortState) : Type 0 where
   pub outcome : Outcome
   pub ends : Ends e outcome
   pub bytes : List ℕ
@@ -57,7 +57,7 @@ abbrev pub OutSent : List ℕ → PortState → PortState → Outcome → Type 0
 OutSent text old new Truncated = AppendsPrefix old.bytes new.bytes text × Rose old.faults new.faults
 OutSent text old new outcome = Appends old.bytes new.bytes text × IsFaultless old new
 
-pub record Sent (reply : reported.Reply) (e : Ended) (out note : PortState × PortState) : Type 0 where
+pub record Sent (reply : reported.Reply) (e : RunEnd) (out note : PortState × PortState) : Type 0 where
   pub outcome : Outcome
   pub ends : Ends e outcome
   pub is : IsSent reply outcome
@@ -66,13 +66,13 @@ pub record Sent (reply : reported.Reply) (e : Ended) (out note : PortState × Po
   pub never_falls : note.0.faults ≤ note.1.faults
 
 -- Nothing was written, and this is the outcome.
-pub record Withheld (outcome : Outcome) (e : Ended) (out note : PortState × PortState) : Type 0 where
+pub record Withheld (outcome : Outcome) (e : RunEnd) (out note : PortState × PortState) : Type 0 where
   pub ends : Ends e outcome
   pub on_out : out.1 ≡ out.0
   pub on_note : note.1 ≡ note.0
 
 -- A reply was written, or there was none.
-abbrev pub Finishes : Result Reply Stop → Ended → PortState × PortState → PortState × PortState → Type 0
+abbrev pub Finishes : Result Reply Stop → RunEnd → PortState × PortState → PortState × PortState → Type 0
 Finishes (Ok reply) e out note = Sent (reply_value reply) e out note
 Finishes (Err stops.NoMemory) e out note = Withheld Memory e out note
 Finishes (Err (stops.NoAnswer refusal)) e out note = Withheld (NoAnswer (refusal_value refusal)) e out note

@@ -8,14 +8,14 @@ use Rattle.frame_core.specs.declared.status.Status.{Status}
 use Rattle.frame_core.specs.declared.replies.Reply.{Reply}
 use Rattle.frame_core.specs.declared.replies.Stop.{Stop}
 use Rattle.frame_core.specs.declared.replies.Stop.TheVariants as stops
-use Rattle.frame_core.specs.declared.replies.Ended.{Ended}
-use Rattle.frame_core.specs.declared.replies.Ended.TheVariants as ended
+use Rattle.frame_core.specs.declared.replies.RunEnd.{RunEnd}
+use Rattle.frame_core.specs.declared.replies.RunEnd.TheVariants as ended
 use Rattle.frame_core.specs.Outside.{PortState, IsFaultless, Writes}
 use Rattle.frame_core.specs.Reported as reported
 use Rattle.frame_core.specs.Reported.{error_line}
 use Rattle.frame_core.specs.Task.{Task, HasReply, IsBeyond}
 use Rattle.frame_core.specs.Run.{Outcome, ReadFault, TooLong, Memory, Answered, Truncated, OutOfMemoryMidway}
-use Rattle.frame_core.specs.Run.{ReportTruncated, NoAnswer, IsInput, HasInput, IsLeft, IsOutcome, IsReadToEnd}
+use Rattle.frame_core.specs.Run.{ReportTruncated, NoAnswer, IsInput, HasInput, IsTruncatedOutput, IsOutcome, IsReadToEnd}
 use Rattle.frame_core.specs.Run.{SourceRead, SourceAfter, OutAfter, Reports, ReportsPrefix, run_of, IsRun, LineAfter}
 use Rattle.frame_core.specs.Views.{reply_value, refusal_value, status_in, line_in, Judges}
 use Rattle.frame_core.specs.Performing.{IsJudged, Answers, Performs, IsSent, OutSent, Sent, Finishes}
@@ -62,7 +62,7 @@ source_by None task bytes old new o read judged = source_left task bytes old new
 source_by (Some most) task bytes old new o read judged = source_read task bytes old new o read judged
 
 -- The input was read, and answered.
-pub performed : (task : Task) (reads : Option ℕ) (bytes : List ℕ) (e : Ended) (source out note : PortState ×
+pub performed : (task : Task) (reads : Option ℕ) (bytes : List ℕ) (e : RunEnd) (source out note : PortState ×
     PortState) → reads ≡ task.reads → IsInput reads source.0.bytes bytes → WasRead reads source.0 source.1 →
     Answers task bytes e out note → Performs task e source out note
 performed task reads bytes e source out note same are read answers = record {
@@ -121,7 +121,7 @@ want_read task most source out note same faultless on_out on_note = record {
 -- ---- replies that are written at once
 
 -- A prefix of an answer's text may be on the output.
-pub left_of : (task : Task) (bytes : List ℕ) (reply : reported.Reply) (old new : PortState) → HasReply task bytes reply → AppendsPrefix old.bytes new.bytes reply.text → IsLeft task bytes old new
+pub left_of : (task : Task) (bytes : List ℕ) (reply : reported.Reply) (old new : PortState) → HasReply task bytes reply → AppendsPrefix old.bytes new.bytes reply.text → IsTruncatedOutput task bytes old new
 left_of task bytes reply old new replied prefix =
     let text : List ℕ = (task.reply replied.answer).text in
     let same : reply.text ≡ text = ap (λ (x : reported.Reply). x.text) replied.is in
@@ -132,7 +132,7 @@ left_of task bytes reply old new replied prefix =
     }
 
 -- So may a prefix of a text that is written before the answer is known.
-pub begun_left_of : (task : Task) (bytes text : List ℕ) (old new : PortState) → task.Begins bytes text → AppendsPrefix old.bytes new.bytes text → IsLeft task bytes old new
+pub begun_left_of : (task : Task) (bytes text : List ℕ) (old new : PortState) → task.Begins bytes text → AppendsPrefix old.bytes new.bytes text → IsTruncatedOutput task bytes old new
 begun_left_of task bytes text old new begins prefix = record {
   prefix = take prefix.count text;
   leaves = inr (record { text = text; begins = begins; is_prefix = record { rest = drop prefix.count text; is = grind (arith, common_steps) } });
@@ -161,7 +161,7 @@ sent_out task bytes reply (ReportTruncated x) old new replied is out = (subst (�
 sent_out task bytes reply (NoAnswer refusal) old new replied is out = absurd is
 
 -- A correct result that was written answers the input.
-pub answered : (task : Task) (bytes : List ℕ) (x : Result Reply Stop) (e : Ended) (out note : PortState × PortState) → Judges task bytes x → Finishes x e out note → Answers task bytes e out note
+pub answered : (task : Task) (bytes : List ℕ) (x : Result Reply Stop) (e : RunEnd) (out note : PortState × PortState) → Judges task bytes x → Finishes x e out note → Answers task bytes e out note
 answered task bytes (Ok reply) e out note judges sent = record {
   outcome = sent.outcome;
   ends = sent.ends;
@@ -190,7 +190,7 @@ answered task bytes (Err (stops.NoAnswer refusal)) e out note judges held = reco
 -- ---- with the error line after it
 
 -- A command that ran, and whose error line was written, is a run.
-pub is_run : (task : Task) (words : List (List ℕ)) (e : Ended) (status : Status) (source out : PortState ×
+pub is_run : (task : Task) (words : List (List ℕ)) (e : RunEnd) (status : Status) (source out : PortState ×
     PortState) (note between note' : PortState) → Performs task e source out (note, between) → status ≡ status_in e →
     LineAfter between note' (line_in e) → between.faults ≤ note'.faults → (outcome : Outcome) ×
     IsRun task (run_of words source out (note, note') status) outcome
@@ -270,7 +270,7 @@ pieces_sent task bytes reply out note replied none on_out faultless on_note = re
 
 -- The output failed while it was written.
 pub pieces_truncated : (task : Task) (bytes : List ℕ) (out note : PortState × PortState) →
-    IsLeft task bytes out.0 out.1 → Rose out.0.faults out.1.faults → note.1 ≡ note.0 →
+    IsTruncatedOutput task bytes out.0 out.1 → Rose out.0.faults out.1.faults → note.1 ≡ note.0 →
     Answers task bytes ended.Truncated out note
 pieces_truncated task bytes out note left rose on_note = record {
   outcome = Truncated;
@@ -283,7 +283,7 @@ pieces_truncated task bytes out note left rose on_note = record {
 
 -- Memory ran out while it was written.
 pub pieces_out_of_memory : (task : Task) (bytes : List ℕ) (out note : PortState × PortState) → task.in_pieces ≡ true →
-    IsLeft task bytes out.0 out.1 → IsFaultless out.0 out.1 → note.1 ≡ note.0 →
+    IsTruncatedOutput task bytes out.0 out.1 → IsFaultless out.0 out.1 → note.1 ≡ note.0 →
     Answers task bytes ended.OutOfMemoryMidway out note
 pieces_out_of_memory task bytes out note pieces left faultless on_note = record {
   outcome = OutOfMemoryMidway;

@@ -12,7 +12,7 @@ use Rattle.frame_core.specs.Run.{Run, IsInput, HasInput, Reports, ReportsPrefix}
 
 -- ---- what didn't fail
 
--- No call on it failed.
+-- No call on it failed: its count of faults didn't rise.
 abbrev pub IsSteady : PortState → PortState → Type 0
 IsSteady old new = Rose old.faults new.faults → ⊥
 

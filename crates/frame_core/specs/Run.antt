@@ -57,7 +57,7 @@ HasInput None left input = input ≡ []
 HasInput (Some most) left input = left ≡ Some input
 
 -- A truncated text was written, one that is allowed for these bytes.
-pub record IsLeft (task : Task) (bytes : List ℕ) (old new : PortState) : Type 0 where
+pub record IsTruncatedOutput (task : Task) (bytes : List ℕ) (old new : PortState) : Type 0 where
   pub prefix : List ℕ
   pub leaves : MayBeLeft task bytes prefix
   pub on_out : Appends old.bytes new.bytes prefix
@@ -106,8 +106,8 @@ OutAfter task bytes old new ReadFault = new ≡ old
 OutAfter task bytes old new TooLong = new ≡ old
 OutAfter task bytes old new Memory = new ≡ old
 OutAfter task bytes old new (Answered reply) = Appends old.bytes new.bytes reply.text × IsFaultless old new
-OutAfter task bytes old new Truncated = IsLeft task bytes old new × Rose old.faults new.faults
-OutAfter task bytes old new OutOfMemoryMidway = IsLeft task bytes old new × IsFaultless old new
+OutAfter task bytes old new Truncated = IsTruncatedOutput task bytes old new × Rose old.faults new.faults
+OutAfter task bytes old new OutOfMemoryMidway = IsTruncatedOutput task bytes old new × IsFaultless old new
 OutAfter task bytes old new (ReportTruncated reply) = Appends old.bytes new.bytes reply.text × IsFaultless old new
 OutAfter task bytes old new (NoAnswer refusal) = new ≡ old
 

@@ -12,8 +12,8 @@ use Rattle.frame_core.specs.declared.replies.Field.TheVariants.{Nothing, Known, 
 use Rattle.frame_core.specs.declared.replies.Refusal.{Refusal}
 use Rattle.frame_core.specs.declared.replies.Stop.{Stop}
 use Rattle.frame_core.specs.declared.replies.Stop.TheVariants.{NoMemory, NoAnswer}
-use Rattle.frame_core.specs.declared.replies.Ended.{Ended}
-use Rattle.frame_core.specs.declared.replies.Ended.TheVariants as ended
+use Rattle.frame_core.specs.declared.replies.RunEnd.{RunEnd}
+use Rattle.frame_core.specs.declared.replies.RunEnd.TheVariants as ended
 use Rattle.frame_core.specs.Reported as reported
 use Rattle.frame_core.specs.Reported.{Word, Number, parted, read_fault, write_fault, too_long, memory}
 use Rattle.frame_core.specs.Task.{Task, HasReply, Refuses}
@@ -55,7 +55,7 @@ abbrev pub refusal_value : Refusal → reported.Refusal
 refusal_value refusal = record { status = refusal.status; named = line_value refusal.line }
 
 -- the status of a run that ended so, and the content of its error line
-abbrev pub status_in : Ended → Status
+abbrev pub status_in : RunEnd → Status
 status_in ended.ReadFault = statuses.ReadFault
 status_in ended.TooLong = statuses.Limit
 status_in ended.Memory = statuses.Memory
@@ -65,7 +65,7 @@ status_in ended.OutOfMemoryMidway = statuses.Memory
 status_in ended.ReportTruncated = statuses.WriteFault
 status_in (ended.NoAnswer refusal) = refusal.status
 
-abbrev pub line_in : Ended → Option (List reported.Field)
+abbrev pub line_in : RunEnd → Option (List reported.Field)
 line_in ended.ReadFault = Some read_fault
 line_in ended.TooLong = Some too_long
 line_in ended.Memory = Some memory
@@ -76,7 +76,7 @@ line_in ended.ReportTruncated = Some write_fault
 line_in (ended.NoAnswer refusal) = Some (line_value refusal.line)
 
 -- The program's record of how a run ended has the status and the error line of `outcome`.
-pub record Ends (e : Ended) (outcome : Outcome) : Type 0 where
+pub record Ends (e : RunEnd) (outcome : Outcome) : Type 0 where
   pub status_is : status_in e ≡ status_of outcome
   pub line_is : line_in e ≡ line_of outcome
 

@@ -4,7 +4,7 @@ ghost use Rattle.frame_core.specs.Task.{Task, IsWithin};
 ghost use Rattle.frame_core.specs.Views.{Judges};
 
 use crate::performing::Job;
-use crate::replies::{Ended, Reply, Stop};
+use crate::replies::{RunEnd, Reply, Stop};
 use crate::sending::finish;
 use port_io::Sink;
 use std::alloc::Global;
@@ -48,7 +48,7 @@ impl<R: Replier> Job for AtOnce<R> {
         bytes: &[u8],
         out: &mut O,
         note: &mut N,
-    ) -> Ended {
+    ) -> RunEnd {
         finish(self.0.reply(alloc, bytes), out, note)
     }
 }

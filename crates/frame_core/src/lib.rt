@@ -25,7 +25,7 @@ mod streaming;
 
 pub use at_once::{AtOnce, Replier};
 pub use performing::{Job, perform, perform_stream};
-pub use replies::{Ended, ErrorLine, Field, Refusal, Reply, Report, Stop};
+pub use replies::{RunEnd, ErrorLine, Field, Refusal, Reply, Report, Stop};
 pub use reporting::report_error;
 pub use sending::finish;
 pub use status::Status;

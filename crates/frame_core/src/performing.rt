@@ -5,7 +5,7 @@ ghost use Rattle.frame_core.specs.Run.{before_after};
 ghost use Rattle.frame_core.specs.Performing.{Answers, Performs};
 ghost use Rattle.frame_core.specs.Performed.{IsPerformed};
 
-use crate::replies::Ended;
+use crate::replies::RunEnd;
 use crate::reporting::report_end;
 use crate::status::Status;
 use crate::streaming::{Collecting, StreamJob, read_pieces};
@@ -32,7 +32,7 @@ pub trait Job {
         bytes: &[u8],
         out: &mut O,
         note: &mut N,
-    ) -> Ended
+    ) -> RunEnd
         requires within { IsWithin (task self.now).reads bytes.now }
         requires ready { ready self.now }
         ensures { Answers (task self.now) bytes.now result
@@ -47,7 +47,7 @@ fn attempt<J: StreamJob, S: Source, O: Sink, N: Sink>(
     source: &mut S,
     out: &mut O,
     note: &mut N,
-) -> Ended
+) -> RunEnd
     requires { J.ready job.now }
     ensures { Performs (J.task job.now) result
         (before_after S.left S.faults source.old source.new)
@@ -60,9 +60,9 @@ fn attempt<J: StreamJob, S: Source, O: Sink, N: Sink>(
     };
     let kept = match read_pieces(alloc, job, source, most) {
         Ok(kept) => kept,
-        Err(ReadError::ReadFault) => return Ended::ReadFault,
-        Err(ReadError::TooLong) => return Ended::TooLong,
-        Err(ReadError::Memory) => return Ended::Memory,
+        Err(ReadError::ReadFault) => return RunEnd::ReadFault,
+        Err(ReadError::TooLong) => return RunEnd::TooLong,
+        Err(ReadError::Memory) => return RunEnd::Memory,
     };
     job.answer(alloc, kept, out, note)
 }

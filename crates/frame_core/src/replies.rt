@@ -137,7 +137,7 @@ pub enum Stop {
 
 /// How the run of a command ended. It determines the status and the error line.
 #[derive(Drop)]
-pub enum Ended {
+pub enum RunEnd {
     /// A call of the source failed.
     ReadFault,
     /// The source had more bytes than the command reads.
@@ -156,18 +156,18 @@ pub enum Ended {
     NoAnswer(Refusal),
 }
 
-impl Ended {
+impl RunEnd {
     /// The status of a run that ended so.
     pub fn status(&self) -> Status
         ensures { result ≡ status_in self.now }
     {
         match self {
-            Ended::ReadFault => Status::ReadFault,
-            Ended::TooLong => Status::Limit,
-            Ended::Memory | Ended::OutOfMemoryMidway => Status::Memory,
-            Ended::Answered(status) => *status,
-            Ended::Truncated | Ended::ReportTruncated => Status::WriteFault,
-            Ended::NoAnswer(refusal) => refusal.status,
+            RunEnd::ReadFault => Status::ReadFault,
+            RunEnd::TooLong => Status::Limit,
+            RunEnd::Memory | RunEnd::OutOfMemoryMidway => Status::Memory,
+            RunEnd::Answered(status) => *status,
+            RunEnd::Truncated | RunEnd::ReportTruncated => Status::WriteFault,
+            RunEnd::NoAnswer(refusal) => refusal.status,
         }
     }
 }

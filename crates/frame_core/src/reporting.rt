@@ -7,7 +7,7 @@ ghost use Rattle.frame_core.specs.Outside.{port_state, Writes};
 ghost use Rattle.frame_core.specs.Run.{LineAfter};
 ghost use Rattle.frame_core.specs.Views.{part_text, parts_text, texts_of, report_text, line_value, line_in};
 
-use crate::replies::{Ended, ErrorLine, Field, Report};
+use crate::replies::{RunEnd, ErrorLine, Field, Report};
 use itoa::Buffer;
 use port_io::{Sink, WriteFault, write_all};
 
@@ -144,19 +144,19 @@ pub fn report_error<N: Sink>(note: &mut N, line: &ErrorLine)
 
 /// Writes the error line of a run, if it has one.
 #[tactic(auto, unfolding(crate::specs::Reported::too_long, crate::specs::Reported::memory))]
-pub(crate) fn report_end<N: Sink>(note: &mut N, ended: &Ended)
+pub(crate) fn report_end<N: Sink>(note: &mut N, ended: &RunEnd)
     ensures line { LineAfter (port_state N.written N.faults note.old) (port_state N.written N.faults note.new)
         (line_in ended.now) }
     ensures never_falls { N.faults note.old ≤ N.faults note.new }
 {
     match ended {
-        Ended::ReadFault => report_error(note, &ErrorLine::plain(b"ReadFault")),
-        Ended::TooLong => report_error(note, &ErrorLine::plain(b"TooLong")),
-        Ended::Memory => report_error(note, &ErrorLine::plain(b"Memory")),
-        Ended::Answered(_) => {}
-        Ended::OutOfMemoryMidway => report_error(note, &ErrorLine::plain(b"Memory")),
-        Ended::Truncated => report_error(note, &ErrorLine::plain(b"WriteFault")),
-        Ended::ReportTruncated => report_error(note, &ErrorLine::plain(b"WriteFault")),
-        Ended::NoAnswer(refusal) => report_error(note, &refusal.line),
+        RunEnd::ReadFault => report_error(note, &ErrorLine::plain(b"ReadFault")),
+        RunEnd::TooLong => report_error(note, &ErrorLine::plain(b"TooLong")),
+        RunEnd::Memory => report_error(note, &ErrorLine::plain(b"Memory")),
+        RunEnd::Answered(_) => {}
+        RunEnd::OutOfMemoryMidway => report_error(note, &ErrorLine::plain(b"Memory")),
+        RunEnd::Truncated => report_error(note, &ErrorLine::plain(b"WriteFault")),
+        RunEnd::ReportTruncated => report_error(note, &ErrorLine::plain(b"WriteFault")),
+        RunEnd::NoAnswer(refusal) => report_error(note, &refusal.line),
     }
 }

@@ -3,37 +3,37 @@ ghost use Rattle.frame_core.specs.Run.{before_after};
 ghost use Rattle.frame_core.specs.Performing.{Sent, Finishes};
 ghost use Rattle.frame_core.specs.Views.{reply_value};
 
-use crate::replies::{Ended, Reply, Stop};
+use crate::replies::{RunEnd, Reply, Stop};
 use crate::reporting::write_report;
 use port_io::{Sink, WriteFault, write_all};
 
 /// Writes a reply: its text, and then its report if it has one.
-fn send<O: Sink, N: Sink>(out: &mut O, note: &mut N, reply: &Reply) -> Ended
+fn send<O: Sink, N: Sink>(out: &mut O, note: &mut N, reply: &Reply) -> RunEnd
     ensures { Sent (reply_value reply.now) result
         (before_after O.written O.faults out.old out.new)
         (before_after N.written N.faults note.old note.new) }
 {
     if let Err(WriteFault::WriteFault) = write_all(out, &reply.text) {
-        return Ended::Truncated;
+        return RunEnd::Truncated;
     }
     let Some(report) = &reply.report else {
-        return Ended::Answered(reply.status);
+        return RunEnd::Answered(reply.status);
     };
     match write_report(note, report) {
-        Ok(()) => Ended::Answered(reply.status),
-        Err(WriteFault::WriteFault) => Ended::ReportTruncated,
+        Ok(()) => RunEnd::Answered(reply.status),
+        Err(WriteFault::WriteFault) => RunEnd::ReportTruncated,
     }
 }
 
 /// Ends a command with its reply: writes it, or writes nothing if there is none.
-pub fn finish<O: Sink, N: Sink>(reported: Result<Reply, Stop>, out: &mut O, note: &mut N) -> Ended
+pub fn finish<O: Sink, N: Sink>(reported: Result<Reply, Stop>, out: &mut O, note: &mut N) -> RunEnd
     ensures { Finishes reported result
         (before_after O.written O.faults out.old out.new)
         (before_after N.written N.faults note.old note.new) }
 {
     match reported {
         Ok(reply) => send(out, note, &reply),
-        Err(Stop::NoMemory) => Ended::Memory,
-        Err(Stop::NoAnswer(refusal)) => Ended::NoAnswer(refusal),
+        Err(Stop::NoMemory) => RunEnd::Memory,
+        Err(Stop::NoAnswer(refusal)) => RunEnd::NoAnswer(refusal),
     }
 }

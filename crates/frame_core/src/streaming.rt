@@ -7,7 +7,7 @@ ghost use Rattle.frame_core.specs.Performing.{Answers};
 ghost use Rattle.frame_core.specs.Streaming.{IsCount, WereTaken};
 
 use crate::performing::Job;
-use crate::replies::Ended;
+use crate::replies::RunEnd;
 use port_io::{PIECE, ReadError, Sink, Source, read_piece};
 use std::alloc::{AllocError, Global};
 
@@ -61,7 +61,7 @@ pub trait StreamJob {
         kept: Self::Kept,
         out: &mut O,
         note: &mut N,
-    ) -> Ended
+    ) -> RunEnd
         requires ready { ready self.now }
         requires whole { whole self.now kept }
         requires within { IsCount (task self.now).reads (count self.now kept) }
@@ -108,7 +108,7 @@ impl<'a, J: Job> StreamJob for Collecting<'a, J> {
         kept: Vec<u8>,
         out: &mut O,
         note: &mut N,
-    ) -> Ended {
+    ) -> RunEnd {
         self.0.answer(alloc, &kept, out, note)
     }
 }

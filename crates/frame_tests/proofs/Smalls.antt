@@ -3,8 +3,8 @@ use Rattle.std.specs.Prelude.{◌≡◌, ℕ, ◌≤◌, List, length}
 use Rattle.std.proofs.Common.{refl, sym, subst}
 use Rattle.std.proofs.lemmas.Grind.{common_steps}
 use Rattle.frame_core.specs.declared.status.Status.{Status}
-use Rattle.frame_core.specs.declared.replies.Ended.{Ended}
-use Rattle.frame_core.specs.declared.replies.Ended.TheVariants as ended
+use Rattle.frame_core.specs.declared.replies.RunEnd.{RunEnd}
+use Rattle.frame_core.specs.declared.replies.RunEnd.TheVariants as ended
 use Rattle.frame_core.specs.Outside.{PortState}
 use Rattle.frame_core.specs.Reported.{Reply}
 use Rattle.frame_core.specs.Task.{HasReply}
@@ -18,7 +18,7 @@ greets bytes reply is = record { answer = tt; has = tt; is = is }
 lines_tell : (bytes : List ℕ) → length bytes ≤ 3 → HasReply lines_task bytes (lines_reply bytes)
 lines_tell bytes within = record { answer = bytes; has = record { are = refl; within = within }; is = refl }
 
-pub lines_answered : (bytes : List ℕ) (e : Ended) (out note : PortState × PortState) → length bytes ≤ 3 → WritesLines bytes e out.0 out.1 → note.1 ≡ note.0 → Answers lines_task bytes e out note
+pub lines_answered : (bytes : List ℕ) (e : RunEnd) (out note : PortState × PortState) → length bytes ≤ 3 → WritesLines bytes e out.0 out.1 → note.1 ≡ note.0 → Answers lines_task bytes e out note
 lines_answered bytes ended.ReadFault out note within writes same = absurd writes
 lines_answered bytes ended.TooLong out note within writes same = absurd writes
 lines_answered bytes ended.Memory out note within writes same = absurd writes

@@ -3,8 +3,8 @@ use Rattle.std.specs.Prelude.{◌≡◌, ℕ, ◌≤◌, List, [], ◌∷◌, ma
 use Rattle.frame_core.specs.declared.status.Status.TheVariants.{Done}
 use Rattle.port_io.specs.Bytes.{Appends, AppendsPrefix}
 use Rattle.port_io.specs.Faults.{Rose}
-use Rattle.frame_core.specs.declared.replies.Ended.{Ended}
-use Rattle.frame_core.specs.declared.replies.Ended.TheVariants as ended
+use Rattle.frame_core.specs.declared.replies.RunEnd.{RunEnd}
+use Rattle.frame_core.specs.declared.replies.RunEnd.TheVariants as ended
 use Rattle.frame_core.specs.Outside.{PortState, IsFaultless}
 use Rattle.frame_core.specs.Reported.{Reply, joined, parted}
 use Rattle.frame_core.specs.Task.{Task, from_nothing, in_pieces, begins_none}
@@ -35,7 +35,7 @@ abbrev pub lines_task : Task
 lines_task = in_pieces (Some 3) (List ℕ) AreBytes lines_reply ⊥ (λ (bytes : List ℕ) (fault : ⊥). ⊥) (λ (fault : ⊥). absurd fault) begins_none
 
 -- What the command of lines writes to the output.
-abbrev pub WritesLines : List ℕ → Ended → PortState → PortState → Type 0
+abbrev pub WritesLines : List ℕ → RunEnd → PortState → PortState → Type 0
 WritesLines bytes (ended.Answered status) old new = (status ≡ Done) × (Appends old.bytes new.bytes (lines_text bytes) × IsFaultless old new)
 WritesLines bytes ended.Truncated old new = AppendsPrefix old.bytes new.bytes (lines_text bytes) × Rose old.faults new.faults
 WritesLines bytes ended.OutOfMemoryMidway old new = AppendsPrefix old.bytes new.bytes (lines_text bytes) × IsFaultless old new

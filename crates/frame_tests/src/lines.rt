@@ -3,7 +3,7 @@ ghost use Rattle.std.specs.Prelude.{◌≡◌, IfOk};
 ghost use Rattle.frame_core.specs.Outside.{port_state};
 ghost use Rattle.frame_tests.specs.Small.{line_of as line_text, lines_task, WritesLines};
 
-use frame_core::{Ended, Job, Status};
+use frame_core::{RunEnd, Job, Status};
 use port_io::{Sink, WriteFault, write_all};
 use std::alloc::{AllocError, Global};
 
@@ -23,21 +23,21 @@ fn line_of(alloc: Global, byte: u8) -> Result<Vec<u8>, AllocError>
 
 /// Writes each byte on a line.
 #[tactic(auto, using(frame_core::specs::PiecesLaws::texts_left))]
-fn write_lines<O: Sink>(alloc: Global, bytes: &[u8], out: &mut O) -> Ended
+fn write_lines<O: Sink>(alloc: Global, bytes: &[u8], out: &mut O) -> RunEnd
     ensures { WritesLines bytes.now result (port_state O.written O.faults out.old)
         (port_state O.written O.faults out.new) }
 {
     let mut left = bytes;
     while let Some((byte, rest)) = left.split_first() {
         let Ok(line) = line_of(alloc, *byte) else {
-            return Ended::OutOfMemoryMidway;
+            return RunEnd::OutOfMemoryMidway;
         };
         if let Err(WriteFault::WriteFault) = write_all(out, &line) {
-            return Ended::Truncated;
+            return RunEnd::Truncated;
         }
         left = rest;
     }
-    Ended::Answered(Status::Done)
+    RunEnd::Answered(Status::Done)
 }
 
 impl Job for Lines {
@@ -56,7 +56,7 @@ impl Job for Lines {
         bytes: &[u8],
         out: &mut O,
         note: &mut N,
-    ) -> Ended {
+    ) -> RunEnd {
         let _untouched = note;
         write_lines(alloc, bytes, out)
     }

@@ -14,7 +14,7 @@ struct Call {
 
 /// The state of Tarjan's algorithm. An index or a number of 0 isn't assigned yet.
 #[derive(Drop)]
-struct Search {
+struct ComponentSearch {
     indices: Vec<u32>,
     lows: Vec<u32>,
     numbers: Vec<u32>,
@@ -42,10 +42,10 @@ fn lower(cells: &mut [u32], at: u32, value: u32) {
     write(cells, at, least);
 }
 
-impl Search {
+impl ComponentSearch {
     /// The state before any node is entered.
-    fn new(alloc: Global, count: usize) -> Result<Search, AllocError> {
-        Ok(Search {
+    fn new(alloc: Global, count: usize) -> Result<ComponentSearch, AllocError> {
+        Ok(ComponentSearch {
             indices: vec![in alloc; 0; count]?,
             lows: vec![in alloc; 0; count]?,
             numbers: vec![in alloc; 0; count]?,
@@ -130,13 +130,13 @@ impl Search {
 
 /// The component number of each node.
 pub fn component_numbers(alloc: Global, graph: &[Fanins]) -> Result<Vec<u32>, AllocError> {
-    let mut search = Search::new(alloc, graph.len())?;
+    let mut search = ComponentSearch::new(alloc, graph.len())?;
     for root in 0..u32::try_from(graph.len()).unwrap_or(0) {
         if cell(&search.indices, root) == 0 {
             search.search(graph, root)?;
         }
     }
-    let Search {
+    let ComponentSearch {
         indices: _,
         lows: _,
         numbers,

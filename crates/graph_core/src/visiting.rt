@@ -52,13 +52,13 @@ pub fn fanins_of(graph: &[Fanins], node: u32) -> &[u32]
 /// A node on the stack: its fanins that aren't visited yet, and how many nodes deep the search may still go below
 /// it.
 #[derive(Drop)]
-struct Frame<'a> {
+struct VisitFrame<'a> {
     node: u32,
     left: &'a [u32],
     depth: usize,
 }
 
-impl<'a> Model for Frame<'a> {
+impl<'a> Model for VisitFrame<'a> {
     ghost use Rattle.graph_core.specs.Frames as frames;
 
     ghost Value = { frames.Entered };
@@ -84,18 +84,18 @@ fn visit_from(
         return Ok(false);
     }
     let mut stack = Vec::new(alloc);
-    stack.push(Frame {
+    stack.push(VisitFrame {
         node,
         left: fanins_of(graph, node),
         depth: depth - 1,
     })?;
     while let Some(frame) = stack.pop() {
-        let Frame { node, left, depth } = frame;
+        let VisitFrame { node, left, depth } = frame;
         let Some((next, rest)) = left.split_first() else {
             order.insert(node)?;
             continue;
         };
-        stack.push(Frame {
+        stack.push(VisitFrame {
             node,
             left: rest,
             depth,
@@ -106,7 +106,7 @@ fn visit_from(
         if depth == 0 {
             return Ok(false);
         }
-        stack.push(Frame {
+        stack.push(VisitFrame {
             node: *next,
             left: fanins_of(graph, *next),
             depth: depth - 1,

@@ -3,7 +3,7 @@ use Rattle.std.specs.Prelude.{◌≡◌, ℕ, ◌≤◌, ◌<◌, List, [], ◌�
 use Rattle.net_theory.specs.Net.{Net}
 use Rattle.window_theory.specs.Paths.{IsGate}
 use Rattle.window_theory.specs.Partner.{IsPartner}
-use Rattle.improve_theory.specs.declared.candidate.Candidate.{Candidate}
+use Rattle.improve_theory.specs.declared.candidate.WindowCandidate.{WindowCandidate}
 
 -- ---- partners, from the greatest to the least
 
@@ -23,22 +23,22 @@ IsNextPartner n root below (Some partner) = IsGreatestPartner n root below partn
 -- ---- sets of candidates
 
 -- none
-abbrev pub IsNoCandidate : Candidate → Type 0
+abbrev pub IsNoCandidate : WindowCandidate → Type 0
 IsNoCandidate v = ⊥
 
 -- this candidate
-abbrev pub IsThis : Candidate → Candidate → Type 0
+abbrev pub IsThis : WindowCandidate → WindowCandidate → Type 0
 IsThis this v = v ≡ this
 
 -- a root with a partner or none, with the counts from `first` on and below `end`
-pub record IsOfCounts (root : ℕ) (partner : Option ℕ) (first end : ℕ) (v : Candidate) : Type 0 where
+pub record IsOfCounts (root : ℕ) (partner : Option ℕ) (first end : ℕ) (v : WindowCandidate) : Type 0 where
   pub root_is : v.root ≡ root
   pub partner_is : v.partner ≡ partner
   pub from : first ≤ v.count
   pub to : v.count < end
 
 -- a root with any partner from `from` on
-pub record IsOfPartners (root cap from : ℕ) (v : Candidate) : Type 0 where
+pub record IsOfPartners (root cap from : ℕ) (v : WindowCandidate) : Type 0 where
   pub root_is : v.root ≡ root
   pub partner : ℕ
   pub partner_is : v.partner ≡ Some partner
@@ -47,13 +47,13 @@ pub record IsOfPartners (root cap from : ℕ) (v : Candidate) : Type 0 where
   pub to : v.count ≤ cap
 
 -- a root with any partner or none
-pub record IsOfRoot (root cap : ℕ) (v : Candidate) : Type 0 where
+pub record IsOfRoot (root cap : ℕ) (v : WindowCandidate) : Type 0 where
   pub root_is : v.root ≡ root
   pub some : 1 ≤ v.count
   pub to : v.count ≤ cap
 
 -- any root below `end`
-pub record IsOfRoots (cap end : ℕ) (v : Candidate) : Type 0 where
+pub record IsOfRoots (cap end : ℕ) (v : WindowCandidate) : Type 0 where
   pub root_low : v.root < end
   pub some : 1 ≤ v.count
   pub to : v.count ≤ cap
@@ -69,11 +69,11 @@ TurnsBefore (Some h) (Some k) = k < h
 
 -- The first is attempted before the second: it has a lower root, or the same root in an earlier turn, or in
 -- the same turn a lower count.
-abbrev pub IsAttemptedBefore : Candidate → Candidate → Type 0
+abbrev pub IsAttemptedBefore : WindowCandidate → WindowCandidate → Type 0
 IsAttemptedBefore v w = (v.root < w.root) ⊎ ((v.root ≡ w.root) ×
     (TurnsBefore v.partner w.partner ⊎ ((v.partner ≡ w.partner) × (v.count < w.count))))
 
 -- Each candidate comes before all after it, so none is listed twice.
-unfoldable pub AreInOrder : List Candidate → Type 0
+unfoldable pub AreInOrder : List WindowCandidate → Type 0
 AreInOrder [] = Unit {0}
-AreInOrder (v ∷ vs) = ((w : Candidate) → Contains vs w → IsAttemptedBefore v w) × AreInOrder vs
+AreInOrder (v ∷ vs) = ((w : WindowCandidate) → Contains vs w → IsAttemptedBefore v w) × AreInOrder vs

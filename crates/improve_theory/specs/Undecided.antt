@@ -7,19 +7,19 @@ use Rattle.settings.specs.declared.improve.ImproveSettings.{ImproveSettings}
 use Rattle.cert_theory.specs.declared.data.Verdict.TheVariants as verdicts
 use Rattle.cert_theory.specs.Certificate.{Certificate, IsValid, HasOutput}
 use Rattle.cert_theory.specs.LiveBounds.{HaveLiveBounds}
-use Rattle.improve_theory.specs.declared.candidate.Candidate.{Candidate}
+use Rattle.improve_theory.specs.declared.candidate.WindowCandidate.{WindowCandidate}
 use Rattle.improve_theory.specs.LocalSpecification.{IsLocalSpecification}
 use Rattle.improve_theory.specs.Settled.{IsListedCandidate}
 
 pub record Undecided : Type 0 where
-  pub candidate : Candidate
+  pub candidate : WindowCandidate
   pub search : Certificate
 
-abbrev pub candidate_of : Undecided → Candidate
+abbrev pub candidate_of : Undecided → WindowCandidate
 candidate_of u = u.candidate
 
 -- the candidates that are named
-abbrev pub candidates : List Undecided → List Candidate
+abbrev pub candidates : List Undecided → List WindowCandidate
 candidates named = map candidate_of named
 
 -- A listed window of at least six gates (smaller ones are always decided), and a valid certificate for its

@@ -1,12 +1,12 @@
 //! Windows that stayed undecided.
-use crate::candidate::Candidate;
+use crate::candidate::WindowCandidate;
 use cert_theory::Certificate;
 use std::marker::Model;
 
 /// A window that stayed undecided, and the certificate of its search.
 #[derive(Drop)]
 pub struct Undecided {
-    pub candidate: Candidate,
+    pub candidate: WindowCandidate,
     pub search: Certificate,
 }
 

@@ -42,7 +42,7 @@ pub(crate) struct Written {
 
 /// A circuit with its improved net.
 #[derive(Drop)]
-struct Left {
+struct ImprovedWithCircuit {
     circuit: Circuit,
     settled: bool,
     undecided: Vec<Undecided>,
@@ -53,7 +53,7 @@ fn left_of<S: Solver>(
     alloc: Global,
     circuit: Circuit,
     settings: ImproveSettings,
-) -> Result<Left, AllocError>
+) -> Result<ImprovedWithCircuit, AllocError>
     requires { IsInRange settings }
     ensures circuit { IfOk result (λ left. left.circuit ≡ record circuit { net = left.circuit.net }) }
     ensures left { IfOk result (λ left. IsImprovementBy settings circuit.net left.circuit.net left.settled
@@ -80,15 +80,15 @@ fn left_of<S: Solver>(
         latches,
         net,
     };
-    Ok(Left {
+    Ok(ImprovedWithCircuit {
         circuit,
         settled,
         undecided,
     })
 }
 
-/// Improves a circuit, and makes the document that BLIF writes for it: cleanup, moves over the whole net and walks
-/// over convex windows, and then resynthesis, until no window up to the cap has a shorter chain, or
+/// Improves a circuit, and makes the document that BLIF writes for it: the passes of
+/// `passes.rt`, and resynthesis until no window up to the cap has a shorter chain, or
 /// `settings.rounds` rounds have changed something.
 #[tactic(auto, using(crate::specs::ImprovingLaws::improving))]
 pub(crate) fn improve_written<S: Solver>(
@@ -106,7 +106,7 @@ pub(crate) fn improve_written<S: Solver>(
     ensures room { IfOk result (λ w. HasRoomForNames w.improved.circuit) }
 {
     let before = circuit.net.gates().len() as u32;
-    let Left {
+    let ImprovedWithCircuit {
         circuit,
         settled,
         undecided,

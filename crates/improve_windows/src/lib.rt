@@ -1,6 +1,6 @@
 //! Improvement of netlists: of nets, and of BLIF and BENCH texts. `src/passes.rt` has the order of the passes: cleanup,
 //! functional hashing, moves over the whole net (`restructure`), walks over convex windows (`walk_core`), and
-//! resynthesis (`resyn_core` with the attempts of `window_trial`). `blif_core` and `bench_core` read and write,
+//! resynthesis (`resyn_core` with the attempts of `window_attempt`). `blif_core` and `bench_core` read and write,
 //! `blif_laws` and `bench_laws` say what written texts mean, and `cert_text` writes the certificates of a report. Any
 //! solver can make the searches.
 //!
@@ -27,7 +27,7 @@ mod reporting;
 mod texts;
 
 pub use blif_core::{Circuit, NetError};
-pub use improve_theory::{Candidate, Undecided};
+pub use improve_theory::{WindowCandidate, Undecided};
 pub use passes::{ImprovedNet, improve_net};
 pub use settings::ImproveSettings;
 pub use texts::{ImprovedText, improve_bench, improve_blif};

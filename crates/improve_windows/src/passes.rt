@@ -1,5 +1,6 @@
-//! An improved net: cleanup, moves over the whole net, walks over convex windows, and then resynthesis of the
-//! listed windows.
+//! An improved net: cleanup, functional hashing of large nets with at most 12 sources, moves over the whole net,
+//! walks over convex windows, resynthesis of the listed windows, and moves again while they help. A listed window is
+//! that of a root, of a partner or none, and of a number of gates up to the cap.
 ghost use Rattle.std.specs.Prelude.{◌≤◌, IfOk, IfSome};
 ghost use Rattle.op_basis.specs.Basis.{members};
 ghost use Rattle.net_theory.specs.Implements.{IsCleanedUp};
@@ -19,7 +20,7 @@ use settings::thresholds::{
 };
 use std::alloc::{AllocError, Global};
 use walk_core::walked;
-use window_trial::{WindowAttempts, many_merged};
+use window_attempt::{WindowAttempts, many_merged};
 
 /// An improved net.
 #[derive(Drop)]
@@ -52,8 +53,7 @@ fn resynthesized<S: Solver>(
     })
 }
 
-/// Whether a net is moved: where `effort` asks for rounds of moves, and otherwise from `LEAST_MOVED_GATES` gates
-/// on.
+/// Whether moves are tried on a net: if `effort` > 0, or from `LEAST_MOVED_GATES` gates on.
 fn is_moved(net: &Net, effort: u32) -> bool {
     effort > 0 || LEAST_MOVED_GATES <= net.gates().len()
 }
@@ -67,9 +67,9 @@ fn rounds_of(net: &Net, effort: u32) -> u32 {
     }
 }
 
-/// How often moves follow resynthesis. A net with as many gates as before is the same net, and where moves
-/// without such rounds found nothing before, they would find nothing again.
-fn turns_of(net: &Net, before: usize, rounds: u32) -> u32 {
+/// How often moves follow resynthesis. If nothing has changed and there are no
+/// size-preserving rounds, moves would find nothing again.
+fn repeats_of(net: &Net, before: usize, rounds: u32) -> u32 {
     let gates = net.gates().len();
     if gates > MOST_GATES_OF_TURNS || (rounds == 0 && gates == before) {
         0
@@ -117,7 +117,7 @@ fn walked_over(
 
 /// The net after moves and walks.
 #[tactic(auto, using(crate::specs::ImprovementLaws::improving))]
-fn begun<S: Solver>(
+fn after_moves<S: Solver>(
     alloc: Global,
     net: Net,
     settings: &ImproveSettings,
@@ -147,9 +147,9 @@ fn improved<S: Solver>(
     let net = many_merged(alloc, net, settings.cap)?;
     let before = net.gates().len();
     let rounds = rounds_of(&net, settings.effort);
-    let best = begun::<S>(alloc, net, settings, rounds)?;
+    let best = after_moves::<S>(alloc, net, settings, rounds)?;
     let mut left = resynthesized::<S>(alloc, best, settings)?;
-    let turns = turns_of(&left.net, before, rounds);
+    let turns = repeats_of(&left.net, before, rounds);
     for _turn in 0..turns {
         match moved::<S>(alloc, &left.net, settings, 0)? {
             None => break,

@@ -56,7 +56,7 @@ fn all_reported(alloc: Global, improved: &Improved) -> Result<Vec<u8>, AllocErro
 }
 
 /// The BLIF text of a document.
-fn text_of(alloc: Global, document: &Document) -> Result<Vec<u8>, AllocError>
+fn blif_text_of(alloc: Global, document: &Document) -> Result<Vec<u8>, AllocError>
     requires { All HasInit document.now.latches }
     ensures { IfOk result (λ text. text.items ≡ spelled document.now) }
 {
@@ -66,7 +66,7 @@ fn text_of(alloc: Global, document: &Document) -> Result<Vec<u8>, AllocError>
 }
 
 /// The BENCH text of a circuit that BENCH can express, by the document that BLIF would write for it.
-fn gates_of(alloc: Global, circuit: &Circuit, document: &Document) -> Result<Vec<u8>, AllocError>
+fn bench_text_of(alloc: Global, circuit: &Circuit, document: &Document) -> Result<Vec<u8>, AllocError>
     requires fits { IsBenchCircuit circuit.now }
     requires document { document.now ≡ written circuit.now }
     ensures { IfOk result (λ text. text.items ≡ gates_text circuit.now) }
@@ -81,8 +81,8 @@ fn gates_of(alloc: Global, circuit: &Circuit, document: &Document) -> Result<Vec
 /// others are settled.
 ///
 /// Lines are judged in order, and the first fault is reported; then a control that a table drives, more than
-/// 100,000 gates, a name that is driven twice, one that is used and not driven, and a table that depends on
-/// itself. A well-formed netlist is refused only where memory runs out.
+/// 100,000 gates, a name that is driven twice, one that is used and not driven, and a combinational
+/// loop. A well-formed netlist is refused only where memory runs out.
 #[tactic(auto, using(crate::specs::ImprovingLaws::improving))]
 pub fn improve_blif<S: Solver>(
     alloc: Global,
@@ -99,7 +99,7 @@ pub fn improve_blif<S: Solver>(
     blif_is_a_format();
     let circuit = read_blif(alloc, bytes)?;
     let Written { improved, document } = improve_written::<S>(alloc, circuit, settings)?;
-    let text = text_of(alloc, &document)?;
+    let text = blif_text_of(alloc, &document)?;
     let report = all_reported(alloc, &improved)?;
     Ok(ImprovedText { text, report })
 }
@@ -108,8 +108,8 @@ pub fn improve_blif<S: Solver>(
 /// that gates may have in BENCH.
 ///
 /// Lines are judged in order, and the first fault is reported; then more than 100,000 gates, a name that is
-/// driven twice, one that is used and not driven, and a gate that depends on itself. A well-formed netlist is
-/// refused only where memory runs out.
+/// driven twice, one that is used and not driven, and a combinational loop. A well-formed netlist is refused
+/// only where memory runs out.
 #[tactic(auto, using(crate::specs::ImprovingLaws::improving))]
 pub fn improve_bench<S: Solver>(
     alloc: Global,
@@ -128,7 +128,7 @@ pub fn improve_bench<S: Solver>(
     circuits_cost_the_same();
     let circuit = read_bench(alloc, bytes)?;
     let Written { improved, document } = improve_written::<S>(alloc, circuit, settings)?;
-    let text = gates_of(alloc, &improved.circuit, &document)?;
+    let text = bench_text_of(alloc, &improved.circuit, &document)?;
     let report = all_reported(alloc, &improved)?;
     Ok(ImprovedText { text, report })
 }

@@ -10,7 +10,7 @@ use Rattle.net_theory.specs.declared.data.Gate.{Gate}
 use Rattle.net_theory.specs.Net.{Net, IsNet, IsSigBelow, IsGateAt, end_of, sig_value, values_of, value}
 use Rattle.net_theory.specs.NameLaws.{all_at, at_all, map_at, at_map, index_map}
 use Rattle.net_theory.specs.ValueLaws.{ExtendsGates, grown_none, grown_push, grown_sig, grown_below, at_push, values_after-gate}
-use Rattle.net_theory.specs.Implements.{IsStill, Implements}
+use Rattle.net_theory.specs.Implements.{IsTrivialSink, Implements}
 use Rattle.net_theory.specs.Operators.{HasOperator}
 use Rattle.net_theory.specs.Moving.{Kept, moved, moved_gate, put_sig, sources_stay, nothing_kept}
 use Rattle.net_theory.specs.MovingLaws.{Moves, IsSourceNode, moves_less, moves_start, moved_below, moved_value, source_stays}
@@ -154,7 +154,7 @@ map_values f g move [] same = refl
 map_values f g move (s ∷ ss) same =
     rw (same 0 s refl, map_values f g move ss (λ i t e. same (suc i) t e)) refl
 
-still_moved : (n : Net) (k : Kept) (s : Sig) → IsMerged n (end_of n) k → IsStill n.sources s → moved k.nodes s ≡ s
+still_moved : (n : Net) (k : Kept) (s : Sig) → IsMerged n (end_of n) k → IsTrivialSink n.sources s → moved k.nodes s ≡ s
 still_moved n k Zero is still = refl
 still_moved n k One is still = refl
 still_moved n k (Node p) is still = is.stay p still

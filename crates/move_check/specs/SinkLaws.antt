@@ -8,7 +8,7 @@ use Rattle.net_theory.specs.declared.data.Sig.{Sig}
 use Rattle.net_theory.specs.declared.data.Sig.TheVariants.{Zero, One, Node}
 use Rattle.net_theory.specs.Net.{Net, IsNet, IsSigBelow, end_of}
 use Rattle.net_theory.specs.NameLaws.{all_at, at_all, map_at, at_map, index_map}
-use Rattle.net_theory.specs.Implements.{IsStill}
+use Rattle.net_theory.specs.Implements.{IsTrivialSink}
 use Rattle.net_theory.specs.Moving.{moved, sources_stay}
 use Rattle.net_core.specs.Marks.{nodes_of}
 use Rattle.move_check.specs.Sinks.{IsSinkMap, HasSinksOf}
@@ -55,7 +55,7 @@ sinks_below n end nodes net is = at_all (IsSigBelow end) (map (moved nodes) n.si
     let was = at_map (moved nodes) n.sinks k y at in
     subst (IsSigBelow end) was.2 (moved_is_below n end nodes was.0 is (all_at (IsSigBelow (end_of n)) n.sinks k was.0 net.sinks was.1)))
 
-still_moved : (n : Net) (end : ℕ) (nodes : ℕ → Sig) (s : Sig) → IsSinkMap n.sources end nodes → IsStill n.sources s → moved nodes s ≡ s
+still_moved : (n : Net) (end : ℕ) (nodes : ℕ → Sig) (s : Sig) → IsSinkMap n.sources end nodes → IsTrivialSink n.sources s → moved nodes s ≡ s
 still_moved n end nodes Zero is still = refl
 still_moved n end nodes One is still = refl
 still_moved n end nodes (Node p) is still = is.stay p still

@@ -7,18 +7,18 @@ use Rattle.std.proofs.lemmas.List.Elements.{recursion_from_All}
 use Rattle.std.proofs.lemmas.List.Sums.{sum_by-cons, count_by-le-length}
 use Rattle.net_theory.specs.Cover.{Cover, IsCover, is_cube, is_cube_byte}
 use Rattle.net_theory.specs.Cost.{literal_count, literal_sum, is_not, cubes_cost, wide_cost}
-use Rattle.net_theory.specs.Expansion.{is_plain}
+use Rattle.net_theory.specs.Expansion.{is_constant_cover}
 use Rattle.net_core.proofs.Wide.{wide_cost-some}
 use Rattle.net_theory.specs.Limits.{most_table_inputs, most_cubes}
 
-pub cost_plain : (c : Cover) → c.parity ≡ false → is_plain c.cubes ≡ true → 0 ≡ wide_cost c
+pub cost_plain : (c : Cover) → c.parity ≡ false → is_constant_cover c.cubes ≡ true → 0 ≡ wide_cost c
 unfolding wide_cost cubes_cost
-cost_plain c cubed e = sym (cond-false c.parity (c.width - 1) (cubes_cost c) cubed ∙ cond-true (is_plain c.cubes) 0 _ e)
+cost_plain c cubed e = sym (cond-false c.parity (c.width - 1) (cubes_cost c) cubed ∙ cond-true (is_constant_cover c.cubes) 0 _ e)
 
-pub cost_not : (c : Cover) → c.parity ≡ false → is_plain c.cubes ≡ false → is_not c.on c.cubes ≡ true → (literal_sum c.cubes - 1) + 1 ≡ wide_cost c
+pub cost_not : (c : Cover) → c.parity ≡ false → is_constant_cover c.cubes ≡ false → is_not c.on c.cubes ≡ true → (literal_sum c.cubes - 1) + 1 ≡ wide_cost c
 cost_not c cubed e turned = sym (wide_cost-some c cubed e ∙ ap (λ (b : Bool). (literal_sum c.cubes - 1) + (if b then 1 else 0)) turned)
 
-pub cost_else : (c : Cover) → c.parity ≡ false → is_plain c.cubes ≡ false → is_not c.on c.cubes ≡ false → literal_sum c.cubes - 1 ≡ wide_cost c
+pub cost_else : (c : Cover) → c.parity ≡ false → is_constant_cover c.cubes ≡ false → is_not c.on c.cubes ≡ false → literal_sum c.cubes - 1 ≡ wide_cost c
 cost_else c cubed e turned = omega (arith, wide_cost-some c cubed e ∙ ap (λ (b : Bool). (literal_sum c.cubes - 1) + (if b then 1 else 0)) turned)
 
 -- ---- bounds

@@ -7,7 +7,7 @@ use Rattle.std.proofs.lemmas.Bool.{cond-true, cond-false}
 use Rattle.net_theory.specs.Cover.{Cover}
 use Rattle.net_theory.specs.Cost.{literal_count, literal_sum, is_not, cubes_cost, wide_cost}
 use Rattle.net_theory.specs.declared.data.Sig.{Sig}
-use Rattle.net_theory.specs.Expansion.{is_none, is_plain, last_complemented, complemented, constant_sig, finished_by, or_built, terms_from, parity_built, cover_built, wide_built}
+use Rattle.net_theory.specs.Expansion.{is_empty_cover, is_constant_cover, last_complemented, complemented, constant_sig, finished_by, or_built, terms_from, parity_built, cover_built, wide_built}
 use Rattle.net_theory.specs.ExpansionLaws.{cover_terms}
 use Rattle.net_theory.specs.WideLaws.{literals_count}
 use Rattle.net_core.proofs.Prefixes.{prefix_itself, prefix_push, prefix_more}
@@ -34,29 +34,29 @@ last_complemented-set (g ∷ h ∷ gs) (suc i) x e is = ap (λ (ys : List Gate).
 pub ruleset last_gate = (common_steps, last_complemented-none)
 
 -- the cost of a cover that isn't recognized as constant
-pub wide_cost-some : (c : Cover) → c.parity ≡ false → is_plain c.cubes ≡ false → wide_cost c ≡ (literal_sum c.cubes - 1) + (if is_not c.on c.cubes then 1 else 0)
+pub wide_cost-some : (c : Cover) → c.parity ≡ false → is_constant_cover c.cubes ≡ false → wide_cost c ≡ (literal_sum c.cubes - 1) + (if is_not c.on c.cubes then 1 else 0)
 unfolding wide_cost cubes_cost
-wide_cost-some c cubed e = cond-false c.parity (c.width - 1) (cubes_cost c) cubed ∙ cond-false (is_plain c.cubes) 0 _ e
+wide_cost-some c cubed e = cond-false c.parity (c.width - 1) (cubes_cost c) cubed ∙ cond-false (is_constant_cover c.cubes) 0 _ e
 
 -- expanding a table given by cubes
 pub wide_built-plain : (sources : ℕ) (gates : List Gate) (c : Cover) (inputs : List Sig) → c.parity ≡ false →
-    is_plain c.cubes ≡ true → wide_built sources gates c inputs ≡ record {
+    is_constant_cover c.cubes ≡ true → wide_built sources gates c inputs ≡ record {
       gates = gates;
-      sig = constant_sig (c.on && not (is_none c.cubes));
+      sig = constant_sig (c.on && not (is_empty_cover c.cubes));
     }
 unfolding wide_built cover_built
 wide_built-plain sources gates c inputs cubed e =
-    cond-false c.parity (parity_built sources gates c.on inputs) (cover_built sources gates c inputs) cubed ∙ cond-true (is_plain c.cubes) _ _ e
+    cond-false c.parity (parity_built sources gates c.on inputs) (cover_built sources gates c inputs) cubed ∙ cond-true (is_constant_cover c.cubes) _ _ e
 
 pub wide_built-some : (sources : ℕ) (gates : List Gate) (c : Cover) (inputs : List Sig) → c.parity ≡ false →
-    is_plain c.cubes ≡ false → wide_built sources gates c inputs ≡
+    is_constant_cover c.cubes ≡ false → wide_built sources gates c inputs ≡
     finished_by sources (length gates) c.on (or_built sources
     (terms_from sources inputs (record { gates = gates; outs = [] }) c.cubes))
 unfolding wide_built cover_built
 wide_built-some sources gates c inputs cubed e =
-    cond-false c.parity (parity_built sources gates c.on inputs) (cover_built sources gates c inputs) cubed ∙ cond-false (is_plain c.cubes) _ _ e
+    cond-false c.parity (parity_built sources gates c.on inputs) (cover_built sources gates c inputs) cubed ∙ cond-false (is_constant_cover c.cubes) _ _ e
 
-pub some_cubes : (cubes : List (List ℕ)) → is_plain cubes ≡ false → 0 < length cubes
+pub some_cubes : (cubes : List (List ℕ)) → is_constant_cover cubes ≡ false → 0 < length cubes
 some_cubes [] e = absurd cc
 some_cubes (c ∷ cubes) e = omega arith
 

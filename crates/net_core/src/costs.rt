@@ -8,7 +8,7 @@ ghost use Rattle.net_theory.specs.Cost.{wide_cost as wide_cost_of, cover_cost as
 ghost use Rattle.net_theory.specs.Limits.{most_table_inputs, most_cubes};
 
 use crate::cover::{Cover, Cube};
-use crate::expansion::is_plain;
+use crate::expansion::is_constant_cover;
 use crate::truth::{binary_word, unary_word};
 
 /// The cost of a function of one input, by its truth table `word` (2 bits, the value at 0 first).
@@ -78,7 +78,7 @@ fn wide_cost(cover: &Cover) -> u32
     requires { literal_sum cover.now.cubes < 2 ^ 31 }
     ensures { result ≡ wide_cost_of cover.now }
 {
-    if is_plain(&cover.cubes) {
+    if is_constant_cover(&cover.cubes) {
         return 0;
     }
     let joins = literal_total(&cover.cubes).saturating_sub(1);

@@ -10,7 +10,7 @@ ghost use Rattle.net_theory.specs.Cost.{cover_cost, wide_cost, literal_count, li
 ghost use Rattle.net_theory.specs.Expansion.{constant_sig, with_not, unary_built, binary_built};
 ghost use Rattle.net_theory.specs.Expansion.{literals as literals_of, and_word, join_all as join_all_of, or_built};
 ghost use Rattle.net_theory.specs.Expansion.{terms_from, complemented as complemented_of, last_complemented};
-ghost use Rattle.net_theory.specs.Expansion.{finished_by, asks_nothing as asks_nothing_of, is_plain as is_plain_of};
+ghost use Rattle.net_theory.specs.Expansion.{finished_by, has_no_literal as has_no_literal_of, is_constant_cover as is_constant_cover_of};
 ghost use Rattle.net_theory.specs.Expansion.{wide_built, expanded};
 ghost use Rattle.net_theory.specs.BuiltLaws.{IsBuilt};
 ghost use Rattle.net_theory.specs.WideLaws.{AreTerms};
@@ -105,23 +105,23 @@ pub fn expand_binary(
 }
 
 /// Whether a cube has no literal.
-#[tactic(auto, unfolding(net_theory::specs::Expansion::asks_nothing))]
-fn asks_nothing(cube: &[u8]) -> bool
-    ensures { result ≡ asks_nothing_of cube.now }
+#[tactic(auto, unfolding(net_theory::specs::Expansion::has_no_literal))]
+fn has_no_literal(cube: &[u8]) -> bool
+    ensures { result ≡ has_no_literal_of cube.now }
 {
     cube.iter().all(|byte| !(*byte == b'0' || *byte == b'1'))
 }
 
 /// Whether some cube has no literal.
 fn some_asks_nothing(cubes: &[Cube]) -> bool
-    ensures { result ≡ list_any asks_nothing_of cubes.now }
+    ensures { result ≡ list_any has_no_literal_of cubes.now }
 {
-    cubes.iter().any(|cube| asks_nothing(cube.get()))
+    cubes.iter().any(|cube| has_no_literal(cube.get()))
 }
 
 /// Whether a cover of more than two inputs is recognized as constant: no cubes, or a cube without literals.
-pub fn is_plain(cubes: &[Cube]) -> bool
-    ensures { result ≡ is_plain_of cubes.now }
+pub fn is_constant_cover(cubes: &[Cube]) -> bool
+    ensures { result ≡ is_constant_cover_of cubes.now }
 {
     cubes.is_empty() || some_asks_nothing(cubes)
 }
@@ -291,7 +291,7 @@ fn expand_wide(
         wide_built sources gates.old.items cover.now inputs.now) }
     ensures prefix { OnErr result (IsPrefixOfGates gates.old.items gates.new.items) }
 {
-    if is_plain(&cover.cubes) {
+    if is_constant_cover(&cover.cubes) {
         return Ok(constant(cover.on && !cover.cubes.is_empty()));
     }
     let before = gates.len();

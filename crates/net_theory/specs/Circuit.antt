@@ -6,7 +6,7 @@ use Rattle.net_theory.specs.declared.data.Trigger.{Trigger}
 use Rattle.net_theory.specs.Net.{Net, IsNet, sink_values}
 use Rattle.net_theory.specs.Document.{Name, IsName, has, are_distinct, Latch, Document, latches_of, latch_output}
 use Rattle.net_theory.specs.Document.{sink_names}
-use Rattle.net_theory.specs.Behaviour.{IsMapOf, HasOneMap}
+use Rattle.net_theory.specs.Behaviour.{IsValuationOf, HasOneValuation}
 use Rattle.net_theory.specs.WellFormed.{IsLatch}
 use Rattle.net_theory.specs.NetOf.{net_of}
 use Rattle.net_theory.specs.Cost.{cost}
@@ -68,8 +68,8 @@ pub record Describes (d : Document) (c : Circuit) : Type 0 where
   pub outputs : d.outputs ≡ c.outputs
   pub clocks : d.clocks ≡ c.clocks
   pub latches : latches_of d ≡ c.latches
-  pub one : (given : Name → Bool) → HasOneMap d given
-  pub sinks : (given v : Name → Bool) → IsMapOf d given v → map v (sink_names d) ≡ values_by_name c given
+  pub one : (given : Name → Bool) → HasOneValuation d given
+  pub sinks : (given v : Name → Bool) → IsValuationOf d given v → map v (sink_names d) ≡ values_by_name c given
 
 -- The circuit of a document: it has the document's model name and is equivalent to it, and its net is
 -- the document's net, with as many gates as the document costs.

@@ -12,7 +12,7 @@ use Rattle.net_theory.specs.declared.data.Trigger.{Trigger}
 use Rattle.net_theory.specs.Net.{Net, IsSigBelow, sig_value}
 use Rattle.net_theory.specs.Document.{Name, has, Latch, LatchLine, Document, latch_of, latch_input, latches_of, source_names, sink_names, driven_names, used_names, table_inputs, table_output}
 use Rattle.net_theory.specs.NameLaws.{has_index, has_at, has_left, has_right, has_either, has_map_index, distinct_left, all_at, at_all, all_has, has_all, at_map}
-use Rattle.net_theory.specs.Behaviour.{HoldsIn, IsMapOf, HasOneMap}
+use Rattle.net_theory.specs.Behaviour.{HoldsIn, IsValuationOf, HasOneValuation}
 use Rattle.net_theory.specs.Cost.{cost}
 use Rattle.graph_core.specs.Visit.{has_ended, order_of}
 use Rattle.graph_core.specs.VisitLaws.{IsTopologicalOrder, order_is}
@@ -52,7 +52,7 @@ driven_known d g order is all n e =
 
 -- ---- the valuation
 
-map_is : (d : Document) (g : Growth) (order : List ℕ) (given : Name → Bool) → IsGrowth d g order → ((k : ℕ) → k < length d.tables → has_ended order k ≡ true) → IsMapOf d given (name_value d g given)
+map_is : (d : Document) (g : Growth) (order : List ℕ) (given : Name → Bool) → IsGrowth d g order → ((k : ℕ) → k < length d.tables → has_ended order k ≡ true) → IsValuationOf d given (name_value d g given)
 map_is d g order given is all =
     record {
       sources = at_all (λ n. name_value d g given n ≡ given n) (source_names d) (λ k n e.
@@ -62,7 +62,7 @@ map_is d g order given is all =
           (is.stands k t (all k (slice_get_within d.tables k t e)) e).value given);
     }
 
-one_map : (d : Document) (g : Growth) (order : List ℕ) (given : Name → Bool) → IsGrowth d g order → ((k : ℕ) → k < length d.tables → has_ended order k ≡ true) → HasOneMap d given
+one_map : (d : Document) (g : Growth) (order : List ℕ) (given : Name → Bool) → IsGrowth d g order → ((k : ℕ) → k < length d.tables → has_ended order k ≡ true) → HasOneValuation d given
 one_map d g order given is all =
     record {
       some = (name_value d g given, map_is d g order given is all);
@@ -78,7 +78,7 @@ sinks_driven d n well e =
     all_has (λ m. has (driven_names d) m ≡ true) (used_names d) n well.used_driven (has_right (Rattle.std.specs.List.flat_map table_inputs d.tables) (sink_names d) n e)
 
 sinks_are : (d : Document) (g : Growth) (order : List ℕ) (given v : Name → Bool) → IsWellFormed d →
-    IsGrowth d g order → ((k : ℕ) → k < length d.tables → has_ended order k ≡ true) → IsMapOf d given v →
+    IsGrowth d g order → ((k : ℕ) → k < length d.tables → has_ended order k ≡ true) → IsValuationOf d given v →
     map v (sink_names d) ≡ map (sig_value (net_bits d g given)) (map (signal_of g.signals) (sink_names d))
 sinks_are d g order given v well is all maps =
     map_same v (name_value d g given) (sink_names d) (λ n e. let s = driven_known d g order is all n (sinks_driven d n well e) in sym (is.only given v n s.0 maps s.1))

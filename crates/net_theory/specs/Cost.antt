@@ -3,7 +3,7 @@ use Rattle.std.specs.Prelude.{ℕ, ◌+◌, ◌-◌, Bool, true, false, ◌&&◌
 use Rattle.std.specs.Prelude.{sum_by, count_by}
 use Rattle.net_theory.specs.Cover.{Cover, cover_value}
 use Rattle.net_theory.specs.Document.{Name, is_same, Table, Document}
-use Rattle.net_theory.specs.Expansion.{unary_word, binary_word, is_plain}
+use Rattle.net_theory.specs.Expansion.{unary_word, binary_word, is_constant_cover}
 
 -- ---- tables with two inputs of the same name
 
@@ -57,9 +57,9 @@ is_not on (cube ∷ []) = (literal_count cube == 1) &&
 is_not on other = false
 
 -- A cover of more than two inputs costs one gate less than it has literals, and one more if it is NOT of an
--- input. It costs none if it is recognized as constant (`is_plain`).
+-- input. It costs none if it is recognized as constant (`is_constant_cover`).
 unfoldable pub cubes_cost : Cover → ℕ
-cubes_cost c = if is_plain c.cubes then 0 else (literal_sum c.cubes - 1) + (if is_not c.on c.cubes then 1 else 0)
+cubes_cost c = if is_constant_cover c.cubes then 0 else (literal_sum c.cubes - 1) + (if is_not c.on c.cubes then 1 else 0)
 
 -- A parity costs one gate less than it has inputs.
 unfoldable pub wide_cost : Cover → ℕ

@@ -16,7 +16,7 @@ use Rattle.net_theory.specs.MovingLaws.{moved_value, moves_start, net_movable, k
 use Rattle.net_theory.specs.MovingLaws.{kept_goes, kept_made, nodes_low, source_stays}
 use Rattle.net_theory.specs.Dangling.{kept_gates, cleanup}
 use Rattle.net_theory.specs.Operators.{HasOperator}
-use Rattle.net_theory.specs.Implements.{IsStill, Implements, IsCleanedUp}
+use Rattle.net_theory.specs.Implements.{IsTrivialSink, Implements, IsCleanedUp}
 
 -- ---- values after the removal
 
@@ -131,7 +131,7 @@ source_kept : (n : Net) (p : ℕ) → p ≤ n.sources → (kept_gates n).nodes p
 source_kept n p low =
     nodes_low (live n) n.sources (nothing_kept n.sources) (n.sources + 1) n.gates p (omega arith) ∙ source_stays n.sources p low
 
-still_moved : (n : Net) (s : Sig) → IsStill n.sources s → moved (kept_gates n).nodes s ≡ s
+still_moved : (n : Net) (s : Sig) → IsTrivialSink n.sources s → moved (kept_gates n).nodes s ≡ s
 still_moved n Zero still = refl
 still_moved n One still = refl
 still_moved n (Node p) still = source_kept n p still

@@ -6,7 +6,7 @@ use Rattle.net_theory.specs.declared.data.Sig.TheVariants.{Zero, Node}
 use Rattle.net_theory.specs.Net.{Net, IsNet}
 use Rattle.net_theory.specs.Document.{Document}
 use Rattle.net_theory.specs.Circuit.{Circuit, sources_of, IsProper, by_node, Describes}
-use Rattle.net_theory.specs.Implements.{IsStill, Implements}
+use Rattle.net_theory.specs.Implements.{IsTrivialSink, Implements}
 
 -- the circuit with its net replaced
 abbrev pub with_net : Circuit → Net → Circuit
@@ -67,6 +67,6 @@ implements_on a b c ab bc =
       sink_count = bc.sink_count ∙ ab.sink_count;
       values = λ given. bc.values given ∙ ab.values given;
       fewer = omega (arith, ab.fewer, bc.fewer);
-      still = λ i s at still. bc.still i s (ab.still i s at still) (subst (λ (k : ℕ). IsStill k s) (sym ab.sources) still);
+      still = λ i s at still. bc.still i s (ab.still i s at still) (subst (λ (k : ℕ). IsTrivialSink k s) (sym ab.sources) still);
       equal = λ i j d low_i low_j same. bc.equal i j d (omega (arith, ab.sink_count)) (omega (arith, ab.sink_count)) (ab.equal i j d low_i low_j same);
     }

@@ -162,16 +162,16 @@ finished sources before gates a turned = if turned then (if length gates == befo
     else record { gates = last_complemented gates; sig = a }) else record { gates = gates; sig = a }
 
 -- whether a cube has no literal, so that it covers every minterm
-unfoldable pub asks_nothing : List ℕ → Bool
-asks_nothing cube = list_all (λ b. not (b == 48 || b == 49)) cube
+unfoldable pub has_no_literal : List ℕ → Bool
+has_no_literal cube = list_all (λ b. not (b == 48 || b == 49)) cube
 
-abbrev pub is_none : List (List ℕ) → Bool
-is_none [] = true
-is_none (c ∷ cubes) = false
+abbrev pub is_empty_cover : List (List ℕ) → Bool
+is_empty_cover [] = true
+is_empty_cover (c ∷ cubes) = false
 
 -- whether the cover is recognized as constant: no cubes, or a cube without literals
-abbrev pub is_plain : List (List ℕ) → Bool
-is_plain cubes = is_none cubes || list_any asks_nothing cubes
+abbrev pub is_constant_cover : List (List ℕ) → Bool
+is_constant_cover cubes = is_empty_cover cubes || list_any has_no_literal cubes
 
 -- the result, complemented if the cover describes the off-set
 abbrev pub finished_by : ℕ → ℕ → Bool → Joined → Built
@@ -179,9 +179,9 @@ finished_by sources before on j = finished sources before j.gates j.out.sig (if 
     else not j.out.turned)
 
 unfoldable pub cover_built : ℕ → List Gate → Cover → List Sig → Built
-cover_built sources gates c inputs = if is_plain c.cubes then record {
+cover_built sources gates c inputs = if is_constant_cover c.cubes then record {
   gates = gates;
-  sig = constant_sig (c.on && not (is_none c.cubes));
+  sig = constant_sig (c.on && not (is_empty_cover c.cubes));
 } else finished_by sources (length gates) c.on
     (or_built sources (terms_from sources inputs (record { gates = gates; outs = [] }) c.cubes))
 

@@ -16,7 +16,7 @@ use Rattle.net_theory.specs.Net.{IsGateAt, AreGates, sig_value, values_of}
 use Rattle.net_theory.specs.Cover.{Cover, IsCover, is_cube_byte, is_cube, matches, is_matched, value_by, is_odd, parity_value, cover_value}
 use Rattle.net_theory.specs.Cost.{literal_count, literal_sum, is_not, cubes_cost, wide_cost, cover_cost}
 use Rattle.net_theory.specs.Expansion.{Built, Joined, with_not, complemented, last_complemented, finished, finished_by}
-use Rattle.net_theory.specs.Expansion.{asks_nothing, is_none, is_plain, signed, unsigned, cover_built, parity_built}
+use Rattle.net_theory.specs.Expansion.{has_no_literal, is_empty_cover, is_constant_cover, signed, unsigned, cover_built, parity_built}
 use Rattle.net_theory.specs.Expansion.{wide_built, constant_sig, join_from, join_all, literals, and_word, xor_word}
 use Rattle.net_theory.specs.Expansion.{or_built, terms_from, unary_word, binary_word, expanded}
 use Rattle.net_theory.specs.ValueLaws.{ExtendsGates, grown_more, gates_push, value-last, value-before, at_prefix, at_end}
@@ -167,26 +167,26 @@ some_step true nothing n e more = omega arith
 some_step false nothing n e more = omega (arith, more e)
 
 -- a cube that isn't all `-` has a literal
-not_nothing : (cube : List ℕ) → asks_nothing cube ≡ false → 0 < literal_count cube
-unfolding asks_nothing
+not_nothing : (cube : List ℕ) → has_no_literal cube ≡ false → 0 < literal_count cube
+unfolding has_no_literal
 not_nothing [] e = absurd cc
 not_nothing (c ∷ cube) e =
-    let some : 0 < (if c == 48 || c == 49 then 1 else 0) + literal_count cube = some_step (c == 48 || c == 49) (asks_nothing cube) (literal_count cube) e (λ f. not_nothing cube f) in
+    let some : 0 < (if c == 48 || c == 49 then 1 else 0) + literal_count cube = some_step (c == 48 || c == 49) (has_no_literal cube) (literal_count cube) e (λ f. not_nothing cube f) in
     omega (arith, sum_by-cons (λ b. if b == 48 || b == 49 then 1 else 0) c cube, some)
 
-all_ask : (width : ℕ) (cubes : List (List ℕ)) → AllByRecursion (λ cube. is_cube width cube ≡ true) cubes → list_any asks_nothing cubes ≡ false → AreTerms width cubes
+all_ask : (width : ℕ) (cubes : List (List ℕ)) → AllByRecursion (λ cube. is_cube width cube ≡ true) cubes → list_any has_no_literal cubes ≡ false → AreTerms width cubes
 all_ask width [] all none = tt
 all_ask width (c ∷ cubes) all none =
-    let asks = or_parts (asks_nothing c) (list_any asks_nothing cubes) none in
+    let asks = or_parts (has_no_literal c) (list_any has_no_literal cubes) none in
     let wide = and_parts (length c == width) (list_all is_cube_byte c) all.0 in
     (eqb-true (length c) width wide.0, not_nothing c asks.0, all_ask width cubes all.1 asks.1)
 
 -- the cubes of a cover that isn't recognized as constant
-pub cover_terms : (c : Cover) (width : ℕ) → IsCover c → c.width ≡ width → is_plain c.cubes ≡ false → AreTerms width c.cubes
+pub cover_terms : (c : Cover) (width : ℕ) → IsCover c → c.width ≡ width → is_constant_cover c.cubes ≡ false → AreTerms width c.cubes
 cover_terms c width is wide some =
     subst (λ (k : ℕ). AreTerms k c.cubes) wide (all_ask c.width c.cubes
     (recursion_from_All (λ cube. is_cube c.width cube ≡ true) c.cubes is.cubes)
-    (or_parts (is_none c.cubes) (list_any asks_nothing c.cubes) some).1)
+    (or_parts (is_empty_cover c.cubes) (list_any has_no_literal c.cubes) some).1)
 
 -- A cover of one literal is NOT of an input if exactly one of the literal and the cover is complemented.
 one_literal : (on : Bool) (cube : List ℕ) (inputs : List Sig) (s : Signed) → literals cube inputs ≡ s ∷ [] →
@@ -254,7 +254,7 @@ turn_not true false = refl
 turn_not false true = refl
 turn_not false false = refl
 
-value_some : (on : Bool) (cubes : List (List ℕ)) (bits : List Bool) → is_none cubes ≡ false → value_by on cubes bits ≡ (if on then is_matched cubes bits else not (is_matched cubes bits))
+value_some : (on : Bool) (cubes : List (List ℕ)) (bits : List Bool) → is_empty_cover cubes ≡ false → value_by on cubes bits ≡ (if on then is_matched cubes bits else not (is_matched cubes bits))
 value_some on [] bits some = absurd cc
 value_some true (c ∷ cubes) bits some = refl
 value_some false (c ∷ cubes) bits some = refl
@@ -263,7 +263,7 @@ last_value : (on t x m : Bool) → turn t x ≡ m → turn (if on then t else no
 last_value true t x m e = e
 last_value false t x m e = turn_not t x ∙ ap not e
 
-not_none : (cubes : List (List ℕ)) → is_none cubes ≡ false → 0 < length cubes
+not_none : (cubes : List (List ℕ)) → is_empty_cover cubes ≡ false → 0 < length cubes
 not_none [] e = absurd cc
 not_none (c ∷ cubes) e = omega arith
 
@@ -273,7 +273,7 @@ bits_of sources gates inputs given = map (sig_value (values_of given sources gat
 
 -- a cover that isn't recognized as constant
 wide_some : (sources : ℕ) (old : List Gate) (c : Cover) (inputs : List Sig) → AreGates sources old →
-    AreSigsBelow (sources + 1 + length old) inputs → AreTerms (length inputs) c.cubes → is_none c.cubes ≡ false →
+    AreSigsBelow (sources + 1 + length old) inputs → AreTerms (length inputs) c.cubes → is_empty_cover c.cubes ≡ false →
     IsBuilt sources old ((literal_sum c.cubes - 1) + (if is_not c.on c.cubes then 1 else 0)) (λ given.
     value_by c.on c.cubes (bits_of sources old inputs given))
     (finished_by sources (length old) c.on (or_built sources (terms_from sources inputs (no_terms old) c.cubes)))
@@ -288,24 +288,24 @@ wide_some sources old c inputs are below terms some =
     ∙ sym (value_some c.on c.cubes (bits_of sources old inputs given) some)))
 
 -- a cube without literals covers every minterm
-nothing_matches : (cube : List ℕ) (bits : List Bool) → asks_nothing cube ≡ true → matches cube bits ≡ true
-unfolding asks_nothing matches
+nothing_matches : (cube : List ℕ) (bits : List Bool) → has_no_literal cube ≡ true → matches cube bits ≡ true
+unfolding has_no_literal matches
 nothing_matches [] bits e = refl
 nothing_matches (c ∷ cube) [] e = refl
 nothing_matches (c ∷ cube) (b ∷ bits) e =
-    let parts = and_parts (not (c == 48 || c == 49)) (asks_nothing cube) e in
+    let parts = and_parts (not (c == 48 || c == 49)) (has_no_literal cube) e in
     let neither = or_parts (c == 48) (c == 49) (not-true (c == 48 || c == 49) parts.0) in
     rw (neither.0, neither.1) (nothing_matches cube bits parts.1)
 
-any_nothing : (cubes : List (List ℕ)) (bits : List Bool) → list_any asks_nothing cubes ≡ true → is_matched cubes bits ≡ true
+any_nothing : (cubes : List (List ℕ)) (bits : List Bool) → list_any has_no_literal cubes ≡ true → is_matched cubes bits ≡ true
 any_nothing [] bits e = absurd cc
 any_nothing (c ∷ cubes) bits e =
     ⊎_elim
     (λ here. or_left (matches c bits) (is_matched cubes bits) (nothing_matches c bits here))
     (λ later. or_right (matches c bits) (is_matched cubes bits) (any_nothing cubes bits later))
-    (or_cases (asks_nothing c) (list_any asks_nothing cubes) e)
+    (or_cases (has_no_literal c) (list_any has_no_literal cubes) e)
 
-plain_value : (on : Bool) (cubes : List (List ℕ)) (bits : List Bool) → is_plain cubes ≡ true → (on && not (is_none cubes)) ≡ value_by on cubes bits
+plain_value : (on : Bool) (cubes : List (List ℕ)) (bits : List Bool) → is_constant_cover cubes ≡ true → (on && not (is_empty_cover cubes)) ≡ value_by on cubes bits
 plain_value true [] bits e = refl
 plain_value false [] bits e = refl
 plain_value true (c ∷ cubes) bits e = sym (any_nothing (c ∷ cubes) bits e)
@@ -318,17 +318,17 @@ pub cover_is : (sources : ℕ) (old : List Gate) (c : Cover) (inputs : List Sig)
     (cover_built sources old c inputs)
 unfolding cover_built cubes_cost
 cover_is sources old c inputs are below is wide =
-    wide_by (is_plain c.cubes) refl where
-      wide_by : (t : Bool) → is_plain c.cubes ≡ t →
+    wide_by (is_constant_cover c.cubes) refl where
+      wide_by : (t : Bool) → is_constant_cover c.cubes ≡ t →
           IsBuilt sources old (if t then 0 else ((literal_sum c.cubes - 1) + (if is_not c.on c.cubes then 1 else 0)))
           (λ given. value_by c.on c.cubes (bits_of sources old inputs given)) (if t then record {
             gates = old;
-            sig = constant_sig (c.on && not (is_none c.cubes));
+            sig = constant_sig (c.on && not (is_empty_cover c.cubes));
           } else finished_by sources (length old) c.on
           (or_built sources (terms_from sources inputs (no_terms old) c.cubes)))
-      wide_by true plain = built_same sources old 0 _ _ _ (λ given. plain_value c.on c.cubes (bits_of sources old inputs given) plain) (built_constant sources old (c.on && not (is_none c.cubes)) are)
+      wide_by true plain = built_same sources old 0 _ _ _ (λ given. plain_value c.on c.cubes (bits_of sources old inputs given) plain) (built_constant sources old (c.on && not (is_empty_cover c.cubes)) are)
       wide_by false some =
-          let parts = or_parts (is_none c.cubes) (list_any asks_nothing c.cubes) some in
+          let parts = or_parts (is_empty_cover c.cubes) (list_any has_no_literal c.cubes) some in
           let terms : AreTerms c.width c.cubes = all_ask c.width c.cubes (recursion_from_All (λ cube. is_cube c.width cube ≡ true) c.cubes is.cubes) parts.1 in
           wide_some sources old c inputs are below (subst (λ (k : ℕ). AreTerms k c.cubes) wide terms) parts.0
 

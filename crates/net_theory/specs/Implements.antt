@@ -6,10 +6,10 @@ use Rattle.net_theory.specs.Net.{Net, IsNet, sink_values}
 use Rattle.net_theory.specs.Reach.{IsReached}
 
 -- the signal is a constant or a source (a trivial sink)
-abbrev pub IsStill : ℕ → Sig → Type 0
-IsStill sources Zero = Unit {0}
-IsStill sources One = Unit {0}
-IsStill sources (Node p) = p ≤ sources
+abbrev pub IsTrivialSink : ℕ → Sig → Type 0
+IsTrivialSink sources Zero = Unit {0}
+IsTrivialSink sources One = Unit {0}
+IsTrivialSink sources (Node p) = p ≤ sources
 
 -- m implements n: it has as many sources and sinks, its sinks have the same values under every
 -- assignment (functional equivalence), and it has no more gates. Trivial sinks of n are unchanged in m, and
@@ -20,7 +20,7 @@ pub record Implements (n m : Net) : Type 0 where
   pub sink_count : length m.sinks ≡ length n.sinks
   pub values : (given : ℕ → Bool) → sink_values m given ≡ sink_values n given
   pub fewer : length m.gates ≤ length n.gates
-  pub still : (i : ℕ) (s : Sig) → slice_get n.sinks i ≡ Some s → IsStill n.sources s → slice_get m.sinks i ≡ Some s
+  pub still : (i : ℕ) (s : Sig) → slice_get n.sinks i ≡ Some s → IsTrivialSink n.sources s → slice_get m.sinks i ≡ Some s
   pub equal : (i j : ℕ) (d : Sig) → i < length n.sinks → j < length n.sinks →
       slice_index_or n.sinks i d ≡ slice_index_or n.sinks j d → slice_index_or m.sinks i d ≡ slice_index_or m.sinks j d
 

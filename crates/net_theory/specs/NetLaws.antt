@@ -19,7 +19,7 @@ use Rattle.net_theory.specs.NameLaws.{same_name, name_same, same_itself, other_t
 use Rattle.net_theory.specs.NameLaws.{has_later, has_index, has_left, has_either, has_flat_at, has_map_at}
 use Rattle.net_theory.specs.NameLaws.{distinct_cons, distinct_right, distinct_apart, distinct_index, all_at, all_has}
 use Rattle.net_theory.specs.NameLaws.{map_at}
-use Rattle.net_theory.specs.Behaviour.{HoldsIn, IsMapOf}
+use Rattle.net_theory.specs.Behaviour.{HoldsIn, IsValuationOf}
 use Rattle.net_theory.specs.BuiltLaws.{IsBuilt}
 use Rattle.net_theory.specs.WideLaws.{AreSigsBelow}
 use Rattle.net_theory.specs.Expansion.{Built}
@@ -66,7 +66,7 @@ pub record IsGrowth (d : Document) (g : Growth) (done : List ℕ) : Type 0 where
   pub sources : (k : ℕ) (n : Name) → slice_get (source_names d) k ≡ Some n → g.signals n ≡ Some (Node (k + 1))
   pub origin : (n : Name) (s : Sig) → g.signals n ≡ Some s → (has (source_names d) n ≡ true) ⊎ ((k : ℕ) × (has_ended done k ≡ true) × Drives d.tables n k)
   pub stands : (k : ℕ) (t : Table) → has_ended done k ≡ true → slice_get d.tables k ≡ Some t → TableStands d g t
-  pub only : (given v : Name → Bool) (n : Name) (s : Sig) → IsMapOf d given v → g.signals n ≡ Some s → name_value d g given n ≡ v n
+  pub only : (given v : Name → Bool) (n : Name) (s : Sig) → IsValuationOf d given v → g.signals n ≡ Some s → name_value d g given n ≡ v n
   pub count : length g.gates ≡ spent 0 d.tables done
 
 -- ---- adding tables

@@ -11,7 +11,7 @@ use Rattle.net_theory.specs.declared.data.Signed.{Signed}
 use Rattle.net_theory.specs.Cover.{IsCover, is_cube, is_cube_byte, matches, is_matched, is_odd, value_by, cover_value}
 use Rattle.net_theory.specs.Cost.{literal_count, literal_sum, cubes_cost, wide_cost}
 use Rattle.net_theory.specs.Expansion.{Joined, Terms, signed, unsigned, literals, join_from, join_all, and_word}
-use Rattle.net_theory.specs.Expansion.{or_word, xor_word, terms_from, or_built, asks_nothing, is_plain, finished_by}
+use Rattle.net_theory.specs.Expansion.{or_word, xor_word, terms_from, or_built, has_no_literal, is_constant_cover, finished_by}
 use Rattle.net_theory.specs.Expansion.{cover_built, parity_built, wide_built}
 use Rattle.net_theory.specs.Whole.{ones, dashes, single_ones, and_cover, or_cover, xor_cover, itself, value_where}
 
@@ -180,17 +180,17 @@ and_joins_inputs sources gates inputs =
     ap (λ (ls : List Signed). let j : Joined = join_all and_word sources gates ls in j) (ones_literals inputs)
 
 -- these covers aren't recognized as constant
-ones_ask : (n : ℕ) → is_plain (ones (suc n) ∷ []) ≡ false
-unfolding asks_nothing
+ones_ask : (n : ℕ) → is_constant_cover (ones (suc n) ∷ []) ≡ false
+unfolding has_no_literal
 ones_ask n = refl
 
-more_ask : (cubes : List (List ℕ)) → list_any asks_nothing (map (λ cube. 45 ∷ cube) cubes) ≡ list_any asks_nothing cubes
-unfolding asks_nothing
+more_ask : (cubes : List (List ℕ)) → list_any has_no_literal (map (λ cube. 45 ∷ cube) cubes) ≡ list_any has_no_literal cubes
+unfolding has_no_literal
 more_ask [] = refl
-more_ask (c ∷ cubes) = ap (λ (x : Bool). asks_nothing c || x) (more_ask cubes)
+more_ask (c ∷ cubes) = ap (λ (x : Bool). has_no_literal c || x) (more_ask cubes)
 
-singles_ask : (n : ℕ) → list_any asks_nothing (single_ones n) ≡ false
-unfolding asks_nothing
+singles_ask : (n : ℕ) → list_any has_no_literal (single_ones n) ≡ false
+unfolding has_no_literal
 singles_ask zero = refl
 singles_ask (suc n) = more_ask (single_ones n) ∙ singles_ask n
 
@@ -200,7 +200,7 @@ pub and_built : (sources : ℕ) (gates : List Gate) (on : Bool) (inputs : List S
 unfolding wide_built cover_built
 and_built sources gates on [] some = absurd (omega arith)
 and_built sources gates on (a ∷ inputs) some =
-    cond-false (is_plain (ones (suc (length inputs)) ∷ [])) _ _ (ones_ask (length inputs))
+    cond-false (is_constant_cover (ones (suc (length inputs)) ∷ [])) _ _ (ones_ask (length inputs))
     ∙ ap (finished_by sources (length gates) on) (and_joins_inputs sources gates (a ∷ inputs))
 
 pub or_built_wide : (sources : ℕ) (gates : List Gate) (on : Bool) (inputs : List Sig) → 0 < length inputs →
@@ -209,7 +209,7 @@ pub or_built_wide : (sources : ℕ) (gates : List Gate) (on : Bool) (inputs : Li
 unfolding wide_built cover_built
 or_built_wide sources gates on [] some = absurd (omega arith)
 or_built_wide sources gates on (a ∷ inputs) some =
-    cond-false (is_plain (single_ones (suc (length inputs)))) _ _ (singles_ask (suc (length inputs)))
+    cond-false (is_constant_cover (single_ones (suc (length inputs)))) _ _ (singles_ask (suc (length inputs)))
     ∙ ap (finished_by sources (length gates) on) (or_joins_inputs sources gates (a ∷ inputs))
 
 pub xor_built : (sources : ℕ) (gates : List Gate) (on : Bool) (inputs : List Sig) →
@@ -251,7 +251,7 @@ and_cost zero on two = absurd (omega arith)
 and_cost (suc n) on two =
     let count : literal_count (ones (suc n)) ≡ suc n = ones_count (suc n) in
     let other : (literal_count (ones (suc n)) == 1) ≡ false = ne_eqb (literal_count (ones (suc n))) 1 (λ e. omega arith) in
-    cond-false (is_plain (ones (suc n) ∷ [])) 0 _ (ones_ask n)
+    cond-false (is_constant_cover (ones (suc n) ∷ [])) 0 _ (ones_ask n)
     ∙ ap (λ (t : Bool). (literal_sum (ones (suc n) ∷ []) - 1) + (if t && (if on then count_by (λ b. b == 48) (ones (suc n)) == 1 else count_by (λ b. b == 48) (ones (suc n)) == 0) then 1 else 0)) other
     ∙ omega (arith, sum_by-cons literal_count (ones (suc n)) [], count)
 
@@ -260,7 +260,7 @@ unfolding wide_cost cubes_cost
 or_cost zero on two = absurd (omega arith)
 or_cost (suc zero) on two = absurd (omega arith)
 or_cost (suc (suc n)) on two =
-    cond-false (is_plain (single_ones (suc (suc n)))) 0 _ (singles_ask (suc (suc n)))
+    cond-false (is_constant_cover (single_ones (suc (suc n)))) 0 _ (singles_ask (suc (suc n)))
     ∙ omega (arith, singles_sum (suc (suc n)))
 
 pub xor_cost : (n : ℕ) (on : Bool) → wide_cost (xor_cover n on) ≡ n - 1

@@ -3,7 +3,7 @@ use Rattle.std.specs.Prelude.{ℕ, List}
 use Rattle.lane_sim.specs.Words.{Words}
 use Rattle.observe_core.specs.Putting.{IsAbove}
 use Rattle.observe_core.specs.Differing.{ArePutWords, AreDistinguished}
-use Rattle.observe_core.specs.declared.forcing.Forced.{Forced}
+use Rattle.observe_core.specs.declared.forced_outputs.Forced.{Forced}
 
 -- the fanout cone is above the fanin cone
 abbrev pub StandsAbove : Forced → Type 0

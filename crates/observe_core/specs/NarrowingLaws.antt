@@ -12,7 +12,7 @@ use Rattle.lane_sim.specs.WordLaws.{digit_and}
 use Rattle.window_theory.specs.Window.{Window}
 use Rattle.window_theory.specs.Care.{IsSpecificationOf}
 use Rattle.observe_theory.specs.FanoutCone.{FanoutCone, IsFanoutCone}
-use Rattle.observe_theory.specs.Observed.{IsNarrowed, IsObservedOf}
+use Rattle.observe_theory.specs.Observed.{IsRelaxed, IsObservedOf}
 use Rattle.observe_core.specs.Observing.{IsObservableMask, IsMasked}
 
 no_digit_and : (mask t : ℕ) → digit 0 t ≡ (digit 0 t && digit mask t)
@@ -81,7 +81,7 @@ cell_free mask old new h t is off =
 
 pub narrowed_is : (n : Net) (w : Window) (t : FanoutCone) (mask : ℕ) (old new : Words) →
     IsSpecificationOf n w (specification old) → IsObservableMask n w t mask → IsMasked mask old new →
-    IsNarrowed n w t (specification old) (specification new)
+    IsRelaxed n w t (specification old) (specification new)
 narrowed_is n w t mask old new whole rows is =
     record {
       inputs = is.inputs;
@@ -100,4 +100,4 @@ pub observed_is : (n : Net) (w : Window) (t : FanoutCone) (mask : ℕ) (old new 
     IsSpecificationOf n w (specification old) → IsFanoutCone n w t → IsObservableMask n w t mask →
     IsMasked mask old new → IsObservedOf n w (specification new)
 observed_is n w t mask old new whole fanout_cone rows is =
-    record { fanout_cone = t; is_fanout_cone = fanout_cone; whole = specification old; is_whole = whole; narrowed = narrowed_is n w t mask old new whole rows is }
+    record { fanout_cone = t; is_fanout_cone = fanout_cone; whole = specification old; is_whole = whole; relaxed = narrowed_is n w t mask old new whole rows is }

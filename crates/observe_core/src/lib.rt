@@ -15,17 +15,17 @@
 //! ```
 #![tactic(auto)]
 
-mod differing;
-mod following;
-mod forcing;
+mod output_differences;
+mod next_fanout;
+mod forced_outputs;
 mod lists;
-mod narrowing;
+mod relaxing;
 mod observing;
-mod putting;
+mod with_constants;
 mod shape;
-mod trailing;
+mod fanout_cone;
 
 pub use lists::lists_of;
-pub use narrowing::{observed_spec, observed_spec_by};
+pub use relaxing::{observed_spec, observed_spec_by};
 pub use shape::FanoutCone;
-pub use trailing::{fanout_cone, fanout_cone_by};
+pub use fanout_cone::{fanout_cone, fanout_cone_by};

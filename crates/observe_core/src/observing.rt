@@ -9,7 +9,7 @@ ghost use Rattle.observe_theory.specs.FanoutCone.{IsFanoutCone};
 ghost use Rattle.observe_core.specs.Observing.{IsEither, IsObservingCone, IsObservableMask};
 ghost use Rattle.net_theory.specs.Limits.{most_leaves};
 
-use crate::differing::distinguishing;
+use crate::output_differences::distinguishing;
 use crate::shape::FanoutCone;
 use lane_sim::{Cone, MOST_LEAVES, cone_words, patterns_on};
 use std::alloc::{AllocError, Global};

@@ -11,7 +11,7 @@ use Rattle.observe_theory.specs.FanoutCone.{FanoutCone, IsFanoutCone}
 use Rattle.observe_theory.specs.Unobservable.{IsUnobservable}
 
 -- s is `whole` with the cells of all unobservable rows as don't-cares.
-pub record IsNarrowed (n : Net) (w : Window) (t : FanoutCone) (whole s : Specification) : Type 0 where
+pub record IsRelaxed (n : Net) (w : Window) (t : FanoutCone) (whole s : Specification) : Type 0 where
   pub inputs : s.inputs ≡ whole.inputs
   pub outputs : s.outputs ≡ whole.outputs
   pub seen : (h row : ℕ) → 1 ≤ h → h ≤ whole.outputs → row < 2 ^ whole.inputs → (IsUnobservable n w t row → ⊥) →
@@ -27,7 +27,7 @@ pub record IsObservedOf (n : Net) (w : Window) (s : Specification) : Type 0 wher
   pub is_fanout_cone : IsFanoutCone n w fanout_cone
   pub whole : Specification
   pub is_whole : IsSpecificationOf n w whole
-  pub narrowed : IsNarrowed n w fanout_cone whole s
+  pub relaxed : IsRelaxed n w fanout_cone whole s
 
 -- No chain over the basis of fewer than `count` steps implements the window with observability
 -- don't-cares.

@@ -52,13 +52,13 @@ output_seen n w c s o given row p i x net fits agrees is node at =
     let whole_row : row < 2 ^ o.whole.inputs = subst (λ (k : ℕ). row < 2 ^ k) (sym o.is_whole.inputs) is.low in
     let own_node : output_node w (i + 1) ≡ p = ap (λ (k : ℕ). slice_index_or w.outputs k 0) index ∙ get_or_from_slice_get w.outputs i p 0 node in
     let cell : s.cell (i + 1) row ≡ cell_of (value n given p) =
-    o.narrowed.seen (i + 1) row (omega arith) whole_high whole_row is.seen
+    o.relaxed.seen (i + 1) row (omega arith) whole_high whole_row is.seen
     ∙ o.is_whole.care (i + 1) row (value n given) (omega arith) high is.low is.care is.has
     ∙ ap cell_of (values_real n (among w.inputs) given (output_node w (i + 1)) net)
     ∙ ap (λ (q : ℕ). cell_of (value n given q)) own_node in
     let met : is_met (s.cell (i + 1) row) (output_value c (i + 1) row) ≡ true =
-    agrees.cells (i + 1) row (omega arith) (subst (λ (k : ℕ). i + 1 ≤ k) (sym o.narrowed.outputs) whole_high)
-    (subst (λ (k : ℕ). row < 2 ^ k) (sym o.narrowed.inputs) whole_row) in
+    agrees.cells (i + 1) row (omega arith) (subst (λ (k : ℕ). i + 1 ≤ k) (sym o.relaxed.outputs) whole_high)
+    (subst (λ (k : ℕ). row < 2 ^ k) (sym o.relaxed.inputs) whole_row) in
     let out : output_value c (i + 1) row ≡ out_value c row x =
     ap (λ (k : ℕ). out_value c row (slice_index_or c.outs k outs.Zero)) index
     ∙ ap (out_value c row) (get_or_from_slice_get c.outs i x outs.Zero at) in
@@ -133,8 +133,8 @@ pub observed_fits : (n : Net) (w : Window) (s : Specification) (c : Chain) → I
 observed_fits n w s c chain o agrees =
     record {
       chain = chain;
-      inputs = agrees.inputs ∙ o.narrowed.inputs ∙ o.is_whole.inputs;
-      outs = agrees.outputs ∙ o.narrowed.outputs ∙ o.is_whole.outputs;
+      inputs = agrees.inputs ∙ o.relaxed.inputs ∙ o.is_whole.inputs;
+      outs = agrees.outputs ∙ o.relaxed.outputs ∙ o.is_whole.outputs;
     }
 
 -- All sinks keep their values.

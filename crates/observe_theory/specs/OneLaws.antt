@@ -115,19 +115,19 @@ met_same n w s z a b h row bit low high below met =
     let high_b : h ≤ b.whole.outputs = subst (λ (k : ℕ). h ≤ k) (sym b.is_whole.outputs) high in
     let below_a : row < 2 ^ a.whole.inputs = subst (λ (k : ℕ). row < 2 ^ k) (sym a.is_whole.inputs) below in
     let below_b : row < 2 ^ b.whole.inputs = subst (λ (k : ℕ). row < 2 ^ k) (sym b.is_whole.inputs) below in
-    let seen : IsUnobservable n w b.fanout_cone row → ⊥ = λ u. both_ways (is_met (z.cell h row) bit) off (ap (λ (c : Cell). is_met c bit) (b.narrowed.unobservable h row low high_b below_b u)) in
-    let own_a : s.cell h row ≡ a.whole.cell h row = a.narrowed.seen h row low high_a below_a (λ u. seen (subst (λ (t : FanoutCone). IsUnobservable n w t row) fanout_cones u)) in
-    let own_b : z.cell h row ≡ b.whole.cell h row = b.narrowed.seen h row low high_b below_b seen in
+    let seen : IsUnobservable n w b.fanout_cone row → ⊥ = λ u. both_ways (is_met (z.cell h row) bit) off (ap (λ (c : Cell). is_met c bit) (b.relaxed.unobservable h row low high_b below_b u)) in
+    let own_a : s.cell h row ≡ a.whole.cell h row = a.relaxed.seen h row low high_a below_a (λ u. seen (subst (λ (t : FanoutCone). IsUnobservable n w t row) fanout_cones u)) in
+    let own_b : z.cell h row ≡ b.whole.cell h row = b.relaxed.seen h row low high_b below_b seen in
     ap (λ (c : Cell). is_met c bit) own_b ∙ met_whole n w a.whole b.whole h row bit a.is_whole b.is_whole low high below (ap (λ (c : Cell). is_met c bit) (sym own_a) ∙ met))
     (cases_Bool (is_met (z.cell h row) bit))
 
 -- The same chains implement all observed specifications of a window.
 pub observed_same : (n : Net) (w : Window) (s z : Specification) (basis : Basis) (r : ℕ) → IsObservedOf n w s → IsObservedOf n w z → HasChain s basis r → HasChain z basis r
 observed_same n w s z basis r a b has =
-    let inputs_a : s.inputs ≡ length w.inputs = a.narrowed.inputs ∙ a.is_whole.inputs in
-    let inputs_b : z.inputs ≡ length w.inputs = b.narrowed.inputs ∙ b.is_whole.inputs in
-    let outputs_a : s.outputs ≡ length w.outputs = a.narrowed.outputs ∙ a.is_whole.outputs in
-    let outputs_b : z.outputs ≡ length w.outputs = b.narrowed.outputs ∙ b.is_whole.outputs in
+    let inputs_a : s.inputs ≡ length w.inputs = a.relaxed.inputs ∙ a.is_whole.inputs in
+    let inputs_b : z.inputs ≡ length w.inputs = b.relaxed.inputs ∙ b.is_whole.inputs in
+    let outputs_a : s.outputs ≡ length w.outputs = a.relaxed.outputs ∙ a.is_whole.outputs in
+    let outputs_b : z.outputs ≡ length w.outputs = b.relaxed.outputs ∙ b.is_whole.outputs in
     record {
       chain = has.chain;
       is_chain = has.is_chain;

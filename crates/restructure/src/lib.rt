@@ -1,7 +1,7 @@
 //! Moves over a whole net: a smaller net that computes the same, by changes that no window of a few gates
 //! shows.
 //!
-//! The net becomes a graph of AND and XOR gates with complemented edges (`xag_core`, `xag_net`). Pairs of
+//! The net becomes a graph of AND and XOR gates with complemented edges (`xag_core`). Pairs of
 //! operands are shared (`share_core`) and gates resubstituted (`resub_core`), each as long as that leaves
 //! fewer gates. Then rounds of the same moves follow that may keep the size: they cross plateaus, as local
 //! searches do, since another graph of the same size may lead to a smaller one. All of this is done twice,

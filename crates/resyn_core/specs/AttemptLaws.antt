@@ -14,7 +14,7 @@ use Rattle.window_theory.specs.Paths.{IsGate}
 use Rattle.window_theory.specs.Partner.{IsPartner}
 use Rattle.window_theory.specs.Window.{Window, IsGreatestCandidate, AreTaken, IsPartnerOrNone, IsWindow}
 use Rattle.window_theory.specs.WindowLaws as windows
-use Rattle.improve_theory.specs.declared.candidate.Candidate.{Candidate}
+use Rattle.improve_theory.specs.declared.candidate.WindowCandidate.{WindowCandidate}
 use Rattle.resyn_core.specs.declared.attempts.Attempted.TheVariants.{NoGain}
 use Rattle.improve_theory.specs.Leading.{IsReplacement}
 use Rattle.improve_theory.specs.LeadingLaws.{replaces_itself, replaces_on}
@@ -37,18 +37,18 @@ gate_high n p high gate = omega (arith, high, (windows.gate_high n p gate).1)
 
 -- ---- candidates without a shorter chain
 
-done_same : (s : ImproveSettings) (n m : Net) (v : Candidate) → m ≡ n → IsDone s n v → IsDone s m v
+done_same : (s : ImproveSettings) (n m : Net) (v : WindowCandidate) → m ≡ n → IsDone s n v → IsDone s m v
 done_same s n m v same is = subst (λ (x : Net). IsDone s x v) (sym same) is
 
 -- a root that is no gate
-pub no_gate : (s : ImproveSettings) (n : Net) (v : Candidate) → (IsGate n v.root → ⊥) → IsDone s n v
+pub no_gate : (s : ImproveSettings) (n : Net) (v : WindowCandidate) → (IsGate n v.root → ⊥) → IsDone s n v
 no_gate s n v none = record { done = λ gate partner. absurd (none gate) }
 
-partner_of : (n : Net) (v : Candidate) (h : ℕ) → v.partner ≡ Some h → IsPartnerOrNone n v.root v.partner → IsPartner n v.root h
+partner_of : (n : Net) (v : WindowCandidate) (h : ℕ) → v.partner ≡ Some h → IsPartnerOrNone n v.root v.partner → IsPartner n v.root h
 partner_of n v h e is = subst (λ (o : Option ℕ). IsPartnerOrNone n v.root o) e is
 
 -- a partner that is no partner
-pub no_partner : (s : ImproveSettings) (n : Net) (v : Candidate) (h : ℕ) → v.partner ≡ Some h → (IsGate n v.root → IsPartner n v.root h → ⊥) → IsDone s n v
+pub no_partner : (s : ImproveSettings) (n : Net) (v : WindowCandidate) (h : ℕ) → v.partner ≡ Some h → (IsGate n v.root → IsPartner n v.root h → ⊥) → IsDone s n v
 no_partner s n v h e none = record { done = λ gate partner. absurd (none gate (partner_of n v h e partner)) }
 
 pub partner_low : (n : Net) (g h : ℕ) → IsPartner n g h → h < g
@@ -75,7 +75,7 @@ window_alone n root h w low gate is = taken_alone n root h is.takes.taken low ga
 abbrev IsWindowOf : Net → ℕ → Window → Option ℕ → ℕ → Type 0
 IsWindowOf n root w partner count = IsWindow n root partner count w
 
-pub one_alone : (s : ImproveSettings) (n : Net) (v : Candidate) (h : ℕ) → v.partner ≡ Some h → v.count ≡ 1 → IsDone s n v
+pub one_alone : (s : ImproveSettings) (n : Net) (v : WindowCandidate) (h : ℕ) → v.partner ≡ Some h → v.count ≡ 1 → IsDone s n v
 one_alone s n v h e one = record {
   done = λ gate partner. record {
     least = λ w is. absurd (window_alone n v.root h w (partner_low n v.root h (partner_of n v h e partner)) gate
@@ -87,7 +87,7 @@ one_alone s n v h e one = record {
 -- ---- parts of a round
 
 -- Without candidates nothing happens.
-pub resynthesized_none : (P : Candidate → Type 0) (a : LoopState) → ((v : Candidate) → P v → IsDone a.settings a.net v) → IsResynthesized P a a
+pub resynthesized_none : (P : WindowCandidate → Type 0) (a : LoopState) → ((v : WindowCandidate) → P v → IsDone a.settings a.net v) → IsResynthesized P a a
 resynthesized_none P a none =
     record {
       asked = refl;
@@ -99,17 +99,17 @@ resynthesized_none P a none =
       done = λ e v is. inr (none v is);
       adds = λ e. adds_none P a.round.named;
       sound = λ e are. are;
-      fell = λ off on. absurd (both_ways a.round.changed off on);
+      fewer_gates = λ off on. absurd (both_ways a.round.changed off on);
     }
 
 -- One part after another.
-pub resynthesized_on : (P Q R : Candidate → Type 0) (a b c : LoopState)
+pub resynthesized_on : (P Q R : WindowCandidate → Type 0) (a b c : LoopState)
     → IsResynthesized P a b
     → IsResynthesized Q b c
-    → (c.round.changed ≡ false → c.net ≡ b.net → (v : Candidate) → R v → (P v ⊎ Q v) ⊎ IsDone c.settings c.net v)
-    → ((v : Candidate) → P v → R v)
-    → ((v : Candidate) → Q v → R v)
-    → ((v w : Candidate) → P v → Q w → IsAttemptedBefore v w)
+    → (c.round.changed ≡ false → c.net ≡ b.net → (v : WindowCandidate) → R v → (P v ⊎ Q v) ⊎ IsDone c.settings c.net v)
+    → ((v : WindowCandidate) → P v → R v)
+    → ((v : WindowCandidate) → Q v → R v)
+    → ((v w : WindowCandidate) → P v → Q w → IsAttemptedBefore v w)
     → IsResynthesized R a c
 resynthesized_on P Q R a b c first second covers p_in q_in before =
     record {
@@ -131,15 +131,15 @@ resynthesized_on P Q R a b c first second covers p_in q_in before =
           (covers off (second.same off) v is);
       adds = λ off. adds_on P Q R a.round.named b.round.named c.round.named (first.adds (second.was off)) (second.adds off) p_in q_in before;
       sound = λ off are. second.sound off (first.sound (second.was off) are);
-      fell = λ off on. ⊎_elim
-          (λ (earlier : b.round.changed ≡ true). let less : length b.net.gates < length a.net.gates = first.fell off earlier in omega (arith, less, second.no_more))
-          (λ (still : b.round.changed ≡ false). let less : length c.net.gates < length b.net.gates = second.fell still on in omega (arith, less, first.no_more))
+      fewer_gates = λ off on. ⊎_elim
+          (λ (earlier : b.round.changed ≡ true). let less : length b.net.gates < length a.net.gates = first.fewer_gates off earlier in omega (arith, less, second.no_more))
+          (λ (still : b.round.changed ≡ false). let less : length c.net.gates < length b.net.gates = second.fewer_gates still on in omega (arith, less, first.no_more))
           (cases_Bool b.round.changed);
     }
 
 -- Fewer candidates, or more that have no shorter chain anyway.
-pub resynthesized_as : (P R : Candidate → Type 0) (a b : LoopState) → IsResynthesized P a b →
-    ((v : Candidate) → R v → P v ⊎ IsDone b.settings b.net v) → ((v : Candidate) → P v → R v) → IsResynthesized R a b
+pub resynthesized_as : (P R : WindowCandidate → Type 0) (a b : LoopState) → IsResynthesized P a b →
+    ((v : WindowCandidate) → R v → P v ⊎ IsDone b.settings b.net v) → ((v : WindowCandidate) → P v → R v) → IsResynthesized R a b
 resynthesized_as P R a b resynthesized covers p_in =
     record {
       asked = resynthesized.asked;
@@ -151,18 +151,18 @@ resynthesized_as P R a b resynthesized covers p_in =
       done = λ off v is. ⊎_elim (λ p. resynthesized.done off v p) (λ done. inr done) (covers v is);
       adds = λ off. adds_as P R a.round.named b.round.named (resynthesized.adds off) p_in;
       sound = resynthesized.sound;
-      fell = resynthesized.fell;
+      fewer_gates = resynthesized.fewer_gates;
     }
 
 -- ---- one candidate
 
-this_done : (s : ImproveSettings) (n : Net) (v x : Candidate) → IsDone s n v → IsThis v x → IsDone s n x
-this_done s n v x is e = subst (λ (y : Candidate). IsDone s n y) (sym e) is
+this_done : (s : ImproveSettings) (n : Net) (v x : WindowCandidate) → IsDone s n v → IsThis v x → IsDone s n x
+this_done s n v x is e = subst (λ (y : WindowCandidate). IsDone s n y) (sym e) is
 
-pub resynthesized_gone : (s : ImproveSettings) (n : Net) (r : Round) (v : Candidate) → (IsGate n v.root → ⊥) → IsResynthesized (IsThis v) (loop_state s n r) (loop_state s n r)
+pub resynthesized_gone : (s : ImproveSettings) (n : Net) (r : Round) (v : WindowCandidate) → (IsGate n v.root → ⊥) → IsResynthesized (IsThis v) (loop_state s n r) (loop_state s n r)
 resynthesized_gone s n r v none = resynthesized_none (IsThis v) (loop_state s n r) (λ x is. this_done s n v x (no_gate s n v none) is)
 
-pub resynthesized_no_gain : (s t : ImproveSettings) (n m : Net) (r : Round) (v : Candidate) → t ≡ s → IsAttempted s n m v NoGain → IsResynthesized (IsThis v) (loop_state s n r) (loop_state t m r)
+pub resynthesized_no_gain : (s t : ImproveSettings) (n m : Net) (r : Round) (v : WindowCandidate) → t ≡ s → IsAttempted s n m v NoGain → IsResynthesized (IsThis v) (loop_state s n r) (loop_state t m r)
 resynthesized_no_gain s t n m r v asked attempted =
     subst (λ (u : ImproveSettings). IsResynthesized (IsThis v) (loop_state s n r) (loop_state u m r)) (sym asked)
     (subst (λ (x : Net). IsResynthesized (IsThis v) (loop_state s n r) (loop_state s x r)) (sym attempted.0)
@@ -171,11 +171,11 @@ resynthesized_no_gain s t n m r v asked attempted =
 abbrev left_open : Round → Undecided → Round
 left_open r u = record { changed = r.changed; named = r.named ++ u ∷ [] }
 
-named_more : (named : List Undecided) (u : Undecided) (v : Candidate) → Contains (candidates named) v → Contains (candidates (named ++ u ∷ [])) v
-named_more named u v has = subst (λ (vs : List Candidate). Contains vs v) (sym (map-append candidate_of named (u ∷ []))) (Contains-append_left (candidates named) (u.candidate ∷ []) v has)
+named_more : (named : List Undecided) (u : Undecided) (v : WindowCandidate) → Contains (candidates named) v → Contains (candidates (named ++ u ∷ [])) v
+named_more named u v has = subst (λ (vs : List WindowCandidate). Contains vs v) (sym (map-append candidate_of named (u ∷ []))) (Contains-append_left (candidates named) (u.candidate ∷ []) v has)
 
 named_last : (named : List Undecided) (u : Undecided) → Contains (candidates (named ++ u ∷ [])) u.candidate
-named_last named u = subst (λ (vs : List Candidate). Contains vs u.candidate) (sym (map-append candidate_of named (u ∷ []))) (Contains-push (candidates named) u.candidate)
+named_last named u = subst (λ (vs : List WindowCandidate). Contains vs u.candidate) (sym (map-append candidate_of named (u ∷ []))) (Contains-push (candidates named) u.candidate)
 
 resynthesized_named : (s : ImproveSettings) (n : Net) (r : Round) (u : Undecided) → IsUndecided n s u → IsResynthesized (IsThis u.candidate) (loop_state s n r) (loop_state s n (left_open r u))
 resynthesized_named s n r u is =
@@ -186,10 +186,10 @@ resynthesized_named s n r u is =
       was = λ e. e;
       same = λ e. refl;
       kept = λ e v has. named_more r.named u v has;
-      done = λ e v same. inl (subst (λ (x : Candidate). Contains (candidates (r.named ++ u ∷ [])) x) (sym same) (named_last r.named u));
+      done = λ e v same. inl (subst (λ (x : WindowCandidate). Contains (candidates (r.named ++ u ∷ [])) x) (sym same) (named_last r.named u));
       adds = λ e. adds_one (IsThis u.candidate) r.named u refl;
       sound = λ e are. All-push (IsUndecided n s) r.named u are is;
-      fell = λ off on. absurd (both_ways r.changed off on);
+      fewer_gates = λ off on. absurd (both_ways r.changed off on);
     }
 
 pub resynthesized_open : (s t : ImproveSettings) (n m : Net) (r : Round) (changed : Bool)
@@ -208,7 +208,7 @@ never : (b : Bool) → b ≡ true → b ≡ false → ⊥
 never b on off = both_ways b off on
 
 -- If the round had changed the net before, nothing is named.
-pub resynthesized_late : (P : Candidate → Type 0) (s t : ImproveSettings) (n m : Net) (r : Round) → t ≡ s → m ≡ n → r.changed ≡ true → IsResynthesized P (loop_state s n r) (loop_state t m r)
+pub resynthesized_late : (P : WindowCandidate → Type 0) (s t : ImproveSettings) (n m : Net) (r : Round) → t ≡ s → m ≡ n → r.changed ≡ true → IsResynthesized P (loop_state s n r) (loop_state t m r)
 resynthesized_late P s t n m r asked same on =
     record {
       asked = asked;
@@ -220,10 +220,10 @@ resynthesized_late P s t n m r asked same on =
       done = λ off. absurd (never r.changed on off);
       adds = λ off. absurd (never r.changed on off);
       sound = λ off. absurd (never r.changed on off);
-      fell = λ off. absurd (never r.changed on off);
+      fewer_gates = λ off. absurd (never r.changed on off);
     }
 
-pub resynthesized_accepted : (P : Candidate → Type 0) (s t : ImproveSettings) (n m : Net) (r q : Round) → t ≡ s →
+pub resynthesized_accepted : (P : WindowCandidate → Type 0) (s t : ImproveSettings) (n m : Net) (r q : Round) → t ≡ s →
     IsReplacement (members s.basis) n m → length m.gates < length n.gates → q.changed ≡ true →
     IsResynthesized P (loop_state s n r) (loop_state t m q)
 resynthesized_accepted P s t n m r q asked replaces less on =
@@ -237,5 +237,5 @@ resynthesized_accepted P s t n m r q asked replaces less on =
       done = λ off. absurd (never q.changed on off);
       adds = λ off. absurd (never q.changed on off);
       sound = λ off. absurd (never q.changed on off);
-      fell = λ was now. less;
+      fewer_gates = λ was now. less;
     }

@@ -3,25 +3,25 @@ use Rattle.std.specs.Prelude.{◌≡◌, zero, suc, List, [], ◌∷◌, ◌++�
 use Rattle.std.proofs.Common.{arith, sym, ◌∙◌, ap, subst, ⊎_elim, append_assoc, append-nil}
 use Rattle.std.proofs.lemmas.List.{map-append}
 use Rattle.std.proofs.lemmas.List.Elements.{Contains-get_or, Contains-append_cases}
-use Rattle.improve_theory.specs.declared.candidate.Candidate.{Candidate}
+use Rattle.improve_theory.specs.declared.candidate.WindowCandidate.{WindowCandidate}
 use Rattle.improve_theory.specs.Undecided.{Undecided, candidate_of, candidates}
 use Rattle.improve_theory.specs.Candidates.{IsAttemptedBefore, AreInOrder}
 use Rattle.resyn_core.specs.Resynthesized.{AddsUndecided}
 
-contains_head : (v : Candidate) (vs : List Candidate) → Contains (v ∷ vs) v
+contains_head : (v : WindowCandidate) (vs : List WindowCandidate) → Contains (v ∷ vs) v
 contains_head v vs = Contains-get_or (v ∷ vs) 0 v (omega arith)
 
-contains_tail : (v w : Candidate) (vs : List Candidate) → Contains vs w → Contains (v ∷ vs) w
+contains_tail : (v w : WindowCandidate) (vs : List WindowCandidate) → Contains vs w → Contains (v ∷ vs) w
 contains_tail v w vs (k, low, is) = (suc k, omega (arith, low), is)
 
-contains_one : (v w : Candidate) → Contains (v ∷ []) w → w ≡ v
+contains_one : (v w : WindowCandidate) → Contains (v ∷ []) w → w ≡ v
 contains_one v w (zero, low, is) = sym is
 contains_one v w (suc k, low, is) = absurd (omega (arith, low))
 
-contains_none : {A : Type 0} (w : Candidate) → Contains [] w → A
+contains_none : {A : Type 0} (w : WindowCandidate) → Contains [] w → A
 contains_none w there = absurd (omega (arith, there.1))
 
-rising_append : (vs ws : List Candidate) → AreInOrder vs → AreInOrder ws → ((v w : Candidate) → Contains vs v → Contains ws w → IsAttemptedBefore v w) → AreInOrder (vs ++ ws)
+rising_append : (vs ws : List WindowCandidate) → AreInOrder vs → AreInOrder ws → ((v w : WindowCandidate) → Contains vs v → Contains ws w → IsAttemptedBefore v w) → AreInOrder (vs ++ ws)
 unfolding AreInOrder
 rising_append [] ws first second apart = second
 rising_append (v ∷ vs) ws first second apart = (
@@ -33,12 +33,12 @@ rising_none : AreInOrder []
 unfolding AreInOrder
 rising_none = tt
 
-rising_one : (v : Candidate) → AreInOrder (v ∷ [])
+rising_one : (v : WindowCandidate) → AreInOrder (v ∷ [])
 unfolding AreInOrder
 rising_one v = (λ w there. contains_none w there, tt)
 
 -- nothing more
-pub adds_none : (P : Candidate → Type 0) (named : List Undecided) → AddsUndecided P named named
+pub adds_none : (P : WindowCandidate → Type 0) (named : List Undecided) → AddsUndecided P named named
 adds_none P named = record {
   more = [];
   is = sym (append-nil named);
@@ -47,7 +47,7 @@ adds_none P named = record {
 }
 
 -- one more
-pub adds_one : (P : Candidate → Type 0) (named : List Undecided) (u : Undecided) → P u.candidate → AddsUndecided P named (named ++ u ∷ [])
+pub adds_one : (P : WindowCandidate → Type 0) (named : List Undecided) (u : Undecided) → P u.candidate → AddsUndecided P named (named ++ u ∷ [])
 adds_one P named u is = record {
   more = u ∷ [];
   is = refl;
@@ -56,9 +56,9 @@ adds_one P named u is = record {
 }
 
 -- one part after another
-pub adds_on : (P Q R : Candidate → Type 0) (xs ys zs : List Undecided) → AddsUndecided P xs ys →
-    AddsUndecided Q ys zs → ((v : Candidate) → P v → R v) → ((v : Candidate) → Q v → R v) →
-    ((v w : Candidate) → P v → Q w → IsAttemptedBefore v w) → AddsUndecided R xs zs
+pub adds_on : (P Q R : WindowCandidate → Type 0) (xs ys zs : List Undecided) → AddsUndecided P xs ys →
+    AddsUndecided Q ys zs → ((v : WindowCandidate) → P v → R v) → ((v : WindowCandidate) → Q v → R v) →
+    ((v w : WindowCandidate) → P v → Q w → IsAttemptedBefore v w) → AddsUndecided R xs zs
 adds_on P Q R xs ys zs first second p q before =
     let both : candidates (first.more ++ second.more) ≡ candidates first.more ++ candidates second.more = map-append candidate_of first.more second.more in
     record {
@@ -70,15 +70,15 @@ adds_on P Q R xs ys zs first second p q before =
       each = λ v there. ⊎_elim
           (λ own. p v (first.each v own))
           (λ later. q v (second.each v later))
-          (Contains-append_cases (candidates first.more) (candidates second.more) v (subst (λ (vs : List Candidate). Contains vs v) both there));
+          (Contains-append_cases (candidates first.more) (candidates second.more) v (subst (λ (vs : List WindowCandidate). Contains vs v) both there));
     }
 
 -- of a larger set of candidates
-pub adds_as : (P R : Candidate → Type 0) (xs ys : List Undecided) → AddsUndecided P xs ys → ((v : Candidate) → P v → R v) → AddsUndecided R xs ys
+pub adds_as : (P R : WindowCandidate → Type 0) (xs ys : List Undecided) → AddsUndecided P xs ys → ((v : WindowCandidate) → P v → R v) → AddsUndecided R xs ys
 adds_as P R xs ys adds p = record { more = adds.more; is = adds.is; rising = adds.rising; each = λ v there. p v (adds.each v there) }
 
 -- from nothing on
-pub adds_all : (P : Candidate → Type 0) (xs ys : List Undecided) → xs ≡ [] → AddsUndecided P xs ys → AreInOrder (candidates ys)
+pub adds_all : (P : WindowCandidate → Type 0) (xs ys : List Undecided) → xs ≡ [] → AddsUndecided P xs ys → AreInOrder (candidates ys)
 adds_all P xs ys none adds = subst (λ (us : List Undecided). AreInOrder (candidates us)) (sym (adds.is ∙ ap (λ (us : List Undecided). us ++ adds.more) none)) adds.rising
 
 pub none_rise : (named : List Undecided) → named ≡ [] → AreInOrder (candidates named)

@@ -4,7 +4,7 @@ use Rattle.chain_theory.specs.Operator.{Basis}
 use Rattle.net_theory.specs.Net.{Net}
 use Rattle.op_basis.specs.Basis.{members}
 use Rattle.settings.specs.declared.improve.ImproveSettings.{ImproveSettings}
-use Rattle.improve_theory.specs.declared.candidate.Candidate.{Candidate}
+use Rattle.improve_theory.specs.declared.candidate.WindowCandidate.{WindowCandidate}
 use Rattle.improve_theory.specs.Undecided.{Undecided, candidates, IsUndecided}
 use Rattle.improve_theory.specs.Leading.{IsReplacement}
 use Rattle.resyn_core.specs.Outcomes.{IsDone}
@@ -27,30 +27,30 @@ loop_state s n round = record { settings = s; net = n; round = round }
 abbrev pub basis_of : LoopState → Basis
 basis_of a = members a.settings.basis
 
-abbrev pub names_of : LoopState → List Candidate
+abbrev pub names_of : LoopState → List WindowCandidate
 names_of a = candidates a.round.named
 
 -- The candidates named since `before` have the property P, and are in order.
-pub record AddsUndecided (P : Candidate → Type 0) (before after : List Undecided) : Type 0 where
+pub record AddsUndecided (P : WindowCandidate → Type 0) (before after : List Undecided) : Type 0 where
   pub more : List Undecided
   pub is : after ≡ before ++ more
   pub rising : AreInOrder (candidates more)
-  pub each : (v : Candidate) → Contains (candidates more) v → P v
+  pub each : (v : WindowCandidate) → Contains (candidates more) v → P v
 
 -- From a to b the candidates with the property P were attempted. The net of b may replace the net of a. If
 -- nothing has changed, the net is the same, each of those candidates has no shorter chain or is named, and
 -- each that is named is undecided. If something has changed, the net is smaller.
-pub record IsResynthesized (P : Candidate → Type 0) (a b : LoopState) : Type 0 where
+pub record IsResynthesized (P : WindowCandidate → Type 0) (a b : LoopState) : Type 0 where
   pub asked : b.settings ≡ a.settings
   pub replaces : IsReplacement (basis_of a) a.net b.net
   pub no_more : length b.net.gates ≤ length a.net.gates
   pub was : b.round.changed ≡ false → a.round.changed ≡ false
   pub same : b.round.changed ≡ false → b.net ≡ a.net
-  pub kept : b.round.changed ≡ false → (v : Candidate) → Contains (names_of a) v → Contains (names_of b) v
-  pub done : b.round.changed ≡ false → (v : Candidate) → P v → Contains (names_of b) v ⊎ IsDone b.settings b.net v
+  pub kept : b.round.changed ≡ false → (v : WindowCandidate) → Contains (names_of a) v → Contains (names_of b) v
+  pub done : b.round.changed ≡ false → (v : WindowCandidate) → P v → Contains (names_of b) v ⊎ IsDone b.settings b.net v
   pub adds : b.round.changed ≡ false → AddsUndecided P a.round.named b.round.named
   pub sound : b.round.changed ≡ false → All (IsUndecided a.net a.settings) a.round.named → All (IsUndecided b.net b.settings) b.round.named
-  pub fell : a.round.changed ≡ false → b.round.changed ≡ true → length b.net.gates < length a.net.gates
+  pub fewer_gates : a.round.changed ≡ false → b.round.changed ≡ true → length b.net.gates < length a.net.gates
 
 -- The net after `rounds` rounds that each changed it.
 pub record HasRounds (rounds : ℕ) (s t : ImproveSettings) (n m : Net) : Type 0 where

@@ -10,7 +10,7 @@ use Rattle.settings.specs.declared.improve.ImproveSettings.{ImproveSettings}
 use Rattle.window_theory.specs.Paths.{IsGate}
 use Rattle.window_theory.specs.Partner.{IsPartner}
 use Rattle.window_theory.specs.WindowLaws as windows
-use Rattle.improve_theory.specs.declared.candidate.Candidate.{Candidate}
+use Rattle.improve_theory.specs.declared.candidate.WindowCandidate.{WindowCandidate}
 use Rattle.improve_theory.specs.Leading.{IsReplacement}
 use Rattle.improve_theory.specs.LeadingLaws.{replaces_itself, replaces_on}
 use Rattle.improve_theory.specs.Settled.{HasNoShorterChain, IsListedCandidate, IsSettled}
@@ -27,16 +27,16 @@ use Rattle.resyn_core.specs.AttemptLaws.{resynthesized_no_gain, resynthesized_op
 pub counts_start : (a : LoopState) (root : ℕ) (partner : Option ℕ) (first : ℕ) → IsResynthesized (IsOfCounts root partner first first) a a
 counts_start a root partner first = resynthesized_none (IsOfCounts root partner first first) a (λ v is. absurd (omega (arith, is.from, is.to)))
 
-abbrev made : ℕ → Option ℕ → ℕ → Candidate
+abbrev made : ℕ → Option ℕ → ℕ → WindowCandidate
 made root partner count = record { root = root; partner = partner; count = count }
 
-candidate_made : (v : Candidate) (root : ℕ) (partner : Option ℕ) (count : ℕ) → v.root ≡ root → v.partner ≡ partner → v.count ≡ count → v ≡ made root partner count
+candidate_made : (v : WindowCandidate) (root : ℕ) (partner : Option ℕ) (count : ℕ) → v.root ≡ root → v.partner ≡ partner → v.count ≡ count → v ≡ made root partner count
 candidate_made v root partner count a b c = ap (λ (x : ℕ). made x v.partner v.count) a ∙ ap (λ (x : Option ℕ). made root x v.count) b ∙ ap (λ (x : ℕ). made root partner x) c
 
-made_counts : (root : ℕ) (partner : Option ℕ) (first count : ℕ) (v : Candidate) → first ≤ count → v ≡ made root partner count → IsOfCounts root partner first (count + 1) v
+made_counts : (root : ℕ) (partner : Option ℕ) (first count : ℕ) (v : WindowCandidate) → first ≤ count → v ≡ made root partner count → IsOfCounts root partner first (count + 1) v
 made_counts root partner first count v from this =
-    let count_is : v.count ≡ count = ap (λ (x : Candidate). x.count) this in
-    record { root_is = ap (λ (x : Candidate). x.root) this; partner_is = ap (λ (x : Candidate). x.partner) this; from = omega (arith, from, count_is); to = omega (arith, count_is) }
+    let count_is : v.count ≡ count = ap (λ (x : WindowCandidate). x.count) this in
+    record { root_is = ap (λ (x : WindowCandidate). x.root) this; partner_is = ap (λ (x : WindowCandidate). x.partner) this; from = omega (arith, from, count_is); to = omega (arith, count_is) }
 
 pub counts_more : (a b c : LoopState) (root : ℕ) (partner : Option ℕ) (first count : ℕ) → first ≤ count →
     IsResynthesized (IsOfCounts root partner first count) a b →
@@ -51,12 +51,12 @@ counts_more a b c root partner first count from before one =
     (λ v is. record { root_is = is.root_is; partner_is = is.partner_is; from = is.from; to = omega (arith, is.to) })
     (λ v is. made_counts root partner first count v from is)
     (λ v w is this. inr (
-      is.root_is ∙ sym (ap (λ (x : Candidate). x.root) this),
+      is.root_is ∙ sym (ap (λ (x : WindowCandidate). x.root) this),
       inr (
         is.partner_is
-            ∙ sym (ap (λ (x : Candidate). x.partner) this),
+            ∙ sym (ap (λ (x : WindowCandidate). x.partner) this),
         let count_is : w.count ≡ count =
-            ap (λ (x : Candidate). x.count) this in omega (arith, is.to, count_is),
+            ap (λ (x : WindowCandidate). x.count) this in omega (arith, is.to, count_is),
       ),
     ))
 
@@ -67,13 +67,13 @@ partners_start a root cap = resynthesized_none (IsOfPartners root cap root) a
     (λ v is. no_partner a.settings a.net v is.partner is.partner_is
     (λ gate partner. omega (arith, partner_low a.net v.root is.partner partner, is.high, is.root_is)))
 
-low_partner : (n : Net) (root below : ℕ) (v : Candidate) (h : ℕ) → IsGreatestPartner n root below h → v.root ≡ root → (p : ℕ) → IsPartner n v.root p → p < below → p ≤ h
+low_partner : (n : Net) (root below : ℕ) (v : WindowCandidate) (h : ℕ) → IsGreatestPartner n root below h → v.root ≡ root → (p : ℕ) → IsPartner n v.root p → p < below → p ≤ h
 low_partner n root below v h greatest root_is p is low = greatest.greatest p (subst (λ (g : ℕ). IsPartner n g p) root_is is) low
 
-turns_fall : (v w : Candidate) (h k : ℕ) → v.partner ≡ Some h → w.partner ≡ Some k → k < h → TurnsBefore v.partner w.partner
+turns_fall : (v w : WindowCandidate) (h k : ℕ) → v.partner ≡ Some h → w.partner ≡ Some k → k < h → TurnsBefore v.partner w.partner
 turns_fall v w h k own other low = subst (λ (o : Option ℕ). TurnsBefore o w.partner) (sym own) (subst (λ (o : Option ℕ). TurnsBefore (Some h) o) (sym other) low)
 
-turns_first : (v w : Candidate) (k : ℕ) → v.partner ≡ None → w.partner ≡ Some k → TurnsBefore v.partner w.partner
+turns_first : (v w : WindowCandidate) (k : ℕ) → v.partner ≡ None → w.partner ≡ Some k → TurnsBefore v.partner w.partner
 turns_first v w k own other = subst (λ (o : Option ℕ). TurnsBefore o w.partner) (sym own) (subst (λ (o : Option ℕ). TurnsBefore None o) (sym other) tt)
 
 partners_on : (a b c : LoopState) (root cap below partner : ℕ) → IsGreatestPartner b.net root below partner →
@@ -165,11 +165,11 @@ roots_end a b cap root end same resynthesized = subst (λ (k : ℕ). IsResynthes
 pub rounds_start : (s : ImproveSettings) (n : Net) → HasRounds 0 s s n n
 rounds_start s n = record { asked = refl; replaces = replaces_itself (members s.basis) n; fewer = omega arith }
 
-pub rounds_more : (P : Candidate → Type 0) (rounds : ℕ) (s t u : ImproveSettings) (n m k : Net) (r q : Round) →
+pub rounds_more : (P : WindowCandidate → Type 0) (rounds : ℕ) (s t u : ImproveSettings) (n m k : Net) (r q : Round) →
     HasRounds rounds s t n m → r.changed ≡ false → IsResynthesized P (loop_state t m r) (loop_state u k q) →
     q.changed ≡ true → HasRounds (rounds + 1) s u n k
 rounds_more P rounds s t u n m k r q has off resynthesized on =
-    let less : length k.gates < length m.gates = resynthesized.fell off on in
+    let less : length k.gates < length m.gates = resynthesized.fewer_gates off on in
     record {
       asked = resynthesized.asked ∙ has.asked;
       replaces = replaces_on (members s.basis) n m k has.replaces (subst (λ (x : ImproveSettings). IsReplacement (members x.basis) m k) has.asked resynthesized.replaces);
@@ -177,7 +177,7 @@ rounds_more P rounds s t u n m k r q has off resynthesized on =
     }
 
 -- the effect of a round that changed nothing
-pub rounds_lead : (P : Candidate → Type 0) (rounds : ℕ) (s t u : ImproveSettings) (n m k : Net) (r q : Round) →
+pub rounds_lead : (P : WindowCandidate → Type 0) (rounds : ℕ) (s t u : ImproveSettings) (n m k : Net) (r q : Round) →
     HasRounds rounds s t n m → IsResynthesized P (loop_state t m r) (loop_state u k q) →
     IsReplacement (members s.basis) n k
 rounds_lead P rounds s t u n m k r q has resynthesized =
@@ -186,7 +186,7 @@ rounds_lead P rounds s t u n m k r q has resynthesized =
 
 settled_at : (t u : ImproveSettings) (m k : Net) (r q : Round) →
     IsResynthesized (IsOfRoots t.cap (end_of m)) (loop_state t m r) (loop_state u k q) → q.changed ≡ false →
-    (v : Candidate) → IsListedCandidate k t.cap v → Contains (candidates q.named) v ⊎ HasNoShorterChain t k v
+    (v : WindowCandidate) → IsListedCandidate k t.cap v → Contains (candidates q.named) v ⊎ HasNoShorterChain t k v
 settled_at t u m k r q resynthesized off v is =
     let root_low : v.root < end_of m = subst (λ (x : Net). v.root < end_of x) (resynthesized.same off) (windows.gate_high k v.root is.root).1 in
     ⊎_elim
@@ -217,13 +217,13 @@ rounds_rise t u m k r q none resynthesized off = adds_all (IsOfRoots t.cap (end_
 
 -- ---- rounds, by the fields of a round
 
-parts_as : (P : Candidate → Type 0) (a : LoopState) (u : ImproveSettings) (k : Net) (q : Round) (changed : Bool)
+parts_as : (P : WindowCandidate → Type 0) (a : LoopState) (u : ImproveSettings) (k : Net) (q : Round) (changed : Bool)
     (named : List Undecided) → record { changed = changed; named = named } ≡ q →
     IsResynthesized P a (loop_state u k q) → IsResynthesized P a
     (loop_state u k (record { changed = changed; named = named }))
 parts_as P a u k q changed named e resynthesized = subst (λ (x : Round). IsResynthesized P a (loop_state u k x)) (sym e) resynthesized
 
-pub resynthesis_more : (P : Candidate → Type 0) (rounds : ℕ) (s t u : ImproveSettings) (n m k : Net) (r q : Round)
+pub resynthesis_more : (P : WindowCandidate → Type 0) (rounds : ℕ) (s t u : ImproveSettings) (n m k : Net) (r q : Round)
     (changed : Bool) (named : List Undecided) → HasRounds rounds s t n m → r.changed ≡ false →
     IsResynthesized P (loop_state t m r) (loop_state u k q) → record { changed = changed; named = named } ≡ q →
     changed ≡ true → HasRounds (rounds + 1) s u n k

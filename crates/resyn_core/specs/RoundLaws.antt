@@ -5,7 +5,7 @@ use Rattle.std.proofs.lemmas.Bool.{cases_Bool, both_ways}
 use Rattle.std.proofs.lemmas.Grind.{common_steps}
 use Rattle.net_theory.specs.Net.{Net, end_of}
 use Rattle.settings.specs.declared.improve.ImproveSettings.{ImproveSettings}
-use Rattle.improve_theory.specs.declared.candidate.Candidate.{Candidate}
+use Rattle.improve_theory.specs.declared.candidate.WindowCandidate.{WindowCandidate}
 use Rattle.improve_theory.specs.Candidates.{IsNoCandidate, IsOfRoots}
 use Rattle.resyn_core.specs.Outcomes.{IsShrunk}
 use Rattle.resyn_core.specs.Resynthesized.{Round, LoopState, loop_state, IsResynthesized}
@@ -23,7 +23,7 @@ pub resynthesized_shrunk : (s t : ImproveSettings) (n m : Net) (r q : Round) →
 resynthesized_shrunk s t n m r q asked shrunk on = resynthesized_accepted IsNoCandidate s t n m r q asked shrunk.0 shrunk.1 on
 
 -- A round that has changed the net claims nothing about candidates.
-changed_as : (P R : Candidate → Type 0) (a b : LoopState) → b.round.changed ≡ true → IsResynthesized P a b → IsResynthesized R a b
+changed_as : (P R : WindowCandidate → Type 0) (a b : LoopState) → b.round.changed ≡ true → IsResynthesized P a b → IsResynthesized R a b
 changed_as P R a b on resynthesized =
     record {
       asked = resynthesized.asked;
@@ -35,10 +35,10 @@ changed_as P R a b on resynthesized =
       done = λ off. absurd (both_ways b.round.changed off on);
       adds = λ off. absurd (both_ways b.round.changed off on);
       sound = resynthesized.sound;
-      fell = resynthesized.fell;
+      fewer_gates = resynthesized.fewer_gates;
     }
 
-after_none : (P : Candidate → Type 0) (a b c : LoopState) → IsResynthesized IsNoCandidate a b → IsResynthesized P b c → IsResynthesized P a c
+after_none : (P : WindowCandidate → Type 0) (a b c : LoopState) → IsResynthesized IsNoCandidate a b → IsResynthesized P b c → IsResynthesized P a c
 after_none P a b c first second =
     resynthesized_on IsNoCandidate P P a b c first second (λ off same v is. inl (inr is)) (λ v none. absurd none) (λ v is. is) (λ v w none. absurd none)
 

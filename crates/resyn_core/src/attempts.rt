@@ -1,6 +1,6 @@
 //! What resynthesis needs from the code that attempts a window.
 use cert_theory::Certificate;
-use improve_theory::Candidate;
+use improve_theory::WindowCandidate;
 use net_core::Net;
 use settings::ImproveSettings;
 use std::alloc::{AllocError, Global};
@@ -51,7 +51,7 @@ pub trait Attempts {
 
     /// Attempts the window of a root, a partner or none, and a count from 1 to the cap. There may be no such
     /// window, and `partner` may be no partner of the root.
-    fn attempt(&mut self, alloc: Global, candidate: Candidate) -> Result<Attempted, AllocError>
+    fn attempt(&mut self, alloc: Global, candidate: WindowCandidate) -> Result<Attempted, AllocError>
         requires gate { IsGate (net_of self.old) candidate.root }
         requires from { 1 ≤ candidate.count }
         requires to { candidate.count ≤ (settings_of self.old).cap }

@@ -8,7 +8,7 @@ ghost use Rattle.resyn_core.specs.Resynthesized.{loop_state, IsResynthesized};
 
 use crate::attempts::{Attempted, Attempts};
 use crate::nodes::{end_node, first_node, has_gate};
-use improve_theory::{Candidate, Undecided};
+use improve_theory::{WindowCandidate, Undecided};
 use std::alloc::{AllocError, Global};
 use std::marker::Model;
 
@@ -35,7 +35,7 @@ fn attempt_candidate<T: Attempts>(
     alloc: Global,
     attempts: &mut T,
     round: &mut Round,
-    candidate: Candidate,
+    candidate: WindowCandidate,
 ) -> Result<(), AllocError>
     requires from { 1 ≤ candidate.count }
     requires to { candidate.count ≤ (T.settings_of attempts.old).cap }
@@ -84,7 +84,7 @@ fn attempt_counts<T: Attempts>(
             alloc,
             attempts,
             round,
-            Candidate {
+            WindowCandidate {
                 root,
                 partner,
                 count,

@@ -1,5 +1,5 @@
-//! What heuristics need and nothing is promised of: reproducible random words, and arrays that can be read and written
-//! at any index. Reading past the end gives a default and writing past the end does nothing, so that a search needs no
+//! Support for heuristics, about which nothing is proved: reproducible random words, and arrays that can be read and
+//! written at any index. Reading past the end gives a default and writing past the end does nothing, so that a search needs no
 //! bounds of its own and every call returns.
 //!
 //! ```text

@@ -11,7 +11,7 @@
 //! match S::solve(alloc, &cnf, 100000)? {
 //!     Solved::Sat(assign) => ..,   // satisfied(&cnf, &assign)
 //!     Solved::Unsat(log) => ..,    // it adds the empty clause, unless the formula has it
-//!     Solved::Open(log) => ..,     // at least 100000 additions, each of a new clause
+//!     Solved::Open(log) => ..,     // at least 100000 additions, each unsubsumed when added
 //! }
 //!
 //! let mut solver = S::new(alloc, &cnf, 100000)?;

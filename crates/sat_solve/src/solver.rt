@@ -46,7 +46,7 @@ pub struct Cones<'a> {
 pub trait Solver: Drop {
     ghost use Rattle.std.specs.Prelude.{◌≡◌, ℕ, ◌*◌, ◌^◌, ◌<◌, ◌≤◌, length, max, IfOk};
     ghost use Rattle.sat_theory.specs.Formula.{Formula, IsWithin, bits_of, Satisfies};
-    ghost use Rattle.sat_theory.specs.Log.{Refutes, ReachesBudget, KeepsHalf, DeletesQuarter};
+    ghost use Rattle.sat_theory.specs.Log.{Refutes, ReachesBudget, KeepsHalf, BoundsLiveAdditions};
     ghost use Rattle.sat_theory.specs.Limits.{most_conflicts};
     ghost use Rattle.sat_solve.specs.Answering.{IfSat, IfUnsat, IfOpen, IfLogged, IsDecided};
 
@@ -101,10 +101,10 @@ pub trait Solver: Drop {
         // At the end of an open log at least half of its additions are live.
         ensures kept { (f : Formula) (least : ℕ) → IsSolverOf f least self →
             IfOk result (λ s. IfOpen s (KeepsHalf f)) }
-        // A log that refutes, or leaves open, deletes about a quarter of its additions or more, and no clause of
-        // the formula.
-        ensures thinned { (f : Formula) (least : ℕ) → IsSolverOf f least self →
-            IfOk result (λ s. IfLogged s (DeletesQuarter f)) }
+        // At the end at most 3/4 of the additions, and vars + 2000 more, are live, and no clause of the formula is
+        // deleted.
+        ensures live_bounded { (f : Formula) (least : ℕ) → IsSolverOf f least self →
+            IfOk result (λ s. IfLogged s (BoundsLiveAdditions f)) }
         // A budget of twice 3 to the number of variables decides every formula.
         ensures decides { (f : Formula) (least : ℕ) → IsSolverOf f least self → 2 * 3 ^ f.vars ≤ max least budget →
             IfOk result IsDecided };
@@ -122,9 +122,9 @@ pub trait Solver: Drop {
         ensures open { IfOk result (λ s. IfOpen s (λ lines. ReachesBudget cnf.now lines budget)) }
         // At the end of an open log at least half of its additions are live.
         ensures kept { IfOk result (λ s. IfOpen s (KeepsHalf cnf.now)) }
-        // A log that refutes, or leaves open, deletes about a quarter of its additions or more, and no clause of
-        // the formula.
-        ensures thinned { IfOk result (λ s. IfLogged s (DeletesQuarter cnf.now)) }
+        // At the end at most 3/4 of the additions, and vars + 2000 more, are live, and no clause of the formula is
+        // deleted.
+        ensures live_bounded { IfOk result (λ s. IfLogged s (BoundsLiveAdditions cnf.now)) }
         // A budget of twice 3 to the number of variables decides every formula.
         ensures decides { 2 * 3 ^ cnf.now.vars ≤ budget → IfOk result IsDecided }
     {

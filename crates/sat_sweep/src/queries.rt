@@ -50,8 +50,8 @@ pub(crate) fn ask_two<S: Solver>(
     solver.solve_assuming(&assumptions, cones, limit)
 }
 
-/// Asks whether the variable `x` can differ from the signal `y`. If both assumptions are unsatisfiable, the solver
-/// has derived that they are equal.
+/// Asks whether the variable `x` can differ from the signal `y`. If x and not y, and not x and y, are both
+/// unsatisfiable, the learnt clauses imply x = y.
 pub(crate) fn ask_equal<S: Solver>(
     solver: &mut S,
     vars: u32,
@@ -67,11 +67,11 @@ pub(crate) fn ask_equal<S: Solver>(
     if y.variable == 0 {
         return ask_one(solver, vars, cones, x, !y.complemented, limit);
     }
-    let rises = Edge {
+    let x_true = Edge {
         variable: x,
         complemented: false,
     };
-    let falls = Edge {
+    let x_false = Edge {
         variable: x,
         complemented: true,
     };
@@ -80,8 +80,8 @@ pub(crate) fn ask_equal<S: Solver>(
         variable: y.variable,
         complemented: !y.complemented,
     };
-    match ask_two(solver, vars, cones, rises, other, limit)? {
-        AssumptionResult::Unsat => ask_two(solver, vars, cones, falls, same, limit),
-        probed => Ok(probed),
+    match ask_two(solver, vars, cones, x_true, other, limit)? {
+        AssumptionResult::Unsat => ask_two(solver, vars, cones, x_false, same, limit),
+        result => Ok(result),
     }
 }

@@ -196,7 +196,7 @@ impl SweepState {
         self.patterns.is_different(&self.nodes)
     }
 
-    /// Counts the conflicts of a question that was given up.
+    /// Charges the conflict limit of a query that was given up.
     pub(crate) fn spend(&mut self, conflicts: u32) {
         self.spent = self.spent.saturating_add(conflicts);
     }

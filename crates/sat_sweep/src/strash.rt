@@ -9,14 +9,14 @@ use std::alloc::{AllocError, Global};
 /// The key of a gate in the hash table: its operator, complemented so that its value at (0,0) is 0, and its
 /// operands, the lesser first.
 #[derive(Clone, Copy, PartialEq, Eq, Hash)]
-struct StrashKey {
+struct EdgeKey {
     word: u8,
     low: u32,
     high: u32,
 }
 
 /// The key of a gate whose operands have the representatives `a` and `b`.
-fn key_of(node: NodeGate, a: Edge, b: Edge) -> StrashKey {
+fn key_of(node: NodeGate, a: Edge, b: Edge) -> EdgeKey {
     let op = complemented(node.op, a.complemented, b.complemented, false);
     let sorted = if a.variable <= b.variable {
         op
@@ -24,7 +24,7 @@ fn key_of(node: NodeGate, a: Edge, b: Edge) -> StrashKey {
         swapped(op)
     };
     let begun = complemented(sorted, false, false, sorted.apply(false, false));
-    StrashKey {
+    EdgeKey {
         word: begun.get(),
         low: a.variable.min(b.variable),
         high: a.variable.max(b.variable),
@@ -34,7 +34,7 @@ fn key_of(node: NodeGate, a: Edge, b: Edge) -> StrashKey {
 /// The hash table of the gates visited so far.
 #[derive(Drop)]
 pub(crate) struct StrashTable {
-    strash: IndexSet<StrashKey>,
+    strash: IndexSet<EdgeKey>,
     /// The first gate with each key.
     owners: Vec<u32>,
 }

@@ -20,8 +20,8 @@ const LIMITS: [u32; 4] = [20, 200, 2_000, 20_000];
 pub enum Swept {
     /// A sink may differ under these values of the sources, source 1 first. The caller has to check that.
     Differ(Vec<bool>),
-    /// No counterexample was found. `spent` counts the conflicts of the questions that were given up, which count
-    /// against the budget.
+    /// No counterexample was found. `spent` is the sum of the conflict limits of the queries that were
+    /// given up, which count against the budget.
     Swept { spent: u32 },
 }
 
@@ -103,8 +103,8 @@ fn sweep_all<S: Solver>(
 }
 
 /// Sweeps two nets with equally many sources and equally many sinks: finds signals that are equal or
-/// complementary, and has `solver`, a solver of the nets' miter, derive that. It stops when the questions that
-/// were given up have taken `budget` conflicts. Whatever it finds, the solver stays a solver of its formula.
+/// complementary, and has `solver`, a solver of the nets' miter, derive that. It stops when the conflict limits of
+/// the queries that were given up add up to `budget`. Whatever it finds, the solver stays a solver of its formula.
 pub fn sweep<S: Solver>(
     alloc: Global,
     first: &Net,

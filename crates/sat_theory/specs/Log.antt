@@ -82,7 +82,7 @@ SparesFormula f (Delete id ids) = All (λ k. length f.clauses < k) ids
 
 -- A log deletes a quarter if it deletes nothing but its own additions, and at its end at most about three quarters
 -- of them are live: 3/4 of the additions, and vars + slack more.
-pub record DeletesQuarter (f : Formula) (lines : List Line) : Type 0 where
+pub record BoundsLiveAdditions (f : Formula) (lines : List Line) : Type 0 where
   pub spares : All (SparesFormula f) lines
   pub few : 4 * live_additions (after (start f) lines) lines ≤ 3 * additions lines + 4 * f.vars + 4 * slack
 

@@ -11,7 +11,7 @@ use crate::trying::{SubproblemOutcome, try_subproblem};
 use cert_theory::{Header, Section};
 use chain_core::Chain;
 use enc_fence::FenceEnc;
-use enc_frame::Encoding;
+use enc_base::Encoding;
 use enc_select::Select;
 use enc_ssv::{Plain, Ssv};
 use sat_solve::Solver;

@@ -6,9 +6,9 @@ ghost use Rattle.cert_theory.specs.Coding.{coding_of};
 ghost use Rattle.size_loop.specs.Outcomes.{IsTried};
 ghost use Rattle.size_loop.specs.Coded.{IsCodedBy};
 
-use cert_theory::{Ended, Header, SubproblemLog};
+use cert_theory::{LogEnd, Header, SubproblemLog};
 use chain_core::Chain;
-use enc_frame::Encoding;
+use enc_base::Encoding;
 use enc_theory::Subproblem;
 use sat_solve::{Solved, Solver};
 use std::alloc::{AllocError, Global};
@@ -54,12 +54,12 @@ pub fn try_subproblem<S: Solver, E: Encoding>(
         }
         Solved::Unsat(log) => Ok(SubproblemOutcome::Logged(SubproblemLog {
             subproblem,
-            ended: Ended::Refuted,
+            ended: LogEnd::Refuted,
             log,
         })),
         Solved::Open(log) => Ok(SubproblemOutcome::Logged(SubproblemLog {
             subproblem,
-            ended: Ended::Open,
+            ended: LogEnd::Open,
             log,
         })),
     }

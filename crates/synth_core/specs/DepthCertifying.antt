@@ -12,8 +12,8 @@ use Rattle.depth_theory.specs.declared.data.DepthVerdict.{DepthVerdict}
 use Rattle.depth_theory.specs.DepthCertificate.{DepthCertificate}
 use Rattle.depth_theory.specs.DepthSpelling.{IsDepthText}
 use Rattle.depth_core.specs.Flattened.{minimum_of}
-use Rattle.synth_core.specs.declared.least_depth.Found.{Found}
-use Rattle.synth_core.specs.declared.least_depth.Found.TheVariants.{Least, Other}
+use Rattle.synth_core.specs.declared.least_depth.DepthFound.{DepthFound}
+use Rattle.synth_core.specs.declared.least_depth.DepthFound.TheVariants.{Least, Other}
 
 -- The text is a depth certificate with this verdict, for the tables that the bytes spell, with nothing after them,
 -- under the settings `settings`. In its logs, also those of fences with fewer levels, at least half of the additions
@@ -33,6 +33,6 @@ pub record IsOther (bytes : List ℕ) (settings : SynthSettings) (text : List �
   pub certificate : sizes.IsCertificate bytes settings text verdict
   pub no_minimum : minimum_of verdict ≡ None
 
-abbrev pub IsCertificate : List ℕ → SynthSettings → List ℕ → Found → Type 0
+abbrev pub IsCertificate : List ℕ → SynthSettings → List ℕ → DepthFound → Type 0
 IsCertificate bytes settings text (Least verdict) = IsLeast bytes settings text verdict
 IsCertificate bytes settings text (Other verdict) = IsOther bytes settings text verdict

@@ -23,7 +23,7 @@ use tt_core::SpecError;
 
 /// The result of a search for the fewest steps and levels.
 #[derive(Clone, Copy)]
-pub enum Found {
+pub enum DepthFound {
     /// A chain with the fewest steps, and what is known of its levels.
     Least(DepthVerdict),
     /// The fewest steps aren't known, or no chain is within `max`: what is known of the steps.
@@ -34,7 +34,7 @@ pub enum Found {
 #[derive(Drop)]
 pub struct CertifiedDepth {
     pub text: Vec<u8>,
-    pub found: Found,
+    pub found: DepthFound,
 }
 
 /// The text of a depth certificate.
@@ -86,14 +86,14 @@ pub fn certify_depth<S: Solver>(
             let text = depth_written(alloc, &certificate)?;
             Ok(CertifiedDepth {
                 text,
-                found: Found::Least(certificate.verdict),
+                found: DepthFound::Least(certificate.verdict),
             })
         }
         DepthResult::Other(certificate) => {
             let text = certificate_written(alloc, &certificate)?;
             Ok(CertifiedDepth {
                 text,
-                found: Found::Other(certificate.verdict),
+                found: DepthFound::Other(certificate.verdict),
             })
         }
     }

@@ -22,7 +22,7 @@ mod reading;
 
 pub use cert_theory::Verdict;
 pub use depth_theory::DepthVerdict;
-pub use least_depth::{CertifiedDepth, Found, certify_depth};
+pub use least_depth::{CertifiedDepth, DepthFound, certify_depth};
 pub use pieces::{BegunSynthesis, Piece, begin, next_piece};
 pub use reading::tables;
 pub use settings::SynthSettings;

@@ -81,7 +81,7 @@ pub fn next_piece<S: Solver>(alloc: Global, search: SizeSearch) -> Result<Piece,
             write_section(&section, &mut text)?;
             Ok(Piece::Section { search: rest, text })
         }
-        Advance::Ended { chain, verdict } => {
+        Advance::LogEnd { chain, verdict } => {
             write_trailer(&chain, verdict, &mut text)?;
             Ok(Piece::Trailer { text, verdict })
         }

@@ -10,7 +10,7 @@ use Rattle.net_theory.specs.Reach.{ReadsNode}
 use Rattle.window_theory.specs.Nodes.{among, IsRising}
 use Rattle.window_theory.specs.NodeLaws.{among_cases, among_first, among_later}
 use Rattle.window_theory.specs.Paths.{IsGate, Reads}
-use Rattle.window_theory.specs.Window.{Window, IsReadBy, IsCandidate, IsGreatestCandidate, AreTaken, IsWindow}
+use Rattle.window_theory.specs.Window.{Window, IsReadBy, IsGrowthCandidate, IsGreatestCandidate, AreTaken, IsWindow}
 use Rattle.window_theory.specs.WindowLaws.{gate_high, gate_at, below_last, taken_rising, taken_gate}
 use Rattle.window_theory.specs.FaninConeLaws.{gate_one}
 use Rattle.window_theory.specs.GrowthLaws.{window_size}
@@ -100,7 +100,7 @@ sought_more n root partner taken bound left x rest g best first next parts of by
 nothing_read : (n : Net) (p : ℕ) → IsReadBy n [] p → ⊥
 nothing_read n p read = let e : false ≡ true = read.inside in cc
 
-candidate_low : (n : Net) (root : ℕ) (partner : Option ℕ) (taken : List ℕ) (p : ℕ) → IsNet n → AreTaken n root partner taken → IsCandidate n root partner taken p → p < bound_of n taken
+candidate_low : (n : Net) (root : ℕ) (partner : Option ℕ) (taken : List ℕ) (p : ℕ) → IsNet n → AreTaken n root partner taken → IsGrowthCandidate n root partner taken p → p < bound_of n taken
 unfolding AreTaken
 candidate_low n root partner [] p net are is = (gate_high n p is.gate).1
 candidate_low n root partner (t ∷ before) p net are is = below_last n root partner t before p net are.0 is
@@ -125,7 +125,7 @@ bound_low n root partner (t ∷ before) are = let high = gate_high n t are.0.can
 
 found_candidate : (n : Net) (root : ℕ) (partner : Option ℕ) (taken : List ℕ) (p : ℕ) → IsNet n →
     AreTaken n root partner taken → n.sources < p → p < bound_of n taken → IsWanted n root partner taken p →
-    IsCandidate n root partner taken p
+    IsGrowthCandidate n root partner taken p
 found_candidate n root partner taken p net are above low why =
     record {
       gate = gate_at n p (omega arith) (omega (arith, low, bound_low n root partner taken are));
@@ -135,7 +135,7 @@ found_candidate n root partner taken p net are above low why =
 
 pub sought_none : (n : Net) (root : ℕ) (partner : Option ℕ) (taken : List ℕ) (bound best : ℕ) → IsNet n →
     AreTaken n root partner taken → bound ≡ bound_of n taken → IsSought n root partner taken bound [] best →
-    best ≡ n.sources → (p : ℕ) → IsCandidate n root partner taken p → ⊥
+    best ≡ n.sources → (p : ℕ) → IsGrowthCandidate n root partner taken p → ⊥
 sought_none n root partner taken bound best net are bound_is was none p is =
     let low : p < bound = omega (arith, candidate_low n root partner taken p net are is, bound_is) in
     let above : n.sources < p = (gate_high n p is.gate).0 in
@@ -172,6 +172,6 @@ unfolding AreTaken
 one_more n root partner taken new p e are is = subst (AreTaken n root partner) (sym e) (is, are)
 
 pub no_window : (n : Net) (root : ℕ) (partner : Option ℕ) (count : ℕ) (taken : List ℕ) (w : Window) →
-    AreTaken n root partner taken → length taken < count → ((p : ℕ) → IsCandidate n root partner taken p → ⊥) →
+    AreTaken n root partner taken → length taken < count → ((p : ℕ) → IsGrowthCandidate n root partner taken p → ⊥) →
     IsWindow n root partner count w → ⊥
 no_window n root partner count taken w are few none is = let most : count ≤ length taken = window_size n root partner count taken w are none is in omega (arith, most, few)

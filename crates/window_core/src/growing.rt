@@ -5,7 +5,7 @@
 ghost use Rattle.std.specs.Prelude.{◌≡◌, ℕ, true, [], length, IfSome, IfNone, IfOk};
 ghost use Rattle.net_theory.specs.Net.{IsNet};
 ghost use Rattle.window_theory.specs.Paths.{IsGate};
-ghost use Rattle.window_theory.specs.Window.{IsCandidate, IsGreatestCandidate, AreTaken, IsWindow};
+ghost use Rattle.window_theory.specs.Window.{IsGrowthCandidate, IsGreatestCandidate, AreTaken, IsWindow};
 ghost use Rattle.window_theory.specs.Window as window;
 ghost use Rattle.window_theory.specs.Nodes.{among};
 ghost use Rattle.window_core.specs.Gates.{IsGateOf, IsGreater, IsGreaterIn, IsGreaterSig, IsSought};
@@ -87,7 +87,7 @@ fn greatest(net: &Net, root: u32, partner: Option<u32>, taken: &[u32], bound: u3
 fn next_gate(net: &Net, root: u32, partner: Option<u32>, taken: &[u32]) -> Option<u32>
     requires { AreTaken net.now root partner taken.now }
     ensures some { IfSome result (λ p. IsGreatestCandidate net.now root partner taken.now p) }
-    ensures none { IfNone result ((p : ℕ) → IsCandidate net.now root partner taken.now p → ⊥) }
+    ensures none { IfNone result ((p : ℕ) → IsGrowthCandidate net.now root partner taken.now p → ⊥) }
 {
     let bound = bound_of(net, taken);
     let best = greatest(net, root, partner, taken, bound);

@@ -36,25 +36,25 @@
 //! ```
 #![tactic(auto)]
 
-mod bounding;
-mod ends;
-mod expanding;
+mod window_by;
+mod window_inputs;
+mod fanin_cone;
 mod fanouts;
 mod growing;
-mod rising;
-mod seen;
+mod ascending;
+mod window_outputs;
 mod shape;
-mod sharing;
+mod partners;
 mod specifying;
 
-pub use bounding::{window, window_by};
-pub use ends::all_inputs;
-pub use expanding::fanin_cone;
+pub use window_by::{window, window_by};
+pub use window_inputs::all_inputs;
+pub use fanin_cone::fanin_cone;
 pub use fanouts::{Fanouts, fanouts_of, first_fanout, later_of, node_of};
 pub use growing::gate_at;
 pub use net_core::{Gate, Net, Sig};
-pub use rising::{has, put};
-pub use seen::all_outputs;
+pub use ascending::{has, put};
+pub use window_outputs::all_outputs;
 pub use shape::{MOST_GATES, Window};
-pub use sharing::{partners, partners_by};
+pub use partners::{partners, partners_by};
 pub use specifying::{signals_of, spec_of};

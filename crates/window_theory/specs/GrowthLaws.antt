@@ -4,13 +4,13 @@ use Rattle.std.proofs.Common.{arith, subst, ⊎_elim}
 use Rattle.std.proofs.lemmas.Bool.{cases_lt}
 use Rattle.net_theory.specs.Net.{Net}
 use Rattle.window_theory.specs.Nodes.{AreJust}
-use Rattle.window_theory.specs.Window.{Window, IsCandidate, AreTaken, Takes, IsInput, IsOutput, HasPartner, IsWindow}
+use Rattle.window_theory.specs.Window.{Window, IsGrowthCandidate, AreTaken, Takes, IsInput, IsOutput, HasPartner, IsWindow}
 use Rattle.window_theory.specs.WindowLaws.{taken_one, gates_one}
 use Rattle.window_theory.specs.NodeLaws.{just_same}
 use Rattle.chain_theory.specs.Limits.{most_inputs, most_outputs}
 
 -- Where more gates can be taken than those of xs, a candidate for xs is left.
-taken_next : (n : Net) (root : ℕ) (partner : Option ℕ) (xs ys : List ℕ) → AreTaken n root partner xs → AreTaken n root partner ys → length xs < length ys → (p : ℕ) × IsCandidate n root partner xs p
+taken_next : (n : Net) (root : ℕ) (partner : Option ℕ) (xs ys : List ℕ) → AreTaken n root partner xs → AreTaken n root partner ys → length xs < length ys → (p : ℕ) × IsGrowthCandidate n root partner xs p
 unfolding AreTaken
 taken_next n root partner xs [] a b more = absurd (omega arith)
 taken_next n root partner xs (y ∷ ys) a b more =
@@ -18,12 +18,12 @@ taken_next n root partner xs (y ∷ ys) a b more =
     (λ (further : length xs < length ys). taken_next n root partner xs ys a b.1 further)
     (λ (here : length ys ≤ length xs).
     let same : ys ≡ xs = taken_one n root partner ys xs b.1 a (omega (arith, more, here)) in
-    (y, subst (λ (zs : List ℕ). IsCandidate n root partner zs y) same b.0.candidate))
+    (y, subst (λ (zs : List ℕ). IsGrowthCandidate n root partner zs y) same b.0.candidate))
     (cases_lt (length xs) (length ys))
 
 -- Where there is no candidate, no more gates can be taken.
 pub taken_most : (n : Net) (root : ℕ) (partner : Option ℕ) (xs ys : List ℕ) → AreTaken n root partner xs →
-    ((p : ℕ) → IsCandidate n root partner xs p → ⊥) → AreTaken n root partner ys → length ys ≤ length xs
+    ((p : ℕ) → IsGrowthCandidate n root partner xs p → ⊥) → AreTaken n root partner ys → length ys ≤ length xs
 taken_most n root partner xs ys a none b =
     ⊎_elim
     (λ (more : length xs < length ys). let next = taken_next n root partner xs ys a b more in absurd (none next.0 next.1))
@@ -31,7 +31,7 @@ taken_most n root partner xs ys a none b =
     (cases_lt (length xs) (length ys))
 
 pub window_size : (n : Net) (root : ℕ) (partner : Option ℕ) (count : ℕ) (taken : List ℕ) (w : Window) →
-    AreTaken n root partner taken → ((p : ℕ) → IsCandidate n root partner taken p → ⊥) →
+    AreTaken n root partner taken → ((p : ℕ) → IsGrowthCandidate n root partner taken p → ⊥) →
     IsWindow n root partner count w → count ≤ length taken
 window_size n root partner count taken w are none is =
     let most : length is.takes.taken ≤ length taken = taken_most n root partner taken is.takes.taken are none is.takes.are in

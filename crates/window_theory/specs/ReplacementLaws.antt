@@ -11,7 +11,7 @@ use Rattle.net_theory.specs.Net.{Net, IsNet, sink_values}
 use Rattle.net_theory.specs.NameLaws.{map_at, index_map}
 use Rattle.net_theory.specs.Moving.{moved, nothing_kept}
 use Rattle.net_theory.specs.MovingLaws.{nodes_low, source_stays}
-use Rattle.net_theory.specs.Implements.{IsStill, Implements}
+use Rattle.net_theory.specs.Implements.{IsTrivialSink, Implements}
 use Rattle.window_theory.specs.Nodes.{among}
 use Rattle.window_theory.specs.Window.{Window, Belongs}
 use Rattle.window_theory.specs.WindowLaws.{gate_high}
@@ -74,7 +74,7 @@ source_substituted n w c p is low =
     ∙ nodes_low (is_early n w) n.sources (nothing_kept n.sources) (n.sources + 1) n.gates p (omega arith)
     ∙ source_stays n.sources p low
 
-still_substituted : (n : Net) (w : Window) (c : Chain) (s : Sig) → Belongs n w → IsStill n.sources s → moved (all_kept n w c).nodes s ≡ s
+still_substituted : (n : Net) (w : Window) (c : Chain) (s : Sig) → Belongs n w → IsTrivialSink n.sources s → moved (all_kept n w c).nodes s ≡ s
 still_substituted n w c Zero is still = refl
 still_substituted n w c One is still = refl
 still_substituted n w c (Node p) is still = source_substituted n w c p is still

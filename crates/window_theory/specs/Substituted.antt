@@ -9,7 +9,7 @@ use Rattle.net_theory.specs.declared.data.Sig.TheVariants.{Zero, One, Node}
 use Rattle.net_theory.specs.declared.data.Gate.{Gate}
 use Rattle.net_theory.specs.Net.{Net, IsNet, sig_value, value, sink_values}
 use Rattle.net_theory.specs.Reach.{reach}
-use Rattle.net_theory.specs.Implements.{IsStill}
+use Rattle.net_theory.specs.Implements.{IsTrivialSink}
 use Rattle.net_theory.specs.Expansion.{gate_of}
 use Rattle.net_theory.specs.Moving.{Kept, moved, put_sig, kept_after, nothing_kept}
 use Rattle.window_theory.specs.Nodes.{among}
@@ -123,5 +123,5 @@ pub record IsSubstitution (n : Net) (w : Window) (c : Chain) (m : Net) : Type 0 
   pub values : (given : ℕ → Bool) → sink_values m given ≡ map (sig_value (substituted_value n w c given)) n.sinks
   pub operators : HasOperators n w c m
   pub gate_count : length m.gates + length w.gates ≡ length n.gates + length c.steps
-  pub still : (i : ℕ) (s : Sig) → slice_get n.sinks i ≡ Some s → IsStill n.sources s → slice_get m.sinks i ≡ Some s
+  pub still : (i : ℕ) (s : Sig) → slice_get n.sinks i ≡ Some s → IsTrivialSink n.sources s → slice_get m.sinks i ≡ Some s
   pub equal : (i j : ℕ) (d : Sig) → i < length n.sinks → j < length n.sinks → slice_index_or n.sinks i d ≡ slice_index_or n.sinks j d → slice_index_or m.sinks i d ≡ slice_index_or m.sinks j d

@@ -29,14 +29,14 @@ pub record IsReadBy (n : Net) (gates : List ℕ) (p : ℕ) : Type 0 where
   pub reads : Reads n fanout p
 
 -- a gate that isn't taken, and is the root, the partner, or a fanin of a gate that is taken
-pub record IsCandidate (n : Net) (root : ℕ) (partner : Option ℕ) (taken : List ℕ) (p : ℕ) : Type 0 where
+pub record IsGrowthCandidate (n : Net) (root : ℕ) (partner : Option ℕ) (taken : List ℕ) (p : ℕ) : Type 0 where
   pub gate : IsGate n p
   pub outside : among taken p ≡ false
   pub why : IsRootOrPartner root partner p ⊎ IsReadBy n taken p
 
 pub record IsGreatestCandidate (n : Net) (root : ℕ) (partner : Option ℕ) (taken : List ℕ) (p : ℕ) : Type 0 where
-  pub candidate : IsCandidate n root partner taken p
-  pub greatest : (q : ℕ) → IsCandidate n root partner taken q → q ≤ p
+  pub candidate : IsGrowthCandidate n root partner taken p
+  pub greatest : (q : ℕ) → IsGrowthCandidate n root partner taken q → q ≤ p
 
 -- Greedy growth: each gate taken is the greatest candidate. The gate taken first is the last of the list.
 -- Example: the root 9 reads the gates 3 and 8, and 8 reads the gate 6 and a source. Then 9, 8 and 6 are

@@ -9,7 +9,7 @@ use Rattle.net_theory.specs.MovingLaws.{reads_below}
 use Rattle.window_theory.specs.Nodes.{among, IsRising, AreJust}
 use Rattle.window_theory.specs.NodeLaws.{among_cases, just_same}
 use Rattle.window_theory.specs.Paths.{IsGate, Reads, HasPath, at_once, by_way_of, IsConvex}
-use Rattle.window_theory.specs.Window.{Window, IsReadBy, IsCandidate, IsGreatestCandidate, AreTaken, IsInput, IsOutput, IsOutsideFanout, Takes, Belongs, IsWindow}
+use Rattle.window_theory.specs.Window.{Window, IsReadBy, IsGrowthCandidate, IsGreatestCandidate, AreTaken, IsInput, IsOutput, IsOutsideFanout, Takes, Belongs, IsWindow}
 
 -- ---- fanins
 
@@ -63,10 +63,10 @@ not_later : (p q : ℕ) (nodes : List ℕ) → among (p ∷ nodes) q ≡ false �
 not_later p q nodes e = (or_parts (nat_eq q p) (among nodes q) e).1
 
 -- a candidate that isn't taken is below the gate that was taken last
-pub below_last : (n : Net) (root : ℕ) (partner : Option ℕ) (t : ℕ) (before : List ℕ) (p : ℕ) → IsNet n → IsGreatestCandidate n root partner before t → IsCandidate n root partner (t ∷ before) p → p < t
+pub below_last : (n : Net) (root : ℕ) (partner : Option ℕ) (t : ℕ) (before : List ℕ) (p : ℕ) → IsNet n → IsGreatestCandidate n root partner before t → IsGrowthCandidate n root partner (t ∷ before) p → p < t
 below_last n root partner t before p net greatest is =
     let other : p ≢ t = not_first t p before is.outside in
-    let was : IsCandidate n root partner before p → p < t = λ c. omega (arith, greatest.greatest p c, other) in
+    let was : IsGrowthCandidate n root partner before p → p < t = λ c. omega (arith, greatest.greatest p c, other) in
     ⊎_elim
     (λ root_is. was (record { gate = is.gate; outside = not_later t p before is.outside; why = inl root_is }))
     (λ read. ⊎_elim

@@ -9,7 +9,7 @@ ghost use Rattle.net_theory.specs.Implements.{Implements};
 ghost use Rattle.window_theory.specs.Nodes.{among, IsRising, AreJust};
 ghost use Rattle.window_theory.specs.Paths.{IsGate, IsConvex};
 ghost use Rattle.window_theory.specs.Partner.{ArePartners};
-ghost use Rattle.window_theory.specs.Window.{Window, IsCandidate, AreTaken, Takes, IsInput, IsOutput, HasPartner};
+ghost use Rattle.window_theory.specs.Window.{Window, IsGrowthCandidate, AreTaken, Takes, IsInput, IsOutput, HasPartner};
 ghost use Rattle.window_theory.specs.Window.{Belongs, IsWindow};
 ghost use Rattle.window_theory.specs.FaninCone.{ExpandsTo};
 ghost use Rattle.window_theory.specs.FaninConeLaws.{AreBelow};
@@ -45,7 +45,7 @@ pub fn windows_belong()
 /// most 6 inputs and 8 outputs.
 pub fn windows_end()
     ensures longest { (n : Net) (root : ℕ) (partner : Option ℕ) (count : ℕ) (taken : List ℕ) (w : Window) →
-        AreTaken n root partner taken → ((p : ℕ) → IsCandidate n root partner taken p → ⊥) →
+        AreTaken n root partner taken → ((p : ℕ) → IsGrowthCandidate n root partner taken p → ⊥) →
         IsWindow n root partner count w → count ≤ length taken }
     ensures partner { (n : Net) (root : ℕ) (partner : Option ℕ) (count : ℕ) (gates : List ℕ) (w : Window) →
         Takes n root partner count gates → IsWindow n root partner count w → HasPartner partner gates }

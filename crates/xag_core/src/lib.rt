@@ -7,8 +7,8 @@
 //! are below their gate), that calls end, and that a rebuilt graph has the sources and the number of sinks
 //! that it had.
 //!
-//! `from_net` and `into_net` translate nets into graphs and back (`src/net_in.rt`, `src/net_out.rt`). The net that comes
-//! out is a net, with the sources and the number of sinks of the graph.
+//! `from_net` and `into_net` translate nets into graphs and back (`src/net_in.rt`, `src/net_out.rt`). The net has the
+//! sources and the number of sinks of the graph.
 //!
 //! ```text
 //! let mut builder = Builder::new(alloc, 2, 1)?;

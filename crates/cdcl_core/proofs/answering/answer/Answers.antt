@@ -17,10 +17,10 @@ returns-in_ok-log_of-in-Refuted-clause-unsat c = λ f logged.
     let refuted : HasRefuted f c.go_on.new.self = subst (λ (e : SearchEnd). Ends f c.args.budget c.go_on.new.self e) c.in-Refuted.is (c.in_ok-go_on.ensures.ends f logged) in
     c.in_ok-log_of-in-Refuted.ensures.refutes f refuted
 
-pub returns-in_ok-log_of-in-Refuted-clause-thinned : goal.returns-in_ok-log_of-in-Refuted-clause-thinned
-returns-in_ok-log_of-in-Refuted-clause-thinned c = λ f logged.
+pub returns-in_ok-log_of-in-Refuted-clause-live_bounded : goal.returns-in_ok-log_of-in-Refuted-clause-live_bounded
+returns-in_ok-log_of-in-Refuted-clause-live_bounded c = λ f logged.
     let refuted : HasRefuted f c.go_on.new.self = subst (λ (e : SearchEnd). Ends f c.args.budget c.go_on.new.self e) c.in-Refuted.is (c.in_ok-go_on.ensures.ends f logged) in
-    c.in_ok-log_of-in-Refuted.ensures.thinned f refuted.accounted
+    c.in_ok-log_of-in-Refuted.ensures.live_bounded f refuted.accounted
 
 pub returns-in_ok-log_of-in-BudgetReached-clause-open : goal.returns-in_ok-log_of-in-BudgetReached-clause-open
 returns-in_ok-log_of-in-BudgetReached-clause-open c = λ f logged none.
@@ -32,10 +32,10 @@ returns-in_ok-log_of-in-BudgetReached-clause-kept c = λ f logged.
     let spent : HasReachedBudget f c.args.budget c.go_on.new.self = subst (λ (e : SearchEnd). Ends f c.args.budget c.go_on.new.self e) c.in-BudgetReached.is (c.in_ok-go_on.ensures.ends f logged) in
     c.in_ok-log_of-in-BudgetReached.ensures.kept f c.args.budget spent
 
-pub returns-in_ok-log_of-in-BudgetReached-clause-thinned : goal.returns-in_ok-log_of-in-BudgetReached-clause-thinned
-returns-in_ok-log_of-in-BudgetReached-clause-thinned c = λ f logged.
+pub returns-in_ok-log_of-in-BudgetReached-clause-live_bounded : goal.returns-in_ok-log_of-in-BudgetReached-clause-live_bounded
+returns-in_ok-log_of-in-BudgetReached-clause-live_bounded c = λ f logged.
     let spent : HasReachedBudget f c.args.budget c.go_on.new.self = subst (λ (e : SearchEnd). Ends f c.args.budget c.go_on.new.self e) c.in-BudgetReached.is (c.in_ok-go_on.ensures.ends f logged) in
-    c.in_ok-log_of-in-BudgetReached.ensures.thinned f (record { log = spent.logged.log; given = spent.logged.given })
+    c.in_ok-log_of-in-BudgetReached.ensures.live_bounded f (record { log = spent.logged.log; given = spent.logged.given })
 
 pub returns-in_ok-log_of-in-BudgetReached-clause-decides : goal.returns-in_ok-log_of-in-BudgetReached-clause-decides
 returns-in_ok-log_of-in-BudgetReached-clause-decides c = λ f logged none enough.

@@ -5,7 +5,7 @@ use Rattle.std.specs.Prelude.{IfOk}
 use Rattle.cdcl_core.specs.declared.solver.SolverStatus.{SolverStatus}
 use Rattle.cdcl_core.specs.SearchEnds.{HasRefuted}
 use Rattle.cdcl_core.specs.Solving.{IsSearchOf, FitsStatus, FitsStatusOf}
-use Rattle.cdcl_core.proofs.Showing.{refuted_at_once, thinned_at_once}
+use Rattle.cdcl_core.proofs.Showing.{refuted_at_once, live_bounded_at_once}
 use Rattle.cdcl_core.proofs.answering.conclude.Goals as goal
 
 pub returns-in-Empty-clause-unsat : goal.returns-in-Empty-clause-unsat
@@ -13,8 +13,8 @@ returns-in-Empty-clause-unsat c = λ f least of.
     let there : Contains f.clauses [] = subst (λ (status : SolverStatus). FitsStatusOf f least c.args.search.now status) c.in-Empty.is of in
     refuted_at_once f c.new.result c.new.ensures there
 
-pub returns-in-Empty-clause-thinned : goal.returns-in-Empty-clause-thinned
-returns-in-Empty-clause-thinned c = λ f least of. thinned_at_once f c.new.result c.new.ensures
+pub returns-in-Empty-clause-live_bounded : goal.returns-in-Empty-clause-live_bounded
+returns-in-Empty-clause-live_bounded c = λ f least of. live_bounded_at_once f c.new.result c.new.ensures
 
 pub decide_rest-requires-clause-under_way : goal.decide_rest-requires-clause-under_way
 decide_rest-requires-clause-under_way c = subst (λ (status : SolverStatus). FitsStatus c.args.search.now status) c.in-Undecided.is c.requires.fits
@@ -44,10 +44,10 @@ returns-in-Undecided-clause-kept c = λ f least of.
     let is_of : IsSearchOf f least c.args.search.now = subst (λ (status : SolverStatus). FitsStatusOf f least c.args.search.now status) c.in-Undecided.is of in
     c.decide_rest.ensures.kept f is_of.logged
 
-pub returns-in-Undecided-clause-thinned : goal.returns-in-Undecided-clause-thinned
-returns-in-Undecided-clause-thinned c = λ f least of.
+pub returns-in-Undecided-clause-live_bounded : goal.returns-in-Undecided-clause-live_bounded
+returns-in-Undecided-clause-live_bounded c = λ f least of.
     let is_of : IsSearchOf f least c.args.search.now = subst (λ (status : SolverStatus). FitsStatusOf f least c.args.search.now status) c.in-Undecided.is of in
-    c.decide_rest.ensures.thinned f is_of.logged
+    c.decide_rest.ensures.live_bounded f is_of.logged
 
 pub returns-in-Undecided-clause-decides : goal.returns-in-Undecided-clause-decides
 returns-in-Undecided-clause-decides c = λ f least of enough.
@@ -62,7 +62,7 @@ returns-in_ok-log_of-in-Refuted-clause-unsat c = λ f least of.
     let refuted : HasRefuted f c.args.search.now = subst (λ (status : SolverStatus). FitsStatusOf f least c.args.search.now status) c.in-Refuted.is of in
     c.in_ok-log_of-in-Refuted.ensures.refutes f refuted
 
-pub returns-in_ok-log_of-in-Refuted-clause-thinned : goal.returns-in_ok-log_of-in-Refuted-clause-thinned
-returns-in_ok-log_of-in-Refuted-clause-thinned c = λ f least of.
+pub returns-in_ok-log_of-in-Refuted-clause-live_bounded : goal.returns-in_ok-log_of-in-Refuted-clause-live_bounded
+returns-in_ok-log_of-in-Refuted-clause-live_bounded c = λ f least of.
     let refuted : HasRefuted f c.args.search.now = subst (λ (status : SolverStatus). FitsStatusOf f least c.args.search.now status) c.in-Refuted.is of in
-    c.in_ok-log_of-in-Refuted.ensures.thinned f refuted.accounted
+    c.in_ok-log_of-in-Refuted.ensures.live_bounded f refuted.accounted

@@ -30,8 +30,8 @@ returns-clause-unsat c = λ f logged. c.answer.ensures.unsat f (logged_restarted
 pub returns-clause-kept : goal.returns-clause-kept
 returns-clause-kept c = λ f logged. c.answer.ensures.kept f (logged_restarted f c.args.search.now c.close.new.self logged c.close.ensures.restarted)
 
-pub returns-clause-thinned : goal.returns-clause-thinned
-returns-clause-thinned c = λ f logged. c.answer.ensures.thinned f (logged_restarted f c.args.search.now c.close.new.self logged c.close.ensures.restarted)
+pub returns-clause-live_bounded : goal.returns-clause-live_bounded
+returns-clause-live_bounded c = λ f logged. c.answer.ensures.live_bounded f (logged_restarted f c.args.search.now c.close.new.self logged c.close.ensures.restarted)
 
 pub returns-clause-open : goal.returns-clause-open
 returns-clause-open c = λ f logged none.

@@ -17,5 +17,5 @@ returns-clause-kept c = λ f budget spent. rw c.replace.ensures.value
     c.in_ok-meet_final_bound.ensures.least (c.in_ok-meet_final_bound.ensures.accounted f
     (record { log = spent.logged.log; given = spent.logged.given })))
 
-pub returns-clause-thinned : goal.returns-clause-thinned
-returns-clause-thinned c = λ f accounted. rw c.replace.ensures.value (c.in_ok-meet_final_bound.ensures.thinned f accounted)
+pub returns-clause-live_bounded : goal.returns-clause-live_bounded
+returns-clause-live_bounded c = λ f accounted. rw c.replace.ensures.value (c.in_ok-meet_final_bound.ensures.live_bounded f accounted)

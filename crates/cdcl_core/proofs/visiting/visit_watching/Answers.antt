@@ -4,7 +4,7 @@ use Rattle.clause_db.specs.Stored.{Stored}
 use Rattle.clause_db.specs.Watching.{list_of}
 use Rattle.cdcl_core.specs.WatchInvariant.{HasTrueAt}
 use Rattle.cdcl_core.specs.Visiting.{id_at, KeepsWatch, IsMoved, IsFate}
-use Rattle.cdcl_core.specs.declared.visiting.Fate.{Fate}
+use Rattle.cdcl_core.specs.declared.visiting.Visited.{Visited}
 use Rattle.cdcl_core.proofs.Visits.{rest_kept, rest_moved, visited_open, visited_kept, visited_moved, visited_each, moved_shorter}
 use Rattle.cdcl_core.proofs.visiting.visit_watching.Goals as goal
 
@@ -14,7 +14,7 @@ loop-next-preserved c =
     let s : TrailState = c.loop-next.trail in
     let i : ℕ = c.in-Some.next in
     let kept : KeepsWatch b c.visit.new.clauses s c.visit.new.trail c.args.falsified i =
-    subst (λ (v : Fate). IsFate b c.visit.new.clauses s c.visit.new.trail c.args.falsified i v) c.in-Kept.is
+    subst (λ (v : Visited). IsFate b c.visit.new.clauses s c.visit.new.trail c.args.falsified i v) c.in-Kept.is
     c.in_ok-visit.ensures.visit in
     let long : length c.watching.result.now ≡ length (list_of b.watches c.args.falsified) = c.watching.ensures.long in
     let found = c.in-Some.ensures.some in
@@ -35,7 +35,7 @@ loop-next-smaller-in-Moved c =
     let s : TrailState = c.loop-next.trail in
     let i : ℕ = c.in-Some.next in
     let moved : IsMoved b c.visit.new.clauses s c.visit.new.trail c.args.falsified i =
-    subst (λ (v : Fate). IsFate b c.visit.new.clauses s c.visit.new.trail c.args.falsified i v) c.in-Moved.is
+    subst (λ (v : Visited). IsFate b c.visit.new.clauses s c.visit.new.trail c.args.falsified i v) c.in-Moved.is
     c.in_ok-visit.ensures.visit in
     let long : length c.watching.result.now ≡ length (list_of b.watches c.args.falsified) = c.watching.ensures.long in
     let found = c.in-Some.ensures.some in
@@ -48,7 +48,7 @@ loop-next-preserved-in-Moved c =
     let s : TrailState = c.loop-next.trail in
     let i : ℕ = c.in-Some.next in
     let moved : IsMoved b c.visit.new.clauses s c.visit.new.trail c.args.falsified i =
-    subst (λ (v : Fate). IsFate b c.visit.new.clauses s c.visit.new.trail c.args.falsified i v) c.in-Moved.is
+    subst (λ (v : Visited). IsFate b c.visit.new.clauses s c.visit.new.trail c.args.falsified i v) c.in-Moved.is
     c.in_ok-visit.ensures.visit in
     let long : length c.watching.result.now ≡ length (list_of b.watches c.args.falsified) = c.watching.ensures.long in
     let found = c.in-Some.ensures.some in

@@ -1,6 +1,6 @@
 -- A line of a log, or its end.
 use Rattle.std.proofs.Common.{◌≡◌, ◌+◌, ◌∷◌, ◌++◌, [], ◌∙◌, ap, sym, subst, Some, None, Ok}
-use Rattle.cert_theory.specs.declared.data.Ended.{Ended}
+use Rattle.cert_theory.specs.declared.data.LogEnd.{LogEnd}
 use Rattle.cert_theory.specs.declared.data.CertificateError.{CertificateError}
 use Rattle.cert_theory.specs.Certificate.{formula_of}
 use Rattle.cert_theory.specs.Gives.{Fails}
@@ -32,7 +32,7 @@ returns-in-Ok-More-clause-answer c = λ lines ls answer stands same.
           stands.answer_is
           ∙ ap (sections_of r.header n (progress r.size r.low (Within stands.subproblem (later_of r) end stands.log))) same
           ∙ subproblem_goes r.header n r.size r.low stands.subproblem (later_of r) end stands.log _ ls (Some more.line) more.read
-          ∙ ap (λ (e : Ended). sections_of r.header (n + 1) (progress r.size r.low (Within stands.subproblem (later_of r) e (stands.log ++ more.line ∷ []))) ls) (sym more.same_end);
+          ∙ ap (λ (e : LogEnd). sections_of r.header (n + 1) (progress r.size r.low (Within stands.subproblem (later_of r) e (stands.log ++ more.line ∷ []))) ls) (sym more.same_end);
     }
 
 pub returns-in-Ok-Done-clause-answer : goal.returns-in-Ok-Done-clause-answer
@@ -48,7 +48,7 @@ returns-in-Ok-Done-clause-answer c = λ lines ls answer stands same.
     (stands.answer_is
     ∙ ap (sections_of r.header n (progress r.size r.low (Within stands.subproblem (later_of r) end stands.log))) same
     ∙ subproblem_goes r.header n r.size r.low stands.subproblem (later_of r) end stands.log _ ls None done
-    ∙ ap (λ (e : Ended). sections_of r.header (n + 1) (before r.size (low_with r.low e r.size) (later_of r)) ls) (sym c.ended-end.ensures))
+    ∙ ap (λ (e : LogEnd). sections_of r.header (n + 1) (before r.size (low_with r.low e r.size) (later_of r)) ls) (sym c.ended-end.ensures))
 
 pub returns-in-Err-clause-answer : goal.returns-in-Err-clause-answer
 returns-in-Err-clause-answer c = λ lines ls answer stands same.

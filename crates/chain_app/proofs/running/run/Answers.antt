@@ -23,5 +23,5 @@ returns-in_default g c =
 -- a command
 pub returns : goal.returns
 returns g c =
-    let ran = c.obey.ensures (spelled c.args.words.now) in
+    let ran = c.dispatch.ensures (spelled c.args.words.now) in
     kept _ (Ran c.in-Ok.command ran.0) (asked (spelled c.args.words.now) c.in-Ok.command c.in-Ok.ensures.exact, ran.1)

@@ -1,7 +1,7 @@
 -- The log begins without a line.
 use Rattle.std.proofs.Common.{[], sym, ap, ◌∙◌, subst, ◌+◌}
 use Rattle.sat_theory.specs.Formula.{Formula}
-use Rattle.cert_theory.specs.declared.data.Ended.{Ended}
+use Rattle.cert_theory.specs.declared.data.LogEnd.{LogEnd}
 use Rattle.cert_file.specs.Logged.{IsReading}
 use Rattle.depth_theory.specs.DepthJudging.{Begun, Within}
 use Rattle.depth_file.specs.Stages.{later_of}
@@ -26,5 +26,5 @@ returns-clause-answer c = λ lines ls answer begun same.
       answer_is =
           is
           ∙ begun_goes f begun.fence (later_of f) c.args.line.now.number _ ls c.in-Some.end (sym c.in-Some.ensures)
-          ∙ ap (λ (e : Ended). flat f (c.args.line.now.number + 1) (Within begun.fence (later_of f) e []) ls) (sym c.in_ok-reader.ensures.ended);
+          ∙ ap (λ (e : LogEnd). flat f (c.args.line.now.number + 1) (Within begun.fence (later_of f) e []) ls) (sym c.in_ok-reader.ensures.ended);
     }

@@ -1,7 +1,7 @@
 -- A line of a log, or its end.
 use Rattle.std.proofs.Common.{◌≡◌, [], ◌∷◌, ◌++◌, length, Some, None, Ok, sym, ap, ◌∙◌, subst, ◌+◌}
 use Rattle.enc_theory.specs.declared.subproblem.Subproblem.TheVariants.{Levels}
-use Rattle.cert_theory.specs.declared.data.Ended.{Ended}
+use Rattle.cert_theory.specs.declared.data.LogEnd.{LogEnd}
 use Rattle.cert_theory.specs.Certificate.{formula_of}
 use Rattle.cert_theory.specs.SubproblemLines.{subproblem_in}
 use Rattle.cert_theory.specs.Judging.{low_with}
@@ -33,7 +33,7 @@ returns-in-Ok-More-clause-answer c = λ lines ls answer stands same.
           stands.answer_is
           ∙ ap (flat f n (Within stands.fence (later_of f) end stands.log)) same
           ∙ subproblem_goes f stands.fence (later_of f) n end stands.log _ ls (Some more.line) more.read
-          ∙ ap (λ (e : Ended). flat f (n + 1) (Within stands.fence (later_of f) e (stands.log ++ more.line ∷ [])) ls) (sym more.same_end);
+          ∙ ap (λ (e : LogEnd). flat f (n + 1) (Within stands.fence (later_of f) e (stands.log ++ more.line ∷ [])) ls) (sym more.same_end);
     }
 
 pub returns-in-Ok-Done-clause-answer : goal.returns-in-Ok-Done-clause-answer
@@ -49,7 +49,7 @@ returns-in-Ok-Done-clause-answer c = λ lines ls answer stands same.
     (stands.answer_is
     ∙ ap (flat f n (Within stands.fence (later_of f) end stands.log)) same
     ∙ subproblem_goes f stands.fence (later_of f) n end stands.log _ ls None done
-    ∙ ap (λ (e : Ended). flat_from f.header f.size f.levels (n + 1) (low_with f.low e (length stands.fence)) (Due (later_of f)) ls) (sym c.ended-end.ensures))
+    ∙ ap (λ (e : LogEnd). flat_from f.header f.size f.levels (n + 1) (low_with f.low e (length stands.fence)) (Due (later_of f)) ls) (sym c.ended-end.ensures))
 
 pub returns-in-Err-clause-answer : goal.returns-in-Err-clause-answer
 returns-in-Err-clause-answer c = λ lines ls answer stands same.

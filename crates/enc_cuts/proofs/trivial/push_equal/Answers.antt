@@ -3,7 +3,7 @@ use Rattle.clause_core.specs.Clauses.{IsWithin}
 use Rattle.std.proofs.Common.{◌≡◌, append_assoc, ap}
 use Rattle.sat_theory.specs.Formula.{Formula}
 use Rattle.clause_core.specs.WithinLaws.{within_var, two, three}
-use Rattle.enc_frame.specs.RoomLaws.{within_first}
+use Rattle.enc_base.specs.RoomLaws.{within_first}
 use Rattle.enc_theory.specs.Cuts.{equal_raw}
 use Rattle.enc_cuts.proofs.trivial.push_equal.Goals as goal
 

@@ -1,6 +1,6 @@
 use Rattle.std.proofs.Common.{ℕ, All, sym, ap, subst, ◌∙◌}
 use Rattle.sat_theory.specs.Formula.{Formula}
-use Rattle.enc_frame.specs.Room.{HasSlots}
+use Rattle.enc_base.specs.Room.{HasSlots}
 use Rattle.enc_theory.specs.Cuts.{used, used_by}
 use Rattle.clause_core.specs.ListLaws.{all_rest}
 use Rattle.enc_cuts.proofs.Walks.{walked, used-step}

@@ -1,5 +1,5 @@
 use Rattle.std.proofs.Common.{◌≡◌, ◌++◌, All, length}
-use Rattle.enc_frame.specs.Room.{HasSlots}
+use Rattle.enc_base.specs.Room.{HasSlots}
 use Rattle.enc_theory.specs.Cuts.{used}
 use Rattle.enc_cuts.proofs.used.push_used.Given as goal
 

@@ -1,6 +1,6 @@
 use Rattle.clause_core.specs.declared.raw.RawLit.TheVariants.{Var}
 use Rattle.clause_core.specs.Clauses.{IsWithin}
-use Rattle.enc_frame.specs.RoomLaws.{within_first}
+use Rattle.enc_base.specs.RoomLaws.{within_first}
 use Rattle.clause_core.specs.WithinLaws.{four}
 use Rattle.enc_theory.specs.Select.{result_clause, result_raw}
 use Rattle.enc_select.proofs.chain.push_result_clause.Goals as goal

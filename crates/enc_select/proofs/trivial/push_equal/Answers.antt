@@ -2,7 +2,7 @@ use Rattle.clause_core.specs.declared.raw.RawLit.TheVariants.{Var}
 use Rattle.clause_core.specs.Clauses.{IsWithin}
 use Rattle.std.proofs.Common.{◌≡◌, append_assoc, ap}
 use Rattle.sat_theory.specs.Formula.{Formula}
-use Rattle.enc_frame.specs.RoomLaws.{within_first}
+use Rattle.enc_base.specs.RoomLaws.{within_first}
 use Rattle.clause_core.specs.WithinLaws.{four, three}
 use Rattle.enc_theory.specs.Select.{equal_choice}
 use Rattle.enc_select.proofs.trivial.push_equal.Goals as goal

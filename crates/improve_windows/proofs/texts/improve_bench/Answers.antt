@@ -14,8 +14,8 @@ returns-clause-improved g c =
     c.in_ok-text.ensures
     c.in_ok-report.ensures
 
-pub gates_of-requires-clause-fits : goal.gates_of-requires-clause-fits
-gates_of-requires-clause-fits g c =
+pub bench_text_of-requires-clause-fits : goal.bench_text_of-requires-clause-fits
+bench_text_of-requires-clause-fits g c =
     bench_fits c.args.settings c.args.bytes.now c.in_ok-circuit.circuit c.in_ok-improved.field-0.improved.circuit _ _ _
     _ c.bench_is_a_format.ensures c.requires.basis c.in_ok-circuit.ensures.circuit c.in_ok-improved.ensures.circuit
     c.in_ok-improved.ensures.better c.in_ok-improved.ensures.room

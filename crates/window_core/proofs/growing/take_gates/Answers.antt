@@ -1,5 +1,5 @@
 use Rattle.std.proofs.Common.{◌∙◌, ℕ, List, length, ap, sym, subst, arith}
-use Rattle.window_theory.specs.Window.{AreTaken, IsGreatestCandidate, IsCandidate}
+use Rattle.window_theory.specs.Window.{AreTaken, IsGreatestCandidate, IsGrowthCandidate}
 use Rattle.window_core.specs.GrowingLaws.{none_taken, one_more, no_window}
 use Rattle.window_core.proofs.growing.take_gates.Goals as goal
 
@@ -13,7 +13,7 @@ pub returns-in_default-clause-none : goal.returns-in_default-clause-none
 returns-in_default-clause-none c = λ w.
     no_window c.args.net.now c.args.root c.args.partner c.args.count c.loop-taken.taken.items w c.loop-taken.invariant.are
     (omega (arith, c.loop-taken.invariant.count, c.loop-taken-test.true))
-    (subst (λ (xs : List ℕ). (p : ℕ) → IsCandidate c.args.net.now c.args.root c.args.partner xs p → ⊥) c.deref.ensures.value c.in_default.ensures.none)
+    (subst (λ (xs : List ℕ). (p : ℕ) → IsGrowthCandidate c.args.net.now c.args.root c.args.partner xs p → ⊥) c.deref.ensures.value c.in_default.ensures.none)
 
 pub loop-taken-preserved : goal.loop-taken-preserved
 loop-taken-preserved c = record {

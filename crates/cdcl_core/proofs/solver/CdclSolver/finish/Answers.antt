@@ -17,5 +17,5 @@ returns-clause-open c = λ f least of. c.conclude.ensures.open f least (subst (�
 pub returns-clause-kept : goal.returns-clause-kept
 returns-clause-kept c = λ f least of. c.conclude.ensures.kept f least (subst (λ (s : Solving). FitsStatusOf f least s.search s.status) (sym c.self.view_is) of)
 
-pub returns-clause-thinned : goal.returns-clause-thinned
-returns-clause-thinned c = λ f least of. c.conclude.ensures.thinned f least (subst (λ (s : Solving). FitsStatusOf f least s.search s.status) (sym c.self.view_is) of)
+pub returns-clause-live_bounded : goal.returns-clause-live_bounded
+returns-clause-live_bounded c = λ f least of. c.conclude.ensures.live_bounded f least (subst (λ (s : Solving). FitsStatusOf f least s.search s.status) (sym c.self.view_is) of)
