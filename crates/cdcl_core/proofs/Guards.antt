@@ -13,7 +13,7 @@ use Rattle.clause_db.specs.Sorted.{sorted}
 use Rattle.clause_db.specs.SortedLaws.{Contains-sorted, length-sorted}
 use Rattle.clause_db.specs.Stored.{Stored, live_in, Watches, IsPair, IsStored, added}
 use Rattle.clause_db.specs.StoredLaws.{live_added, next_is_free}
-use Rattle.clause_db.specs.Moving.{added_watches}
+use Rattle.clause_db.specs.Adding.{added_watches}
 use Rattle.cdcl_core.specs.WatchInvariant.{HasTrue, IsBacked, IsTrueAtRoot, KeepsWatchInvariant, HasTrueAt}
 use Rattle.cdcl_core.proofs.Judging.{settled_by_true}
 

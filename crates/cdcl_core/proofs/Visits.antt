@@ -16,7 +16,8 @@ use Rattle.clause_db.specs.Stored.{Stored, live_at, live_in, Watches, IsLong, Is
 use Rattle.clause_db.specs.Blockers.{IsLiteralOf, AreBeside}
 use Rattle.clause_db.specs.declared.lists.Watch.{Watch}
 use Rattle.clause_db.specs.Lists.{no_watch}
-use Rattle.clause_db.specs.Moving.{IsMovable, movable_watches, watched_in, watched_variable, rewatched_old}
+use Rattle.clause_db.specs.Moving.{IsMovable, movable_watches, rewatched_old}
+use Rattle.clause_db.specs.Adding.{watched_in, watched_variable}
 use Rattle.cdcl_core.specs.WatchInvariant.{HasTrue, HasTrueAt, KeepsWatchInvariant}
 use Rattle.cdcl_core.proofs.Guards.{guarded_moved, guarded_visited}
 use Rattle.cdcl_core.specs.Visiting.{AreTrue, AreFalse, id_at, KeepsWatch, IsMoved, IsRest}

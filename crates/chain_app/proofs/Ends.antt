@@ -13,7 +13,8 @@ use Rattle.frame_core.specs.Promise.{AllSteady, CommandPromise}
 use Rattle.chain_app.specs.Tasks.{task_of}
 use Rattle.chain_app.specs.RunPromise.{RunPromise}
 use Rattle.chain_app.specs.KeepsPromises.{KeepsPromises}
-use Rattle.frame_core.specs.KeepingLaws.{not_usage, promised}
+use Rattle.frame_core.specs.KeepingLaws.{promised}
+use Rattle.frame_core.specs.OutcomeLaws.{not_usage}
 use Rattle.chain_app.proofs.Commands.{is_task}
 use Rattle.cmd_agree.specs.AgreeLaws.{agree_promised}
 use Rattle.cmd_recheck.specs.RecheckLaws.{recheck_promised}

@@ -18,7 +18,8 @@ use Rattle.clause_db.specs.Sorted.{sorted}
 use Rattle.clause_db.specs.SortedLaws.{Contains-sorted}
 use Rattle.clause_db.specs.Stored.{Stored, live_in, Watches, IsStored, none_stored, added, rewatched}
 use Rattle.clause_db.specs.StoredLaws.{live_added, next_is_free}
-use Rattle.clause_db.specs.Moving.{IsMovable, movable_watches, watched_variable, added_lists, first_in, second_in, two_differ}
+use Rattle.clause_db.specs.Moving.{IsMovable, movable_watches}
+use Rattle.clause_db.specs.Adding.{watched_variable, added_lists, first_in, second_in, two_differ}
 use Rattle.clause_db.specs.Blockers.{row_of, with_row, with_blocker, with_blockers, rows_moved, blocker_at, IsLiteralOf, AreBlockers}
 
 -- the row that was written, and the others

@@ -26,7 +26,8 @@ use Rattle.clause_db.specs.Sorted.{sorted}
 use Rattle.clause_db.specs.SortedLaws.{clause_permuted}
 use Rattle.std.specs.List.Sorted.{IsPermutation}
 use Rattle.std.proofs.lemmas.List.Sorted.{All-permutation, Contains-permutation, length_permutation}
-use Rattle.clause_db.specs.Moving.{watched_in, IsMovable, movable_watches, watched_variable, stored_none, stored_added, stored_rewatched, rooms}
+use Rattle.clause_db.specs.Moving.{IsMovable, movable_watches, stored_rewatched}
+use Rattle.clause_db.specs.Adding.{watched_in, watched_variable, stored_none, stored_added, rooms}
 
 pub ruleset databases = (common_steps, all_added-push, all_added-none, stored_none, stored_added, stored_rewatched, rooms)
 

@@ -11,7 +11,7 @@ use Rattle.clause_db.specs.Stored.{Stored, live_at, live_in, Watches, IsStored}
 use Rattle.clause_db.specs.StoredLaws.{live_inside}
 use Rattle.clause_db.specs.Blockers.{IsLiteralOf}
 use Rattle.clause_db.specs.Arranging.{Arranged, clauses_of, shown}
-use Rattle.clause_db.specs.Moving.{watched_variable}
+use Rattle.clause_db.specs.Adding.{watched_variable}
 use Rattle.clause_db.specs.Deleting.{HasLeft, IsDeleted, lists_left, arranged_left, arranged_without}
 use Rattle.clause_db.specs.DeletingLaws.{was_live, stored_deleted}
 use Rattle.clause_db.proofs.Shown.{clauses_set}

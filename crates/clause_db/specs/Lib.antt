@@ -4,6 +4,7 @@ pub mod Stored
 pub mod StoredLaws
 pub mod Watching
 pub mod WatchingLaws
+pub mod Adding
 pub mod Moving
 pub mod Lists
 pub mod Blockers

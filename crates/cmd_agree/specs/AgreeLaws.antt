@@ -23,7 +23,7 @@ use Rattle.command_line.specs.CommandLine.{AsksFor}
 use Rattle.frame_core.specs.Run.{Run}
 use Rattle.frame_core.specs.Promise.{OutputHeld, Stands, Replies, Faults, CommandPromise}
 use Rattle.cmd_agree.specs.AgreePromise.{ReportsDifference, AgreePromise}
-use Rattle.frame_core.specs.KeepingLaws.{of_input}
+use Rattle.frame_core.specs.OutcomeLaws.{of_input}
 use Rattle.frame_core.specs.ReadOffLaws.{gets}
 use Rattle.cmd_lines.specs.TableLineLaws.{not_refused as tables_apart}
 

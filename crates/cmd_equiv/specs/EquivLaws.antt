@@ -23,7 +23,7 @@ use Rattle.frame_core.specs.Task.{IsAnswerStatus, IsRefusalStatus, IsAnswerable,
 use Rattle.frame_core.specs.Run.{Run}
 use Rattle.frame_core.specs.Promise.{OutputHeld, ReportsError, Replies, Faults, CommandPromise}
 use Rattle.frame_core.specs.TaskLaws.{at_once_task}
-use Rattle.frame_core.specs.KeepingLaws.{of_input}
+use Rattle.frame_core.specs.OutcomeLaws.{of_input}
 use Rattle.frame_core.specs.ReadOffLaws.{gets}
 use Rattle.cmd_equiv.specs.EquivReport.{standing_status, pair_status, Comparison, equiv_reply, equiv_refusal, IsComparison, HasComparedFault, equiv_task}
 use Rattle.cmd_equiv.specs.EquivPromise.{AreComparable, ReportsStanding, ReportsInterface, EquivPromise}

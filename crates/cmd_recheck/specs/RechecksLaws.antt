@@ -8,7 +8,7 @@ use Rattle.frame_core.specs.Reported.{Refusal, memory_refusal}
 use Rattle.frame_core.specs.Task.{Task, IsRefusalStatus, HasNoReport, IsBeyond, IsAnswerable}
 use Rattle.frame_core.specs.Run.{Run, HasInput}
 use Rattle.frame_core.specs.Promise.{OutputHeld, Stands, Replies, Faults, CommandPromise}
-use Rattle.frame_core.specs.KeepingLaws.{of_input}
+use Rattle.frame_core.specs.OutcomeLaws.{of_input}
 use Rattle.frame_core.specs.ReadOffLaws.{gets, done_replies, limit_beyond, refused_faults, never_undecided}
 use Rattle.cmd_lines.specs.Runs.{Runs}
 use Rattle.depth_theory.specs.Verdicts.{most_of_certificate}

@@ -25,7 +25,7 @@ use Rattle.frame_core.specs.Run.{Run}
 use Rattle.frame_core.specs.Promise.{OutputHeld, ReportsError, Replies, OfInput, ReplyTruncated, ReportTruncated, ReplyOutOfMemory, CommandPromise}
 use Rattle.cmd_synth.specs.SynthPromise.{LeavesPrefix, SynthPromise}
 use Rattle.frame_core.specs.TaskLaws.{in_pieces_task}
-use Rattle.frame_core.specs.KeepingLaws.{of_input}
+use Rattle.frame_core.specs.OutcomeLaws.{of_input}
 use Rattle.frame_core.specs.ReadOffLaws.{gets, no_report, answer_replies, refused_never}
 use Rattle.cmd_lines.specs.TableLineLaws.{not_refused}
 

@@ -13,7 +13,7 @@ use Rattle.cdcl_theory.specs.ResolvingLaws.{derived_step}
 use Rattle.clause_db.specs.Watching.{list_of}
 use Rattle.clause_db.specs.Stored.{Stored, live_in, Watches, IsStored}
 use Rattle.clause_db.specs.Blockers.{IsLiteralOf}
-use Rattle.clause_db.specs.Moving.{watched_in}
+use Rattle.clause_db.specs.Adding.{watched_in}
 use Rattle.conflict_core.specs.Markings.{AreFewer, IsResolution}
 use Rattle.conflict_core.proofs.Gathering.{listed_unset}
 

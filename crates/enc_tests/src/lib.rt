@@ -11,3 +11,5 @@ mod clauses;
 mod fences;
 #[cfg(test)]
 mod formulas;
+#[cfg(test)]
+mod literals;

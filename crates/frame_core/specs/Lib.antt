@@ -1,4 +1,5 @@
 pub mod CallLaws
+pub mod OutcomeLaws
 pub mod KeepingLaws
 pub mod Outside
 pub mod Performed

@@ -8,7 +8,7 @@ use Rattle.frame_core.specs.Reported.{Reply}
 use Rattle.frame_core.specs.Task.{Task, IsBeyond, IsAnswerable}
 use Rattle.frame_core.specs.Run.{Run, HasInput, ReportsPrefix}
 use Rattle.frame_core.specs.Promise.{OutputHeld, Stands, Replies, Faults, ReportTruncated, OfInput, IsTooLong, CommandPromise}
-use Rattle.frame_core.specs.KeepingLaws.{of_input}
+use Rattle.frame_core.specs.OutcomeLaws.{of_input}
 
 -- a command without a report has none that could be truncated
 pub no_report : {A : Type 0} (task : Task) (r : Run) (input : List ℕ) → ((answer : task.Answer) → (task.reply answer).report ≡ None) → ReportTruncated task r input → A

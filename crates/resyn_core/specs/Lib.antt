@@ -4,5 +4,6 @@ pub use Rattle.improve_theory.specs.Settled
 pub mod Outcomes
 pub mod Resynthesized
 pub mod OrderLaws
+pub mod AttemptLaws
 pub mod ResynthesizedLaws
 pub mod RoundLaws

@@ -9,7 +9,7 @@ use Rattle.improve_theory.specs.declared.candidate.WindowCandidate.{WindowCandid
 use Rattle.improve_theory.specs.Candidates.{IsNoCandidate, IsOfRoots}
 use Rattle.resyn_core.specs.Outcomes.{IsShrunk}
 use Rattle.resyn_core.specs.Resynthesized.{Round, LoopState, loop_state, IsResynthesized}
-use Rattle.resyn_core.specs.ResynthesizedLaws.{resynthesized_none, resynthesized_on, resynthesized_accepted}
+use Rattle.resyn_core.specs.AttemptLaws.{resynthesized_none, resynthesized_on, resynthesized_accepted}
 
 -- the net is unchanged
 pub resynthesized_as_it_was : (s t : ImproveSettings) (n m : Net) (r : Round) → t ≡ s → IsShrunk s n m false → IsResynthesized IsNoCandidate (loop_state s n r) (loop_state t m r)

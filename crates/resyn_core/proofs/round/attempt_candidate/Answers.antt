@@ -6,7 +6,7 @@ use Rattle.resyn_core.specs.declared.attempts.Attempted.{Attempted}
 use Rattle.resyn_core.specs.Outcomes.{IsAttempted}
 use Rattle.improve_theory.specs.Candidates.{IsThis}
 use Rattle.resyn_core.specs.Resynthesized.{Round}
-use Rattle.resyn_core.specs.ResynthesizedLaws.{resynthesized_gone, resynthesized_no_gain, resynthesized_open, resynthesized_late}
+use Rattle.resyn_core.specs.AttemptLaws.{resynthesized_gone, resynthesized_no_gain, resynthesized_open, resynthesized_late}
 use Rattle.resyn_core.proofs.round.attempt_candidate.Goals as goal
 
 pub returns-in_ok-push-in-Open : goal.returns-in_ok-push-in-Open

@@ -1,6 +1,7 @@
 use Rattle.std.proofs.Common.{◌≡◌, ◌+◌, ◌≤◌, ◌<◌, length, vec_len, arith, refl}
 use Rattle.clause_db.specs.ArenaRanges.{count_at}
-use Rattle.clause_db.proofs.Gaps.{start_here, empty_laid}
+use Rattle.clause_db.proofs.Gaps.{start_here}
+use Rattle.clause_db.proofs.Emptying.{empty_laid}
 use Rattle.clause_db.proofs.arena.Arena.empty.Goals as goal
 
 pub overflow_sub-start : goal.overflow_sub-start

@@ -1,6 +1,6 @@
 use Rattle.std.proofs.Common.{ℕ, ◌<◌, List, length, Contains, arith, rules}
 use Rattle.clause_db.specs.Watching.{list_of}
-use Rattle.clause_db.specs.Moving.{watched_variable}
+use Rattle.clause_db.specs.Adding.{watched_variable}
 use Rattle.clause_db.proofs.WatchEntries.{found, some_there}
 use Rattle.clause_db.proofs.clause_db.ClauseDb.find.Goals as goal
 
