@@ -162,7 +162,8 @@ this_done s n v x is e = subst (λ (y : WindowCandidate). IsDone s n y) (sym e) 
 pub resynthesized_gone : (s : ImproveSettings) (n : Net) (r : Round) (v : WindowCandidate) → (IsGate n v.root → ⊥) → IsResynthesized (IsThis v) (loop_state s n r) (loop_state s n r)
 resynthesized_gone s n r v none = resynthesized_none (IsThis v) (loop_state s n r) (λ x is. this_done s n v x (no_gate s n v none) is)
 
-pub resynthesized_no_gain : (s t : ImproveSettings) (n m : Net) (r : Round) (v : WindowCandidate) → t ≡ s → IsAttempted s n m v NoGain → IsResynthesized (IsThis v) (loop_state s n r) (loop_state t m r)
+pub resynthesized_no_gain : (s t : ImproveSettings) (n m : Net) (r : Round) (v : WindowCandidate) → t ≡ s →
+    IsAttempted s n m v NoGain → IsResynthesized (IsThis v) (loop_state s n r) (loop_state t m r)
 resynthesized_no_gain s t n m r v asked attempted =
     subst (λ (u : ImproveSettings). IsResynthesized (IsThis v) (loop_state s n r) (loop_state u m r)) (sym asked)
     (subst (λ (x : Net). IsResynthesized (IsThis v) (loop_state s n r) (loop_state s x r)) (sym attempted.0)
