@@ -213,7 +213,7 @@ fn take_end(line: u32, reading: &mut Reading, text: &[u8]) -> Result<(), NetErro
 
 /// Handles a line that begins with a dot.
 #[tactic(auto, unfolding(crate::specs::Statements::directed))]
-fn direct(
+fn take_directive(
     alloc: Global,
     line: u32,
     reading: &mut Reading,
@@ -281,7 +281,7 @@ fn state(alloc: Global, line: u32, reading: &mut Reading, text: &[u8]) -> Result
     }
     let is_first = !reading.is_begun;
     reading.close()?;
-    direct(alloc, line, reading, is_first, word, rest)
+    take_directive(alloc, line, reading, is_first, word, rest)
 }
 
 /// Handles a logical line.

@@ -36,7 +36,7 @@
 //! | `Resolution`, `touched`, `resolve_to_uip` | `analyze`, the literals marked `seen`, up to the first UIP |
 //! | `Redundancy`, `resolve_away` | `litRedundant`, minimisation |
 //! | `minimise_with_binaries` | minimisation by binary clauses (Glucose) |
-//! | `ClauseScores`: `activity`, `levels`, `signature` | clause activity, LBD (glue), signature |
+//! | `ClauseScores`: `activity`, `lbd`, `signature` | clause activity, LBD (glue), signature |
 //! | `reduce_and_bound`, `reduce_db`, `delete_learnt` | `reduceDB`, deletion of learnt clauses |
 //! | `exceeds_bound`, `delete_to_bound` | more additions live than the log's end may have; deletion down to that |
 //! | `subsume_recent`, `subsumed_by_last` | eager subsumption of recent learnt clauses |

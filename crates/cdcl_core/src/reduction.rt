@@ -145,7 +145,7 @@ impl Search {
         Ok(())
     }
 
-    /// Records the clause learnt last, and deletes recent ones that it subsumes.
+    /// Records activity and LBD of the clause learnt last, and deletes recent ones that it subsumes.
     pub(crate) fn subsume_recent(&mut self) -> Result<(), AllocError>
         requires searching { IsSearching self.old }
         requires visited { HasWatchInvariant self.old }

@@ -5,7 +5,7 @@
 //! else is left to propagation. A variable is called open while it is a decision variable of the current
 //! call.
 //!
-//! A call has a work limit: the trail literals propagated (ticks) and the hints of learnt clauses are counted, since a
+//! A call has a work limit: the trail literals that `scan` reads and the hints of learnt clauses are counted, since a
 //! few conflicts far from the assumptions may cost as much as many.
 //!
 //! The contracts promise only that a decision has no value: which variable is decided has no effect on
@@ -20,10 +20,10 @@ use std::alloc::{AllocError, Global};
 use trail_core::Trail;
 use var_heap::VarHeap;
 
-/// The work limit of a call for each conflict of its limit, in trail literals looked at.
+/// The work that a call may do for each conflict of its limit, in trail literals read.
 const WORK: u64 = 200;
 
-/// The work counted for a hint of a learnt clause; a trail literal looked at counts 1.
+/// The work counted for a hint of a learnt clause; a trail literal read counts 1.
 const HINT_WORK: u64 = 4;
 
 /// The decision variables of the current call under assumptions.
@@ -41,7 +41,7 @@ pub(crate) struct Scope {
     pub(crate) fixed: usize,
     /// the work list of `open`: variables still to be added
     pub(crate) left: Vec<u32>,
-    /// the number of trail literals that the current call propagated
+    /// the number of trail literals that `scan` has read in the current call
     pub(crate) seen: u64,
     /// the number of hints of all clauses learnt before the call
     pub(crate) hints: u64,

@@ -52,14 +52,14 @@ pub(crate) struct Search {
     pub(crate) shorter: Shorter,
     /// the number of deleted additions
     pub(crate) deleted: u32,
-    /// the least number of additions of a log that leaves the formula undecided
+    /// a log that leaves the formula undecided has at least this many additions
     pub(crate) least: u32,
     /// the decision variables under assumptions; None before the first such call and after the last one
     pub(crate) scope: Option<Scope>,
 }
 
 /// The additions that replace clauses of the formula which they subsume: those with ids above `low` up to
-/// `high`. They are never deleted.
+/// `high`. No reduction deletes them; the deletions at the log's end (`meet_final_bound`) may.
 #[derive(Clone, Copy, Drop)]
 pub(crate) struct Shorter {
     pub(crate) low: u32,
@@ -350,7 +350,7 @@ impl Search {
         }
     }
 
-    /// The last id at which the search pauses to strengthen the clauses of the formula. It doesn't pause if
+    /// The id from which on the search pauses, once, to strengthen the clauses of the formula; none (`NEVER`) if
     /// the budget is small, if calls under assumptions have learnt clauses already, or if the formula is
     /// large.
     fn pause(&self, budget: u32) -> u32 {
@@ -388,7 +388,7 @@ impl Search {
         self.run_on(budget, shorter)
     }
 
-    /// Goes on without a pause; `shorter` of the additions don't count towards the budget.
+    /// Decides and learns without a pause; the `shorter` strengthened clauses don't count towards the budget.
     fn run_on(&mut self, budget: u32, shorter: u32) -> Result<SearchEnd, AllocError>
         requires searching { IsSearching self.old }
         requires visited { HasWatchInvariant self.old }

@@ -61,8 +61,8 @@ formula_of h size subproblem = (coding_of h.method).formula h.spec h.basis size 
 -- ---- sections
 
 -- A log that ends refuted refutes the subproblem's formula. A log that ends open holds over it, doesn't reach
--- the empty clause, and has at least as many additions as the header says, none of them subsumed by a live
--- clause.
+-- the empty clause, and has at least `conflicts` additions, each subsumed by no clause that is live when it
+-- is added.
 abbrev pub EndsAs : Formula → ℕ → LogEnd → List Line → Type 0
 EndsAs f conflicts ends.Refuted log = Refutes f log
 EndsAs f conflicts ends.Open log = ReachesBudget f log conflicts

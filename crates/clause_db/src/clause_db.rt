@@ -2,7 +2,7 @@
 //! ones first; contracts see them in the order of their codes, so replacing a watched literal doesn't change
 //! the clause for them. Beyond what contracts see, each entry of a watch list has a blocking literal and the
 //! arena position of the clause, where contracts see its id. The invariant of `Watches` relates positions and
-//! ids. So `compact` moves literals, and contracts see no change. Every method states its effect as an
+//! ids. So `compact` moves literals, and contracts see no change. `add` and `rewatch_at` state their effect as an
 //! equation on what contracts see (`added`, `rewatched`), so the facts that the solver needs about watches
 //! are laws about these.
 ghost use Rattle.std.specs.Prelude.{◌≡◌, ◌≢◌, ℕ, ◌+◌, ◌<◌, ◌≤◌, ◌⊎◌, ◌↔◌, ℤ, Some, IsTrue, IsSome, IfOk, OnOk, OnErr};
@@ -53,7 +53,7 @@ impl Model for ClauseDb {
 #[tactic(auto, using(crate::proofs::Databases::databases))]
 impl ClauseDb {
     /// The clauses of a formula, under their ids there. Each watches its first two literals. The literals of
-    /// all clauses, and two entries more for each clause, are at most 2,147,483,647; more count as running
+    /// all clauses, and two header words for each clause, are at most 2,147,483,647; more count as running
     /// out of memory.
     pub fn new(alloc: Global, cnf: &Cnf) -> Result<ClauseDb, AllocError>
         ensures all { IfOk result (λ c. c ≡ all_added (none_stored cnf.now.vars) cnf.now.clauses) }
@@ -82,7 +82,7 @@ impl ClauseDb {
     }
 
     /// Adds a clause over the variables of the formula, and returns its id, 1 + the last one. It watches its
-    /// first two literals. The literals of all clauses, and two entries more for each id given so far, are at
+    /// first two literals. The literals of all clauses, and two header words for each id given so far, are at
     /// most 2,147,483,647; more count as running out of memory. Those of a deleted clause count until
     /// `compact`.
     pub fn add(&mut self, lits: &[Lit]) -> Result<u32, AllocError>

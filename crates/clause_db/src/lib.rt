@@ -5,7 +5,7 @@
 //! Contracts see a list with an entry for each id given so far, the clause if it is live; `add` appends an
 //! entry, `delete` empties one, and `arranged` and `live` read. Each clause of at least two literals watches
 //! two of them: `watched` returns these, `watching` and `id_at` give the clauses that watch a literal, and
-//! `rewatch` replaces a watched literal (Moskewicz and others, "Chaff", 2001).
+//! `rewatch_at` replaces a watched literal (Moskewicz and others, "Chaff", 2001).
 //!
 //! The literals of all clauses are stored in one arena, each once, the two watched ones of a clause first, so
 //! propagation reads adjacent memory. A clause that watches another literal swaps it with the one it gives

@@ -7,7 +7,7 @@ pub struct Learnt {
     /// Its literals: first the one of the conflict's level (the asserting literal), second the one of the
     /// others that became false last.
     pub lits: Vec<Lit>,
-    /// 1 + the trail index at which the second literal became false (not a level): the backjump keeps the levels
+    /// `falsified_at` of the second literal, a trail position and not a level: the backjump keeps the levels
     /// that begin below it; 0 if the clause is unit.
     pub back: u32,
     /// The ids of the clauses from which it follows, in the order of a log's hints.

@@ -111,7 +111,7 @@ pub record CommandPromise (task : Task) (r : Run) : Type 0 where
       → IsAnswerable task input
       → AllSteady r
       → Replies task r input
-  -- If no call failed but maybe of the notes, it gets its answer, or the notes failed while its report was
+  -- If no call failed except on the notes, it gets its answer, or the notes failed while its report was
   -- written.
   pub answered : (input : List ℕ)
       → HasInput task.reads r.source.bytes input
@@ -140,8 +140,8 @@ pub record CommandPromise (task : Task) (r : Run) : Type 0 where
       OfInput task r (λ input. ReplyTruncated task r input ⊎ ReportTruncated task r input)
   pub write_rose : r.status ≡ WriteFault → Rose r.out.faults r.out'.faults ⊎ Rose r.note.faults r.note'.faults
   pub memory_only : r.status ≡ Memory → ReportsError r memory_refusal ⊎ OfInput task r (ReplyOutOfMemory task r)
-  -- If a call of the source or of the output failed, that is reported and nothing else. A call of the notes that
-  -- fails in a report is reported too, since the reply isn't whole without its report.
+  -- If a call of the source or of the output failed, the status says so. For the notes `answered` and
+  -- `write_fault_only` say it: a reply isn't whole without its report.
   pub read_failed : r.source.faults < r.source'.faults → r.status ≡ ReadFault
   pub write_failed : r.out.faults < r.out'.faults → r.status ≡ WriteFault
   -- A command without a report never ends with a failure of the notes.

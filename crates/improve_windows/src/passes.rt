@@ -26,7 +26,7 @@ use window_attempt::{WindowAttempts, many_merged};
 #[derive(Drop)]
 pub struct ImprovedNet {
     pub net: Net,
-    /// Whether no window up to the cap has a shorter chain, but for those that are undecided.
+    /// Whether no listed window up to the cap has a shorter chain, but for those that are undecided.
     pub settled: bool,
     /// The windows that stayed undecided, in the order of candidates. Empty where `settled` is false.
     pub undecided: Vec<Undecided>,
@@ -159,8 +159,8 @@ fn improved<S: Solver>(
     Ok(left)
 }
 
-/// Improves a net: cleanup, moves over the whole net and walks over convex windows, and then resynthesis,
-/// until no window up to the cap has a shorter chain, or `settings.rounds` rounds have changed something.
+/// Improves a net by the passes of the file's head, until no listed window up to the cap has a shorter chain, or
+/// `settings.rounds` rounds have changed something. With a cap of 0 there is only the cleanup.
 #[tactic(auto, using(crate::specs::ImprovementLaws::improving))]
 pub fn improve_net<S: Solver>(
     alloc: Global,

@@ -53,7 +53,7 @@ fn rows_distinguished(
     ensures { IfOk result (IsObservableMask net.now window.now fanout_cone.now) }
 {
     let _sources = net.sources(); // for the prover: brings the net's invariant into the proof
-    let _leaves = cone.leaves(); // for the prover: the cone is one
+    let _leaves = cone.leaves(); // for the prover: brings in the cone's invariant
     let words = cone_words(alloc, cone)?;
     let differ = distinguishing(
         alloc,

@@ -43,7 +43,7 @@ pub record IsSideInput (n : Net) (gates fanout_cone : List ℕ) (p : ℕ) : Type
   pub outside : among (fanout_cone ++ gates) p ≡ false
   pub read : IsReadBy n fanout_cone p
 
--- an output of the fanout cone: one of its gates that a sink reads, or a gate outside the window and the
+-- an output of the fanout cone: one of its gates that is read by a sink or by a gate outside the window and the
 -- fanout cone
 pub record IsConeOutput (n : Net) (gates fanout_cone : List ℕ) (p : ℕ) : Type 0 where
   pub inside : among fanout_cone p ≡ true

@@ -1,5 +1,5 @@
-//! A sweep: a round over structurally equal gates, and then rounds over all gates and sinks, each with ten times
-//! the conflict limit of the round before.
+//! A sweep: a round over structurally equal gates, the binary clauses of the gates, and then rounds over the gates
+//! and sinks that are still needed, each with ten times the conflict limit of the round before.
 ghost use Rattle.std.specs.Prelude.{◌≡◌, ℕ, ◌+◌, ◌<◌, ◌^◌, length, OnOk};
 ghost use Rattle.sat_theory.specs.Formula.{Formula};
 ghost use Rattle.sat_sweep.specs.KeepsFormula.{KeepsFormula};

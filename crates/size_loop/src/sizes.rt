@@ -1,4 +1,4 @@
-//! One size, subproblem by subproblem in order. The first one with a chain ends it; if none has one, there is a
+//! One size, subproblem by subproblem in order. The first with a chain ends the search; if none has one, there is a
 //! log for each, in the same order. A chain of few steps over few inputs is found by enumeration (`step_core`), in
 //! less time than it takes to write the formula of its size.
 ghost use Rattle.std.specs.Prelude.{◌≤◌, IfOk, IfSome};

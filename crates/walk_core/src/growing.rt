@@ -10,7 +10,7 @@ use net_core::Net;
 use rows::{Random, at};
 use std::alloc::{AllocError, Global};
 use window_core::{
-    Fanouts, MOST_GATES, all_inputs, first_fanout, gate_at, has, later_of, node_of, put,
+    Fanouts, MOST_GATES_OF_WINDOW, all_inputs, first_fanout, gate_at, has, later_of, node_of, put,
 };
 
 /// The most inputs of a set.
@@ -88,7 +88,7 @@ fn with_gate(alloc: Global, net: &Net, gates: Vec<u32>, gate: u32) -> Result<Vec
     ensures gates { IfOk result (λ new. AreGates net.now new.items) }
     ensures few { IfOk result (λ new. length new.items ≤ length gates.items + 1) }
 {
-    let mut more = Vec::with_capacity(alloc, MOST_GATES)?;
+    let mut more = Vec::with_capacity(alloc, MOST_GATES_OF_WINDOW)?;
     more.extend_from_slice(&gates)?;
     put(&mut more, gate)?;
     let inputs = all_inputs(alloc, net, &more)?;
@@ -119,7 +119,7 @@ fn alone(alloc: Global, net: &Net, root: u32) -> Result<Vec<u32>, AllocError>
     ensures gates { IfOk result (λ gates. AreGates net.now gates.items) }
     ensures one { IfOk result (λ gates. length gates.items ≡ 1) }
 {
-    let mut gates = Vec::with_capacity(alloc, MOST_GATES)?;
+    let mut gates = Vec::with_capacity(alloc, MOST_GATES_OF_WINDOW)?;
     gates.push(root)?;
     Ok(gates)
 }

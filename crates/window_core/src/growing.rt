@@ -11,7 +11,7 @@ ghost use Rattle.window_theory.specs.Nodes.{among};
 ghost use Rattle.window_core.specs.Gates.{IsGateOf, IsGreater, IsGreaterIn, IsGreaterSig, IsSought};
 ghost use Rattle.window_core.specs.Gates.{bound_of as bound_of_taken};
 
-use crate::shape::MOST_GATES;
+use crate::shape::MOST_GATES_OF_WINDOW;
 use net_core::{Gate, Net, Sig};
 use std::alloc::{AllocError, Global};
 
@@ -111,7 +111,7 @@ pub fn take_gates(
     ensures none { IfOk result (λ answer. IfNone answer ((w : window.Window) → IsWindow net.now root partner count w →
         ⊥)) }
 {
-    let mut taken = Vec::with_capacity(alloc, MOST_GATES)?;
+    let mut taken = Vec::with_capacity(alloc, MOST_GATES_OF_WINDOW)?;
     for _taken in 0..count {
         let Some(node) = next_gate(net, root, partner, &taken) else {
             return Ok(None);

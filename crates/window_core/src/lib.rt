@@ -53,7 +53,7 @@ pub use fanouts::{Fanouts, fanouts_of, first_fanout, later_of, node_of};
 pub use growing::gate_at;
 pub use net_core::{Gate, Net, Sig};
 pub use partners::{partners, partners_by};
-pub use shape::{MOST_GATES, Window};
+pub use shape::{MOST_GATES_OF_WINDOW, Window};
 pub use specifying::{signals_of, spec_of};
 pub use window_by::{window, window_by};
 pub use window_inputs::all_inputs;

@@ -7,7 +7,7 @@ ghost use Rattle.window_core.specs.Shape.{IsShaped};
 use std::marker::Model;
 
 /// The most gates of a window: the greatest cap that the settings allow.
-pub const MOST_GATES: usize = settings::MOST_GATES_OF_WINDOW as usize;
+pub const MOST_GATES_OF_WINDOW: usize = settings::MOST_GATES_OF_WINDOW as usize;
 
 /// The most inputs of a window: as many as a specification can have.
 pub const MOST_INPUTS: usize = tt_core::MOST_INPUTS as usize;

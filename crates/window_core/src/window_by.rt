@@ -1,5 +1,5 @@
 //! The window of a root, a partner or none, and a count: the gates that they take, with their inputs and
-//! outputs. These are a window where the partner is among them and they have at most 6 inputs; they never
+//! outputs. There is none where the partner isn't among the gates or they have more than 6 inputs; they never
 //! have more outputs than gates.
 
 ghost use Rattle.std.specs.Prelude.{◌≡◌, ◌≤◌, true, length, IfOk, IfSome, IfNone};
@@ -58,9 +58,9 @@ fn window_of(
     Ok(Some(Window::new(root, partner, gates, inputs, outputs)))
 }
 
-/// The window of a root, a partner or none, and a count from 1 to 8, by the index of the net. None is
+/// The window of a root, a partner or none, and a count from 1 to 8, by the net's fanout index. None is
 /// returned exactly where fewer than `count` gates can be taken, the partner isn't among them, or they have
-/// more than 6 inputs or 8 outputs.
+/// more than 6 inputs.
 pub fn window_by(
     alloc: Global,
     net: &Net,

@@ -8,7 +8,7 @@ ghost use Rattle.window_core.specs.Rising.{put_outside};
 
 use crate::ascending::{has, put};
 use crate::growing::gate_at;
-use crate::shape::MOST_GATES;
+use crate::shape::MOST_GATES_OF_WINDOW;
 use net_core::{Net, Sig};
 use std::alloc::{AllocError, Global};
 
@@ -30,7 +30,7 @@ pub fn all_inputs(alloc: Global, net: &Net, gates: &[u32]) -> Result<Vec<u32>, A
     requires { (p : ℕ) → among gates.now p ≡ true → IsGate net.now p }
     ensures { IfOk result (λ inputs. AreJust (IsInput net.now gates.now) inputs.items) }
 {
-    let mut inputs = Vec::with_capacity(alloc, 2 * MOST_GATES)?;
+    let mut inputs = Vec::with_capacity(alloc, 2 * MOST_GATES_OF_WINDOW)?;
     let mut left = gates;
     while let Some((node, rest)) = left.split_first() {
         let gate = gate_at(net, *node);

@@ -69,7 +69,7 @@ pub record IsOutsideFanout (n : Net) (gates : List ℕ) (p : ℕ) : Type 0 where
 
 -- A window belongs to a net where its inputs are nodes of the net that don't depend on its gates, among them
 -- each node outside that a gate inside reads, and its outputs are exactly those of its gates. So its gates
--- are a convex set, and a convex set of gates with exactly its inputs and outputs belongs (laws say both). A
+-- are a convex set (`IsConvex` of `Paths`), and one with exactly its inputs and outputs belongs (laws say both). A
 -- window is wide where it has inputs that no gate inside reads: further divisors, from which a chain that
 -- replaces it may compute the outputs (resubstitution).
 -- Example: where the gates at 3 and 4 are both AND of the nodes 1 and 2, and both are sinks, the gate 4 with
