@@ -11,10 +11,10 @@ use Rattle.clause_db.proofs.Ranges.{range_long, range_read}
 use Rattle.clause_db.proofs.Starts.{shown, start_at, range_of, room_of, headed_at, inside_at, after_at, lists_room, id_at_start, read_count}
 
 -- The invariant, by the starts.
-record AreApart (row : List ℤ) (starts : List ℕ) : Type 0 where
-  headed : (k : ℕ) → k < length starts → 1 < start_at starts k
-  inside : (k : ℕ) → k < length starts → start_at starts k + count_at row (start_at starts k) ≤ length row
-  following : (i k : ℕ) → i < k → k < length starts → start_at starts i + count_at row (start_at starts i) + 1 < start_at starts k
+pub record AreApart (row : List ℤ) (starts : List ℕ) : Type 0 where
+  pub headed : (k : ℕ) → k < length starts → 1 < start_at starts k
+  pub inside : (k : ℕ) → k < length starts → start_at starts k + count_at row (start_at starts k) ≤ length row
+  pub following : (i k : ℕ) → i < k → k < length starts → start_at starts i + count_at row (start_at starts i) + 1 < start_at starts k
 
 pub apart_ranges : (row : List ℤ) (starts : List ℕ) → AreApart row starts → AreRanges row (ranges_of row starts)
 apart_ranges row starts are = record {
