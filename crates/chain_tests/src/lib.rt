@@ -1,6 +1,6 @@
-//! Tests of the crates from `port_io` and `text_core` to `step_core`: input and output errors in
+//! Tests of the crates from `port_io` and `text_core` to `chain_bound`: input and output errors in
 //! mid-stream, lines, words and numbers of texts, operators and bases, truth tables and their lower
-//! bounds, chain blocks, and least chains of few steps.
+//! bounds, chain blocks, least chains of few steps, and the nets and chains that walks find.
 #![tactic(auto)]
 
 #[cfg(test)]
@@ -19,3 +19,5 @@ mod steps;
 mod tables;
 #[cfg(test)]
 mod texts;
+#[cfg(test)]
+mod walks;
