@@ -40,13 +40,70 @@ fn limits_of(tables: &Tables, bound: Bound) -> Limits {
     }
 }
 
-/// Keeps the walk's net where it is the least so far.
-fn keep_least(walk: &Walk, least: u32, best: &mut SmallNet) -> Result<u32, AllocError> {
-    if walk.cost() >= least {
-        return Ok(least);
+/// A search in progress: its walk, the least net so far, and the cost of that net.
+#[derive(Drop)]
+struct Search {
+    choices: Choices,
+    walk: Walk,
+    random: Random,
+    best: SmallNet,
+    least: u32,
+}
+
+impl Search {
+    /// A search without a net.
+    fn new(alloc: Global, basis: u16, tables: &Tables, seed: u64) -> Result<Search, AllocError> {
+        let care = Vec::from_slice(alloc, tables.care())?;
+        Ok(Search {
+            choices: Choices::new(alloc, basis)?,
+            walk: Walk::new(alloc, basis, OutputComplements::Counted, care, seed)?,
+            random: Random::new(seed.wrapping_add(1)),
+            best: SmallNet::new(alloc, 0, 1)?,
+            least: u32::MAX,
+        })
     }
-    walk.copy_into(best)?;
-    Ok(walk.cost())
+
+    /// Keeps the walk's net where it is the least so far.
+    fn keep_least(&mut self) -> Result<(), AllocError> {
+        if self.walk.cost() >= self.least {
+            return Ok(());
+        }
+        self.least = self.walk.cost();
+        self.walk.copy_into(&mut self.best)
+    }
+
+    /// One walk from a random start. Returns whether another one may follow.
+    fn walk_once(
+        &mut self,
+        alloc: Global,
+        tables: &Tables,
+        bound: Bound,
+    ) -> Result<bool, AllocError> {
+        let start = tables.random_start(alloc, &self.choices, &mut self.random)?;
+        let Some(net) = start else {
+            return Ok(false);
+        };
+        self.walk.start(&net)?;
+        self.walk.run(limits_of(tables, bound))?;
+        self.keep_least()?;
+        Ok(self.least > bound.enough && self.walk.work() < bound.work)
+    }
+
+    /// Walks until the bound ends the search.
+    fn run(&mut self, alloc: Global, tables: &Tables, bound: Bound) -> Result<(), AllocError> {
+        for _walk in 0..MOST_WALKS {
+            if !self.walk_once(alloc, tables, bound)? {
+                break;
+            }
+        }
+        Ok(())
+    }
+
+    /// The least net that was found.
+    fn into_best(self) -> Option<SmallNet> {
+        let Search { best, least, .. } = self;
+        if least == u32::MAX { None } else { Some(best) }
+    }
 }
 
 /// A net of the tables over the basis with as few gates as the search finds, its outputs without complements; None
@@ -57,26 +114,7 @@ pub fn search_net(
     tables: &Tables,
     bound: Bound,
 ) -> Result<Option<SmallNet>, AllocError> {
-    let choices = Choices::new(alloc, basis)?;
-    let care = Vec::from_slice(alloc, tables.care())?;
-    let mut walk = Walk::new(alloc, basis, OutputComplements::Counted, care, bound.seed)?;
-    let mut random = Random::new(bound.seed.wrapping_add(1));
-    let mut best = SmallNet::new(alloc, 0, 1)?;
-    let mut least = u32::MAX;
-    for _walk in 0..MOST_WALKS {
-        let Some(net) = tables.random_start(alloc, &choices, &mut random)? else {
-            break;
-        };
-        walk.start(&net)?;
-        walk.run(limits_of(tables, bound))?;
-        least = keep_least(&walk, least, &mut best)?;
-        if least <= bound.enough || walk.work() >= bound.work {
-            break;
-        }
-    }
-    if least == u32::MAX {
-        Ok(None)
-    } else {
-        Ok(Some(best))
-    }
+    let mut search = Search::new(alloc, basis, tables, bound.seed)?;
+    search.run(alloc, tables, bound)?;
+    Ok(search.into_best())
 }

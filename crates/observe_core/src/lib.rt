@@ -15,7 +15,7 @@
 //! ```
 #![tactic(auto)]
 
-mod fanout_cone;
+mod fanout_cones;
 mod forced_outputs;
 mod lists;
 mod next_fanout;
@@ -25,7 +25,7 @@ mod relaxing;
 mod shape;
 mod with_constants;
 
-pub use fanout_cone::{fanout_cone, fanout_cone_by};
+pub use fanout_cones::{fanout_cone, fanout_cone_by};
 pub use lists::lists_of;
 pub use relaxing::{observed_spec, observed_spec_by};
 pub use shape::FanoutCone;

@@ -8,7 +8,7 @@ ghost use Rattle.observe_theory.specs.FanoutCone.{FanoutCone, IsFanoutCone};
 ghost use Rattle.observe_theory.specs.Observed.{IsObservedOf};
 ghost use Rattle.observe_core.specs.Observing.{IsMasked, IsObservableMask};
 
-use crate::fanout_cone::fanout_cone_by;
+use crate::fanout_cones::fanout_cone_by;
 use crate::observing::observable_rows;
 use std::alloc::{AllocError, Global};
 use tt_core::Spec;

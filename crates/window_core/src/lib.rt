@@ -37,24 +37,24 @@
 #![tactic(auto)]
 
 mod ascending;
-mod fanin_cone;
+mod fanin_cones;
 mod fanouts;
 mod growing;
-mod partners;
+mod partner_list;
+mod root_window;
 mod shape;
 mod specifying;
-mod window_by;
 mod window_inputs;
 mod window_outputs;
 
 pub use ascending::{has, put};
-pub use fanin_cone::fanin_cone;
+pub use fanin_cones::fanin_cone;
 pub use fanouts::{Fanouts, fanouts_of, first_fanout, later_of, node_of};
 pub use growing::gate_at;
 pub use net_core::{Gate, Net, Sig};
-pub use partners::{partners, partners_by};
+pub use partner_list::{partners, partners_by};
+pub use root_window::{window, window_by};
 pub use shape::{MOST_GATES_OF_WINDOW, Window};
 pub use specifying::{signals_of, spec_of};
-pub use window_by::{window, window_by};
 pub use window_inputs::all_inputs;
 pub use window_outputs::all_outputs;

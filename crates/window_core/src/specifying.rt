@@ -17,7 +17,7 @@ ghost use Rattle.window_core.specs.Expanding.{AreAbove, gate_nodes};
 ghost use Rattle.window_core.specs.Masking.{IsCareMask, AreNumbered, HasGateValues, AreMasked};
 ghost use Rattle.chain_theory.specs.Limits.{most_inputs};
 
-use crate::fanin_cone::fanin_cone;
+use crate::fanin_cones::fanin_cone;
 use crate::growing::gate_at;
 use crate::shape::{MOST_INPUTS, MOST_OUTPUTS, Window};
 use lane_sim::{Cone, Words, cone_words, lanes_of, patterns};
