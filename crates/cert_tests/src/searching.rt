@@ -154,7 +154,7 @@ fn goes_on(alloc: Global) -> bool {
     let Ok(tables) = read_tables(alloc, XOR) else {
         return false;
     };
-    let search = SizeSearch::new(tables.spec, Basis::new(ALL), Method::Plain, 16, 100_000);
+    let search = SizeSearch::new(tables.spec, Basis::new(ALL), Method::Plain, 16, 100_000, 0);
     match search.advance::<Cdcl>(alloc) {
         Ok(Advance::Section { rest, section }) => ends(alloc, rest) && section.size == 0,
         _ => false,

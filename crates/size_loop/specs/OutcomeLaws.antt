@@ -6,12 +6,13 @@ use Rattle.std.proofs.lemmas.List.Elements.{All-nil, All-push}
 use Rattle.chain_theory.specs.Chain.{Chain}
 use Rattle.tt_core.specs.Words.{specification}
 use Rattle.op_basis.specs.Basis.{members}
-use Rattle.step_core.specs.LeastChains.{IsLeastAnswer}
+use Rattle.step_core.specs.LeastChains.{IsChainWithin, IsLeastAnswer}
+use Rattle.std.specs.Prelude.{IfSome}
 use Rattle.enc_theory.specs.declared.subproblem.Subproblem.{Subproblem}
 use Rattle.cert_theory.specs.declared.data.Header.{Header}
 use Rattle.cert_theory.specs.Certificate.{SubproblemLog, IsSubproblemLog, subproblem_of, IsFound, IsTrailer, found as found_at}
 use Rattle.cert_theory.specs.LiveBounds.{HasLiveBounds}
-use Rattle.size_loop.specs.Outcomes.{AreLogged, IsEnumerated, HasSize}
+use Rattle.size_loop.specs.Outcomes.{AreLogged, IsKnown, HasSize}
 
 -- without subproblems there are no logs
 pub logged_none : (h : Header) (size : ℕ) → AreLogged h size [] []
@@ -37,17 +38,22 @@ logged_more h size subproblems logs subproblem p are same is live_bounds = recor
 }
 
 -- the result of an enumeration is kept
-pub enumerated_few : (h : Header) (most : ℕ) (found : Option Chain) → IsLeastAnswer (specification h.spec) (members h.basis) most found → most ≤ h.max → IsEnumerated h found
+pub enumerated_few : (h : Header) (most : ℕ) (found : Option Chain) → IsLeastAnswer (specification h.spec) (members h.basis) most found → most ≤ h.max → IsKnown h found
 enumerated_few h most None answer room = tt
 enumerated_few h most (Some c) short room = record { chain = short.small.chain; size_is = refl; size_to = omega (arith, short.few, room); over = short.over; agrees = short.agrees }
 
+-- so is the result of a walk
+pub walked_within : (h : Header) (found : Option Chain) → IfSome found (λ c. IsChainWithin (specification h.spec) (members h.basis) h.max c) → IsKnown h found
+walked_within h None within = tt
+walked_within h (Some c) within = record { chain = within.small.chain; size_is = refl; size_to = within.few; over = within.over; agrees = within.agrees }
+
 -- its size is the number of its steps
-pub enumerated_found : (h : Header) (size : ℕ) (c : Chain) → IsFound h (length c.steps) c → length c.steps ≡ size → IsFound h size c
-enumerated_found h size c is count = subst (λ (n : ℕ). IsFound h n c) count is
+pub known_found : (h : Header) (size : ℕ) (c : Chain) → IsFound h (length c.steps) c → length c.steps ≡ size → IsFound h size c
+known_found h size c is count = subst (λ (n : ℕ). IsFound h n c) count is
 
 -- and it ends the search at that size
-pub enumerated_ending : (h : Header) (next : ℕ) (low : Option ℕ) (found : Option Chain) → IsEnumerated h found → HasSize next found → IsTrailer h next low found (found_at next low)
-enumerated_ending h next low None is has = absurd has
-enumerated_ending h next low (Some c) is has = (enumerated_found h next c is has, refl)
+pub known_ending : (h : Header) (next : ℕ) (low : Option ℕ) (found : Option Chain) → IsKnown h found → HasSize next found → IsTrailer h next low found (found_at next low)
+known_ending h next low None is has = absurd has
+known_ending h next low (Some c) is has = (known_found h next c is has, refl)
 
-pub ruleset enumerating = (common_steps, enumerated_few, enumerated_found, enumerated_ending)
+pub ruleset knowing = (common_steps, enumerated_few, walked_within, known_found, known_ending)

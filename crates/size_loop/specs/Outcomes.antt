@@ -28,11 +28,11 @@ abbrev pub IsSized : Header → ℕ → SizeOutcome → Type 0
 IsSized h size (sizes.Found c) = IsFound h size c
 IsSized h size (sizes.Logged s) = IsSection h size s × HasLiveBoundsIn h s
 
--- the chain that the enumeration found, if any: it implements the tables, and its size is in the range of the
--- search
-abbrev pub IsEnumerated : Header → Option Chain → Type 0
-IsEnumerated h None = Unit {0}
-IsEnumerated h (Some c) = IsFound h (length c.steps) c
+-- the chain that is known before its size comes, if any: it implements the tables, and its size is in the range of
+-- the search
+abbrev pub IsKnown : Header → Option Chain → Type 0
+IsKnown h None = Unit {0}
+IsKnown h (Some c) = IsFound h (length c.steps) c
 
 -- there is a chain, and it has `size` steps
 abbrev pub HasSize : ℕ → Option Chain → Type 0

@@ -1,15 +1,16 @@
 //! The search as a value that advances size by size. The contract of one step is enough to build a certificate
 //! from all steps (`specs/SearchedLaws.antt`), whether the caller keeps the sections or writes and drops them.
-//! Before the first size it enumerates chains of few steps once, and keeps the shortest one until its size comes.
+//! It looks for a chain before the formulas of a size (`known`), and keeps the shortest one until its size comes.
 ghost use Rattle.std.specs.Prelude.{◌≡◌, ◌≤◌, None, IsTrue, IfOk};
 ghost use Rattle.settings.specs.Synth.{IsInRange};
-ghost use Rattle.cert_theory.specs.Certificate.{IsHeader, IsSection, IsTrailer};
+ghost use Rattle.cert_theory.specs.Certificate.{IsSection, IsTrailer};
 ghost use Rattle.size_loop.specs.Advancing.{IfSection, IfEnded, after_section, open_with};
 ghost use Rattle.cert_theory.specs.LiveBounds.{HasLiveBoundsIn};
 ghost use Rattle.size_loop.specs.State.{IsState};
-ghost use Rattle.size_loop.specs.Outcomes.{IsEnumerated, HasSize};
+ghost use Rattle.size_loop.specs.Outcomes.{IsKnown, HasSize};
 
-use crate::sizes::{SizeOutcome, enumerated, search_formulas};
+use crate::known::known_from;
+use crate::sizes::{SizeOutcome, search_formulas};
 use cert_theory::{Header, Section, Verdict};
 use chain_core::Chain;
 use op_basis::Basis;
@@ -25,20 +26,21 @@ pub struct SizeSearch {
     header: Header,
     next: u32,
     low: Option<u32>,
-    // the chain found by enumeration before the first size, if any
-    enumerated: Option<Chain>,
+    // the chain that is known before its size comes, if any
+    known: Option<Chain>,
+    effort: u32,
 }
 
 impl Model for SizeSearch {
     ghost use Rattle.size_loop.specs.State.{State, IsState};
-    ghost use Rattle.size_loop.specs.Outcomes.{IsEnumerated};
+    ghost use Rattle.size_loop.specs.Outcomes.{IsKnown};
 
     ghost Value = { State };
 
     ghost view = { λ s. record { header = s.header; next = s.next; low = s.low } };
 
     ghost invariant = { λ s. IsState (record { header = s.header; next = s.next; low = s.low }) ×
-        IsEnumerated s.header s.enumerated };
+        IsKnown s.header s.known };
 }
 
 /// The result of the next size.
@@ -56,12 +58,20 @@ pub enum Advance {
     },
 }
 
-#[tactic(auto, using(crate::specs::OutcomeLaws::enumerating))]
+#[tactic(auto, using(crate::specs::OutcomeLaws::knowing))]
 impl SizeSearch {
     /// A search for a chain over the basis that implements the tables, from size 0 on. `max` is the greatest size.
-    /// A formula is left open once the solver has learnt at least `budget` clauses of it. The basis isn't empty,
-    /// and `max` and `budget` are in the ranges of `settings`.
-    pub fn new(spec: Spec, basis: Basis, method: Method, max: u32, budget: u32) -> SizeSearch
+    /// A formula is left open once the solver has learnt at least `budget` clauses of it. `effort` is a factor for
+    /// the work of the walks, 0 for no walk. The basis isn't empty, and `max` and `budget` are in the ranges of
+    /// `settings`.
+    pub fn new(
+        spec: Spec,
+        basis: Basis,
+        method: Method,
+        max: u32,
+        budget: u32,
+        effort: u32,
+    ) -> SizeSearch
         requires settings { IsInRange (record { basis = basis; method = method; max = max; conflicts = budget }) }
         ensures header { result.header ≡ record {
           spec = spec;
@@ -87,7 +97,8 @@ impl SizeSearch {
             },
             next: 0,
             low: None,
-            enumerated: None,
+            known: None,
+            effort,
         }
     }
 
@@ -106,7 +117,8 @@ impl SizeSearch {
             header,
             next,
             low,
-            enumerated,
+            known,
+            effort,
         } = self;
         if next > header.max {
             return Ok(Advance::Ended {
@@ -114,10 +126,10 @@ impl SizeSearch {
                 verdict: Verdict::not_found(header.max, low),
             });
         }
-        let enumerated = enumerated_from(alloc, &header, next, enumerated)?;
-        if has_size(&enumerated, next) {
+        let known = known_from(alloc, &header, next, effort, known)?;
+        if has_size(&known, next) {
             return Ok(Advance::Ended {
-                chain: enumerated,
+                chain: known,
                 verdict: Verdict::found(next, low),
             });
         }
@@ -131,29 +143,13 @@ impl SizeSearch {
                     header,
                     next: next + 1,
                     low: first_open(low, &section),
-                    enumerated,
+                    known,
+                    effort,
                 };
                 Ok(Advance::Section { rest, section })
             }
         }
     }
-}
-
-/// The chain of few steps: enumerated before the first size, and kept afterwards.
-fn enumerated_from(
-    alloc: Global,
-    header: &Header,
-    next: u32,
-    before: Option<Chain>,
-) -> Result<Option<Chain>, AllocError>
-    requires header { IsHeader header.now }
-    requires before { IsEnumerated header.now before }
-    ensures { IfOk result (λ found. IsEnumerated header.now found) }
-{
-    if next > 0 {
-        return Ok(before);
-    }
-    enumerated(alloc, header, header.max)
 }
 
 /// Whether there is a chain and it has `size` steps.

@@ -8,22 +8,28 @@
 //! result is a valid certificate whose logs stay small. An open log keeps at least half of its additions live, and
 //! no log has much more than three quarters of them live, so that it is cheap to check.
 //!
+//! Many chains are known before their size comes: of up to four inputs short ones by enumeration, of more inputs by
+//! walks over small nets. Then the formula of their size isn't solved.
+//!
 //! ```text
 //! let certificate = search::<Cdcl>(alloc, &spec, basis, Method::Ssv, 12, 100_000)?;
 //! ```
 //!
 //! - `trying`: one subproblem, by its formula and the solver.
 //! - `sizes`: one size, by enumeration if it has few steps, and subproblem by subproblem.
+//! - `known`: the chain that is known before its size comes.
 //! - `advancing`: the search as a value that advances size by size.
 //! - `searching`: the whole search.
 #![tactic(auto)]
 
 mod advancing;
+mod known;
 mod searching;
 mod sizes;
 mod trying;
 
 pub use advancing::{Advance, SizeSearch};
+pub use known::DEFAULT_EFFORT;
 pub use searching::search;
 pub use sizes::{SizeOutcome, search_size};
 pub use trying::{SubproblemOutcome, try_subproblem};

@@ -15,8 +15,8 @@ use tt_core::Spec;
 
 /// Searches the sizes from 0 to `max` with the solver `S` for a chain of the fewest steps over the basis that
 /// implements the tables, and returns the certificate of what it found. A subproblem is left open once the solver
-/// has learnt at least `budget` clauses. The basis isn't empty, and `max` and `budget` are in the ranges of
-/// `settings`.
+/// has learnt at least `budget` clauses. There is no walk: chains come from enumeration and formulas alone. The basis
+/// isn't empty, and `max` and `budget` are in the ranges of `settings`.
 #[tactic(auto, using(crate::specs::SearchedLaws::steps))]
 pub fn search<S: Solver>(
     alloc: Global,
@@ -37,7 +37,7 @@ pub fn search<S: Solver>(
     ensures valid { IfOk result (λ b. IsValid b) }
     ensures live_bounds { IfOk result (λ b. HaveLiveBounds b.header b.sections) }
 {
-    let mut search = SizeSearch::new(copied(alloc, spec)?, basis, method, max, budget);
+    let mut search = SizeSearch::new(copied(alloc, spec)?, basis, method, max, budget, 0);
     let mut sections = Vec::new(alloc);
     loop {
         match search.advance::<S>(alloc)? {

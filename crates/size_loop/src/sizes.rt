@@ -4,7 +4,7 @@
 ghost use Rattle.std.specs.Prelude.{◌≤◌, IfOk, IfSome};
 ghost use Rattle.cert_theory.specs.Certificate.{IsHeader, IsFound};
 ghost use Rattle.cert_theory.specs.Coding.{coding_of};
-ghost use Rattle.size_loop.specs.Outcomes.{IsSized, IsEnumerated};
+ghost use Rattle.size_loop.specs.Outcomes.{IsSized, IsKnown};
 ghost use Rattle.size_loop.specs.Coded.{IsCodedBy};
 
 use crate::trying::{SubproblemOutcome, try_subproblem};
@@ -20,7 +20,7 @@ use std::alloc::{AllocError, Global};
 use step_core::least_chain;
 
 /// The most inputs of tables whose chains are enumerated.
-const MOST_ENUMERATED_INPUTS: u32 = 4;
+pub(crate) const MOST_ENUMERATED_INPUTS: u32 = 4;
 /// The most steps that are enumerated.
 const MOST_ENUMERATED_STEPS: u32 = 3;
 
@@ -34,7 +34,7 @@ pub enum SizeOutcome {
 }
 
 /// A shortest chain, if it has at most `most` steps and the enumeration covers it.
-#[tactic(auto, using(crate::specs::OutcomeLaws::enumerating))]
+#[tactic(auto, using(crate::specs::OutcomeLaws::knowing))]
 pub(crate) fn enumerated(
     alloc: Global,
     header: &Header,
@@ -42,7 +42,7 @@ pub(crate) fn enumerated(
 ) -> Result<Option<Chain>, AllocError>
     requires header { IsHeader header.now }
     requires most { most ≤ header.now.max }
-    ensures { IfOk result (λ found. IsEnumerated header.now found) }
+    ensures { IfOk result (λ found. IsKnown header.now found) }
 {
     if header.spec.n() > MOST_ENUMERATED_INPUTS {
         return Ok(None);
@@ -56,7 +56,7 @@ pub(crate) fn enumerated(
 }
 
 /// A chain of `size` steps, if that is the least number and the enumeration covers it.
-#[tactic(auto, using(crate::specs::OutcomeLaws::enumerating))]
+#[tactic(auto, using(crate::specs::OutcomeLaws::knowing))]
 fn enumerated_chain(alloc: Global, header: &Header, size: u32) -> Result<Option<Chain>, AllocError>
     requires header { IsHeader header.now }
     requires size { size ≤ header.now.max }
