@@ -1,10 +1,13 @@
 -- Lines of a chain.
 use Rattle.std.proofs.Common.{◌≡◌, ℕ, ◌<◌, ◌==◌, Bool, false, cond, List, [], ◌∷◌, ◌++◌, length, Option, Result, Ok, refl, sym, ap, ◌∙◌, arith}
 use Rattle.std.proofs.lemmas.Bool.Decides.{nat_tests}
+use Rattle.std.proofs.lemmas.List.{length-map, map-append}
 use Rattle.text_core.specs.Lines.{Line}
 use Rattle.chain_theory.specs.Chain.{Step}
 use Rattle.chain_theory.specs.declared.data.Out.{Out}
 use Rattle.chain_core.specs.declared.frame.Frame.{Frame}
+use Rattle.chain_core.specs.declared.step.Step.{Step as ReadStep}
+use Rattle.chain_core.specs.Steps.{step_of, steps_of}
 use Rattle.chain_core.specs.declared.error.ChainError.{ChainError}
 use Rattle.chain_core.specs.Block.{◌>>=◌, steps_from, step_at, outs_from, out_at, body_from}
 use Rattle.chain_core.specs.Reading as reading
@@ -47,7 +50,7 @@ step_fails h f low steps done l ls error e same due fails is =
     ∙ ap (λ (r : Result Step ChainError). r >>= λ s. steps_from f (steps ++ s ∷ []) ls)
     (ap (λ (n : ℕ). step_at f n l) (sym same) ∙ claim))) fails) is
 
-pub step_reads : (f : Frame) (steps : List Step) (done : ℕ) (l : Line) (ls : List Line) (s : Step) →
+step_reads : (f : Frame) (steps : List Step) (done : ℕ) (l : Line) (ls : List Line) (s : Step) →
     done ≡ length steps → length steps < f.steps → step_at f done l ≡ Ok s →
     steps_then f (steps_from f steps (l ∷ ls)) ≡ steps_then f (steps_from f (steps ++ s ∷ []) ls)
 step_reads f steps done l ls s same due read =
@@ -55,20 +58,26 @@ step_reads f steps done l ls s same due read =
     ∙ ap (λ (r : Result Step ChainError). r >>= λ s. steps_from f (steps ++ s ∷ []) ls)
     (ap (λ (n : ℕ). step_at f n l) (sym same) ∙ read))
 
-pub step_goes : (h : Header) (f : Frame) (low : Option ℕ) (steps : List Step) (done : ℕ) (l : Line) (ls : List Line)
-    (s : Step) → done ≡ length steps → length steps < f.steps → step_at f done l ≡ Ok s →
-    with_block h f low (steps_then f (steps_from f steps (l ∷ ls))) ≡
-    with_block h f low (steps_then f (steps_from f (steps ++ s ∷ []) ls))
-step_goes h f low steps done l ls s same due read = ap (with_block h f low) (step_reads f steps done l ls s same due read)
+-- the step stands after those so far
+pub step_added : (f : Frame) (steps more : List ReadStep) (done : ℕ) (l : Line) (ls : List Line) (s : ReadStep) →
+    done ≡ length steps → length steps < f.steps → step_at f done l ≡ Ok (step_of s) → more ≡ steps ++ s ∷ [] →
+    steps_then f (steps_from f (steps_of steps) (l ∷ ls)) ≡ steps_then f (steps_from f (steps_of more) ls)
+step_added f steps more done l ls s place due read added =
+    let count : length (steps_of steps) ≡ length steps = length-map steps step_of in
+    step_reads f (steps_of steps) done l ls (step_of s) (omega (arith, count, place)) (omega (arith, count, due)) read
+    ∙ ap (λ (ss : List Step). steps_then f (steps_from f ss ls)) (sym (ap steps_of added ∙ map-append step_of steps (s ∷ [])))
 
 -- all steps were read
-pub steps_out : (f : Frame) (steps : List Step) (ls : List Line) → length steps ≡ f.steps → steps_then f (steps_from f steps ls) ≡ outs_then f steps (outs_from f [] ls)
+steps_out : (f : Frame) (steps : List Step) (ls : List Line) → length steps ≡ f.steps → steps_then f (steps_from f steps ls) ≡ outs_then f steps (outs_from f [] ls)
 steps_out f steps ls all = ap (λ (r : Result (List Step × List Line) ChainError). steps_then f r) (steps_done f steps ls all)
 
-pub steps_end : (h : Header) (f : Frame) (low : Option ℕ) (steps : List Step) (ls : List Line) →
-    length steps ≡ f.steps → with_block h f low (steps_then f (steps_from f steps ls)) ≡
-    with_block h f low (outs_then f steps (outs_from f [] ls))
-steps_end h f low steps ls all = ap (with_block h f low) (steps_out f steps ls all)
+-- and no output yet
+pub steps_full : (f : Frame) (steps : List ReadStep) (os : List Out) (ls : List Line) → length steps ≡ f.steps → os ≡ [] →
+    steps_then f (steps_from f (steps_of steps) ls) ≡ outs_then f (steps_of steps) (outs_from f os ls)
+steps_full f steps os ls all none =
+    let count : length (steps_of steps) ≡ length steps = length-map steps step_of in
+    steps_out f (steps_of steps) ls (omega (arith, count, all))
+    ∙ ap (λ (xs : List Out). outs_then f (steps_of steps) (outs_from f xs ls)) (sym none)
 
 -- ---- outs
 
@@ -87,7 +96,7 @@ out_fails h f low steps os done l ls error e same due fails is =
     ∙ ap (λ (r : Result Out ChainError). r >>= λ o. outs_from f (os ++ o ∷ []) ls)
     (ap (λ (n : ℕ). out_at f n l) (sym same) ∙ claim))) fails) is
 
-pub out_reads : (f : Frame) (steps : List Step) (os : List Out) (done : ℕ) (l : Line) (ls : List Line) (o : Out) →
+out_reads : (f : Frame) (steps : List Step) (os : List Out) (done : ℕ) (l : Line) (ls : List Line) (o : Out) →
     done ≡ length os → length os < f.outputs → out_at f done l ≡ Ok o → outs_then f steps (outs_from f os (l ∷ ls)) ≡
     outs_then f steps (outs_from f (os ++ o ∷ []) ls)
 out_reads f steps os done l ls o same due read =
@@ -95,8 +104,10 @@ out_reads f steps os done l ls o same due read =
     ∙ ap (λ (r : Result Out ChainError). r >>= λ o. outs_from f (os ++ o ∷ []) ls)
     (ap (λ (n : ℕ). out_at f n l) (sym same) ∙ read))
 
-pub out_goes : (h : Header) (f : Frame) (low : Option ℕ) (steps : List Step) (os : List Out) (done : ℕ) (l : Line)
-    (ls : List Line) (o : Out) → done ≡ length os → length os < f.outputs → out_at f done l ≡ Ok o →
-    with_block h f low (outs_then f steps (outs_from f os (l ∷ ls))) ≡
-    with_block h f low (outs_then f steps (outs_from f (os ++ o ∷ []) ls))
-out_goes h f low steps os done l ls o same due read = ap (with_block h f low) (out_reads f steps os done l ls o same due read)
+-- the output stands after those so far
+pub out_added : (f : Frame) (steps : List Step) (os more : List Out) (done : ℕ) (l : Line) (ls : List Line) (o : Out) →
+    done ≡ length os → length os < f.outputs → out_at f done l ≡ Ok o → more ≡ os ++ o ∷ [] →
+    outs_then f steps (outs_from f os (l ∷ ls)) ≡ outs_then f steps (outs_from f more ls)
+out_added f steps os more done l ls o place due read added =
+    out_reads f steps os done l ls o place due read
+    ∙ ap (λ (xs : List Out). outs_then f steps (outs_from f xs ls)) (sym added)

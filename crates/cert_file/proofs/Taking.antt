@@ -65,17 +65,17 @@ ended_as (Tables n on care) number answer is stands = stands ∙ rows_short n nu
 ended_as (Methods spec basis) number answer is stands = stands
 ended_as (Conflicts spec basis method) number answer is stands = stands
 ended_as (Sizes spec basis method conflicts) number answer is stands = stands
-ended_as (Between h size low) number answer is stands = stands
+ended_as (Between n) number answer is stands = stands
 ended_as (Due r) number answer is stands = stands
 ended_as (Begun r) number answer is stands = stands.answer_is
 ended_as (Within r reader) number answer is stands = stands.answer_is
-ended_as (Steps h low f steps) number answer is stands =
-    let count = length-map steps.items step_of in
-    stands ∙ ap (λ (r : Result (List chain.Step × List Line) ChainError). with_block h f low (steps_then f r)) (steps_short f (steps_of steps.items) (omega (arith, count, is.due)))
-    ∙ block_short h f low number (f.first_line + 1 + length (steps_of steps.items)) (omega (arith, count, is.number_is))
-ended_as (Outs h low f steps os) number answer is stands =
-    stands ∙ ap (λ (r : Result (List Out × List Line) ChainError). with_block h f low (outs_then f (steps_of steps.items) r)) (outs_short f os.items is.due)
-    ∙ block_short_outs h f low number (f.first_line + 1 + f.steps + length os.items) is.number_is
+ended_as (Steps r) number answer is stands =
+    let count = length-map r.steps.items step_of in
+    stands ∙ ap (λ (read : Result (List chain.Step × List Line) ChainError). with_block r.header r.frame r.low (steps_then r.frame read)) (steps_short r.frame (steps_of r.steps.items) (omega (arith, count, is.due)))
+    ∙ block_short r.header r.frame r.low number (r.frame.first_line + 1 + length (steps_of r.steps.items)) (omega (arith, count, is.number_is))
+ended_as (Outs r) number answer is stands =
+    stands ∙ ap (λ (read : Result (List Out × List Line) ChainError). with_block r.header r.frame r.low (outs_then r.frame (steps_of r.steps.items) read)) (outs_short r.frame r.outs.items is.due)
+    ∙ block_short_outs r.header r.frame r.low number (r.frame.first_line + 1 + r.frame.steps + length r.outs.items) is.number_is
 ended_as (Found h low c) number answer is stands = stands
 ended_as (End claim) number answer is stands = stands
 ended_as (Done claim) number answer is stands = stands

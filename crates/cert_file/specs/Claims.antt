@@ -5,14 +5,13 @@ use Rattle.text_core.specs.Lines.{Line}
 use Rattle.chain_theory.specs.Chain.{Chain}
 use Rattle.tt_core.specs.Tables.{tables_of, rows_of}
 use Rattle.chain_core.specs.Block as block
-use Rattle.chain_core.specs.Steps.{steps_of}
 use Rattle.chain_core.specs.declared.frame.Frame.{Frame}
 use Rattle.chain_core.specs.declared.error.ChainError.{ChainError}
 use Rattle.cert_theory.specs.declared.data.Header.{Header}
 use Rattle.cert_theory.specs.declared.data.Verdict.{Verdict}
 use Rattle.cert_theory.specs.Certificate.{Certificate, found, not_found}
 use Rattle.cert_file.specs.HeaderLines.{with_max, with_conflicts, with_method, header_by, header_in}
-use Rattle.cert_file.specs.Stages.{steps_then, outs_then}
+use Rattle.cert_file.specs.Stages.{steps_left, outs_left}
 use Rattle.cert_file.specs.declared.claim.Claim.{Claim}
 use Rattle.cert_file.specs.declared.stage.Stage.{Stage}
 use Rattle.cert_file.specs.declared.stage.Stage.TheVariants as stages
@@ -52,20 +51,20 @@ KeepsHeader (stages.Tables n on care) lines kept = kept ≡ header_by (rows_of (
 KeepsHeader (stages.Methods spec basis) lines kept = kept ≡ with_method spec basis lines
 KeepsHeader (stages.Conflicts spec basis method) lines kept = kept ≡ with_conflicts spec basis method lines
 KeepsHeader (stages.Sizes spec basis method conflicts) lines kept = kept ≡ with_max spec basis method conflicts lines
-KeepsHeader (stages.Between h size low) lines kept = kept ≡ Some h
+KeepsHeader (stages.Between n) lines kept = kept ≡ Some n.header
 KeepsHeader (stages.Due r) lines kept = kept ≡ Some r.header
 KeepsHeader (stages.Begun r) lines kept = kept ≡ Some r.header
 KeepsHeader (stages.Within r reader) lines kept = kept ≡ Some r.header
-KeepsHeader (stages.Steps h low f steps) lines kept = kept ≡ Some h
-KeepsHeader (stages.Outs h low f steps os) lines kept = kept ≡ Some h
+KeepsHeader (stages.Steps r) lines kept = kept ≡ Some r.header
+KeepsHeader (stages.Outs r) lines kept = kept ≡ Some r.header
 KeepsHeader (stages.Found h low c) lines kept = kept ≡ Some h
 KeepsHeader (stages.End claim) lines kept = kept ≡ Some claim.header
 KeepsHeader (stages.Done claim) lines kept = kept ≡ Some claim.header
 
 -- what was read of the chain
 abbrev pub Holds : Stage → ℕ → List Line → List Line → Type 0
-Holds (stages.Steps h low f steps) number lines all = IsBlock f all (steps_then f (block.steps_from f (steps_of steps.items) lines))
-Holds (stages.Outs h low f steps os) number lines all = IsBlock f all (outs_then f (steps_of steps.items) (block.outs_from f os.items lines))
+Holds (stages.Steps r) number lines all = IsBlock r.frame all (steps_left r lines)
+Holds (stages.Outs r) number lines all = IsBlock r.frame all (outs_left r lines)
 Holds (stages.Found h low c) number lines all = IsHeld h c 0 number all
 Holds (stages.End claim) number lines all = HasEnded claim.header claim.chain claim.verdict 1 number all
 Holds (stages.Done claim) number lines all = HasEnded claim.header claim.chain claim.verdict 2 number all

@@ -10,7 +10,6 @@ use Rattle.chain_core.specs.Block as block
 use Rattle.chain_core.specs.Block.{◌>>=◌}
 use Rattle.chain_core.specs.Steps.{steps_of}
 use Rattle.chain_core.specs.declared.frame.Frame.{Frame}
-use Rattle.chain_core.specs.declared.step.Step.{Step}
 use Rattle.chain_core.specs.declared.error.ChainError.{ChainError}
 use Rattle.chain_theory.specs.Limits.{most_steps}
 use Rattle.cert_theory.specs.declared.data.Header.{Header}
@@ -25,6 +24,7 @@ use Rattle.cert_theory.specs.Certificate.{subproblems_of, formula_of}
 use Rattle.cert_file.specs.declared.subproblem.SubproblemReader.{SubproblemReader}
 use Rattle.cert_file.specs.Logged.{IsReading}
 use Rattle.cert_file.specs.declared.claim.Claim.{Claim}
+use Rattle.cert_file.specs.declared.stage.ChainLines.{ChainLines}
 use Rattle.cert_file.specs.declared.stage.Running.{Running}
 use Rattle.cert_file.specs.declared.stage.Stage.{Stage}
 use Rattle.cert_file.specs.declared.stage.Stage.TheVariants as stages
@@ -52,21 +52,22 @@ pub record IsFrame (h : Header) (f : Frame) : Type 0 where
   pub outputs : f.outputs ≡ length h.spec.on
   pub steps : f.steps ≤ most_steps
 
--- these steps were read, and at least one more is due
-pub record AreRead (h : Header) (f : Frame) (steps : List Step) (number : ℕ) : Type 0 where
-  pub frame : IsFrame h f
-  pub due : length steps < f.steps
-  pub steps_are : chain.AreSteps f.n (steps_of steps)
-  pub number_is : number ≡ f.first_line + 1 + length steps
+-- the steps so far were read, and at least one more is due
+pub record AreRead (r : ChainLines) (number : ℕ) : Type 0 where
+  pub frame : IsFrame r.header r.frame
+  pub due : length r.steps.items < r.frame.steps
+  pub steps_are : chain.AreSteps r.frame.n (steps_of r.steps.items)
+  pub none : r.outs.items ≡ []
+  pub number_is : number ≡ r.frame.first_line + 1 + length r.steps.items
 
--- all steps and these outputs were read, and at least one more output is due
-pub record AreNamed (h : Header) (f : Frame) (steps : List Step) (os : List Out) (number : ℕ) : Type 0 where
-  pub frame : IsFrame h f
-  pub due : length os < f.outputs
-  pub count : length steps ≡ f.steps
-  pub steps_are : chain.AreSteps f.n (steps_of steps)
-  pub named : All (chain.NamesPlace (f.n + f.steps)) os
-  pub number_is : number ≡ f.first_line + 1 + f.steps + length os
+-- all steps and the outputs so far were read, and at least one more output is due
+pub record AreNamed (r : ChainLines) (number : ℕ) : Type 0 where
+  pub frame : IsFrame r.header r.frame
+  pub due : length r.outs.items < r.frame.outputs
+  pub count : length r.steps.items ≡ r.frame.steps
+  pub steps_are : chain.AreSteps r.frame.n (steps_of r.steps.items)
+  pub named : All (chain.NamesPlace (r.frame.n + r.frame.steps)) r.outs.items
+  pub number_is : number ≡ r.frame.first_line + 1 + r.frame.steps + length r.outs.items
 
 -- the invariant of a stage, where the next line has this number
 abbrev pub IsStage : Stage → ℕ → Type 0
@@ -76,12 +77,12 @@ IsStage (stages.Tables n on care) number = (number ≡ 3 + length on.items) × I
 IsStage (stages.Methods spec basis) number = (0 < basis) × (0 < length spec.on)
 IsStage (stages.Conflicts spec basis method) number = (0 < basis) × (0 < length spec.on)
 IsStage (stages.Sizes spec basis method conflicts) number = (0 < basis) × (0 < length spec.on)
-IsStage (stages.Between h size low) number = IsKnown h
+IsStage (stages.Between n) number = IsKnown n.header
 IsStage (stages.Due r) number = IsRunning r
 IsStage (stages.Begun r) number = IsRunning r
 IsStage (stages.Within r reader) number = IsRunning r
-IsStage (stages.Steps h low f steps) number = AreRead h f steps.items number
-IsStage (stages.Outs h low f steps os) number = AreNamed h f steps.items os.items number
+IsStage (stages.Steps r) number = AreRead r number
+IsStage (stages.Outs r) number = AreNamed r number
 IsStage (stages.Found h low c) number = IsKnown h
 IsStage (stages.End claim) number = IsKnown claim.header
 IsStage (stages.Done claim) number = IsKnown claim.header
@@ -121,6 +122,14 @@ outs_then f steps read = read >>= λ os. Ok (record { chain = record { n = f.n; 
 abbrev pub steps_then : Frame → Result (List chain.Step × List Line) ChainError → Result block.Read ChainError
 steps_then f read = read >>= λ s. outs_then f s.0 (block.outs_from f [] s.1)
 
+-- the chain that is being read, as its grammar has it from these lines on: they begin with a step
+abbrev pub steps_left : ChainLines → List Line → Result block.Read ChainError
+steps_left r lines = steps_then r.frame (block.steps_from r.frame (steps_of r.steps.items) lines)
+
+-- or they begin with an output
+abbrev pub outs_left : ChainLines → List Line → Result block.Read ChainError
+outs_left r lines = outs_then r.frame (steps_of r.steps.items) (block.outs_from r.frame r.outs.items lines)
+
 -- The result of a text, where these lines come next.
 abbrev pub AnswersLines : Stage → ℕ → List Line → Answer → Type 0
 AnswersLines stages.Start number lines answer = answer ≡ certificate_of lines
@@ -129,12 +138,12 @@ AnswersLines (stages.Tables n on care) number lines answer = answer ≡ with_tab
 AnswersLines (stages.Methods spec basis) number lines answer = answer ≡ after_basis spec basis number lines
 AnswersLines (stages.Conflicts spec basis method) number lines answer = answer ≡ after_method spec basis method number lines
 AnswersLines (stages.Sizes spec basis method conflicts) number lines answer = answer ≡ after_conflicts spec basis method conflicts number lines
-AnswersLines (stages.Between h size low) number lines answer = answer ≡ sections_of h number (record { size = size; low = low; place = Between }) lines
+AnswersLines (stages.Between n) number lines answer = answer ≡ sections_of n.header number (record { size = n.size; low = n.low; place = Between }) lines
 AnswersLines (stages.Due r) number lines answer = answer ≡ sections_of r.header number (before r.size r.low (drop r.at r.subproblems.items)) lines
 AnswersLines (stages.Begun r) number lines answer = IsBegun r number lines answer
 AnswersLines (stages.Within r reader) number lines answer = IsLogging r reader number lines answer
-AnswersLines (stages.Steps h low f steps) number lines answer = answer ≡ with_block h f low (steps_then f (block.steps_from f (steps_of steps.items) lines))
-AnswersLines (stages.Outs h low f steps os) number lines answer = answer ≡ with_block h f low (outs_then f (steps_of steps.items) (block.outs_from f os.items lines))
+AnswersLines (stages.Steps r) number lines answer = answer ≡ with_block r.header r.frame r.low (steps_left r lines)
+AnswersLines (stages.Outs r) number lines answer = answer ≡ with_block r.header r.frame r.low (outs_left r lines)
 AnswersLines (stages.Found h low c) number lines answer = answer ≡ after_chain number (length c.steps) low lines
 AnswersLines (stages.End claim) number lines answer = answer ≡ end_of number claim.verdict lines
 AnswersLines (stages.Done claim) number lines answer = answer ≡ nothing_after number claim.verdict lines

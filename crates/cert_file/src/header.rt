@@ -11,7 +11,7 @@ ghost use Rattle.cert_file.specs.Stages.{Answer, Judged, IsStage};
 ghost use Rattle.cert_file.specs.Claims.{KeepsClaim};
 
 use crate::lines::{TextLine, is_line, value_of};
-use crate::stage::Stage;
+use crate::stage::{NextSize, Stage};
 use cert_theory::{CertificateError, Header};
 use op_basis::{Basis, read_basis, write_basis};
 use settings::{MOST_CONFLICTS, MOST_STEPS, Method, method_named};
@@ -266,8 +266,10 @@ pub(crate) fn at_max(
         max,
     };
     Ok(Stage::Between {
-        header,
-        size: 0,
-        low: None,
+        next: NextSize {
+            header,
+            size: 0,
+            low: None,
+        },
     })
 }

@@ -87,20 +87,10 @@ fn following(running: Running, end: LogEnd) -> Stage
     ensures keeps_claim { (number : ℕ) (ls all : List lines.Line) → header_in all ≡ Some running.header →
         KeepsClaim result number ls all }
 {
-    let Running {
-        header,
-        size,
-        low,
-        subproblems,
-        at,
-    } = running;
-    due(Running {
-        header,
-        size,
-        low: low_with(low, end, size),
-        subproblems,
-        at: at + 1,
-    })
+    let mut running = running;
+    running.low = low_with(running.low, end, running.size);
+    running.at += 1;
+    due(running)
 }
 
 /// A line of a log, or its end.

@@ -12,7 +12,7 @@ ghost use Rattle.cert_file.specs.Claims.{KeepsClaim};
 
 use crate::formulas::subproblems_of;
 use crate::lines::{TextLine, begins, number_after};
-use crate::stage::{Running, Stage};
+use crate::stage::{NextSize, Running, Stage};
 use crate::trailer::at_trailer;
 use cert_theory::{CertificateError, Header};
 use std::alloc::Global;
@@ -57,9 +57,11 @@ pub(crate) fn due(running: Running) -> Stage
         ..
     } = running;
     Stage::Between {
-        header,
-        size: size + 1,
-        low,
+        next: NextSize {
+            header,
+            size: size + 1,
+            low,
+        },
     }
 }
 
@@ -67,26 +69,25 @@ pub(crate) fn due(running: Running) -> Stage
 #[tactic(auto, unfolding(cert_theory::specs::Judging::sections_of))]
 pub(crate) fn at_between(
     alloc: Global,
-    header: Header,
-    size: u32,
-    low: Option<u32>,
+    next: NextSize,
     line: &TextLine,
 ) -> Result<Stage, CertificateError>
-    requires known { IsKnown header }
+    requires known { IsKnown next.header }
     requires number { line.now.number < 2 ^ 31 }
     ensures keeps { IfOk result (λ s. IsStage s (line.now.number + 1)) }
     ensures answer { (ls : List Line) (answer : Answer) →
-        answer ≡ judging.sections_of header line.now.number (record {
-          size = size;
-          low = low;
+        answer ≡ judging.sections_of next.header line.now.number (record {
+          size = next.size;
+          low = next.low;
           place = judging.Between;
         }) (line_of line.now ∷ ls) → Judged result (line.now.number + 1) ls answer }
     ensures keeps_claim { (ls all : List Line) → IsPlace line.now.number (line_of line.now ∷ ls) all →
-        header_in all ≡ Some header → IfOk result (λ s. KeepsClaim s (line.now.number + 1) ls all) }
+        header_in all ≡ Some next.header → IfOk result (λ s. KeepsClaim s (line.now.number + 1) ls all) }
 {
     if !begins(b"size ", line) {
-        return at_trailer(alloc, header, size, low, line);
+        return at_trailer(alloc, next, line);
     }
+    let NextSize { header, size, low } = next;
     size_at(&header, size, line)?;
     let subproblems = subproblems_of(alloc, &header, size)?;
     Ok(due(Running {

@@ -8,6 +8,15 @@ use enc_theory::Subproblem;
 use settings::Method;
 use tt_core::Spec;
 
+/// The next size, whose section or the trailer is due.
+#[derive(Drop)]
+pub struct NextSize {
+    pub(crate) header: Header,
+    pub(crate) size: u32,
+    /// The first open size so far.
+    pub(crate) low: Option<u32>,
+}
+
 /// A size whose section is being read, and its current subproblem.
 #[derive(Drop)]
 pub struct Running {
@@ -18,6 +27,20 @@ pub struct Running {
     pub(crate) subproblems: Vec<Subproblem>,
     /// The index of the current subproblem.
     pub(crate) at: usize,
+}
+
+/// A chain whose lines are being read.
+#[derive(Drop)]
+pub struct ChainLines {
+    pub(crate) header: Header,
+    /// The first open size.
+    pub(crate) low: Option<u32>,
+    /// The number of its first line, and how many steps and outputs it has.
+    pub(crate) frame: Frame,
+    /// The steps so far.
+    pub(crate) steps: Vec<Step>,
+    /// The outputs so far: none before the last step.
+    pub(crate) outs: Vec<Out>,
 }
 
 /// What is due next in a certificate without a fault so far, and what is kept of it. Only this
@@ -54,9 +77,7 @@ pub enum Stage {
     },
     /// The line of the next size, or the trailer.
     Between {
-        header: Header,
-        size: u32,
-        low: Option<u32>,
+        next: NextSize,
     },
     /// The name of this subproblem, or the first line of its log if it has no name.
     Due {
@@ -73,18 +94,11 @@ pub enum Stage {
     },
     /// A step of the chain.
     Steps {
-        header: Header,
-        low: Option<u32>,
-        frame: Frame,
-        steps: Vec<Step>,
+        lines: ChainLines,
     },
     /// An output of the chain.
     Outs {
-        header: Header,
-        low: Option<u32>,
-        frame: Frame,
-        steps: Vec<Step>,
-        outs: Vec<Out>,
+        lines: ChainLines,
     },
     /// The verdict after this chain.
     Found {

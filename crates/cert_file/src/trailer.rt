@@ -3,7 +3,6 @@ ghost use Rattle.std.specs.Prelude.{◌≡◌, ◌+◌, ◌<◌, ◌≤◌, ◌^
 ghost use Rattle.text_core.specs.Lines.{Line};
 ghost use Rattle.chain_theory.specs.Chain as chain;
 ghost use Rattle.chain_core.specs.Block as block;
-ghost use Rattle.chain_core.specs.Steps.{steps_of};
 ghost use Rattle.cert_theory.specs.Gives.{Gives};
 ghost use Rattle.cert_theory.specs.Coding.{has_fence_names};
 ghost use Rattle.cert_theory.specs.Judging as judging;
@@ -11,18 +10,17 @@ ghost use Rattle.cert_file.specs.HeaderLines.{header_in};
 ghost use Rattle.cert_file.specs.Refusals.{IsRefusal};
 ghost use Rattle.line_reader.specs.TextLines.{line_of};
 ghost use Rattle.line_reader.specs.Splits.{IsPlace};
-ghost use Rattle.cert_file.specs.Stages.{Answer, Judged, IsStage, IsKnown, AreRead, AreNamed, outs_then, steps_then};
+ghost use Rattle.cert_file.specs.Stages.{Answer, Judged, IsStage, IsKnown, AreRead, AreNamed, steps_left, outs_left};
 ghost use Rattle.cert_file.specs.Claims.{IsBlock, IsHeld, HasEnded, KeepsClaim};
 ghost use Rattle.chain_theory.specs.Limits.{most_steps};
 
 use crate::claim::Claim;
 use crate::fence_names::is_fence_name;
 use crate::lines::{TextLine, VerdictNumbers, begins, is_line, number_after, numbered_in};
-use crate::stage::Stage;
+use crate::stage::{ChainLines, NextSize, Stage};
 use cert_theory::{CertificateError, Header, Verdict};
 use chain_core::{
-    Chain, ChainError, Frame, Out, Step, add_step, count_at, first_difference, first_outside,
-    out_at, step_at,
+    Chain, ChainError, Frame, add_step, count_at, first_difference, first_outside, out_at, step_at,
 };
 use settings::Method;
 use std::alloc::Global;
@@ -59,91 +57,66 @@ fn steps_at(header: &Header, size: u32, line: &TextLine) -> Result<u32, Certific
 }
 
 /// The first line of a chain.
-fn at_chain(
-    alloc: Global,
-    header: Header,
-    size: u32,
-    low: Option<u32>,
-    line: &TextLine,
-) -> Result<Stage, CertificateError>
-    requires known { IsKnown header }
+fn at_chain(alloc: Global, next: NextSize, line: &TextLine) -> Result<Stage, CertificateError>
+    requires known { IsKnown next.header }
     requires number { line.now.number < 2 ^ 31 }
     ensures keeps { IfOk result (λ s. IsStage s (line.now.number + 1)) }
     ensures answer { (ls : List Line) (answer : Answer) →
-        answer ≡ judging.chain_at header line.now.number size low (line_of line.now) ls →
+        answer ≡ judging.chain_at next.header line.now.number next.size next.low (line_of line.now) ls →
         Judged result (line.now.number + 1) ls answer }
     ensures keeps_claim { (ls all : List Line) → IsPlace line.now.number (line_of line.now ∷ ls) all →
-        header_in all ≡ Some header → IfOk result (λ s. KeepsClaim s (line.now.number + 1) ls all) }
+        header_in all ≡ Some next.header → IfOk result (λ s. KeepsClaim s (line.now.number + 1) ls all) }
 {
+    let NextSize { header, size, low } = next;
     let steps = steps_at(&header, size, line)?;
-    let n = header.spec.n();
-    let outputs = header.spec.outputs();
     let frame = Frame {
         first_line: line.number,
-        n,
-        outputs,
+        n: header.spec.n(),
+        outputs: header.spec.outputs(),
         steps,
     };
-    if steps == 0 {
-        return Ok(Stage::Outs {
-            header,
-            low,
-            frame,
-            steps: Vec::new(alloc),
-            outs: Vec::new(alloc),
-        });
-    }
-    Ok(Stage::Steps {
+    let lines = ChainLines {
         header,
         low,
         frame,
         steps: Vec::new(alloc),
-    })
+        outs: Vec::new(alloc),
+    };
+    if steps == 0 {
+        return Ok(Stage::Outs { lines });
+    }
+    Ok(Stage::Steps { lines })
 }
 
 /// A step of the chain.
-pub(crate) fn at_steps(
-    alloc: Global,
-    header: Header,
-    low: Option<u32>,
-    frame: Frame,
-    steps: Vec<Step>,
-    line: &TextLine,
-) -> Result<Stage, CertificateError>
+pub(crate) fn at_steps(lines: ChainLines, line: &TextLine) -> Result<Stage, CertificateError>
     requires number { line.now.number < 2 ^ 31 }
-    requires read { AreRead header frame steps.items line.now.number }
+    requires read { AreRead lines line.now.number }
     ensures keeps { IfOk result (λ s. IsStage s (line.now.number + 1)) }
     ensures answer { (ls : List Line) (answer : Answer) →
-        answer ≡ judging.with_block header frame low
-        (steps_then frame (block.steps_from frame (steps_of steps.items) (line_of line.now ∷ ls))) →
+        answer ≡ judging.with_block lines.header lines.frame lines.low (steps_left lines (line_of line.now ∷ ls)) →
         Judged result (line.now.number + 1) ls answer }
-    ensures keeps_claim { (ls all : List Line) → header_in all ≡ Some header →
-        IsBlock frame all (steps_then frame (block.steps_from frame (steps_of steps.items) (line_of line.now ∷ ls))) →
+    ensures keeps_claim { (ls all : List Line) → header_in all ≡ Some lines.header →
+        IsBlock lines.frame all (steps_left lines (line_of line.now ∷ ls)) →
         IfOk result (λ s. KeepsClaim s (line.now.number + 1) ls all) }
 {
     // for the prover: brings the invariant of the specification
-    let _inputs = header.spec.n();
-    let step = match step_at(&frame, steps.len() as u32, line.text, line.ended) {
+    let _inputs = lines.header.spec.n();
+    let step = match step_at(
+        &lines.frame,
+        lines.steps.len() as u32,
+        line.text,
+        line.ended,
+    ) {
         Ok(step) => step,
         Err(error) => return Err(refusal(error)),
     };
-    let mut steps = steps;
-    add_step(&mut steps, step)?;
-    if steps.len() < frame.steps as usize {
-        return Ok(Stage::Steps {
-            header,
-            low,
-            frame,
-            steps,
-        });
+    let mut lines = lines;
+    add_step(&mut lines.steps, step)?;
+    if lines.steps.len() < lines.frame.steps as usize {
+        return Ok(Stage::Steps { lines });
     }
-    Ok(Stage::Outs {
-        header,
-        low,
-        frame,
-        steps,
-        outs: Vec::new(alloc),
-    })
+    Ok(Stage::Outs { lines })
 }
 
 /// Checks a chain: first that its operators are in the basis, then that it agrees with the tables on all rows.
@@ -163,43 +136,35 @@ fn chain_judged(header: &Header, chain: &Chain) -> Result<(), CertificateError>
 }
 
 /// The line of an output of the chain; after the last one the chain is checked.
-pub(crate) fn at_outs(
-    header: Header,
-    low: Option<u32>,
-    frame: Frame,
-    steps: Vec<Step>,
-    outs: Vec<Out>,
-    line: &TextLine,
-) -> Result<Stage, CertificateError>
+pub(crate) fn at_outs(lines: ChainLines, line: &TextLine) -> Result<Stage, CertificateError>
     requires number { line.now.number < 2 ^ 31 }
-    requires read { AreNamed header frame steps.items outs.items line.now.number }
+    requires read { AreNamed lines line.now.number }
     ensures keeps { IfOk result (λ s. IsStage s (line.now.number + 1)) }
     ensures answer { (ls : List Line) (answer : Answer) →
-        answer ≡ judging.with_block header frame low
-        (outs_then frame (steps_of steps.items) (block.outs_from frame outs.items (line_of line.now ∷ ls))) →
+        answer ≡ judging.with_block lines.header lines.frame lines.low (outs_left lines (line_of line.now ∷ ls)) →
         Judged result (line.now.number + 1) ls answer }
-    ensures keeps_claim { (ls all : List Line) → header_in all ≡ Some header →
-        IsBlock frame all (outs_then frame (steps_of steps.items)
-        (block.outs_from frame outs.items (line_of line.now ∷ ls))) →
+    ensures keeps_claim { (ls all : List Line) → header_in all ≡ Some lines.header →
+        IsBlock lines.frame all (outs_left lines (line_of line.now ∷ ls)) →
         IfOk result (λ s. KeepsClaim s (line.now.number + 1) ls all) }
 {
     // for the prover: brings the invariant of the specification
-    let _inputs = header.spec.n();
-    let out = match out_at(&frame, outs.len() as u32, line.text, line.ended) {
+    let _inputs = lines.header.spec.n();
+    let out = match out_at(&lines.frame, lines.outs.len() as u32, line.text, line.ended) {
         Ok(out) => out,
         Err(error) => return Err(refusal(error)),
     };
-    let mut outs = outs;
-    outs.push(out)?;
-    if outs.len() < frame.outputs as usize {
-        return Ok(Stage::Outs {
-            header,
-            low,
-            frame,
-            steps,
-            outs,
-        });
+    let mut lines = lines;
+    lines.outs.push(out)?;
+    if lines.outs.len() < lines.frame.outputs as usize {
+        return Ok(Stage::Outs { lines });
     }
+    let ChainLines {
+        header,
+        low,
+        frame,
+        steps,
+        outs,
+    } = lines;
     let chain = Chain::new(frame.n, steps, outs);
     chain_judged(&header, &chain)?;
     Ok(Stage::Found { header, low, chain })
@@ -294,20 +259,16 @@ fn verdict_at(method: Method, size: u32, line: &TextLine) -> Result<Verdict, Cer
 }
 
 /// The verdict without a chain.
-fn at_not_found(
-    header: Header,
-    size: u32,
-    low: Option<u32>,
-    line: &TextLine,
-) -> Result<Stage, CertificateError>
-    requires { IsKnown header }
+fn at_not_found(next: NextSize, line: &TextLine) -> Result<Stage, CertificateError>
+    requires { IsKnown next.header }
     ensures keeps { IfOk result (λ s. IsStage s (line.now.number + 1)) }
     ensures answer { (ls : List Line) (answer : Answer) →
-        answer ≡ judging.no_chain_at header line.now.number size low (line_of line.now) ls →
+        answer ≡ judging.no_chain_at next.header line.now.number next.size next.low (line_of line.now) ls →
         Judged result (line.now.number + 1) ls answer }
-    ensures keeps_claim { (ls all : List Line) → header_in all ≡ Some header →
+    ensures keeps_claim { (ls all : List Line) → header_in all ≡ Some next.header →
         IfOk result (λ s. KeepsClaim s (line.now.number + 1) ls all) }
 {
+    let NextSize { header, size, low } = next;
     let verdict = verdict_at(header.method, size, line)?;
     if size != header.max + 1 || !is_same(verdict, Verdict::not_found(header.max, low)) {
         return Err(CertificateError::WrongVerdict(line.number));
@@ -324,24 +285,22 @@ fn at_not_found(
 /// The first line of the trailer.
 pub(crate) fn at_trailer(
     alloc: Global,
-    header: Header,
-    size: u32,
-    low: Option<u32>,
+    next: NextSize,
     line: &TextLine,
 ) -> Result<Stage, CertificateError>
-    requires known { IsKnown header }
+    requires known { IsKnown next.header }
     requires number { line.now.number < 2 ^ 31 }
     ensures keeps { IfOk result (λ s. IsStage s (line.now.number + 1)) }
     ensures answer { (ls : List Line) (answer : Answer) →
-        answer ≡ judging.trailer_at header line.now.number size low (line_of line.now) ls →
+        answer ≡ judging.trailer_at next.header line.now.number next.size next.low (line_of line.now) ls →
         Judged result (line.now.number + 1) ls answer }
     ensures keeps_claim { (ls all : List Line) → IsPlace line.now.number (line_of line.now ∷ ls) all →
-        header_in all ≡ Some header → IfOk result (λ s. KeepsClaim s (line.now.number + 1) ls all) }
+        header_in all ≡ Some next.header → IfOk result (λ s. KeepsClaim s (line.now.number + 1) ls all) }
 {
     if begins(b"chain ", line) {
-        return at_chain(alloc, header, size, low, line);
+        return at_chain(alloc, next, line);
     }
-    at_not_found(header, size, low, line)
+    at_not_found(next, line)
 }
 
 /// The last line.

@@ -15,12 +15,12 @@ claim_done (Tables n on care) t e = absurd cc
 claim_done (Methods spec basis) t e = absurd cc
 claim_done (Conflicts spec basis method) t e = absurd cc
 claim_done (Sizes spec basis method conflicts) t e = absurd cc
-claim_done (Between h size low) t e = absurd cc
+claim_done (Between n) t e = absurd cc
 claim_done (Due r) t e = absurd cc
 claim_done (Begun r) t e = absurd cc
 claim_done (Within r reader) t e = absurd cc
-claim_done (Steps h low f steps) t e = absurd cc
-claim_done (Outs h low f steps os) t e = absurd cc
+claim_done (Steps r) t e = absurd cc
+claim_done (Outs r) t e = absurd cc
 claim_done (Found h low c) t e = absurd cc
 claim_done (End claim) t e = absurd cc
 claim_done (Done claim) t e = let f : claim ≡ t = cc in ap (λ (x : Claim). Done x) f
