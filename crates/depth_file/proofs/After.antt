@@ -221,7 +221,7 @@ least_some m v chain size c by_fences minimum is = ap (λ (x : Method). least_of
 
 pub other_stage : (stage : Stage) → ((reader : CertificatePieces) → stage ≡ stages.Prefix reader → ⊥) → IsAfterPrefix stage
 other_stage (stages.Prefix reader) other = other reader refl
-other_stage (stages.Depth h size levels) other = tt
+other_stage (stages.Depth c) other = tt
 other_stage (stages.Due f) other = tt
 other_stage (stages.Begun f) other = tt
 other_stage (stages.Within f reader) other = tt

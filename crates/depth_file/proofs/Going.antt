@@ -55,14 +55,14 @@ pub record Next (f : FenceCursor) (subproblem : Subproblem) : Type 0 where
   pub fence : List ℕ
   pub is_next : IsNext f fence
   pub subproblem_is : subproblem ≡ Levels fence
-  pub few : length fence < f.levels
-  pub listed : Contains (fences_for f.header.spec f.size) fence
+  pub few : length fence < f.chain.levels
+  pub listed : Contains (fences_for f.chain.header.spec f.chain.size) fence
 
 pub next_is : (f : FenceCursor) (subproblem : Subproblem) → IsFenceCursor f → drop f.at f.fences.items ≡ subproblem ∷ drop (f.at + 1) f.fences.items → Next f subproblem
 next_is f subproblem is at =
-    let fs = flatter f.header.spec f.size f.levels in
+    let fs = flatter f.chain.header.spec f.chain.size f.chain.levels in
     let found = next_by fs f.at subproblem (drop (f.at + 1) f.fences.items) (ap (drop f.at) (sym is.fences) ∙ at) in
-    let below = flatter_is (fences_for f.header.spec f.size) f.levels found.0 found.3 in
+    let below = flatter_is (fences_for f.chain.header.spec f.chain.size) f.chain.levels found.0 found.3 in
     record { fence = found.0; is_next = found.1; subproblem_is = found.2; few = below.1; listed = below.0 }
 
 head_is : (a b : List ℕ) (xs ys : List (List ℕ)) → a ∷ xs ≡ b ∷ ys → a ≡ b
@@ -80,7 +80,7 @@ count_map (f ∷ fs) = ap (λ (n : ℕ). suc n) (count_map fs)
 
 pub none_due : (f : FenceCursor) → IsFenceCursor f → length f.fences.items ≤ f.at → due_of f ≡ []
 none_due f is low =
-    let fs = flatter f.header.spec f.size f.levels in
+    let fs = flatter f.chain.header.spec f.chain.size f.chain.levels in
     drop_all fs f.at (omega (arith, low, count_map fs, ap (λ (ps : List Subproblem). length ps) is.fences))
 
 pub subproblem_listed : (w : Words) (r : ℕ) (fence : List ℕ) → Contains (fences_for w r) fence → Contains (subproblems_for w r) (Levels fence)
@@ -92,9 +92,9 @@ unfolding coding_of
 formula_by m w basis size subproblem same = ap (λ (x : Method). (coding_of x).formula w basis size subproblem) (sym same)
 
 pub formula_is : (f : FenceCursor) (subproblem : Subproblem) → IsFenceCursor f →
-    fence_formula f.header.spec f.header.basis f.size (fence_in subproblem) ≡
-    (coding_of f.header.method).formula f.header.spec f.header.basis f.size subproblem
-formula_is f subproblem is = formula_by f.header.method f.header.spec f.header.basis f.size subproblem is.by_fences
+    fence_formula f.chain.header.spec f.chain.header.basis f.chain.size (fence_in subproblem) ≡
+    (coding_of f.chain.header.method).formula f.chain.header.spec f.chain.header.basis f.chain.size subproblem
+formula_is f subproblem is = formula_by f.chain.header.method f.chain.header.spec f.chain.header.basis f.chain.size subproblem is.chain.by_fences
 
 -- the next subproblem is that of the next fence
 pub fence_next : (f : FenceCursor) (subproblem : Subproblem) (fence : List ℕ) → IsRunning f →
@@ -106,30 +106,30 @@ fence_next f subproblem fence is at named =
 
 pub fence_few : (f : FenceCursor) (subproblem : Subproblem) (fence : List ℕ) → IsRunning f →
     drop f.at f.fences.items ≡ subproblem ∷ drop (f.at + 1) f.fences.items →
-    ((named : List ℕ) → subproblem ≡ Levels named → fence ≡ named) → length fence < f.levels
+    ((named : List ℕ) → subproblem ≡ Levels named → fence ≡ named) → length fence < f.chain.levels
 fence_few f subproblem fence is at named =
     let next = next_is f subproblem is.flat at in
-    subst (λ (x : List ℕ). length x < f.levels) (sym (named next.fence next.subproblem_is)) next.few
+    subst (λ (x : List ℕ). length x < f.chain.levels) (sym (named next.fence next.subproblem_is)) next.few
 
 pub subproblem_known : (f : FenceCursor) (subproblem : Subproblem) → IsRunning f →
     drop f.at f.fences.items ≡ subproblem ∷ drop (f.at + 1) f.fences.items →
-    Contains (subproblems_for f.header.spec f.size) subproblem
+    Contains (subproblems_for f.chain.header.spec f.chain.size) subproblem
 subproblem_known f subproblem is at =
     let next = next_is f subproblem is.flat at in
-    subst (λ (p : Subproblem). Contains (subproblems_for f.header.spec f.size) p) (sym next.subproblem_is) (subproblem_listed f.header.spec f.size next.fence next.listed)
+    subst (λ (p : Subproblem). Contains (subproblems_for f.chain.header.spec f.chain.size) p) (sym next.subproblem_is) (subproblem_listed f.chain.header.spec f.chain.size next.fence next.listed)
 
 pub formula_next : (f : FenceCursor) (subproblem : Subproblem) (fence : List ℕ) → IsRunning f →
     drop f.at f.fences.items ≡ subproblem ∷ drop (f.at + 1) f.fences.items → IsNext f fence →
-    fence_formula f.header.spec f.header.basis f.size (fence_in subproblem) ≡ formula_of f.header f.size (Levels fence)
+    fence_formula f.chain.header.spec f.chain.header.basis f.chain.size (fence_in subproblem) ≡ formula_of f.chain.header f.chain.size (Levels fence)
 formula_next f subproblem fence is at due =
     let next = next_is f subproblem is.flat at in
     let same : subproblem ≡ Levels fence = next.subproblem_is ∙ ap Levels (one_next f next.fence fence next.is_next due) in
-    formula_is f subproblem is.flat ∙ ap (λ (p : Subproblem). formula_of f.header f.size p) same
+    formula_is f subproblem is.flat ∙ ap (λ (p : Subproblem). formula_of f.chain.header f.chain.size p) same
 
 pub formula_given : {E : Type 0} (f : FenceCursor) (subproblem : Subproblem) (r : Result Formula E) → IsRunning f →
     drop f.at f.fences.items ≡ subproblem ∷ drop (f.at + 1) f.fences.items →
-    IfOk r (λ cnf. cnf ≡ fence_formula f.header.spec f.header.basis f.size (fence_in subproblem)) → (fence : List ℕ) →
-    IsNext f fence → IfOk r (λ cnf. cnf ≡ formula_of f.header f.size (Levels fence))
+    IfOk r (λ cnf. cnf ≡ fence_formula f.chain.header.spec f.chain.header.basis f.chain.size (fence_in subproblem)) → (fence : List ℕ) →
+    IsNext f fence → IfOk r (λ cnf. cnf ≡ formula_of f.chain.header f.chain.size (Levels fence))
 formula_given f subproblem (Ok cnf) is at own fence due = own ∙ formula_next f subproblem fence is at due
 formula_given f subproblem (Err e) is at own fence due = tt
 
@@ -165,7 +165,7 @@ fails_is errors.Memory read answer same is = tt
 -- ---- the lines of a log
 
 abbrev pub flat : FenceCursor → ℕ → Place → List Line → Answer
-flat f number place ls = flat_from f.header f.size f.levels number f.low place ls
+flat f number place ls = flat_from f.chain.header f.chain.size f.chain.levels number f.low place ls
 
 -- the name of the next fence
 pub due_reads : (f : FenceCursor) (fence : List ℕ) (number : ℕ) (l : Line) (ls : List Line) → IsNext f fence →
@@ -188,19 +188,19 @@ due_fails f fence number l ls e next fails = fails_is e _ _ (due_reads f fence n
 
 -- the verdict, if no fence is left
 pub end_reads : (f : FenceCursor) (number : ℕ) (l : Line) (ls : List Line) → due_of f ≡ [] →
-    flat f number (Due (due_of f)) (l ∷ ls) ≡ (verdict_at number (levels_found f.low f.levels) l >>= λ v.
+    flat f number (Due (due_of f)) (l ∷ ls) ≡ (verdict_at number (levels_found f.low f.chain.levels) l >>= λ v.
     end_of (number + 1) v ls)
 unfolding flat_from
 end_reads f number l ls none = ap (λ (fs : List (List ℕ)). flat f number (Due fs) (l ∷ ls)) none
 
 pub end_goes : (f : FenceCursor) (number : ℕ) (l : Line) (ls : List Line) (v : DepthVerdict) → due_of f ≡ [] →
-    verdict_at number (levels_found f.low f.levels) l ≡ Ok v →
+    verdict_at number (levels_found f.low f.chain.levels) l ≡ Ok v →
     flat f number (Due (due_of f)) (l ∷ ls) ≡ end_of (number + 1) v ls
 end_goes f number l ls v none read = end_reads f number l ls none ∙ ap (λ (r : Answer). r >>= λ w. end_of (number + 1) w ls) read
 
 pub end_fails : (f : FenceCursor) (number : ℕ) (l : Line) (ls : List Line) (e : DepthError) → due_of f ≡ [] →
-    Fails e (verdict_at number (levels_found f.low f.levels) l) → Fails e (flat f number (Due (due_of f)) (l ∷ ls))
-end_fails f number l ls e none fails = fails_is e _ _ (end_reads f number l ls none) (fails_bind e (verdict_at number (levels_found f.low f.levels) l) (λ w. end_of (number + 1) w ls) fails)
+    Fails e (verdict_at number (levels_found f.low f.chain.levels) l) → Fails e (flat f number (Due (due_of f)) (l ∷ ls))
+end_fails f number l ls e none fails = fails_is e _ _ (end_reads f number l ls none) (fails_bind e (verdict_at number (levels_found f.low f.chain.levels) l) (λ w. end_of (number + 1) w ls) fails)
 
 -- after the name, the log is due
 pub due_begins : (f : FenceCursor) (fence : List ℕ) (number : ℕ) (l : Line) (is_named : Unit {0}) → IsNext f fence →
@@ -228,7 +228,7 @@ begun_goes f fence later number l ls ended e = ap (λ (o : Option LogEnd). or_sy
 -- the lines of a log
 abbrev pub stepping : FenceCursor → List ℕ → List (List ℕ) → ℕ → LogEnd → List theory.Line → List Line → Option theory.Line → Answer
 stepping f fence later number ended log ls step =
-    flat_from f.header f.size f.levels (number + 1) (after_line f.low fence later ended log step).low
+    flat_from f.chain.header f.chain.size f.chain.levels (number + 1) (after_line f.low fence later ended log step).low
     (after_line f.low fence later ended log step).place ls
 
 located_fails : {A : Type 0} (number : ℕ) (e : SubproblemError) (read : Result A SubproblemError) → SubproblemFails e read → Fails (fault_at number e) (at_line number read)
@@ -242,16 +242,16 @@ located_fails number subproblem_errors.Memory read is = tt
 
 pub subproblem_fails : (f : FenceCursor) (fence : List ℕ) (later : List (List ℕ)) (number : ℕ) (ended : LogEnd)
     (log : List theory.Line) (l : Line) (ls : List Line) (e : SubproblemError) →
-    SubproblemFails e (subproblem_in (formula_of f.header f.size (Levels fence)) f.header.conflicts ended log l) →
+    SubproblemFails e (subproblem_in (formula_of f.chain.header f.chain.size (Levels fence)) f.chain.header.conflicts ended log l) →
     Fails (fault_at number e) (flat f number (Within fence later ended log) (l ∷ ls))
 unfolding flat_from
 subproblem_fails f fence later number ended log l ls e fails =
-    let read = subproblem_in (formula_of f.header f.size (Levels fence)) f.header.conflicts ended log l in
+    let read = subproblem_in (formula_of f.chain.header f.chain.size (Levels fence)) f.chain.header.conflicts ended log l in
     fails_bind (fault_at number e) (at_line number read) (stepping f fence later number ended log ls) (located_fails number e read fails)
 
 pub subproblem_goes : (f : FenceCursor) (fence : List ℕ) (later : List (List ℕ)) (number : ℕ) (ended : LogEnd)
     (log : List theory.Line) (l : Line) (ls : List Line) (step : Option theory.Line) →
-    subproblem_in (formula_of f.header f.size (Levels fence)) f.header.conflicts ended log l ≡ Ok step →
+    subproblem_in (formula_of f.chain.header f.chain.size (Levels fence)) f.chain.header.conflicts ended log l ≡ Ok step →
     flat f number (Within fence later ended log) (l ∷ ls) ≡ stepping f fence later number ended log ls step
 unfolding flat_from
 subproblem_goes f fence later number ended log l ls step e = ap (λ (r : Result (Option theory.Line) SubproblemError). at_line number r >>= stepping f fence later number ended log ls) e
@@ -274,7 +274,7 @@ closed_at number (Some verdict) = Ok verdict
 pub ended_as : (stage : Stage) (number : ℕ) (answer : Answer) → IsAfterPrefix stage → AnswersLines stage number [] answer → answer ≡ closed_at number (verdict_in stage)
 unfolding after_chain flat_from end_of
 ended_as (stages.Prefix reader) number answer following stands = absurd following
-ended_as (stages.Depth h size levels) number answer following stands = stands
+ended_as (stages.Depth c) number answer following stands = stands
 ended_as (stages.Due f) number answer following stands = stands
 ended_as (stages.Begun f) number answer following stands = stands.answer_is
 ended_as (stages.Within f reader) number answer following stands = stands.answer_is

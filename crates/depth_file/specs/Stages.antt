@@ -12,19 +12,24 @@ use Rattle.depth_theory.specs.declared.data.DepthVerdict.{DepthVerdict}
 use Rattle.depth_theory.specs.declared.data.DepthError.{DepthError}
 use Rattle.depth_theory.specs.Flatter.{flatter}
 use Rattle.depth_theory.specs.DepthGives.{Fails}
-use Rattle.depth_theory.specs.DepthJudging.{Answer, Due, Begun, Within, after_chain, flat_from, end_of, nothing_after}
+use Rattle.depth_theory.specs.DepthJudging.{Answer, Place, Due, Begun, Within, after_chain, flat_from, end_of, nothing_after}
 use Rattle.depth_file.specs.Prefixes.{IsInPrefix}
 use Rattle.depth_file.specs.declared.stage.FenceCursor.{FenceCursor}
+use Rattle.depth_file.specs.declared.stage.LeveledChain.{LeveledChain}
 use Rattle.depth_file.specs.declared.stage.Stage.{Stage}
 use Rattle.depth_file.specs.declared.stage.Stage.TheVariants as stages
 use Rattle.chain_theory.specs.Limits.{most_steps}
 
+-- a chain of a certificate by the method `fence`
+pub record IsByFences (c : LeveledChain) : Type 0 where
+  pub by_fences : c.header.method ≡ Fence
+  pub operators : 0 < c.header.basis
+  pub size : c.size ≤ most_steps
+
 -- the fences that are due, and the index of the next one
 pub record IsFenceCursor (f : FenceCursor) : Type 0 where
-  pub by_fences : f.header.method ≡ Fence
-  pub operators : 0 < f.header.basis
-  pub size : f.size ≤ most_steps
-  pub fences : f.fences.items ≡ map Levels (flatter f.header.spec f.size f.levels)
+  pub chain : IsByFences f.chain
+  pub fences : f.fences.items ≡ map Levels (flatter f.chain.header.spec f.chain.size f.chain.levels)
   pub at : f.at ≤ length f.fences.items
 
 -- a fence is due or being read
@@ -34,7 +39,7 @@ pub record IsRunning (f : FenceCursor) : Type 0 where
 
 abbrev pub IsStage : Stage → Type 0
 IsStage (stages.Prefix reader) = IsReader (seen reader)
-IsStage (stages.Depth h size levels) = (h.method ≡ Fence) × (0 < h.basis) × (size ≤ most_steps)
+IsStage (stages.Depth c) = IsByFences c
 IsStage (stages.Due f) = IsFenceCursor f
 IsStage (stages.Begun f) = IsRunning f
 IsStage (stages.Within f reader) = IsRunning f
@@ -58,34 +63,38 @@ verdict_in stage = None
 
 -- the fences from the current one on, and those after it
 abbrev pub due_of : FenceCursor → List (List ℕ)
-due_of f = drop f.at (flatter f.header.spec f.size f.levels)
+due_of f = drop f.at (flatter f.chain.header.spec f.chain.size f.chain.levels)
 
 abbrev pub later_of : FenceCursor → List (List ℕ)
-later_of f = drop (f.at + 1) (flatter f.header.spec f.size f.levels)
+later_of f = drop (f.at + 1) (flatter f.chain.header.spec f.chain.size f.chain.levels)
 
 -- the current fence
 abbrev pub IsNext : FenceCursor → List ℕ → Type 0
 IsNext f fence = due_of f ≡ fence ∷ later_of f
 
+-- The answer, if these lines follow, with the first open number of levels so far and the fences left.
+abbrev pub fences_from : FenceCursor → ℕ → Option ℕ → Place → List Line → Answer
+fences_from f number low place lines = flat_from f.chain.header f.chain.size f.chain.levels number low place lines
+
 -- After the name of a fence.
 pub record IsBegun (f : FenceCursor) (number : ℕ) (lines : List Line) (answer : Answer) : Type 0 where
   pub fence : List ℕ
   pub is_next : IsNext f fence
-  pub answer_is : answer ≡ flat_from f.header f.size f.levels number f.low (Begun fence (later_of f)) lines
+  pub answer_is : answer ≡ fences_from f number f.low (Begun fence (later_of f)) lines
 
 -- In a log: the reader has read the lines so far.
 pub record IsLogging (f : FenceCursor) (reader : SubproblemReader) (number : ℕ) (lines : List Line) (answer : Answer) : Type 0 where
   pub fence : List ℕ
   pub is_next : IsNext f fence
   pub log : List theory.Line
-  pub reading : IsReading (formula_of f.header f.size (Levels fence)) f.header.conflicts log reader
-  pub answer_is : answer ≡ flat_from f.header f.size f.levels number f.low (Within fence (later_of f) reader.ended log) lines
+  pub reading : IsReading (formula_of f.chain.header f.chain.size (Levels fence)) f.chain.header.conflicts log reader
+  pub answer_is : answer ≡ fences_from f number f.low (Within fence (later_of f) reader.ended log) lines
 
 -- The answer, if these lines follow.
 abbrev pub AnswersLines : Stage → ℕ → List Line → Answer → Type 0
 AnswersLines (stages.Prefix reader) number lines answer = IsInPrefix reader number lines answer
-AnswersLines (stages.Depth h size levels) number lines answer = answer ≡ after_chain h size levels number lines
-AnswersLines (stages.Due f) number lines answer = answer ≡ flat_from f.header f.size f.levels number f.low (Due (due_of f)) lines
+AnswersLines (stages.Depth c) number lines answer = answer ≡ after_chain c.header c.size c.levels number lines
+AnswersLines (stages.Due f) number lines answer = answer ≡ fences_from f number f.low (Due (due_of f)) lines
 AnswersLines (stages.Begun f) number lines answer = IsBegun f number lines answer
 AnswersLines (stages.Within f reader) number lines answer = IsLogging f reader number lines answer
 AnswersLines (stages.End verdict) number lines answer = answer ≡ end_of number verdict lines

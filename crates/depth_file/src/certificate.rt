@@ -9,7 +9,7 @@ ghost use Rattle.depth_theory.specs.DepthJudging.{Answer};
 ghost use Rattle.depth_file.specs.Prefixes.{as_whole, IsInPrefix, IsAfter};
 ghost use Rattle.depth_file.specs.Stages.{IsStage, IsAfterPrefix, Judged, fed_of};
 
-use crate::stage::Stage;
+use crate::stage::{LeveledChain, Stage};
 use cert_file::{
     CertificateError, CertificateReader, Claim, TextLine, Verdict, claim_at_end, is_line,
 };
@@ -61,9 +61,11 @@ pub(crate) fn after_certificate(
     let size = chain.steps().len() as u32;
     let levels = depth_of(alloc, &chain)?;
     Ok(Stage::Depth {
-        header,
-        size,
-        levels,
+        chain: LeveledChain {
+            header,
+            size,
+            levels,
+        },
     })
 }
 

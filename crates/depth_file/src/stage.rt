@@ -5,13 +5,18 @@ use cert_theory::Header;
 use depth_theory::DepthVerdict;
 use enc_theory::Subproblem;
 
+/// The chain of a certificate, by what was asked and its numbers of steps and of levels.
+#[derive(Drop)]
+pub struct LeveledChain {
+    pub(crate) header: Header,
+    pub(crate) size: u32,
+    pub(crate) levels: u32,
+}
+
 /// The fences with fewer levels than the chain, and the position of the current one.
 #[derive(Drop)]
 pub struct FenceCursor {
-    pub(crate) header: Header,
-    /// The number of steps and of levels of the chain.
-    pub(crate) size: u32,
-    pub(crate) levels: u32,
+    pub(crate) chain: LeveledChain,
     pub(crate) fences: Vec<Subproblem>,
     /// The index of the current fence.
     pub(crate) at: usize,
@@ -26,11 +31,9 @@ pub enum Stage {
     Prefix {
         reader: CertificateReader,
     },
-    /// The line with the depth, after a certificate whose chain has `size` steps on `levels` levels.
+    /// The line with the depth, after a certificate with this chain.
     Depth {
-        header: Header,
-        size: u32,
-        levels: u32,
+        chain: LeveledChain,
     },
     /// The name of the current fence, or the verdict if none is left.
     Due {

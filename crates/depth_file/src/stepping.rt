@@ -3,7 +3,6 @@
 ghost use Rattle.std.specs.Prelude.{◌≡◌, ◌+◌, ◌^◌, ◌<◌, ◌≤◌, ℕ, List, [], ◌∷◌, length, drop, IfOk};
 ghost use Rattle.text_core.specs.Lines.{Line, line_bytes};
 ghost use Rattle.enc_theory.specs.declared.subproblem.Subproblem.TheVariants.{Levels};
-ghost use Rattle.settings.specs.declared.methods.Method.TheVariants.{Fence};
 ghost use Rattle.cert_theory.specs.Certificate as certificates;
 ghost use Rattle.cert_theory.specs.Judging.{low_with as low_with_of};
 ghost use Rattle.line_reader.specs.Splits.{HasNoEnd};
@@ -13,16 +12,16 @@ ghost use Rattle.depth_theory.specs.DepthGives.{Gives};
 ghost use Rattle.depth_theory.specs.DepthJudging as judging;
 ghost use Rattle.depth_theory.specs.DepthJudging.{Answer};
 ghost use Rattle.depth_file.specs.Stages as stages;
-ghost use Rattle.depth_file.specs.Stages.{IsStage, IsFenceCursor, IsRunning, IsNext, due_of, later_of, fed_of};
-ghost use Rattle.depth_file.specs.Stages.{IsAfterPrefix, IsBegun, IsLogging, AnswersLines, Judged};
-ghost use Rattle.chain_theory.specs.Limits.{most_steps};
+ghost use Rattle.depth_file.specs.Stages.{IsStage, IsByFences, IsFenceCursor, IsRunning, IsNext, IsAfterPrefix};
+ghost use Rattle.depth_file.specs.Stages.{IsBegun, IsLogging, AnswersLines, Judged};
+ghost use Rattle.depth_file.specs.Stages.{due_of, later_of, fed_of, fences_from};
 
 use crate::certificate::{after_certificate, at_prefix};
 use crate::fences::flatter_subproblems;
 use crate::lines::{depth_at, fault_at, name_at, verdict_at};
-use crate::stage::{FenceCursor, Stage};
+use crate::stage::{FenceCursor, LeveledChain, Stage};
 use cert_file::{SubproblemReader, SubproblemStep, TextLine, ended_in, is_line, low_with};
-use cert_theory::{Header, LogEnd};
+use cert_theory::LogEnd;
 use cnf_core::Cnf;
 use depth_theory::{DepthError, DepthVerdict};
 use enc_base::Encoding;
@@ -53,7 +52,7 @@ fn subproblem_in(flat: &FenceCursor) -> &Subproblem
 fn fence_of(flat: &FenceCursor) -> &[u32]
     requires { IsRunning flat.now }
     ensures next { IsNext flat.now result.now }
-    ensures few { length result.now < flat.now.levels }
+    ensures few { length result.now < flat.now.chain.levels }
 {
     levels_of(subproblem_in(flat))
 }
@@ -70,29 +69,19 @@ fn found(low: Option<u32>, levels: u32) -> DepthVerdict
 
 /// Reads the line with the depth.
 #[tactic(auto, unfolding(depth_theory::specs::DepthJudging::after_chain))]
-fn at_depth(
-    alloc: Global,
-    header: Header,
-    size: u32,
-    levels: u32,
-    line: &TextLine,
-) -> Result<Stage, DepthError>
-    requires fences { header.method ≡ Fence }
-    requires operators { 0 < header.basis }
-    requires size { size ≤ most_steps }
+fn at_depth(alloc: Global, chain: LeveledChain, line: &TextLine) -> Result<Stage, DepthError>
+    requires { IsByFences chain }
     ensures keeps { IfOk result IsStage }
     ensures fed { IfOk result (λ s. fed_of s ≡ 0) }
     ensures answer { (ls : List Line) (answer : Answer) →
-        answer ≡ judging.after_chain header size levels line.now.number (line_of line.now ∷ ls) →
+        answer ≡ judging.after_chain chain.header chain.size chain.levels line.now.number (line_of line.now ∷ ls) →
         Judged result (line.now.number + 1) ls answer }
 {
-    depth_at(line, levels)?;
-    let fences = flatter_subproblems(alloc, &header.spec, size, levels)?;
+    depth_at(line, chain.levels)?;
+    let fences = flatter_subproblems(alloc, &chain.header.spec, chain.size, chain.levels)?;
     Ok(Stage::Due {
         flat: FenceCursor {
-            header,
-            size,
-            levels,
+            chain,
             fences,
             at: 0,
             low: None,
@@ -107,15 +96,14 @@ fn at_due(alloc: Global, flat: FenceCursor, line: &TextLine) -> Result<Stage, De
     ensures keeps { IfOk result (λ s. IsStage s) }
     ensures fed { IfOk result (λ s. fed_of s ≡ 0) }
     ensures answer { (lines ls : List Line) (answer : Answer) →
-        answer ≡ judging.flat_from flat.header flat.size flat.levels line.now.number flat.low
-        (judging.Due (due_of flat)) lines →
+        answer ≡ fences_from flat line.now.number flat.low (judging.Due (due_of flat)) lines →
         lines ≡ line_of line.now ∷ ls → Judged result (line.now.number + 1) ls answer }
 {
     if flat.at < flat.fences.len() {
         name_at(alloc, line, fence_of(&flat))?;
         return Ok(Stage::Begun { flat });
     }
-    let verdict = verdict_at(line, found(flat.low, flat.levels))?;
+    let verdict = verdict_at(line, found(flat.low, flat.chain.levels))?;
     Ok(Stage::End { verdict })
 }
 
@@ -124,13 +112,13 @@ fn at_due(alloc: Global, flat: FenceCursor, line: &TextLine) -> Result<Stage, De
 fn formula_of(alloc: Global, flat: &FenceCursor) -> Result<Cnf, AllocError>
     requires { IsRunning flat.now }
     ensures { (fence : List ℕ) → IsNext flat.now fence →
-        IfOk result (λ cnf. cnf ≡ certificates.formula_of flat.now.header flat.now.size (Levels fence)) }
+        IfOk result (λ cnf. cnf ≡ certificates.formula_of flat.now.chain.header flat.now.chain.size (Levels fence)) }
 {
     FenceEnc.formula(
         alloc,
-        &flat.header.spec,
-        flat.header.basis,
-        flat.size,
+        &flat.chain.header.spec,
+        flat.chain.header.basis,
+        flat.chain.size,
         subproblem_in(flat),
     )
 }
@@ -148,7 +136,7 @@ fn at_begun(alloc: Global, flat: FenceCursor, line: &TextLine) -> Result<Stage, 
         return Err(DepthError::Syntax(line.number));
     };
     let cnf = formula_of(alloc, &flat)?;
-    let reader = SubproblemReader::new(alloc, cnf, flat.header.conflicts, end)?;
+    let reader = SubproblemReader::new(alloc, cnf, flat.chain.header.conflicts, end)?;
     Ok(Stage::Within { flat, reader })
 }
 
@@ -159,29 +147,14 @@ fn following(flat: FenceCursor, end: LogEnd) -> Stage
     ensures keeps { IsStage result }
     ensures fed { fed_of result ≡ 0 }
     ensures stands { (number : ℕ) (fence : List ℕ) (ls : List Line) (answer : Answer) → IsNext flat fence →
-        answer ≡ judging.flat_from flat.header flat.size flat.levels number (low_with_of flat.low end (length fence))
-        (judging.Due (later_of flat)) ls →
+        answer ≡ fences_from flat number (low_with_of flat.low end (length fence)) (judging.Due (later_of flat)) ls →
         AnswersLines result number ls answer }
 {
     let levels = fence_of(&flat).len() as u32;
-    let FenceCursor {
-        header,
-        size,
-        levels: most,
-        fences,
-        at,
-        low,
-    } = flat;
-    Stage::Due {
-        flat: FenceCursor {
-            header,
-            size,
-            levels: most,
-            fences,
-            at: at + 1,
-            low: low_with(low, end, levels),
-        },
-    }
+    let mut flat = flat;
+    flat.at += 1;
+    flat.low = low_with(flat.low, end, levels);
+    Stage::Due { flat }
 }
 
 /// Reads a line of a log, or its end.
@@ -233,11 +206,7 @@ pub(crate) fn take(alloc: Global, stage: Stage, line: &TextLine) -> Result<Stage
 {
     match stage {
         Stage::Prefix { reader } => at_prefix(alloc, reader, line),
-        Stage::Depth {
-            header,
-            size,
-            levels,
-        } => at_depth(alloc, header, size, levels, line),
+        Stage::Depth { chain } => at_depth(alloc, chain, line),
         Stage::Due { flat } => at_due(alloc, flat, line),
         Stage::Begun { flat } => at_begun(alloc, flat, line),
         Stage::Within { flat, reader } => at_within(alloc, flat, reader, line),

@@ -22,7 +22,7 @@ returns-clause-answer c = λ lines ls answer begun same.
       fence = begun.fence;
       is_next = begun.is_next;
       log = [];
-      reading = subst (λ (g : Formula). IsReading g f.header.conflicts [] c.in_ok-reader.reader) (c.in_ok-cnf.ensures begun.fence begun.is_next) c.in_ok-reader.ensures.reading;
+      reading = subst (λ (g : Formula). IsReading g f.chain.header.conflicts [] c.in_ok-reader.reader) (c.in_ok-cnf.ensures begun.fence begun.is_next) c.in_ok-reader.ensures.reading;
       answer_is =
           is
           ∙ begun_goes f begun.fence (later_of f) c.args.line.now.number _ ls c.in-Some.end (sym c.in-Some.ensures)

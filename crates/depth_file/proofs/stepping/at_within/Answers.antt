@@ -20,10 +20,10 @@ returns-in-Ok-More-clause-answer c = λ lines ls answer stands same.
     let f = c.args.flat in
     let n = c.args.line.now.number in
     let end = c.args.reader.ended in
-    let g = formula_of f.header f.size (Levels stands.fence) in
-    let more : HasMore g f.header.conflicts end stands.log (line_of c.args.line.now) c.in-Ok-More.reader =
-    subst (λ (step : SubproblemStep). IsFed g f.header.conflicts end stands.log (line_of c.args.line.now) (Ok step))
-    c.in-Ok-More.field-0-is (c.in-Ok-More.ensures g f.header.conflicts stands.log stands.reading) in
+    let g = formula_of f.chain.header f.chain.size (Levels stands.fence) in
+    let more : HasMore g f.chain.header.conflicts end stands.log (line_of c.args.line.now) c.in-Ok-More.reader =
+    subst (λ (step : SubproblemStep). IsFed g f.chain.header.conflicts end stands.log (line_of c.args.line.now) (Ok step))
+    c.in-Ok-More.field-0-is (c.in-Ok-More.ensures g f.chain.header.conflicts stands.log stands.reading) in
     record {
       fence = stands.fence;
       is_next = stands.is_next;
@@ -41,15 +41,15 @@ returns-in-Ok-Done-clause-answer c = λ lines ls answer stands same.
     let f = c.args.flat in
     let n = c.args.line.now.number in
     let end = c.args.reader.ended in
-    let g = formula_of f.header f.size (Levels stands.fence) in
-    let done : subproblem_in g f.header.conflicts end stands.log (line_of c.args.line.now) ≡ Ok None =
-    subst (λ (step : SubproblemStep). IsFed g f.header.conflicts end stands.log (line_of c.args.line.now) (Ok step))
-    c.in-Ok-Done.field-0-is (c.in-Ok-Done.ensures g f.header.conflicts stands.log stands.reading) in
+    let g = formula_of f.chain.header f.chain.size (Levels stands.fence) in
+    let done : subproblem_in g f.chain.header.conflicts end stands.log (line_of c.args.line.now) ≡ Ok None =
+    subst (λ (step : SubproblemStep). IsFed g f.chain.header.conflicts end stands.log (line_of c.args.line.now) (Ok step))
+    c.in-Ok-Done.field-0-is (c.in-Ok-Done.ensures g f.chain.header.conflicts stands.log stands.reading) in
     c.following.ensures.stands (n + 1) stands.fence ls answer stands.is_next
     (stands.answer_is
     ∙ ap (flat f n (Within stands.fence (later_of f) end stands.log)) same
     ∙ subproblem_goes f stands.fence (later_of f) n end stands.log _ ls None done
-    ∙ ap (λ (e : LogEnd). flat_from f.header f.size f.levels (n + 1) (low_with f.low e (length stands.fence)) (Due (later_of f)) ls) (sym c.ended-end.ensures))
+    ∙ ap (λ (e : LogEnd). flat_from f.chain.header f.chain.size f.chain.levels (n + 1) (low_with f.low e (length stands.fence)) (Due (later_of f)) ls) (sym c.ended-end.ensures))
 
 pub returns-in-Err-clause-answer : goal.returns-in-Err-clause-answer
 returns-in-Err-clause-answer c = λ lines ls answer stands same.
@@ -59,4 +59,4 @@ returns-in-Err-clause-answer c = λ lines ls answer stands same.
     let e = c.in-Err.fault in
     subst (λ (d : DepthError). Fails d answer) (sym c.fault_at.ensures)
     (fails_is (fault_at n e) _ answer (stands.answer_is ∙ ap (flat f n (Within stands.fence (later_of f) end stands.log)) same)
-    (subproblem_fails f stands.fence (later_of f) n end stands.log _ ls e (c.in-Err.ensures (formula_of f.header f.size (Levels stands.fence)) f.header.conflicts stands.log stands.reading)))
+    (subproblem_fails f stands.fence (later_of f) n end stands.log _ ls e (c.in-Err.ensures (formula_of f.chain.header f.chain.size (Levels stands.fence)) f.chain.header.conflicts stands.log stands.reading)))
