@@ -93,6 +93,7 @@ impl Search {
         ensures starts { IfOk result (λ s. s.starts.items ≡ []) }
         ensures head { IfOk result (λ s. s.head ≡ 0) }
         ensures least { IfOk result (λ s. s.least ≡ least) }
+        ensures shorter { IfOk result (λ s. s.shorter.high ≡ 0) }
     {
         let vars = cnf.vars();
         let given = cnf.clauses().len() as u32;
