@@ -33,3 +33,7 @@ kept_thin f budget s t spent gone same accounted =
     (let as_many : additions (with_deletion s.lines gone.own gone.ids) ≡ additions s.lines =
     additions_gone s.lines gone.own gone.ids in let low : s.least ≤ additions s.lines =
     spent.least in omega (arith, as_many, low, same)))
+
+-- They delete no addition from the count.
+pub many_thin : (s t : Search) → MoreDeleted s.lines t.lines → additions t.lines ≡ additions s.lines
+many_thin s t gone = subst (λ (ls : List Line). additions ls ≡ additions s.lines) (sym gone.is) (additions_gone s.lines gone.own gone.ids)

@@ -18,7 +18,7 @@ use Rattle.cdcl_core.proofs.Formulas.{named}
 use Rattle.std.specs.Prelude.{Result, Ok, Err, IfOk}
 use Rattle.sat_solve.specs.declared.solver.Solved.{Solved}
 use Rattle.sat_solve.specs.declared.solver.Solved.TheVariants.{Sat, Unsat, Open}
-use Rattle.sat_solve.specs.Answering.{IfOpen}
+use Rattle.sat_solve.specs.Answering.{IfOpen, most_past}
 use Rattle.sat_theory.specs.Limits.{slack}
 
 no_lines : (s : State) → EachLine IsStep s []
@@ -96,6 +96,14 @@ nothing f = (let none : live_additions (after (start f) []) [] ≡ 0 = refl in o
 -- Without lines there is nothing to delete.
 pub live_bounded_at_once : (f : Formula) (lines : List Line) → lines ≡ [] → BoundsLiveAdditions f lines
 live_bounded_at_once f lines none = rw none (record { spares = All-nil (SparesFormula f); few = nothing f })
+
+none_few : (f : Formula) (n : ℕ) → additions [] < n + most_past f
+unfolding added_ids
+none_few f n = (let none : additions [] ≡ 0 = refl in omega (arith, none))
+
+-- They are fewer than any bound.
+pub few_at_once : (f : Formula) (lines : List Line) (n : ℕ) → lines ≡ [] → additions lines < n + most_past f
+few_at_once f lines n none = rw none (none_few f n)
 
 -- A log that reaches a budget reaches smaller ones.
 pub spent_less : (f : Formula) (lines : List Line) (less more : ℕ) → less ≤ more → ReachesBudget f lines more → ReachesBudget f lines less

@@ -1,9 +1,9 @@
 //! The answers of the solver, from the end of its search.
-ghost use Rattle.std.specs.Prelude.{◌≡◌, ℕ, ◌+◌, ◌*◌, ◌^◌, ◌<◌, ◌≤◌, [], length, max, Contains, IfOk};
+ghost use Rattle.std.specs.Prelude.{◌≡◌, ℕ, ◌+◌, ◌-◌, ◌*◌, ◌^◌, ◌<◌, ◌≤◌, [], length, max, Contains, IfOk};
 ghost use Rattle.sat_theory.specs.Formula.{Formula, IsFormula, bits_of, Satisfies};
-ghost use Rattle.sat_theory.specs.Log.{Refutes, ReachesBudget, KeepsHalf, BoundsLiveAdditions};
+ghost use Rattle.sat_theory.specs.Log.{additions, Refutes, ReachesBudget, KeepsHalf, BoundsLiveAdditions};
 ghost use Rattle.sat_theory.specs.Limits.{most_conflicts};
-ghost use Rattle.sat_solve.specs.Answering.{IfSat, IfUnsat, IfOpen, IfLogged, IsDecided};
+ghost use Rattle.sat_solve.specs.Answering.{IfSat, IfUnsat, IfOpen, IfLogged, IsDecided, most_past};
 ghost use Rattle.clause_db.specs.Stored.{IsStored};
 ghost use Rattle.cdcl_core.specs.Searching.{IsSearching, HasWatchInvariant, IsAccounted, IsLogged};
 ghost use Rattle.cdcl_core.specs.SearchEnds.{HasRefuted, HasReachedBudget};
@@ -31,6 +31,9 @@ fn decide_rest(search: &mut Search, alloc: Global, budget: u32) -> Result<Solved
         IfOk result (λ s. IfLogged s (BoundsLiveAdditions f)) }
     ensures decides { (f : Formula) → IsLogged f search.old → (Contains f.clauses [] → ⊥) →
         2 * 3 ^ f.vars ≤ max search.old.least budget → IfOk result IsDecided }
+    ensures few { (f : Formula) → IsLogged f search.old →
+        IfOk result (λ s. IfLogged s (λ lines. additions lines <
+        max search.old.least (length search.old.clauses.clauses - search.old.given + budget) + most_past f)) }
 {
     search.close();
     let total = search.total_budget(budget);
@@ -60,6 +63,9 @@ pub(crate) fn conclude(
         IfOk result (λ s. IfLogged s (BoundsLiveAdditions f)) }
     ensures decides { (f : Formula) (least : ℕ) → FitsStatusOf f least search.old status →
         2 * 3 ^ f.vars ≤ max least budget → IfOk result IsDecided }
+    ensures few { (f : Formula) (least : ℕ) → FitsStatusOf f least search.old status →
+        IfOk result (λ s. IfLogged s (λ lines. additions lines <
+        max least (length search.old.clauses.clauses - search.old.given + budget) + most_past f)) }
 {
     match status {
         SolverStatus::Empty => Ok(Solved::Unsat(Log::new(alloc))),
@@ -88,6 +94,8 @@ fn answer(search: &mut Search, alloc: Global, budget: u32) -> Result<Solved, All
         IfOk result (λ s. IfLogged s (BoundsLiveAdditions f)) }
     ensures decides { (f : Formula) → IsLogged f search.old → (Contains f.clauses [] → ⊥) → 2 * 3 ^ f.vars ≤ budget →
         IfOk result IsDecided }
+    ensures few { (f : Formula) → IsLogged f search.old →
+        IfOk result (λ s. IfLogged s (λ lines. additions lines < budget + most_past f)) }
 {
     match search.go_on(budget)? {
         SearchEnd::Satisfied => Ok(Solved::Sat(search.trail.assignment(alloc)?)),
@@ -105,6 +113,7 @@ fn log_of(search: &mut Search, alloc: Global) -> Result<Log, AllocError>
     ensures kept { (f : Formula) (budget : ℕ) → HasReachedBudget f budget search.old →
         IfOk result (λ log. KeepsHalf f log) }
     ensures live_bounded { (f : Formula) → IsAccounted f search.old → IfOk result (λ log. BoundsLiveAdditions f log) }
+    ensures as_many { IfOk result (λ log. additions log ≡ additions search.old.lines) }
 {
     search.meet_final_bound()?;
     Ok(mem::replace(&mut search.lines, Log::new(alloc)))

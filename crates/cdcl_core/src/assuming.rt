@@ -6,7 +6,7 @@
 //!
 //! The choice of decisions is free: the invariants of a search hold whatever unassigned variable is decided.
 //! A call leaves the trail as it is, and the next step of the search backtracks to level 0 first.
-ghost use Rattle.std.specs.Prelude.{◌≡◌, ◌+◌, ◌<◌, ◌≤◌, [], length, IsFalse, IfOk, IfSome, IfNone};
+ghost use Rattle.std.specs.Prelude.{◌≡◌, ◌+◌, ◌-◌, ◌<◌, ◌≤◌, [], length, max, IsFalse, IfOk, IfSome, IfNone};
 ghost use Rattle.sat_theory.specs.Formula.{Formula, IsWithin};
 ghost use Rattle.cdcl_theory.specs.Propagation.{AllSettled};
 ghost use Rattle.cdcl_theory.specs.Trails.{falsified_at as falsified_in};
@@ -79,6 +79,7 @@ impl Search {
         ensures budget { budget ≤ result }
         ensures short { length self.now.clauses.clauses ≤ self.now.given + result }
         ensures room { self.now.given + result < 2970000000 }
+        ensures total { result ≡ max self.now.least (length self.now.clauses.clauses - self.now.given + budget) }
     {
         let additions = self.clauses.last() - self.given;
         self.least.max(additions + budget)
@@ -170,6 +171,9 @@ impl Search {
         ensures stored { IfOk result (λ ended. IfNone ended (IsStored self.new.clauses)) }
         ensures vars { IfOk result (λ _. self.new.trail.vars ≡ self.old.trail.vars) }
         ensures least { IfOk result (λ ended. IfSome ended (λ _. self.new.least ≡ self.old.least)) }
+        ensures few { IfOk result (λ _.
+            length self.new.clauses.clauses ≤ length self.old.clauses.clauses + limit + self.old.trail.vars + 2) }
+        ensures given { IfOk result (λ _. self.new.given ≡ self.old.given) }
     {
         self.begin_assuming(assumptions, cones, limit)?;
         let end = LAST_ID.min(self.clauses.last().saturating_add(limit));
@@ -194,6 +198,10 @@ impl Search {
         ensures stored { IfOk result (λ ended. IfNone ended (IsStored self.new.clauses)) }
         ensures vars { IfOk result (λ _. self.new.trail.vars ≡ self.old.trail.vars) }
         ensures least { IfOk result (λ ended. IfSome ended (λ _. self.new.least ≡ self.old.least)) }
+        ensures few { IfOk result (λ _.
+            length self.new.clauses.clauses ≤
+            max (length self.old.clauses.clauses + length self.old.starts.items) (end + self.old.trail.vars + 1) + 1) }
+        ensures given { IfOk result (λ _. self.new.given ≡ self.old.given) }
     {
         loop {
             if let Some(conflict) = self.resolve_conflicts()? {

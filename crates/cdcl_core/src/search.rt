@@ -26,7 +26,8 @@ use trail_core::Trail;
 /// it.
 const FIRST_CONFLICTS: u32 = 300;
 
-/// Larger formulas aren't strengthened, and at most this many strengthened clauses are added.
+/// Larger formulas aren't strengthened, and at most this many strengthened clauses are added, and no more than there
+/// are clauses of the formula.
 const MOST_STRENGTHENED: u32 = 400_000;
 
 /// An id that no clause gets.
@@ -274,6 +275,7 @@ impl Search {
         ensures decided { IfOk result (λ ending. IfNone ending (HasDecided self.old self.new)) }
         ensures under { IfOk result (λ ending. IfNone ending
             (length self.old.clauses.clauses < self.old.given + budget)) }
+        ensures clauses { IfOk result (λ _. self.new.clauses ≡ self.old.clauses) }
         ensures ended { (f : Formula) → IsLogged f self.old →
             IfOk result (λ ending. IfSome ending (Ends f budget self.new)) }
         ensures stored { IfOk result (λ _. IsStored self.new.clauses) }
@@ -296,6 +298,8 @@ impl Search {
         requires bottom { self.old.starts.items ≡ [] }
         requires conflict { IsFalsified (live_in self.old.clauses) (falsified_in self.old.trail) conflict }
         ensures refuted { (f : Formula) → IsLogged f self.old → OnOk result (HasRefuted f self.new) }
+        ensures one { OnOk result (length self.new.clauses.clauses ≡ length self.old.clauses.clauses + 1) }
+        ensures given { self.new.given ≡ self.old.given }
         ensures trail { self.new.trail ≡ self.old.trail }
         ensures stored { IsStored self.new.clauses }
     {
@@ -334,6 +338,8 @@ impl Search {
             IfOk result (λ ending. IfNone ending (IsLogged f self.new)) }
         ensures ends { (f : Formula) → IsLogged f self.old →
             IfOk result (λ ending. IfSome ending (Ends f budget self.new)) }
+        ensures few { IfOk result (λ _.
+            length self.new.clauses.clauses ≤ self.old.given + budget + self.old.trail.vars + 2) }
         ensures stored { IfOk result (λ _. IsStored self.new.clauses) }
     {
         loop {
@@ -371,6 +377,8 @@ impl Search {
         requires short { length self.old.clauses.clauses ≤ self.old.given + budget }
         requires starts { self.old.starts.items ≡ [] }
         ensures ends { (f : Formula) → IsLogged f self.old → IfOk result (Ends f budget self.new) }
+        ensures few { IfOk result (λ _.
+            length self.new.clauses.clauses ≤ self.old.given + budget + self.old.trail.vars + self.old.given + 2) }
         ensures stored { IfOk result (λ _. IsStored self.new.clauses) }
     {
         let pause = self.pause(budget);
@@ -380,7 +388,8 @@ impl Search {
         let before = self.clauses.last();
         // for the prover: strengthening happens once
         if self.shorter.high == 0 {
-            if let Some(conflict) = self.strengthen(before + MOST_STRENGTHENED)? {
+            let most = self.given.min(MOST_STRENGTHENED);
+            if let Some(conflict) = self.strengthen(before + most)? {
                 self.refute(conflict)?;
                 return Ok(SearchEnd::Refuted);
             }
@@ -399,6 +408,8 @@ impl Search {
             1 }
         requires starts { self.old.starts.items ≡ [] }
         ensures ends { (f : Formula) → IsLogged f self.old → IfOk result (Ends f budget self.new) }
+        ensures few { IfOk result (λ _.
+            length self.new.clauses.clauses ≤ self.old.given + budget + shorter + self.old.trail.vars + 2) }
         ensures stored { IfOk result (λ _. IsStored self.new.clauses) }
     {
         match self.run(budget + shorter, NEVER)? {

@@ -37,11 +37,14 @@ impl Model for Cdcl {
 }
 
 impl Solver for Cdcl {
+    ghost use Rattle.std.specs.Prelude.{◌-◌, length};
     ghost use Rattle.cdcl_core.specs.Solving.{FitsStatusOf};
 
     ghost IsSolverOf = { λ f least s. FitsStatusOf f least s.search s.status };
 
     ghost vars_of = { λ s. s.search.trail.vars };
+
+    ghost additions_of = { λ s. length s.search.clauses.clauses - s.search.given };
 
     fn new(alloc: Global, cnf: &Cnf, least: u32) -> Result<Cdcl, AllocError> {
         let mut search = Search::new(alloc, cnf, least)?;

@@ -1,5 +1,6 @@
 -- Facts about a solver's answer, by cases.
-use Rattle.std.specs.Prelude.{Bool, List}
+use Rattle.std.specs.Prelude.{ℕ, ◌+◌, Bool, List, length}
+use Rattle.sat_theory.specs.Formula.{Formula}
 use Rattle.sat_theory.specs.Line as theory
 use Rattle.sat_solve.specs.declared.solver.Solved.{Solved}
 use Rattle.sat_solve.specs.declared.solver.Solved.TheVariants.{Sat, Unsat, Open}
@@ -29,3 +30,8 @@ abbrev pub IsDecided : Solved → Type 0
 IsDecided (Sat bits) = Unit {0}
 IsDecided (Unsat log) = Unit {0}
 IsDecided (Open log) = ⊥
+
+-- How many additions a log may have past the budget of its search: a shorter clause for each one of the formula, a
+-- clause learnt at each decision level that was open when the budget was spent, and three more, such as the empty one.
+abbrev pub most_past : Formula → ℕ
+most_past f = length f.clauses + f.vars + 3

@@ -44,17 +44,20 @@ pub struct Cones<'a> {
 /// An incremental solver of one formula in conjunctive normal form: calls under assumptions learn clauses of
 /// it, `finish` decides it.
 pub trait Solver: Drop {
-    ghost use Rattle.std.specs.Prelude.{◌≡◌, ℕ, ◌*◌, ◌^◌, ◌<◌, ◌≤◌, length, max, IfOk};
+    ghost use Rattle.std.specs.Prelude.{◌≡◌, ℕ, ◌+◌, ◌*◌, ◌^◌, ◌<◌, ◌≤◌, length, max, IfOk};
     ghost use Rattle.sat_theory.specs.Formula.{Formula, IsWithin, bits_of, Satisfies};
-    ghost use Rattle.sat_theory.specs.Log.{Refutes, ReachesBudget, KeepsHalf, BoundsLiveAdditions};
+    ghost use Rattle.sat_theory.specs.Log.{additions, Refutes, ReachesBudget, KeepsHalf, BoundsLiveAdditions};
     ghost use Rattle.sat_theory.specs.Limits.{most_conflicts};
-    ghost use Rattle.sat_solve.specs.Answering.{IfSat, IfUnsat, IfOpen, IfLogged, IsDecided};
+    ghost use Rattle.sat_solve.specs.Answering.{IfSat, IfUnsat, IfOpen, IfLogged, IsDecided, most_past};
 
     /// The formula that it solves, and the least number of additions of a log that leaves it undecided.
     ghost IsSolverOf: { Formula → ℕ → Self → Type 0 };
 
     /// The number of variables.
     ghost vars_of: { Self → ℕ };
+
+    /// The number of additions of its log so far.
+    ghost additions_of: { Self → ℕ };
 
     /// A solver of a formula. A log that leaves the formula undecided has at least `least` additions; up to
     /// half of these may be deleted at any time.
@@ -63,7 +66,8 @@ pub trait Solver: Drop {
         Self: Sized,
         requires most { least ≤ most_conflicts }
         ensures solver { IfOk result (IsSolverOf cnf.now least) }
-        ensures vars { IfOk result (λ s. vars_of s ≡ cnf.now.vars) };
+        ensures vars { IfOk result (λ s. vars_of s ≡ cnf.now.vars) }
+        ensures few { IfOk result (λ s. additions_of s ≤ 1) };
 
     /// Solves under assumptions: decides the assumptions without a value in their order, and then only
     /// decision variables, those of the assumptions first (see `Cones`). It returns `Limit` at the first
@@ -77,7 +81,9 @@ pub trait Solver: Drop {
         requires within { IsWithin (vars_of self.old) assumptions.now }
         ensures kept { (f : Formula) (least : ℕ) → IsSolverOf f least self.old →
             IfOk result (λ _. IsSolverOf f least self.new) }
-        ensures vars { IfOk result (λ _. vars_of self.new ≡ vars_of self.old) };
+        ensures vars { IfOk result (λ _. vars_of self.new ≡ vars_of self.old) }
+        // Past the limit it learns at most one clause for each level, and the empty clause.
+        ensures few { IfOk result (λ _. additions_of self.new ≤ additions_of self.old + limit + vars_of self.old + 2) };
 
     /// The value of a variable after the last call under assumptions; None if it has none, or the formula
     /// doesn't have the variable.
@@ -105,6 +111,10 @@ pub trait Solver: Drop {
         // deleted.
         ensures live_bounded { (f : Formula) (least : ℕ) → IsSolverOf f least self →
             IfOk result (λ s. IfLogged s (BoundsLiveAdditions f)) }
+        // The budget bounds the log: it has fewer than `most_past` additions more.
+        ensures few { (f : Formula) (least : ℕ) → IsSolverOf f least self →
+            IfOk result (λ s. IfLogged s (λ lines.
+            additions lines < max least (additions_of self + budget) + most_past f)) }
         // A budget of twice 3 to the number of variables decides every formula.
         ensures decides { (f : Formula) (least : ℕ) → IsSolverOf f least self → 2 * 3 ^ f.vars ≤ max least budget →
             IfOk result IsDecided };
@@ -125,6 +135,8 @@ pub trait Solver: Drop {
         // At the end at most 3/4 of the additions, and vars + 2000 more, are live, and no clause of the formula is
         // deleted.
         ensures live_bounded { IfOk result (λ s. IfLogged s (BoundsLiveAdditions cnf.now)) }
+        // The budget bounds the log: it has at most `most_past` additions more.
+        ensures few { IfOk result (λ s. IfLogged s (λ lines. additions lines ≤ budget + most_past cnf.now)) }
         // A budget of twice 3 to the number of variables decides every formula.
         ensures decides { 2 * 3 ^ cnf.now.vars ≤ budget → IfOk result IsDecided }
     {

@@ -5,7 +5,7 @@ use Rattle.std.specs.Prelude.{IfOk}
 use Rattle.cdcl_core.specs.declared.solver.SolverStatus.{SolverStatus}
 use Rattle.cdcl_core.specs.SearchEnds.{HasRefuted}
 use Rattle.cdcl_core.specs.Solving.{IsSearchOf, FitsStatus, FitsStatusOf}
-use Rattle.cdcl_core.proofs.Showing.{refuted_at_once, live_bounded_at_once}
+use Rattle.cdcl_core.proofs.Showing.{refuted_at_once, live_bounded_at_once, few_at_once}
 use Rattle.cdcl_core.proofs.answering.conclude.Goals as goal
 
 pub returns-in-Empty-clause-unsat : goal.returns-in-Empty-clause-unsat
@@ -66,3 +66,6 @@ pub returns-in_ok-log_of-in-Refuted-clause-live_bounded : goal.returns-in_ok-log
 returns-in_ok-log_of-in-Refuted-clause-live_bounded c = λ f least of.
     let refuted : HasRefuted f c.args.search.now = subst (λ (status : SolverStatus). FitsStatusOf f least c.args.search.now status) c.in-Refuted.is of in
     c.in_ok-log_of-in-Refuted.ensures.live_bounded f refuted.accounted
+
+pub returns-in-Empty-clause-few : goal.returns-in-Empty-clause-few
+returns-in-Empty-clause-few c = λ f least of. few_at_once f c.new.result _ c.new.ensures

@@ -1,4 +1,8 @@
-use Rattle.std.proofs.Common.{◌≤◌, max, arith}
+use Rattle.std.proofs.Common.{◌≡◌, ◌+◌, ◌-◌, ◌<◌, ◌≤◌, ℕ, length, max, ap, subst, arith}
+use Rattle.std.specs.Prelude.{IfOk}
+use Rattle.sat_theory.specs.Log.{additions}
+use Rattle.sat_solve.specs.Answering.{IfLogged, most_past}
+use Rattle.clause_db.specs.Stored.{Stored}
 use Rattle.cdcl_core.specs.Solving.{IsUnderWay}
 use Rattle.cdcl_core.proofs.Restarting.{logged_restarted}
 use Rattle.cdcl_core.proofs.UnderWay.{under_way_restarted}
@@ -62,3 +66,18 @@ close-requires-clause-searching c = c.requires.under_way.searching
 
 pub close-requires-clause-visited : goal.close-requires-clause-visited
 close-requires-clause-visited c = c.requires.under_way.visited
+
+pub returns-clause-few : goal.returns-clause-few
+returns-clause-few c = λ f logged.
+    let s = c.args.search.now in
+    let clauses : length c.close.new.self.clauses.clauses ≡ length s.clauses.clauses = ap (λ (x : Stored). length x.clauses) c.close.ensures.restarted.clauses in
+    let total : c.total_budget-total.result ≡ max s.least (length s.clauses.clauses - s.given + c.args.budget) =
+    omega (
+      arith,
+      c.total_budget-total.ensures.total,
+      clauses,
+      c.close.ensures.restarted.given,
+      c.close.ensures.restarted.least,
+    ) in
+    subst (λ (n : ℕ). IfOk c.answer.result (λ r. IfLogged r (λ lines. additions lines < n + most_past f))) total
+    (c.answer.ensures.few f (logged_restarted f s c.close.new.self logged c.close.ensures.restarted))

@@ -1,4 +1,4 @@
-use Rattle.cdcl_core.proofs.Closing.{refuted_thin, spent_thin, kept_thin}
+use Rattle.cdcl_core.proofs.Closing.{refuted_thin, spent_thin, kept_thin, many_thin}
 use Rattle.cdcl_core.proofs.answering.log_of.Goals as goal
 
 pub returns-clause-refutes : goal.returns-clause-refutes
@@ -19,3 +19,7 @@ returns-clause-kept c = λ f budget spent. rw c.replace.ensures.value
 
 pub returns-clause-live_bounded : goal.returns-clause-live_bounded
 returns-clause-live_bounded c = λ f accounted. rw c.replace.ensures.value (c.in_ok-meet_final_bound.ensures.live_bounded f accounted)
+
+pub returns-clause-as_many : goal.returns-clause-as_many
+returns-clause-as_many c = rw c.replace.ensures.value
+    (many_thin c.args.search.now c.meet_final_bound.new.self c.in_ok-meet_final_bound.ensures.gone)

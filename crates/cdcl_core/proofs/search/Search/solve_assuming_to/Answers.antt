@@ -31,6 +31,7 @@ loop-conflict-preserved c =
     let way : IsUnderWay b = under_way_settled a b c.loop-conflict.invariant.way c.in_ok-conflict.ensures.searching c.in_ok-conflict.ensures.visited settled in
     let short : length b.starts.items ≤ b.trail.vars + 1 = starts_short (live_in b.clauses) b.trail b.starts.items way.searching.layered in
     let few : b.trail.vars < 1000000000 = way.searching.layered.whole.few in
+    let same : b.trail.vars ≡ c.args.self.now.trail.vars = settled.vars ∙ c.loop-conflict.invariant.vars in
     let clauses : length d.clauses.clauses ≡ length b.clauses.clauses = ap (λ s. length s.clauses) decided.clauses in
     let starts : length d.starts.items ≡ length b.starts.items + 1 = decided.starts in
     record {
@@ -44,6 +45,8 @@ loop-conflict-preserved c =
       logged = λ f log. logged_decided f b d (c.in_ok-conflict.ensures.logged f (c.loop-conflict.invariant.logged f log)) decided;
       least = decided.least ∙ settled.least ∙ c.loop-conflict.invariant.least;
       vars = decided.vars ∙ settled.vars ∙ c.loop-conflict.invariant.vars;
+      few = omega (arith, clauses, starts, short, under, same);
+      given = decided.given ∙ settled.given ∙ c.loop-conflict.invariant.given;
     }
 
 pub decide_assuming-requires-clause-settled : goal.decide_assuming-requires-clause-settled
@@ -66,3 +69,24 @@ returns-in-Some-2-clause-logged c = λ f log.
     subst (λ (x : Search). IsLogged f x) (sym same)
     (logged_scoped f c.resolve_conflicts.new.self c.decide_assuming.new.self.scope
     (c.in_ok-conflict.ensures.logged f (c.loop-conflict.invariant.logged f log)))
+
+pub returns-in-Some-clause-few : goal.returns-in-Some-clause-few
+returns-in-Some-clause-few c = omega (arith, c.loop-conflict.invariant.few, c.in_ok-conflict.ensures.settled.starts, c.in_ok-refute.ensures.one)
+
+pub returns-in-Some-clause-given : goal.returns-in-Some-clause-given
+returns-in-Some-clause-given c = c.in_ok-refute.ensures.given ∙ c.in_ok-conflict.ensures.settled.given ∙ c.loop-conflict.invariant.given
+
+pub returns-in-Some-2-clause-few : goal.returns-in-Some-2-clause-few
+returns-in-Some-2-clause-few c =
+    let b : Search = c.resolve_conflicts.new.self in
+    let d : Search = c.decide_assuming.new.self in
+    let same : d ≡ record b { scope = d.scope } = rw c.in-Some-2.is at c.in_ok-outcome.ensures.same in
+    let clauses : length d.clauses.clauses ≡ length b.clauses.clauses = ap (λ (x : Search). length x.clauses.clauses) same in
+    omega (arith, c.loop-conflict.invariant.few, c.in_ok-conflict.ensures.settled.starts, clauses)
+
+pub returns-in-Some-2-clause-given : goal.returns-in-Some-2-clause-given
+returns-in-Some-2-clause-given c =
+    let b : Search = c.resolve_conflicts.new.self in
+    let d : Search = c.decide_assuming.new.self in
+    let same : d ≡ record b { scope = d.scope } = rw c.in-Some-2.is at c.in_ok-outcome.ensures.same in
+    ap (λ (x : Search). x.given) same ∙ c.in_ok-conflict.ensures.settled.given ∙ c.loop-conflict.invariant.given

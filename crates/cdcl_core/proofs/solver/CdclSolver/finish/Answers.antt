@@ -1,4 +1,7 @@
+use Rattle.std.specs.Prelude.{IfOk, ◌+◌, ◌-◌, ◌<◌, length, max}
 use Rattle.std.proofs.Common.{sym, subst}
+use Rattle.sat_theory.specs.Log.{additions}
+use Rattle.sat_solve.specs.Answering.{IfLogged, most_past}
 use Rattle.cdcl_core.specs.Solving.{Solving, FitsStatusOf}
 use Rattle.cdcl_core.proofs.solver.CdclSolver.finish.Goals as goal
 
@@ -19,3 +22,9 @@ returns-clause-kept c = λ f least of. c.conclude.ensures.kept f least (subst (�
 
 pub returns-clause-live_bounded : goal.returns-clause-live_bounded
 returns-clause-live_bounded c = λ f least of. c.conclude.ensures.live_bounded f least (subst (λ (s : Solving). FitsStatusOf f least s.search s.status) (sym c.self.view_is) of)
+
+pub returns-clause-few : goal.returns-clause-few
+returns-clause-few c = λ f least of.
+    subst (λ (s : Solving). IfOk c.conclude.result (λ r. IfLogged r (λ lines.
+    additions lines < max least (length s.search.clauses.clauses - s.search.given + c.args.budget) + most_past f))) c.self.view_is
+    (c.conclude.ensures.few f least (subst (λ (s : Solving). FitsStatusOf f least s.search s.status) (sym c.self.view_is) of))
