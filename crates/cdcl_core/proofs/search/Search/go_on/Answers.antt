@@ -1,4 +1,4 @@
-use Rattle.std.proofs.Common.{◌≡◌, ◌+◌, ◌≤◌, ℕ, length, subst, sym, ap, arith}
+use Rattle.std.proofs.Common.{subst, sym}
 use Rattle.cdcl_core.specs.declared.search.Search.{Search}
 use Rattle.cdcl_core.specs.Searching.{IsLogged}
 use Rattle.cdcl_core.proofs.search.Search.go_on.Goals.{then-self-eq0+in_ok-conflict+in_default-2, else-self-eq0}
