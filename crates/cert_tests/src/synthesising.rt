@@ -144,6 +144,13 @@ const CERTIFIED: &[(&str, &[u8], u16, Method, Wanted)] = &[
         Wanted::Ends(b"\nchain 1\nx2 x1 x1 1110\nout x2\nminimum 1\nend\n"),
     ),
     (
+        "XOR of five, whose chain is found by a walk",
+        b"inputs 5\n01101001100101101001011001101001\n",
+        ALL,
+        Method::Ssv,
+        Wanted::Ends(b"\nminimum 4\nend\n"),
+    ),
+    (
         "cells that are all don't-cares",
         b"inputs 2\n----\n",
         ALL,
