@@ -136,7 +136,7 @@ fn the_most_steps_and_the_budget_end_a_search(rt: HostRuntime) {
 /// Whether a search has ended with a chain of one step.
 fn has_ended(advance: &Advance) -> bool {
     match advance {
-        Advance::LogEnd { chain, verdict } => { chain.is_some() && *verdict == Verdict::Minimum(1) }
+        Advance::Ended { chain, verdict } => { chain.is_some() && *verdict == Verdict::Minimum(1) }
         _ => false,
     }
 }

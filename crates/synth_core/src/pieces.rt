@@ -82,7 +82,7 @@ pub fn next_piece<S: Solver>(alloc: Global, search: SizeSearch) -> Result<Piece,
             write_section(&section, &mut text)?;
             Ok(Piece::Section { search: rest, text })
         }
-        Advance::LogEnd { chain, verdict } => {
+        Advance::Ended { chain, verdict } => {
             write_trailer(&chain, verdict, &mut text)?;
             Ok(Piece::Trailer { text, verdict })
         }

@@ -25,8 +25,8 @@ returns-in_ok-write_section-in-Section-clause-up g c =
     let rest_is = subst (λ (step : Advance). IfSection step (λ rest section. rest ≡ after_section s section)) c.in-Section.is c.in_ok-rest.ensures.rest in
     (within, ap (λ (t : State). t.next) rest_is, ap (λ (t : State). t.header) rest_is)
 
-pub returns-in_ok-write_trailer-in-LogEnd-clause-piece : goal.returns-in_ok-write_trailer-in-LogEnd-clause-piece
-returns-in_ok-write_trailer-in-LogEnd-clause-piece g c = λ bytes settings before under.
+pub returns-in_ok-write_trailer-in-Ended-clause-piece : goal.returns-in_ok-write_trailer-in-Ended-clause-piece
+returns-in_ok-write_trailer-in-Ended-clause-piece g c = λ bytes settings before under.
     let s = c.args.search in
-    let trailer = subst (λ (step : Advance). IfEnded step (λ chain verdict. IsTrailer s.header s.next s.low chain verdict)) c.in-LogEnd.is c.in_ok-rest.ensures.trailer in
-    ended bytes settings s before _ c.in-LogEnd.chain c.in-LogEnd.verdict under trailer (search (rules, common_steps))
+    let trailer = subst (λ (step : Advance). IfEnded step (λ chain verdict. IsTrailer s.header s.next s.low chain verdict)) c.in-Ended.is c.in_ok-rest.ensures.trailer in
+    ended bytes settings s before _ c.in-Ended.chain c.in-Ended.verdict under trailer (search (rules, common_steps))
