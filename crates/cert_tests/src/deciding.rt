@@ -21,6 +21,8 @@ impl Solver for Silent {
 
     ghost vars_of = { λ s. 0 };
 
+    ghost additions_of = { λ s. 0 };
+
     fn new(_alloc: Global, _cnf: &Cnf, _least: u32) -> Result<Silent, AllocError> {
         Err(AllocError)
     }

@@ -53,6 +53,8 @@ impl Solver for Tables {
 
     ghost vars_of = { λ s. s.vars };
 
+    ghost additions_of = { λ s. 0 };
+
     fn new(_alloc: Global, _cnf: &Cnf, _least: u32) -> Result<Tables, AllocError> {
         Err(AllocError)
     }
