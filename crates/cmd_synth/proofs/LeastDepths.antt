@@ -18,8 +18,8 @@ use Rattle.depth_theory.specs.DepthSpelling.{IsDepthText}
 use Rattle.depth_file.specs.JudgedLaws.{text_judged}
 use Rattle.settings.specs.declared.synth.SynthSettings.{SynthSettings}
 use Rattle.synth_core.specs.Tables.{tables_alone}
-use Rattle.synth_core.specs.declared.least_depth.Found.{Found}
-use Rattle.synth_core.specs.declared.least_depth.Found.TheVariants.{Least, Other}
+use Rattle.synth_core.specs.declared.least_depth.DepthFound.{DepthFound}
+use Rattle.synth_core.specs.declared.least_depth.DepthFound.TheVariants.{Least, Other}
 use Rattle.synth_core.specs.DepthCertifying.{IsLeast, IsCertificate}
 use Rattle.frame_core.specs.Reported.{Reply, Refusal}
 use Rattle.frame_core.specs.Task.{HasReply, Refuses}
@@ -35,12 +35,12 @@ least_means : (settings : SynthSettings) (bytes text : List ℕ) (v : DepthVerdi
     (w : Words) → AreTables bytes w → Means (specification w) (members settings.basis) (Least v)
 least_means settings bytes text v c w are = (length c.is_text.is_depth.chain.steps, least_levels settings bytes text v c w are)
 
-found_means : (settings : SynthSettings) (bytes text : List ℕ) (f : Found) → IsCertificate bytes settings text f → (w : Words) → AreTables bytes w → Means (specification w) (members settings.basis) f
+found_means : (settings : SynthSettings) (bytes text : List ℕ) (f : DepthFound) → IsCertificate bytes settings text f → (w : Words) → AreTables bytes w → Means (specification w) (members settings.basis) f
 found_means settings bytes text (Least v) c w are = least_means settings bytes text v c w are
 found_means settings bytes text (Other v) c w are = its_meaning settings bytes text v c.certificate w are.are are.spelled
 
 -- Judging the text gives the same verdict.
-found_judged : (settings : SynthSettings) (bytes text : List ℕ) (f : Found) → IsCertificate bytes settings text f → IsJudgedSo text f
+found_judged : (settings : SynthSettings) (bytes text : List ℕ) (f : DepthFound) → IsCertificate bytes settings text f → IsJudgedSo text f
 found_judged settings bytes text (Least v) c = subst (λ (x : DepthVerdict). IsJudged (lines_of text) (Ok x)) c.verdict_is (text_judged text c.certificate c.is_text)
 found_judged settings bytes text (Other v) c = its_verdict settings bytes text v c.certificate
 
@@ -61,13 +61,13 @@ levels_given settings bytes text v c within =
     }
 
 -- `recheck` reports the same verdict.
-found_accepted : (settings : SynthSettings) (bytes text : List ℕ) (f : Found) → IsCertificate bytes settings text f → length text ≤ most_of_certificate → IsAcceptedSo text f
+found_accepted : (settings : SynthSettings) (bytes text : List ℕ) (f : DepthFound) → IsCertificate bytes settings text f → length text ≤ most_of_certificate → IsAcceptedSo text f
 found_accepted settings bytes text (Least v) c within = levels_given settings bytes text v c within
 found_accepted settings bytes text (Other v) c within = its_recheck settings bytes text v c.certificate within
 
 -- ---- the result of the search
 
-pub reports : (settings : SynthSettings) (bytes text : List ℕ) (found : Found) (reply : Reply) →
+pub reports : (settings : SynthSettings) (bytes text : List ℕ) (found : DepthFound) (reply : Reply) →
     length bytes ≤ most_of_tables → IsCertificate bytes settings text found →
     reply ≡ least_depth_reply (record { text = text; found = found }) → HasReply (least_depth_task settings) bytes reply
 reports settings bytes text found reply within certificate is = record {

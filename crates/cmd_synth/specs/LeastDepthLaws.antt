@@ -19,8 +19,8 @@ use Rattle.depth_file.specs.BudgetLaws.{log_reaches_budget}
 use Rattle.synth_core.specs.SettingsHeader.{header_of}
 use Rattle.settings.specs.declared.synth.SynthSettings.{SynthSettings}
 use Rattle.synth_core.specs.Tables.{tables_alone}
-use Rattle.synth_core.specs.declared.least_depth.Found.{Found}
-use Rattle.synth_core.specs.declared.least_depth.Found.TheVariants.{Least, Other}
+use Rattle.synth_core.specs.declared.least_depth.DepthFound.{DepthFound}
+use Rattle.synth_core.specs.declared.least_depth.DepthFound.TheVariants.{Least, Other}
 use Rattle.synth_core.specs.DepthCertifying.{IsLeast, IsOther, IsCertificate}
 use Rattle.command_line.specs.CommandLine.{AsksFor}
 use Rattle.command_line.specs.declared.command.Command.TheVariants.{LeastDepth}
@@ -74,13 +74,13 @@ left_open settings bytes text low d c w are =
 
 -- ---- `synth --least-depth yes` is a command
 
-found_statuses : (f : Found) → IsAnswerStatus (found_status f)
+found_statuses : (f : DepthFound) → IsAnswerStatus (found_status f)
 found_statuses (Least (Levels d)) = inl refl
 found_statuses (Least (Bounded low d)) = inr (inl refl)
 found_statuses (Other v) = answer_statuses v
 
 -- tables with a certificate have no fault
-sound : {A : Type 0} (settings : SynthSettings) (bytes text : List ℕ) (f : Found) (e : SpecError) → IsCertificate bytes settings text f → tables_alone (lines_of bytes) ≡ Err e → A
+sound : {A : Type 0} (settings : SynthSettings) (bytes text : List ℕ) (f : DepthFound) (e : SpecError) → IsCertificate bytes settings text f → tables_alone (lines_of bytes) ≡ Err e → A
 sound settings bytes text (Least v) e c bad = no_fault c.certificate.certificate.header.spec (lines_of bytes) e c.is_text.is_depth.valid.header.tables c.tables bad
 sound settings bytes text (Other v) e c bad = no_fault c.certificate.certificate.header.spec (lines_of bytes) e c.certificate.is_certificate.valid.header.tables c.certificate.tables bad
 
@@ -111,7 +111,7 @@ answer_only : (r : Run) (settings : SynthSettings) (input : List ℕ) → Comman
     Replies (least_depth_task settings) r input
 answer_only r settings input promise reported is = answer_replies (least_depth_task settings) r input promise reported is
 
-not_refused_found : (f : Found) → found_status f ≡ Refused → ⊥
+not_refused_found : (f : DepthFound) → found_status f ≡ Refused → ⊥
 not_refused_found (Least (Levels d)) is = cc
 not_refused_found (Least (Bounded low d)) is = cc
 not_refused_found (Other v) is = not_refused_by v is
@@ -137,7 +137,7 @@ none_to_max settings bytes text x other =
     ∙ ap (λ (h : Header). h.max) c.header_is
 
 -- a certificate was written
-abbrev StandsCertified : Run → SynthSettings → List ℕ → List ℕ → Found → Type 0
+abbrev StandsCertified : Run → SynthSettings → List ℕ → List ℕ → DepthFound → Type 0
 StandsCertified r settings input text f = IsCertified settings input (record { text = text; found = f }) × Stands r (least_depth_reply (record { text = text; found = f }))
 
 finds_none : (r : Run) (settings : SynthSettings) (input text : List ℕ) (w : Words) (x : ℕ) → AreTables input w →
@@ -146,7 +146,7 @@ finds_none r settings input text w x are same leaves =
     let here : StandsCertified r settings input text (Other (sizes.NoChain settings.max)) = subst (λ (y : ℕ). StandsCertified r settings input text (Other (sizes.NoChain y))) same leaves in
     record { text = text; certified = here.0; stands = here.1; none = here.0.means w are }
 
-reports_least : (r : Run) (settings : SynthSettings) (input text : List ℕ) (w : Words) (f : Found) →
+reports_least : (r : Run) (settings : SynthSettings) (input text : List ℕ) (w : Words) (f : DepthFound) →
     AreTables input w → StandsCertified r settings input text f → found_status f ≡ Done →
     FindsLeast settings w r input ⊎ FindsNone settings w r input
 reports_least r settings input text w (Least (Levels d)) are leaves is =
@@ -163,7 +163,7 @@ leaves_steps : (r : Run) (settings : SynthSettings) (input text : List ℕ) (w :
     LeavesSteps settings w r input
 leaves_steps r settings input text w v are leaves is = record { text = text; verdict = v; certified = leaves.0; stands = leaves.1; is_open = is; means = leaves.0.means w are }
 
-reports_bounds : (r : Run) (settings : SynthSettings) (input text : List ℕ) (w : Words) (f : Found) →
+reports_bounds : (r : Run) (settings : SynthSettings) (input text : List ℕ) (w : Words) (f : DepthFound) →
     AreTables input w → StandsCertified r settings input text f → found_status f ≡ Undecided →
     FindsBounds settings w r input ⊎ LeavesSteps settings w r input
 reports_bounds r settings input text w (Least (Levels d)) are leaves is = absurd cc

@@ -13,7 +13,7 @@ use Rattle.depth_theory.specs.DepthMeaning.{IsLeastDepth, IsBoundedDepth}
 use Rattle.depth_theory.specs.declared.data.DepthVerdict.TheVariants.{Levels, Bounded}
 use Rattle.depth_file.specs.BudgetReached.{IsLeftOpen}
 use Rattle.synth_core.specs.SettingsHeader.{header_of}
-use Rattle.synth_core.specs.declared.least_depth.Found.TheVariants.{Least, Other}
+use Rattle.synth_core.specs.declared.least_depth.DepthFound.TheVariants.{Least, Other}
 use Rattle.frame_core.specs.declared.status.Status.TheVariants.{Done, Undecided, Refused}
 use Rattle.cmd_synth.specs.SynthReport.{verdict_status, synth_refusal, AreTables, HasTablesFault}
 use Rattle.cmd_synth.specs.LeastDepthReport.{least_depth_reply, IsCertified, least_depth_task}

@@ -12,8 +12,8 @@ use Rattle.cert_theory.specs.Judging.{certificate_of}
 use Rattle.depth_theory.specs.declared.data.DepthVerdict.TheVariants.{Levels, Bounded}
 use Rattle.depth_theory.specs.DepthMeaning as depths
 use Rattle.depth_theory.specs.DepthJudging.{IsJudged}
-use Rattle.synth_core.specs.declared.least_depth.Found.{Found}
-use Rattle.synth_core.specs.declared.least_depth.Found.TheVariants.{Least, Other}
+use Rattle.synth_core.specs.declared.least_depth.DepthFound.{DepthFound}
+use Rattle.synth_core.specs.declared.least_depth.DepthFound.TheVariants.{Least, Other}
 use Rattle.synth_core.specs.DepthCertifying.{IsCertificate}
 use Rattle.frame_core.specs.declared.status.Status.{Status}
 use Rattle.frame_core.specs.declared.status.Status.TheVariants.{Done, Undecided}
@@ -26,7 +26,7 @@ use Rattle.cmd_synth.specs.SynthReport.{verdict_status, synth_refusal, AreTables
 
 -- If the fewest levels are known, the status is `Done`; if a budget was reached before, it is `Undecided`.
 -- Without the fewest steps the status is that of the verdict on steps.
-abbrev pub found_status : Found → Status
+abbrev pub found_status : DepthFound → Status
 found_status (Least (Levels d)) = Done
 found_status (Least (Bounded low d)) = Undecided
 found_status (Other verdict) = verdict_status verdict
@@ -34,23 +34,23 @@ found_status (Other verdict) = verdict_status verdict
 -- a text, and what was found
 pub record Certified : Type 0 where
   pub text : List ℕ
-  pub found : Found
+  pub found : DepthFound
 
 abbrev pub least_depth_reply : Certified → Reply
 least_depth_reply c = record { text = c.text; report = None; status = found_status c.found }
 
 -- what the result says about chains; `steps` is the least number of steps
-abbrev pub Means : Specification → Basis → Found → Type 0
+abbrev pub Means : Specification → Basis → DepthFound → Type 0
 Means s basis (Least verdict) = (steps : ℕ) × depths.Means s basis steps verdict
 Means s basis (Other verdict) = sizes.Means s basis verdict
 
 -- Judging the text gives this verdict: as a depth certificate, or as a certificate of the fewest steps.
-abbrev pub IsJudgedSo : List ℕ → Found → Type 0
+abbrev pub IsJudgedSo : List ℕ → DepthFound → Type 0
 IsJudgedSo text (Least verdict) = IsJudged (lines_of text) (Ok verdict)
 IsJudgedSo text (Other verdict) = certificate_of (lines_of text) ≡ Ok verdict
 
 -- `recheck --depth yes` reports this verdict, or `recheck` does.
-abbrev pub IsAcceptedSo : List ℕ → Found → Type 0
+abbrev pub IsAcceptedSo : List ℕ → DepthFound → Type 0
 IsAcceptedSo text (Least verdict) = GivesLevels text verdict
 IsAcceptedSo text (Other verdict) = GivesVerdict text verdict
 

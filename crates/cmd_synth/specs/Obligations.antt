@@ -6,8 +6,8 @@ use Rattle.settings.specs.declared.synth.SynthSettings.{SynthSettings}
 use Rattle.cert_theory.specs.declared.data.Verdict.{Verdict}
 use Rattle.cert_theory.specs.declared.data.Verdict.TheVariants as verdicts
 use Rattle.depth_theory.specs.declared.data.DepthVerdict.TheVariants as depths
-use Rattle.synth_core.specs.declared.least_depth.Found.{Found}
-use Rattle.synth_core.specs.declared.least_depth.Found.TheVariants.{Least, Other}
+use Rattle.synth_core.specs.declared.least_depth.DepthFound.{DepthFound}
+use Rattle.synth_core.specs.declared.least_depth.DepthFound.TheVariants.{Least, Other}
 use Rattle.command_line.specs.declared.command.Command.TheVariants.{Synth, LeastDepth}
 use Rattle.frame_core.specs.declared.status.Status.{Status}
 use Rattle.frame_core.specs.declared.status.Status.TheVariants.{Done, Undecided}
@@ -33,7 +33,7 @@ status_of_verdict (verdicts.NoChain x) = inl refl
 status_of_verdict (verdicts.Bounded low r) = inr refl
 status_of_verdict (verdicts.Open low) = inr refl
 
-status_of_found : (f : Found) → IsSynthStatus (found_status f)
+status_of_found : (f : DepthFound) → IsSynthStatus (found_status f)
 status_of_found (Least (depths.Levels d)) = inl refl
 status_of_found (Least (depths.Bounded low d)) = inr refl
 status_of_found (Other verdict) = status_of_verdict verdict

@@ -13,17 +13,17 @@ use sat_solve::Solver;
 use settings::SynthSettings;
 use std::alloc::Global;
 use std::marker::PhantomData;
-use synth_core::{CertifiedDepth, DepthVerdict, Found, certify_depth};
+use synth_core::{CertifiedDepth, DepthFound, DepthVerdict, certify_depth};
 use tt_core::SpecError;
 
 /// The status of what was found.
-fn found_status(found: Found) -> Status
+fn found_status(found: DepthFound) -> Status
     ensures { result ≡ found_status_of found }
 {
     match found {
-        Found::Least(DepthVerdict::Levels(_)) => Status::Done,
-        Found::Least(DepthVerdict::Bounded { .. }) => Status::Undecided,
-        Found::Other(verdict) => verdict_status(verdict),
+        DepthFound::Least(DepthVerdict::Levels(_)) => Status::Done,
+        DepthFound::Least(DepthVerdict::Bounded { .. }) => Status::Undecided,
+        DepthFound::Other(verdict) => verdict_status(verdict),
     }
 }
 
