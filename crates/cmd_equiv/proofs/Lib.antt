@@ -1,1 +1,2 @@
 pub mod Equating
+pub mod Comparing

@@ -28,7 +28,7 @@ fn standing_status(outcome: EquivOutcome) -> Status
 }
 
 /// The reply of a comparison.
-fn reply_of(compared: Compared) -> Reply
+pub(crate) fn reply_of(compared: Compared) -> Reply
     ensures { reply_value result ≡ equiv_reply (record { text = compared.text.items; outcome = compared.outcome }) }
 {
     Reply {
@@ -65,7 +65,7 @@ fn plainly(status: Status, name: &'static [u8]) -> Refusal
 
 /// The refusal if two netlists can't be compared.
 #[tactic(auto, unfolding(crate::specs::EquivReport::named_pair, frame_core::specs::Reported::memory))]
-fn refusal_of(error: CompareError) -> Refusal
+pub(crate) fn refusal_of(error: CompareError) -> Refusal
     ensures { refusal_value result ≡ equiv_refusal error }
 {
     match error {

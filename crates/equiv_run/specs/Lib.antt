@@ -8,3 +8,5 @@ pub mod CircuitAnswers
 pub mod SmallLaws
 pub mod NameBits
 pub mod PairLaws
+pub mod Two
+pub mod TwoLaws

@@ -29,7 +29,7 @@ use Rattle.equiv_run.specs.NameBits.{has_assignment, values_are}
 
 -- ---- interfaces
 
-shared : (d e : Document) (c k : Circuit) → Describes d c → Describes e k → HaveSameInterface c k → ShareInterface d e
+pub shared : (d e : Document) (c k : Circuit) → Describes d c → Describes e k → HaveSameInterface c k → ShareInterface d e
 shared d e c k of_d of_e same = record {
   inputs = of_d.inputs ∙ same.inputs ∙ sym of_e.inputs;
   outputs = of_d.outputs ∙ same.outputs ∙ sym of_e.outputs;
@@ -37,7 +37,7 @@ shared d e c k of_d of_e same = record {
   latches = of_d.latches ∙ same.latches ∙ sym of_e.latches;
 }
 
-have_same : (d e : Document) (c k : Circuit) → Describes d c → Describes e k → ShareInterface d e → HaveSameInterface c k
+pub have_same : (d e : Document) (c k : Circuit) → Describes d c → Describes e k → ShareInterface d e → HaveSameInterface c k
 have_same d e c k of_d of_e same = record {
   inputs = sym of_d.inputs ∙ same.inputs ∙ of_e.inputs;
   outputs = sym of_d.outputs ∙ same.outputs ∙ of_e.outputs;
@@ -90,10 +90,10 @@ documents_differ d e c k sink bits of_c of_k of_d of_e same first = record {
 
 -- ---- the answers
 
-lists_of : (bytes : List ℕ) (c : Circuit) → (of : IsCircuitOfText blif_format bytes c) → Lists bytes of.listed.document
+pub lists_of : (bytes : List ℕ) (c : Circuit) → (of : IsCircuitOfText blif_format bytes c) → Lists bytes of.listed.document
 lists_of bytes c of = record { listed = of.listed; said = of.said; is = refl; well = of.well }
 
-answered_of : (budget : ℕ) (d e : Document) (c k : Circuit) (text : List ℕ) (outcome : EquivOutcome) →
+pub answered_of : (budget : ℕ) (d e : Document) (c k : Circuit) (text : List ℕ) (outcome : EquivOutcome) →
     IsCircuitOf d c → IsCircuitOf e k → IsCircuitAnswer budget c k text outcome →
     IsDocumentAnswer budget d e text outcome
 answered_of budget d e c k text Equal of_d of_e reported = record {
@@ -126,7 +126,7 @@ answered_of budget d e c k text Undecided of_d of_e reported = record {
   text_is = reported.text_is;
 }
 
-interface_of : (budget : ℕ) (c k : Circuit) (text : List ℕ) (outcome : EquivOutcome) → IsCircuitAnswer budget c k text outcome → HaveSameInterface c k
+pub interface_of : (budget : ℕ) (c k : Circuit) (text : List ℕ) (outcome : EquivOutcome) → IsCircuitAnswer budget c k text outcome → HaveSameInterface c k
 interface_of budget c k text Equal reported = reported.interface
 interface_of budget c k text Differ reported = reported.interface
 interface_of budget c k text Undecided reported = reported.interface
@@ -179,7 +179,7 @@ place_one r p q x y = cc
 place_none : (r : Option ℕ) (p : ℕ) → r ≡ None → r ≡ Some p → ⊥
 place_none r p x y = let e : None ≡ Some p = sym x ∙ y in cc
 
-netlist_listed : (bytes : List ℕ) (d : Document) → Lists bytes d → IsNetlist blif_format bytes
+pub netlist_listed : (bytes : List ℕ) (d : Document) → Lists bytes d → IsNetlist blif_format bytes
 netlist_listed bytes d lists = record { listed = lists.listed; said = lists.said; well = subst (λ (x : Document). IsWellFormed x) (sym lists.is) lists.well }
 
 never : (bytes : List ℕ) (e : NetError) → IsNetlist blif_format bytes → HasNetFault blif_format bytes e → ⊥
@@ -200,7 +200,7 @@ two_never_second bytes d e x two fault =
 ok_one : (r : Result Listed NetError) (k l : Listed) → r ≡ Ok k → r ≡ Ok l → k ≡ l
 ok_one r k l x y = cc
 
-lists_one : (bytes : List ℕ) (d e : Document) → Lists bytes d → Lists bytes e → d ≡ e
+pub lists_one : (bytes : List ℕ) (d e : Document) → Lists bytes d → Lists bytes e → d ≡ e
 lists_one bytes d e x y = sym x.is ∙ ap (λ (l : Listed). l.document) (ok_one (blif_format.listed bytes) x.listed y.listed x.said y.said) ∙ y.is
 
 two_share : (bytes : List ℕ) (d e d' e' : Document) → AreTwo bytes d e → AreTwo bytes d' e' → ShareInterface d e → ShareInterface d' e'

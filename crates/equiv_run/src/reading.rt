@@ -20,7 +20,7 @@ use sat_solve::Solver;
 use std::alloc::Global;
 
 /// Reads the first netlist.
-fn read_first(alloc: Global, bytes: &[u8]) -> Result<Circuit, CompareError>
+pub(crate) fn read_first(alloc: Global, bytes: &[u8]) -> Result<Circuit, CompareError>
     requires { length bytes.now < 2 ^ 31 }
     ensures circuit { IfOk result (IsCircuitOfText blif_format bytes.now) }
     ensures refused { IfErr result (IsFirstRefused bytes.now) }
@@ -33,7 +33,7 @@ fn read_first(alloc: Global, bytes: &[u8]) -> Result<Circuit, CompareError>
 }
 
 /// Reads the second netlist.
-fn read_second(alloc: Global, bytes: &[u8]) -> Result<Circuit, CompareError>
+pub(crate) fn read_second(alloc: Global, bytes: &[u8]) -> Result<Circuit, CompareError>
     requires { length bytes.now < 2 ^ 31 }
     ensures circuit { IfOk result (IsCircuitOfText blif_format bytes.now) }
     ensures refused { IfErr result (IsSecondRefused bytes.now) }
@@ -50,7 +50,7 @@ fn read_second(alloc: Global, bytes: &[u8]) -> Result<Circuit, CompareError>
 using(crate::specs::CircuitAnswers::answer_equal, crate::specs::CircuitAnswers::answer_differ, // for the prover
 crate::specs::CircuitAnswers::answer_undecided), unfolding(crate::specs::Texts::equal_text, // for the prover
 crate::specs::Texts::undecided_text))]
-fn compare_circuits<S: Solver>(
+pub(crate) fn compare_circuits<S: Solver>(
     alloc: Global,
     first: &Circuit,
     second: &Circuit,

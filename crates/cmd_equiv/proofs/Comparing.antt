@@ -1,0 +1,51 @@
+-- The result of comparing two texts.
+use Rattle.std.specs.Prelude.{◌≡◌, ℕ, ◌≤◌, List, length, true, false, codes}
+use Rattle.std.proofs.lemmas.Grind.{common_steps}
+use Rattle.equiv_run.specs.declared.answer.EquivOutcome.{EquivOutcome}
+use Rattle.equiv_run.specs.declared.answer.CompareError.{CompareError}
+use Rattle.equiv_run.specs.declared.answer.CompareError.TheVariants.{Memory}
+use Rattle.equiv_run.specs.Two.{is_bare, IsTwoAnswer, IsTwoRefused}
+use Rattle.equiv_run.specs.TwoLaws.{two_fault}
+use Rattle.net_theory.specs.Limits.{most_of_netlist}
+use Rattle.frame_core.specs.Reported.{Reply, Refusal}
+use Rattle.frame_core.specs.Task.{HasReply, Refuses}
+use Rattle.cmd_equiv.specs.EquivReport.{equiv_reply, equiv_refusal}
+use Rattle.cmd_equiv.specs.WithReport.{FirstEmpty, SecondEmpty, Faulty, empty_refusal, with_task}
+
+pub compares : (budget : ℕ) (first bytes text : List ℕ) (outcome : EquivOutcome) (reply : Reply) →
+    length bytes ≤ most_of_netlist → is_bare first ≡ false → is_bare bytes ≡ false →
+    IsTwoAnswer budget first bytes text outcome → reply ≡ equiv_reply (record { text = text; outcome = outcome }) →
+    HasReply (with_task budget first) bytes reply
+compares budget first bytes text outcome reply within one other answer is = record {
+  answer = record { text = text; outcome = outcome };
+  has = record { within = within; said = record { one = one; other = other }; answer = answer };
+  is = is;
+}
+
+pub refuses_first : (budget : ℕ) (first bytes : List ℕ) (refusal : Refusal) → length bytes ≤ most_of_netlist →
+    is_bare first ≡ true → refusal ≡ empty_refusal (codes "First") → Refuses (with_task budget first) bytes refusal
+refuses_first budget first bytes refusal within empty is = record {
+  fault = FirstEmpty;
+  meets = record { within = within; fault = empty };
+  is = is;
+}
+
+pub refuses_second : (budget : ℕ) (first bytes : List ℕ) (refusal : Refusal) → length bytes ≤ most_of_netlist →
+    is_bare first ≡ false → is_bare bytes ≡ true → refusal ≡ empty_refusal (codes "Second") →
+    Refuses (with_task budget first) bytes refusal
+refuses_second budget first bytes refusal within one empty is = record {
+  fault = SecondEmpty;
+  meets = record { within = within; fault = record { one = one; other = empty } };
+  is = is;
+}
+
+pub refuses_two : (budget : ℕ) (first bytes : List ℕ) (e : CompareError) (refusal : Refusal) →
+    length bytes ≤ most_of_netlist → is_bare first ≡ false → is_bare bytes ≡ false → (e ≡ Memory → ⊥) →
+    IsTwoRefused first bytes e → refusal ≡ equiv_refusal e → Refuses (with_task budget first) bytes refusal
+refuses_two budget first bytes e refusal within one other not refused is = record {
+  fault = Faulty e;
+  meets = record { within = within; fault = record { said = record { one = one; other = other }; fault = two_fault first bytes e refused not } };
+  is = is;
+}
+
+pub ruleset comparing = (common_steps, compares, refuses_first, refuses_second, refuses_two)

@@ -1,0 +1,33 @@
+//! Compares two netlists, each in a text of its own.
+ghost use Rattle.std.specs.Prelude.{◌≤◌, length, IfOk, IfErr};
+ghost use Rattle.sat_theory.specs.Limits.{most_conflicts};
+ghost use Rattle.net_theory.specs.Limits.{most_of_two};
+ghost use Rattle.equiv_run.specs.Two.{IsTwoAnswer, IsTwoRefused};
+
+use crate::answer::{CompareError, Compared};
+use crate::reading::{compare_circuits, read_first, read_second};
+use sat_solve::Solver;
+use std::alloc::Global;
+
+/// Decides with the solver `S` whether two BLIF netlists are equivalent, each of at most 33,554,432 bytes. They
+/// aren't joined: neither can supply what the other lacks. The budget and the answers are those of `compare_texts`.
+///
+/// Two texts that can't be compared are refused with the first fault of the first, that of the second, or different
+/// interfaces, never with `NoSecond`. Two netlists of one interface are refused only if memory runs out.
+pub fn compare_two<S: Solver>(
+    alloc: Global,
+    first: &[u8],
+    second: &[u8],
+    conflicts: u32,
+) -> Result<Compared, CompareError>
+    requires first { length first.now ≤ most_of_two }
+    requires second { length second.now ≤ most_of_two }
+    requires budget { (1 ≤ conflicts) × (conflicts ≤ most_conflicts) }
+    ensures answer { IfOk result (λ c. IsTwoAnswer conflicts first.now second.now c.text.items c.outcome) }
+    ensures refused { IfErr result (IsTwoRefused first.now second.now) }
+{
+    let one = read_first(alloc, first)?;
+    let other = read_second(alloc, second)?;
+    let compared = compare_circuits::<S>(alloc, &one, &other, conflicts)?;
+    Ok(compared)
+}
