@@ -19,22 +19,22 @@ pub not_created : (name reason : List ℕ) (does : Does) (old new : Names) (note
 not_created name reason does old new note note' same writes =
     inl (record { same = same; reason = reason; on_note = writes; status_is = refl })
 
-pub drafted : (name : List ℕ) (does : Does) (old mid new : Names) (draft draft' note between note' : PortState) (done status : Status) →
-    SameNames old mid → IsEmpty draft.bytes → does (draft, draft') (note, between) done →
-    Settles name done draft'.bytes mid new (between, note') status →
+pub drafted : (name : List ℕ) (does : Does) (old mid new : Names) (draft draft' note between note' : PortState) (ended status : Status) →
+    SameNames old mid → IsEmpty draft.bytes → does (draft, draft') (note, between) ended →
+    Settles name ended draft'.bytes mid new (between, note') status →
     IsWritten name does (old, new) (note, note') status
-drafted name does old mid new draft draft' note between note' done status same empty worked settles = inr (record {
+drafted name does old mid new draft draft' note between note' ended status same empty worked settles = inr (record {
   draft = (draft, draft');
   between = between;
-  done = done;
+  ended = ended;
   empty = empty;
-  does = worked;
-  settles = settles_earlier name done draft'.bytes old mid new (between, note') status same settles;
+  worked = worked;
+  settles = settles_earlier name ended draft'.bytes old mid new (between, note') status same settles;
 })
 
 pub printed : (does : Does) (names : Names) (out note : Pass) (status : Status) → does out note status →
     IsPrinted does (names, names) out note status
-printed does names out note status worked = record { does = worked; same = λ name. refl }
+printed does names out note status worked = record { worked = worked; same = λ name. refl }
 
 pub ruleset writing = (common_steps, not_created, drafted, printed)
 

@@ -18,19 +18,19 @@ replaced_earlier name written old mid new same replaced = record {
   others = λ other not. replaced.others other not ∙ same other;
 }
 
-other_earlier : (name : List ℕ) (done : Status) (written : Option (List ℕ)) (old mid new : Names)
+other_earlier : (name : List ℕ) (ended : Status) (written : Option (List ℕ)) (old mid new : Names)
     (note : PortState × PortState) (status : Status) → SameNames old mid →
-    IsDiscarded done written mid new note status ⊎ IsLost name done mid new note status →
-    IsDiscarded done written old new note status ⊎ IsLost name done old new note status
-other_earlier name done written old mid new note status same x =
+    IsDiscarded ended written mid new note status ⊎ IsLost name ended mid new note status →
+    IsDiscarded ended written old new note status ⊎ IsLost name ended old new note status
+other_earlier name ended written old mid new note status same x =
     ⊎_elim
-    (λ (y : IsDiscarded done written mid new note status). inl (record {
+    (λ (y : IsDiscarded ended written mid new note status). inl (record {
       none = y.none;
       same = then_same old mid new same y.same;
       on_note = y.on_note;
       status_is = y.status_is;
     }))
-    (λ (y : IsLost name done mid new note status). inr (record {
+    (λ (y : IsLost name ended mid new note status). inr (record {
       answer = y.answer;
       same = then_same old mid new same y.same;
       reason = y.reason;
@@ -39,20 +39,20 @@ other_earlier name done written old mid new note status same x =
     }))
     x
 
-pub settles_earlier : (name : List ℕ) (done : Status) (written : Option (List ℕ)) (old mid new : Names)
-    (note : PortState × PortState) (status : Status) → SameNames old mid → Settles name done written mid new note status →
-    Settles name done written old new note status
-settles_earlier name done written old mid new note status same settles =
+pub settles_earlier : (name : List ℕ) (ended : Status) (written : Option (List ℕ)) (old mid new : Names)
+    (note : PortState × PortState) (status : Status) → SameNames old mid → Settles name ended written mid new note status →
+    Settles name ended written old new note status
+settles_earlier name ended written old mid new note status same settles =
     ⊎_elim
-    (λ (x : IsKept name done written mid new note status). inl (record {
+    (λ (x : IsKept name ended written mid new note status). inl (record {
       answer = x.answer;
       begun = x.begun;
       kept = replaced_earlier name written old mid new same x.kept;
       on_note = x.on_note;
       status_is = x.status_is;
     }))
-    (λ (x : IsDiscarded done written mid new note status ⊎ IsLost name done mid new note status).
-    inr (other_earlier name done written old mid new note status same x))
+    (λ (x : IsDiscarded ended written mid new note status ⊎ IsLost name ended mid new note status).
+    inr (other_earlier name ended written old mid new note status same x))
     settles
 
 -- ---- the output
@@ -70,17 +70,17 @@ written_earlier name does old mid new note status same written =
     (λ (x : IsDrafted name does (mid, new) note status). inr (record {
       draft = x.draft;
       between = x.between;
-      done = x.done;
+      ended = x.ended;
       empty = x.empty;
-      does = x.does;
-      settles = settles_earlier name x.done x.draft.1.bytes old mid new (x.between, note.1) status same x.settles;
+      worked = x.worked;
+      settles = settles_earlier name x.ended x.draft.1.bytes old mid new (x.between, note.1) status same x.settles;
     }))
     written
 
 pub delivered_earlier : (output : Option (List ℕ)) (does : Does) (old mid new : Names) (out note : Pass) (status : Status) →
     SameNames old mid → IsDelivered output does (mid, new) out note status →
     IsDelivered output does (old, new) out note status
-delivered_earlier None does old mid new out note status same x = record { does = x.does; same = then_same old mid new same x.same }
+delivered_earlier None does old mid new out note status same x = record { worked = x.worked; same = then_same old mid new same x.same }
 delivered_earlier (Some name) does old mid new out note status same x = (x.0, written_earlier name does old mid new note status same x.1)
 
 -- ---- the input

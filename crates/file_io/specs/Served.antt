@@ -33,10 +33,10 @@ pub record IsRefused (what name : List ℕ) (failed : Status) (files : Files) (n
 pub record IsDrafted (name : List ℕ) (does : Does) (files : Files) (note : Pass) (status : Status) : Type 0 where
   pub draft : Pass
   pub between : PortState
-  pub done : Status
+  pub ended : Status
   pub empty : IsEmpty draft.0.bytes
-  pub does : does draft (note.0, between) done
-  pub settles : Settles name done draft.1.bytes files.0 files.1 (between, note.1) status
+  pub worked : does draft (note.0, between) ended
+  pub settles : Settles name ended draft.1.bytes files.0 files.1 (between, note.1) status
 
 abbrev pub IsWritten : List ℕ → Does → Files → Pass → Status → Type 0
 IsWritten name does files note status =
@@ -45,7 +45,7 @@ IsWritten name does files note status =
 
 -- The work wrote to standard output, and each name holds what it held.
 pub record IsPrinted (does : Does) (files : Files) (out note : Pass) (status : Status) : Type 0 where
-  pub does : does out note status
+  pub worked : does out note status
   pub same : SameNames files.0 files.1
 
 -- The work wrote to the output that was named.

@@ -14,33 +14,33 @@ is_answer_status statuses.Refused = true
 is_answer_status s = false
 
 -- The work ended with the status of an answer and wrote something, which the name holds now.
-pub record IsKept (name : List ℕ) (done : Status) (written : Option (List ℕ)) (old new : Names)
+pub record IsKept (name : List ℕ) (ended : Status) (written : Option (List ℕ)) (old new : Names)
     (note : PortState × PortState) (status : Status) : Type 0 where
-  pub answer : is_answer_status done ≡ true
+  pub answer : is_answer_status ended ≡ true
   pub begun : Begins written true
   pub kept : IsReplaced name written old new
   pub on_note : note.1 ≡ note.0
-  pub status_is : status ≡ done
+  pub status_is : status ≡ ended
 
 -- The work has no answer, or wrote nothing: each name holds what it held.
-pub record IsDiscarded (done : Status) (written : Option (List ℕ)) (old new : Names)
+pub record IsDiscarded (ended : Status) (written : Option (List ℕ)) (old new : Names)
     (note : PortState × PortState) (status : Status) : Type 0 where
-  pub none : (is_answer_status done ≡ false) ⊎ IsEmpty written
+  pub none : (is_answer_status ended ≡ false) ⊎ IsEmpty written
   pub same : SameNames old new
   pub on_note : note.1 ≡ note.0
-  pub status_is : status ≡ done
+  pub status_is : status ≡ ended
 
 -- The draft of an answer couldn't be kept, which is reported with the system's reason.
-pub record IsLost (name : List ℕ) (done : Status) (old new : Names)
+pub record IsLost (name : List ℕ) (ended : Status) (old new : Names)
     (note : PortState × PortState) (status : Status) : Type 0 where
-  pub answer : is_answer_status done ≡ true
+  pub answer : is_answer_status ended ≡ true
   pub same : SameNames old new
   pub reason : List ℕ
   pub on_note : Writes note.0 note.1 (fault_line (codes "error: WriteFault ") name reason)
   pub status_is : status ≡ statuses.WriteFault
 
--- `done` is the status that the work ended with, and `written` what it wrote.
+-- `ended` is the status that the work ended with, and `written` what it wrote.
 abbrev pub Settles : List ℕ → Status → Option (List ℕ) → Names → Names → PortState × PortState → Status → Type 0
-Settles name done written old new note status =
-    IsKept name done written old new note status ⊎
-    (IsDiscarded done written old new note status ⊎ IsLost name done old new note status)
+Settles name ended written old new note status =
+    IsKept name ended written old new note status ⊎
+    (IsDiscarded ended written old new note status ⊎ IsLost name ended old new note status)

@@ -80,6 +80,15 @@ fn write_line<N: Sink>(
     write_named(note, name, lead, reason, end)
 }
 
+/// Writes the line of a call that failed. If writing it fails, that is ignored.
+fn report_line<N: Sink>(note: &mut N, what: &[u8], name: &[u8], reason: &[u8])
+    ensures line { Writes (port_state N.written N.faults note.old) (port_state N.written N.faults note.new)
+        (fault_line what.now name.now reason.now) }
+    ensures never_falls { N.faults note.old ≤ N.faults note.new }
+{
+    let _ = write_line(note, what, name, b": ", reason, b"\n");
+}
+
 /// Writes the line of a call that failed, as `error: ReadFault a.blif: No such file or directory`. It allocates
 /// nothing. If writing it fails, that is ignored: the status of the run is already decided.
 pub fn report_fault<N: Sink>(note: &mut N, what: &[u8], name: &str, reason: &Reason)
@@ -87,5 +96,5 @@ pub fn report_fault<N: Sink>(note: &mut N, what: &[u8], name: &str, reason: &Rea
         (fault_line what.now name.now reason.now.text.items) }
     ensures never_falls { N.faults note.old ≤ N.faults note.new }
 {
-    let _ = write_line(note, what, name.as_bytes(), b": ", &reason.text, b"\n");
+    report_line(note, what, name.as_bytes(), &reason.text)
 }

@@ -76,7 +76,7 @@ fn deliver<K: Work, W: Outside, S: Source, O: Sink, N: Sink>(
     note: &mut N,
 ) -> Status
     requires { K.ready work.now }
-    ensures { IsDelivered (text_in output)
+    ensures { IsDelivered (text_in output.entry)
         (K.does work.now (before_after S.left S.faults source.old source.new))
         (W.holds outside.old, W.holds outside.new)
         (before_after O.written O.faults out.old out.new)
@@ -106,7 +106,7 @@ fn read_file<K: Work, W: Outside, O: Sink, N: Sink>(
         (before_after O.written O.faults out.old out.new)
         (before_after N.written N.faults note.old note.new)
         result ⊎
-        IsOpened name.now (text_in output) (K.does work.now)
+        IsOpened name.now (text_in output.entry) (K.does work.now)
         (W.holds outside.old, W.holds outside.new)
         (before_after O.written O.faults out.old out.new)
         (before_after N.written N.faults note.old note.new)
@@ -134,7 +134,7 @@ pub fn serve_files<K: Work, W: Outside, S: Source, O: Sink, N: Sink>(
     note: &mut N,
 ) -> Status
     requires { K.ready work.now }
-    ensures { IsServed (text_in input) (text_in output) (K.does work.now)
+    ensures { IsServed (text_in input.entry) (text_in output.entry) (K.does work.now)
         (W.holds outside.old, W.holds outside.new)
         (before_after S.left S.faults source.old source.new)
         (before_after O.written O.faults out.old out.new)

@@ -1,5 +1,5 @@
 -- Which words of a command line are its own, and which name files.
-use Rattle.std.specs.Prelude.{◌≡◌, ◌==◌, ℕ, List, [], ◌∷◌, ◌++◌, Bool, true, false, Option, None, Some, codes}
+use Rattle.std.specs.Prelude.{◌==◌, ℕ, List, [], ◌∷◌, ◌++◌, Bool, true, false, Option, None, Some, codes}
 use Rattle.std.specs.Prelude.{if◌then◌else◌}
 use Rattle.command_line.specs.Options.{is_word}
 use Rattle.file_words.specs.declared.line.Next.{Next}

@@ -95,7 +95,7 @@ fn pair_standard<P: Program, W: Outside, S: Source, O: Sink, N: Sink>(
     note: &mut N,
 ) -> Status
     requires { IsBudget budget }
-    ensures { IsFirstStandard (text_in second) (text_in output) (P.compares budget)
+    ensures { IsFirstStandard (text_in second.entry) (text_in output.entry) (P.compares budget)
         (W.holds outside.old, W.holds outside.new)
         (before_after S.left S.faults source.old source.new)
         (before_after O.written O.faults out.old out.new)
@@ -135,7 +135,7 @@ fn pair_named<P: Program, W: Outside, S: Source, O: Sink, N: Sink>(
         (before_after O.written O.faults out.old out.new)
         (before_after N.written N.faults note.old note.new)
         result × (port_state S.left S.faults source.new ≡ port_state S.left S.faults source.old)) ⊎
-        IsFirstOpened name.now (text_in second) (text_in output) (P.compares budget)
+        IsFirstOpened name.now (text_in second.entry) (text_in output.entry) (P.compares budget)
         (W.holds outside.old, W.holds outside.new)
         (before_after S.left S.faults source.old source.new)
         (before_after O.written O.faults out.old out.new)
@@ -176,7 +176,7 @@ pub(crate) fn serve_pair<P: Program, W: Outside, S: Source, O: Sink, N: Sink>(
     note: &mut N,
 ) -> Status
     requires { IsBudget budget }
-    ensures { IsPaired (text_in first) (text_in second) (text_in output) (P.compares budget)
+    ensures { IsPaired (text_in first.entry) (text_in second.entry) (text_in output.entry) (P.compares budget)
         (W.holds outside.old, W.holds outside.new)
         (before_after S.left S.faults source.old source.new)
         (before_after O.written O.faults out.old out.new)
