@@ -1,13 +1,13 @@
 -- How the draft of a named output ends.
-use Rattle.std.specs.Prelude.{◌≡◌, ◌≢◌, ◌⊎◌, ℕ, List, [], ◌∷◌, Bool, true, false, Option, Some, codes, refl}
+use Rattle.std.specs.Prelude.{◌≡◌, ℕ, List, [], ◌∷◌, Bool, true, false, Option, codes, refl}
 use Rattle.std.proofs.Common.{sym, ◌∙◌, subst, inl, inr}
 use Rattle.std.proofs.lemmas.Grind.{common_steps}
 use Rattle.frame_core.specs.declared.status.Status.{Status}
 use Rattle.frame_core.specs.declared.status.Status.TheVariants as statuses
 use Rattle.frame_core.specs.Outside.{PortState, Writes}
 use Rattle.file_io.specs.FaultLine.{fault_line}
-use Rattle.file_io.specs.Names.{Names, SameNames, IsReplaced, IsEmpty, Begins, is_some_text}
-use Rattle.file_io.specs.Settling.{is_answer_status, IsKept, IsDiscarded, IsLost, Settles}
+use Rattle.file_io.specs.Names.{Names, SameNames, IsReplaced, Begins, is_some_text}
+use Rattle.file_io.specs.Settling.{is_answer_status, Settles}
 
 pub no_answer : (name : List ℕ) (ended : Status) (written : Option (List ℕ)) (old new : Names) (note : PortState) →
     is_answer_status ended ≡ false → SameNames old new → Settles name ended written old new (note, note) ended

@@ -1,5 +1,5 @@
 -- The line of a call that failed was written, as far as no call on the notes failed.
-use Rattle.std.specs.Prelude.{◌≡◌, ℕ, List, ◌++◌, Result, Ok, Err, OnOk, OnErr, codes}
+use Rattle.std.specs.Prelude.{ℕ, List, ◌++◌, Result, Ok, Err, OnOk, OnErr, codes}
 use Rattle.port_io.specs.Bytes.{Appends, AppendsPrefix}
 use Rattle.port_io.specs.Faults.{Rose}
 use Rattle.port_io.specs.declared.writing.WriteFault.{WriteFault}

@@ -1,5 +1,5 @@
 -- Work over inputs and outputs that are named.
-use Rattle.std.specs.Prelude.{◌≡◌, ◌⊎◌, ℕ, List, Option, Some, None, codes, refl}
+use Rattle.std.specs.Prelude.{◌⊎◌, ℕ, List, Option, codes, refl}
 use Rattle.std.proofs.Common.{inl, inr}
 use Rattle.std.proofs.lemmas.Grind.{common_steps}
 use Rattle.frame_core.specs.declared.status.Status.{Status}
@@ -8,7 +8,7 @@ use Rattle.frame_core.specs.Outside.{PortState, Writes}
 use Rattle.file_io.specs.FaultLine.{fault_line}
 use Rattle.file_io.specs.Names.{Names, Shows, SameNames, IsEmpty}
 use Rattle.file_io.specs.Settling.{Settles}
-use Rattle.file_io.specs.Served.{Pass, Does, IsRefused, IsDrafted, IsWritten, IsPrinted, IsDelivered, IsOpened, IsUnread, IsServed}
+use Rattle.file_io.specs.Served.{Pass, Does, IsWritten, IsPrinted, IsDelivered, IsOpened, IsUnread}
 use Rattle.file_io.specs.EarlierLaws.{settles_earlier, delivered_earlier}
 
 -- ---- the output

@@ -1,5 +1,5 @@
 -- From an earlier state of the names, which hold the same in it.
-use Rattle.std.specs.Prelude.{◌≡◌, ◌≢◌, ◌⊎◌, ℕ, List, Option, Some, None, codes}
+use Rattle.std.specs.Prelude.{◌⊎◌, ℕ, List, Option, Some, None, codes}
 use Rattle.std.proofs.Common.{◌∙◌, subst, inl, inr, ⊎_elim}
 use Rattle.frame_core.specs.declared.status.Status.{Status}
 use Rattle.frame_core.specs.declared.status.Status.TheVariants as statuses

@@ -62,25 +62,40 @@ pub record IsFirstCompared (second output : Option (List ℕ)) (compares : Compa
   pub read : IsTextRead input text
   pub served : IsServed second output (compares text) files source out note status
 
+-- One of the two; where the first was refused, the source of the second is as before.
+abbrev pub IsFirstDone : Option (List ℕ) → Option (List ℕ) → Compares → Files → Pass → Pass → Pass → Pass → Status →
+    Type 0
+IsFirstDone second output compares files input source out note status =
+    (IsFirstRefused input files out note status × (source.1 ≡ source.0)) ⊎
+    IsFirstCompared second output compares files input source out note status
+
 -- The first text is standard input's, up to a state between; `-` as the second is what is left, which is nothing.
 pub record IsFirstStandard (second output : Option (List ℕ)) (compares : Compares) (files : Files)
     (source out note : Pass) (status : Status) : Type 0 where
   pub between : PortState
-  pub does : (IsFirstRefused (source.0, between) files out note status × (source.1 ≡ between)) ⊎
-      IsFirstCompared second output compares files (source.0, between) (between, source.1) out note status
+  pub does : IsFirstDone second output compares files (source.0, between) (between, source.1) out note status
 
 -- The first text is that of a file.
 pub record IsFirstOpened (name : List ℕ) (second output : Option (List ℕ)) (compares : Compares) (files : Files)
     (source out note : Pass) (status : Status) : Type 0 where
   pub input : Pass
   pub shows : Shows (files.0 name) input.0.bytes
-  pub does : (IsFirstRefused input files out note status × (source.1 ≡ source.0)) ⊎
-      IsFirstCompared second output compares files input source out note status
+  pub does : IsFirstDone second output compares files input source out note status
+
+-- The first text couldn't be opened.
+pub record IsFirstUnread (name : List ℕ) (files : Files) (source out note : Pass) (status : Status) : Type 0 where
+  pub unread : IsUnread name files out note status
+  pub on_source : source.1 ≡ source.0
+
+abbrev pub IsNamedPair : List ℕ → Option (List ℕ) → Option (List ℕ) → Compares → Files → Pass → Pass → Pass →
+    Status → Type 0
+IsNamedPair name second output compares files source out note status =
+    IsFirstUnread name files source out note status ⊎
+    IsFirstOpened name second output compares files source out note status
 
 abbrev pub IsPaired : Option (List ℕ) → Option (List ℕ) → Option (List ℕ) → Compares → Files → Pass → Pass → Pass →
     Status → Type 0
 IsPaired None second output compares files source out note status =
     IsFirstStandard second output compares files source out note status
 IsPaired (Some name) second output compares files source out note status =
-    (IsUnread name files out note status × (source.1 ≡ source.0)) ⊎
-    IsFirstOpened name second output compares files source out note status
+    IsNamedPair name second output compares files source out note status

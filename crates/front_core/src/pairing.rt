@@ -1,14 +1,13 @@
 //! The comparison of two texts, each from an input of its own.
-ghost use Rattle.std.specs.Prelude.{◌≡◌, ◌⊎◌, ◌≤◌, length};
+ghost use Rattle.std.specs.Prelude.{◌≡◌, ◌≤◌, length};
 ghost use Rattle.net_theory.specs.Limits.{most_of_netlist};
 ghost use Rattle.command_line.specs.CommandLine.{IsBudget};
 ghost use Rattle.frame_core.specs.Outside.{port_state, Writes};
 ghost use Rattle.frame_core.specs.Reported.{error_line};
 ghost use Rattle.frame_core.specs.Run.{before_after};
 ghost use Rattle.frame_core.specs.Views.{line_value};
-ghost use Rattle.file_io.specs.Served.{IsUnread, IsServed};
 ghost use Rattle.file_io.specs.Texts.{text_in};
-ghost use Rattle.front_core.specs.Paired.{first_line, first_status, IsFirstStandard, IsFirstOpened, IsPaired};
+ghost use Rattle.front_core.specs.Paired.{first_line, first_status, IsFirstDone, IsFirstStandard, IsNamedPair, IsPaired};
 
 use crate::program::Program;
 use file_io::{Outside, Work, report_fault, serve_files};
@@ -21,15 +20,15 @@ use std::marker::PhantomData;
 /// The comparison of a text with that of the source, as work.
 #[derive(Drop)]
 struct Comparing<'a, P> {
-    text: &'a [u8],
+    text: &'a Vec<u8>,
     budget: u32,
     program: PhantomData<P>,
 }
 
 impl<'a, P: Program> Work for Comparing<'a, P> {
-    ghost does = { λ w. P.compares w.budget w.text.now };
+    ghost does = { λ w. P.compares w.budget w.text.now.items };
 
-    ghost ready = { λ w. IsBudget w.budget × (length w.text.now ≤ most_of_netlist) };
+    ghost ready = { λ w. IsBudget w.budget × (length w.text.now.items ≤ most_of_netlist) };
 
     fn work<S: Source, O: Sink, N: Sink>(
         &self,
@@ -107,7 +106,43 @@ fn pair_standard<P: Program, W: Outside, S: Source, O: Sink, N: Sink>(
         Err(error) => return report_first(note, error),
     };
     let comparing = Comparing {
-        text: text.as_slice(),
+        text: &text,
+        budget,
+        program: PhantomData::<P>,
+    };
+    serve_files(
+        alloc, &comparing, second, output, outside, source, out, note,
+    )
+}
+
+/// Compares the text of an input that was opened with a second one.
+#[tactic(auto, using(crate::proofs::Pairs::reading))]
+fn pair_input<P: Program, W: Outside, I: Source, S: Source, O: Sink, N: Sink>(
+    alloc: Global,
+    budget: u32,
+    second: Option<&str>,
+    output: Option<&str>,
+    outside: &mut W,
+    input: &mut I,
+    source: &mut S,
+    out: &mut O,
+    note: &mut N,
+) -> Status
+    requires { IsBudget budget }
+    ensures { IsFirstDone (text_in second.entry) (text_in output.entry) (P.compares budget)
+        (W.holds outside.old, W.holds outside.new)
+        (before_after I.left I.faults input.old input.new)
+        (before_after S.left S.faults source.old source.new)
+        (before_after O.written O.faults out.old out.new)
+        (before_after N.written N.faults note.old note.new)
+        result }
+{
+    let text = match read_all(alloc, input, MOST_OF_NETLIST) {
+        Ok(text) => text,
+        Err(error) => return report_first(note, error),
+    };
+    let comparing = Comparing {
+        text: &text,
         budget,
         program: PhantomData::<P>,
     };
@@ -130,12 +165,7 @@ fn pair_named<P: Program, W: Outside, S: Source, O: Sink, N: Sink>(
     note: &mut N,
 ) -> Status
     requires { IsBudget budget }
-    ensures { (IsUnread name.now
-        (W.holds outside.old, W.holds outside.new)
-        (before_after O.written O.faults out.old out.new)
-        (before_after N.written N.faults note.old note.new)
-        result × (port_state S.left S.faults source.new ≡ port_state S.left S.faults source.old)) ⊎
-        IsFirstOpened name.now (text_in second.entry) (text_in output.entry) (P.compares budget)
+    ensures { IsNamedPair name.now (text_in second.entry) (text_in output.entry) (P.compares budget)
         (W.holds outside.old, W.holds outside.new)
         (before_after S.left S.faults source.old source.new)
         (before_after O.written O.faults out.old out.new)
@@ -149,17 +179,8 @@ fn pair_named<P: Program, W: Outside, S: Source, O: Sink, N: Sink>(
             return Status::ReadFault;
         }
     };
-    let text = match read_all(alloc, &mut input, MOST_OF_NETLIST) {
-        Ok(text) => text,
-        Err(error) => return report_first(note, error),
-    };
-    let comparing = Comparing {
-        text: text.as_slice(),
-        budget,
-        program: PhantomData::<P>,
-    };
-    serve_files(
-        alloc, &comparing, second, output, outside, source, out, note,
+    pair_input::<P, W, W::Input, S, O, N>(
+        alloc, budget, second, output, outside, &mut input, source, out, note,
     )
 }
 
