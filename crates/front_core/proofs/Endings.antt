@@ -19,7 +19,7 @@ use Rattle.file_words.specs.Lines.{line_value}
 use Rattle.front_core.specs.Asked.{fits, IsNotPlain, AsksWithFiles, name_in, first_in, second_in, pair_budget}
 use Rattle.front_core.specs.Front.{Promises, front_run, Reports, IsServedLine, Ending, Plain, WithFiles, Idle, OutOfMemory, IsEnding, runs}
 use Rattle.front_core.specs.Paired.{IsPaired}
-use Rattle.front_core.proofs.Asking.{asked, not_asked, line_of, no_line_of, none_with_files, too_many_files, none_without_line}
+use Rattle.front_core.proofs.Words.{asked, not_asked, line_of, no_line_of, none_with_files, too_many_files, none_without_line}
 
 -- the words are reported, and nothing else happened
 idle : (p : Promises) (words : List (List ℕ)) (names : Names) (source out note note' : PortState) (status : Status) →

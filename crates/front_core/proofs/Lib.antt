@@ -1,3 +1,3 @@
-pub mod Asking
 pub mod Endings
 pub mod Pairs
+pub mod Words

@@ -23,7 +23,7 @@ fn most_operands(command: &Command) -> usize
 }
 
 /// Whether a line names no more files than the command reads.
-#[tactic(auto, using(crate::proofs::Asking::counting))]
+#[tactic(auto, using(crate::proofs::Words::counting))]
 pub(crate) fn fits(command: &Command, line: &FileLine) -> bool
     ensures { result ≡ spec.fits command.now (line_value line.now) }
 {

@@ -42,7 +42,8 @@ impl<'a, P: Program> Work for Comparing<'a, P> {
 }
 
 /// The line of a failed read of the first text.
-#[tactic(auto, unfolding(frame_core::specs::Views::shown))]
+#[tactic(auto, unfolding(frame_core::specs::Views::shown, crate::specs::Paired::first_line, // for the prover
+frame_core::specs::Reported::memory))]
 fn line_of(error: ReadError) -> ErrorLine
     ensures { line_value result ≡ first_line error }
 {

@@ -1,5 +1,6 @@
 //! The files of the system.
 ghost use Rattle.std.specs.Prelude.{None};
+ghost use Rattle.file_io.specs.Names.{Begins};
 ghost use Rattle.system_files.specs.Drafts.{draft_faults};
 
 use file_io::{Outside, Reason};
@@ -175,7 +176,9 @@ impl<'a> Outside for SystemFiles<'a> {
         }
     }
 
-    fn is_begun(draft: &SystemDraft) -> bool {
+    fn is_begun(draft: &SystemDraft) -> bool
+        ensures { Begins None result }
+    {
         draft.is_begun
     }
 
