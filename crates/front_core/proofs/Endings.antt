@@ -1,23 +1,23 @@
 -- How a run of the front ends.
-use Rattle.std.specs.Prelude.{◌≡◌, ℕ, List, Bool, true, false, Option, Some, None, Ok, Err, refl}
+use Rattle.std.specs.Prelude.{◌≡◌, ℕ, List, true, false, Option, Some, None, Ok, Err, refl}
 use Rattle.std.proofs.Common.{sym, ◌∙◌, subst}
 use Rattle.std.proofs.lemmas.Grind.{common_steps}
 use Rattle.std.specs.Option.{option_map}
 use Rattle.command_line.specs.declared.command.Command.{Command}
 use Rattle.command_line.specs.declared.command.WordsError.{WordsError}
-use Rattle.command_line.specs.CommandLine.{read, AsksFor}
+use Rattle.command_line.specs.CommandLine.{read}
 use Rattle.frame_core.specs.declared.status.Status.{Status}
 use Rattle.frame_core.specs.declared.status.Status.TheVariants as statuses
 use Rattle.frame_core.specs.Outside.{PortState, Writes}
 use Rattle.frame_core.specs.Reported.{error_line, usage, memory}
-use Rattle.frame_core.specs.Run.{Run, run_of}
+use Rattle.frame_core.specs.Run.{run_of}
 use Rattle.file_io.specs.Names.{Names}
 use Rattle.file_io.specs.Served.{Pass, Files, IsServed}
 use Rattle.file_words.specs.declared.line.FileLine.{FileLine}
 use Rattle.file_words.specs.Sorting.{Line, file_line}
 use Rattle.file_words.specs.Lines.{line_value}
 use Rattle.front_core.specs.Asked.{fits, IsNotPlain, AsksWithFiles, name_in, first_in, second_in, pair_budget}
-use Rattle.front_core.specs.Front.{Promises, front_run, Reports, IsServedLine, Ending, Plain, WithFiles, Idle, OutOfMemory, IsEnding, runs}
+use Rattle.front_core.specs.Front.{Promises, front_run, IsServedLine, Ending, Plain, WithFiles, Idle, OutOfMemory, IsEnding, runs}
 use Rattle.front_core.specs.Paired.{IsPaired}
 use Rattle.front_core.proofs.Words.{asked, not_asked, line_of, no_line_of, none_with_files, too_many_files, none_without_line}
 

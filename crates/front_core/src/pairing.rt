@@ -7,7 +7,8 @@ ghost use Rattle.frame_core.specs.Reported.{error_line};
 ghost use Rattle.frame_core.specs.Run.{before_after};
 ghost use Rattle.frame_core.specs.Views.{line_value};
 ghost use Rattle.file_io.specs.Texts.{text_in};
-ghost use Rattle.front_core.specs.Paired.{first_line, first_status, IsFirstDone, IsFirstStandard, IsNamedPair, IsPaired};
+ghost use Rattle.front_core.specs.Paired.{first_line, first_status};
+ghost use Rattle.front_core.specs.Paired.{IsFirstDone, IsFirstStandard, IsNamedPair, IsPaired};
 
 use crate::program::Program;
 use file_io::{Outside, Work, report_fault, serve_files};
