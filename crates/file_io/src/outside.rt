@@ -1,0 +1,49 @@
+//! The files that a program can name.
+ghost use Rattle.std.specs.Prelude.{◌≡◌, ℕ, List, Option, IfOk, OnOk, OnErr};
+ghost use Rattle.file_io.specs.Names.{Holding, Shows, IsEmpty, Begins, SameNames, IsReplaced};
+
+use port_io::{Sink, Source};
+use std::alloc::Global;
+
+/// Why a call on a file failed, in the system's words.
+#[derive(Drop)]
+pub struct Reason {
+    /// One line, as `No such file or directory`; empty if memory ran out.
+    pub text: Vec<u8>,
+}
+
+/// The files that a program can name. A call that fails changes nothing that contracts see.
+pub trait Outside {
+    /// What each name holds.
+    ghost holds: { Self → List ℕ → Holding };
+
+    /// An open file that is read.
+    type Input: Source + Drop;
+
+    /// A file beside its name that is written. Until it is kept no name shows it.
+    type Draft: Sink + Drop;
+
+    /// Opens the file that a name holds: all its bytes are left.
+    fn open(&mut self, alloc: Global, name: &str) -> Result<Self::Input, Reason>
+        ensures shows { IfOk result (λ input. Shows (holds self.old name.now) (Self.Input.left input)) }
+        ensures same { SameNames (holds self.old) (holds self.new) };
+
+    /// Creates a draft beside a name: nothing is written to it.
+    fn create(&mut self, alloc: Global, name: &str) -> Result<Self::Draft, Reason>
+        ensures empty { IfOk result (λ draft. IsEmpty (Self.Draft.written draft)) }
+        ensures same { SameNames (holds self.old) (holds self.new) };
+
+    /// Whether anything was written to a draft.
+    fn is_begun(draft: &Self::Draft) -> bool
+        ensures { Begins (Self.Draft.written draft.now) result };
+
+    /// The draft takes the place of what the name holds.
+    fn keep(&mut self, alloc: Global, name: &str, draft: Self::Draft) -> Result<(), Reason>
+        ensures kept { OnOk result
+            (IsReplaced name.now (Self.Draft.written draft) (holds self.old) (holds self.new)) }
+        ensures same { OnErr result (SameNames (holds self.old) (holds self.new)) };
+
+    /// The draft goes.
+    fn discard(&mut self, draft: Self::Draft)
+        ensures same { SameNames (holds self.old) (holds self.new) };
+}

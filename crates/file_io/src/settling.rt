@@ -1,0 +1,56 @@
+//! The end of a named output.
+ghost use Rattle.frame_core.specs.Outside.{port_state};
+ghost use Rattle.frame_core.specs.Run.{before_after};
+ghost use Rattle.file_io.specs.Settling.{Settles, is_answer_status};
+ghost use Rattle.std.specs.Prelude.{◌≡◌};
+
+use crate::outside::Outside;
+use crate::reporting::report_fault;
+use frame_core::Status;
+use port_io::Sink;
+use std::alloc::Global;
+
+/// Whether answers have this status.
+fn is_answer(status: Status) -> bool
+    ensures { result ≡ is_answer_status status }
+{
+    match status {
+        Status::Done | Status::Undecided | Status::Refused => true,
+        Status::Usage | Status::Malformed | Status::Limit => false,
+        Status::ReadFault | Status::WriteFault | Status::Memory => false,
+    }
+}
+
+/// Ends the draft of a named output, after the work that wrote it has ended with a status: an answer takes the
+/// name's place, and what is none is discarded. Returns the status of the run, which is `WriteFault` if the draft
+/// of an answer can't be kept.
+#[tactic(auto, using(crate::proofs::Ends::ends))]
+pub fn settle<W: Outside, N: Sink>(
+    alloc: Global,
+    outside: &mut W,
+    name: &str,
+    draft: W::Draft,
+    status: Status,
+    note: &mut N,
+) -> Status
+    ensures { Settles name.now status (port_state W.Draft.written W.Draft.faults draft).bytes
+        (W.holds outside.old) (W.holds outside.new)
+        (before_after N.written N.faults note.old note.new) result }
+{
+    if !is_answer(status) {
+        outside.discard(draft);
+        return status;
+    }
+    let is_begun = W::is_begun(&draft);
+    if !is_begun {
+        outside.discard(draft);
+        return status;
+    }
+    match outside.keep(alloc, name, draft) {
+        Ok(()) => status,
+        Err(reason) => {
+            report_fault(note, b"error: WriteFault ", name, &reason);
+            Status::WriteFault
+        }
+    }
+}

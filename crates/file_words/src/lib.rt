@@ -1,0 +1,20 @@
+//! Command lines that name files. Beside the words of a command they have operands, which are files to read, and
+//! `-o FILE`: `synth --max 3 tables -o answer`.
+//!
+//! `read_line` sorts the words: what is left without files is a command line as `command_line` reads it, which it
+//! doesn't check. Options are pairs of a name that begins with `-` and a value; `--` ends them; any other word is an
+//! operand, and so is `-`. `specs/Sorting.antt` says the same, word by word.
+//!
+//! ```text
+//! let line = read_line(alloc, &words)?;   // of improve in.blif --cap 4 -o out.blif
+//! line.words      // improve --cap 4
+//! line.operands   // in.blif
+//! line.output     // out.blif
+//! ```
+#![tactic(auto)]
+
+mod line;
+mod sorting;
+
+pub use line::{FileLine, Next};
+pub use sorting::{is_standard, read_line};

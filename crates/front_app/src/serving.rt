@@ -1,0 +1,75 @@
+//! The front for the program of `chain_app`.
+ghost use Rattle.std.specs.Prelude.{◌≡◌};
+ghost use Rattle.command_line.specs.CommandLine.{spelled};
+ghost use Rattle.frame_core.specs.Run.{before_after};
+ghost use Rattle.chain_app.specs.KeepsPromises.{KeepsPromises};
+ghost use Rattle.front_core.specs.Front.{Ending, IsEnding, front_run, promised_by};
+ghost use Rattle.front_app.specs.Comparison.{KeepsComparison};
+
+use cdcl_core::Cdcl;
+use cmd_equiv::EquivWith;
+use file_io::Outside;
+use frame_core::{AtOnce, Status, perform};
+use front_core::Program;
+use port_io::{Sink, Source};
+use std::alloc::Global;
+use std::marker::PhantomData;
+
+/// The program without files.
+struct Strict;
+
+impl Program for Strict {
+    ghost use Rattle.chain_app.specs.KeepsPromises.{KeepsPromises};
+    ghost use Rattle.front_app.specs.Comparison.{KeepsComparison};
+
+    ghost keeps = { λ r. KeepsPromises r };
+
+    ghost compares = { λ budget text source out note status. KeepsComparison budget text source out note status };
+
+    fn run<S: Source, O: Sink, N: Sink>(
+        alloc: Global,
+        words: &Vec<String>,
+        source: &mut S,
+        out: &mut O,
+        note: &mut N,
+    ) -> Status {
+        chain_app::run(alloc, words, source, out, note)
+    }
+
+    #[tactic(auto, using(crate::proofs::Comparing::comparing))]
+    fn compare<S: Source, O: Sink, N: Sink>(
+        alloc: Global,
+        budget: u32,
+        text: &[u8],
+        source: &mut S,
+        out: &mut O,
+        note: &mut N,
+    ) -> Status {
+        let job = AtOnce(EquivWith {
+            first: text,
+            budget,
+            solver: PhantomData::<Cdcl>,
+        });
+        perform(alloc, &job, source, out, note)
+    }
+}
+
+/// Runs the command that the words ask for: over the files that they name, or else over `source` and `out`. A report,
+/// and one error line if there is no answer, go to `note`.
+pub fn serve<W: Outside, S: Source, O: Sink, N: Sink>(
+    alloc: Global,
+    words: &Vec<String>,
+    outside: &mut W,
+    source: &mut S,
+    out: &mut O,
+    note: &mut N,
+) -> Status
+    ensures { (ending : Ending) × IsEnding (promised_by KeepsPromises KeepsComparison) (front_run (spelled words.now)
+        (W.holds outside.old, W.holds outside.new)
+        (before_after S.left S.faults source.old source.new)
+        (before_after O.written O.faults out.old out.new)
+        (before_after N.written N.faults note.old note.new)
+        result) ending }
+{
+    front_core::serve::<Strict, W, S, O, N>(alloc, words, outside, source, out, note)
+}

@@ -1,0 +1,24 @@
+//! The front of a program: command lines that may name files, over a program that reads one source and writes one
+//! sink.
+//!
+//! The program is a type with the trait `Program`: what it does with words, a source and two sinks, and what it
+//! promises of that. `serve` reads words that may name files (`file_words`), opens and creates these (`file_io`), and
+//! runs the program over them, with the words without files. Words that the program reads as they are it passes on.
+//!
+//! What is proved, for each program, each source and sink and all files: `IsEnding` of `specs/Front.antt`. Words that
+//! are a command line as they are mean to the byte what they mean to the program. Words that name files are that
+//! program's run over the bytes of the file, and a named output holds the whole answer, or what it held before. Two
+//! files of `equiv` are compared as two texts, which are never joined. Any other words are a usage error.
+//!
+//! ```text
+//! let status = serve::<Strict, ..>(alloc, &words, &mut outside, &mut source, &mut out, &mut note);
+//! ```
+#![tactic(auto)]
+
+mod asking;
+mod pairing;
+mod program;
+mod serving;
+
+pub use program::Program;
+pub use serving::serve;

@@ -1,0 +1,132 @@
+//! The front.
+ghost use Rattle.std.specs.Prelude.{◌≡◌, List, ℕ, Some};
+ghost use Rattle.command_line.specs.CommandLine.{spelled};
+ghost use Rattle.frame_core.specs.Outside.{port_state, Writes};
+ghost use Rattle.frame_core.specs.Reported.{error_line, usage, memory};
+ghost use Rattle.frame_core.specs.Run.{before_after};
+ghost use Rattle.file_words.specs.Sorting.{file_line};
+ghost use Rattle.file_words.specs.Lines.{line_value};
+ghost use Rattle.front_core.specs.Asked.{IsNotPlain};
+ghost use Rattle.front_core.specs.Front.{Ending, IsEnding, front_run, promised_by};
+
+use crate::asking::{fits, input_of, output_of, pair_budget, second_of};
+use crate::pairing::serve_pair;
+use crate::program::{Program, Running};
+use command_line::read_words;
+use file_io::{Outside, serve_files};
+use file_words::{FileLine, read_line};
+use frame_core::{ErrorLine, Status, report_error};
+use port_io::{Sink, Source};
+use std::alloc::Global;
+use std::marker::PhantomData;
+
+/// Reports words that ask for nothing.
+fn report_usage<N: Sink>(note: &mut N) -> Status
+    ensures line { Writes (port_state N.written N.faults note.old) (port_state N.written N.faults note.new)
+        (error_line usage) }
+    ensures status { result ≡ Status.Usage }
+{
+    report_error(note, &ErrorLine::plain(b"Usage"));
+    Status::Usage
+}
+
+/// Reports that memory ran out.
+fn report_memory<N: Sink>(note: &mut N) -> Status
+    ensures line { Writes (port_state N.written N.faults note.old) (port_state N.written N.faults note.new)
+        (error_line memory) }
+    ensures status { result ≡ Status.Memory }
+{
+    report_error(note, &ErrorLine::plain(b"Memory"));
+    Status::Memory
+}
+
+/// Runs the program over the files that a line names.
+#[tactic(auto, using(crate::proofs::Endings::line_endings))]
+fn serve_line<P: Program, W: Outside, S: Source, O: Sink, N: Sink>(
+    alloc: Global,
+    line: &FileLine,
+    outside: &mut W,
+    source: &mut S,
+    out: &mut O,
+    note: &mut N,
+) -> Status
+    ensures { (words : List (List ℕ)) → IsNotPlain words → file_line words ≡ Some (line_value line.now) →
+        (ending : Ending) × IsEnding (promised_by P.keeps P.compares) (front_run words
+        (W.holds outside.old, W.holds outside.new)
+        (before_after S.left S.faults source.old source.new)
+        (before_after O.written O.faults out.old out.new)
+        (before_after N.written N.faults note.old note.new)
+        result) ending }
+{
+    let Ok(command) = read_words(&line.words) else {
+        return report_usage(note);
+    };
+    if !fits(&command, line) {
+        return report_usage(note);
+    }
+    let input = input_of(line);
+    let output = output_of(line);
+    if let Some(budget) = pair_budget(&command, line) {
+        let second = second_of(line);
+        return serve_pair::<P, W, S, O, N>(
+            alloc, budget, input, second, output, outside, source, out, note,
+        );
+    }
+    let running = Running {
+        words: &line.words,
+        program: PhantomData::<P>,
+    };
+    serve_files(alloc, &running, input, output, outside, source, out, note)
+}
+
+/// Reads words that are no command line as they are, and runs the program over the files that they name.
+#[tactic(auto, using(crate::proofs::Endings::word_endings))]
+fn serve_other<P: Program, W: Outside, S: Source, O: Sink, N: Sink>(
+    alloc: Global,
+    words: &Vec<String>,
+    outside: &mut W,
+    source: &mut S,
+    out: &mut O,
+    note: &mut N,
+) -> Status
+    ensures { IsNotPlain (spelled words.now) →
+        (ending : Ending) × IsEnding (promised_by P.keeps P.compares) (front_run (spelled words.now)
+        (W.holds outside.old, W.holds outside.new)
+        (before_after S.left S.faults source.old source.new)
+        (before_after O.written O.faults out.old out.new)
+        (before_after N.written N.faults note.old note.new)
+        result) ending }
+{
+    let found = match read_line(alloc, words) {
+        Ok(found) => found,
+        Err(_) => return report_memory(note),
+    };
+    let Some(line) = &found else {
+        return report_usage(note);
+    };
+    serve_line::<P, W, S, O, N>(alloc, line, outside, source, out, note)
+}
+
+/// Reads words that may name files, and runs the program over these: over the words without files, and over `source`
+/// and `out` where no file is named in their place.
+#[tactic(auto, using(crate::proofs::Endings::endings))]
+pub fn serve<P: Program, W: Outside, S: Source, O: Sink, N: Sink>(
+    alloc: Global,
+    words: &Vec<String>,
+    outside: &mut W,
+    source: &mut S,
+    out: &mut O,
+    note: &mut N,
+) -> Status
+    ensures { (ending : Ending) × IsEnding (promised_by P.keeps P.compares) (front_run (spelled words.now)
+        (W.holds outside.old, W.holds outside.new)
+        (before_after S.left S.faults source.old source.new)
+        (before_after O.written O.faults out.old out.new)
+        (before_after N.written N.faults note.old note.new)
+        result) ending }
+{
+    match read_words(words) {
+        Ok(_) => P::run(alloc, words, source, out, note),
+        Err(_) => serve_other::<P, W, S, O, N>(alloc, words, outside, source, out, note),
+    }
+}

@@ -1,0 +1,203 @@
+//! The files of the system.
+ghost use Rattle.std.specs.Prelude.{None};
+ghost use Rattle.file_io.specs.Names.{Begins};
+ghost use Rattle.system_files.specs.Drafts.{draft_faults};
+
+use file_io::{Outside, Reason};
+use port_io::{Failed, InputPort, OutputPort, Sink};
+use std::alloc::{AllocError, Global};
+use std::fs::{File, OpenOptions, Permissions};
+use std::io::{Error, ErrorKind};
+use std::{fs, io, process};
+
+/// The files of the system.
+#[derive(Drop)]
+pub struct SystemFiles<'a> {
+    rt: &'a HostRuntime,
+}
+
+/// A file that is written: beside its name, or in place where the name leads to what isn't a plain file.
+#[derive(Drop)]
+pub struct SystemDraft {
+    port: OutputPort<File>,
+    is_begun: bool,
+    paths: Option<Paths>,
+}
+
+/// The path of a draft, and of the file whose place it takes.
+#[derive(Drop)]
+struct Paths {
+    part: String,
+    whole: String,
+}
+
+impl Sink for SystemDraft {
+    ghost written = { λ _. None };
+
+    ghost faults = { draft_faults };
+
+    #[tactic(auto, unfolding(port_io::specs::Bytes::appended))]
+    fn write(&mut self, piece: &[u8]) -> Result<usize, Failed> {
+        match self.port.write(piece) {
+            Ok(count) => {
+                if count > 0 {
+                    self.is_begun = true;
+                }
+                Ok(count)
+            }
+            Err(Failed) => Err(Failed),
+        }
+    }
+}
+
+/// The system's reason, as it tells it; empty if memory runs out.
+fn reason_of(alloc: Global, error: &Error) -> Reason {
+    let text = match format!(in alloc; "{error}") {
+        Ok(text) => text.into_bytes(),
+        Err(_) => Vec::new(alloc),
+    };
+    Reason { text }
+}
+
+/// The path of a draft beside a file: `NAME.part.PID`.
+fn part_of(alloc: Global, whole: &str, id: u32) -> Result<String, AllocError> {
+    format!(in alloc; "{whole}.part.{id}")
+}
+
+/// Out of memory, as an error of the system.
+fn no_memory() -> Error {
+    Error::from(ErrorKind::OutOfMemory)
+}
+
+impl<'a> SystemFiles<'a> {
+    /// The files that the system of a run has.
+    pub fn new(rt: &'a HostRuntime) -> Self {
+        SystemFiles { rt }
+    }
+
+    /// The path of the file that a name leads to, at the end of its links; the name itself if there is no file.
+    fn whole_of(&self, alloc: Global, name: &str) -> io::Result<String> {
+        match fs::canonicalize(self.rt, name) {
+            Ok(path) => Ok(path.into_string()),
+            Err(error) if error.kind() == ErrorKind::NotFound => match String::from_str(
+                alloc, name,
+            ) {
+                Ok(path) => Ok(path),
+                Err(_) => Err(no_memory()),
+            },
+            Err(error) => Err(error),
+        }
+    }
+
+    /// Opens what isn't a plain file, to be written in place.
+    fn open_in_place(&self, name: &str) -> io::Result<SystemDraft> {
+        let file = OpenOptions::new().write(true).open(self.rt, name)?;
+        Ok(SystemDraft {
+            port: OutputPort::new(file),
+            is_begun: false,
+            paths: None,
+        })
+    }
+
+    /// Creates the file of a draft, with the mode of the file whose place it takes, if there is one.
+    fn create_part(&self, part: &str, mode: Option<Permissions>) -> io::Result<File> {
+        let file = File::create_new(self.rt, part)?;
+        if let Some(mode) = mode {
+            file.set_permissions(mode)?;
+        }
+        Ok(file)
+    }
+
+    /// Creates a draft beside a plain file, or where no file is.
+    fn create_beside(
+        &self,
+        alloc: Global,
+        name: &str,
+        mode: Option<Permissions>,
+    ) -> io::Result<SystemDraft> {
+        let whole = self.whole_of(alloc, name)?;
+        let Ok(part) = part_of(alloc, whole.as_str(), process::id(self.rt.process())) else {
+            return Err(no_memory());
+        };
+        let file = self.create_part(part.as_str(), mode)?;
+        Ok(SystemDraft {
+            port: OutputPort::new(file),
+            is_begun: false,
+            paths: Some(Paths { part, whole }),
+        })
+    }
+
+    /// Creates a draft.
+    fn create_draft(&self, alloc: Global, name: &str) -> io::Result<SystemDraft> {
+        match fs::metadata(self.rt, name) {
+            Ok(found) if found.is_file() => self.create_beside(
+                alloc,
+                name,
+                Some(found.permissions()),
+            ),
+            Ok(_) => self.open_in_place(name),
+            Err(error) if error.kind() == ErrorKind::NotFound => self.create_beside(
+                alloc, name, None,
+            ),
+            Err(error) => Err(error),
+        }
+    }
+
+    /// Opens a file that isn't a folder.
+    fn open_input(&self, name: &str) -> io::Result<File> {
+        let file = File::open(self.rt, name)?;
+        if file.metadata()?.is_dir() {
+            return Err(Error::from(ErrorKind::IsADirectory));
+        }
+        Ok(file)
+    }
+}
+
+impl<'a> Outside for SystemFiles<'a> {
+    ghost use Rattle.file_io.specs.Names.{Unknown};
+
+    ghost holds = { λ _ _. Unknown };
+
+    type Input = InputPort<File>;
+
+    type Draft = SystemDraft;
+
+    fn open(&mut self, alloc: Global, name: &str) -> Result<InputPort<File>, Reason> {
+        match self.open_input(name) {
+            Ok(file) => Ok(InputPort::new(file)),
+            Err(error) => Err(reason_of(alloc, &error)),
+        }
+    }
+
+    fn create(&mut self, alloc: Global, name: &str) -> Result<SystemDraft, Reason> {
+        match self.create_draft(alloc, name) {
+            Ok(draft) => Ok(draft),
+            Err(error) => Err(reason_of(alloc, &error)),
+        }
+    }
+
+    fn is_begun(draft: &SystemDraft) -> bool
+        ensures { Begins None result }
+    {
+        draft.is_begun
+    }
+
+    fn keep(&mut self, alloc: Global, _name: &str, draft: SystemDraft) -> Result<(), Reason> {
+        let Some(paths) = &draft.paths else {
+            return Ok(());
+        };
+        match fs::rename(self.rt, paths.part.as_str(), paths.whole.as_str()) {
+            Ok(()) => Ok(()),
+            Err(error) => {
+                let _ = fs::remove_file(self.rt, paths.part.as_str());
+                Err(reason_of(alloc, &error))
+            }
+        }
+    }
+
+    fn discard(&mut self, draft: SystemDraft) {
+        if let Some(paths) = &draft.paths {
+            let _ = fs::remove_file(self.rt, paths.part.as_str());
+        }
+    }
+}

@@ -1,0 +1,12 @@
+//! The files of the system as `file_io::Outside`. It passes on what the system's calls do, and contracts don't know
+//! what it holds: a name is opened, a draft stands beside its name as `NAME.part.PID` and is renamed to it, and a kill
+//! leaves a file of that name. What isn't a plain file, as a device or a pipe, is written in place.
+//!
+//! ```text
+//! let mut files = SystemFiles::new(&rt);
+//! ```
+#![tactic(auto)]
+
+mod files;
+
+pub use files::{SystemDraft, SystemFiles};
