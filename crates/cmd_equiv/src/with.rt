@@ -20,7 +20,12 @@ fn empty(netlist: &'static [u8]) -> Refusal
 {
     Refusal {
         status: Status::Malformed,
-        line: ErrorLine::led(Field::Known(netlist), b"Empty", Field::Nothing, Field::Nothing),
+        line: ErrorLine::led(
+            Field::Known(netlist),
+            b"Empty",
+            Field::Nothing,
+            Field::Nothing,
+        ),
     }
 }
 
