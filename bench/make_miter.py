@@ -3,7 +3,7 @@
 
     bench/make_miter.py FIRST.blif SECOND.blif > miter.cnf
 
-Both have to be well formed. A table of at most two different inputs is one gate or none; a wider one is a gate for
+Both have to be well formed. A table that names at most two inputs is one gate or none; a wider one is a gate for
 each literal but one, as in docs/FORMATS.md ("What a netlist costs"). The gates are numbered in the order in which a
 depth-first visit of the tables, in the order of the text, finishes them. This second writer shares nothing with the
 program, so any LRAT checker can check a log of `equiv` against the formula of this script.
@@ -78,7 +78,7 @@ class Builder:
         return self.sources + len(self.gates)
 
     def small(self, operands, cells):
-        """A table of at most two different inputs, by its values: a constant, a copy, NOT of one input, or a gate."""
+        """A table that names at most two inputs, by its values: a constant, a copy, NOT of one input, or a gate."""
         if all(cells) or not any(cells):
             return cells[0]
         if len(operands) == 2 and cells[:2] == cells[2:]:
@@ -101,7 +101,7 @@ class Builder:
         return left, turned
 
     def wide(self, operands, cubes, on):
-        """A table of more inputs: each cube ANDs its literals, and the cubes are ORed."""
+        """A wider table: each cube ANDs its literals, and the cubes are ORed."""
         if not cubes or any(set(cube) == {"-"} for cube in cubes):
             return on and bool(cubes)
         before = len(self.gates)
@@ -123,9 +123,9 @@ def signals(netlist):
     builder = Builder(len(netlist.sources))
 
     def finish(table):
-        names = list(dict.fromkeys(table[0]))
-        if len(names) > 2:
+        if len(table[0]) > 2:
             return builder.wide([signal[name] for name in table[0]], table[2], table[3][0])
+        names = list(dict.fromkeys(table[0]))
         rows = itertools.product((False, True), repeat=len(names))
         cells = [netlist.value(table, [row[names.index(name)] for name in table[0]]) for row in rows]
         return builder.small([signal[name] for name in names], cells)
