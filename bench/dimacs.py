@@ -12,8 +12,8 @@ and any LRAT checker.
   --list        only lists the subproblems of the certificate, one per line
 
 The formula is built from the tables, the basis, the method and the size as docs/FORMATS.md describes it, without
-the proved program: a second opinion. So a checker that accepts both files, such as lrat.c, refutes this description of the
-formula too, not only the program's. The script itself isn't proved.
+the proved program: a second opinion. So a checker that accepts both files, such as lrat.c, refutes this description of
+the formula too, not only the program's. The script itself isn't proved.
 
     batsokemi synth < full-adder.tables > adder.chains
     bench/dimacs.py adder.chains --size 4 --cnf adder.cnf --lrat adder.lrat

@@ -2,8 +2,8 @@
  * lrat FORMULA LOG: whether a log in LRAT refutes a formula in DIMACS.
  *
  * A checker of its own, after docs/FORMATS.md ("Refutation logs"): additions by unit propagation along their hints, and
- * deletions. It prints `s VERIFIED UNSAT` with status 0 at the empty clause; `s NOT VERIFIED` and, on standard error, the
- * line of the log that doesn't hold with status 1; status 2 where a file can't be read or isn't of its form.
+ * deletions. It prints `s VERIFIED UNSAT` with status 0 at the empty clause; `s NOT VERIFIED` and, on standard error,
+ * the line of the log that doesn't hold with status 1; status 2 where a file can't be read or isn't of its form.
  *
  *     cc -O2 -o lrat lrat.c && ./lrat miter.cnf miter.lrat
  */

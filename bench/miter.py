@@ -9,16 +9,16 @@ of `equiv` as plain LRAT, for any LRAT checker.
   --cnf FILE               file for the formula (standard output where neither file is given)
   --lrat FILE              file for the log; that of `undecided` refutes nothing, and is written with a warning
 
-The formula is built from the netlists as docs/FORMATS.md ("Netlists compared") describes it, without the proved program: a
-second opinion. So a checker that accepts both files shows that the netlists are equivalent, whoever wrote the log. The
+The formula is built from the netlists as docs/FORMATS.md ("Netlists compared") describes it, without the proved
+program: a second opinion. So a checker that accepts both files shows that the netlists are equivalent, whoever wrote the log. The
 script itself isn't proved, and the netlists have to be well formed.
 
     batsokemi equiv a.blif b.blif > ab.answer
     bench/miter.py a.blif b.blif --log ab.answer --cnf ab.cnf --lrat ab.lrat
     cc -O2 -o lrat bench/lrat.c && ./lrat ab.cnf ab.lrat
 
-A table that names at most two inputs is one gate or none; a wider one is a gate for each literal but one ("What a netlist
-costs"). The gates are numbered in the order in which a depth-first visit of the tables, in the order of the text,
+A table that names at most two inputs is one gate or none; a wider one is a gate for each literal but one ("What a
+netlist costs"). The gates are numbered in the order in which a depth-first visit of the tables, in the order of the text,
 finishes them.
 
 Status 0; 1 for a usage error; 2 where a file can't be read or is malformed, or the answer has no log."""

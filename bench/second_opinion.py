@@ -1,12 +1,12 @@
 #!/usr/bin/env python3
 """second_opinion.py PROGRAM [--count N] [--seed S] [--jobs J] [--cc COMPILER]
 
-Random questions of which everything that the program claims is judged by others: N cases (2,000) with the seeds S, S + 1
-and so on (1). The formulas are those of dimacs.py and miter.py, which share nothing with the program; logs are judged by
-lrat.c, and formulas by cadical or minisat where one is installed.
+Random questions of which everything that the program claims is judged by others: N cases (2,000) with the seeds S,
+S + 1 and so on (1). The formulas are those of dimacs.py and miter.py, which share nothing with the program; logs are
+judged by lrat.c, and formulas by cadical or minisat where one is installed.
 
-Three cases of four are truth tables of 1 to 3 inputs and 1 to 3 outputs, with and without don't-cares, by all methods, over
-bases of every kind (closed under exchange or not, with constants, projections, negations). Of each certificate of
+Three cases of four are truth tables of 1 to 3 inputs and 1 to 3 outputs, with and without don't-cares, by all methods,
+over bases of every kind (closed under exchange or not, with constants, projections, negations). Of each certificate of
 `synth` it is asked that
 
 - `recheck` accepts it with its own verdict;
@@ -15,8 +15,8 @@ bases of every kind (closed under exchange or not, with constants, projections, 
 - a solver finds no model of a formula that is refuted, and a model of that of the chain's size.
 
 The others are pairs of netlists with repeated, constant and unused inputs and latches: one with its tables in another
-order, what `improve` makes of it, or with a cover line changed. `equal` is judged as above over the miter of miter.py; of
-`differ` a solver has to find a model.
+order, what `improve` makes of it, or with a cover line changed. `equal` is judged as above over the miter of miter.py;
+of `differ` a solver has to find a model.
 
 It prints a line for each seed with a fault, and `N cases, N fine`. Status 0; 1 where there was a fault, or for other
 arguments; 2 without a C compiler."""

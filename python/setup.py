@@ -27,7 +27,7 @@ GLIBC = 'manylinux_2_34_x86_64'
 
 
 def library() -> Path:
-    """The library to be packed: what BATSOKEMI_LIBRARY names, that of a source distribution, or that of the checkout."""
+    """The library to be packed: the one that BATSOKEMI_LIBRARY names, a source distribution's, or the checkout's."""
     places = [HERE / 'batsokemi' / NAME, HERE.parent / 'prebuilt' / 'x86_64-linux' / NAME]
     if os.environ.get('BATSOKEMI_LIBRARY'):
         places = [Path(os.environ['BATSOKEMI_LIBRARY'])]
@@ -81,7 +81,6 @@ class WithLibrary(Distribution):
 
 setup(
     license='MIT OR Apache-2.0',
-    license_files=['LICENSE-MIT', 'LICENSE-APACHE'],
     distclass=WithLibrary,
     cmdclass={'build_py': BuildWithLibrary, 'sdist': SourceWithLibrary, 'bdist_wheel': TaggedWheel},
 )

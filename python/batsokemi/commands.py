@@ -210,7 +210,8 @@ def improve(
 
     Examples
     --------
-    >>> text, report = improve('.inputs a b\\n.outputs y\\n.names a b y\\n1- 1\\n-1 1\\n.names a b dead\\n11 1\\n.end\\n')
+    >>> dead = '.names a b dead\\n11 1\\n.end\\n'
+    >>> text, report = improve('.inputs a b\\n.outputs y\\n.names a b y\\n1- 1\\n-1 1\\n' + dead)
     >>> report.before, report.after, report.settled
     (2, 1, True)
     """
@@ -246,7 +247,7 @@ def equiv(first: Text, second: Text, *, conflicts: int | None = None, engine: En
     Returns
     -------
     Equivalence
-        With an LRAT log where they are, and with values of inputs and latches under which they differ where they aren't.
+        With an LRAT log where they are; else with values of inputs and latches under which they differ.
 
     Raises
     ------
@@ -257,8 +258,9 @@ def equiv(first: Text, second: Text, *, conflicts: int | None = None, engine: En
 
     Examples
     --------
-    >>> bool(equiv('.inputs a\\n.outputs y\\n.names a y\\n1 1\\n.end\\n', '.inputs a\\n.outputs y\\n.names a y\\n0 1\\n.end\\n'))
-    False
+    >>> copy = '.inputs a\\n.outputs y\\n.names a y\\n1 1\\n.end\\n'
+    >>> bool(equiv(copy, copy)), bool(equiv(copy, copy.replace('1 1', '0 1')))
+    (True, False)
     """
     front = bytes_of(first) + b'\n'
     if not re.search(rb'^[ \t]*\.end\b', front, re.M):

@@ -1,7 +1,7 @@
 """Pictures of chains and netlists by Graphviz.
 
-Inputs stand on top, each step or gate has the usual symbol of its operator, levels are ranks, and outputs stand at the bottom.
-A small circle where an edge enters a node marks a complemented operand. Dangling nodes are dashed.
+Inputs stand on top, each step or gate has the usual symbol of its operator, levels are ranks, and outputs stand at the
+bottom. A small circle where an edge enters a node marks a complemented operand. Dangling nodes are dashed.
 """
 
 from __future__ import annotations

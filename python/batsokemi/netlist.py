@@ -12,7 +12,8 @@ from dataclasses import dataclass, field
 from .errors import NetlistError
 from .texts import Text, lines_of, text_of
 
-LINE = re.compile(r'([^\s(),=]+)\s*=\s*([^\s(),=]+)\s*\(([^()=]*)\)|(INPUT|OUTPUT)\s*\(\s*([^\s(),=]+)\s*\)', re.IGNORECASE)
+NAME = r'([^\s(),=]+)'
+LINE = re.compile(rf'{NAME}\s*=\s*{NAME}\s*\(([^()=]*)\)|(INPUT|OUTPUT)\s*\(\s*{NAME}\s*\)', re.IGNORECASE)
 COVERS = {'AND': '1 1', 'NAND': '1 0', 'OR': '0 0', 'NOR': '0 1', 'NOT': '0 1', 'BUFF': '1 1', 'BUF': '1 1'}
 EXCLUSIVE = {'XOR': ('01 1', '10 1'), 'XNOR': ('00 1', '11 1')}
 # How many names a line of `.inputs`, `.outputs` and `.clock` has, as in what `improve` writes.

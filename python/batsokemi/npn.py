@@ -1,4 +1,4 @@
-"""NPN classes: functions that negations and permutations of the inputs and a negation of the output make of each other."""
+"""NPN classes: functions that negations and permutations of inputs and a negation of the output make of each other."""
 
 from __future__ import annotations
 

@@ -105,7 +105,7 @@ def fault_of(command: str, given: Mapping[str, Value]) -> tuple[str | None, str]
         if takes:
             return argument, f'{command}: {argument} takes {takes}, and not {word_of(value)}'
     if given.get('least_depth') and given.get('method') != 'fence':
-        return 'least_depth', f"{command}: least_depth goes with the method 'fence' alone, and not with {given['method']!r}"
+        return 'least_depth', f"{command}: least_depth goes with the method 'fence', and not with {given['method']!r}"
     if given.get('netlist_format') == 'bench':
         return 'basis', f"{command}: of a netlist in BENCH the basis is 'bench' or a part of it"
     return None, ''

@@ -115,8 +115,8 @@ class Undecided:
 
 @dataclass(frozen=True)
 class Report:
-    """The report of `improve`: the gates before and after, whether no listed window has a smaller implementation (`settled`),
-    and the undecided windows, which are excepted."""
+    """The report of `improve`: the gates before and after, whether no listed window has a smaller implementation
+    (`settled`), and the undecided windows, which are excepted."""
 
     before: int
     after: int

@@ -16,8 +16,8 @@ from .texts import lines_of, text_of
 class Tables:
     """Truth tables over inputs x1 .. xn, one for each output.
 
-    A row has a character for each row of the table, `0`, `1`, or `-` for a don't-care. Character t, from 0, is the value
-    where the inputs are the binary digits of t, x1 the most significant one.
+    A row has a character for each row of the table, `0`, `1`, or `-` for a don't-care. Character t, from 0, is the
+    value where the inputs are the binary digits of t, x1 the most significant one.
 
     Parameters
     ----------
@@ -49,7 +49,8 @@ class Tables:
             if other:
                 raise TablesError(f'{row!r} is no table: a character is 0, 1 or -, and not {min(other)!r}')
             if len(row) != 2**self.inputs:
-                raise TablesError(f'{row!r} has {len(row)} rows, and a table of {self.inputs} inputs has {2**self.inputs}')
+                rows = 2**self.inputs
+                raise TablesError(f'{row!r} has {len(row)} rows, and a table of {self.inputs} inputs has {rows}')
 
     def __str__(self) -> str:
         return ''.join(f'{line}\n' for line in (f'inputs {self.inputs}', *self.rows))
@@ -97,8 +98,8 @@ def hex_of(row: str, inputs: int) -> str:
 
 
 def row_of(number: int, inputs: int) -> str:
-    """The row of a table that is given as a number, as in kitty and ABC: bit t is the value where x1 is bit 0 of t, x2 bit 1
-    and so on.
+    """The row of a table that is given as a number, as in kitty and ABC: bit t is the value where x1 is bit 0 of t, x2
+    bit 1 and so on.
 
     >>> row_of(0xAA, 3)
     '00001111'

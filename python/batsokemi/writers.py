@@ -114,8 +114,8 @@ class Named:
 
 @dataclass(frozen=True)
 class Form:
-    """What a step is: its join (& | ^, or empty for a constant and one literal), whether the whole is complemented, and its
-    literals, each a place and whether it is complemented."""
+    """What a step is: its join (& | ^, or empty for a constant and one literal), whether the whole is complemented, and
+    its literals, each a place and whether it is complemented."""
 
     join: str
     whole: bool
@@ -168,7 +168,8 @@ KEYS = {'0001': 'AND', '0110': 'XOR', '0111': 'OR', '1000': 'NOR', '1001': 'XNOR
 
 
 def bench(named: Named) -> str:
-    lines = [f'# {named.name}', *(f'INPUT({name})' for name in named.inputs), *(f'OUTPUT({name})' for name in named.outputs)]
+    lines = [f'# {named.name}', *(f'INPUT({name})' for name in named.inputs)]
+    lines += [f'OUTPUT({name})' for name in named.outputs]
     opposite: dict[int, str] = {}
 
     def literal(place: int, complemented: bool) -> str:

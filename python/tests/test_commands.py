@@ -217,7 +217,8 @@ class Pickles(unittest.TestCase):
 
     def test_errors(self) -> None:
         usage = errors.UsageError(1, 'error: Usage', 'synth --max 17', 'max_steps', 'why')
-        for error in (usage, *(errors.error_of(*of) for of in ((2, b'error: BadRow 2'), (7, b'Memory'), (8, b'error: Undriven y')))):
+        others = ((2, b'error: BadRow 2'), (7, b'Memory'), (8, b'error: Undriven y'))
+        for error in (usage, *(errors.error_of(*other) for other in others)):
             other = pickle.loads(pickle.dumps(error))
             self.assertEqual((type(other), str(other), other.status), (type(error), str(error), error.status))
             self.assertEqual((other.name, other.fields), (error.name, error.fields))
@@ -226,10 +227,10 @@ class Pickles(unittest.TestCase):
 class Runs(unittest.TestCase):
     def test_the_same_answers(self) -> None:
         """The library and the program write the same bytes."""
-        asked = [
-            (['synth', '--method', method], b'inputs 3\n01101001\n00010111\n') for method in ('plain', 'ssv', 'select', 'fence')
-        ]
-        asked += [(['synth'], b''), (['nothing'], b''), (['improve'], ADDER.read_bytes()), (['gen', '--blocks', '9'], b'')]
+        tables = b'inputs 3\n01101001\n00010111\n'
+        asked = [(['synth', '--method', method], tables) for method in options.METHODS]
+        asked += [(['synth'], b''), (['nothing'], b'')]
+        asked += [(['improve'], ADDER.read_bytes()), (['gen', '--blocks', '9'], b'')]
         for words, data in asked:
             self.assertEqual(len({each.run(words, data) for each in engines()}), 1, words)
 

@@ -1,4 +1,4 @@
-"""The wheel, the source distribution and the editable installation, where a Python with setuptools and wheel is here."""
+"""The wheel, the source distribution and the editable installation, where a Python has setuptools and wheel."""
 
 from __future__ import annotations
 
@@ -48,7 +48,8 @@ def built(what: str, source: Path, folder: str) -> Path:
     """What the backend builds, as build and pip call it."""
     said = f'import sys; from setuptools import build_meta; print(build_meta.{what}(sys.argv[1]))'
     kept = {key: value for key, value in os.environ.items() if not key.startswith(('BATSOKEMI_', 'PYTHON'))}
-    done = subprocess.run([str(builder()), '-c', said, folder], cwd=source, capture_output=True, text=True, check=False, env=kept)
+    words = [str(builder()), '-c', said, folder]
+    done = subprocess.run(words, cwd=source, capture_output=True, text=True, check=False, env=kept)
     if done.returncode:
         raise AssertionError(done.stdout + done.stderr)
     return Path(folder, done.stdout.splitlines()[-1])
@@ -57,15 +58,16 @@ def built(what: str, source: Path, folder: str) -> Path:
 @unittest.skipUnless(engine.find_library() and builder(), 'no library is here, or no setuptools and wheel')
 class Packages(unittest.TestCase):
     def test_wheel(self) -> None:
-        """The wheel has the package, its types, the library and the licences, and what it has can be used; that of a source
-        distribution has the same."""
+        """The wheel has the package, its types, the library and the licences, and what it has can be used; that of a
+        source distribution has the same."""
         with tempfile.TemporaryDirectory() as folder:
             wheel = built('build_wheel', copied(folder), folder)
             self.assertEqual(wheel.name, f'batsokemi-{batsokemi.__version__}-{TAG}.whl')
             source = built('build_sdist', Path(folder, 'checkout', 'python'), folder)
             shutil.unpack_archive(source, Path(folder, 'source'))
             shutil.rmtree(Path(folder, 'checkout'))
-            again = built('build_wheel', Path(folder, 'source', f'batsokemi-{batsokemi.__version__}'), str(Path(folder, 'source')))
+            unpacked = Path(folder, 'source', f'batsokemi-{batsokemi.__version__}')
+            again = built('build_wheel', unpacked, str(unpacked.parent))
             names, others = (set(zipfile.ZipFile(path).namelist()) for path in (wheel, again))
             self.assertEqual((again.name, names), (wheel.name, others))
             wanted = {'py.typed', 'libbatsokemi.so', 'tools/export.py', '__main__.py'}

@@ -16,7 +16,7 @@ from batsokemi.errors import ChainError, ExportError, NetlistError, TablesError
 from .engines import EXAMPLES, TOP
 
 Chain, Step = chain.Chain, chain.Step
-DOCTESTS = ('chain', 'commands', 'drawing', 'netlist', 'npn', 'options', 'pool', 'table_formats', 'tables', 'texts', 'writers')
+DOCTESTS = 'chain commands drawing netlist npn options pool table_formats tables texts writers'.split()
 
 
 class Tables(unittest.TestCase):
@@ -46,8 +46,9 @@ class Tables(unittest.TestCase):
         """Each says what is wrong."""
         cases = (
             ('', '1, 2, 4, .. rows, and not 0'), ('012', 'and not 3'), ('01x0', "not 'x'"), ([], 'no table'),
-            (['0110', '01'], "'01' has 2 rows"), (6, 'only with inputs='), ('0x', 'no hex table'), ('0xg', 'no hex table'),
-            ('inputs 2\n0110\n01x0\n', "not 'x'"), ('inputs 2\n0110\n\n0001\n', "'' has 0 rows"), ('inputs x\n0\n', 'inputs N'),
+            (['0110', '01'], "'01' has 2 rows"), (6, 'only with inputs='), ('0x', 'no hex table'),
+            ('0xg', 'no hex table'), ('inputs 2\n0110\n01x0\n', "not 'x'"),
+            ('inputs 2\n0110\n\n0001\n', "'' has 0 rows"), ('inputs x\n0\n', 'inputs N'),
         )  # fmt: skip
         for given, why in cases:
             with self.assertRaisesRegex(TablesError, re.escape(why)):
@@ -56,7 +57,8 @@ class Tables(unittest.TestCase):
             tables.tables_of(256, 3)
         with self.assertRaisesRegex(TablesError, "no don't-cares"):
             tables.Tables(2, ('0--1',)).to_hex()
-        for pla, why in (('.i 1\n', '.i N and .o M'), ('.i 1\n.o 1\n2 3\n', 'no cube'), ('.i 9\n.o 1\n', '6 are the most')):
+        plas = (('.i 1\n', '.i N and .o M'), ('.i 1\n.o 1\n2 3\n', 'no cube'), ('.i 9\n.o 1\n', '6 are the most'))
+        for pla, why in plas:
             with self.assertRaisesRegex(TablesError, re.escape(why)):
                 batsokemi.read_tables(pla)
 
@@ -66,7 +68,8 @@ class Chains(unittest.TestCase):
         text = 'chain 2\nx3 x1 x2 0110\nx4 x3 x1 0001\nout x4\nout 1\n'
         one = Chain.read(text)
         self.assertEqual(one, Chain.read(text.encode(), 2))
-        self.assertEqual((str(one), len(one), [step.place for step in one], one[-1].operator), (text, 2, [3, 4], '0001'))
+        self.assertEqual((str(one), len(one), [step.place for step in one]), (text, 2, [3, 4]))
+        self.assertEqual(one[-1].operator, '0001')
         self.assertNotEqual(one, Chain.read(text.replace('0001', '0111')))
         self.assertEqual(len({one, Chain.read(text)}), 1)
         self.assertTrue(Chain.read('chain 0\nout 1\n'))
@@ -98,8 +101,8 @@ class Chains(unittest.TestCase):
 
 
 def read_back(text: str, form: str, inputs: int) -> list[str]:
-    """The tables of the outputs of a chain in Verilog, BENCH, or expressions, line by line, over x1, x2, ..: what a line
-    says becomes a term of Python."""
+    """The tables of the outputs of a chain in Verilog, BENCH, or expressions, line by line, over x1, x2, ..: what a
+    line says becomes a term of Python."""
     keys = {'AND': '{}&{}', 'OR': '{}|{}', 'XOR': '{}^{}', 'NAND': '~({}&{})', 'NOR': '~({}|{})', 'XNOR': '~({}^{})'}
     full = 2 ** 2**inputs - 1
     known = {f'x{i}': int(''.join(str(t >> inputs - i & 1) for t in range(2**inputs)), 2) for i in range(1, inputs + 1)}
@@ -139,10 +142,12 @@ class Exports(unittest.TestCase):
             '  wire x3 = \\wire  & \\a.b ;\n  assign \\reg  = x3;\nendmodule\n',
         )
         self.assertTrue({'wire', 'reg', 'input', 'module', 'logic', 'always_ff'} <= writers.WORDS)
-        for inputs, why in ((['a'], '1 names for 2 inputs'), (['a', 'a'], 'the same: a'), (['a', 'y1'], 'the same: y1')):
+        wrong = ((['a'], '1 names for 2 inputs'), (['a', 'a'], 'the same: a'), (['a', 'y1'], 'the same: y1'))
+        for inputs, why in wrong:
             with self.assertRaisesRegex(ExportError, why):
                 each.to_blif(inputs=inputs)
-        for form, name in (('blif', 'b c'), ('blif', 'b#'), ('blif', 'b\u00e9'), ('bench', 'b(0)'), ('expression', '1b')):
+        none = (('blif', 'b c'), ('blif', 'b#'), ('blif', 'b\u00e9'), ('bench', 'b(0)'), ('expression', '1b'))
+        for form, name in none:
             with self.assertRaisesRegex(ExportError, 'is no name'):
                 batsokemi.export(each, form, inputs=['a', name])
         with self.assertRaisesRegex(ExportError, 'without an input'):

@@ -62,7 +62,8 @@ def of_words(words: list[str], form: TableFormat | None, inputs: int | None) -> 
     if form is None:
         for word in words:
             if re.fullmatch('[01]+', word):
-                raise TablesError(f'{word} may be hex, and may be a table of {len(word)} rows: name --from hex or --from lines')
+                may = f'{word} may be hex, and may be a table of {len(word)} rows'
+                raise TablesError(f'{may}: name --from hex or --from lines')
             if not re.fullmatch('(0[xX])?[0-9a-fA-F]+', word):
                 raise TablesError(f'there is no file {word}, and it is no hex table')
     return within(question(words, 'lines' if form == 'lines' else 'hex', inputs))
