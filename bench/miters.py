@@ -15,7 +15,7 @@ import tempfile
 from collections import namedtuple
 
 import circuits
-from make_miter import Netlist, dimacs
+from miter import Netlist, dimacs
 from usage import usage
 
 # the learnt clauses that `equiv` may take: by default, and where told

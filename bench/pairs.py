@@ -6,7 +6,7 @@ The pairs are each NETLIST beside what PROGRAM's `improve` and two scripts of AB
 (10,000): an array multiplier, adders whose carries ripple and are chosen, random logic of three kinds, and logic of
 adders, multipliers and multiplexers, each beside what the scripts make of it. Each run has 60 seconds of
 processor time, so that other work on the machine doesn't end it. With --judge an LRAT checker (`CHECKER FORMULA LOG`) is
-asked of each log that refutes, on the formula that make_miter.py writes."""
+asked of each log that refutes, on the formula that miter.py writes."""
 
 import os
 import resource
@@ -17,7 +17,7 @@ import tempfile
 
 import circuits
 import netlists
-from make_miter import Netlist, dimacs
+from miter import Netlist, dimacs
 from miters import SCRIPTS, controlled, improved
 from usage import usage
 

@@ -1,31 +1,24 @@
 #!/usr/bin/env python3
-"""vectors.py [--write]: the test vectors of the encodings, computed again by tools/dimacs.
+"""vectors.py [--write]: the test vectors of the encodings, computed again by dimacs.py.
 
 `crates/enc_theory/specs/*Vectors.antt` have lines `vector N ON CARE BASIS SIZE VARS CLAUSES LITERALS CHECKSUM` (and
 `fenced`, with the fence after SIZE): a question, and the outline of its formula, which the prover compares with the
-definition of the encoding. This script computes each outline with the formulas of tools/dimacs, which follow
+definition of the encoding. This script computes each outline with the formulas of dimacs.py, which follow
 docs/FORMATS.md and share nothing with the definitions. It prints how many vectors of each file are the same, and each
 that isn't. With --write it puts the computed numbers into the files.
 
 Status 0; 1 where a vector differs, or for other arguments."""
-import importlib.machinery
-import importlib.util
 import os
 import re
 import sys
+
+sys.dont_write_bytecode = True
+import dimacs  # noqa: E402
 
 TOP = os.path.dirname(os.path.dirname(os.path.realpath(__file__)))
 FILES = {'Plain': 'plain', 'Ssv': 'ssv', 'Select': 'select', 'Fence': 'fence'}
 LIST = r'(\[\]|\((?:\d+ ∷ )*\[\]\))'
 LINE = re.compile(rf'\b(vector|fenced) (\d+) {LIST} {LIST} (\d+) (\d+)( {LIST})? (\d+ \d+ \d+ \d+)(?= *$)', re.MULTILINE)
-
-
-def tool(name):
-    """A script of tools/ as a module."""
-    loader = importlib.machinery.SourceFileLoader(name, f'{TOP}/tools/{name}')
-    module = importlib.util.module_from_spec(importlib.util.spec_from_loader(name, loader))
-    loader.exec_module(module)
-    return module
 
 
 def numbers(text):
@@ -41,8 +34,8 @@ def outline(formula):
     return len(formula.numbers), len(formula.clauses), sum(map(len, formula.clauses)), checksum
 
 
-def computed(dimacs, method, line):
-    """The line with the outline that tools/dimacs computes."""
+def computed(method, line):
+    """The line with the outline that dimacs.py computes."""
     rows = range(2 ** int(line[2]))
     tables = [
         ''.join(str(on >> t & 1) if care >> t & 1 else '-' for t in rows)
@@ -58,13 +51,12 @@ def main():
     if sys.argv[1:] not in ([], ['--write']):
         print(__doc__)
         return 0 if sys.argv[1:] == ['--help'] else 1
-    sys.dont_write_bytecode = True
-    dimacs, differ = tool('dimacs'), 0
+    differ = 0
     for name, method in FILES.items():
         path = f'{TOP}/crates/enc_theory/specs/{name}Vectors.antt'
         with open(path, encoding='utf-8') as file:
             text = file.read()
-        pairs = [(line[0], computed(dimacs, method, line)) for line in LINE.finditer(text)]
+        pairs = [(line[0], computed(method, line)) for line in LINE.finditer(text)]
         for old, new in pairs:
             if old != new:
                 differ += 1

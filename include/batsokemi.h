@@ -14,6 +14,9 @@
  *         fwrite(output, 1, answer.output_length, stdout);
  *
  * Link with libbatsokemi.so, or with libbatsokemi.a; both need the C library alone.
+ *
+ * Copyright (c) 2026 The Batsokemi developers; licensed under MIT or Apache-2.0, at your choice (LICENSE-MIT,
+ * LICENSE-APACHE).
  */
 #ifndef BATSOKEMI_H
 #define BATSOKEMI_H

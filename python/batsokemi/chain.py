@@ -1,16 +1,25 @@
-"""Boolean chains: read, evaluated, printed and exported."""
+"""Boolean chains: read, evaluated and printed; `writers` and `drawing` have their other formats."""
 
 from __future__ import annotations
 
 import re
-from collections.abc import Sequence
+import shutil
+import subprocess
+from collections.abc import Iterator, Sequence
 from dataclasses import dataclass
-from typing import Union
+from importlib import import_module
+from typing import Any, Union, overload
 
+from .errors import ChainError
 from .tables import Tables
+from .texts import Text, text_of
 
 # What an output is: a place from 1, or the constant False or True.
 Signal = Union[int, bool]
+
+HEAD = re.compile(r'^chain (\d{1,9})\r?$', re.MULTILINE)
+INPUTS = re.compile(r'^inputs (\d{1,9})\r?$', re.MULTILINE)
+STEP = re.compile(r'x(\d{1,9}) x(\d{1,9}) x(\d{1,9}) ([01]{4})')
 
 
 @dataclass(frozen=True)
@@ -30,10 +39,29 @@ class Step:
 
 
 @dataclass(frozen=True)
-class Chain:
+class Chain(Sequence[Step]):
     """A Boolean chain: the places 1 to `inputs` are its inputs, and the steps have the next places in order.
 
-    >>> chain = Chain.read('chain 1\\nx3 x1 x2 0110\\nout x3\\n', 2)
+    It is the sequence of its steps. Two chains are equal where all their fields are.
+
+    Parameters
+    ----------
+    inputs : int
+        The number of inputs.
+    steps : tuple of Step
+    outputs : tuple of int or bool
+        The place of each output, or a constant.
+
+    Raises
+    ------
+    ChainError
+        If the places aren't in order, an operand isn't a lower place, or an output is no place.
+
+    Examples
+    --------
+    >>> chain = Chain.read('chain 1\\nx3 x1 x2 0110\\nout x3\\n')
+    >>> [step.operator for step in chain]
+    ['0110']
     >>> chain.evaluate([True, False])
     (True,)
     >>> print(chain, end='')
@@ -46,22 +74,49 @@ class Chain:
     steps: tuple[Step, ...]
     outputs: tuple[Signal, ...]
 
+    def __post_init__(self) -> None:
+        for place, step in enumerate(self.steps, self.inputs + 1):
+            if step.place != place:
+                raise ChainError(f'the step {step} has the place x{place}')
+            if not (0 < step.first < place and 0 < step.second < place):
+                raise ChainError(f'an operand of the step {step} is no lower place')
+            if not re.fullmatch('[01]{4}', step.operator):
+                raise ChainError(f'{step.operator!r} is no operator, which has four values 0 or 1')
+        for out in self.outputs:
+            if not isinstance(out, bool) and not 0 < out <= self.inputs + len(self.steps):
+                raise ChainError(f'the output x{out} is no place of the chain')
+
     @classmethod
-    def read(cls, text: str, inputs: int) -> Chain:
-        """The chain of a text that begins with its line `chain`."""
-        head, *lines = text.split('\n')
-        count = int(head.removeprefix('chain '))
-        steps = []
-        for line in lines[:count]:
-            place, first, second, operator = line.split(' ')
-            steps.append(Step(int(place[1:]), int(first[1:]), int(second[1:]), operator))
-        outputs = []
-        for line in lines[count:]:
-            if not line.startswith('out '):
-                break
-            word = line.removeprefix('out ')
-            outputs.append(int(word[1:]) if word.startswith('x') else word == '1')
-        return cls(inputs, tuple(steps), tuple(outputs))
+    def read(cls, text: Text, inputs: int | None = None) -> Chain:
+        """The first chain of a text.
+
+        Parameters
+        ----------
+        text : str, bytes or path
+            A certificate of `synth`, the input of `agree`, or a chain alone.
+        inputs : int, optional
+            The number of inputs, where the text doesn't say it: by default what the first step's place says.
+
+        Returns
+        -------
+        Chain
+
+        Raises
+        ------
+        ChainError
+            If there is no chain, or it is cut off or malformed.
+        """
+        whole = text_of(text)
+        head = HEAD.search(whole)
+        if not head:
+            raise ChainError('there is no chain block, which begins with a line `chain R`')
+        steps, outs = chain_lines(whole, head.end() + 1, int(head[1]))
+        named = [found[1] for found in INPUTS.finditer(whole, 0, head.start())]
+        if inputs is None and named:
+            inputs = int(named[-1])
+        if inputs is None:
+            inputs = steps[0].place - 1 if steps else max([out for out in outs if not isinstance(out, bool)], default=0)
+        return cls(inputs, tuple(steps), tuple(outs))
 
     def __str__(self) -> str:
         outs = [f'out {out:d}' if isinstance(out, bool) else f'out x{out}' for out in self.outputs]
@@ -71,97 +126,141 @@ class Chain:
         """The number of steps."""
         return len(self.steps)
 
-    def evaluate(self, bits: Sequence[bool]) -> tuple[bool, ...]:
-        """The outputs under these values of the inputs x1, x2, ..."""
-        if len(bits) != self.inputs:
-            raise ValueError(f'{len(bits)} bits for {self.inputs} inputs')
-        values = [False, *map(bool, bits)]
+    def __bool__(self) -> bool:
+        """A chain is one also without steps."""
+        return True
+
+    def __iter__(self) -> Iterator[Step]:
+        return iter(self.steps)
+
+    @overload
+    def __getitem__(self, at: int) -> Step: ...
+    @overload
+    def __getitem__(self, at: slice) -> tuple[Step, ...]: ...
+    def __getitem__(self, at: int | slice) -> Step | tuple[Step, ...]:
+        return self.steps[at]
+
+    def evaluate(self, values: Sequence[Any]) -> tuple[Any, ...]:
+        """The outputs under these values of the inputs x1, x2, ...
+
+        Parameters
+        ----------
+        values : sequence of bool, or of arrays of numpy
+            A value for each input. Arrays have one shape, and each place of them is an assignment.
+
+        Returns
+        -------
+        tuple of bool, or of arrays of numpy
+
+        Raises
+        ------
+        ChainError
+            If there aren't as many values as inputs.
+
+        Examples
+        --------
+        >>> Chain(2, (Step(3, 1, 2, '0110'),), (3, True)).evaluate([1, 0])
+        (True, True)
+        """
+        if len(values) != self.inputs:
+            raise ChainError(f'{len(values)} values for {self.inputs} inputs')
+        if any(getattr(value, 'ndim', None) for value in values):
+            return self._evaluate_arrays(values)
+        known = [False, *map(bool, values)]
         for step in self.steps:
-            values.append(step.operator[2 * values[step.first] + values[step.second]] == '1')
-        return tuple(out if isinstance(out, bool) else values[out] for out in self.outputs)
+            known.append(step.operator[2 * known[step.first] + known[step.second]] == '1')
+        return tuple(out if isinstance(out, bool) else known[out] for out in self.outputs)
+
+    def _evaluate_arrays(self, values: Sequence[Any]) -> tuple[Any, ...]:
+        numpy = import_module('numpy')
+        known: list[Any] = [None, *numpy.broadcast_arrays(*(numpy.asarray(value, dtype=bool) for value in values))]
+        for step in self.steps:
+            cells = numpy.array([bit == '1' for bit in step.operator])
+            known.append(cells[2 * known[step.first].astype(numpy.intp) + known[step.second]])
+        shape = known[1].shape
+        return tuple(numpy.full(shape, out) if isinstance(out, bool) else known[out].copy() for out in self.outputs)
 
     def tables(self) -> Tables:
-        """The tables that it computes."""
-        rows = [self.evaluate([t >> (self.inputs - i) & 1 == 1 for i in range(1, self.inputs + 1)]) for t in range(2**self.inputs)]
+        """The tables that it computes.
+
+        >>> Chain(2, (Step(3, 1, 2, '0110'),), (3,)).tables().rows
+        ('0110',)
+        """
+        bits = [[t >> (self.inputs - i) & 1 for i in range(1, self.inputs + 1)] for t in range(2**self.inputs)]
+        rows = [self.evaluate(each) for each in bits]
         return Tables(self.inputs, tuple(''.join(str(int(bit)) for bit in column) for column in zip(*rows)))
 
     def levels(self) -> int:
-        """The greatest number of steps on a path from an input."""
+        """The greatest number of steps on a path from an input.
+
+        >>> Chain(2, (Step(3, 1, 2, '0110'), Step(4, 1, 3, '0001')), (4,)).levels()
+        2
+        """
         level = [0] * (self.inputs + 1)
         for step in self.steps:
             level.append(1 + max(level[step.first], level[step.second]))
         return max(level)
 
     def to_blif(self, name: str = 'chain', inputs: Sequence[str] = (), outputs: Sequence[str] = ()) -> str:
-        """The chain as a model in BLIF, with a table for each step."""
-        names, outs = self._names(name, inputs, outputs)
-        lines = [f'.model {name}', ' '.join(['.inputs', *names[1 : self.inputs + 1]]), ' '.join(['.outputs', *outs])]
-        for step in self.steps:
-            rows = [f'{row:02b} 1' for row in range(4) if step.operator[row] == '1']
-            operands = [names[step.first], names[step.second]]
-            if step.first == step.second:
-                operands.pop()
-                rows = [f'{bit} 1' for bit in (0, 1) if step.operator[3 * bit] == '1']
-            lines += [' '.join(['.names', *operands, names[step.place]]), *rows]
-        for out, signal in zip(outs, self.outputs):
-            if isinstance(signal, bool):
-                lines += [f'.names {out}', *['1'] * signal]
-            else:
-                lines += [f'.names {names[signal]} {out}', '1 1']
-        return '\n'.join([*lines, '.end', ''])
+        """The chain as a model in BLIF, with a table for each step; see `export`."""
+        from .writers import export
+
+        return export(self, 'blif', name=name, inputs=inputs, outputs=outputs)
+
+    def to_bench(self, name: str = 'chain', inputs: Sequence[str] = (), outputs: Sequence[str] = ()) -> str:
+        """The chain in ISCAS BENCH, with NOT where a step complements an operand; see `export`."""
+        from .writers import export
+
+        return export(self, 'bench', name=name, inputs=inputs, outputs=outputs)
 
     def to_verilog(self, name: str = 'chain', inputs: Sequence[str] = (), outputs: Sequence[str] = ()) -> str:
-        """The chain as a module in Verilog, with a wire for each step."""
-        names, outs = self._names(name, inputs, outputs)
-        ports = [f'input {word}' for word in names[1 : self.inputs + 1]] + [f'output {word}' for word in outs]
-        lines = [f'module {name}({", ".join(ports)});']
-        for step in self.steps:
-            lines.append(f'  wire {names[step.place]} = {expression(step, names)};')
-        for out, signal in zip(outs, self.outputs):
-            lines.append(f'  assign {out} = ' + (f"1'b{signal:d};" if isinstance(signal, bool) else f'{names[signal]};'))
-        return '\n'.join([*lines, 'endmodule', ''])
+        """The chain as a module in Verilog, with a wire for each step; see `export`."""
+        from .writers import export
 
-    def _names(self, name: str, inputs: Sequence[str], outputs: Sequence[str]) -> tuple[list[str], list[str]]:
-        """The name of each place, after one of none, and those of the outputs."""
-        ins = list(inputs) or [f'x{place}' for place in range(1, self.inputs + 1)]
-        outs = list(outputs) or [f'y{number}' for number in range(1, len(self.outputs) + 1)]
-        if len(ins) != self.inputs or len(outs) != len(self.outputs):
-            raise ValueError(f'{len(ins)} and {len(outs)} names for {self.inputs} inputs and {len(self.outputs)} outputs')
-        taken = {*ins, *outs}
-        if len(taken) < len(ins) + len(outs) or not all(re.fullmatch(r'[A-Za-z_]\w*', word, re.ASCII) for word in (name, *taken)):
-            raise ValueError('names are letters, digits and _, and each is another one')
-        names = ['', *ins]
-        for step in self.steps:
-            word = f'x{step.place}'
-            while word in taken:
-                word += '_'
-            taken.add(word)
-            names.append(word)
-        return names, outs
+        return export(self, 'verilog', name=name, inputs=inputs, outputs=outputs)
+
+    def to_expression(self, inputs: Sequence[str] = (), outputs: Sequence[str] = ()) -> str:
+        """Each output as an expression over the inputs, a line for each; see `export`."""
+        from .writers import export
+
+        return export(self, 'expression', inputs=inputs, outputs=outputs)
+
+    def to_dot(self, name: str | None = None, inputs: Sequence[str] = (), outputs: Sequence[str] = ()) -> str:
+        """The chain as Graphviz's text; see `draw`."""
+        from .drawing import draw
+
+        return draw(self, title=name, inputs=inputs, outputs=outputs)
+
+    def _repr_svg_(self) -> str | None:
+        """The picture in a notebook, where Graphviz is installed."""
+        if not shutil.which('dot'):
+            return None
+        ran = subprocess.run(['dot', '-Tsvg'], input=self.to_dot().encode(), capture_output=True, check=False)
+        return None if ran.returncode else ran.stdout.decode()
 
 
-# What each operator is in Verilog, of operands a and b.
-EXPRESSIONS = {
-    '0000': "1'b0",
-    '0001': 'a & b',
-    '0010': 'a & ~b',
-    '0011': 'a',
-    '0100': '~a & b',
-    '0101': 'b',
-    '0110': 'a ^ b',
-    '0111': 'a | b',
-    '1000': '~(a | b)',
-    '1001': '~(a ^ b)',
-    '1010': '~b',
-    '1011': 'a | ~b',
-    '1100': '~a',
-    '1101': '~a | b',
-    '1110': '~(a & b)',
-    '1111': "1'b1",
-}
-
-
-def expression(step: Step, names: Sequence[str]) -> str:
-    """A step in Verilog."""
-    operands = {'a': names[step.first], 'b': names[step.second]}
-    return re.sub(r'\b[ab]\b', lambda found: operands[found[0]], EXPRESSIONS[step.operator])
+def chain_lines(text: str, start: int, count: int) -> tuple[list[Step], list[Signal]]:
+    """The steps and the outputs behind the line `chain`."""
+    steps: list[Step] = []
+    outs: list[Signal] = []
+    while start < len(text):
+        end = text.find('\n', start)
+        line = text[start : end if end >= 0 else len(text)].removesuffix('\r')
+        start = end + 1 if end >= 0 else len(text)
+        if len(steps) < count:
+            found = STEP.fullmatch(line)
+            if not found:
+                raise ChainError(f'{line!r} is no step, and the chain has {count}')
+            steps.append(Step(int(found[1]), int(found[2]), int(found[3]), found[4]))
+            continue
+        if not line.startswith('out '):
+            break
+        if not re.fullmatch(r'out (0|1|x\d{1,9})', line):
+            raise ChainError(f'{line!r} is no output')
+        word = line.removeprefix('out ')
+        outs.append(int(word[1:]) if word.startswith('x') else word == '1')
+    if len(steps) < count:
+        raise ChainError(f'the chain is cut off: {len(steps)} steps of {count}')
+    if not outs:
+        raise ChainError('the chain has no outputs')
+    return steps, outs

@@ -2,22 +2,22 @@
 
 from __future__ import annotations
 
+import os
 import re
-from collections.abc import Iterable, Iterator, Sequence
+from collections.abc import Sequence
 from functools import lru_cache
 from typing import Literal, Union
 
+from .calls import answered
 from .chain import Chain
-from .engine import Engine, Run, usual_engine
-from .errors import error_of
+from .engine import Engine, usual_engine
 from .results import Agreement, Equivalence, Report, Result, Verdict, recheck_with
 from .tables import TablesLike, tables_of
+from .texts import Text, bytes_of
 
 # The name of a basis (`all`, `u2`, `bench`, `nand`), its operators with commas between them, or a list of them.
 Basis = Union[str, Sequence[str]]
-Method = Literal['plain', 'ssv', 'select', 'fence']
-Netlist = Union[str, bytes]
-Value = Union[str, int, bool, Sequence[str], None]
+Method = Literal['ssv', 'select', 'fence', 'plain']
 
 
 @lru_cache(maxsize=None)
@@ -33,59 +33,137 @@ def synth(
     basis: Basis | None = None,
     method: Method | None = None,
     conflicts: int | None = None,
-    max: int | None = None,
+    max_steps: int | None = None,
     least_depth: bool = False,
     engine: Engine | None = None,
 ) -> Result:
     """Finds a chain of the fewest steps for truth tables, and a certificate that no smaller chain exists.
 
-    tables       rows of `0`, `1` and `-` (row 0 first, x1 the most significant digit of its number), hex with 0x in front
-                 or numbers (as in kitty and ABC), one or several; or `Tables`, or the text of a file of tables
-    inputs       the number of inputs, 0 to 6, where the length of the tables doesn't determine it
-    basis        the operators that a step may have: `all` (default), `u2`, `bench`, `nand`, or some of 0000 .. 1111
-    method       how a size becomes a formula: `ssv` (default), `plain`, `select` or `fence`
-    conflicts    the number of learnt clauses after which a formula is left open (100,000)
-    max          the greatest size to try, 0 to 16 (16)
-    least_depth  also the fewest levels among the chains of the fewest steps; by `fence`
+    Parameters
+    ----------
+    tables : Tables, str, int, bytes, path, or sequence of str and int
+        Rows of `0`, `1` and `-` (row 0 first, x1 the most significant digit of its number), hex with 0x in front or
+        numbers (as in kitty and ABC), one or several; or the text of a file of tables, or its path.
+    inputs : int, optional
+        The number of inputs, 0 to 6, where the length of the tables doesn't determine it.
+    basis : str or sequence of str, optional
+        The operators that a step may have: `all` (default), `u2`, `bench`, `nand`, or some of 0000 .. 1111.
+    method : {'ssv', 'select', 'fence', 'plain'}, optional
+        How a size becomes a formula.
+    conflicts : int, optional
+        The number of learnt clauses after which a formula is left open (100,000).
+    max_steps : int, optional
+        The greatest size to try, 0 to 16 (16).
+    least_depth : bool
+        Whether to look also for the fewest levels among the chains of the fewest steps; by `fence`.
+    engine : Engine, optional
+        What runs the command (`default_engine()`).
 
+    Returns
+    -------
+    Result
+
+    Raises
+    ------
+    TablesError
+        If the tables aren't of their form.
+    UsageError
+        If an option has no such value, or two exclude each other.
+    LimitError, MemoryFault
+        If there are more than 6 inputs or 8 outputs, or no memory.
+
+    Examples
+    --------
     >>> result = synth('0110')
     >>> str(result.verdict), result.steps
     ('minimum 1', 1)
     """
     asked = tables_of(tables, inputs)
+    if least_depth and method is None:
+        method = 'fence'
     engine = engine or default_engine()
-    words = ['synth', *options(basis=basis, method=method, conflicts=conflicts, max=max)]
-    if least_depth:
-        words += options(method=None if method else 'fence', least_depth=True)
-    run = answered(engine, words, str(asked).encode())
+    run = answered(
+        engine,
+        'synth',
+        str(asked).encode(),
+        basis=basis,
+        method=method,
+        conflicts=conflicts,
+        max_steps=max_steps,
+        least_depth=least_depth or None,
+    )
     return Result.read(asked, run.output, engine)
 
 
-def recheck(certificate: bytes, *, engine: Engine | None = None) -> Verdict:
-    """Checks a certificate, of steps or of levels too, and returns its verdict; raises an error if it isn't valid.
+def recheck(certificate: Text, *, engine: Engine | None = None) -> Verdict:
+    """Checks a certificate, of steps or of levels too, and returns its verdict.
 
+    Parameters
+    ----------
+    certificate : str, bytes or path
+    engine : Engine, optional
+
+    Returns
+    -------
+    Verdict
+
+    Raises
+    ------
+    RefusedError
+        If the certificate isn't valid.
+    MalformedError, LimitError
+        If it isn't of its form, or longer than 256 MiB.
+
+    Examples
+    --------
     >>> str(recheck(synth('0110').certificate))
     'minimum 1'
     """
-    return recheck_with(engine or default_engine(), certificate)
+    return recheck_with(engine or default_engine(), bytes_of(certificate))
 
 
-def agree(tables: TablesLike, chain: Chain | str, *, inputs: int | None = None, engine: Engine | None = None) -> Agreement:
+def agree(
+    tables: TablesLike, chain: Chain | Text, *, inputs: int | None = None, engine: Engine | None = None
+) -> Agreement:
     """Whether a chain computes tables.
 
+    Parameters
+    ----------
+    tables : Tables, str, int, bytes, path, or sequence of str and int
+        As in `synth`.
+    chain : Chain, str, bytes or path
+        The chain, or a text with one.
+    inputs : int, optional
+        As in `synth`.
+    engine : Engine, optional
+
+    Returns
+    -------
+    Agreement
+
+    Raises
+    ------
+    TablesError, ChainError
+        If the tables or the chain aren't of their form.
+    MalformedError, LimitError
+        If the program refuses them.
+
+    Examples
+    --------
     >>> agree('0111', synth('0110').chain)
     Agreement(agrees=False, output=1, row=3)
     """
-    question = f'{tables_of(tables, inputs)}{chain}end\n'
-    run = answered(engine or default_engine(), ['agree'], question.encode())
+    asked = tables_of(tables, inputs)
+    given = chain if isinstance(chain, Chain) else Chain.read(chain, asked.inputs)
+    run = answered(engine or default_engine(), 'agree', f'{asked}{given}end\n'.encode())
     _, *numbers = run.output.split()
     return Agreement(not numbers, *map(int, numbers))
 
 
 def improve(
-    text: Netlist,
+    netlist: Text,
     *,
-    format: Literal['blif', 'bench'] | None = None,
+    netlist_format: Literal['blif', 'bench'] | None = None,
     basis: Basis | None = None,
     method: Method | None = None,
     cap: int | None = None,
@@ -95,74 +173,97 @@ def improve(
     effort: int | None = None,
     engine: Engine | None = None,
 ) -> tuple[str, Report]:
-    """Makes a netlist smaller by exact resynthesis of small windows: the new text, and a report.
+    """Makes a netlist smaller by exact resynthesis of small windows.
 
-    format     `blif` (default) or `bench`
-    basis      the operators that new gates may have
-    method     how the question of a window becomes a formula
-    cap        the most gates of a window, 0 to 8
-    rounds     the most rounds over all windows that may change something
-    conflicts  the number of learnt clauses after which a window is left open
-    observe    whether to use observability don't-cares too
-    effort     the number of rounds of moves and walks that may keep the size, 0 to 1,000
+    Parameters
+    ----------
+    netlist : str, bytes or path
+    netlist_format : {'blif', 'bench'}, optional
+        `blif`, or `bench` for the path of a file NAME.bench.
+    basis : str or sequence of str, optional
+        The operators that new gates may have.
+    method : {'ssv', 'select', 'fence', 'plain'}, optional
+        How the question of a window becomes a formula.
+    cap : int, optional
+        The most gates of a window, 0 to 8 (5).
+    rounds : int, optional
+        The most rounds over all windows that may change something (1,000).
+    conflicts : int, optional
+        The number of learnt clauses after which a window is left open (100,000).
+    observe : bool, optional
+        Whether to use observability don't-cares too.
+    effort : int, optional
+        The number of rounds of moves and walks that may keep the size, 0 to 1,000.
+    engine : Engine, optional
 
-    >>> text, report = improve('.inputs a b\\n.outputs y\\n.names a b y\\n1- 1\\n-1 1\\n.names a b dead\\n11 1\\n.end\\n')
+    Returns
+    -------
+    tuple of str and Report
+        The new text, and the report.
+
+    Raises
+    ------
+    UsageError
+        If an option has no such value, or two exclude each other.
+    MalformedError, LimitError, MemoryFault
+        If the netlist isn't of its form or beyond a limit, or there is no memory.
+
+    Examples
+    --------
+    >>> dead = '.names a b dead\\n11 1\\n.end\\n'
+    >>> text, report = improve('.inputs a b\\n.outputs y\\n.names a b y\\n1- 1\\n-1 1\\n' + dead)
     >>> report.before, report.after, report.settled
     (2, 1, True)
     """
-    asked = options(
+    if netlist_format is None and isinstance(netlist, os.PathLike) and os.fspath(netlist).endswith('.bench'):
+        netlist_format = 'bench'
+    run = answered(
+        engine or default_engine(),
+        'improve',
+        bytes_of(netlist),
         basis=basis,
         method=method,
         cap=cap,
         rounds=rounds,
         conflicts=conflicts,
-        format=format,
+        netlist_format=netlist_format,
         observe=observe,
         effort=effort,
     )
-    run = answered(engine or default_engine(), ['improve', *asked], bytes_of(text))
     return run.output.decode(), Report.read(run.notes.decode())
 
 
-def equiv(first: Netlist, second: Netlist, *, conflicts: int | None = None, engine: Engine | None = None) -> Equivalence:
-    """Whether two netlists in BLIF are equivalent: with an LRAT log where they are, and with values of inputs and latches
-    under which they differ where they aren't.
+def equiv(first: Text, second: Text, *, conflicts: int | None = None, engine: Engine | None = None) -> Equivalence:
+    """Whether two netlists in BLIF are equivalent.
 
-    >>> bool(equiv('.inputs a\\n.outputs y\\n.names a y\\n1 1\\n.end\\n', '.inputs a\\n.outputs y\\n.names a y\\n0 1\\n.end\\n'))
-    False
+    Parameters
+    ----------
+    first, second : str, bytes or path
+        The netlists, with one interface. `bench_to_blif` writes others in BLIF.
+    conflicts : int, optional
+        The number of conflicts without a result before the answer is `undecided` (100,000).
+    engine : Engine, optional
+
+    Returns
+    -------
+    Equivalence
+        With an LRAT log where they are; else with values of inputs and latches under which they differ.
+
+    Raises
+    ------
+    UsageError
+        If the option has no such value.
+    MalformedError, LimitError, RefusedError, MemoryFault
+        If a netlist isn't of its form or beyond a limit, the interfaces differ, or there is no memory.
+
+    Examples
+    --------
+    >>> copy = '.inputs a\\n.outputs y\\n.names a y\\n1 1\\n.end\\n'
+    >>> bool(equiv(copy, copy)), bool(equiv(copy, copy.replace('1 1', '0 1')))
+    (True, False)
     """
     front = bytes_of(first) + b'\n'
     if not re.search(rb'^[ \t]*\.end\b', front, re.M):
         front += b'.end\n'
-    run = answered(engine or default_engine(), ['equiv', *options(conflicts=conflicts)], front + bytes_of(second))
+    run = answered(engine or default_engine(), 'equiv', front + bytes_of(second), conflicts=conflicts)
     return Equivalence.read(run.output)
-
-
-def answered(engine: Engine, words: Sequence[str], data: bytes) -> Run:
-    """A run that has an answer; otherwise an error is raised. A difference is an answer with status 8 and an output."""
-    run = engine.run(words, data)
-    if run.status in (0, 4) or (run.status == 8 and run.output):
-        return run
-    raise error_of(run.status, run.notes, words)
-
-
-def options(**given: Value) -> Iterable[str]:
-    """The words of the options that aren't None."""
-    return list(option_words(given.items()))
-
-
-def option_words(items: Iterable[tuple[str, Value]]) -> Iterator[str]:
-    for name, value in items:
-        if value is None:
-            continue
-        yield '--' + name.replace('_', '-')
-        if isinstance(value, bool):
-            yield 'yes' if value else 'no'
-        elif isinstance(value, (str, int)):
-            yield str(value)
-        else:
-            yield ','.join(value)
-
-
-def bytes_of(text: Netlist) -> bytes:
-    return text.encode() if isinstance(text, str) else text

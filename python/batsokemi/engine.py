@@ -1,4 +1,4 @@
-"""Engines, which run a command: the library in this process, or, without a library, the program in a process of its own.
+"""Engines, which run a command: the library in this process, or without one the program in a process of its own.
 
 Both take the same words and bytes and give the same answers; the library is faster for short questions. Calls share no
 state, and the library releases Python's lock while it runs, so threads run in parallel.
@@ -54,8 +54,8 @@ class _Buffer:
 
 
 class _Buffers(threading.local):
-    """The buffers of a thread for outputs and notes, while no call uses them. A call from a signal handler inside another call
-    gets buffers of its own."""
+    """The buffers of a thread for outputs and notes, while no call uses them. A call from a signal handler inside another
+    call gets buffers of its own."""
 
     def __init__(self) -> None:
         self.kept: tuple[_Buffer, _Buffer] | None = None
@@ -122,7 +122,7 @@ class Process:
     def __init__(self, path: str | os.PathLike[str] | None = None) -> None:
         found = path or find_program()
         if found is None:
-            raise FileNotFoundError('neither libbatsokemi.so nor the program batsokemi is here; `tools/release` makes both')
+            raise FileNotFoundError('neither libbatsokemi.so nor the program is here; `tools/release` makes both')
         self.path = os.fspath(found)
 
     def run(self, words: Sequence[str], data: bytes = b'') -> Run:
@@ -162,7 +162,7 @@ def find_program() -> str | None:
 
 
 def usual_engine() -> Engine:
-    """The library if it is found and can be loaded, otherwise the program. A library that BATSOKEMI_LIBRARY names must load."""
+    """The library if it is found and can be loaded, otherwise the program. One that BATSOKEMI_LIBRARY names must load."""
     try:
         return Library()
     except OSError:

@@ -1,15 +1,21 @@
-"""The errors of calls without an answer: one class for each kind, with the name and the numbers of the error line."""
+"""The errors: of calls without an answer, and of values that aren't of their form."""
 
 from __future__ import annotations
-
-from collections.abc import Sequence
 
 
 class Error(Exception):
     """A call without an answer.
 
-    `name` is the first item of the error line, such as `BadRow`, and `fields` are the others, numbers as `int`. Without an
-    error line the name is that of the status.
+    Attributes
+    ----------
+    status : int
+        The status of the program.
+    line : str
+        The error line, or without one the name of the status.
+    name : str
+        The first item of the error line, such as `BadRow`.
+    fields : tuple of int or str
+        The other items, numbers as `int`.
     """
 
     def __init__(self, status: int, line: str) -> None:
@@ -24,18 +30,30 @@ class Error(Exception):
         return type(self), (self.status, self.line)
 
 
-class UsageError(Error):
-    """A usage error: an option has no such value, or two options exclude each other. `command` has the words."""
+class UsageError(Error, ValueError):
+    """A usage error: an option has no such value, or two options exclude each other.
 
-    def __init__(self, status: int, line: str, command: str = '') -> None:
+    Attributes
+    ----------
+    command : str
+        The words that the program refused.
+    option : str or None
+        The argument that is wrong, as the function names it, where the package finds it.
+    reason : str
+        What is wrong with it.
+    """
+
+    def __init__(self, status: int, line: str, command: str = '', option: str | None = None, reason: str = '') -> None:
         super().__init__(status, line)
         self.command = command
+        self.option = option
+        self.reason = reason or f'the program takes no command {command!r}'
 
     def __str__(self) -> str:
-        return f'the program takes no command {self.command!r}; docs/batsokemi.1 has the ranges of its options'
+        return self.reason
 
     def __reduce__(self) -> tuple[object, ...]:
-        return type(self), (self.status, self.line, self.command)
+        return type(self), (self.status, self.line, self.command, self.option, self.reason)
 
 
 class MalformedError(Error):
@@ -58,6 +76,26 @@ class RefusedError(Error):
     """The input is well formed, but what it claims doesn't hold."""
 
 
+class FormError(ValueError):
+    """A value isn't of its form; the program wasn't called."""
+
+
+class TablesError(FormError):
+    """Truth tables aren't of their form, or a format can't express them."""
+
+
+class ChainError(FormError):
+    """There is no chain, or it isn't of its form."""
+
+
+class NetlistError(FormError):
+    """A netlist isn't of its form."""
+
+
+class ExportError(FormError):
+    """A format can't express a chain, or a name in it."""
+
+
 # The class and the name of each status without an answer.
 KINDS: dict[int, tuple[type[Error], str]] = {
     1: (UsageError, 'Usage'),
@@ -70,9 +108,8 @@ KINDS: dict[int, tuple[type[Error], str]] = {
 }
 
 
-def error_of(status: int, notes: bytes, words: Sequence[str] = ()) -> Error:
+def error_of(status: int, notes: bytes) -> Error:
     """The error of a call with this status and these notes, whose last line is the error line."""
     kind, name = KINDS.get(status, (Error, f'Status{status}'))
     lines = notes.decode('utf-8', 'replace').splitlines()
-    line = lines[-1] if lines and lines[-1].startswith('error:') else name
-    return UsageError(status, line, ' '.join(words)) if kind is UsageError else kind(status, line)
+    return kind(status, lines[-1] if lines and lines[-1].startswith('error:') else name)

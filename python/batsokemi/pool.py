@@ -3,13 +3,14 @@
 from __future__ import annotations
 
 import os
-from collections.abc import Iterable, Iterator
-from concurrent.futures import ProcessPoolExecutor
+from collections.abc import Iterable, Iterator, Sized
 from functools import partial
+from importlib import import_module
 from typing import NamedTuple
 
-from .commands import Value, synth
-from .errors import Error
+from .commands import synth
+from .errors import Error, TablesError, UsageError
+from .options import Value
 from .tables import TablesLike
 
 # How many questions a process takes at once: enough that handing them out costs little, few enough that no process is
@@ -30,25 +31,70 @@ def tell(tables: TablesLike, keep: bool, options: dict[str, Value]) -> Told:
     try:
         result = synth(tables, **options)  # type: ignore[arg-type]
         return Told(str(result.recheck()), True, result.certificate if keep else None)
+    except TablesError as error:
+        return Told(f'error: BadTables {error}', False, None)
+    except UsageError:
+        raise
     except Error as error:
         return Told(f'error: {error}', False, None)
-    except ValueError:
-        return Told('error: BadTables', False, None)
 
 
 def tabulate(
-    functions: Iterable[TablesLike], *, processes: int | None = None, keep: bool = False, **options: Value
+    functions: Iterable[TablesLike],
+    *,
+    processes: int | None = None,
+    keep: bool = False,
+    progress: bool = False,
+    **options: Value,
 ) -> Iterator[Told]:
-    """The verdict of each function, in order, each certificate rechecked. `options` are those of `synth`; with `keep` the
-    certificates are returned too.
+    """The verdict of each function, in order, each certificate rechecked.
 
+    Parameters
+    ----------
+    functions : iterable
+        The tables of each question, as `synth` takes them.
+    processes : int, optional
+        The number of processes (the number of processors).
+    keep : bool
+        Whether to return the certificates too.
+    progress : bool
+        Whether to show a bar, where tqdm is installed.
+    **options
+        Those of `synth`.
+
+    Yields
+    ------
+    Told
+
+    Raises
+    ------
+    UsageError
+        If an option isn't one of `synth`, or has no such value.
+
+    Examples
+    --------
     >>> [told.verdict for told in tabulate(['0001', '0110', '0011'], processes=1)]
     ['minimum 1', 'minimum 1', 'minimum 0']
     """
     ask = partial(tell, keep=keep, options=options)
     count = processes or os.cpu_count() or 1
+    total = len(functions) if isinstance(functions, Sized) else None
     if count == 1:
-        yield from map(ask, functions)
+        yield from shown(map(ask, functions), total, progress)
         return
+    from concurrent.futures import ProcessPoolExecutor
+
     with ProcessPoolExecutor(count) as pool:
-        yield from pool.map(ask, functions, chunksize=CHUNK)
+        yield from shown(pool.map(ask, functions, chunksize=CHUNK), total, progress)
+
+
+def shown(each: Iterator[Told], total: int | None, progress: bool) -> Iterable[Told]:
+    """The same, with a bar of tqdm where it is wanted and installed."""
+    if not progress:
+        return each
+    try:
+        tqdm = import_module('tqdm').tqdm
+    except ImportError:
+        return each
+    bar: Iterable[Told] = tqdm(each, total=total, unit='question')
+    return bar

@@ -6,9 +6,10 @@ import re
 from dataclasses import dataclass, field
 from typing import Literal
 
+from .calls import answered
 from .chain import Chain
 from .engine import Engine
-from .errors import RefusedError, error_of
+from .errors import RefusedError
 from .tables import Tables
 
 VerdictKind = Literal['minimum', 'none', 'bounded', 'open', 'levels', 'levels-bounded']
@@ -46,10 +47,7 @@ class Verdict:
 
 def recheck_with(engine: Engine, certificate: bytes) -> Verdict:
     """The verdict of a certificate if it is valid; otherwise an error."""
-    words = ['recheck', '--depth', 'yes'] if is_of_depth(certificate) else ['recheck']
-    run = engine.run(words, certificate)
-    if run.status:
-        raise error_of(run.status, run.notes)
+    run = answered(engine, 'recheck', certificate, depth=True if is_of_depth(certificate) else None)
     return Verdict.read(run.output.decode())
 
 
@@ -85,13 +83,20 @@ class Result:
 
     @property
     def steps(self) -> int | None:
-        """How many steps the chain has."""
+        """The number of steps of the chain."""
         return None if self.chain is None else len(self.chain)
 
     def recheck(self) -> Verdict:
-        """Checks the certificate independently of the search, and returns its verdict.
+        """Checks the certificate independently of the search.
 
-        Raises an error if the certificate isn't valid, is about other tables, or has a verdict other than `verdict`.
+        Returns
+        -------
+        Verdict
+
+        Raises
+        ------
+        RefusedError
+            If the certificate isn't valid, is about other tables, or has a verdict other than `verdict`.
         """
         verdict = recheck_with(self.engine, self.certificate)
         if verdict != self.verdict or not self.certificate.startswith(f'chains 1\n{self.tables}basis '.encode()):
@@ -110,8 +115,8 @@ class Undecided:
 
 @dataclass(frozen=True)
 class Report:
-    """The report of `improve`: the gates before and after, whether no listed window has a smaller implementation (`settled`),
-    and the undecided windows, which are excepted."""
+    """The report of `improve`: the gates before and after, whether no listed window has a smaller implementation
+    (`settled`), and the undecided windows, which are excepted."""
 
     before: int
     after: int

@@ -1,5 +1,5 @@
 #!/usr/bin/env python3
-"""dimacs CERTIFICATE --size R [--part P] [--cnf FILE] [--lrat FILE] [--list]
+"""dimacs.py CERTIFICATE --size R [--part P] [--cnf FILE] [--lrat FILE] [--list]
 
 Writes the formula of one size of a certificate in DIMACS, and the log of that size as plain LRAT, for any solver
 and any LRAT checker.
@@ -12,12 +12,12 @@ and any LRAT checker.
   --list        only lists the subproblems of the certificate, one per line
 
 The formula is built from the tables, the basis, the method and the size as docs/FORMATS.md describes it, without
-the proved program. So a checker that accepts both files refutes this description of the formula too, not only the
-program's. The script itself isn't proved.
+the proved program: a second opinion. So a checker that accepts both files, such as lrat.c, refutes this description of
+the formula too, not only the program's. The script itself isn't proved.
 
     batsokemi synth < full-adder.tables > adder.chains
-    tools/dimacs adder.chains --size 4 --cnf adder.cnf --lrat adder.lrat
-    lrat-check adder.cnf adder.lrat
+    bench/dimacs.py adder.chains --size 4 --cnf adder.cnf --lrat adder.lrat
+    cc -O2 -o lrat bench/lrat.c && ./lrat adder.cnf adder.lrat
 
 Status 0; 1 for a usage error; 2 where the certificate is malformed or has no such subproblem."""
 import itertools
@@ -349,7 +349,7 @@ class Select(Formula):
             for u in itertools.product(range(1, i), repeat=2):
                 if self.basis.swap and u[0] > u[1]:
                     continue
-                for operand in dict.fromkeys(u):
+                for operand in sorted(set(u)):
                     chosen = self.lit(0, 'a', i, u[0]), self.lit(0, 'b', i, u[1])
                     self.add(*chosen, self.lit(0, 'a', k, operand), self.lit(0, 'b', k, i))
                     if not self.basis.swap:

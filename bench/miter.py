@@ -1,18 +1,35 @@
 #!/usr/bin/env python3
-"""The miter of two BLIF netlists in DIMACS, as `equiv` numbers it (docs/FORMATS.md, "Netlists compared").
+"""miter.py FIRST.blif SECOND.blif [--log ANSWER] [--cnf FILE] [--lrat FILE]
 
-    bench/make_miter.py FIRST.blif SECOND.blif > miter.cnf
+Writes the miter of two BLIF netlists in DIMACS, with the numbering of `equiv`, for any solver; and the log of an answer
+of `equiv` as plain LRAT, for any LRAT checker.
 
-Both have to be well formed. A table of at most two different inputs is one gate or none; a wider one is a gate for
-each literal but one, as in docs/FORMATS.md ("What a netlist costs"). The gates are numbered in the order in which a
-depth-first visit of the tables, in the order of the text, finishes them. This second writer shares nothing with the
-program, so any LRAT checker can check a log of `equiv` against the formula of this script.
-"""
+  FIRST.blif SECOND.blif   the netlists, with one interface
+  --log ANSWER             the answer of `batsokemi equiv`, or - for standard input
+  --cnf FILE               file for the formula (standard output where neither file is given)
+  --lrat FILE              file for the log; that of `undecided` refutes nothing, and is written with a warning
+
+The formula is built from the netlists as docs/FORMATS.md ("Netlists compared") describes it, without the proved
+program: a second opinion. So a checker that accepts both files shows that the netlists are equivalent, whoever wrote the log. The
+script itself isn't proved, and the netlists have to be well formed.
+
+    batsokemi equiv a.blif b.blif > ab.answer
+    bench/miter.py a.blif b.blif --log ab.answer --cnf ab.cnf --lrat ab.lrat
+    cc -O2 -o lrat bench/lrat.c && ./lrat ab.cnf ab.lrat
+
+A table that names at most two inputs is one gate or none; a wider one is a gate for each literal but one ("What a
+netlist costs"). The gates are numbered in the order in which a depth-first visit of the tables, in the order of the text,
+finishes them.
+
+Status 0; 1 for a usage error; 2 where a file can't be read or is malformed, or the answer has no log."""
 
 import itertools
+import signal
 import sys
 
-from usage import usage
+
+class Fault(Exception):
+    """A file isn't of its form."""
 
 
 def logical_lines(text):
@@ -55,7 +72,7 @@ class Netlist:
         elif words[0] == ".names":
             self.tables.append((words[1:-1], words[-1], [], [True]))
         elif words[0][0] == ".":
-            sys.exit(f"not supported: {words[0]}")
+            raise Fault(f"{words[0]} is not supported")
         else:
             _, _, rows, on = self.tables[-1]
             on[0] = words[-1] == "1"
@@ -78,7 +95,7 @@ class Builder:
         return self.sources + len(self.gates)
 
     def small(self, operands, cells):
-        """A table of at most two different inputs, by its values: a constant, a copy, NOT of one input, or a gate."""
+        """A table that names at most two inputs, by its values: a constant, a copy, NOT of one input, or a gate."""
         if all(cells) or not any(cells):
             return cells[0]
         if len(operands) == 2 and cells[:2] == cells[2:]:
@@ -101,7 +118,7 @@ class Builder:
         return left, turned
 
     def wide(self, operands, cubes, on):
-        """A table of more inputs: each cube ANDs its literals, and the cubes are ORed."""
+        """A wider table: each cube ANDs its literals, and the cubes are ORed."""
         if not cubes or any(set(cube) == {"-"} for cube in cubes):
             return on and bool(cubes)
         before = len(self.gates)
@@ -123,9 +140,9 @@ def signals(netlist):
     builder = Builder(len(netlist.sources))
 
     def finish(table):
-        names = list(dict.fromkeys(table[0]))
-        if len(names) > 2:
+        if len(table[0]) > 2:
             return builder.wide([signal[name] for name in table[0]], table[2], table[3][0])
+        names = list(dict.fromkeys(table[0]))
         rows = itertools.product((False, True), repeat=len(names))
         cells = [netlist.value(table, [row[names.index(name)] for name in table[0]]) for row in rows]
         return builder.small([signal[name] for name in names], cells)
@@ -175,7 +192,7 @@ def gate_rows(gates, sources, variable):
 def miter(first, second):
     """The number of variables, and the clauses."""
     if first.interface != second.interface:
-        sys.exit("the interfaces differ")
+        raise Fault("the interfaces differ")
     n = len(first.sources)
     gates, sinks = signals(first)
     others, behind = signals(second)
@@ -197,12 +214,90 @@ def dimacs(first, second):
     return f"p cnf {variables} {len(clauses)}\n" + "".join(" ".join(map(str, clause + [0])) + "\n" for clause in clauses)
 
 
+def empty(formula):
+    """The log of a formula that has the empty clause: one line that names it. An answer of `equiv` needs none."""
+    _, *lines = formula.splitlines()
+    return [f"{len(lines) + 1} 0 {at} 0" for at, line in enumerate(lines, 1) if line == "0"][:1]
+
+
+# ---- the words
+
+
+def words_of(words):
+    """The files, and the options by name."""
+    files, options = [], {}
+    left = list(words)
+    while left:
+        word = left.pop(0)
+        if word in ("--log", "--cnf", "--lrat"):
+            if not left or word in options:
+                return None
+            options[word] = left.pop(0)
+        elif word.startswith("--"):
+            return None
+        else:
+            files.append(word)
+    if len(files) != 2 or ("--lrat" in options) != ("--log" in options):
+        return None
+    return files, options
+
+
+def text_of(path):
+    if path == "-":
+        return sys.stdin.buffer.read().decode("latin-1")
+    with open(path, encoding="latin-1") as file:
+        return file.read()
+
+
+def netlist_of(path):
+    try:
+        return Netlist(text_of(path))
+    except (KeyError, IndexError, ValueError) as fault:
+        raise Fault(f"{path}: not a netlist that this script reads ({fault!r})") from fault
+
+
+def log_of(answer, formula):
+    """The lines of the log in an answer."""
+    verdict, _, rest = answer.partition("\n")
+    if verdict not in ("equal", "undecided") or not rest.endswith("done\n"):
+        raise Fault(f"the answer has no log: it begins with {verdict[:40]!r}")
+    if verdict == "undecided":
+        print("miter.py: the answer is undecided, so its log refutes nothing", file=sys.stderr)
+    return rest.removesuffix("done\n") or "".join(f"{line}\n" for line in empty(formula))
+
+
+def put(path, text):
+    if path is None:
+        sys.stdout.write(text)
+        return
+    with open(path, "w", encoding="ascii") as file:
+        file.write(text)
+
+
 def main():
-    if len(sys.argv) != 3:
-        sys.exit(__doc__.strip())
-    sys.stdout.write(dimacs(*(Netlist(open(name, encoding="latin-1").read()) for name in sys.argv[1:3])))
+    if sys.argv[1:] in (["--help"], ["-h"]):
+        print(__doc__)
+        return 0
+    said = words_of(sys.argv[1:])
+    if said is None:
+        print("miter.py: two netlists, and --lrat only with --log; --help says more", file=sys.stderr)
+        return 1
+    (first, second), options = said
+    try:
+        formula = dimacs(netlist_of(first), netlist_of(second))
+        if "--lrat" in options:
+            put(options["--lrat"], log_of(text_of(options["--log"]), formula))
+        if "--cnf" in options or "--lrat" not in options:
+            put(options.get("--cnf"), formula)
+    except OSError as fault:
+        print(f"miter.py: {fault.filename}: {fault.strerror}", file=sys.stderr)
+        return 2
+    except Fault as fault:
+        print(f"miter.py: {fault}", file=sys.stderr)
+        return 2
+    return 0
 
 
 if __name__ == "__main__":
-    usage(__doc__, 2)
-    main()
+    signal.signal(signal.SIGPIPE, signal.SIG_DFL)  # who reads may stop, as `head` does
+    sys.exit(main())

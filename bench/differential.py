@@ -1,5 +1,5 @@
 #!/usr/bin/env python3
-"""differential PROGRAM [--count N] [--seed S]: random netlists through `improve` and `equiv`, judged by others.
+"""differential.py PROGRAM [--count N] [--seed S]: random netlists through `improve` and `equiv`, judged by others.
 
 N netlists (200) with the seeds S, S + 1 and so on (1): BLIF with 3 to 12 inputs, up to 40 tables of 1 to 4 inputs, and
 latches in some. Of each it is asked that
