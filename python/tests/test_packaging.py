@@ -34,10 +34,7 @@ def builder() -> str | None:
 def copied(folder: str) -> Path:
     """A copy of what the package is built from, so that the checkout stays as it is."""
     top = Path(folder, 'checkout')
-    (top / 'docs').mkdir(parents=True)
     (top / 'prebuilt' / 'x86_64-linux').mkdir(parents=True)
-    for name in ('LICENSE-MIT', 'LICENSE-APACHE', 'docs/PYTHON.md'):
-        shutil.copyfile(TOP / name, top / name)
     shutil.copyfile(engine.find_library() or '', top / 'prebuilt' / 'x86_64-linux' / 'libbatsokemi.so')
     left_out = shutil.ignore_patterns('tests', '__pycache__', 'build', 'dist', '*.egg-info')
     shutil.copytree(TOP / 'python', top / 'python', symlinks=True, ignore=left_out)
