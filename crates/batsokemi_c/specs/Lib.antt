@@ -1,1 +1,4 @@
 pub mod Called
+pub mod CallLaws
+pub mod Answering
+pub mod AnsweringLaws

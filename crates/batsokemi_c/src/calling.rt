@@ -1,5 +1,6 @@
 //! A run of the program in memory.
-ghost use Rattle.batsokemi_c.specs.Called.{IsCalled};
+ghost use Rattle.std.specs.Prelude.{◌≡◌};
+ghost use Rattle.batsokemi_c.specs.Called.{empty_sink, IsCalled};
 
 use crate::input::Input;
 use crate::words::words_of;
@@ -7,7 +8,9 @@ use chain_app::{Status, run};
 use port_io::MemorySink;
 use std::alloc::Global;
 
-/// Runs the program, unless memory runs out while the command line is split into words.
+/// Runs the program over two empty sinks, unless memory runs out while the command line is split into words. If a sink
+/// failed, for want of memory, the status says so.
+#[tactic(auto, using(crate::specs::CallLaws::calling))]
 pub fn call(
     alloc: Global,
     command: &[u8],
@@ -15,11 +18,20 @@ pub fn call(
     out: &mut MemorySink,
     note: &mut MemorySink,
 ) -> Status
-    ensures { IsCalled command.now input.now out.old out.new note.old note.new result }
+    requires out { out.old ≡ empty_sink }
+    requires note { note.old ≡ empty_sink }
+    ensures { IsCalled command.now input.now out.new.written note.new.written result }
 {
     let Ok(words) = words_of(alloc, command) else {
         return Status::Memory;
     };
     let mut source = Input::new(input);
-    run(alloc, &words, &mut source, out, note)
+    let ended = run(alloc, &words, &mut source, out, note);
+    if out.faults() > 0 {
+        return Status::WriteFault;
+    }
+    if note.faults() > 0 {
+        return Status::WriteFault;
+    }
+    ended
 }

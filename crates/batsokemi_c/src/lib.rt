@@ -16,6 +16,7 @@ ghost use Rattle.batsokemi_c.specs.Called.{IsAnswered};
 mod answer;
 mod calling;
 mod input;
+pub mod laws;
 mod room;
 mod words;
 

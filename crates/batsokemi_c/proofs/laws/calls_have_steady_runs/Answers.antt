@@ -1,0 +1,5 @@
+use Rattle.batsokemi_c.specs.AnsweringLaws.{answered_steady}
+use Rattle.batsokemi_c.proofs.laws.calls_have_steady_runs.Goals as goal
+
+pub returns : goal.returns
+returns c = answered_steady
