@@ -14,7 +14,7 @@ use restructure::restructured;
 use resyn_core::{Resynthesized, resynthesize};
 use sat_solve::Solver;
 use settings::ImproveSettings;
-use settings::thresholds::{
+use thresholds::{
     LEAST_MOVED_GATES, LEAST_ROUNDS_OF_MOVES, MOST_GATES_OF_SMALL_NET, MOST_GATES_OF_TURNS,
     MOST_TURNS,
 };

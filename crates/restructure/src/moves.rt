@@ -4,7 +4,7 @@ ghost use Rattle.std.specs.Prelude.{IfOk};
 ghost use Rattle.resub_core.specs.Smaller.{IsNoLarger};
 
 use resub_core::{resub, resub_level};
-use settings::thresholds::MOST_NEW_GATES;
+use thresholds::MOST_NEW_GATES;
 use share_core::share;
 use std::alloc::{AllocError, Global};
 use xag_core::Xag;

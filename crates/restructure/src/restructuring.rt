@@ -10,7 +10,7 @@ use move_check::judged;
 use net_core::Net;
 use op_basis::Basis;
 use sat_solve::Solver;
-use settings::thresholds::{MOST_GATES_MOVED_TWICE, MOVE_CONFLICTS};
+use thresholds::{MOST_GATES_MOVED_TWICE, MOVE_CONFLICTS};
 use std::alloc::{AllocError, Global};
 use xag_core::{Xag, from_net, into_net};
 

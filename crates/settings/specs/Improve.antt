@@ -3,7 +3,7 @@ use Rattle.std.specs.Prelude.{◌≤◌, ◌<◌, false}
 use Rattle.op_basis.specs.Text.{all_set}
 use Rattle.settings.specs.declared.methods.Method.TheVariants.{Ssv}
 use Rattle.sat_theory.specs.Limits.{most_conflicts}
-use Rattle.settings.specs.Limits.{default_conflicts, most_gates_of_window, most_rounds, most_effort}
+use Rattle.settings.specs.Limits.{default_conflicts, most_gates_of_window, most_rounds, most_effort, most_seed}
 use Rattle.settings.specs.declared.improve.ImproveSettings.{ImproveSettings}
 
 -- `s.basis` isn't empty, and the numbers are in their ranges
@@ -15,6 +15,7 @@ pub record IsInRange (s : ImproveSettings) : Type 0 where
   pub conflicts_from : 1 ≤ s.conflicts
   pub conflicts_to : s.conflicts ≤ most_conflicts
   pub effort_to : s.effort ≤ most_effort
+  pub seed_to : s.seed ≤ most_seed
 
 -- the defaults
 abbrev pub defaults : ImproveSettings
@@ -26,4 +27,5 @@ defaults = record {
   conflicts = default_conflicts;
   observe = false;
   effort = 0;
+  seed = 1;
 }

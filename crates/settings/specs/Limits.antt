@@ -13,9 +13,17 @@ most_gates_of_window = 8
 abbrev pub most_rounds : ℕ
 most_rounds = 100000
 
--- the most rounds of size-preserving moves
+-- the most effort: a factor for the work of the walks
 abbrev pub most_effort : ℕ
 most_effort = 1000
+
+-- the effort of exact synthesis where none is asked for
+abbrev pub default_effort : ℕ
+default_effort = 1
+
+-- the greatest seed of random choices
+abbrev pub most_seed : ℕ
+most_seed = 1000000
 
 -- the most blocks of a generated netlist, so that it is within the limits of netlists
 abbrev pub most_blocks : ℕ

@@ -24,14 +24,16 @@ pub struct ImproveSettings {
     /// Whether observability don't-cares (ODC) are used: rows on which no output depends on the window's
     /// outputs.
     pub observe: bool,
-    /// How many rounds of size-preserving moves a netlist goes through before windows are resynthesized, from 0 to
-    /// 1,000. A netlist of at most 1,000 gates goes through at least three, except with 0 if it has fewer than 6.
+    /// How much work a netlist is walked before windows are resynthesized, from 0 to 1,000: a factor for what is added
+    /// to the work that each netlist gets.
     pub effort: u32,
+    /// The seed of the random choices of walks, from 0 to 1,000,000.
+    pub seed: u32,
 }
 
 impl ImproveSettings {
     /// The defaults: all operators, the method `ssv`, windows of at most 5 gates, 1,000 rounds, a limit of
-    /// 100,000 conflicts, no observability don't-cares, and an effort of 0.
+    /// 100,000 conflicts, no observability don't-cares, an effort of 0, and the seed 1.
     pub fn defaults() -> ImproveSettings
         ensures value { result ≡ defaults }
         ensures range { IsInRange result }
@@ -44,6 +46,7 @@ impl ImproveSettings {
             conflicts: DEFAULT_CONFLICTS,
             observe: false,
             effort: 0,
+            seed: 1,
         }
     }
 }

@@ -9,8 +9,14 @@ pub const MOST_GATES_OF_WINDOW: u32 = 8;
 /// The most rounds over all windows: each that changes something removes a gate, and a netlist has no more gates.
 pub const MOST_ROUNDS: u32 = 100_000;
 
-/// The most rounds of size-preserving moves.
+/// The most effort: a factor for the work of the walks.
 pub const MOST_EFFORT: u32 = 1000;
+
+/// The effort of exact synthesis where none is asked for.
+pub const DEFAULT_EFFORT: u32 = 1;
+
+/// The greatest seed of random choices.
+pub const MOST_SEED: u32 = 1_000_000;
 
 /// The most blocks of a generated netlist, so that it is within the limits of netlists.
 pub const MOST_BLOCKS: u32 = 10_000;

@@ -2,7 +2,7 @@
 
 use crate::kind::TreeKind;
 use rows::{bit_at, put};
-use settings::thresholds::{MOST_ROW_LITERALS, MOST_VISITED_OF_TREE};
+use thresholds::{MOST_ROW_LITERALS, MOST_VISITED_OF_TREE};
 use std::alloc::{AllocError, Global};
 use xag_core::{Context, Xag, XagGate};
 

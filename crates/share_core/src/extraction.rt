@@ -4,7 +4,7 @@
 use crate::collecting::LiteralRow;
 use crate::pairs::{LiteralPair, PairCounts};
 use rows::{Random, at, put};
-use settings::thresholds::MOST_PAIRS;
+use thresholds::MOST_PAIRS;
 use std::alloc::{AllocError, Global};
 use xag_core::{NONE, Substitution, XagGate};
 

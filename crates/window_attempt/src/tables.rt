@@ -5,7 +5,7 @@ ghost use Rattle.improve_theory.specs.Leading.{IsReplacement};
 
 use merge_core::functional_reduction;
 use net_core::{Net, remove_dangling};
-use settings::thresholds::MOST_UNHASHED_GATES;
+use thresholds::MOST_UNHASHED_GATES;
 use std::alloc::{AllocError, Global};
 
 /// The net in which gates with the same value under every assignment are merged, without dangling gates.

@@ -3,7 +3,7 @@
 
 use crate::xag::{Xag, mark_sinks};
 use rows::{at, bit_at, put, raise};
-use settings::thresholds::MOST_GATES_OF_MFFC;
+use thresholds::MOST_GATES_OF_MFFC;
 use std::alloc::{AllocError, Global};
 
 /// The fanouts of all nodes in one row, those of a node from its start to the start of the next; the

@@ -1,5 +1,6 @@
-//! The numbers by which improvement chooses what to try, and for how long. They bound time and memory; no contract
-//! depends on them.
+//! The numbers by which improvement of netlists chooses what to try, and for how long. They bound time and memory; no
+//! contract depends on them.
+#![tactic(auto)]
 
 // ---- moves
 
