@@ -14,11 +14,11 @@ use restructure::restructured;
 use resyn_core::{Resynthesized, resynthesize};
 use sat_solve::Solver;
 use settings::ImproveSettings;
+use std::alloc::{AllocError, Global};
 use thresholds::{
     LEAST_MOVED_GATES, LEAST_ROUNDS_OF_MOVES, MOST_GATES_OF_SMALL_NET, MOST_GATES_OF_TURNS,
     MOST_TURNS,
 };
-use std::alloc::{AllocError, Global};
 use walk_core::walked;
 use window_attempt::{WindowAttempts, many_merged};
 

@@ -4,9 +4,9 @@ ghost use Rattle.std.specs.Prelude.{IfOk};
 ghost use Rattle.resub_core.specs.Smaller.{IsNoLarger};
 
 use resub_core::{resub, resub_level};
-use thresholds::MOST_NEW_GATES;
 use share_core::share;
 use std::alloc::{AllocError, Global};
+use thresholds::MOST_NEW_GATES;
 use xag_core::Xag;
 
 /// The graph after sharing and resubstitution, as long as these leave fewer gates.

@@ -10,8 +10,8 @@ use move_check::judged;
 use net_core::Net;
 use op_basis::Basis;
 use sat_solve::Solver;
-use thresholds::{MOST_GATES_MOVED_TWICE, MOVE_CONFLICTS};
 use std::alloc::{AllocError, Global};
+use thresholds::{MOST_GATES_MOVED_TWICE, MOVE_CONFLICTS};
 use xag_core::{Xag, from_net, into_net};
 
 /// The set of a net's operators together with those of `bits`.

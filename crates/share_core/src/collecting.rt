@@ -2,8 +2,8 @@
 
 use crate::kind::TreeKind;
 use rows::{bit_at, put};
-use thresholds::{MOST_ROW_LITERALS, MOST_VISITED_OF_TREE};
 use std::alloc::{AllocError, Global};
+use thresholds::{MOST_ROW_LITERALS, MOST_VISITED_OF_TREE};
 use xag_core::{Context, Xag, XagGate};
 
 /// A root and the literals of its tree, ascending.

@@ -4,8 +4,8 @@
 use crate::collecting::LiteralRow;
 use crate::pairs::{LiteralPair, PairCounts};
 use rows::{Random, at, put};
-use thresholds::MOST_PAIRS;
 use std::alloc::{AllocError, Global};
+use thresholds::MOST_PAIRS;
 use xag_core::{NONE, Substitution, XagGate};
 
 /// The most ranks that are taken off the heap.

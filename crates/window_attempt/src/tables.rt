@@ -5,8 +5,8 @@ ghost use Rattle.improve_theory.specs.Leading.{IsReplacement};
 
 use merge_core::functional_reduction;
 use net_core::{Net, remove_dangling};
-use thresholds::MOST_UNHASHED_GATES;
 use std::alloc::{AllocError, Global};
+use thresholds::MOST_UNHASHED_GATES;
 
 /// The net in which gates with the same value under every assignment are merged, without dangling gates.
 /// Where it has more than 12 sources there is only the cleanup.

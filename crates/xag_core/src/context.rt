@@ -3,8 +3,8 @@
 
 use crate::xag::{Xag, mark_sinks};
 use rows::{at, bit_at, put, raise};
-use thresholds::MOST_GATES_OF_MFFC;
 use std::alloc::{AllocError, Global};
+use thresholds::MOST_GATES_OF_MFFC;
 
 /// The fanouts of all nodes in one row, those of a node from its start to the start of the next; the
 /// reference counts; and whether a sink reads each node.
