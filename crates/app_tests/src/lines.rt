@@ -63,17 +63,18 @@ fn commands_without_settings_are_read(rt: HostRuntime) {
     }
 }
 
-/// The basis, the method, the greatest size, the conflicts, and whether the fewest levels are searched for.
-type Synth = (u16, Method, u32, u32, bool);
+/// The basis, the method, the greatest size, the conflicts, whether the fewest levels are searched for, and the effort.
+type Synth = (u16, Method, u32, u32, bool, u32);
 
 /// A command with these settings.
 fn synth_of(settings: Synth) -> Command {
-    let (basis, method, max, conflicts, fewest_levels) = settings;
+    let (basis, method, max, conflicts, fewest_levels, effort) = settings;
     let settings = SynthSettings {
         basis: Basis::new(basis),
         method,
         max,
         conflicts,
+        effort,
     };
     if fewest_levels {
         return Command::LeastDepth(settings);
@@ -83,47 +84,55 @@ fn synth_of(settings: Synth) -> Command {
 
 /// Command lines of `synth`, and their settings. Options that aren't named have their defaults.
 const SYNTHS: &[(&str, Synth)] = &[
-    ("synth", (65_535, Method::Ssv, 16, 100_000, false)),
+    ("synth", (65_535, Method::Ssv, 16, 100_000, false, 1)),
     (
         "synth --max 3 --basis nand",
-        (16_384, Method::Ssv, 3, 100_000, false),
+        (16_384, Method::Ssv, 3, 100_000, false, 1),
     ),
     (
         "synth --method plain",
-        (65_535, Method::Plain, 16, 100_000, false),
+        (65_535, Method::Plain, 16, 100_000, false, 1),
     ),
     (
         "synth --method select",
-        (65_535, Method::Select, 16, 100_000, false),
+        (65_535, Method::Select, 16, 100_000, false, 1),
     ),
     (
         "synth --method fence",
-        (65_535, Method::Fence, 16, 100_000, false),
+        (65_535, Method::Fence, 16, 100_000, false, 1),
     ),
     (
         "synth --conflicts 10000000 --max 0 --method ssv",
-        (65_535, Method::Ssv, 0, 10_000_000, false),
+        (65_535, Method::Ssv, 0, 10_000_000, false, 1),
     ),
     (
         "synth --basis 0110,1001 --conflicts 1",
-        (576, Method::Ssv, 16, 1, false),
+        (576, Method::Ssv, 16, 1, false, 1),
+    ),
+    (
+        "synth --effort 1000",
+        (65_535, Method::Ssv, 16, 100_000, false, 1000),
+    ),
+    (
+        "synth --effort 0",
+        (65_535, Method::Ssv, 16, 100_000, false, 0),
     ),
     // the fewest levels are searched for by fences
     (
         "synth --least-depth yes --method fence",
-        (65_535, Method::Fence, 16, 100_000, true),
+        (65_535, Method::Fence, 16, 100_000, true, 1),
     ),
     (
         "synth --method fence --max 3 --least-depth yes",
-        (65_535, Method::Fence, 3, 100_000, true),
+        (65_535, Method::Fence, 3, 100_000, true, 1),
     ),
     (
         "synth --method fence --least-depth no",
-        (65_535, Method::Fence, 16, 100_000, false),
+        (65_535, Method::Fence, 16, 100_000, false, 1),
     ),
     (
         "synth --least-depth no",
-        (65_535, Method::Ssv, 16, 100_000, false),
+        (65_535, Method::Ssv, 16, 100_000, false, 1),
     ),
 ];
 
@@ -135,12 +144,12 @@ fn options_of_synth_are_read(rt: HostRuntime) {
 }
 
 /// The format, the basis, the method, the cap, the rounds, the conflicts, whether observability don't-cares are
-/// used, and the effort.
-type Improve = (Format, u16, Method, u32, u32, u32, bool, u32);
+/// used, the effort, and the seed.
+type Improve = (Format, u16, Method, u32, u32, u32, bool, u32, u32);
 
 /// A command with these settings.
 fn improve_of(settings: Improve) -> Command {
-    let (format, basis, method, cap, rounds, conflicts, observe, effort) = settings;
+    let (format, basis, method, cap, rounds, conflicts, observe, effort, seed) = settings;
     let settings = ImproveSettings {
         basis: Basis::new(basis),
         method,
@@ -149,6 +158,7 @@ fn improve_of(settings: Improve) -> Command {
         conflicts,
         observe,
         effort,
+        seed,
     };
     Command::Improve { format, settings }
 }
@@ -166,6 +176,7 @@ const IMPROVES: &[(&str, Improve)] = &[
             100_000,
             false,
             0,
+            1,
         ),
     ),
     (
@@ -179,11 +190,12 @@ const IMPROVES: &[(&str, Improve)] = &[
             100_000,
             false,
             0,
+            1,
         ),
     ),
     (
         "improve --rounds 1 --cap 8 --basis nand --conflicts 7 --method fence",
-        (Format::Blif, 16_384, Method::Fence, 8, 1, 7, false, 0),
+        (Format::Blif, 16_384, Method::Fence, 8, 1, 7, false, 0, 1),
     ),
     (
         "improve --rounds 100000 --conflicts 10000000",
@@ -196,6 +208,7 @@ const IMPROVES: &[(&str, Improve)] = &[
             10_000_000,
             false,
             0,
+            1,
         ),
     ),
     // observability don't-cares
@@ -210,15 +223,36 @@ const IMPROVES: &[(&str, Improve)] = &[
             100_000,
             false,
             0,
+            1,
         ),
     ),
     (
         "improve --observe yes",
-        (Format::Blif, 65_535, Method::Ssv, 5, 1000, 100_000, true, 0),
+        (
+            Format::Blif,
+            65_535,
+            Method::Ssv,
+            5,
+            1000,
+            100_000,
+            true,
+            0,
+            1,
+        ),
     ),
     (
         "improve --cap 5 --observe yes --rounds 1000",
-        (Format::Blif, 65_535, Method::Ssv, 5, 1000, 100_000, true, 0),
+        (
+            Format::Blif,
+            65_535,
+            Method::Ssv,
+            5,
+            1000,
+            100_000,
+            true,
+            0,
+            1,
+        ),
     ),
     // moves that keep the number of gates
     (
@@ -232,6 +266,7 @@ const IMPROVES: &[(&str, Improve)] = &[
             100_000,
             false,
             1000,
+            1,
         ),
     ),
     // bases of BENCH are sets of its gates
@@ -246,6 +281,7 @@ const IMPROVES: &[(&str, Improve)] = &[
             100_000,
             false,
             0,
+            1,
         ),
     ),
     (
@@ -259,6 +295,7 @@ const IMPROVES: &[(&str, Improve)] = &[
             100_000,
             false,
             0,
+            1,
         ),
     ),
     (
@@ -272,11 +309,37 @@ const IMPROVES: &[(&str, Improve)] = &[
             100_000,
             false,
             0,
+            1,
         ),
     ),
     (
         "improve --format bench --basis 0110,1001",
-        (Format::Bench, 576, Method::Ssv, 5, 1000, 100_000, false, 0),
+        (
+            Format::Bench,
+            576,
+            Method::Ssv,
+            5,
+            1000,
+            100_000,
+            false,
+            0,
+            1,
+        ),
+    ),
+    // the seed of random choices
+    (
+        "improve --seed 1000000 --effort 5",
+        (
+            Format::Blif,
+            65_535,
+            Method::Ssv,
+            5,
+            1000,
+            100_000,
+            false,
+            5,
+            1_000_000,
+        ),
     ),
 ];
 
@@ -339,7 +402,9 @@ const NOTHING: &[&str] = &[
     "improve --effort 1001",
     "improve --effort -1",
     "improve --effort yes",
-    "synth --effort 1",
+    "synth --effort 1001",
+    "synth --seed 1",
+    "improve --seed 1000001",
     "gen --blocks 3 --observe yes",
     "improve --format bench --basis all",
     "improve --format bench --basis u2",

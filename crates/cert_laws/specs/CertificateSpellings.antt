@@ -74,7 +74,7 @@ read_conflicts w basis method number (l ∷ ls) v from below e =
         h = record { spec = w; basis = basis; method = method; conflicts = read.0; max = last.0 };
         spec_is = refl;
         basis_below = below;
-        settings = record { basis_from = from; max_to = last.2; conflicts_from = halves.1; conflicts_to = halves.2 };
+        settings = record { basis_from = from; max_to = last.2; conflicts_from = halves.1; conflicts_to = halves.2; effort_to = omega arith };
         following = last.1;
         rest = last.3;
         lines = λ i. line (basis_line basis) ∷ line (method_line method) ∷ halves.0 i ∷ last.4 i;

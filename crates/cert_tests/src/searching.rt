@@ -27,7 +27,15 @@ fn searched(
     let Ok(tables) = read_tables(alloc, text) else {
         return None;
     };
-    match search::<Cdcl>(alloc, &tables.spec, Basis::new(basis), method, max, budget) {
+    match search::<Cdcl>(
+        alloc,
+        &tables.spec,
+        Basis::new(basis),
+        method,
+        max,
+        budget,
+        0,
+    ) {
         Ok(certificate) => Some(certificate),
         Err(_) => None,
     }

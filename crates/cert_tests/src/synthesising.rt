@@ -74,6 +74,7 @@ fn certified(
         method,
         max,
         conflicts,
+        effort: 1,
     };
     let begun = begin(alloc, text, &settings)?;
     let mut whole = begun.text;

@@ -41,9 +41,9 @@ pub record Certificate : Type 0 where
 
 -- ---- the header
 
--- the settings, apart from the tables
+-- the settings, apart from the tables; a certificate doesn't name the effort of walks
 abbrev pub settings_of : Header → SynthSettings
-settings_of h = record { basis = h.basis; method = h.method; max = h.max; conflicts = h.conflicts }
+settings_of h = record { basis = h.basis; method = h.method; max = h.max; conflicts = h.conflicts; effort = 0 }
 
 -- The tables are a specification, the basis is a set of the sixteen operators, and the settings are in their
 -- ranges.

@@ -26,12 +26,12 @@ use Rattle.command_line.specs.declared.command.Format.TheVariants.{Blif, Bench}
 use Rattle.command_line.specs.Options.{OptionRow, from_on, number_within, basis_or_none, basis_in, is_within}
 use Rattle.command_line.specs.Options.{if_of_gates, basis_row, gates_row, format_basis_row, method_row, max_row}
 use Rattle.command_line.specs.Options.{conflicts_row, cap_row, rounds_row, format_row, observe_row, effort_row}
-use Rattle.command_line.specs.Options.{blocks_row, run_row, least_depth_row, depth_row, kind_named, options_of}
+use Rattle.command_line.specs.Options.{seed_row, synth_effort_row, blocks_row, run_row, least_depth_row, depth_row, kind_named, options_of}
 use Rattle.command_line.specs.CommandLine.{word_after, are_options, value_in, value, asked_from, asked_in}
 use Rattle.command_line.specs.CommandLine.{least_depth_by, synth_from, recheck_from, settings_from, settings_for}
 use Rattle.command_line.specs.CommandLine.{improve_with, improve_for, equiv_from, gen_from, command_with, command_in}
 use Rattle.command_line.specs.CommandLine.{command_of, HasGatesOf, IsAsked, IsAskable}
-use Rattle.settings.specs.Limits.{most_gates_of_window, most_rounds, most_effort, most_blocks, default_conflicts}
+use Rattle.settings.specs.Limits.{most_gates_of_window, most_rounds, most_effort, most_seed, most_blocks, default_conflicts}
 
 pub some_is : {A : Type 0} (a b : A) → Some a ≡ Some b → a ≡ b
 some_is a b e = cc
@@ -73,32 +73,35 @@ in_row row P reads default (Some word) x e = reads word x e
 -- ---- commands
 
 -- the settings of `synth` are the values of its options
-pub record AreAsked (basis : Option ℕ) (method : Option Method) (max conflicts : Option ℕ) (s : SynthSettings) : Type 0 where
+pub record AreAsked (basis : Option ℕ) (method : Option Method) (max conflicts effort : Option ℕ) (s : SynthSettings) : Type 0 where
   pub basis_is : basis ≡ Some s.basis
   pub method_is : method ≡ Some s.method
   pub max_is : max ≡ Some s.max
   pub conflicts_is : conflicts ≡ Some s.conflicts
+  pub effort_is : effort ≡ Some s.effort
 
-asked_made : (basis : Option ℕ) (method : Option Method) (max conflicts : Option ℕ) (s : SynthSettings) → asked_from basis method max conflicts ≡ Some s → AreAsked basis method max conflicts s
-asked_made (Some b) (Some m) (Some x) (Some n) s e =
+asked_made : (basis : Option ℕ) (method : Option Method) (max conflicts effort : Option ℕ) (s : SynthSettings) → asked_from basis method max conflicts effort ≡ Some s → AreAsked basis method max conflicts effort s
+asked_made (Some b) (Some m) (Some x) (Some n) (Some f) s e =
     let same = some_is _ s e in
     record {
       basis_is = ap (λ (t : SynthSettings). Some t.basis) same;
       method_is = ap (λ (t : SynthSettings). Some t.method) same;
       max_is = ap (λ (t : SynthSettings). Some t.max) same;
       conflicts_is = ap (λ (t : SynthSettings). Some t.conflicts) same;
+      effort_is = ap (λ (t : SynthSettings). Some t.effort) same;
     }
-asked_made (Some b) (Some m) (Some x) None s e = absurd cc
-asked_made (Some b) (Some m) None conflicts s e = absurd cc
-asked_made (Some b) None max conflicts s e = absurd cc
-asked_made None method max conflicts s e = absurd cc
+asked_made (Some b) (Some m) (Some x) (Some n) None s e = absurd cc
+asked_made (Some b) (Some m) (Some x) None effort s e = absurd cc
+asked_made (Some b) (Some m) None conflicts effort s e = absurd cc
+asked_made (Some b) None max conflicts effort s e = absurd cc
+asked_made None method max conflicts effort s e = absurd cc
 
-pub asked_back : (basis : Option ℕ) (method : Option Method) (max conflicts : Option ℕ) (s : SynthSettings) → AreAsked basis method max conflicts s → asked_from basis method max conflicts ≡ Some s
-asked_back basis method max conflicts s are = rw (are.basis_is, are.method_is, are.max_is, are.conflicts_is) refl
+pub asked_back : (basis : Option ℕ) (method : Option Method) (max conflicts effort : Option ℕ) (s : SynthSettings) → AreAsked basis method max conflicts effort s → asked_from basis method max conflicts effort ≡ Some s
+asked_back basis method max conflicts effort s are = rw (are.basis_is, are.method_is, are.max_is, are.conflicts_is, are.effort_is) refl
 
 -- those of words
 abbrev pub AreAskedIn : List (List ℕ) → SynthSettings → Type 0
-AreAskedIn words s = AreAsked (value basis_row words) (value method_row words) (value max_row words) (value conflicts_row words) s
+AreAskedIn words s = AreAsked (value basis_row words) (value method_row words) (value max_row words) (value conflicts_row words) (value synth_effort_row words) s
 
 -- the command of `synth` with settings and the flag; the method for the fewest levels is always `fence`
 abbrev pub IsSynth : SynthSettings → Bool → Command → Type 0
@@ -125,7 +128,7 @@ flag_by s true c e = depth_by s.method s c refl e
 
 synth_made : (words : List (List ℕ)) (o : Option SynthSettings) (flag : Option Bool) (c : Command) →
     asked_in words ≡ o → value least_depth_row words ≡ flag → synth_from o flag ≡ Some c → IsSynthIn words c
-synth_made words (Some s) (Some flag) c is flag_is e = record { s = s; flag = flag; is = flag_by s flag c e; are = asked_made _ _ _ _ s is; flag_is = flag_is }
+synth_made words (Some s) (Some flag) c is flag_is e = record { s = s; flag = flag; is = flag_by s flag c e; are = asked_made _ _ _ _ _ s is; flag_is = flag_is }
 synth_made words (Some s) None c is flag_is e = absurd cc
 synth_made words None flag c is flag_is e = absurd cc
 
@@ -146,7 +149,7 @@ recheck_made (Some b) c e = (b, recheck_by b c e, refl)
 recheck_made None c e = absurd cc
 
 -- the settings of `improve` are the values of all its options
-pub record AreSettingsOf (basis : Option ℕ) (method : Option Method) (cap rounds conflicts : Option ℕ) (observe : Option Bool) (effort : Option ℕ) (s : ImproveSettings) : Type 0 where
+pub record AreSettingsOf (basis : Option ℕ) (method : Option Method) (cap rounds conflicts : Option ℕ) (observe : Option Bool) (effort seed : Option ℕ) (s : ImproveSettings) : Type 0 where
   pub basis_is : basis ≡ Some s.basis
   pub method_is : method ≡ Some s.method
   pub cap_is : cap ≡ Some s.cap
@@ -154,11 +157,12 @@ pub record AreSettingsOf (basis : Option ℕ) (method : Option Method) (cap roun
   pub conflicts_is : conflicts ≡ Some s.conflicts
   pub observe_is : observe ≡ Some s.observe
   pub effort_is : effort ≡ Some s.effort
+  pub seed_is : seed ≡ Some s.seed
 
 settings_made : (basis : Option ℕ) (method : Option Method) (cap rounds conflicts : Option ℕ) (observe : Option Bool)
-    (effort : Option ℕ) (s : ImproveSettings) → settings_from basis method cap rounds conflicts observe effort ≡
-    Some s → AreSettingsOf basis method cap rounds conflicts observe effort s
-settings_made (Some b) (Some m) (Some n) (Some r) (Some x) (Some o) (Some f) s e =
+    (effort seed : Option ℕ) (s : ImproveSettings) → settings_from basis method cap rounds conflicts observe effort seed ≡
+    Some s → AreSettingsOf basis method cap rounds conflicts observe effort seed s
+settings_made (Some b) (Some m) (Some n) (Some r) (Some x) (Some o) (Some f) (Some z) s e =
     let same = some_is _ s e in
     record {
       basis_is = ap (λ (t : ImproveSettings). Some t.basis) same;
@@ -168,26 +172,28 @@ settings_made (Some b) (Some m) (Some n) (Some r) (Some x) (Some o) (Some f) s e
       conflicts_is = ap (λ (t : ImproveSettings). Some t.conflicts) same;
       observe_is = ap (λ (t : ImproveSettings). Some t.observe) same;
       effort_is = ap (λ (t : ImproveSettings). Some t.effort) same;
+      seed_is = ap (λ (t : ImproveSettings). Some t.seed) same;
     }
-settings_made (Some b) (Some m) (Some n) (Some r) (Some x) (Some o) None s e = absurd cc
-settings_made (Some b) (Some m) (Some n) (Some r) (Some x) None effort s e = absurd cc
-settings_made (Some b) (Some m) (Some n) (Some r) None observe effort s e = absurd cc
-settings_made (Some b) (Some m) (Some n) None conflicts observe effort s e = absurd cc
-settings_made (Some b) (Some m) None rounds conflicts observe effort s e = absurd cc
-settings_made (Some b) None cap rounds conflicts observe effort s e = absurd cc
-settings_made None method cap rounds conflicts observe effort s e = absurd cc
+settings_made (Some b) (Some m) (Some n) (Some r) (Some x) (Some o) (Some f) None s e = absurd cc
+settings_made (Some b) (Some m) (Some n) (Some r) (Some x) (Some o) None seed s e = absurd cc
+settings_made (Some b) (Some m) (Some n) (Some r) (Some x) None effort seed s e = absurd cc
+settings_made (Some b) (Some m) (Some n) (Some r) None observe effort seed s e = absurd cc
+settings_made (Some b) (Some m) (Some n) None conflicts observe effort seed s e = absurd cc
+settings_made (Some b) (Some m) None rounds conflicts observe effort seed s e = absurd cc
+settings_made (Some b) None cap rounds conflicts observe effort seed s e = absurd cc
+settings_made None method cap rounds conflicts observe effort seed s e = absurd cc
 
 pub settings_back : (basis : Option ℕ) (method : Option Method) (cap rounds conflicts : Option ℕ)
-    (observe : Option Bool) (effort : Option ℕ) (s : ImproveSettings) →
-    AreSettingsOf basis method cap rounds conflicts observe effort s →
-    settings_from basis method cap rounds conflicts observe effort ≡ Some s
-settings_back basis method cap rounds conflicts observe effort s are = rw (are.basis_is, are.method_is, are.cap_is, are.rounds_is, are.conflicts_is, are.observe_is, are.effort_is) refl
+    (observe : Option Bool) (effort seed : Option ℕ) (s : ImproveSettings) →
+    AreSettingsOf basis method cap rounds conflicts observe effort seed s →
+    settings_from basis method cap rounds conflicts observe effort seed ≡ Some s
+settings_back basis method cap rounds conflicts observe effort seed s are = rw (are.basis_is, are.method_is, are.cap_is, are.rounds_is, are.conflicts_is, are.observe_is, are.effort_is, are.seed_is) refl
 
 -- those of words, by a format
 abbrev pub AreSettingsIn : List (List ℕ) → Format → ImproveSettings → Type 0
 AreSettingsIn words f s = AreSettingsOf (value (format_basis_row f) words) (value method_row words)
     (value cap_row words) (value rounds_row words) (value conflicts_row words) (value observe_row words)
-    (value effort_row words) s
+    (value effort_row words) (value seed_row words) s
 
 -- words ask `improve` for a format, with settings
 pub record IsImproveIn (words : List (List ℕ)) (c : Command) : Type 0 where
@@ -205,7 +211,7 @@ improve_made : (words : List (List ℕ)) (o : Option Format) (c : Command) → v
 improve_made words None c is e = absurd cc
 improve_made words (Some f) c is e =
     let made = with_made f (settings_for f words) c e in
-    record { f = f; s = made.0; is = made.2; format_is = is; are = settings_made _ _ _ _ _ _ _ made.0 made.1 }
+    record { f = f; s = made.0; is = made.2; format_is = is; are = settings_made _ _ _ _ _ _ _ _ made.0 made.1 }
 
 pub improve_in_made : (words : List (List ℕ)) (c : Command) → command_with Improve words ≡ Some c → IsImproveIn words c
 improve_in_made words c e = improve_made words (value format_row words) c refl e
@@ -247,6 +253,20 @@ effort_range words n e =
     (λ (word : List ℕ) (x : ℕ) at. (number_range 0 most_effort x word (omega arith) at).1)
     (λ (x : ℕ) at. let same = some_is 0 x at in omega (arith, same))
     (word_after effort_row.name words) n e
+
+synth_effort_range : (words : List (List ℕ)) (n : ℕ) → value synth_effort_row words ≡ Some n → n ≤ most_effort
+synth_effort_range words n e =
+    in_row synth_effort_row (λ (x : ℕ). x ≤ most_effort)
+    (λ (word : List ℕ) (x : ℕ) at. (number_range 0 most_effort x word (omega arith) at).1)
+    (λ (x : ℕ) at. let same = some_is 1 x at in omega (arith, same))
+    (word_after synth_effort_row.name words) n e
+
+seed_range : (words : List (List ℕ)) (n : ℕ) → value seed_row words ≡ Some n → n ≤ most_seed
+seed_range words n e =
+    in_row seed_row (λ (x : ℕ). x ≤ most_seed)
+    (λ (word : List ℕ) (x : ℕ) at. (number_range 0 most_seed x word (omega arith) at).1)
+    (λ (x : ℕ) at. let same = some_is 1 x at in omega (arith, same))
+    (word_after seed_row.name words) n e
 
 rounds_range : (words : List (List ℕ)) (n : ℕ) → value rounds_row words ≡ Some n → (1 ≤ n) × (n ≤ most_rounds)
 rounds_range words n e =
@@ -293,7 +313,13 @@ askable c d e is = subst (λ (x : Command). IsAskable x) e is
 asked_in_range : (words : List (List ℕ)) (s : SynthSettings) → AreAskedIn words s → IsInRange s
 asked_in_range words s are =
     let within = conflicts_range words s.conflicts are.conflicts_is in
-    record { basis_from = bases_range words s.basis are.basis_is; max_to = max_range words s.max are.max_is; conflicts_from = within.0; conflicts_to = within.1 }
+    record {
+      basis_from = bases_range words s.basis are.basis_is;
+      max_to = max_range words s.max are.max_is;
+      conflicts_from = within.0;
+      conflicts_to = within.1;
+      effort_to = synth_effort_range words s.effort are.effort_is;
+    }
 
 synth_askable : (words : List (List ℕ)) (s : SynthSettings) (flag : Bool) (c : Command) → IsSynth s flag c → AreAskedIn words s → IsAskable c
 synth_askable words s false c is are = askable (commands.Synth s) c is (asked_in_range words s are)
@@ -325,6 +351,7 @@ improve_range words c e =
       conflicts_to = conflicts.1;
       effort_to =
           effort_range words made.s.effort made.are.effort_is;
+      seed_to = seed_range words made.s.seed made.are.seed_is;
     } in
     let is : IsAsked made.f made.s = record { range = range; basis = basis.1 } in
     askable (commands.Improve made.f made.s) c made.is is

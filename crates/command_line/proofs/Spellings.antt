@@ -22,7 +22,7 @@ use Rattle.command_line.specs.declared.table.OptionKind.TheVariants.{Agree, Rech
 use Rattle.command_line.specs.declared.command.Format.{Format}
 use Rattle.command_line.specs.Options.{OptionRow, is_word, is_among, basis_row, format_basis_row, method_row, max_row}
 use Rattle.command_line.specs.Options.{conflicts_row, cap_row, rounds_row, format_row, observe_row, effort_row}
-use Rattle.command_line.specs.Options.{blocks_row, run_row, least_depth_row, depth_row, kind_text, kind_named}
+use Rattle.command_line.specs.Options.{seed_row, synth_effort_row, blocks_row, run_row, least_depth_row, depth_row, kind_text, kind_named}
 use Rattle.command_line.specs.Options.{options_of}
 use Rattle.command_line.specs.CommandLine.{word_after, is_named, are_options, value_in, value, least_depth_by, synth_from, improve_with, improve_for, command_with, command_in, command_of, AsksFor}
 use Rattle.command_line.specs.Spelling.{OptionPair, both, flat, Gives, GivesSynth, GivesImprove, GivesGen, GivesAll, kind_of, SpellsOptions}
@@ -181,6 +181,7 @@ synth_is pairs c once e =
       method = gives method_row pairs m.s.method once m.are.method_is;
       max = gives max_row pairs m.s.max once m.are.max_is;
       conflicts = gives conflicts_row pairs m.s.conflicts once m.are.conflicts_is;
+      effort = gives synth_effort_row pairs m.s.effort once m.are.effort_is;
       flag = gives least_depth_row pairs m.flag once m.flag_is;
     } in
     synth_gives pairs m.s m.flag c m.is all
@@ -200,6 +201,7 @@ made Improve pairs c once e =
       conflicts = gives conflicts_row pairs m.s.conflicts once m.are.conflicts_is;
       observe = gives observe_row pairs m.s.observe once m.are.observe_is;
       effort = gives effort_row pairs m.s.effort once m.are.effort_is;
+      seed = gives seed_row pairs m.s.seed once m.are.seed_is;
     } in
     subst (λ (d : Command). IsMade Improve pairs d) m.is (refl, all)
 made Equiv pairs c once e =
@@ -222,13 +224,14 @@ settings_are f pairs s once all = record {
   conflicts_is = value_is conflicts_row pairs s.conflicts once all.conflicts;
   observe_is = value_is observe_row pairs s.observe once all.observe;
   effort_is = value_is effort_row pairs s.effort once all.effort;
+  seed_is = value_is seed_row pairs s.seed once all.seed;
 }
 
 improve_back : (f : Format) (pairs : List OptionPair) (s : ImproveSettings) → IsDistinct is_word (keys_of pairs) →
     GivesImprove pairs f s → command_with Improve (flat pairs) ≡ Some (commands.Improve f s)
 improve_back f pairs s once all =
     ap (improve_for (flat pairs)) (value_is format_row pairs f once all.format_is)
-    ∙ ap (improve_with f) (settings_back _ _ _ _ _ _ _ s (settings_are f pairs s once all))
+    ∙ ap (improve_with f) (settings_back _ _ _ _ _ _ _ _ s (settings_are f pairs s once all))
 
 asked_are : (pairs : List OptionPair) (s : SynthSettings) (flag : Bool) → IsDistinct is_word (keys_of pairs) → GivesSynth pairs s flag → AreAskedIn (flat pairs) s
 asked_are pairs s flag once all = record {
@@ -236,12 +239,13 @@ asked_are pairs s flag once all = record {
   method_is = value_is method_row pairs s.method once all.method;
   max_is = value_is max_row pairs s.max once all.max;
   conflicts_is = value_is conflicts_row pairs s.conflicts once all.conflicts;
+  effort_is = value_is synth_effort_row pairs s.effort once all.effort;
 }
 
 synth_back : (pairs : List OptionPair) (s : SynthSettings) (flag : Bool) → IsDistinct is_word (keys_of pairs) →
     GivesSynth pairs s flag → command_with Synth (flat pairs) ≡ synth_from (Some s) (Some flag)
 synth_back pairs s flag once all =
-    ap (λ (o : Option SynthSettings). synth_from o (value least_depth_row (flat pairs))) (asked_back _ _ _ _ s (asked_are pairs s flag once all))
+    ap (λ (o : Option SynthSettings). synth_from o (value least_depth_row (flat pairs))) (asked_back _ _ _ _ _ s (asked_are pairs s flag once all))
     ∙ ap (λ (o : Option Bool). synth_from (Some s) o) (value_is least_depth_row pairs flag once all.flag)
 
 made_back : (c : Command) (pairs : List OptionPair) → IsDistinct is_word (keys_of pairs) → GivesAll pairs c → command_with (kind_of c) (flat pairs) ≡ Some c
@@ -262,6 +266,7 @@ synth_again pairs other s flag moved all = record {
   method = gives_again method_row pairs other s.method moved all.method;
   max = gives_again max_row pairs other s.max moved all.max;
   conflicts = gives_again conflicts_row pairs other s.conflicts moved all.conflicts;
+  effort = gives_again synth_effort_row pairs other s.effort moved all.effort;
   flag = gives_again least_depth_row pairs other flag moved all.flag;
 }
 
@@ -280,6 +285,7 @@ given_again (commands.Improve f s) pairs other moved all = record {
   conflicts = gives_again conflicts_row pairs other s.conflicts moved all.conflicts;
   observe = gives_again observe_row pairs other s.observe moved all.observe;
   effort = gives_again effort_row pairs other s.effort moved all.effort;
+  seed = gives_again seed_row pairs other s.seed moved all.seed;
 }
 given_again (commands.Equiv budget) pairs other moved all = gives_again conflicts_row pairs other budget moved all
 given_again (commands.Gen blocks action) pairs other moved all = record {

@@ -22,7 +22,8 @@ use Rattle.command_line.specs.declared.command.Format.{Format}
 use Rattle.command_line.specs.declared.command.Format.TheVariants.{Blif, Bench}
 use Rattle.command_line.specs.Options.{OptionRow, is_word, is_among, is_within, basis_row, format_basis_row, method_row}
 use Rattle.command_line.specs.Options.{max_row, conflicts_row, cap_row, rounds_row, format_row, observe_row, effort_row}
-use Rattle.command_line.specs.Options.{blocks_row, run_row, least_depth_row, depth_row, kind_named}
+use Rattle.command_line.specs.Options.{seed_row, synth_effort_row, blocks_row, run_row, least_depth_row, depth_row}
+use Rattle.command_line.specs.Options.{kind_named}
 use Rattle.settings.specs.Limits.{most_blocks}
 use Rattle.command_line.specs.Options.{options_of}
 
@@ -57,15 +58,15 @@ value row words = value_in row (word_after row.name words)
 
 -- ---- commands
 
-abbrev pub asked_from : Option ℕ → Option Method → Option ℕ → Option ℕ → Option SynthSettings
-asked_from (Some basis) (Some method) (Some max) (Some conflicts) =
-    Some (record { basis = basis; method = method; max = max; conflicts = conflicts })
-asked_from basis method max conflicts = None
+abbrev pub asked_from : Option ℕ → Option Method → Option ℕ → Option ℕ → Option ℕ → Option SynthSettings
+asked_from (Some basis) (Some method) (Some max) (Some conflicts) (Some effort) =
+    Some (record { basis = basis; method = method; max = max; conflicts = conflicts; effort = effort })
+asked_from basis method max conflicts effort = None
 
 -- the settings of `synth`
 abbrev pub asked_in : List (List ℕ) → Option SynthSettings
 asked_in words = asked_from (value basis_row words) (value method_row words) (value max_row words)
-    (value conflicts_row words)
+    (value conflicts_row words) (value synth_effort_row words)
 
 -- the method of the search for the fewest levels is always `fence`
 abbrev pub least_depth_by : Method → SynthSettings → Option Command
@@ -89,8 +90,9 @@ abbrev pub recheck_in : List (List ℕ) → Option Command
 recheck_in words = recheck_from (value depth_row words)
 
 abbrev pub settings_from : Option ℕ → Option Method → Option ℕ → Option ℕ → Option ℕ → Option Bool → Option ℕ →
-    Option ImproveSettings
-settings_from (Some basis) (Some method) (Some cap) (Some rounds) (Some conflicts) (Some observe) (Some effort) =
+    Option ℕ → Option ImproveSettings
+settings_from (Some basis) (Some method) (Some cap) (Some rounds) (Some conflicts) (Some observe) (Some effort)
+    (Some seed) =
     Some (record {
       basis = basis;
       method = method;
@@ -99,14 +101,15 @@ settings_from (Some basis) (Some method) (Some cap) (Some rounds) (Some conflict
       conflicts = conflicts;
       observe = observe;
       effort = effort;
+      seed = seed;
     })
-settings_from basis method cap rounds conflicts observe effort = None
+settings_from basis method cap rounds conflicts observe effort seed = None
 
 -- the settings of `improve` for a format
 abbrev pub settings_for : Format → List (List ℕ) → Option ImproveSettings
 settings_for format words = settings_from (value (format_basis_row format) words) (value method_row words)
     (value cap_row words) (value rounds_row words) (value conflicts_row words) (value observe_row words)
-    (value effort_row words)
+    (value effort_row words) (value seed_row words)
 
 abbrev pub improve_with : Format → Option ImproveSettings → Option Command
 improve_with format None = None

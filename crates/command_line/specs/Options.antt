@@ -12,7 +12,7 @@ use Rattle.settings.specs.Synth.{defaults}
 use Rattle.sat_theory.specs.Limits.{most_conflicts}
 use Rattle.chain_theory.specs.Limits.{most_steps}
 use Rattle.settings.specs.Improve as improver
-use Rattle.settings.specs.Limits.{most_gates_of_window, most_rounds, most_effort, most_blocks}
+use Rattle.settings.specs.Limits.{most_gates_of_window, most_rounds, most_effort, most_seed, most_blocks}
 use Rattle.command_line.specs.declared.table.OptionKind.{OptionKind}
 use Rattle.command_line.specs.declared.table.OptionKind.TheVariants.{Agree, Recheck, Synth, Improve, Equiv, Gen}
 use Rattle.command_line.specs.declared.command.GenAction.{GenAction}
@@ -118,6 +118,14 @@ abbrev pub observe_row : OptionRow Bool
 observe_row = flag_row (codes "--observe")
 
 -- how many rounds of moves that keep the size
+-- how much work walks do before formulas are solved
+abbrev pub synth_effort_row : OptionRow ℕ
+synth_effort_row = number_row (codes "--effort") 0 most_effort (Some defaults.effort)
+
+-- the seed of random choices
+abbrev pub seed_row : OptionRow ℕ
+seed_row = number_row (codes "--seed") 0 most_seed (Some improver.defaults.seed)
+
 abbrev pub effort_row : OptionRow ℕ
 effort_row = number_row (codes "--effort") 0 most_effort (Some improver.defaults.effort)
 
@@ -162,8 +170,9 @@ kind_named name =
 abbrev pub options_of : OptionKind → List (List ℕ)
 options_of Agree = []
 options_of Recheck = depth_row.name ∷ []
-options_of Synth = basis_row.name ∷ method_row.name ∷ max_row.name ∷ conflicts_row.name ∷ least_depth_row.name ∷ []
+options_of Synth = basis_row.name ∷ method_row.name ∷ max_row.name ∷ conflicts_row.name ∷ least_depth_row.name ∷
+    synth_effort_row.name ∷ []
 options_of Improve = basis_row.name ∷ method_row.name ∷ cap_row.name ∷ rounds_row.name ∷ conflicts_row.name ∷
-    format_row.name ∷ observe_row.name ∷ effort_row.name ∷ []
+    format_row.name ∷ observe_row.name ∷ effort_row.name ∷ seed_row.name ∷ []
 options_of Equiv = conflicts_row.name ∷ []
 options_of Gen = blocks_row.name ∷ run_row.name ∷ []

@@ -13,7 +13,8 @@ use Rattle.command_line.specs.declared.command.GenAction.{GenAction}
 use Rattle.command_line.specs.declared.command.Format.{Format}
 use Rattle.command_line.specs.Options.{OptionRow, is_word, is_among, basis_row, format_basis_row, method_row, max_row}
 use Rattle.command_line.specs.Options.{conflicts_row, cap_row, rounds_row, format_row, observe_row, effort_row}
-use Rattle.command_line.specs.Options.{blocks_row, run_row, least_depth_row, depth_row, kind_text, options_of}
+use Rattle.command_line.specs.Options.{seed_row, synth_effort_row, blocks_row, run_row, least_depth_row, depth_row}
+use Rattle.command_line.specs.Options.{kind_text, options_of}
 
 -- a name and the word after it
 abbrev pub OptionPair : Type 0
@@ -36,6 +37,7 @@ pub record GivesSynth (pairs : List OptionPair) (s : SynthSettings) (least_depth
   pub method : Gives method_row pairs s.method
   pub max : Gives max_row pairs s.max
   pub conflicts : Gives conflicts_row pairs s.conflicts
+  pub effort : Gives synth_effort_row pairs s.effort
   pub flag : Gives least_depth_row pairs least_depth
 
 -- the settings of `improve`; the possible bases depend on the format
@@ -48,6 +50,7 @@ pub record GivesImprove (pairs : List OptionPair) (format : Format) (s : Improve
   pub conflicts : Gives conflicts_row pairs s.conflicts
   pub observe : Gives observe_row pairs s.observe
   pub effort : Gives effort_row pairs s.effort
+  pub seed : Gives seed_row pairs s.seed
 
 pub record GivesGen (pairs : List OptionPair) (count : ℕ) (action : GenAction) : Type 0 where
   pub blocks : Gives blocks_row pairs count

@@ -11,7 +11,7 @@ use crate::pairs::{is_word, word_after};
 use op_basis::{BENCH, Basis, read_basis};
 use settings::{
     ImproveSettings, MOST_BLOCKS, MOST_CONFLICTS, MOST_EFFORT, MOST_GATES_OF_WINDOW, MOST_ROUNDS,
-    MOST_STEPS, Method, SynthSettings, method_named,
+    MOST_SEED, MOST_STEPS, Method, SynthSettings, method_named,
 };
 use text_core::number_up_to;
 
@@ -33,6 +33,8 @@ const FORMAT: &[u8] = b"--format";
 const OBSERVE: &[u8] = b"--observe";
 
 const EFFORT: &[u8] = b"--effort";
+
+const SEED: &[u8] = b"--seed";
 
 const BLOCKS: &[u8] = b"--blocks";
 
@@ -248,12 +250,28 @@ pub(crate) fn given_observe(words: &[String]) -> Option<bool>
     flag(OBSERVE, words)
 }
 
-/// The value of `--effort`.
+/// The value of `--effort` of `synth`.
+pub(crate) fn given_synth_effort(words: &[String]) -> Option<u32>
+    ensures { result ≡ value spec.synth_effort_row (map string_bytes words.now) }
+{
+    let defaults = SynthSettings::defaults().effort;
+    number(EFFORT, 0, MOST_EFFORT, Some(defaults), words)
+}
+
+/// The value of `--effort` of `improve`.
 pub(crate) fn given_effort(words: &[String]) -> Option<u32>
     ensures { result ≡ value spec.effort_row (map string_bytes words.now) }
 {
     let defaults = ImproveSettings::defaults().effort;
     number(EFFORT, 0, MOST_EFFORT, Some(defaults), words)
+}
+
+/// The value of `--seed`.
+pub(crate) fn given_seed(words: &[String]) -> Option<u32>
+    ensures { result ≡ value spec.seed_row (map string_bytes words.now) }
+{
+    let defaults = ImproveSettings::defaults().seed;
+    number(SEED, 0, MOST_SEED, Some(defaults), words)
 }
 
 /// The value of `--blocks`, which has no default.

@@ -8,7 +8,7 @@ use crate::pairs::are_options;
 use crate::table::{
     OptionKind, given_basis, given_basis_for, given_blocks, given_cap, given_conflicts, given_deed,
     given_depth, given_effort, given_format, given_least_depth, given_max, given_method,
-    given_observe, given_rounds, kind_named,
+    given_observe, given_rounds, given_seed, given_synth_effort, kind_named,
 };
 use settings::{ImproveSettings, Method, SynthSettings};
 
@@ -16,20 +16,18 @@ use settings::{ImproveSettings, Method, SynthSettings};
 fn asked_in(words: &[String]) -> Option<SynthSettings>
     ensures { result ≡ spec.asked_in (map string_bytes words.now) }
 {
-    match (
-        given_basis(words),
-        given_method(words),
-        given_max(words),
-        given_conflicts(words),
-    ) {
-        (Some(basis), Some(method), Some(max), Some(conflicts)) => Some(SynthSettings {
-            basis,
-            method,
-            max,
-            conflicts,
-        }),
-        _ => None,
-    }
+    let basis = given_basis(words)?;
+    let method = given_method(words)?;
+    let max = given_max(words)?;
+    let conflicts = given_conflicts(words)?;
+    let effort = given_synth_effort(words)?;
+    Some(SynthSettings {
+        basis,
+        method,
+        max,
+        conflicts,
+        effort,
+    })
 }
 
 /// The search for the fewest levels, whose method is always `fence`.
@@ -75,6 +73,7 @@ fn settings_for(format: Format, words: &[String]) -> Option<ImproveSettings>
     let conflicts = given_conflicts(words)?;
     let observe = given_observe(words)?;
     let effort = given_effort(words)?;
+    let seed = given_seed(words)?;
     Some(ImproveSettings {
         basis,
         method,
@@ -83,6 +82,7 @@ fn settings_for(format: Format, words: &[String]) -> Option<ImproveSettings>
         conflicts,
         observe,
         effort,
+        seed,
     })
 }
 

@@ -88,6 +88,7 @@ pub(crate) fn search_whole<S: Solver>(
         header.method,
         header.max,
         header.conflicts,
+        0,
     )?;
     if is_open(certificate.verdict) {
         return Ok(Searched::Open(certificate));

@@ -173,8 +173,8 @@ fn deepened<S: Solver>(
 
 /// Searches the sizes from 0 to `max` by fences with the solver `S` for a chain of the fewest steps over the basis
 /// that implements the tables, and among the chains of that size for one of the fewest levels. A subproblem is
-/// left open once the solver has learnt at least `budget` clauses. The basis isn't empty, and `max` and `budget`
-/// are in the ranges of `settings`.
+/// left open once the solver has learnt at least `budget` clauses. `effort` is a factor for the work of the walks, 0 for
+/// no walk. The basis isn't empty, and `max` and `budget` are in the ranges of `settings`.
 #[tactic(auto, using(crate::proofs::LevelLogs::searching))]
 pub fn least_depth<S: Solver>(
     alloc: Global,
@@ -182,8 +182,15 @@ pub fn least_depth<S: Solver>(
     basis: Basis,
     max: u32,
     budget: u32,
+    effort: u32,
 ) -> Result<DepthResult, AllocError>
-    requires settings { IsInRange (record { basis = basis; method = Fence; max = max; conflicts = budget }) }
+    requires settings { IsInRange (record {
+      basis = basis;
+      method = Fence;
+      max = max;
+      conflicts = budget;
+      effort = 0;
+    }) }
     ensures { IfOk result (λ deep. IsDepthResult (record {
       spec = spec.now;
       basis = basis;
@@ -192,7 +199,7 @@ pub fn least_depth<S: Solver>(
       max = max;
     }) deep) }
 {
-    let certificate = search::<S>(alloc, spec, basis, Method::Fence, max, budget)?;
+    let certificate = search::<S>(alloc, spec, basis, Method::Fence, max, budget, effort)?;
     match minimum_in(&certificate) {
         Some(size) => deepened::<S>(alloc, certificate, size),
         None => Ok(DepthResult::Other(certificate)),

@@ -21,6 +21,7 @@ fn settings(cap: u32, rounds: u32, conflicts: u32, observe: bool) -> ImproveSett
         conflicts: conflicts.clamp(1, 100_000),
         observe,
         effort: defaults.effort,
+        seed: defaults.seed,
     }
 }
 
@@ -38,6 +39,7 @@ fn gates_alone() -> ImproveSettings
         conflicts: defaults.conflicts,
         observe: defaults.observe,
         effort: defaults.effort,
+        seed: defaults.seed,
     }
 }
 

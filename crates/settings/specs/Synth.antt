@@ -4,7 +4,7 @@ use Rattle.sat_theory.specs.Limits.{most_conflicts}
 use Rattle.chain_theory.specs.Limits.{most_steps}
 use Rattle.op_basis.specs.Text.{all_set}
 use Rattle.settings.specs.declared.methods.Method.TheVariants.{Ssv}
-use Rattle.settings.specs.Limits.{default_conflicts}
+use Rattle.settings.specs.Limits.{default_conflicts, default_effort, most_effort}
 use Rattle.settings.specs.declared.synth.SynthSettings.{SynthSettings}
 
 -- `s.basis` isn't empty, and the numbers are in their ranges
@@ -13,7 +13,14 @@ pub record IsInRange (s : SynthSettings) : Type 0 where
   pub max_to : s.max ≤ most_steps
   pub conflicts_from : 1 ≤ s.conflicts
   pub conflicts_to : s.conflicts ≤ most_conflicts
+  pub effort_to : s.effort ≤ most_effort
 
 -- the defaults
 abbrev pub defaults : SynthSettings
-defaults = record { basis = all_set; method = Ssv; max = most_steps; conflicts = default_conflicts }
+defaults = record {
+  basis = all_set;
+  method = Ssv;
+  max = most_steps;
+  conflicts = default_conflicts;
+  effort = default_effort;
+}

@@ -2,7 +2,7 @@
 ghost use Rattle.std.specs.Prelude.{◌≡◌};
 ghost use Rattle.settings.specs.Synth.{defaults, IsInRange};
 
-use crate::limits::DEFAULT_CONFLICTS;
+use crate::limits::{DEFAULT_CONFLICTS, DEFAULT_EFFORT};
 use crate::methods::Method;
 use chain_theory::MOST_STEPS;
 use op_basis::Basis;
@@ -19,10 +19,13 @@ pub struct SynthSettings {
     /// The conflict limit of each formula: the search may give up and leave a formula open once it has learnt
     /// at least this many clauses; from 1 to 10,000,000.
     pub conflicts: u32,
+    /// A factor for the work of the walks that look for a chain before the formulas do, from 0 (no walk) to 1,000.
+    pub effort: u32,
 }
 
 impl SynthSettings {
-    /// The defaults: all operators, the method `ssv`, sizes up to 16, and a limit of 100,000 conflicts.
+    /// The defaults: all operators, the method `ssv`, sizes up to 16, a limit of 100,000 conflicts, and an
+    /// effort of 1.
     pub fn defaults() -> SynthSettings
         ensures value { result ≡ defaults }
         ensures range { IsInRange result }
@@ -32,6 +35,7 @@ impl SynthSettings {
             method: Method::Ssv,
             max: MOST_STEPS,
             conflicts: DEFAULT_CONFLICTS,
+            effort: DEFAULT_EFFORT,
         }
     }
 }

@@ -72,7 +72,13 @@ impl SizeSearch {
         budget: u32,
         effort: u32,
     ) -> SizeSearch
-        requires settings { IsInRange (record { basis = basis; method = method; max = max; conflicts = budget }) }
+        requires settings { IsInRange (record {
+          basis = basis;
+          method = method;
+          max = max;
+          conflicts = budget;
+          effort = 0;
+        }) }
         ensures header { result.header ≡ record {
           spec = spec;
           basis = basis;

@@ -11,9 +11,6 @@ use chain_bound::{Goal, bound};
 use chain_core::Chain;
 use std::alloc::{AllocError, Global};
 
-/// The effort by default: a factor for the work of the walks.
-pub const DEFAULT_EFFORT: u32 = 1;
-
 /// The work of a walk before the formulas of a size, in pairs of signals: a part of what refuting the size takes.
 fn work_for(size: u32, effort: u32) -> u64 {
     let work = match size {

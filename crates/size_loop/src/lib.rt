@@ -29,7 +29,6 @@ mod sizes;
 mod trying;
 
 pub use advancing::{Advance, SizeSearch};
-pub use known::DEFAULT_EFFORT;
 pub use searching::search;
 pub use sizes::{SizeOutcome, search_size};
 pub use trying::{SubproblemOutcome, try_subproblem};

@@ -15,8 +15,8 @@ use tt_core::Spec;
 
 /// Searches the sizes from 0 to `max` with the solver `S` for a chain of the fewest steps over the basis that
 /// implements the tables, and returns the certificate of what it found. A subproblem is left open once the solver
-/// has learnt at least `budget` clauses. There is no walk: chains come from enumeration and formulas alone. The basis
-/// isn't empty, and `max` and `budget` are in the ranges of `settings`.
+/// has learnt at least `budget` clauses. `effort` is a factor for the work of the walks, 0 for no walk. The basis isn't
+/// empty, and `max` and `budget` are in the ranges of `settings`.
 #[tactic(auto, using(crate::specs::SearchedLaws::steps))]
 pub fn search<S: Solver>(
     alloc: Global,
@@ -25,8 +25,15 @@ pub fn search<S: Solver>(
     method: Method,
     max: u32,
     budget: u32,
+    effort: u32,
 ) -> Result<Certificate, AllocError>
-    requires settings { IsInRange (record { basis = basis; method = method; max = max; conflicts = budget }) }
+    requires settings { IsInRange (record {
+      basis = basis;
+      method = method;
+      max = max;
+      conflicts = budget;
+      effort = 0;
+    }) }
     ensures header { IfOk result (λ b. b.header ≡ record {
       spec = spec.now;
       basis = basis;
@@ -37,7 +44,7 @@ pub fn search<S: Solver>(
     ensures valid { IfOk result (λ b. IsValid b) }
     ensures live_bounds { IfOk result (λ b. HaveLiveBounds b.header b.sections) }
 {
-    let mut search = SizeSearch::new(copied(alloc, spec)?, basis, method, max, budget, 0);
+    let mut search = SizeSearch::new(copied(alloc, spec)?, basis, method, max, budget, effort);
     let mut sections = Vec::new(alloc);
     loop {
         match search.advance::<S>(alloc)? {

@@ -1,5 +1,5 @@
 -- The result of a search for the fewest levels, as a certificate.
-use Rattle.std.proofs.Common.{◌≡◌, ℕ, ◌<◌, List, [], length, All, refl, sym, ap, ◌∙◌, subst}
+use Rattle.std.proofs.Common.{◌≡◌, ℕ, ◌<◌, List, [], length, All, refl, sym, ap, ◌∙◌, subst, arith}
 use Rattle.std.proofs.lemmas.Grind.{common_steps}
 use Rattle.text_core.specs.Lines.{lines_of}
 use Rattle.tt_core.specs.Words.{Words, specification}
@@ -22,8 +22,8 @@ use Rattle.synth_core.specs.DepthCertifying.{IsLeast, IsOther}
 abbrev pub by_fences : Words → SynthSettings → Header
 by_fences w settings = record { spec = w; basis = settings.basis; method = Fence; conflicts = settings.conflicts; max = settings.max }
 
-pub settings_range : (settings : SynthSettings) → IsInRange settings → IsInRange (record { basis = settings.basis; method = Fence; max = settings.max; conflicts = settings.conflicts })
-settings_range settings range = record { basis_from = range.basis_from; max_to = range.max_to; conflicts_from = range.conflicts_from; conflicts_to = range.conflicts_to }
+pub settings_range : (settings : SynthSettings) → IsInRange settings → IsInRange (record { basis = settings.basis; method = Fence; max = settings.max; conflicts = settings.conflicts; effort = 0 })
+settings_range settings range = record { basis_from = range.basis_from; max_to = range.max_to; conflicts_from = range.conflicts_from; conflicts_to = range.conflicts_to; effort_to = omega arith }
 
 header_same : (w : Words) (settings : SynthSettings) → settings.method ≡ Fence → by_fences w settings ≡ header_of w settings
 header_same w settings is = ap (λ (m : Method). record { spec = w; basis = settings.basis; method = m; conflicts = settings.conflicts; max = settings.max }) (sym is)

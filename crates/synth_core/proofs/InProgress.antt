@@ -1,5 +1,5 @@
 -- A certificate with one more piece.
-use Rattle.std.proofs.Common.{◌≡◌, ℕ, ◌≤◌, ◌<◌, List, [], ◌∷◌, ◌++◌, length, Option, None, refl, sym, ap, subst, ◌∙◌, append_assoc}
+use Rattle.std.proofs.Common.{◌≡◌, ℕ, ◌≤◌, ◌<◌, List, [], ◌∷◌, ◌++◌, length, Option, None, refl, sym, ap, subst, ◌∙◌, append_assoc, arith}
 use Rattle.std.specs.List.{flat_map}
 use Rattle.std.proofs.lemmas.Grind.{common_steps, flat_map-append}
 use Rattle.text_core.specs.Lines.{lines_of, line_bytes}
@@ -17,9 +17,14 @@ use Rattle.cert_theory.specs.LiveBounds.{HasLiveBoundsIn}
 use Rattle.size_loop.specs.SearchedLaws.{searched_none, searched_more, searched_valid}
 use Rattle.size_loop.specs.Advancing.{after_section}
 use Rattle.settings.specs.declared.synth.SynthSettings.{SynthSettings}
+use Rattle.settings.specs.Synth.{IsInRange}
 use Rattle.synth_core.specs.SettingsHeader.{header_of}
 use Rattle.synth_core.specs.Certifying.{IsCertificate}
 use Rattle.synth_core.specs.Pieces.{IsInProgress}
+
+-- the settings of a certificate are in their ranges, whatever the effort
+pub header_range : (s : SynthSettings) → IsInRange s → IsInRange (record { basis = s.basis; method = s.method; max = s.max; conflicts = s.conflicts; effort = 0 })
+header_range s range = record { basis_from = range.basis_from; max_to = range.max_to; conflicts_from = range.conflicts_from; conflicts_to = range.conflicts_to; effort_to = omega arith }
 
 -- before the first size
 begun_by : (bytes : List ℕ) (settings : SynthSettings) (h : Header) (s : State) (text : List ℕ) →
@@ -98,4 +103,4 @@ ended bytes settings s before text chain verdict under trailer spelled =
       live_bounds = under.searched.live_bounds;
     }
 
-pub ruleset in_progress = (common_steps, begun, section_more, ended)
+pub ruleset in_progress = (common_steps, header_range, begun, section_more, ended)

@@ -81,6 +81,7 @@ pub fn certify_depth<S: Solver>(
         settings.basis,
         settings.max,
         settings.conflicts,
+        settings.effort,
     )? {
         DepthResult::Least(certificate) => {
             let text = depth_written(alloc, &certificate)?;

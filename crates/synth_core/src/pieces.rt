@@ -13,7 +13,7 @@ use cert_text::{write_header, write_section, write_trailer};
 use cert_theory::Verdict;
 use sat_solve::Solver;
 use settings::SynthSettings;
-use size_loop::{Advance, DEFAULT_EFFORT, SizeSearch};
+use size_loop::{Advance, SizeSearch};
 use std::alloc::{AllocError, Global};
 use tt_core::SpecError;
 
@@ -64,7 +64,7 @@ pub fn begin(
         settings.method,
         settings.max,
         settings.conflicts,
-        DEFAULT_EFFORT,
+        settings.effort,
     );
     Ok(BegunSynthesis { search, text })
 }

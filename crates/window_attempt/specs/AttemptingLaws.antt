@@ -39,7 +39,7 @@ asked_well s spec max range tables basis few =
     record {
       tables = tables;
       basis_below = basis;
-      settings = record { basis_from = range.basis_from; max_to = few; conflicts_from = range.conflicts_from; conflicts_to = range.conflicts_to };
+      settings = record { basis_from = range.basis_from; max_to = few; conflicts_from = range.conflicts_from; conflicts_to = range.conflicts_to; effort_to = omega arith };
     }
 
 pub decided_by : (s : ImproveSettings) (n : Net) (w : Window) (spec : Words) (max : ℕ) (d : Decided) →
