@@ -1,11 +1,11 @@
 //! The chain that is known before its size comes, so that the formula of its size isn't solved: of at most four inputs
-//! by enumeration, if it has few steps, and of more inputs by walks over small nets, whose work grows with the size. A
-//! walk may miss a chain: then the formula of its size finds it.
+//! and three steps by enumeration, and otherwise by walks over small nets, whose work grows with the size. A walk may
+//! miss a chain: then the formula of its size finds it.
 ghost use Rattle.std.specs.Prelude.{IfOk};
 ghost use Rattle.cert_theory.specs.Certificate.{IsHeader};
 ghost use Rattle.size_loop.specs.Outcomes.{IsKnown};
 
-use crate::sizes::{MOST_ENUMERATED_INPUTS, enumerated};
+use crate::sizes::{MOST_ENUMERATED_INPUTS, MOST_ENUMERATED_STEPS, enumerated};
 use cert_theory::Header;
 use chain_bound::{Goal, bound};
 use chain_core::Chain;
@@ -104,7 +104,7 @@ pub(crate) fn known_from(
     requires before { IsKnown header.now before }
     ensures { IfOk result (λ found. IsKnown header.now found) }
 {
-    if header.spec.n() <= MOST_ENUMERATED_INPUTS {
+    if header.spec.n() <= MOST_ENUMERATED_INPUTS && size <= MOST_ENUMERATED_STEPS {
         return few_inputs(alloc, header, size, before);
     }
     if effort == 0 || has_at_most(&before, size) {

@@ -22,7 +22,7 @@ use step_core::least_chain;
 /// The most inputs of tables whose chains are enumerated.
 pub(crate) const MOST_ENUMERATED_INPUTS: u32 = 4;
 /// The most steps that are enumerated.
-const MOST_ENUMERATED_STEPS: u32 = 3;
+pub(crate) const MOST_ENUMERATED_STEPS: u32 = 3;
 
 /// The result of a size.
 #[derive(Drop)]
