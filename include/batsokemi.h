@@ -93,8 +93,8 @@ struct batsokemi_answer {
  * read the same command and the same input. It isn't to be called from a signal handler. BATSOKEMI_STACK bytes of stack
  * are enough: that is measured, over all commands and netlists of 100,000 gates, and not proved.
  *
- * A call takes as long as the command does, and can't be stopped; `--conflicts` and `--max` bound it. It blocks on
- * nothing, reads no file, no clock and no environment, and never ends the process.
+ * A call takes as long as the command does, and can't be stopped; `--conflicts` and `--max` bound the logs of `synth`.
+ * It blocks on nothing, reads no file, no clock and no environment, and never ends the process.
  */
 struct batsokemi_answer batsokemi_run(const void *command, size_t command_length, const void *input, size_t input_length,
                                       void *output, size_t output_room, void *notes, size_t notes_room);

@@ -4,6 +4,8 @@ pub mod Leading
 pub mod LeadingLaws
 pub mod LocalSpecification
 pub mod Settled
+pub mod Changes
+pub mod ChangesLaws
 pub mod Undecided
 pub mod Candidates
 pub mod Improvement

@@ -18,6 +18,8 @@ use Rattle.resyn_core.specs.OrderLaws.{none_rise}
 use Rattle.net_theory.specs.Operators.{HasOperatorsWithin}
 use Rattle.improve_theory.specs.Leading.{IsReplacement}
 use Rattle.improve_theory.specs.LeadingLaws.{replaces_itself, replaces_on}
+use Rattle.improve_theory.specs.Changes.{HasChangedTimes}
+use Rattle.improve_theory.specs.ChangesLaws.{times_from}
 use Rattle.improve_theory.specs.Improvement.{IsResynthesisOf, IsImprovementBy}
 
 cleanup_within : (basis : Basis) (n : Net) → IsNet n → HasOperatorsWithin basis n (cleanup n)
@@ -38,6 +40,7 @@ idle s n named net cap none =
       undecided_are = nothing_named (cleanup n) s named none;
       rising = none_rise named none;
       stopped = λ e. absurd (both_ways true e refl);
+      rounds_changed = λ e. absurd (both_ways true e refl);
       none_named = λ e. none;
       untouched = λ e. (refl, refl);
     }
@@ -102,6 +105,7 @@ resynthesizes_on s n d m settled named itself replaces resynthesized = record {
   undecided_are = resynthesized.undecided_are;
   rising = resynthesized.rising;
   stopped = λ e. let few = replaces_to_fewer (members s.basis) n d itself replaces in let gone = resynthesized.stopped e in omega (arith, few, gone);
+  rounds_changed = λ e. times_from s.rounds s n d m (record { replaces = replaces; no_more = replaces_to_fewer (members s.basis) n d itself replaces }) (resynthesized.rounds_changed e);
   none_named = resynthesized.none_named;
 }
 
@@ -115,13 +119,14 @@ resynthesizes_again s n d e m before settled first named itself resynthesized mo
 pub attempts_resynthesizes : (s t : ImproveSettings) (d e m k : Net) (settled : Bool) (named : List Undecided) →
     t ≡ s → e ≡ d → k ≡ m → IsReplacement (members t.basis) e m → (settled ≡ true → IsSettled t m (candidates named)) →
     All (IsUndecided m t) named → AreInOrder (candidates named) →
-    (settled ≡ false → length m.gates + t.rounds ≤ length e.gates) → (settled ≡ false → named ≡ []) →
+    (settled ≡ false → length m.gates + t.rounds ≤ length e.gates) →
+    (settled ≡ false → HasChangedTimes t.rounds t e m) → (settled ≡ false → named ≡ []) →
     IsResynthesisOf s d k settled named
-attempts_resynthesizes s t d e m k settled named settings begun last replaces settles undecided rising stops none =
+attempts_resynthesizes s t d e m k settled named settings begun last replaces settles undecided rising stops changed none =
     subst (λ (x : Net). IsResynthesisOf s d x settled named) (sym last)
     (subst (λ (x : Net). IsResynthesisOf s x m settled named) begun
     (subst (λ (x : ImproveSettings). IsResynthesisOf x e m settled named) settings
-    (record { replaces = replaces; settled_is = settles; undecided_are = undecided; rising = rising; stopped = stops; none_named = none })))
+    (record { replaces = replaces; settled_is = settles; undecided_are = undecided; rising = rising; stopped = stops; rounds_changed = changed; none_named = none })))
 
 pub leaves_resynthesized : (s : ImproveSettings) (n d m : Net) (settled : Bool) (named : List Undecided) → IsNet n →
     1 ≤ s.cap → d ≡ cleanup n → IsResynthesisOf s d m settled named → IsImprovementBy s n m settled named
@@ -133,6 +138,7 @@ leaves_resynthesized s n d m settled named net cap same resynthesized =
       undecided_are = resynthesized.undecided_are;
       rising = resynthesized.rising;
       stopped = λ e. subst (λ (x : Net). length m.gates + s.rounds ≤ length x.gates) same (resynthesized.stopped e);
+      rounds_changed = λ e. subst (λ (x : Net). HasChangedTimes s.rounds s x m) same (resynthesized.rounds_changed e);
       none_named = resynthesized.none_named;
       untouched = λ e. absurd (omega (arith, e, cap));
     }

@@ -15,9 +15,11 @@ use Rattle.window_theory.specs.Partner.{IsPartner}
 use Rattle.window_theory.specs.Window.{Window, IsGreatestCandidate, AreTaken, IsPartnerOrNone, IsWindow}
 use Rattle.window_theory.specs.WindowLaws as windows
 use Rattle.improve_theory.specs.declared.candidate.WindowCandidate.{WindowCandidate}
-use Rattle.resyn_core.specs.declared.attempts.Attempted.TheVariants.{NoGain}
+use Rattle.resyn_core.specs.declared.attempts.Attempted.TheVariants.{NoGain, Accepted}
 use Rattle.improve_theory.specs.Leading.{IsReplacement}
 use Rattle.improve_theory.specs.LeadingLaws.{replaces_itself, replaces_on}
+use Rattle.improve_theory.specs.Changes.{HasChanged}
+use Rattle.improve_theory.specs.ChangesLaws.{no_larger_itself, changed_from, changed_then}
 use Rattle.improve_theory.specs.Undecided.{Undecided, candidate_of, candidates, IsUndecided}
 use Rattle.improve_theory.specs.Candidates.{IsThis, IsAttemptedBefore}
 use Rattle.resyn_core.specs.Outcomes.{IsDone, IsAttempted}
@@ -100,6 +102,7 @@ resynthesized_none P a none =
       adds = λ e. adds_none P a.round.named;
       sound = λ e are. are;
       fewer_gates = λ off on. absurd (both_ways a.round.changed off on);
+      changed = λ off on. absurd (both_ways a.round.changed off on);
     }
 
 -- One part after another.
@@ -135,6 +138,16 @@ resynthesized_on P Q R a b c first second covers p_in q_in before =
           (λ (earlier : b.round.changed ≡ true). let less : length b.net.gates < length a.net.gates = first.fewer_gates off earlier in omega (arith, less, second.no_more))
           (λ (still : b.round.changed ≡ false). let less : length c.net.gates < length b.net.gates = second.fewer_gates still on in omega (arith, less, first.no_more))
           (cases_Bool b.round.changed);
+      changed = λ off on. ⊎_elim
+          (λ (earlier : b.round.changed ≡ true). changed_then a.settings a.net b.net c.net (first.changed off earlier)
+          (record {
+            replaces = subst (λ (s : ImproveSettings). IsReplacement (members s.basis) b.net c.net) first.asked second.replaces;
+            no_more = second.no_more;
+          }))
+          (λ (still : b.round.changed ≡ false). changed_from a.settings a.net b.net c.net
+          (record { replaces = first.replaces; no_more = first.no_more })
+          (subst (λ (s : ImproveSettings). HasChanged s b.net c.net) first.asked (second.changed still on)))
+          (cases_Bool b.round.changed);
     }
 
 -- Fewer candidates, or more that have no shorter chain anyway.
@@ -152,6 +165,7 @@ resynthesized_as P R a b resynthesized covers p_in =
       adds = λ off. adds_as P R a.round.named b.round.named (resynthesized.adds off) p_in;
       sound = resynthesized.sound;
       fewer_gates = resynthesized.fewer_gates;
+      changed = resynthesized.changed;
     }
 
 -- ---- one candidate
@@ -191,6 +205,7 @@ resynthesized_named s n r u is =
       adds = λ e. adds_one (IsThis u.candidate) r.named u refl;
       sound = λ e are. All-push (IsUndecided n s) r.named u are is;
       fewer_gates = λ off on. absurd (both_ways r.changed off on);
+      changed = λ off on. absurd (both_ways r.changed off on);
     }
 
 pub resynthesized_open : (s t : ImproveSettings) (n m : Net) (r : Round) (changed : Bool)
@@ -222,21 +237,30 @@ resynthesized_late P s t n m r asked same on =
       adds = λ off. absurd (never r.changed on off);
       sound = λ off. absurd (never r.changed on off);
       fewer_gates = λ off. absurd (never r.changed on off);
+      changed = λ off. absurd (never r.changed on off);
     }
 
-pub resynthesized_accepted : (P : WindowCandidate → Type 0) (s t : ImproveSettings) (n m : Net) (r q : Round) → t ≡ s →
-    IsReplacement (members s.basis) n m → length m.gates < length n.gates → q.changed ≡ true →
+pub resynthesized_accepted : (P : WindowCandidate → Type 0) (s t : ImproveSettings) (n m : Net) (r q : Round)
+    (v : WindowCandidate) → t ≡ s → IsAttempted s n m v Accepted → q.changed ≡ true →
     IsResynthesized P (loop_state s n r) (loop_state t m q)
-resynthesized_accepted P s t n m r q asked replaces less on =
+resynthesized_accepted P s t n m r q v asked gain on =
     record {
       asked = asked;
-      replaces = replaces;
-      no_more = omega (arith, less);
+      replaces = gain.replaces;
+      no_more = omega (arith, gain.fewer);
       was = λ off. absurd (never q.changed on off);
       same = λ off. absurd (never q.changed on off);
       kept = λ off. absurd (never q.changed on off);
       done = λ off. absurd (never q.changed on off);
       adds = λ off. absurd (never q.changed on off);
       sound = λ off. absurd (never q.changed on off);
-      fewer_gates = λ was now. less;
+      fewer_gates = λ was now. gain.fewer;
+      changed = λ was now. record {
+        before = n;
+        first = no_larger_itself s n;
+        candidate = v;
+        after = m;
+        gain = gain;
+        last = no_larger_itself s m;
+      };
     }

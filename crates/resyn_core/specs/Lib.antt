@@ -6,4 +6,3 @@ pub mod Resynthesized
 pub mod OrderLaws
 pub mod AttemptLaws
 pub mod ResynthesizedLaws
-pub mod RoundLaws

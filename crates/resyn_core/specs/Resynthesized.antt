@@ -7,6 +7,7 @@ use Rattle.settings.specs.declared.improve.ImproveSettings.{ImproveSettings}
 use Rattle.improve_theory.specs.declared.candidate.WindowCandidate.{WindowCandidate}
 use Rattle.improve_theory.specs.Undecided.{Undecided, candidates, IsUndecided}
 use Rattle.improve_theory.specs.Leading.{IsReplacement}
+use Rattle.improve_theory.specs.Changes.{HasChanged, HasChangedTimes}
 use Rattle.resyn_core.specs.Outcomes.{IsDone}
 use Rattle.improve_theory.specs.Candidates.{AreInOrder}
 
@@ -39,7 +40,7 @@ pub record AddsUndecided (P : WindowCandidate → Type 0) (before after : List U
 
 -- From a to b the candidates with the property P were attempted. The net of b may replace the net of a. If
 -- nothing has changed, the net is the same, each of those candidates has no shorter chain or is named, and
--- each that is named is undecided. If something has changed, the net is smaller.
+-- each that is named is undecided. If something has changed, a window had a shorter chain, and the net is smaller.
 pub record IsResynthesized (P : WindowCandidate → Type 0) (a b : LoopState) : Type 0 where
   pub asked : b.settings ≡ a.settings
   pub replaces : IsReplacement (basis_of a) a.net b.net
@@ -51,9 +52,11 @@ pub record IsResynthesized (P : WindowCandidate → Type 0) (a b : LoopState) : 
   pub adds : b.round.changed ≡ false → AddsUndecided P a.round.named b.round.named
   pub sound : b.round.changed ≡ false → All (IsUndecided a.net a.settings) a.round.named → All (IsUndecided b.net b.settings) b.round.named
   pub fewer_gates : a.round.changed ≡ false → b.round.changed ≡ true → length b.net.gates < length a.net.gates
+  pub changed : a.round.changed ≡ false → b.round.changed ≡ true → HasChanged a.settings a.net b.net
 
 -- The net after `rounds` rounds that each changed it.
 pub record HasRounds (rounds : ℕ) (s t : ImproveSettings) (n m : Net) : Type 0 where
   pub asked : t ≡ s
   pub replaces : IsReplacement (members s.basis) n m
   pub fewer : length m.gates + rounds ≤ length n.gates
+  pub changes : HasChangedTimes rounds s n m

@@ -13,6 +13,8 @@ use Rattle.window_theory.specs.WindowLaws as windows
 use Rattle.improve_theory.specs.declared.candidate.WindowCandidate.{WindowCandidate}
 use Rattle.improve_theory.specs.Leading.{IsReplacement}
 use Rattle.improve_theory.specs.LeadingLaws.{replaces_itself, replaces_on}
+use Rattle.improve_theory.specs.Changes.{IsNoLarger, HasChanged, HasChangedTimes}
+use Rattle.improve_theory.specs.ChangesLaws.{no_larger_itself, times_none, times_more, times_then}
 use Rattle.improve_theory.specs.Settled.{HasNoShorterChain, IsListedCandidate, IsSettled}
 use Rattle.improve_theory.specs.Undecided.{Undecided, candidates, IsUndecided}
 use Rattle.improve_theory.specs.Candidates.{HasNoPartner, IsGreatestPartner, IsThis, IsOfCounts, IsOfPartners, IsOfRoot, IsOfRoots, TurnsBefore, AreInOrder}
@@ -163,7 +165,24 @@ roots_end a b cap root end same resynthesized = subst (λ (k : ℕ). IsResynthes
 -- ---- rounds
 
 pub rounds_start : (s : ImproveSettings) (n : Net) → HasRounds 0 s s n n
-rounds_start s n = record { asked = refl; replaces = replaces_itself (members s.basis) n; fewer = omega arith }
+rounds_start s n = record {
+  asked = refl;
+  replaces = replaces_itself (members s.basis) n;
+  fewer = omega arith;
+  changes = times_none s n n (no_larger_itself s n);
+}
+
+-- merged gates between two rounds
+pub rounds_merged : (rounds : ℕ) (s t u : ImproveSettings) (n m k : Net) → HasRounds rounds s t n m → u ≡ t →
+    IsNoLarger t m k → HasRounds rounds s u n k
+rounds_merged rounds s t u n m k has same merged =
+    let last : IsNoLarger s m k = subst (λ (x : ImproveSettings). IsNoLarger x m k) has.asked merged in
+    record {
+      asked = same ∙ has.asked;
+      replaces = replaces_on (members s.basis) n m k has.replaces last.replaces;
+      fewer = omega (arith, has.fewer, last.no_more);
+      changes = times_then rounds s n m k has.changes last;
+    }
 
 pub rounds_more : (P : WindowCandidate → Type 0) (rounds : ℕ) (s t u : ImproveSettings) (n m k : Net) (r q : Round) →
     HasRounds rounds s t n m → r.changed ≡ false → IsResynthesized P (loop_state t m r) (loop_state u k q) →
@@ -174,6 +193,8 @@ rounds_more P rounds s t u n m k r q has off resynthesized on =
       asked = resynthesized.asked ∙ has.asked;
       replaces = replaces_on (members s.basis) n m k has.replaces (subst (λ (x : ImproveSettings). IsReplacement (members x.basis) m k) has.asked resynthesized.replaces);
       fewer = omega (arith, has.fewer, less);
+      changes = subst (λ (x : ℕ). HasChangedTimes x s n k) (omega arith) (times_more rounds s n m k has.changes
+          (subst (λ (x : ImproveSettings). HasChanged x m k) has.asked (resynthesized.changed off on)));
     }
 
 -- the effect of a round that changed nothing
@@ -275,4 +296,4 @@ pub ruleset attempting = (
   roots_more,
 )
 
-pub ruleset resynthesizing = (common_steps, rounds_start, rounds_more, rounds_lead, resynthesis_more, resynthesis_settles, resynthesis_names, resynthesis_rises, none_rise, asked_cap)
+pub ruleset resynthesizing = (common_steps, rounds_start, rounds_merged, rounds_more, rounds_lead, resynthesis_more, resynthesis_settles, resynthesis_names, resynthesis_rises, none_rise, asked_cap)

@@ -19,13 +19,14 @@ pub enum Attempted {
 
 /// A net whose windows can be attempted one after the other, by some settings.
 pub trait Attempts {
-    ghost use Rattle.std.specs.Prelude.{◌≡◌, ◌≤◌, IfOk};
+    ghost use Rattle.std.specs.Prelude.{◌≡◌, ◌≤◌, IfOk, OnOk};
     ghost use Rattle.net_theory.specs.Net.{Net};
     ghost use Rattle.settings.specs.declared.improve.ImproveSettings.{ImproveSettings};
     ghost use Rattle.settings.specs.Improve.{IsInRange};
     ghost use Rattle.window_theory.specs.Paths.{IsGate};
     ghost use Rattle.improve_theory.specs.Candidates.{IsNextPartner};
-    ghost use Rattle.resyn_core.specs.Outcomes.{IsAttempted, IsShrunk};
+    ghost use Rattle.improve_theory.specs.Changes.{IsNoLarger};
+    ghost use Rattle.resyn_core.specs.Outcomes.{IsAttempted};
 
     /// The settings.
     ghost settings_of: { Self → ImproveSettings };
@@ -42,12 +43,10 @@ pub trait Attempts {
     fn net(&self) -> &Net
         ensures { result.now ≡ net_of self.now };
 
-    /// Merges structurally equal gates (structural hashing), where the settings allow it. Returns whether the
-    /// net became smaller.
-    fn strash(&mut self, alloc: Global) -> Result<bool, AllocError>
-        ensures asked { IfOk result (λ _. settings_of self.new ≡ settings_of self.old) }
-        ensures shrunk { IfOk result (λ merged. IsShrunk (settings_of self.old) (net_of self.old)
-            (net_of self.new) merged) };
+    /// Merges structurally equal gates (structural hashing), where the settings allow it.
+    fn strash(&mut self, alloc: Global) -> Result<(), AllocError>
+        ensures asked { OnOk result (settings_of self.new ≡ settings_of self.old) }
+        ensures merged { OnOk result (IsNoLarger (settings_of self.old) (net_of self.old) (net_of self.new)) };
 
     /// Attempts the window of a root, a partner or none, and a count from 1 to the cap. There may be no such
     /// window, and `partner` may be no partner of the root.

@@ -1,4 +1,4 @@
-//! Resynthesis of a net by windows. A round merges structurally equal gates and then goes once over all
+//! Resynthesis of a net by windows. Structurally equal gates are merged, and then a round goes once over all
 //! candidate windows in order; rounds follow until one changes nothing, a fixpoint, or until
 //! `settings.rounds` of them have changed something. The trait `Attempts` attempts one window, so this crate
 //! knows no solver, no search and no cache.

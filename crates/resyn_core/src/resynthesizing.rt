@@ -5,6 +5,7 @@ ghost use Rattle.improve_theory.specs.Settled.{IsSettled};
 ghost use Rattle.improve_theory.specs.Undecided.{candidates, IsUndecided};
 ghost use Rattle.improve_theory.specs.Candidates.{AreInOrder};
 ghost use Rattle.improve_theory.specs.Leading.{IsReplacement};
+ghost use Rattle.improve_theory.specs.Changes.{HasChangedTimes};
 
 use crate::attempts::Attempts;
 use crate::round::{Round, make_round};
@@ -21,11 +22,12 @@ pub struct Resynthesized {
 }
 
 /// Resynthesizes a net in rounds, until one changes nothing (a fixpoint) or `settings.rounds` of them have
-/// changed something. The cap is at least 1.
+/// changed something. The cap is at least 1. Before each round structurally equal gates are merged, which isn't
+/// counted as a change: the round attempts all windows after it.
 ///
 /// The final net implements all that the first one implements. If it is settled, no window up to the cap has
-/// a shorter chain, but for those that are named; otherwise the net has lost at least as many gates as there
-/// were rounds.
+/// a shorter chain, but for those that are named. Otherwise a window had a shorter chain in each of the rounds, and
+/// the net has lost at least as many gates.
 #[tactic(auto, using(crate::specs::ResynthesizedLaws::resynthesizing))]
 pub fn resynthesize<T: Attempts>(
     alloc: Global,
@@ -41,11 +43,15 @@ pub fn resynthesize<T: Attempts>(
     ensures stopped { IfOk result (λ resynthesized. resynthesized.settled ≡ false →
         length (T.net_of attempts.new).gates + (T.settings_of attempts.old).rounds ≤ length
         (T.net_of attempts.old).gates) }
+    ensures rounds_changed { IfOk result (λ resynthesized. resynthesized.settled ≡ false →
+        HasChangedTimes (T.settings_of attempts.old).rounds (T.settings_of attempts.old)
+        (T.net_of attempts.old) (T.net_of attempts.new)) }
     ensures rising { IfOk result (λ resynthesized. AreInOrder (candidates resynthesized.undecided.items)) }
     ensures none { IfOk result (λ resynthesized. resynthesized.settled ≡ false → resynthesized.undecided.items ≡ []) }
 {
     let rounds = attempts.settings().rounds;
     for _round in 0..rounds {
+        attempts.strash(alloc)?;
         let mut round = Round {
             changed: false,
             named: Vec::new(alloc),

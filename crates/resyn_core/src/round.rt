@@ -1,6 +1,6 @@
-//! One round: structurally equal gates are merged, and then every window is attempted in order.
+//! One round: every window is attempted in order.
 ghost use Rattle.std.specs.Prelude.{◌+◌, ◌≤◌, IfOk, OnOk};
-ghost use Rattle.improve_theory.specs.Candidates.{IsNoCandidate, IsThis, IsOfCounts, IsOfPartners, IsOfRoot};
+ghost use Rattle.improve_theory.specs.Candidates.{IsThis, IsOfCounts, IsOfPartners, IsOfRoot};
 ghost use Rattle.improve_theory.specs.Candidates.{IsOfRoots};
 ghost use Rattle.improve_theory.specs.Candidates.{IsNextPartner};
 ghost use Rattle.net_theory.specs.Net.{end_of};
@@ -152,9 +152,9 @@ fn attempt_root<T: Attempts>(
     Ok(())
 }
 
-/// Attempts all roots of the initial net, in ascending order.
+/// Makes a round: attempts all roots of the initial net, in ascending order.
 #[tactic(auto, using(crate::specs::ResynthesizedLaws::attempting))]
-fn attempt_all<T: Attempts>(
+pub fn make_round<T: Attempts>(
     alloc: Global,
     attempts: &mut T,
     round: &mut Round,
@@ -170,42 +170,5 @@ fn attempt_all<T: Attempts>(
     for root in first..end {
         attempt_root(alloc, attempts, round, root)?;
     }
-    Ok(())
-}
-
-/// Merges structurally equal gates (structural hashing).
-#[tactic(auto, using(crate::specs::RoundLaws::merging))]
-fn merge_gates<T: Attempts>(
-    alloc: Global,
-    attempts: &mut T,
-    round: &mut Round,
-) -> Result<(), AllocError>
-    ensures { OnOk result (IsResynthesized IsNoCandidate
-        (loop_state (T.settings_of attempts.old) (T.net_of attempts.old) round.old)
-        (loop_state (T.settings_of attempts.new) (T.net_of attempts.new) round.new)) }
-{
-    let merged = attempts.strash(alloc)?;
-    if !merged {
-        return Ok(());
-    }
-    round.changed = true;
-    Ok(())
-}
-
-/// Makes a round.
-#[tactic(auto, using(crate::specs::ResynthesizedLaws::resynthesizing))]
-pub fn make_round<T: Attempts>(
-    alloc: Global,
-    attempts: &mut T,
-    round: &mut Round,
-) -> Result<(), AllocError>
-    requires cap { 1 ≤ (T.settings_of attempts.old).cap }
-    ensures { OnOk result (IsResynthesized (IsOfRoots (T.settings_of attempts.old).cap
-        (end_of (T.net_of attempts.old)))
-        (loop_state (T.settings_of attempts.old) (T.net_of attempts.old) round.old)
-        (loop_state (T.settings_of attempts.new) (T.net_of attempts.new) round.new)) }
-{
-    merge_gates(alloc, attempts, round)?;
-    attempt_all(alloc, attempts, round)?;
     Ok(())
 }

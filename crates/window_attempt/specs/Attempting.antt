@@ -1,7 +1,6 @@
 -- The result of an attempt.
-use Rattle.std.specs.Prelude.{◌≡◌, ℕ, ◌+◌, ◌≤◌, ◌<◌, length}
+use Rattle.std.specs.Prelude.{◌≡◌, ℕ, ◌+◌, ◌≤◌, length}
 use Rattle.tt_core.specs.Words.{specification}
-use Rattle.op_basis.specs.Basis.{members}
 use Rattle.net_theory.specs.Net.{Net}
 use Rattle.window_theory.specs.Window.{Window}
 use Rattle.window_core.specs.Fanouts.{Fanouts, AreFanouts}
@@ -13,7 +12,7 @@ use Rattle.decide_core.specs.Decided.{IsDecided, IsClosed}
 use Rattle.improve_theory.specs.declared.candidate.WindowCandidate.{WindowCandidate}
 use Rattle.improve_theory.specs.LocalSpecification.{IsLocalSpecification}
 use Rattle.improve_theory.specs.Undecided.{IsUndecided}
-use Rattle.improve_theory.specs.Leading.{IsReplacement}
+use Rattle.improve_theory.specs.Changes.{IsGain}
 use Rattle.resyn_core.specs.Outcomes.{IsDone}
 use Rattle.window_attempt.specs.declared.attempting.AttemptOutcome.{AttemptOutcome}
 use Rattle.window_attempt.specs.declared.attempting.AttemptOutcome.TheVariants.{NoGain, Open, Accepted}
@@ -50,4 +49,4 @@ pub record IsDecidedFor (s : ImproveSettings) (n : Net) (w : Window) (d : Decide
 abbrev pub IsAttemptOutcome : ImproveSettings → Net → WindowCandidate → AttemptOutcome → Type 0
 IsAttemptOutcome s n v NoGain = IsDone s n v
 IsAttemptOutcome s n v (Open search) = IsUndecided n s (record { candidate = v; search = search })
-IsAttemptOutcome s n v (Accepted m) = IsReplacement (members s.basis) n m × (length m.gates < length n.gates)
+IsAttemptOutcome s n v (Accepted m) = IsGain s n m v

@@ -22,6 +22,7 @@ use Rattle.decide_core.specs.Decided.{HasNone, IsLeftOpen, IsDecided, IsClosed}
 use Rattle.improve_theory.specs.declared.candidate.WindowCandidate.{WindowCandidate}
 use Rattle.improve_theory.specs.LocalSpecification.{IsLocalSpecification, HasNoFewerLocal}
 use Rattle.improve_theory.specs.Settled.{IsListedCandidate}
+use Rattle.improve_theory.specs.Changes.{HasShorterChain}
 use Rattle.improve_theory.specs.Undecided.{IsUndecided}
 use Rattle.resyn_core.specs.Outcomes.{IsDone}
 use Rattle.walk_core.specs.LocalSpecification.{MeetsLocal}
@@ -162,6 +163,24 @@ attempts_few s n w d c decided e = omega (arith, attempts_fewer s n w d c decide
 
 pub attempts_over : (s : ImproveSettings) (n : Net) (w : Window) (d : Decided) (c : Chain) → IsDecidedFor s n w d → d ≡ decisions.Shorter c → IsOver (members s.basis) c
 attempts_over s n w d c decided e = shorter_over s n w c (decided_as s n w d (decisions.Shorter c) e decided)
+
+shorter_chain : (s : ImproveSettings) (n : Net) (v : WindowCandidate) (w : Window) (c : Chain) → IsNet n →
+    IsWindow n v.root v.partner v.count w → IsDecidedFor s n w (decisions.Shorter c) → HasShorterChain s n v
+shorter_chain s n v w c net is decided = record {
+  window = w;
+  is = is;
+  specification = specification decided.header.spec;
+  tables = decided.asks.tables;
+  chain = c;
+  is_chain = decided.decided.found.chain;
+  over = shorter_over s n w c decided;
+  agrees = decided.decided.found.agrees;
+  fewer = omega (arith, shorter_fewer s n w c decided, window_size n v.root v.partner v.count w net is);
+}
+
+pub attempts_shorter : (s : ImproveSettings) (n : Net) (v : WindowCandidate) (w : Window) (d : Decided) (c : Chain) →
+    IsNet n → IsWindow n v.root v.partner v.count w → IsDecidedFor s n w d → d ≡ decisions.Shorter c → HasShorterChain s n v
+attempts_shorter s n v w d c net is decided e = shorter_chain s n v w c net is (decided_as s n w d (decisions.Shorter c) e decided)
 
 -- ---- candidates
 

@@ -15,7 +15,8 @@ use Rattle.settings.specs.declared.improve.ImproveSettings.{ImproveSettings}
 use Rattle.merge_core.specs.Merging.{HaveOperatorsOf}
 use Rattle.improve_theory.specs.Leading.{IsReplacement}
 use Rattle.improve_theory.specs.LeadingLaws.{replaces_itself}
-use Rattle.resyn_core.specs.Outcomes.{IsShrunk}
+use Rattle.improve_theory.specs.ChangesLaws.{no_larger_itself}
+use Rattle.improve_theory.specs.Changes.{IsNoLarger}
 
 -- after cleanup the gates have operators of the first net
 left_operator : (n m k : Net) (i : ℕ) (g : Gate) → Implements n m → HaveOperatorsOf n m.gates → k ≡ cleanup m → slice_get k.gates i ≡ Some g → HasOperator n g.op
@@ -36,12 +37,18 @@ merged_fewer n m k implements cleaned_up other = omega (arith, implements.fewer,
 -- the net that was stored
 pub shrunk_by : (s : ImproveSettings) (n own m new : Net) (o : Option Net) → own ≡ n → m ≡ new → o ≡ Some new →
     ((basis : Basis) → IfSome o (λ x. IsReplacement basis own x)) → IfSome o (λ x. length x.gates < length own.gates) →
-    IsShrunk s n m true
+    IsNoLarger s n m
 shrunk_by s n own m new o is_own put some replaces less =
-    subst (λ (x : Net). IsShrunk s n x true) (sym put)
-    (subst (λ (x : Net). IsShrunk s x new true) is_own (
-      subst (λ (x : Option Net). IfSome x (λ y. IsReplacement (members s.basis) own y)) some (replaces (members s.basis)),
-      subst (λ (x : Option Net). IfSome x (λ y. length y.gates < length own.gates)) some less,
+    subst (λ (x : Net). IsNoLarger s n x) (sym put)
+    (subst (λ (x : Net). IsNoLarger s x new) is_own (
+    let fewer : length new.gates < length own.gates = subst (λ (x : Option Net). IfSome x (λ y. length y.gates < length own.gates)) some less in
+    record {
+      replaces = subst (λ (x : Option Net). IfSome x (λ y. IsReplacement (members s.basis) own y)) some (replaces (members s.basis));
+      no_more = omega (arith, fewer);
+    }
     ))
 
-pub ruleset merging = (common_steps, replaces_itself, merged_replaces, merged_fewer)
+pub shrunk_none : (s : ImproveSettings) (n m : Net) → m ≡ n → IsNoLarger s n m
+shrunk_none s n m same = subst (λ (x : Net). IsNoLarger s n x) (sym same) (no_larger_itself s n)
+
+pub ruleset merging = (common_steps, replaces_itself, merged_replaces, merged_fewer, no_larger_itself)

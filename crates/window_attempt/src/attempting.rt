@@ -218,15 +218,15 @@ impl<S: Solver> Attempts for WindowAttempts<S> {
 
     // A cap of 1 keeps structurally equal gates: each of them alone needs a step.
     #[tactic(auto, using(crate::specs::MergedLaws::merging))]
-    fn strash(&mut self, alloc: Global) -> Result<bool, AllocError> {
+    fn strash(&mut self, alloc: Global) -> Result<(), AllocError> {
         if self.settings.cap < 2 {
-            return Ok(false);
+            return Ok(());
         }
         match merged(alloc, &self.net)? {
-            None => Ok(false),
+            None => Ok(()),
             Some(net) => {
                 self.put(alloc, net)?;
-                Ok(true)
+                Ok(())
             }
         }
     }

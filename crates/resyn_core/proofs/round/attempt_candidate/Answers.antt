@@ -1,4 +1,5 @@
 -- The window that stayed undecided joins those that are named.
+use Rattle.std.specs.Prelude.{true}
 use Rattle.std.proofs.Common.{subst, sym, refl, ap, ◌∙◌}
 use Rattle.net_theory.specs.Net.{Net}
 use Rattle.window_theory.specs.Paths.{IsGate}
@@ -6,7 +7,7 @@ use Rattle.resyn_core.specs.declared.attempts.Attempted.{Attempted}
 use Rattle.resyn_core.specs.Outcomes.{IsAttempted}
 use Rattle.improve_theory.specs.Candidates.{IsThis}
 use Rattle.resyn_core.specs.Resynthesized.{Round}
-use Rattle.resyn_core.specs.AttemptLaws.{resynthesized_gone, resynthesized_no_gain, resynthesized_open, resynthesized_late}
+use Rattle.resyn_core.specs.AttemptLaws.{resynthesized_gone, resynthesized_no_gain, resynthesized_open, resynthesized_late, resynthesized_accepted}
 use Rattle.resyn_core.proofs.round.attempt_candidate.Goals as goal
 
 pub returns-in_ok-push-in-Open : goal.returns-in_ok-push-in-Open
@@ -43,3 +44,12 @@ returns-then-round g c =
     let attempted = subst (λ (attempted : Attempted). IsAttempted s n m c.args.candidate attempted) c.in-Open.is c.in_ok-attempt.ensures.attempted in
     resynthesized_late (IsThis c.args.candidate) s (g.T.Attempts.settings_of c.attempt.new.self) n m c.args.round.now
     c.in_ok-attempt.ensures.asked attempted.0 (sym (ap (λ (r : Round). r.changed) c.round.view_is) ∙ c.if-round.true)
+
+pub returns-in-Accepted : goal.returns-in-Accepted
+returns-in-Accepted g c =
+    let s = g.T.Attempts.settings_of c.args.attempts.now in
+    let n = g.T.Attempts.net_of c.args.attempts.now in
+    let m = g.T.Attempts.net_of c.attempt.new.self in
+    let attempted = subst (λ (attempted : Attempted). IsAttempted s n m c.args.candidate attempted) c.in-Accepted.is c.in_ok-attempt.ensures.attempted in
+    resynthesized_accepted (IsThis c.args.candidate) s (g.T.Attempts.settings_of c.attempt.new.self) n m c.args.round.now
+    (record { changed = true; named = c.clear.new.self.items }) c.args.candidate c.in_ok-attempt.ensures.asked attempted refl

@@ -2,7 +2,7 @@
 use Rattle.std.specs.Prelude.{◌≤◌}
 use Rattle.improve_theory.specs.Candidates.{IsOfRoots}
 use Rattle.resyn_core.specs.Resynthesized.{loop_state, IsResynthesized}
-use Rattle.resyn_core.proofs.round.attempt_all.Given as goal
+use Rattle.resyn_core.proofs.round.make_round.Given as goal
 
 abbrev pub invariant-loop-root : goal.invariant-loop-root
 invariant-loop-root g l =
