@@ -1,5 +1,5 @@
 -- A net whose structurally equal gates were merged may replace the old one.
-use Rattle.std.specs.Prelude.{◌≡◌, ℕ, ◌<◌, true, length, slice_get, Option, Some, IfSome}
+use Rattle.std.specs.Prelude.{◌≡◌, ℕ, ◌<◌, length, slice_get, Option, Some, IfSome}
 use Rattle.std.proofs.Common.{arith, refl, sym, ◌∙◌, ◌≢◌, subst, inr}
 use Rattle.std.proofs.lemmas.Grind.{common_steps}
 use Rattle.chain_theory.specs.Operator.{Basis}
@@ -47,8 +47,5 @@ shrunk_by s n own m new o is_own put some replaces less =
       no_more = omega (arith, fewer);
     }
     ))
-
-pub shrunk_none : (s : ImproveSettings) (n m : Net) → m ≡ n → IsNoLarger s n m
-shrunk_none s n m same = subst (λ (x : Net). IsNoLarger s n x) (sym same) (no_larger_itself s n)
 
 pub ruleset merging = (common_steps, replaces_itself, merged_replaces, merged_fewer, no_larger_itself)
