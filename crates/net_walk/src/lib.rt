@@ -30,33 +30,3 @@ mod reachable;
 mod windows;
 
 pub use engine::NetWalk;
-
-#[cfg(test)]
-mod tests {
-    use super::*;
-    use std::alloc::{AllocError, Global};
-    use xag_core::{Builder, Xag};
-
-    /// The sum and the carry of three bits, the carry as the OR of three products.
-    fn full_adder(alloc: Global) -> Result<Xag, AllocError> {
-        let mut builder = Builder::new(alloc, 3, 8)?;
-        let half = builder.gate(2, 4, true)?;
-        let sum = builder.gate(half, 6, true)?;
-        let first = builder.gate(2, 4, false)?;
-        let second = builder.gate(2, 6, false)?;
-        let third = builder.gate(4, 6, false)?;
-        let two = builder.gate(first ^ 1, second ^ 1, false)?;
-        let carry = builder.gate(two, third ^ 1, false)?;
-        builder.finish(alloc, &[sum, carry ^ 1])
-    }
-
-    #[test]
-    fn finds_a_full_adder(rt: HostRuntime) -> Result<(), AllocError> {
-        let alloc = rt.alloc();
-        let xag = full_adder(alloc)?;
-        let mut search = NetWalk::new(alloc, &xag, 0xFFFF, 1)?;
-        search.run(100_000)?;
-        assert_eq!(rt; search.best()?.gates().len(), 5);
-        Ok(())
-    }
-}

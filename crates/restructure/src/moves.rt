@@ -42,7 +42,7 @@ fn operators_of(net: &Net, bits: u16) -> u16 {
 fn shared(alloc: Global, xag: Xag) -> Result<Xag, AllocError> {
     let mut best = xag;
     for _time in 0..MOST_SHARINGS {
-        let other = share(alloc, &best, None)?;
+        let other = share(alloc, &best)?;
         let is_smaller = other.gates().len() < best.gates().len();
         best = other;
         if !is_smaller {

@@ -24,7 +24,7 @@ use Rattle.improve_theory.specs.LocalSpecification.{IsLocalSpecification, HasNoF
 use Rattle.improve_theory.specs.Settled.{IsListedCandidate}
 use Rattle.improve_theory.specs.Undecided.{IsUndecided}
 use Rattle.resyn_core.specs.Outcomes.{IsDone}
-use Rattle.walk_core.specs.LocalSpecification.{MeetsLocal}
+use Rattle.window_attempt.specs.LocalSpecification.{MeetsLocal}
 use Rattle.window_attempt.specs.Attempting.{IsHeaderFor, IsDecidedFor}
 use Rattle.window_attempt.specs.AskingLaws.{none_asked}
 

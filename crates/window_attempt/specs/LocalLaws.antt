@@ -14,7 +14,7 @@ use Rattle.observe_core.specs.SubstitutingLaws.{observable_keeps, observable_fit
 use Rattle.subst_core.specs.Substitution.{Meets, KeepsSinks}
 use Rattle.subst_core.specs.SubstitutionLaws.{agrees_keeps}
 use Rattle.improve_theory.specs.LocalSpecification.{IsLocalSpecification}
-use Rattle.walk_core.specs.LocalSpecification.{MeetsLocal}
+use Rattle.window_attempt.specs.LocalSpecification.{MeetsLocal}
 
 -- ---- specifications
 

@@ -2,9 +2,9 @@
 use Rattle.op_basis.specs.Basis.{members}
 use Rattle.subst_core.specs.Lists.{window_of}
 use Rattle.subst_core.specs.ListsLaws.{same_belongs, same_fits, same_keeps, same_room}
-use Rattle.walk_core.specs.AskingLaws.{asked_keeps, asked_fits}
-use Rattle.walk_core.specs.ReplacingLaws.{room_there, replaced_replaces, replaced_no_more, replaced_fewer}
-use Rattle.walk_core.proofs.replacing.replaced.Goals as goal
+use Rattle.window_attempt.specs.LocalLaws.{asked_keeps, asked_fits}
+use Rattle.window_attempt.specs.ReplacingLaws.{room_there, replaced_replaces, replaced_no_more, replaced_fewer}
+use Rattle.window_attempt.proofs.replacing.replaced.Goals as goal
 
 pub replace_keeping-requires-clause-belongs : goal.replace_keeping-requires-clause-belongs
 replace_keeping-requires-clause-belongs c =

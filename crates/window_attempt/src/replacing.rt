@@ -4,7 +4,7 @@ ghost use Rattle.chain_theory.specs.Agreement.{IsOver};
 ghost use Rattle.op_basis.specs.Basis.{members};
 ghost use Rattle.window_theory.specs.Window.{Belongs};
 ghost use Rattle.improve_theory.specs.Leading.{IsReplacement};
-ghost use Rattle.walk_core.specs.LocalSpecification.{MeetsLocal};
+ghost use Rattle.window_attempt.specs.LocalSpecification.{MeetsLocal};
 
 use chain_core::Chain;
 use net_core::Net;

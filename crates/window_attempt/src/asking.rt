@@ -13,7 +13,7 @@ use window_core::{Fanouts, Window, spec_of};
 
 /// The specification of a window with satisfiability don't-cares alone, or, where `observe` is set, its observed one,
 /// which has observability don't-cares too.
-#[tactic(auto, using(crate::specs::AskingLaws::asking))]
+#[tactic(auto, using(crate::specs::LocalLaws::asking))]
 pub fn local_spec(
     alloc: Global,
     net: &Net,
