@@ -4,14 +4,14 @@
 The program doesn't report passes, so `improve` runs with more and more options, and a column is what one more saves:
 
     dead     --cap 0: dangling gates, and constants and copies that reading removes
-    moves    --cap 1: sharing, resubstitution and three rounds of both (where there are 6 to 100,000 gates; the rounds up
-             to 1,000), with windows of one gate
-    two ..   --cap 2, 3, 4 and 5: structural and functional hashing, and listed windows and walks over convex sets of at most
-    five     2, 3, 4 and 5 gates (walks up to 10,000 gates; three rounds of them up to 1,000); these can't be separated
-    effort5  --effort 5 and 20: as many rounds of moves and of walks
+    moves    --cap 1: sharing and the first stage of walks over random windows (where there are 6 to 100,000 gates), with
+             exact windows of one gate
+    two ..   --cap 2, 3, 4 and 5: structural and functional hashing, and listed windows of at most 2, 3, 4 and 5 gates
+    five
+    effort5  --effort 5 and 20: further stages of walks
     effort20
 
-A negative number says that more options left more gates: the search is hill climbing. `left` are the gates after the last
+A negative number says that more options left more gates, which --effort never does. `left` are the gates after the last
 run, and `time` the user seconds of the run by default. Without a netlist it takes the full adder of seven gates and circuits of
 `circuits.py`."""
 import os

@@ -193,7 +193,7 @@ def improve(
     observe : bool, optional
         Whether to use observability don't-cares too.
     effort : int, optional
-        The number of rounds of moves and walks that may keep the size, 0 to 1,000.
+        How long the search for smaller netlists goes on, 0 to 1,000; a greater one never leaves more gates.
     engine : Engine, optional
 
     Returns

@@ -1,6 +1,6 @@
 //! Tests of `improve`: netlists with cap 0, netlists that shrink, by a window and by one with a partner,
 //! netlists that settings leave unchanged, a window that stays undecided, refusals; nets that are judged,
-//! under all assignments or by a miter; walks over convex windows; and moves over the graph of a net. The
+//! under all assignments or by a miter; walks over random windows; and moves over the graph of a net. The
 //! searches are those of `cdcl_core`.
 #![tactic(auto)]
 

@@ -3,9 +3,17 @@
 
 use bench_core::read_bench;
 use cdcl_core::Cdcl;
+use net_core::Net;
 use op_basis::Basis;
-use restructure::restructured;
-use std::alloc::Global;
+use restructure::Moves;
+use std::alloc::{AllocError, Global};
+
+/// A smaller net by moves of little work, if they find one.
+fn moved(alloc: Global, net: &Net, basis: Basis) -> Result<Option<Net>, AllocError> {
+    let mut moves = Moves::new(alloc, net, basis, 1)?;
+    moves.run(net, 100_000)?;
+    moves.smaller::<Cdcl>(net, basis)
+}
 
 /// The number of gates that moves leave of a BENCH text, with operators of a basis; None where they leave it as it
 /// is.
@@ -16,7 +24,7 @@ fn gates_left(alloc: Global, text: &str, basis: u16) -> Option<usize> {
     let Ok(circuit) = read_bench(alloc, text.as_bytes()) else {
         return None;
     };
-    match restructured::<Cdcl>(alloc, &circuit.net, Basis::new(basis), 1) {
+    match moved(alloc, &circuit.net, Basis::new(basis)) {
         Ok(Some(net)) => Some(net.gates().len()),
         Ok(None) => None,
         Err(_) => None,

@@ -1,48 +1,35 @@
-//! Walks over convex windows of netlists.
+//! Walks over random windows of graphs.
 
-use blif_core::read_blif;
-use std::alloc::Global;
-use walk_core::{ImproveSettings, walked};
+use net_walk::NetWalk;
+use std::alloc::{AllocError, Global};
+use xag_core::{Builder, Xag};
 
-/// A full adder as textbooks have it, by seven gates: the majority is three products.
-const ADDER: &[u8] =
-    b".model a\n.inputs a b c\n.outputs s k\n.names a b p\n01 1\n10 1\n.names p c s\n01 1\n10 1\n.names a b q\n11 1\n.names b c r\n11 1\n.names a c t\n11 1\n.names q r u\n1- 1\n-1 1\n.names u t k\n1- 1\n-1 1\n.end\n";
+/// The sum and the carry of three bits, the carry as the OR of three products.
+fn full_adder(alloc: Global) -> Result<Xag, AllocError> {
+    let mut builder = Builder::new(alloc, 3, 8)?;
+    let half = builder.gate(2, 4, true)?;
+    let sum = builder.gate(half, 6, true)?;
+    let first = builder.gate(2, 4, false)?;
+    let second = builder.gate(2, 6, false)?;
+    let third = builder.gate(4, 6, false)?;
+    let two = builder.gate(first ^ 1, second ^ 1, false)?;
+    let carry = builder.gate(two, third ^ 1, false)?;
+    builder.finish(alloc, &[sum, carry ^ 1])
+}
 
-/// Two gates; one gate can't replace them.
-const LEAST: &[u8] =
-    b".model x\n.inputs a b c\n.outputs y\n.names a b p\n11 1\n.names p c y\n01 1\n10 1\n.end\n";
-
-/// Netlists, rounds of level walks, and the number of gates that walks leave, where they find fewer.
-const WALKED: &[(&str, &[u8], u32, Option<usize>)] = &[
-    (
-        "a full adder of seven gates: the listed windows of five would leave six",
-        ADDER,
-        0,
-        Some(5),
-    ),
-    ("a full adder after level walks", ADDER, 2, Some(5)),
-    ("two gates that one can't replace", LEAST, 2, None),
-];
-
-/// The number of gates that walks leave, where they find fewer.
-fn gates_left(alloc: Global, bytes: &[u8], rounds: u32) -> Option<usize> {
-    if bytes.len() > 100_000 {
-        return None;
-    }
-    let Ok(circuit) = read_blif(alloc, bytes) else {
-        return None;
-    };
-    let settings = ImproveSettings::defaults();
-    match walked(alloc, &circuit.net, &settings, rounds) {
-        Ok(Some(net)) => Some(net.gates().len()),
-        Ok(None) => None,
-        Err(_) => None,
-    }
+/// The numbers of gates that a walk leaves of the adder, after less work and after more.
+fn gates_left(alloc: Global, first: u64, second: u64) -> Result<(usize, usize), AllocError> {
+    let xag = full_adder(alloc)?;
+    let mut search = NetWalk::new(alloc, &xag, 0xFFFF, 1)?;
+    search.run(first)?;
+    let few = search.best()?.gates().len();
+    search.run(second)?;
+    Ok((few, search.best()?.gates().len()))
 }
 
 #[test]
-fn walks_leave_a_full_adder_of_five_gates(rt: HostRuntime) {
-    for &(name, text, rounds, wanted) in WALKED {
-        assert!(rt; gates_left(rt.alloc(), text, rounds) == wanted, "{name}");
-    }
+fn walks_leave_a_full_adder_of_five_gates(rt: HostRuntime) -> Result<(), AllocError> {
+    let (first, second) = gates_left(rt.alloc(), 100_000, 200_000)?;
+    assert!(rt; first == 5 && second == 5);
+    Ok(())
 }

@@ -1,5 +1,5 @@
 //! Improvement of netlists: of nets, and of BLIF and BENCH texts. `src/passes.rt` has the order of the passes: cleanup,
-//! functional hashing, moves over the whole net (`restructure`), walks over convex windows (`walk_core`), and
+//! functional hashing, moves over the whole net (`restructure`), and
 //! resynthesis (`resyn_core` with the attempts of `window_attempt`). `blif_core` and `bench_core` read and write,
 //! `blif_laws` and `bench_laws` say what written texts mean, and `cert_text` writes the certificates of a report. Any
 //! solver can make the searches.
@@ -24,6 +24,7 @@ mod costing;
 pub mod laws;
 mod passes;
 mod reporting;
+mod stages;
 mod texts;
 
 pub use blif_core::{Circuit, NetError};

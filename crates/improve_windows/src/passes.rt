@@ -1,6 +1,9 @@
 //! An improved net: cleanup, functional hashing of large nets with at most 12 sources, moves over the whole net,
-//! walks over convex windows, resynthesis of the listed windows, and moves again while they help. A listed window is
-//! that of a root, of a partner or none, and of a number of gates up to the cap.
+//! resynthesis of the listed windows, and both again in the stages of the effort. A listed window is that of a root, of
+//! a partner or none, and of a number of gates up to the cap.
+//!
+//! A stage begins with the least net so far, and doesn't depend on the effort, which says how many there are. None
+//! makes the net larger. So a greater effort never leaves more gates.
 ghost use Rattle.std.specs.Prelude.{◌≤◌, IfOk, IfSome};
 ghost use Rattle.op_basis.specs.Basis.{members};
 ghost use Rattle.net_theory.specs.Implements.{IsCleanedUp};
@@ -8,18 +11,15 @@ ghost use Rattle.settings.specs.Improve.{IsInRange};
 ghost use Rattle.improve_theory.specs.Leading.{IsReplacement};
 ghost use Rattle.improve_theory.specs.Improvement.{IsResynthesisOf, IsImprovementBy};
 
+use crate::stages::{first_work, stage_work};
 use improve_theory::Undecided;
 use net_core::{Net, remove_dangling};
-use restructure::restructured;
+use restructure::Moves;
 use resyn_core::{Resynthesized, resynthesize};
 use sat_solve::Solver;
 use settings::ImproveSettings;
 use std::alloc::{AllocError, Global};
-use thresholds::{
-    LEAST_MOVED_GATES, LEAST_ROUNDS_OF_MOVES, MOST_GATES_OF_SMALL_NET, MOST_GATES_OF_TURNS,
-    MOST_TURNS,
-};
-use walk_core::walked;
+use thresholds::LEAST_MOVED_GATES;
 use window_attempt::{WindowAttempts, many_merged};
 
 /// An improved net.
@@ -53,86 +53,44 @@ fn resynthesized<S: Solver>(
     })
 }
 
-/// Whether moves are tried on a net: if `effort` > 0, or from `LEAST_MOVED_GATES` gates on.
-fn is_moved(net: &Net, effort: u32) -> bool {
-    effort > 0 || LEAST_MOVED_GATES <= net.gates().len()
-}
-
-/// The number of rounds of size-preserving moves for a net.
-fn rounds_of(net: &Net, effort: u32) -> u32 {
-    if net.gates().len() > MOST_GATES_OF_SMALL_NET {
-        effort
-    } else {
-        effort.max(LEAST_ROUNDS_OF_MOVES)
-    }
-}
-
-/// How often moves follow resynthesis. If nothing has changed and there are no
-/// size-preserving rounds, moves would find nothing again.
-fn repeats_of(net: &Net, before: usize, rounds: u32) -> u32 {
-    let gates = net.gates().len();
-    if gates > MOST_GATES_OF_TURNS || (rounds == 0 && gates == before) {
-        0
-    } else {
-        MOST_TURNS
-    }
-}
-
-/// A smaller net by moves over the whole net, if they find one.
+/// A smaller net after so much more work of moves over the whole net, if they find one; none without work.
 #[tactic(auto, using(crate::specs::ImprovementLaws::improving))]
 fn moved<S: Solver>(
-    alloc: Global,
+    moves: &mut Moves,
     net: &Net,
     settings: &ImproveSettings,
-    rounds: u32,
+    work: u64,
 ) -> Result<Option<Net>, AllocError>
     ensures { IfOk result (λ found. IfSome found (IsReplacement (members settings.now.basis) net.now)) }
 {
-    if !is_moved(net, settings.effort) {
+    if work == 0 {
         return Ok(None);
     }
-    match restructured::<S>(alloc, net, settings.basis, rounds)? {
+    moves.run(net, work)?;
+    match moves.smaller::<S>(net, settings.basis)? {
         Some(smaller) => Ok(Some(smaller)),
         None => Ok(None),
     }
 }
 
-/// A smaller net by walks over convex windows, if they find one. A net that isn't moved isn't walked over
-/// either.
-#[tactic(auto, using(crate::specs::ImprovementLaws::improving))]
-fn walked_over(
-    alloc: Global,
-    net: &Net,
-    settings: &ImproveSettings,
-    rounds: u32,
-) -> Result<Option<Net>, AllocError>
-    ensures { IfOk result (λ found. IfSome found (IsReplacement (members settings.now.basis) net.now)) }
-{
-    if !is_moved(net, settings.effort) {
-        return Ok(None);
-    }
-    let found = walked(alloc, net, settings, rounds)?;
-    Ok(found)
-}
-
-/// The net after moves and walks.
+/// The net after the first stage of moves, which only a net of at least `LEAST_MOVED_GATES` gates goes through.
 #[tactic(auto, using(crate::specs::ImprovementLaws::improving))]
 fn after_moves<S: Solver>(
-    alloc: Global,
+    moves: &mut Moves,
     net: Net,
     settings: &ImproveSettings,
-    rounds: u32,
 ) -> Result<Net, AllocError>
     ensures { IfOk result (IsReplacement (members settings.now.basis) net) }
 {
-    let found = moved::<S>(alloc, &net, settings, rounds)?;
-    let best = found.unwrap_or(net);
-    let smaller = walked_over(alloc, &best, settings, rounds)?;
-    Ok(smaller.unwrap_or(best))
+    if net.gates().len() < LEAST_MOVED_GATES {
+        return Ok(net);
+    }
+    let found = moved::<S>(moves, &net, settings, first_work(net.gates().len()))?;
+    Ok(found.unwrap_or(net))
 }
 
-/// Moves and walks, and then resynthesis. Moves follow it again as long as they find a smaller net, at most
-/// `MOST_TURNS` times, and never in a large net.
+/// Moves over the whole net, and then resynthesis. The stages of `settings.effort` follow: in each the moves go on, and
+/// where they find a smaller net, it is resynthesized.
 #[tactic(auto, using(crate::specs::ImprovementLaws::improving))]
 fn improved<S: Solver>(
     alloc: Global,
@@ -145,14 +103,13 @@ fn improved<S: Solver>(
     ensures { IfOk result (λ left. IsResynthesisOf settings.now net left.net left.settled left.undecided.items) }
 {
     let net = many_merged(alloc, net, settings.cap)?;
-    let before = net.gates().len();
-    let rounds = rounds_of(&net, settings.effort);
-    let best = after_moves::<S>(alloc, net, settings, rounds)?;
+    let mut moves = Moves::new(alloc, &net, settings.basis, settings.seed)?;
+    let best = after_moves::<S>(&mut moves, net, settings)?;
     let mut left = resynthesized::<S>(alloc, best, settings)?;
-    let turns = repeats_of(&left.net, before, rounds);
-    for _turn in 0..turns {
-        match moved::<S>(alloc, &left.net, settings, 0)? {
-            None => break,
+    for effort in 1..=settings.effort {
+        let work = stage_work(effort, left.net.gates().len());
+        match moved::<S>(&mut moves, &left.net, settings, work)? {
+            None => continue,
             Some(smaller) => left = resynthesized::<S>(alloc, smaller, settings)?,
         }
     }

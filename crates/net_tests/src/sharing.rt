@@ -12,7 +12,7 @@ fn is_shared(alloc: Global, text: &str, gates: usize, left: usize) -> Result<boo
         return Ok(false);
     };
     let xag = from_net(alloc, &circuit.net, false)?;
-    let shared = share(alloc, &xag, None)?;
+    let shared = share(alloc, &xag)?;
     let counts = xag.gates().len() == gates && shared.gates().len() == left;
     Ok(counts && has_net(alloc, &circuit.net, &shared, left)?)
 }

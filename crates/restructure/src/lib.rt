@@ -1,15 +1,17 @@
-//! Moves over a whole net: a smaller net that computes the same, by changes that no window of a few gates
-//! shows.
+//! Moves over a whole net: smaller nets that compute the same, by changes that no window of a few gates shows.
 //!
-//! The net becomes a graph of AND and XOR gates with complemented edges (`xag_core`). Pairs of
-//! operands are shared (`share_core`) and gates resubstituted (`resub_core`), each as long as that leaves
-//! fewer gates. Then rounds of the same moves follow that may keep the size: they cross plateaus, as local
-//! searches do, since another graph of the same size may lead to a smaller one. All of this is done twice,
-//! with the gates in depth-first order and in the order of the net, and the smaller graph is taken. An
-//! equivalence check compares the resulting net with the given one (`move_check`), so no move needs a proof.
+//! The net becomes a graph of AND and XOR gates with complemented edges (`xag_core`). Pairs of operands are shared
+//! (`share_core`), and then a walk goes on over random windows of the graph (`net_walk`), for as much work as is
+//! asked. Its graph becomes a net again, with operators of the basis where polarities and NOT gates allow that. An
+//! equivalence check compares this net with the given one (`move_check`), so no move needs a proof.
+//!
+//! The walk can go on after each such comparison, with the same random numbers whatever follows: a longer search is a
+//! shorter one that goes on.
 //!
 //! ```text
-//! match restructured::<S>(alloc, &net, basis, 5)? {
+//! let mut moves = Moves::new(alloc, &net, basis, 1)?;
+//! moves.run(&net, 1_000_000)?;
+//! match moves.smaller::<S>(&net, basis)? {
 //!     Some(smaller) => .., // may replace the net
 //!     None => ..,          // the net stays as it is
 //! }
@@ -19,6 +21,5 @@
 mod moves;
 mod parities;
 mod polarity;
-mod restructuring;
 
-pub use restructuring::restructured;
+pub use moves::Moves;

@@ -1,61 +1,121 @@
-//! Moves over a graph: those that make it smaller, and rounds of those that may keep its size. None makes it
-//! larger.
-ghost use Rattle.std.specs.Prelude.{IfOk};
-ghost use Rattle.resub_core.specs.Smaller.{IsNoLarger};
+//! A search for smaller nets: a walk over the graph of a net, which stops and goes on, and what it has found as a net
+//! that is compared with the given one.
+ghost use Rattle.std.specs.Prelude.{◌<◌, IfOk, IfSome, length};
+ghost use Rattle.op_basis.specs.Basis.{members};
+ghost use Rattle.net_theory.specs.Implements.{IsCleanedUp};
+ghost use Rattle.net_theory.specs.Operators.{HasOperatorsWithin};
 
-use resub_core::{resub, resub_level};
+use crate::polarity::net_within;
+use move_check::judged;
+use net_core::Net;
+use net_walk::NetWalk;
+use op_basis::Basis;
+use sat_solve::Solver;
 use share_core::share;
 use std::alloc::{AllocError, Global};
-use thresholds::MOST_NEW_GATES;
-use xag_core::Xag;
+use thresholds::MOVE_CONFLICTS;
+use xag_core::{Xag, from_net, into_net};
 
-/// The graph after sharing and resubstitution, as long as these leave fewer gates.
-#[tactic(auto, using(resub_core::specs::SmallerLaws::replacing))]
-fn reduced(alloc: Global, xag: &Xag) -> Result<Xag, AllocError>
-    ensures { IfOk result (IsNoLarger xag.now) }
-{
-    let mut best = share(alloc, xag, None)?;
-    for new_gates in 0..=MOST_NEW_GATES {
-        best = resub(alloc, &best, new_gates)?;
+/// So many times pairs are shared at most, each time in the graph that the last time left.
+const MOST_SHARINGS: u32 = 3;
+
+/// A search. `is_lost` says that its graph wasn't found to be equivalent to the net.
+#[derive(Drop)]
+pub struct Moves {
+    alloc: Global,
+    allowed: u16,
+    walk: NetWalk,
+    seed: u64,
+    is_lost: bool,
+}
+
+/// The set of a net's operators together with those of `bits`.
+fn operators_of(net: &Net, bits: u16) -> u16 {
+    let mut found = bits;
+    for gate in net.gates() {
+        found |= 1u16.wrapping_shl(u32::from(gate.op.get()));
+    }
+    found
+}
+
+/// The graph after sharing, as long as that leaves fewer gates.
+fn shared(alloc: Global, xag: Xag) -> Result<Xag, AllocError> {
+    let mut best = xag;
+    for _time in 0..MOST_SHARINGS {
+        let other = share(alloc, &best)?;
+        let is_smaller = other.gates().len() < best.gates().len();
+        best = other;
+        if !is_smaller {
+            break;
+        }
     }
     Ok(best)
 }
 
-/// The graph after a round of moves that may keep its size: resubstitution of gates at random, sharing with
-/// random ties, and then what makes it smaller.
-#[tactic(auto, using(resub_core::specs::SmallerLaws::replacing))]
-fn round(alloc: Global, xag: &Xag, seed: u64) -> Result<Xag, AllocError>
-    ensures { IfOk result (IsNoLarger xag.now) }
-{
-    let moved = resub_level(alloc, xag, seed)?;
-    let shared = share(alloc, &moved, Some(seed))?;
-    let left = resub(alloc, &shared, MOST_NEW_GATES)?;
-    Ok(left)
+/// A walk from the graph of a net, after sharing.
+fn walk_from(alloc: Global, net: &Net, allowed: u16, seed: u64) -> Result<NetWalk, AllocError> {
+    let xag = from_net(alloc, net, false)?;
+    let begun = shared(alloc, xag)?;
+    NetWalk::new(alloc, &begun, allowed, seed)
 }
 
-/// The graph after `rounds` rounds of moves that may keep its size.
-#[tactic(auto, using(resub_core::specs::SmallerLaws::replacing))]
-fn after_rounds(alloc: Global, xag: &Xag, rounds: u32) -> Result<Xag, AllocError>
-    ensures { IfOk result (IsNoLarger xag.now) }
-{
-    let mut best = xag.copied(alloc)?;
-    for number in 1..=u64::from(rounds) {
-        best = round(alloc, &best, number)?;
+/// A graph as a net. Where all its operators are allowed, it has a gate for each gate of the graph and a NOT for each
+/// sink that needs one; otherwise polarities and further NOT gates bring its operators into that set where they can.
+fn net_of(alloc: Global, xag: &Xag, allowed: u16) -> Result<Net, AllocError> {
+    let direct = into_net(alloc, xag)?;
+    if operators_of(&direct, allowed) == allowed {
+        return Ok(direct);
     }
-    Ok(best)
+    net_within(alloc, xag, Basis::new(allowed))
 }
 
-/// The graph after sharing and resubstitution, and then after `rounds` rounds. Where the rounds don't save a
-/// gate, the graph before them, with its order of gates.
-#[tactic(auto, using(resub_core::specs::SmallerLaws::replacing))]
-pub(crate) fn improved(alloc: Global, xag: &Xag, rounds: u32) -> Result<Xag, AllocError>
-    ensures { IfOk result (IsNoLarger xag.now) }
-{
-    let begun = reduced(alloc, xag)?;
-    let best = after_rounds(alloc, &begun, rounds)?;
-    if best.gates().len() < begun.gates().len() {
-        Ok(best)
-    } else {
-        Ok(begun)
+impl Moves {
+    /// A search that begins with a net, for gates of the basis or of the net, with the random numbers of a seed.
+    pub fn new(alloc: Global, net: &Net, basis: Basis, seed: u32) -> Result<Moves, AllocError> {
+        let seed = u64::from(seed);
+        let allowed = operators_of(net, basis.get());
+        let walk = walk_from(alloc, net, allowed, seed)?;
+        Ok(Moves {
+            alloc,
+            allowed,
+            walk,
+            seed,
+            is_lost: false,
+        })
+    }
+
+    /// Begins again with a net.
+    fn begin_again(&mut self, net: &Net) -> Result<(), AllocError> {
+        self.seed = self.seed.wrapping_add(1);
+        self.walk = walk_from(self.alloc, net, self.allowed, self.seed)?;
+        self.is_lost = false;
+        Ok(())
+    }
+
+    /// Goes on for so much work. The net is the least one that was accepted so far: the search begins again with it,
+    /// where its own graph has more gates, or wasn't found to be equivalent.
+    pub fn run(&mut self, net: &Net, work: u64) -> Result<(), AllocError> {
+        if self.is_lost || self.walk.size() as usize > net.gates().len() {
+            self.begin_again(net)?;
+        }
+        let end = self.walk.work().saturating_add(work);
+        self.walk.run(end)
+    }
+
+    /// A smaller net than the given one that may replace it, if the search has found one. None where it hasn't, or
+    /// where the check doesn't find it equivalent.
+    pub fn smaller<S: Solver>(&mut self, net: &Net, basis: Basis) -> Result<Option<Net>, AllocError>
+        ensures cleaned_up { IfOk result (λ found. IfSome found (IsCleanedUp net.now)) }
+        ensures operators { IfOk result (λ found. IfSome found (HasOperatorsWithin (members basis) net.now)) }
+        ensures fewer { IfOk result (λ found. IfSome found (λ m. length m.gates < length net.now.gates)) }
+    {
+        let best = self.walk.best()?;
+        let candidate = net_of(self.alloc, &best, self.allowed)?;
+        if candidate.gates().len() >= net.gates().len() {
+            return Ok(None);
+        }
+        let found = judged::<S>(self.alloc, net, &candidate, basis, MOVE_CONFLICTS)?;
+        self.is_lost = found.is_none();
+        Ok(found)
     }
 }

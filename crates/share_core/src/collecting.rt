@@ -1,10 +1,14 @@
 //! The roots of the trees of a kind, and the row of literals of each.
 
 use crate::kind::TreeKind;
-use rows::{bit_at, put};
+use rows::{at, bit_at, put, raise};
 use std::alloc::{AllocError, Global};
 use thresholds::{MOST_ROW_LITERALS, MOST_VISITED_OF_TREE};
-use xag_core::{Context, Xag, XagGate};
+use xag_core::{Xag, XagGate};
+
+/// The most literals of a row where trees go through gates that several gates read: then a literal may be in the rows of
+/// all gates above it.
+const MOST_SHARED_LITERALS: usize = 32;
 
 /// A root and the literals of its tree, ascending.
 #[derive(Drop)]
@@ -13,11 +17,24 @@ pub struct LiteralRow {
     pub literals: Vec<u32>,
 }
 
+/// How many gates and sinks read each node.
+fn reference_counts(alloc: Global, xag: &Xag) -> Result<Vec<u32>, AllocError> {
+    let mut references = vec![in alloc; 0u32; xag.nodes() as usize]?;
+    for sink in xag.sinks() {
+        raise(&mut references, sink >> 1);
+    }
+    for gate in xag.gates() {
+        raise(&mut references, gate.first >> 1);
+        raise(&mut references, gate.second >> 1);
+    }
+    Ok(references)
+}
+
 /// Marks the node of an operand as a root where its tree isn't part of the gate's tree.
 fn mark_operand(
     roots: &mut [bool],
     xag: &Xag,
-    context: &Context,
+    references: &[u32],
     kind: TreeKind,
     gate: XagGate,
     literal: u32,
@@ -28,7 +45,7 @@ fn mark_operand(
         return;
     }
     let leaves_kind = gate.is_xor != kind.is_xor || !kind.goes_on(operand, literal);
-    if leaves_kind || (!kind.through_all && context.references(node) > 1) {
+    if leaves_kind || (!kind.through_all && at(references, node) > 1) {
         put(roots, node, true);
     }
 }
@@ -38,7 +55,7 @@ fn mark_operand(
 fn mark_roots(
     alloc: Global,
     xag: &Xag,
-    context: &Context,
+    references: &[u32],
     kind: TreeKind,
 ) -> Result<Vec<bool>, AllocError> {
     let mut roots = vec![in alloc; false; xag.nodes() as usize]?;
@@ -49,10 +66,19 @@ fn mark_roots(
         }
     }
     for gate in xag.gates() {
-        mark_operand(&mut roots, xag, context, kind, *gate, gate.first);
-        mark_operand(&mut roots, xag, context, kind, *gate, gate.second);
+        mark_operand(&mut roots, xag, references, kind, *gate, gate.first);
+        mark_operand(&mut roots, xag, references, kind, *gate, gate.second);
     }
     Ok(roots)
+}
+
+/// The most literals of a row of trees of a kind.
+fn most_literals(kind: TreeKind) -> usize {
+    if kind.through_all {
+        MOST_SHARED_LITERALS
+    } else {
+        MOST_ROW_LITERALS
+    }
 }
 
 /// Puts an operand on the stack of gates to visit, or among the literals.
@@ -68,7 +94,7 @@ fn sort_operand(
     let goes_on = xag.is_gate(node)
         && kind.goes_on(xag.gate(node), literal)
         && (kind.through_all || !bit_at(roots, node));
-    if goes_on && pending.len() + literals.len() < MOST_ROW_LITERALS {
+    if goes_on && pending.len() + literals.len() < most_literals(kind) {
         pending.push(node)?;
     } else {
         literals.push(literal)?;
@@ -150,8 +176,8 @@ fn row_of(
 
 /// The rows of all roots of a kind, in topological order of the roots.
 pub fn rows_of(alloc: Global, xag: &Xag, kind: TreeKind) -> Result<Vec<LiteralRow>, AllocError> {
-    let context = Context::new(alloc, xag)?;
-    let roots = mark_roots(alloc, xag, &context, kind)?;
+    let references = reference_counts(alloc, xag)?;
+    let roots = mark_roots(alloc, xag, &references, kind)?;
     let mut rows = Vec::new(alloc);
     for node in 0..xag.nodes() {
         if bit_at(&roots, node) {

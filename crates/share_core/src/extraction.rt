@@ -1,9 +1,9 @@
 //! Extraction of pairs: a pair becomes a gate, and the gate's literal replaces it in each row. Lists say in
-//! which rows each literal occurs; rows that have lost it are skipped.
+//! which rows each literal occurs; rows that have lost it are skipped. Of a pair the shorter list is read.
 
 use crate::collecting::LiteralRow;
 use crate::pairs::{LiteralPair, PairCounts};
-use rows::{Random, at, put};
+use rows::{at, put, raise};
 use std::alloc::{AllocError, Global};
 use thresholds::MOST_PAIRS;
 use xag_core::{NONE, Substitution, XagGate};
@@ -11,10 +11,11 @@ use xag_core::{NONE, Substitution, XagGate};
 /// The most ranks that are taken off the heap.
 const MOST_RANKS: u64 = 1_000_000_000;
 
-/// The rows of each literal: a list that begins at the literal's head.
+/// The rows of each literal: a list that begins at the literal's head, and its length.
 #[derive(Drop)]
 pub struct Occurrences {
     heads: Vec<u32>,
+    lengths: Vec<u32>,
     rows: Vec<u32>,
     nexts: Vec<u32>,
 }
@@ -24,6 +25,7 @@ impl Occurrences {
     fn new(alloc: Global, literals: usize) -> Result<Occurrences, AllocError> {
         Ok(Occurrences {
             heads: vec![in alloc; NONE; literals]?,
+            lengths: vec![in alloc; 0u32; literals]?,
             rows: Vec::new(alloc),
             nexts: Vec::new(alloc),
         })
@@ -35,14 +37,26 @@ impl Occurrences {
         self.rows.push(row)?;
         self.nexts.push(at(&self.heads, literal))?;
         put(&mut self.heads, literal, entry);
+        raise(&mut self.lengths, literal);
         Ok(())
     }
 
     /// Makes room for the two literals of one more gate.
     fn extend(&mut self) -> Result<(), AllocError> {
-        self.heads.push(NONE)?;
-        self.heads.push(NONE)?;
+        for _literal in 0..2 {
+            self.heads.push(NONE)?;
+            self.lengths.push(0)?;
+        }
         Ok(())
+    }
+
+    /// The literal of a pair that is in fewer rows.
+    fn rarer(&self, pair: LiteralPair) -> u32 {
+        if at(&self.lengths, pair.low) < at(&self.lengths, pair.high) {
+            pair.low
+        } else {
+            pair.high
+        }
     }
 
     /// The rows that have, or had, a literal.
@@ -66,7 +80,7 @@ fn count_with(pairs: &mut PairCounts, literals: &[u32], index: usize) -> Result<
         return Ok(());
     };
     for other in literals.iter().skip(index + 1) {
-        pairs.change(*literal, *other, true)?;
+        pairs.count(*literal, *other)?;
     }
     Ok(())
 }
@@ -100,15 +114,18 @@ fn count_all(
     Ok(())
 }
 
-/// A literal leaves a row or enters it: updates the counts of its pairs with the others.
-fn change_pairs(
-    pairs: &mut PairCounts,
-    literals: &[u32],
-    literal: u32,
-    more: bool,
-) -> Result<(), AllocError> {
+/// A literal leaves a row: its pairs with the others are one row less.
+fn remove_pairs(pairs: &mut PairCounts, literals: &[u32], literal: u32) -> Result<(), AllocError> {
     for other in literals {
-        pairs.change(*other, literal, more)?;
+        pairs.remove(*other, literal)?;
+    }
+    Ok(())
+}
+
+/// A literal enters a row: its pairs with the others are one row more.
+fn add_pairs(pairs: &mut PairCounts, literals: &[u32], literal: u32) -> Result<(), AllocError> {
+    for other in literals {
+        pairs.add(*other, literal)?;
     }
     Ok(())
 }
@@ -126,10 +143,10 @@ fn replace_in(
         return Ok(());
     }
     literals.retain(|entry| *entry != pair.low);
-    change_pairs(pairs, literals, pair.low, false)?;
+    remove_pairs(pairs, literals, pair.low)?;
     literals.retain(|entry| *entry != pair.high);
-    change_pairs(pairs, literals, pair.high, false)?;
-    change_pairs(pairs, literals, literal, true)?;
+    remove_pairs(pairs, literals, pair.high)?;
+    add_pairs(pairs, literals, literal)?;
     literals.push(literal)?;
     occurrences.note(literal, row)
 }
@@ -144,7 +161,7 @@ fn take_out(
     literal: u32,
 ) -> Result<(), AllocError> {
     occurrences.extend()?;
-    let having = occurrences.rows_with(alloc, pair.high)?;
+    let having = occurrences.rows_with(alloc, occurrences.rarer(pair))?;
     for row in &having {
         if let Some(entry) = rows.get_mut(*row as usize) {
             replace_in(pairs, occurrences, &mut entry.literals, *row, pair, literal)?;
@@ -160,13 +177,13 @@ pub fn extract(
     nodes: u32,
     rows: &mut [LiteralRow],
     is_xor: bool,
-    random: Option<Random>,
 ) -> Result<(), AllocError> {
-    let mut pairs = PairCounts::new(alloc, random);
+    let mut pairs = PairCounts::new(alloc);
     let mut occurrences = Occurrences::new(alloc, 2 * nodes as usize)?;
     count_all(&mut pairs, &mut occurrences, rows)?;
+    pairs.rank_all()?;
     for _rank in 0..MOST_RANKS {
-        let Some(taken) = pairs.take() else {
+        let Some(taken) = pairs.take()? else {
             break;
         };
         let Some(pair) = taken else {
@@ -180,21 +197,6 @@ pub fn extract(
         take_out(alloc, &mut pairs, &mut occurrences, rows, pair, literal)?;
     }
     Ok(())
-}
-
-/// Swaps the entry at `index` with a random one at or before it.
-fn exchange(literals: &mut [u32], index: usize, random: &mut Random) {
-    let other = random.below((index as u64 & 0xFFFF_FFF) as u32 + 1) as usize;
-    if index < literals.len() && other < literals.len() {
-        literals.swap(index, other);
-    }
-}
-
-/// Shuffles a row.
-pub fn shuffle(literals: &mut [u32], random: &mut Random) {
-    for index in 0..literals.len() {
-        exchange(literals, index, random);
-    }
 }
 
 /// Makes a chain of gates of what is left of a row, and substitutes it for the root.

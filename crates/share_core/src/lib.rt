@@ -7,8 +7,11 @@
 //! proved about values: an equivalence check judges the graph afterwards. The graph has no more gates than
 //! the old one, and its sources and number of sinks.
 //!
+//! Rows are short, each pair is counted once, and a pair's gate visits the rows of its rarer literal alone. So a pass
+//! takes time in proportion to the number of gates.
+//!
 //! ```text
-//! let shared = share(alloc, &xag, None)?; // ties go to the pair that was met first
+//! let shared = share(alloc, &xag)?;
 //! ```
 #![tactic(auto)]
 

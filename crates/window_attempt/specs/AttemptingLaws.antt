@@ -25,7 +25,7 @@ use Rattle.improve_theory.specs.Settled.{IsListedCandidate}
 use Rattle.improve_theory.specs.Changes.{HasShorterChain}
 use Rattle.improve_theory.specs.Undecided.{IsUndecided}
 use Rattle.resyn_core.specs.Outcomes.{IsDone}
-use Rattle.walk_core.specs.LocalSpecification.{MeetsLocal}
+use Rattle.window_attempt.specs.LocalSpecification.{MeetsLocal}
 use Rattle.window_attempt.specs.Attempting.{IsHeaderFor, IsDecidedFor}
 use Rattle.window_attempt.specs.AskingLaws.{none_asked}
 

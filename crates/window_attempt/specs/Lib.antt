@@ -1,6 +1,9 @@
 pub use Rattle.improve_theory.specs.Settled
 pub mod PartnerLaws
 pub mod Attempting
+pub mod LocalSpecification
+pub mod LocalLaws
+pub mod ReplacingLaws
 pub mod AskingLaws
 pub mod AttemptingLaws
 pub mod MergedLaws

@@ -8,8 +8,10 @@ ghost use Rattle.improve_theory.specs.Settled.{IsListedCandidate};
 ghost use Rattle.window_core.specs.Fanouts.{AreFanouts};
 ghost use Rattle.window_attempt.specs.Attempting.{IsDecidedFor, IsAttemptOutcome};
 
+use crate::asking::local_spec;
 use crate::merging::merged;
 use crate::partners::{is_partner_or_none, next_partner};
+use crate::replacing::replaced;
 use decide_core::{Decided, Header, SpecCache, decide};
 use improve_theory::WindowCandidate;
 use net_core::Net;
@@ -18,7 +20,6 @@ use sat_solve::Solver;
 use settings::ImproveSettings;
 use std::alloc::{AllocError, Global};
 use std::marker::{Model, PhantomData};
-use walk_core::{local_spec, replaced};
 use window_core::{Fanouts, Window, fanouts_of, window_by};
 
 /// A net whose windows are attempted by a solver, with its index, the settings, and the cache of earlier

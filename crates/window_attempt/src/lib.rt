@@ -1,7 +1,7 @@
 //! The attempts that resynthesis makes, on a net with its index: windows, their local specifications, searches and
 //! substitution.
 //!
-//! It stands on `window_core` for the windows, on `walk_core` for their local specifications and for
+//! It stands on `window_core` and `observe_core` for the windows and their local specifications, on `subst_core` for
 //! replacing a window by a chain, on `decide_core` for the search of a shorter chain, on `merge_core` for equal
 //! gates, and on any `Solver` of `sat_solve`. The index is made anew when the net changes.
 //!
@@ -15,9 +15,11 @@
 //! ```
 #![tactic(auto)]
 
+mod asking;
 mod attempting;
 mod merging;
 mod partners;
+mod replacing;
 mod tables;
 
 pub use attempting::WindowAttempts;

@@ -19,7 +19,6 @@
 #![tactic(auto)]
 
 mod builder;
-mod context;
 mod net_builder;
 mod net_in;
 mod net_out;
@@ -29,7 +28,6 @@ mod words;
 mod xag;
 
 pub use builder::Builder;
-pub use context::Context;
 pub use net_builder::NetBuilder;
 pub use net_in::from_net;
 pub use net_out::{into_net, operator};

@@ -1,2 +1,0 @@
-pub mod Smaller
-pub mod SmallerLaws
