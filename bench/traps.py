@@ -1,8 +1,8 @@
 #!/usr/bin/env python3
 """traps.py PROGRAM [--parts N] [NAME..]: makes netlists that reveal quadratic steps, and runs PROGRAM on each.
 
-The netlists are `readers`, one gate with a fanout of 33,000; `narrow`, 100,000 gates over ten inputs; and `chain`, 100,000
-gates of which each reads the one before it. Each is given to `improve`, to `improve --observe yes`, and to `equiv` with
+The netlists are `readers`, one gate with a fanout of 33,000; `narrow`, 100,000 gates over ten inputs; `chain`, 100,000
+gates of which each reads the one before it; and `popcount`, which adds 1,024 bits one after the other. Each is given to `improve`, to `improve --observe yes`, and to `equiv` with
 itself. The table has the user time, the peak of memory, and the last line of the program; a run is stopped after 120 s. With
 `--parts N` each netlist has only one N-th of the gates."""
 import os
@@ -56,7 +56,20 @@ def chain(count):
     return netlist('chain', ['n0'] + inputs, [f'n{count}'], tables)
 
 
-NETLISTS = {'readers': (readers, 33_000), 'narrow': (narrow, 100_000), 'chain': (chain, 100_000)}
+def popcount(count):
+    """How many of the inputs are true, which are added one after the other."""
+    inputs, tables, total = [f'x{i}' for i in range(count)], [], []
+    for number, carry in enumerate(inputs):
+        for place, digit in enumerate(total):
+            tables.append(table(digit, carry, f's{number}_{place}', ('01', '10')))
+            tables.append(table(digit, carry, f'c{number}_{place}', ('11',)))
+            total[place], carry = f's{number}_{place}', f'c{number}_{place}'
+        if (number + 1) & number == 0:
+            total.append(carry)
+    return netlist('popcount', inputs, total, tables)
+
+
+NETLISTS = {'readers': (readers, 33_000), 'narrow': (narrow, 100_000), 'chain': (chain, 100_000), 'popcount': (popcount, 1_024)}
 
 
 def run(program, text, *options):
