@@ -37,7 +37,10 @@ fn length_at(effort: u32) -> u32 {
 /// The work of the stage that ends at an effort, for a net of so many gates; 0 where none ends.
 pub(crate) fn stage_work(effort: u32, gates: usize) -> u64 {
     let length = length_at(effort);
-    if effort.wrapping_rem(length) != 0 {
+    if length == 0 {
+        return 0;
+    }
+    if effort % length != 0 {
         return 0;
     }
     let gates = (gates as u64).max(LEAST_GATES);
