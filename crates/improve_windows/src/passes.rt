@@ -106,8 +106,8 @@ fn improved<S: Solver>(
     let mut moves = Moves::new(alloc, &net, settings.basis, settings.seed)?;
     let best = after_moves::<S>(&mut moves, net, settings)?;
     let mut left = resynthesized::<S>(alloc, best, settings)?;
-    for effort in 1..=settings.effort {
-        let work = stage_work(effort, left.net.gates().len());
+    for effort in 0..settings.effort {
+        let work = stage_work(effort.saturating_add(1), left.net.gates().len());
         match moved::<S>(&mut moves, &left.net, settings, work)? {
             None => continue,
             Some(smaller) => left = resynthesized::<S>(alloc, smaller, settings)?,

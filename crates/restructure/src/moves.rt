@@ -19,6 +19,9 @@ use xag_core::{Xag, from_net, into_net};
 /// So many times pairs are shared at most, each time in the graph that the last time left.
 const MOST_SHARINGS: u32 = 3;
 
+/// What is added to the seed where a search begins again: more than any seed that is given.
+const NEXT_SEED: u64 = 0x1_0000_0000;
+
 /// A search. `is_lost` says that its graph wasn't found to be equivalent to the net.
 #[derive(Drop)]
 pub struct Moves {
@@ -72,7 +75,8 @@ fn net_of(alloc: Global, xag: &Xag, allowed: u16) -> Result<Net, AllocError> {
 impl Moves {
     /// A search that begins with a net, for gates of the basis or of the net, with the random numbers of a seed.
     pub fn new(alloc: Global, net: &Net, basis: Basis, seed: u32) -> Result<Moves, AllocError> {
-        let seed = u64::from(seed);
+        // a generator takes an odd seed for the even one before it
+        let seed = u64::from(seed).wrapping_mul(2).wrapping_sub(1);
         let allowed = operators_of(net, basis.get());
         let walk = walk_from(alloc, net, allowed, seed)?;
         Ok(Moves {
@@ -86,7 +90,7 @@ impl Moves {
 
     /// Begins again with a net.
     fn begin_again(&mut self, net: &Net) -> Result<(), AllocError> {
-        self.seed = self.seed.wrapping_add(1);
+        self.seed = self.seed.wrapping_add(NEXT_SEED);
         self.walk = walk_from(self.alloc, net, self.allowed, self.seed)?;
         self.is_lost = false;
         Ok(())
