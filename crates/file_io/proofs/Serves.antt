@@ -1,63 +1,67 @@
 -- Work over inputs and outputs that are named.
-use Rattle.std.specs.Prelude.{◌⊎◌, ℕ, List, Option, codes, refl}
+use Rattle.std.specs.Prelude.{◌≡◌, ◌⊎◌, ℕ, List, refl}
 use Rattle.std.proofs.Common.{inl, inr}
 use Rattle.std.proofs.lemmas.Grind.{common_steps}
 use Rattle.frame_core.specs.declared.status.Status.{Status}
-use Rattle.frame_core.specs.declared.status.Status.TheVariants as statuses
 use Rattle.frame_core.specs.Outside.{PortState, Writes}
-use Rattle.file_io.specs.FaultLine.{fault_line}
-use Rattle.file_io.specs.Names.{Names, Shows, SameNames, IsEmpty}
+use Rattle.file_io.specs.declared.calls.Call.TheVariants.{Open, Create}
+use Rattle.file_io.specs.FaultLine.{fault_line, fault_status}
+use Rattle.file_io.specs.Names.{Shows, IsEmpty}
+use Rattle.file_io.specs.Files.{FilesState, IsUnchanged, Fails}
 use Rattle.file_io.specs.Settling.{Settles}
-use Rattle.file_io.specs.Served.{Pass, Does, IsWritten, IsPrinted, IsDelivered, IsOpened, IsUnread}
-use Rattle.file_io.specs.EarlierLaws.{settles_earlier, delivered_earlier}
+use Rattle.file_io.specs.Served.{Pass, Does, IsWritten, IsOpened, IsUnread}
 
 -- ---- the output
 
-pub not_created : (name reason : List ℕ) (does : Does) (old new : Names) (note note' : PortState) → SameNames old new →
-    Writes note note' (fault_line (codes "error: WriteFault ") name reason) →
-    IsWritten name does (old, new) (note, note') statuses.WriteFault
-not_created name reason does old new note note' same writes =
-    inl (record { same = same; reason = reason; on_note = writes; status_is = refl })
-
-pub drafted : (name : List ℕ) (does : Does) (old mid new : Names) (draft draft' note between note' : PortState) (ended status : Status) →
-    SameNames old mid → IsEmpty draft.bytes → does (draft, draft') (note, between) ended →
-    Settles name ended draft'.bytes mid new (between, note') status →
-    IsWritten name does (old, new) (note, note') status
-drafted name does old mid new draft draft' note between note' ended status same empty worked settles = inr (record {
-  draft = (draft, draft');
-  between = between;
-  ended = ended;
-  empty = empty;
-  worked = worked;
-  settles = settles_earlier name ended draft'.bytes old mid new (between, note') status same settles;
+pub not_created : (name reason : List ℕ) (does : Does) (old new : FilesState) (source note note' : PortState)
+    (status : Status) → Fails Create old new → Writes note note' (fault_line Create name reason) →
+    status ≡ fault_status Create → IsWritten name does (old, new) (source, source) (note, note') status
+not_created name reason does old new source note note' status fails writes is = inl (record {
+  failed = record { fails = fails; reason = reason; on_note = writes; status_is = is };
+  on_source = refl;
 })
 
-pub printed : (does : Does) (names : Names) (out note : Pass) (status : Status) → does out note status →
-    IsPrinted does (names, names) out note status
-printed does names out note status worked = record { worked = worked; same = λ name. refl }
+pub drafted : (name : List ℕ) (does : Does) (old created worked new : FilesState) (source : Pass)
+    (draft draft' note between note' : PortState) (ended status : Status) →
+    IsUnchanged old created → IsEmpty draft.bytes → does (created, worked) source (draft, draft') (note, between) ended →
+    Settles name ended draft'.bytes (worked, new) (between, note') status →
+    IsWritten name does (old, new) source (note, note') status
+drafted name does old created worked new source draft draft' note between note' ended status unchanged empty work settles =
+    inr (record {
+      created = created;
+      worked = worked;
+      draft = (draft, draft');
+      between = between;
+      ended = ended;
+      unchanged = unchanged;
+      empty = empty;
+      work = work;
+      settles = settles;
+    })
 
-pub ruleset writing = (common_steps, not_created, drafted, printed)
+pub ruleset writing = (common_steps, not_created, drafted)
 
 -- ---- the input
 
-pub not_opened : (name reason : List ℕ) (output : Option (List ℕ)) (does : Pass → Does) (old new : Names)
-    (out note note' : PortState) → SameNames old new →
-    Writes note note' (fault_line (codes "error: ReadFault ") name reason) →
-    IsUnread name (old, new) (out, out) (note, note') statuses.ReadFault ⊎
-    IsOpened name output does (old, new) (out, out) (note, note') statuses.ReadFault
-not_opened name reason output does old new out note note' same writes = inl (record {
-  refused = record { same = same; reason = reason; on_note = writes; status_is = refl };
+pub not_opened : (name reason : List ℕ) (does : Does) (old new : FilesState) (out note note' : PortState)
+    (status : Status) → Fails Open old new → Writes note note' (fault_line Open name reason) →
+    status ≡ fault_status Open →
+    IsUnread name (old, new) (out, out) (note, note') status ⊎ IsOpened name does (old, new) (out, out) (note, note') status
+not_opened name reason does old new out note note' status fails writes is = inl (record {
+  failed = record { fails = fails; reason = reason; on_note = writes; status_is = is };
   on_out = refl;
 })
 
-pub opened : (name : List ℕ) (output : Option (List ℕ)) (does : Pass → Does) (old mid new : Names)
-    (input input' : PortState) (out note : Pass) (status : Status) → SameNames old mid →
-    Shows (old name) input.bytes → IsDelivered output (does (input, input')) (mid, new) out note status →
-    IsUnread name (old, new) out note status ⊎ IsOpened name output does (old, new) out note status
-opened name output does old mid new input input' out note status same shows delivered = inr (record {
+pub opened : (name : List ℕ) (does : Does) (old mid new : FilesState) (input input' : PortState) (out note : Pass)
+    (status : Status) → IsUnchanged old mid → Shows (old.holds name) input.bytes →
+    does (mid, new) (input, input') out note status →
+    IsUnread name (old, new) out note status ⊎ IsOpened name does (old, new) out note status
+opened name does old mid new input input' out note status unchanged shows work = inr (record {
+  opened = mid;
   input = (input, input');
+  unchanged = unchanged;
   shows = shows;
-  delivered = delivered_earlier output (does (input, input')) old mid new out note status same delivered;
+  work = work;
 })
 
 pub ruleset opening = (common_steps, not_opened, opened)

@@ -1,5 +1,5 @@
 -- What names hold, and what an open file shows of it.
-use Rattle.std.specs.Prelude.{◌≡◌, ◌≢◌, ℕ, List, [], Bool, true, false, Option, None, Some}
+use Rattle.std.specs.Prelude.{◌≡◌, ℕ, List, [], Bool, true, false, Option, None, Some}
 
 -- what a name holds: contracts don't know it; no file; a file with these bytes
 pub data Holding : Type 0 where
@@ -25,11 +25,6 @@ file_of (Some bytes) = File bytes
 -- Each name holds what it held.
 abbrev pub SameNames : Names → Names → Type 0
 SameNames old new = (name : List ℕ) → new name ≡ old name
-
--- The name holds what was written, and each other name what it held.
-pub record IsReplaced (name : List ℕ) (written : Option (List ℕ)) (old new : Names) : Type 0 where
-  pub here : new name ≡ file_of written
-  pub others : (other : List ℕ) → other ≢ name → new other ≡ old other
 
 -- If the bytes that were written are known, there are none.
 abbrev pub IsEmpty : Option (List ℕ) → Type 0

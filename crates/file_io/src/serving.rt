@@ -1,9 +1,11 @@
 //! Work over inputs and outputs that are named.
 ghost use Rattle.std.specs.Prelude.{◌≡◌, ◌⊎◌};
 ghost use Rattle.frame_core.specs.Run.{before_after};
-ghost use Rattle.file_io.specs.Served.{Pass, Does, IsWritten, IsDelivered, IsServed, IsUnread, IsOpened};
+ghost use Rattle.file_io.specs.Files.{files_before_after};
+ghost use Rattle.file_io.specs.Served.{Does, IsWritten, IsDelivered, IsUnread, IsOpened, IsRead, IsServed};
 ghost use Rattle.file_io.specs.Texts.{text_in};
 
+use crate::calls::Call;
 use crate::outside::Outside;
 use crate::reporting::report_fault;
 use crate::settling::settle;
@@ -11,32 +13,35 @@ use frame_core::Status;
 use port_io::{Sink, Source};
 use std::alloc::Global;
 
-/// What is done with a source, an output and the notes, whichever they are.
+/// What is done with files, a source, an output and the notes, whichever they are.
 pub trait Work {
     /// What it does with them, from before to after, and its status.
-    ghost does: { Self → Pass → Does };
+    ghost does: { Self → Does };
 
     /// The precondition on its arguments.
     ghost ready: { Self → Type 0 };
 
     /// Does it.
-    fn work<S: Source, O: Sink, N: Sink>(
+    fn work<W: Outside, S: Source, O: Sink, N: Sink>(
         &self,
         alloc: Global,
+        outside: &mut W,
         source: &mut S,
         out: &mut O,
         note: &mut N,
     ) -> Status
         requires { ready self.now }
         ensures { does self.now
+            (files_before_after W.holds W.faults outside.old outside.new)
             (before_after S.left S.faults source.old source.new)
             (before_after O.written O.faults out.old out.new)
             (before_after N.written N.faults note.old note.new)
             result };
 }
 
-/// Does work whose output is a file: it is written to a draft, which is created before, and kept or discarded at
-/// the end.
+// ---- outputs
+
+/// Does work whose output is a file: a draft is created before, and kept or discarded at the end.
 #[tactic(auto, using(crate::proofs::Serves::writing))]
 fn write_file<K: Work, W: Outside, S: Source, N: Sink>(
     alloc: Global,
@@ -47,26 +52,22 @@ fn write_file<K: Work, W: Outside, S: Source, N: Sink>(
     note: &mut N,
 ) -> Status
     requires { K.ready work.now }
-    ensures { IsWritten name.now
-        (K.does work.now (before_after S.left S.faults source.old source.new))
-        (W.holds outside.old, W.holds outside.new)
+    ensures { IsWritten name.now (K.does work.now)
+        (files_before_after W.holds W.faults outside.old outside.new)
+        (before_after S.left S.faults source.old source.new)
         (before_after N.written N.faults note.old note.new)
         result }
 {
     let mut draft = match outside.create(alloc, name) {
         Ok(draft) => draft,
-        Err(reason) => {
-            report_fault(note, b"error: WriteFault ", name, &reason);
-            return Status::WriteFault;
-        }
+        Err(reason) => return report_fault(note, Call::Create, name, &reason),
     };
-    let done = work.work(alloc, source, &mut draft, note);
-    settle(alloc, outside, name, draft, done, note)
+    let ended = work.work(alloc, outside, source, &mut draft, note);
+    settle(alloc, outside, name, draft, ended, note)
 }
 
-/// Does work whose output is a file or, without a name, `out`.
-#[tactic(auto, using(crate::proofs::Serves::writing))]
-fn deliver<K: Work, W: Outside, S: Source, O: Sink, N: Sink>(
+/// Does work whose output is a file or, without a name, `out`. A file is created before the work begins.
+pub fn write_output<K: Work, W: Outside, S: Source, O: Sink, N: Sink>(
     alloc: Global,
     work: &K,
     output: Option<&str>,
@@ -76,53 +77,105 @@ fn deliver<K: Work, W: Outside, S: Source, O: Sink, N: Sink>(
     note: &mut N,
 ) -> Status
     requires { K.ready work.now }
-    ensures { IsDelivered (text_in output.entry)
-        (K.does work.now (before_after S.left S.faults source.old source.new))
-        (W.holds outside.old, W.holds outside.new)
+    ensures { IsDelivered (text_in output.entry) (K.does work.now)
+        (files_before_after W.holds W.faults outside.old outside.new)
+        (before_after S.left S.faults source.old source.new)
         (before_after O.written O.faults out.old out.new)
         (before_after N.written N.faults note.old note.new)
         result }
 {
     match output {
-        None => work.work(alloc, source, out, note),
+        None => work.work(alloc, outside, source, out, note),
         Some(name) => write_file(alloc, work, name, outside, source, note),
     }
 }
 
-/// Does work whose input is a file, and whose output is a file or `out`.
+// ---- inputs
+
+/// Does work whose input is a file.
 #[tactic(auto, using(crate::proofs::Serves::opening))]
 fn read_file<K: Work, W: Outside, O: Sink, N: Sink>(
     alloc: Global,
     work: &K,
     name: &str,
-    output: Option<&str>,
     outside: &mut W,
     out: &mut O,
     note: &mut N,
 ) -> Status
     requires { K.ready work.now }
     ensures { IsUnread name.now
-        (W.holds outside.old, W.holds outside.new)
+        (files_before_after W.holds W.faults outside.old outside.new)
         (before_after O.written O.faults out.old out.new)
         (before_after N.written N.faults note.old note.new)
         result ⊎
-        IsOpened name.now (text_in output.entry) (K.does work.now)
-        (W.holds outside.old, W.holds outside.new)
+        IsOpened name.now (K.does work.now)
+        (files_before_after W.holds W.faults outside.old outside.new)
         (before_after O.written O.faults out.old out.new)
         (before_after N.written N.faults note.old note.new)
         result }
 {
     let mut input = match outside.open(alloc, name) {
         Ok(input) => input,
-        Err(reason) => {
-            report_fault(note, b"error: ReadFault ", name, &reason);
-            return Status::ReadFault;
-        }
+        Err(reason) => return report_fault(note, Call::Open, name, &reason),
     };
-    deliver(alloc, work, output, outside, &mut input, out, note)
+    work.work(alloc, outside, &mut input, out, note)
 }
 
-/// Does work whose input and output are files or, without names, `source` and `out`.
+/// Does work whose input is a file or, without a name, `source`.
+pub fn read_input<K: Work, W: Outside, S: Source, O: Sink, N: Sink>(
+    alloc: Global,
+    work: &K,
+    input: Option<&str>,
+    outside: &mut W,
+    source: &mut S,
+    out: &mut O,
+    note: &mut N,
+) -> Status
+    requires { K.ready work.now }
+    ensures { IsRead (text_in input.entry) (K.does work.now)
+        (files_before_after W.holds W.faults outside.old outside.new)
+        (before_after S.left S.faults source.old source.new)
+        (before_after O.written O.faults out.old out.new)
+        (before_after N.written N.faults note.old note.new)
+        result }
+{
+    match input {
+        None => work.work(alloc, outside, source, out, note),
+        Some(name) => read_file(alloc, work, name, outside, out, note),
+    }
+}
+
+// ---- both
+
+/// Work over an input that may be named, as work.
+#[derive(Drop)]
+struct Reading<'a, K> {
+    input: Option<&'a str>,
+    work: &'a K,
+}
+
+impl<'a, K: Work> Work for Reading<'a, K> {
+    ghost use Rattle.file_io.specs.Served.{IsRead};
+    ghost use Rattle.file_io.specs.Texts.{text_in};
+
+    ghost does = { λ r. IsRead (text_in r.input) (K.does r.work.now) };
+
+    ghost ready = { λ r. K.ready r.work.now };
+
+    fn work<W: Outside, S: Source, O: Sink, N: Sink>(
+        &self,
+        alloc: Global,
+        outside: &mut W,
+        source: &mut S,
+        out: &mut O,
+        note: &mut N,
+    ) -> Status {
+        read_input(alloc, self.work, self.input, outside, source, out, note)
+    }
+}
+
+/// Does work whose input and output are files or, without names, `source` and `out`. The output is created before the
+/// input is opened.
 pub fn serve_files<K: Work, W: Outside, S: Source, O: Sink, N: Sink>(
     alloc: Global,
     work: &K,
@@ -135,14 +188,12 @@ pub fn serve_files<K: Work, W: Outside, S: Source, O: Sink, N: Sink>(
 ) -> Status
     requires { K.ready work.now }
     ensures { IsServed (text_in input.entry) (text_in output.entry) (K.does work.now)
-        (W.holds outside.old, W.holds outside.new)
+        (files_before_after W.holds W.faults outside.old outside.new)
         (before_after S.left S.faults source.old source.new)
         (before_after O.written O.faults out.old out.new)
         (before_after N.written N.faults note.old note.new)
         result }
 {
-    match input {
-        None => deliver(alloc, work, output, outside, source, out, note),
-        Some(name) => read_file(alloc, work, name, output, outside, out, note),
-    }
+    let reading = Reading { input, work };
+    write_output(alloc, &reading, output, outside, source, out, note)
 }

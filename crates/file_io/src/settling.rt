@@ -1,9 +1,11 @@
 //! The end of a named output.
+ghost use Rattle.std.specs.Prelude.{◌≡◌};
 ghost use Rattle.frame_core.specs.Outside.{port_state};
 ghost use Rattle.frame_core.specs.Run.{before_after};
+ghost use Rattle.file_io.specs.Files.{files_before_after};
 ghost use Rattle.file_io.specs.Settling.{Settles, is_answer_status};
-ghost use Rattle.std.specs.Prelude.{◌≡◌};
 
+use crate::calls::Call;
 use crate::outside::Outside;
 use crate::reporting::report_fault;
 use frame_core::Status;
@@ -11,7 +13,7 @@ use port_io::Sink;
 use std::alloc::Global;
 
 /// Whether answers have this status.
-fn is_answer(status: Status) -> bool
+pub fn is_answer(status: Status) -> bool
     ensures { result ≡ is_answer_status status }
 {
     match status {
@@ -34,7 +36,7 @@ pub fn settle<W: Outside, N: Sink>(
     note: &mut N,
 ) -> Status
     ensures { Settles name.now status (port_state W.Draft.written W.Draft.faults draft).bytes
-        (W.holds outside.old) (W.holds outside.new)
+        (files_before_after W.holds W.faults outside.old outside.new)
         (before_after N.written N.faults note.old note.new) result }
 {
     if !is_answer(status) {
@@ -48,9 +50,6 @@ pub fn settle<W: Outside, N: Sink>(
     }
     match outside.keep(alloc, name, draft) {
         Ok(()) => status,
-        Err(reason) => {
-            report_fault(note, b"error: WriteFault ", name, &reason);
-            Status::WriteFault
-        }
+        Err(reason) => report_fault(note, Call::Keep, name, &reason),
     }
 }

@@ -3,6 +3,7 @@ ghost use Rattle.std.specs.Prelude.{◌≡◌};
 ghost use Rattle.command_line.specs.CommandLine.{spelled};
 ghost use Rattle.frame_core.specs.Run.{before_after};
 ghost use Rattle.chain_app.specs.KeepsPromises.{KeepsPromises};
+ghost use Rattle.file_io.specs.Files.{files_before_after};
 ghost use Rattle.front_core.specs.Front.{Ending, IsEnding, front_run, promised_by};
 ghost use Rattle.front_app.specs.Comparison.{KeepsComparison};
 
@@ -65,7 +66,7 @@ pub fn serve<W: Outside, S: Source, O: Sink, N: Sink>(
     note: &mut N,
 ) -> Status
     ensures { (ending : Ending) × IsEnding (promised_by KeepsPromises KeepsComparison) (front_run (spelled words.now)
-        (W.holds outside.old, W.holds outside.new)
+        (files_before_after W.holds W.faults outside.old outside.new)
         (before_after S.left S.faults source.old source.new)
         (before_after O.written O.faults out.old out.new)
         (before_after N.written N.faults note.old note.new)

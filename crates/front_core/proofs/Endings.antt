@@ -11,8 +11,9 @@ use Rattle.frame_core.specs.declared.status.Status.TheVariants as statuses
 use Rattle.frame_core.specs.Outside.{PortState, Writes}
 use Rattle.frame_core.specs.Reported.{error_line, usage, memory}
 use Rattle.frame_core.specs.Run.{run_of}
-use Rattle.file_io.specs.Names.{Names}
-use Rattle.file_io.specs.Served.{Pass, Files, IsServed}
+use Rattle.file_io.specs.Files.{FilesState, Files}
+use Rattle.file_io.specs.Served.{Pass, IsApart, IsDelivered, IsServed}
+use Rattle.file_io.specs.ServedLaws.{still}
 use Rattle.file_words.specs.declared.line.FileLine.{FileLine}
 use Rattle.file_words.specs.Sorting.{Line, file_line}
 use Rattle.file_words.specs.Lines.{line_value}
@@ -22,40 +23,40 @@ use Rattle.front_core.specs.Paired.{IsPaired}
 use Rattle.front_core.proofs.Words.{asked, not_asked, line_of, no_line_of, none_with_files, too_many_files, none_without_line}
 
 -- the words are reported, and nothing else happened
-idle : (p : Promises) (words : List (List ℕ)) (names : Names) (source out note note' : PortState) (status : Status) →
+idle : (p : Promises) (words : List (List ℕ)) (state : FilesState) (source out note note' : PortState) (status : Status) →
     IsNotPlain words → ((command : Command) (line : Line) → AsksWithFiles words command line → ⊥) →
     Writes note note' (error_line usage) → status ≡ statuses.Usage →
-    (ending : Ending) × IsEnding p (front_run words (names, names) (source, source) (out, out) (note, note') status) ending
-idle p words names source out note note' status other none writes is = (
+    (ending : Ending) × IsEnding p (front_run words (state, state) (source, source) (out, out) (note, note') status) ending
+idle p words state source out note note' status other none writes is = (
   Idle,
   record {
     other = other;
     none = none;
-    reports = record { same = λ name. refl; on_source = refl; on_out = refl; on_note = writes; status_is = is };
+    reports = record { unchanged = still state; on_source = refl; on_out = refl; on_note = writes; status_is = is };
   },
 )
 
 -- ---- a line
 
-pub no_command : (p : Promises) (line : Line) (e : WordsError) (names : Names) (source out note note' : PortState)
+pub no_command : (p : Promises) (line : Line) (e : WordsError) (state : FilesState) (source out note note' : PortState)
     (status : Status) → Err e ≡ read line.words → Writes note note' (error_line usage) → status ≡ statuses.Usage →
     (words : List (List ℕ)) → IsNotPlain words → file_line words ≡ Some line →
-    (ending : Ending) × IsEnding p (front_run words (names, names) (source, source) (out, out) (note, note') status) ending
-no_command p line e names source out note note' status err writes is words other known =
-    idle p words names source out note note' status other (none_with_files words line e known err) writes is
+    (ending : Ending) × IsEnding p (front_run words (state, state) (source, source) (out, out) (note, note') status) ending
+no_command p line e state source out note note' status err writes is words other known =
+    idle p words state source out note note' status other (none_with_files words line e known err) writes is
 
-pub many_files : (p : Promises) (line : Line) (own : Command) (names : Names) (source out note note' : PortState)
+pub many_files : (p : Promises) (line : Line) (own : Command) (state : FilesState) (source out note note' : PortState)
     (status : Status) → Ok own ≡ read line.words → fits own line ≡ false → Writes note note' (error_line usage) →
     status ≡ statuses.Usage → (words : List (List ℕ)) → IsNotPlain words → file_line words ≡ Some line →
-    (ending : Ending) × IsEnding p (front_run words (names, names) (source, source) (out, out) (note, note') status) ending
-many_files p line own names source out note note' status ok not writes is words other known =
-    idle p words names source out note note' status other (too_many_files words line own known ok not) writes is
+    (ending : Ending) × IsEnding p (front_run words (state, state) (source, source) (out, out) (note, note') status) ending
+many_files p line own state source out note note' status ok not writes is words other known =
+    idle p words state source out note note' status other (too_many_files words line own known ok not) writes is
 
 pub with_one : (p : Promises) (line : Line) (own : Command) (budget : Option ℕ) (input output : Option (List ℕ)) (files : Files)
     (source out note : Pass) (status : Status) → Ok own ≡ read line.words → fits own line ≡ true →
     budget ≡ pair_budget own line.operands → budget ≡ None →
     input ≡ name_in (first_in line.operands) → output ≡ name_in line.output →
-    IsServed input output (runs p.keeps line.words) files source out note status →
+    IsServed input output (IsApart (runs p.keeps line.words)) files source out note status →
     (words : List (List ℕ)) → IsNotPlain words → file_line words ≡ Some line →
     (ending : Ending) × IsEnding p (front_run words files source out note status) ending
 with_one p line own budget input output files source out note status ok fitting asked_for none i o served words other known = (
@@ -65,8 +66,8 @@ with_one p line own budget input output files source out note status ok fitting 
     line = line;
     asks = record { other = other; line_is = known; asks = asked line.words own ok; fits_in = fitting };
     served = subst (λ (b : Option ℕ). IsServedLine p b line (front_run words files source out note status)) (sym none ∙ asked_for)
-        (subst (λ (y : Option (List ℕ)). IsServed (name_in (first_in line.operands)) y (runs p.keeps line.words) files source out note status) o
-        (subst (λ (x : Option (List ℕ)). IsServed x output (runs p.keeps line.words) files source out note status) i served));
+        (subst (λ (y : Option (List ℕ)). IsServed (name_in (first_in line.operands)) y (IsApart (runs p.keeps line.words)) files source out note status) o
+        (subst (λ (x : Option (List ℕ)). IsServed x output (IsApart (runs p.keeps line.words)) files source out note status) i served));
   },
 )
 
@@ -75,7 +76,7 @@ pub with_pair : (p : Promises) (line : Line) (own : Command) (asked_budget : Opt
     (source out note : Pass) (status : Status) → Ok own ≡ read line.words → fits own line ≡ true →
     asked_budget ≡ pair_budget own line.operands → asked_budget ≡ Some budget →
     first ≡ name_in (first_in line.operands) → second ≡ name_in (second_in line.operands) → output ≡ name_in line.output →
-    IsPaired first second output (p.compares budget) files source out note status →
+    IsDelivered output (IsPaired first second (p.compares budget)) files source out note status →
     (words : List (List ℕ)) → IsNotPlain words → file_line words ≡ Some line →
     (ending : Ending) × IsEnding p (front_run words files source out note status) ending
 with_pair p line own asked_budget budget first second output files source out note status ok fitting asked_for some f s o served words other known = (
@@ -85,9 +86,9 @@ with_pair p line own asked_budget budget first second output files source out no
     line = line;
     asks = record { other = other; line_is = known; asks = asked line.words own ok; fits_in = fitting };
     served = subst (λ (b : Option ℕ). IsServedLine p b line (front_run words files source out note status)) (sym some ∙ asked_for)
-        (subst (λ (y : Option (List ℕ)). IsPaired (name_in (first_in line.operands)) (name_in (second_in line.operands)) y (p.compares budget) files source out note status) o
-        (subst (λ (x : Option (List ℕ)). IsPaired (name_in (first_in line.operands)) x output (p.compares budget) files source out note status) s
-        (subst (λ (x : Option (List ℕ)). IsPaired x second output (p.compares budget) files source out note status) f served)));
+        (subst (λ (y : Option (List ℕ)). IsDelivered y (IsPaired (name_in (first_in line.operands)) (name_in (second_in line.operands)) (p.compares budget)) files source out note status) o
+        (subst (λ (x : Option (List ℕ)). IsDelivered output (IsPaired (name_in (first_in line.operands)) x (p.compares budget)) files source out note status) s
+        (subst (λ (x : Option (List ℕ)). IsDelivered output (IsPaired x second (p.compares budget)) files source out note status) f served)));
   },
 )
 
@@ -95,23 +96,23 @@ pub ruleset line_endings = (common_steps, no_command, many_files, with_one, with
 
 -- ---- words
 
-pub no_memory : (p : Promises) (words : List (List ℕ)) (names : Names) (source out note note' : PortState)
+pub no_memory : (p : Promises) (words : List (List ℕ)) (state : FilesState) (source out note note' : PortState)
     (status : Status) → Writes note note' (error_line memory) → status ≡ statuses.Memory → IsNotPlain words →
-    (ending : Ending) × IsEnding p (front_run words (names, names) (source, source) (out, out) (note, note') status) ending
-no_memory p words names source out note note' status writes is other = (
+    (ending : Ending) × IsEnding p (front_run words (state, state) (source, source) (out, out) (note, note') status) ending
+no_memory p words state source out note note' status writes is other = (
   OutOfMemory,
   record {
     other = other;
-    reports = record { same = λ name. refl; on_source = refl; on_out = refl; on_note = writes; status_is = is };
+    reports = record { unchanged = still state; on_source = refl; on_out = refl; on_note = writes; status_is = is };
   },
 )
 
-pub no_line : (p : Promises) (words : List (List ℕ)) (found : Option FileLine) (names : Names)
+pub no_line : (p : Promises) (words : List (List ℕ)) (found : Option FileLine) (state : FilesState)
     (source out note note' : PortState) (status : Status) → option_map line_value found ≡ file_line words →
     found ≡ None → Writes note note' (error_line usage) → status ≡ statuses.Usage → IsNotPlain words →
-    (ending : Ending) × IsEnding p (front_run words (names, names) (source, source) (out, out) (note, note') status) ending
-no_line p words found names source out note note' status e is writes status_is other =
-    idle p words names source out note note' status other (none_without_line words (no_line_of words found e is)) writes status_is
+    (ending : Ending) × IsEnding p (front_run words (state, state) (source, source) (out, out) (note, note') status) ending
+no_line p words found state source out note note' status e is writes status_is other =
+    idle p words state source out note note' status other (none_without_line words (no_line_of words found e is)) writes status_is
 
 pub some_line : (p : Promises) (words : List (List ℕ)) (found : Option FileLine) (line : FileLine) (files : Files)
     (source out note : Pass) (status : Status) → option_map line_value found ≡ file_line words → found ≡ Some line →
@@ -124,16 +125,16 @@ pub ruleset word_endings = (common_steps, no_memory, no_line, some_line)
 
 -- ---- all
 
-pub plain_words : (p : Promises) (words : List (List ℕ)) (own : Command) (names : Names) (source out note : Pass)
+pub plain_words : (p : Promises) (words : List (List ℕ)) (own : Command) (state : FilesState) (source out note : Pass)
     (status : Status) → Ok own ≡ read words → p.keeps (run_of words source out note status) →
-    (ending : Ending) × IsEnding p (front_run words (names, names) source out note status) ending
-plain_words p words own names source out note status ok kept = (
+    (ending : Ending) × IsEnding p (front_run words (state, state) source out note status) ending
+plain_words p words own state source out note status ok kept = (
   Plain,
   record {
     command = own;
     asks = asked words own ok;
     kept = kept;
-    same = λ name. refl;
+    unchanged = still state;
   },
 )
 

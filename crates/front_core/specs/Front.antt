@@ -7,8 +7,8 @@ use Rattle.frame_core.specs.declared.status.Status.TheVariants.{Usage, Memory}
 use Rattle.frame_core.specs.Outside.{Writes}
 use Rattle.frame_core.specs.Reported.{Field, error_line, usage, memory}
 use Rattle.frame_core.specs.Run.{Run, run_of}
-use Rattle.file_io.specs.Names.{SameNames}
-use Rattle.file_io.specs.Served.{Pass, Files, Does, IsServed}
+use Rattle.file_io.specs.Files.{Files, IsUnchanged}
+use Rattle.file_io.specs.Served.{Pass, IsApart, IsDelivered, IsServed}
 use Rattle.file_words.specs.Sorting.{Line}
 use Rattle.front_core.specs.Asked.{AsksWithFiles, IsNotPlain, name_in, first_in, second_in, pair_budget}
 use Rattle.front_core.specs.Paired.{Compares, IsPaired}
@@ -37,11 +37,11 @@ pub record IsPlain (keeps : Run → Type 0) (r : FrontRun) : Type 0 where
   pub command : Command
   pub asks : AsksFor r.words command
   pub kept : keeps (run_of r.words r.source r.out r.note r.status)
-  pub same : SameNames r.files.0 r.files.1
+  pub unchanged : IsUnchanged r.files.0 r.files.1
 
 -- A line was reported, and nothing else happened.
 pub record Reports (line : List Field) (status : Status) (r : FrontRun) : Type 0 where
-  pub same : SameNames r.files.0 r.files.1
+  pub unchanged : IsUnchanged r.files.0 r.files.1
   pub on_source : r.source.1 ≡ r.source.0
   pub on_out : r.out.1 ≡ r.out.0
   pub on_note : Writes r.note.0 r.note.1 (error_line line)
@@ -59,7 +59,7 @@ pub record IsOutOfMemory (r : FrontRun) : Type 0 where
   pub reports : Reports memory Memory r
 
 -- a run over these words, whatever its source and its sinks are
-abbrev pub runs : (Run → Type 0) → List (List ℕ) → Pass → Does
+abbrev pub runs : (Run → Type 0) → List (List ℕ) → Pass → Pass → Pass → Status → Type 0
 runs keeps words source out note status = keeps (run_of words source out note status)
 
 -- what a program promises: of a run over words, and of a comparison with a budget
@@ -71,10 +71,11 @@ pub record Promises : Type 1 where
 -- is named.
 abbrev pub IsServedLine : Promises → Option ℕ → Line → FrontRun → Type 0
 IsServedLine p (Some budget) line r =
-    IsPaired (name_in (first_in line.operands)) (name_in (second_in line.operands)) (name_in line.output)
-    (p.compares budget) r.files r.source r.out r.note r.status
+    IsDelivered (name_in line.output)
+    (IsPaired (name_in (first_in line.operands)) (name_in (second_in line.operands)) (p.compares budget))
+    r.files r.source r.out r.note r.status
 IsServedLine p None line r =
-    IsServed (name_in (first_in line.operands)) (name_in line.output) (runs p.keeps line.words)
+    IsServed (name_in (first_in line.operands)) (name_in line.output) (IsApart (runs p.keeps line.words))
     r.files r.source r.out r.note r.status
 
 -- The words name files.

@@ -9,8 +9,9 @@ use Rattle.frame_core.specs.declared.status.Status.TheVariants as statuses
 use Rattle.frame_core.specs.Outside.{PortState, Writes}
 use Rattle.frame_core.specs.Reported.{Field, Word, error_line, memory}
 use Rattle.frame_core.specs.Run.{IsWhole}
-use Rattle.file_io.specs.Names.{Shows, SameNames}
-use Rattle.file_io.specs.Served.{Pass, Files, Does, IsUnread, IsServed}
+use Rattle.file_io.specs.Names.{Shows}
+use Rattle.file_io.specs.Files.{FilesState, Files, IsUnchanged}
+use Rattle.file_io.specs.Served.{Pass, IsApart, IsUnread, IsRead}
 
 -- ---- the first text
 
@@ -47,55 +48,54 @@ pub record IsTextRefused (source note : Pass) (status : Status) : Type 0 where
 
 -- what a comparison of a text with that of a source does
 abbrev pub Compares : Type 1
-Compares = List ℕ → Pass → Does
+Compares = List ℕ → Pass → Pass → Pass → Status → Type 0
 
 -- The first text was refused, and nothing was written.
 pub record IsFirstRefused (input : Pass) (files : Files) (out note : Pass) (status : Status) : Type 0 where
   pub refused : IsTextRefused input note status
-  pub same : SameNames files.0 files.1
+  pub unchanged : IsUnchanged files.0 files.1
   pub on_out : out.1 ≡ out.0
 
 -- The first text was read, and compared with the second, which was read from its own input.
-pub record IsFirstCompared (second output : Option (List ℕ)) (compares : Compares) (files : Files)
+pub record IsFirstCompared (second : Option (List ℕ)) (compares : Compares) (files : Files)
     (input source out note : Pass) (status : Status) : Type 0 where
   pub text : List ℕ
   pub read : IsTextRead input text
-  pub served : IsServed second output (compares text) files source out note status
+  pub rest : IsRead second (IsApart (compares text)) files source out note status
 
 -- One of the two; where the first was refused, the source of the second is as before.
-abbrev pub IsFirstDone : Option (List ℕ) → Option (List ℕ) → Compares → Files → Pass → Pass → Pass → Pass → Status →
-    Type 0
-IsFirstDone second output compares files input source out note status =
+abbrev pub IsFirstDone : Option (List ℕ) → Compares → Files → Pass → Pass → Pass → Pass → Status → Type 0
+IsFirstDone second compares files input source out note status =
     (IsFirstRefused input files out note status × (source.1 ≡ source.0)) ⊎
-    IsFirstCompared second output compares files input source out note status
+    IsFirstCompared second compares files input source out note status
 
 -- The first text is standard input's, up to a state between; `-` as the second is what is left, which is nothing.
-pub record IsFirstStandard (second output : Option (List ℕ)) (compares : Compares) (files : Files)
+pub record IsFirstStandard (second : Option (List ℕ)) (compares : Compares) (files : Files)
     (source out note : Pass) (status : Status) : Type 0 where
   pub between : PortState
-  pub does : IsFirstDone second output compares files (source.0, between) (between, source.1) out note status
+  pub does : IsFirstDone second compares files (source.0, between) (between, source.1) out note status
 
 -- The first text is that of a file.
-pub record IsFirstOpened (name : List ℕ) (second output : Option (List ℕ)) (compares : Compares) (files : Files)
+pub record IsFirstOpened (name : List ℕ) (second : Option (List ℕ)) (compares : Compares) (files : Files)
     (source out note : Pass) (status : Status) : Type 0 where
+  pub opened : FilesState
   pub input : Pass
-  pub shows : Shows (files.0 name) input.0.bytes
-  pub does : IsFirstDone second output compares files input source out note status
+  pub unchanged : IsUnchanged files.0 opened
+  pub shows : Shows (files.0.holds name) input.0.bytes
+  pub does : IsFirstDone second compares (opened, files.1) input source out note status
 
 -- The first text couldn't be opened.
 pub record IsFirstUnread (name : List ℕ) (files : Files) (source out note : Pass) (status : Status) : Type 0 where
   pub unread : IsUnread name files out note status
   pub on_source : source.1 ≡ source.0
 
-abbrev pub IsNamedPair : List ℕ → Option (List ℕ) → Option (List ℕ) → Compares → Files → Pass → Pass → Pass →
-    Status → Type 0
-IsNamedPair name second output compares files source out note status =
+abbrev pub IsNamedPair : List ℕ → Option (List ℕ) → Compares → Files → Pass → Pass → Pass → Status → Type 0
+IsNamedPair name second compares files source out note status =
     IsFirstUnread name files source out note status ⊎
-    IsFirstOpened name second output compares files source out note status
+    IsFirstOpened name second compares files source out note status
 
-abbrev pub IsPaired : Option (List ℕ) → Option (List ℕ) → Option (List ℕ) → Compares → Files → Pass → Pass → Pass →
-    Status → Type 0
-IsPaired None second output compares files source out note status =
-    IsFirstStandard second output compares files source out note status
-IsPaired (Some name) second output compares files source out note status =
-    IsNamedPair name second output compares files source out note status
+abbrev pub IsPaired : Option (List ℕ) → Option (List ℕ) → Compares → Files → Pass → Pass → Pass → Status → Type 0
+IsPaired None second compares files source out note status =
+    IsFirstStandard second compares files source out note status
+IsPaired (Some name) second compares files source out note status =
+    IsNamedPair name second compares files source out note status

@@ -6,12 +6,14 @@ ghost use Rattle.frame_core.specs.Outside.{port_state, Writes};
 ghost use Rattle.frame_core.specs.Reported.{error_line};
 ghost use Rattle.frame_core.specs.Run.{before_after};
 ghost use Rattle.frame_core.specs.Views.{line_value};
+ghost use Rattle.file_io.specs.Files.{files_before_after};
+ghost use Rattle.file_io.specs.Served.{IsDelivered};
 ghost use Rattle.file_io.specs.Texts.{text_in};
 ghost use Rattle.front_core.specs.Paired.{first_line, first_status};
 ghost use Rattle.front_core.specs.Paired.{IsFirstDone, IsFirstStandard, IsNamedPair, IsPaired};
 
 use crate::program::Program;
-use file_io::{Outside, Work, report_fault, serve_files};
+use file_io::{Call, Outside, Work, read_input, report_fault, write_output};
 use frame_core::{ErrorLine, Field, Status, report_error};
 use net_theory::MOST_OF_NETLIST;
 use port_io::{ReadError, Sink, Source, read_all};
@@ -27,13 +29,17 @@ struct Comparing<'a, P> {
 }
 
 impl<'a, P: Program> Work for Comparing<'a, P> {
-    ghost does = { λ w. P.compares w.budget w.text.now.items };
+    ghost use Rattle.file_io.specs.Served.{IsApart};
+
+    ghost does = { λ w. IsApart (P.compares w.budget w.text.now.items) };
 
     ghost ready = { λ w. IsBudget w.budget × (length w.text.now.items ≤ most_of_netlist) };
 
-    fn work<S: Source, O: Sink, N: Sink>(
+    #[tactic(auto, using(crate::proofs::Pairs::apart_runs))]
+    fn work<W: Outside, S: Source, O: Sink, N: Sink>(
         &self,
         alloc: Global,
+        _outside: &mut W,
         source: &mut S,
         out: &mut O,
         note: &mut N,
@@ -89,15 +95,14 @@ fn pair_standard<P: Program, W: Outside, S: Source, O: Sink, N: Sink>(
     alloc: Global,
     budget: u32,
     second: Option<&str>,
-    output: Option<&str>,
     outside: &mut W,
     source: &mut S,
     out: &mut O,
     note: &mut N,
 ) -> Status
     requires { IsBudget budget }
-    ensures { IsFirstStandard (text_in second.entry) (text_in output.entry) (P.compares budget)
-        (W.holds outside.old, W.holds outside.new)
+    ensures { IsFirstStandard (text_in second.entry) (P.compares budget)
+        (files_before_after W.holds W.faults outside.old outside.new)
         (before_after S.left S.faults source.old source.new)
         (before_after O.written O.faults out.old out.new)
         (before_after N.written N.faults note.old note.new)
@@ -112,9 +117,7 @@ fn pair_standard<P: Program, W: Outside, S: Source, O: Sink, N: Sink>(
         budget,
         program: PhantomData::<P>,
     };
-    serve_files(
-        alloc, &comparing, second, output, outside, source, out, note,
-    )
+    read_input(alloc, &comparing, second, outside, source, out, note)
 }
 
 /// Compares the text of an input that was opened with a second one.
@@ -123,7 +126,6 @@ fn pair_input<P: Program, W: Outside, I: Source, S: Source, O: Sink, N: Sink>(
     alloc: Global,
     budget: u32,
     second: Option<&str>,
-    output: Option<&str>,
     outside: &mut W,
     input: &mut I,
     source: &mut S,
@@ -131,8 +133,8 @@ fn pair_input<P: Program, W: Outside, I: Source, S: Source, O: Sink, N: Sink>(
     note: &mut N,
 ) -> Status
     requires { IsBudget budget }
-    ensures { IsFirstDone (text_in second.entry) (text_in output.entry) (P.compares budget)
-        (W.holds outside.old, W.holds outside.new)
+    ensures { IsFirstDone (text_in second.entry) (P.compares budget)
+        (files_before_after W.holds W.faults outside.old outside.new)
         (before_after I.left I.faults input.old input.new)
         (before_after S.left S.faults source.old source.new)
         (before_after O.written O.faults out.old out.new)
@@ -148,9 +150,7 @@ fn pair_input<P: Program, W: Outside, I: Source, S: Source, O: Sink, N: Sink>(
         budget,
         program: PhantomData::<P>,
     };
-    serve_files(
-        alloc, &comparing, second, output, outside, source, out, note,
-    )
+    read_input(alloc, &comparing, second, outside, source, out, note)
 }
 
 /// Compares the text of a file with a second one.
@@ -160,15 +160,14 @@ fn pair_named<P: Program, W: Outside, S: Source, O: Sink, N: Sink>(
     budget: u32,
     name: &str,
     second: Option<&str>,
-    output: Option<&str>,
     outside: &mut W,
     source: &mut S,
     out: &mut O,
     note: &mut N,
 ) -> Status
     requires { IsBudget budget }
-    ensures { IsNamedPair name.now (text_in second.entry) (text_in output.entry) (P.compares budget)
-        (W.holds outside.old, W.holds outside.new)
+    ensures { IsNamedPair name.now (text_in second.entry) (P.compares budget)
+        (files_before_after W.holds W.faults outside.old outside.new)
         (before_after S.left S.faults source.old source.new)
         (before_after O.written O.faults out.old out.new)
         (before_after N.written N.faults note.old note.new)
@@ -176,17 +175,68 @@ fn pair_named<P: Program, W: Outside, S: Source, O: Sink, N: Sink>(
 {
     let mut input = match outside.open(alloc, name) {
         Ok(input) => input,
-        Err(reason) => {
-            report_fault(note, b"error: ReadFault ", name, &reason);
-            return Status::ReadFault;
-        }
+        Err(reason) => return report_fault(note, Call::Open, name, &reason),
     };
     pair_input::<P, W, W::Input, S, O, N>(
-        alloc, budget, second, output, outside, &mut input, source, out, note,
+        alloc, budget, second, outside, &mut input, source, out, note,
     )
 }
 
+/// The comparison of the texts of two inputs, as work.
+#[derive(Drop)]
+struct Pairing<'a, P> {
+    first: Option<&'a str>,
+    second: Option<&'a str>,
+    budget: u32,
+    program: PhantomData<P>,
+}
+
+impl<'a, P: Program> Work for Pairing<'a, P> {
+    ghost use Rattle.file_io.specs.Texts.{text_in};
+    ghost use Rattle.front_core.specs.Paired.{IsPaired};
+
+    ghost does = { λ w. IsPaired (text_in w.first) (text_in w.second) (P.compares w.budget) };
+
+    ghost ready = { λ w. IsBudget w.budget };
+
+    fn work<W: Outside, S: Source, O: Sink, N: Sink>(
+        &self,
+        alloc: Global,
+        outside: &mut W,
+        source: &mut S,
+        out: &mut O,
+        note: &mut N,
+    ) -> Status {
+        match self.first {
+            None => {
+                pair_standard::<P, W, S, O, N>(
+                    alloc,
+                    self.budget,
+                    self.second,
+                    outside,
+                    source,
+                    out,
+                    note,
+                )
+            }
+            Some(name) => {
+                pair_named::<P, W, S, O, N>(
+                    alloc,
+                    self.budget,
+                    name,
+                    self.second,
+                    outside,
+                    source,
+                    out,
+                    note,
+                )
+            }
+        }
+    }
+}
+
 /// Compares the texts of two inputs, which are never joined: those of the files that are named, or that of `source`.
+/// A named output is created before the first is opened.
 pub(crate) fn serve_pair<P: Program, W: Outside, S: Source, O: Sink, N: Sink>(
     alloc: Global,
     budget: u32,
@@ -199,21 +249,19 @@ pub(crate) fn serve_pair<P: Program, W: Outside, S: Source, O: Sink, N: Sink>(
     note: &mut N,
 ) -> Status
     requires { IsBudget budget }
-    ensures { IsPaired (text_in first.entry) (text_in second.entry) (text_in output.entry) (P.compares budget)
-        (W.holds outside.old, W.holds outside.new)
+    ensures { IsDelivered (text_in output.entry)
+        (IsPaired (text_in first.entry) (text_in second.entry) (P.compares budget))
+        (files_before_after W.holds W.faults outside.old outside.new)
         (before_after S.left S.faults source.old source.new)
         (before_after O.written O.faults out.old out.new)
         (before_after N.written N.faults note.old note.new)
         result }
 {
-    match first {
-        None => pair_standard::<P, W, S, O, N>(
-            alloc, budget, second, output, outside, source, out, note,
-        ),
-        Some(name) => {
-            pair_named::<P, W, S, O, N>(
-                alloc, budget, name, second, output, outside, source, out, note,
-            )
-        }
-    }
+    let pairing = Pairing {
+        first,
+        second,
+        budget,
+        program: PhantomData::<P>,
+    };
+    write_output(alloc, &pairing, output, outside, source, out, note)
 }

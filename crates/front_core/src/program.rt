@@ -6,7 +6,7 @@ ghost use Rattle.frame_core.specs.Run.{Run, before_after, run_of};
 ghost use Rattle.front_core.specs.Front.{runs};
 ghost use Rattle.front_core.specs.Paired.{Compares};
 
-use file_io::Work;
+use file_io::{Outside, Work};
 use frame_core::Status;
 use port_io::{Sink, Source};
 use std::alloc::Global;
@@ -60,13 +60,17 @@ pub(crate) struct Running<'a, P> {
 }
 
 impl<'a, P: Program> Work for Running<'a, P> {
-    ghost does = { λ w. runs P.keeps (spelled w.words.now) };
+    ghost use Rattle.file_io.specs.Served.{IsApart};
+
+    ghost does = { λ w. IsApart (runs P.keeps (spelled w.words.now)) };
 
     ghost ready = { λ w. Unit {0} };
 
-    fn work<S: Source, O: Sink, N: Sink>(
+    #[tactic(auto, using(crate::proofs::Pairs::apart_runs))]
+    fn work<W: Outside, S: Source, O: Sink, N: Sink>(
         &self,
         alloc: Global,
+        _outside: &mut W,
         source: &mut S,
         out: &mut O,
         note: &mut N,

@@ -4,6 +4,7 @@ ghost use Rattle.command_line.specs.CommandLine.{spelled};
 ghost use Rattle.frame_core.specs.Outside.{port_state, Writes};
 ghost use Rattle.frame_core.specs.Reported.{error_line, usage, memory};
 ghost use Rattle.frame_core.specs.Run.{before_after};
+ghost use Rattle.file_io.specs.Files.{files_before_after};
 ghost use Rattle.file_words.specs.Sorting.{file_line};
 ghost use Rattle.file_words.specs.Lines.{line_value};
 ghost use Rattle.front_core.specs.Asked.{IsNotPlain};
@@ -52,7 +53,7 @@ fn serve_line<P: Program, W: Outside, S: Source, O: Sink, N: Sink>(
 ) -> Status
     ensures { (words : List (List ℕ)) → IsNotPlain words → file_line words ≡ Some (line_value line.now) →
         (ending : Ending) × IsEnding (promised_by P.keeps P.compares) (front_run words
-        (W.holds outside.old, W.holds outside.new)
+        (files_before_after W.holds W.faults outside.old outside.new)
         (before_after S.left S.faults source.old source.new)
         (before_after O.written O.faults out.old out.new)
         (before_after N.written N.faults note.old note.new)
@@ -91,7 +92,7 @@ fn serve_other<P: Program, W: Outside, S: Source, O: Sink, N: Sink>(
 ) -> Status
     ensures { IsNotPlain (spelled words.now) →
         (ending : Ending) × IsEnding (promised_by P.keeps P.compares) (front_run (spelled words.now)
-        (W.holds outside.old, W.holds outside.new)
+        (files_before_after W.holds W.faults outside.old outside.new)
         (before_after S.left S.faults source.old source.new)
         (before_after O.written O.faults out.old out.new)
         (before_after N.written N.faults note.old note.new)
@@ -119,7 +120,7 @@ pub fn serve<P: Program, W: Outside, S: Source, O: Sink, N: Sink>(
     note: &mut N,
 ) -> Status
     ensures { (ending : Ending) × IsEnding (promised_by P.keeps P.compares) (front_run (spelled words.now)
-        (W.holds outside.old, W.holds outside.new)
+        (files_before_after W.holds W.faults outside.old outside.new)
         (before_after S.left S.faults source.old source.new)
         (before_after O.written O.faults out.old out.new)
         (before_after N.written N.faults note.old note.new)

@@ -2,6 +2,7 @@
 ghost use Rattle.std.specs.Prelude.{None};
 ghost use Rattle.file_io.specs.Names.{Begins};
 ghost use Rattle.system_files.specs.Drafts.{draft_faults};
+ghost use Rattle.system_files.specs.Counts.{files_faults};
 
 use file_io::{Outside, Reason};
 use port_io::{Failed, InputPort, OutputPort, Sink};
@@ -10,10 +11,13 @@ use std::fs::{File, OpenOptions, Permissions};
 use std::io::{Error, ErrorKind};
 use std::{fs, io, process};
 
-/// The files of the system.
+/// The files of the system, and how many calls of each kind have failed.
 #[derive(Drop)]
 pub struct SystemFiles<'a> {
     rt: &'a HostRuntime,
+    unopened: u64,
+    uncreated: u64,
+    unkept: u64,
 }
 
 /// A file that is written: beside its name, or in place where the name leads to what isn't a plain file.
@@ -72,7 +76,12 @@ fn no_memory() -> Error {
 impl<'a> SystemFiles<'a> {
     /// The files that the system of a run has.
     pub fn new(rt: &'a HostRuntime) -> Self {
-        SystemFiles { rt }
+        SystemFiles {
+            rt,
+            unopened: 0,
+            uncreated: 0,
+            unkept: 0,
+        }
     }
 
     /// The path of the file that a name leads to, at the end of its links; the name itself if there is no file.
@@ -143,6 +152,29 @@ impl<'a> SystemFiles<'a> {
         }
     }
 
+    /// Opens what was written to a draft. What is written in place can't be read again.
+    fn open_part(&self, draft: &SystemDraft) -> io::Result<File> {
+        match &draft.paths {
+            None => Err(Error::from(ErrorKind::Unsupported)),
+            Some(paths) => File::open(self.rt, paths.part.as_str()),
+        }
+    }
+
+    /// Gives a draft the name of the file whose place it takes.
+    fn rename_part(&self, draft: &SystemDraft) -> io::Result<()> {
+        match &draft.paths {
+            None => Ok(()),
+            Some(paths) => fs::rename(self.rt, paths.part.as_str(), paths.whole.as_str()),
+        }
+    }
+
+    /// Removes a draft. What remains if that fails has a name that says so.
+    fn remove_part(&self, draft: &SystemDraft) {
+        if let Some(paths) = &draft.paths {
+            let _ = fs::remove_file(self.rt, paths.part.as_str());
+        }
+    }
+
     /// Opens a file that isn't a folder.
     fn open_input(&self, name: &str) -> io::Result<File> {
         let file = File::open(self.rt, name)?;
@@ -155,24 +187,35 @@ impl<'a> SystemFiles<'a> {
 
 impl<'a> Outside for SystemFiles<'a> {
     ghost use Rattle.file_io.specs.Names.{Unknown};
+    ghost use Rattle.system_files.specs.Counts.{files_faults};
 
     ghost holds = { λ _ _. Unknown };
+
+    ghost faults = { λ files. files_faults files };
 
     type Input = InputPort<File>;
 
     type Draft = SystemDraft;
 
+    #[tactic(auto, using(crate::proofs::Failures::failures))]
     fn open(&mut self, alloc: Global, name: &str) -> Result<InputPort<File>, Reason> {
         match self.open_input(name) {
             Ok(file) => Ok(InputPort::new(file)),
-            Err(error) => Err(reason_of(alloc, &error)),
+            Err(error) => {
+                self.unopened = self.unopened.saturating_add(1);
+                Err(reason_of(alloc, &error))
+            }
         }
     }
 
+    #[tactic(auto, using(crate::proofs::Failures::failures))]
     fn create(&mut self, alloc: Global, name: &str) -> Result<SystemDraft, Reason> {
         match self.create_draft(alloc, name) {
             Ok(draft) => Ok(draft),
-            Err(error) => Err(reason_of(alloc, &error)),
+            Err(error) => {
+                self.uncreated = self.uncreated.saturating_add(1);
+                Err(reason_of(alloc, &error))
+            }
         }
     }
 
@@ -182,22 +225,31 @@ impl<'a> Outside for SystemFiles<'a> {
         draft.is_begun
     }
 
-    fn keep(&mut self, alloc: Global, _name: &str, draft: SystemDraft) -> Result<(), Reason> {
-        let Some(paths) = &draft.paths else {
-            return Ok(());
-        };
-        match fs::rename(self.rt, paths.part.as_str(), paths.whole.as_str()) {
-            Ok(()) => Ok(()),
+    #[tactic(auto, using(crate::proofs::Failures::failures))]
+    fn reopen(&mut self, alloc: Global, draft: &SystemDraft) -> Result<InputPort<File>, Reason> {
+        match self.open_part(draft) {
+            Ok(file) => Ok(InputPort::new(file)),
             Err(error) => {
-                let _ = fs::remove_file(self.rt, paths.part.as_str());
+                self.unopened = self.unopened.saturating_add(1);
                 Err(reason_of(alloc, &error))
             }
         }
     }
 
-    fn discard(&mut self, draft: SystemDraft) {
-        if let Some(paths) = &draft.paths {
-            let _ = fs::remove_file(self.rt, paths.part.as_str());
+    #[tactic(auto, using(crate::proofs::Failures::failures))]
+    fn keep(&mut self, alloc: Global, _name: &str, draft: SystemDraft) -> Result<(), Reason> {
+        match self.rename_part(&draft) {
+            Ok(()) => Ok(()),
+            Err(error) => {
+                self.remove_part(&draft);
+                self.unkept = self.unkept.saturating_add(1);
+                Err(reason_of(alloc, &error))
+            }
         }
+    }
+
+    #[tactic(auto, using(crate::proofs::Failures::failures))]
+    fn discard(&mut self, draft: SystemDraft) {
+        self.remove_part(&draft);
     }
 }
