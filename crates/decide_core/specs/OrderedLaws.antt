@@ -29,6 +29,7 @@ header_permuted h spec conflicts header tables some few = record {
     max_to = header.settings.max_to;
     conflicts_from = some;
     conflicts_to = omega (arith, few, header.settings.conflicts_to);
+    effort_to = header.settings.effort_to;
   };
 }
 
