@@ -11,7 +11,8 @@ use Rattle.net_document.specs.Listed.{Listed, IsWellListed}
 use Rattle.net_document.specs.Refusals.{fault_of, IsRefusedListing}
 use Rattle.net_document.specs.Format.{IsNetlist, IsCircuitOfText, IsRefusedText, ListsWell}
 use Rattle.net_document.specs.FormatLaws.{refused_memory}
-use Rattle.aiger_text.specs.File.{AigFile, IsAig}
+use Rattle.aiger_text.specs.File.{AigFile}
+use Rattle.aiger_text.specs.Valid.{IsAig}
 use Rattle.aiger_text.specs.FileLaws.{file_is}
 use Rattle.aiger_text.specs.ListingLaws.{listed_is}
 use Rattle.aiger_text.specs.Meaning.{listed}

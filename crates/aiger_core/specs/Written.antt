@@ -1,5 +1,6 @@
--- The AIGER file that the writer makes of a circuit: AND gates with complements. Any operator can be written: those of
--- AND and OR with complements as one gate, XOR and XNOR as three, and constants, copies and complements as none.
+-- The AIGER file that the writer makes of a circuit: AND gates with complements. AND and OR, with complements of their
+-- operands and of their results, are one gate each, and constants, copies and complements none; XOR and XNOR can't be
+-- written. There is no such writer yet, and no clause of the reader rests on this file.
 use Rattle.std.specs.Prelude.{ℕ, zero, suc, ◌+◌, ◌-◌, ◌*◌, ◌%◌, Bool, true, false, ◌||◌, ◌==◌, if◌then◌else◌, List, [], ◌∷◌, ◌++◌}
 use Rattle.std.specs.Prelude.{length, map, Option, Some, None, slice_index_or}
 use Rattle.std.proofs.Common.{drop, take}
@@ -65,31 +66,26 @@ flipped_out b r = record { gates = r.gates; literal = flipped b r.literal }
 abbrev pub anded_with : ℕ → List AigGate → ℕ → ℕ → Bool → Bool → Bool → Anded
 anded_with sources gates a b flip_a flip_b flip = flipped_out flip (anded sources gates (flipped flip_a a) (flipped flip_b b))
 
--- XOR, or XNOR with `flip`: neither both nor none
-unfoldable pub xored : ℕ → List AigGate → ℕ → ℕ → Bool → Anded
-xored sources gates a b flip =
-    let both = anded sources gates a b in
-    let none = anded sources both.gates (complement a) (complement b) in
-    flipped_out flip (anded sources none.gates (complement both.literal) (complement none.literal))
+-- whether a gate with the operator can be written: all but XOR and XNOR
+unfoldable pub is_and_word : ℕ → Bool
+is_and_word op = op == 1 || op == 2 || op == 4 || op == 8 || op == 14 || op == 13 || op == 11 || op == 7 || op == 3 ||
+    op == 5 || op == 12 || op == 10 || op == 15 || op == 0
 
 -- a gate, by its operator
 unfoldable pub operated : ℕ → List AigGate → ℕ → ℕ → ℕ → Anded
-operated sources gates op a b = if op == 0 then without gates 0
-    else (if op == 1 then anded_with sources gates a b false false false
+operated sources gates op a b = if op == 1 then anded_with sources gates a b false false false
     else (if op == 2 then anded_with sources gates a b false true false
-    else (if op == 3 then without gates a
     else (if op == 4 then anded_with sources gates a b true false false
-    else (if op == 5 then without gates b
-    else (if op == 6 then xored sources gates a b false
-    else (if op == 7 then anded_with sources gates a b true true true
     else (if op == 8 then anded_with sources gates a b true true false
-    else (if op == 9 then xored sources gates a b true
-    else (if op == 10 then without gates (complement b)
-    else (if op == 11 then anded_with sources gates a b true false true
-    else (if op == 12 then without gates (complement a)
-    else (if op == 13 then anded_with sources gates a b false true true
     else (if op == 14 then anded_with sources gates a b false false true
-    else without gates 1))))))))))))))
+    else (if op == 13 then anded_with sources gates a b false true true
+    else (if op == 11 then anded_with sources gates a b true false true
+    else (if op == 7 then anded_with sources gates a b true true true
+    else (if op == 3 then without gates a
+    else (if op == 5 then without gates b
+    else (if op == 12 then without gates (complement a)
+    else (if op == 10 then without gates (complement b)
+    else (if op == 15 then without gates 1 else without gates 0))))))))))))
 
 -- the gates so far, and the literals of the nodes so far
 pub record Mapped : Type 0 where

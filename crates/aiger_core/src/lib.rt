@@ -2,7 +2,7 @@
 //! well-formed document, and else the first fault. The definitions are those of `net_theory` and `aiger_text`.
 //!
 //! The main theorem: the circuit is equivalent to the document that its text lists, with as many gates as the
-//! document costs: one for each AND gate, and one for each output and each next state that is a complement.
+//! document costs: one for each AND gate, and one for each variable whose complement has a table of its own.
 //!
 //! ```text
 //! let circuit = read_aiger(alloc, b"aag 3 2 0 1 1\n2\n4\n7\n6 2 4\n")?; // NAND

@@ -51,7 +51,13 @@ const TEXTS: &[(&str, &[u8], &str, u32)] = &[
     ),
     (
         "too many variables",
-        b"aag 1048577 0 0 0 0\n",
+        b"aag 2097153 0 0 0 0\n",
+        "NotSupported",
+        1,
+    ),
+    (
+        "too many inputs and latches",
+        b"aag 1048577 1048576 1 0 0\n",
         "NotSupported",
         1,
     ),

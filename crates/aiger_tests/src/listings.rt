@@ -45,20 +45,26 @@ const TEXTS: &[(&str, &[u8], &[u8], &[u8])] = &[
     (
         "NAND without symbols",
         b"aag 3 2 0 1 1\n2\n4\n7\n6 2 4\n",
-        b"i0 i1 &0 &6 o0 ",
+        b"i0 i1 &0 &1 &6 o0 ",
         b"i0 i1 &6 ",
     ),
     (
         "a latch, and an output with its name, as yosys writes them",
         b"aag 4 2 1 2 1\n2\n4\n6 8 1\n6\n9\n8 4 7\ni0 clk\ni1 e\nl0 q[0] z\no0 q[0]\no1 y\nc\nby hand\n",
-        b"clk e q[0] &0 &8 &d0 y ",
-        b"e q[0] &8 &8 &d0 ",
+        b"clk e q[0] &0 &1 &8 &9 y ",
+        b"e q[0] &8 &9 &8 ",
+    ),
+    (
+        "complements of an input, twice",
+        b"aag 1 1 0 2 0\n2\n3\n3\n",
+        b"i0 &0 &1 &3 o0 o1 ",
+        b"i0 &3 &3 ",
     ),
     (
         "constants",
         b"aag 0 0 0 2 0\n0\n1\n",
-        b"&0 o0 o1 ",
-        b"&0 &0 ",
+        b"&0 &1 o0 o1 ",
+        b"&0 &1 ",
     ),
 ];
 

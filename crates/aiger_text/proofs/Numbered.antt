@@ -1,9 +1,9 @@
 -- Numbered names, one after another, and places that are out of range.
-use Rattle.std.proofs.Common.{◌≡◌, ℕ, zero, suc, ◌+◌, ◌-◌, ◌<◌, ◌≤◌, List, [], ◌∷◌, ◌++◌, length, refl, ap, arith}
-use Rattle.std.specs.Prelude.{slice_set}
+use Rattle.std.proofs.Common.{◌≡◌, ℕ, zero, suc, ◌+◌, ◌-◌, ◌<◌, ◌≤◌, List, [], ◌∷◌, length, refl, ap, arith}
+use Rattle.std.specs.Prelude.{if◌then◌else◌, slice_set}
 use Rattle.std.proofs.lemmas.Grind.{common_steps}
-use Rattle.net_theory.specs.Document.{Name}
 use Rattle.aiger_text.specs.Naming.{numbered, numbered_from, gate_name, gate_names_from}
+use Rattle.aiger_text.specs.Meaning.{Signals, needs_not, not_table, not_tables}
 
 pub numbered-more : (prefix : List ℕ) (at count : ℕ) → at < count → numbered_from prefix at (count - at) ≡ numbered prefix at ∷ numbered_from prefix (at + 1) (count - (at + 1))
 unfolding numbered_from
@@ -29,9 +29,24 @@ gates-all count = let size : count - 0 ≡ count = omega arith in ap (gate_names
 
 pub ruleset numbers = (common_steps, numbered-more, numbered-end, numbered-all, gates-more, gates-end, gates-all)
 
-pub set-outside : (names : List Name) (place : ℕ) (name : Name) → length names ≤ place → slice_set names place name ≡ names
-set-outside [] place name high = refl
-set-outside (n ∷ ns) zero name high = absurd (omega arith)
-set-outside (n ∷ ns) (suc place) name high = ap (λ (xs : List Name). n ∷ xs) (set-outside ns place name (omega arith))
+-- the complements of the variables from `at` to `last`
+pub nots-more : (s : Signals) (at last : ℕ) → at ≤ last → not_tables s at (last + 1 - at) ≡
+    (if needs_not s at then not_table s at ∷ not_tables s (at + 1) (last + 1 - (at + 1)) else not_tables s (at + 1) (last + 1 - (at + 1)))
+unfolding not_tables
+nots-more s at last low = let size : last + 1 - at ≡ suc (last + 1 - (at + 1)) = omega (arith, low) in ap (not_tables s at) size
+
+pub nots-end : (s : Signals) (at last : ℕ) → last < at → not_tables s at (last + 1 - at) ≡ []
+unfolding not_tables
+nots-end s at last high = let size : last + 1 - at ≡ 0 = omega (arith, high) in ap (not_tables s at) size
+
+pub nots-all : (s : Signals) (last : ℕ) → not_tables s 1 (last + 1 - 1) ≡ not_tables s 1 last
+nots-all s last = let size : last + 1 - 1 ≡ last = omega arith in ap (not_tables s 1) size
+
+pub ruleset complements = (common_steps, nots-more, nots-end, nots-all)
+
+pub set-outside : {A : Type 0} (xs : List A) (place : ℕ) (x : A) → length xs ≤ place → slice_set xs place x ≡ xs
+set-outside [] place x high = refl
+set-outside (y ∷ ys) zero x high = absurd (omega arith)
+set-outside {A} (y ∷ ys) (suc place) x high = ap (λ (zs : List A). y ∷ zs) (set-outside ys place x (omega arith))
 
 pub ruleset sets = (common_steps, set-outside)

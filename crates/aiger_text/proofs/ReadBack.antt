@@ -1,13 +1,13 @@
 -- What is written is read back as the same file.
-use Rattle.std.proofs.Common.{◌≡◌, ℕ, zero, suc, ◌+◌, ◌*◌, ◌^◌, ◌≤◌, ◌<◌, ◌%◌, Bool, true, false, List, [], ◌∷◌, ◌++◌, length, Option, Some, None, refl, ap, ◌∙◌, sym, subst, arith, length-append, append_assoc, append-nil}
-use Rattle.std.specs.Prelude.{◌&&◌, ◌||◌, ◌==◌, nat_lt, nat_le, if◌then◌else◌, Result, Ok, Err, All, codes, decimal}
+use Rattle.std.proofs.Common.{◌≡◌, ℕ, ◌+◌, ◌^◌, ◌≤◌, ◌<◌, ◌%◌, Bool, true, false, List, [], ◌∷◌, ◌++◌, length, Option, Some, None, refl, ap, ◌∙◌, sym, arith, length-append, append_assoc, append-nil}
+use Rattle.std.specs.Prelude.{◌&&◌, ◌==◌, nat_lt, nat_le, if◌then◌else◌, Result, Ok, Err, All, codes, decimal}
 use Rattle.std.specs.List.{flat_map}
 use Rattle.std.proofs.lemmas.Grind.{common_steps}
 use Rattle.std.proofs.lemmas.Bool.{cond-true, cond-false, and_parts, and_from, lt-ltb, le-ltb, le-leb, lt-leb, leb-true, eq-eqb, ne_eqb}
 use Rattle.std.proofs.lemmas.List.Elements.{All-nil, All-cons, All-head, All-tail}
 use Rattle.text_core.specs.Lines.{Line, lines_from, lines_of}
 use Rattle.text_core.specs.Items.{items_of}
-use Rattle.text_core.specs.Words.{after, is_free}
+use Rattle.text_core.specs.Words.{is_free}
 use Rattle.text_core.specs.ReadBack.{line_back, item_back, last_item_back, word_back, number_back, free_both, free_decimal}
 use Rattle.net_theory.specs.Document.{IsName, is_name}
 use Rattle.net_theory.specs.Limits.{most_name_bytes}
@@ -22,14 +22,15 @@ use Rattle.aiger_text.specs.declared.file.AigGate.{AigGate}
 use Rattle.aiger_text.specs.declared.file.PortKind.{PortKind}
 use Rattle.aiger_text.specs.declared.file.PortKind.TheVariants.{Input, Latch, Output}
 use Rattle.aiger_text.specs.declared.file.Symbol.{Symbol}
-use Rattle.aiger_text.specs.File.{AigFile, IsAig}
+use Rattle.aiger_text.specs.File.{AigFile}
 use Rattle.aiger_text.specs.Reading.{◌>>=◌}
-use Rattle.aiger_text.specs.Limits.{most_variables, most_number}
+use Rattle.aiger_text.specs.Limits.{most_variables, most_sources, most_outputs, most_number}
 use Rattle.aiger_text.specs.Header.{or_syntax, number_in, numbers_from, numbers_of, has_room, letter_if, unsupported_in, counts_by, counts_of, header_of}
 use Rattle.aiger_text.specs.Statements.{most_literal, is_variable, input_of, reset_of, latch_by, latch_with, latch_of, output_of, gate_of, kind_of, count_of, is_reserved, name_in, symbol_at, symbol_of}
 use Rattle.aiger_text.specs.Statements.{nothing, with_input, with_latch, with_output, with_gate, with_symbol, stated, step, is_full, is_mark, is_comment, steps, begun, file_by, file_of}
-use Rattle.aiger_text.specs.Spelling.{number_text, numbers_text, numbers_line, counts_of as counts_of_file, header_numbers, literal_line, latch_numbers, latch_text, gate_text, kind_byte, symbol_text, spelled, IsVariable, IsLatchAt, IsGateAt, IsSymbolAt, CanSpell}
-use Rattle.aiger_text.specs.FileLaws.{AreCounts, named_symbol}
+use Rattle.aiger_text.specs.Spelling.{number_text, numbers_text, numbers_line, header_numbers, literal_line, latch_numbers, latch_text, gate_text, kind_byte, symbol_text, spelled}
+use Rattle.aiger_text.specs.Valid.{counts_of as counts_of_file, IsLiteral, IsVariable, IsLatchAt, IsGateAt, IsSymbolAt, AreCounts, IsAig}
+use Rattle.aiger_text.specs.FileLaws.{named_symbol}
 
 -- ---- numbers
 
@@ -79,13 +80,13 @@ numbers_line_read limit n ns rest narrow all =
 
 no_comment : (c : Counts) (f : AigFile) (text : List ℕ) → is_full c f ≡ false → is_comment c f (whole text) ≡ false
 unfolding is_comment
-no_comment c f text open = ap (λ (b : Bool). b && true && is_mark text) open
+no_comment c f text short = ap (λ (b : Bool). b && true && is_mark text) short
 
 step_on : (line : ℕ) (c : Counts) (f g : AigFile) (text : List ℕ) (ls : List Line) → is_comment c f (whole text) ≡ false →
     stated line c f text ≡ Ok g → steps line c f (whole text ∷ ls) ≡ steps (line + 1) c g ls
 unfolding steps step
-step_on line c f g text ls open e =
-    cond-false (is_comment c f (whole text)) _ _ open
+step_on line c f g text ls short e =
+    cond-false (is_comment c f (whole text)) _ _ short
     ∙ ap (λ (r : Result AigFile NetError). r >>= λ h. steps (line + 1) c h ls) e
 
 -- the lines of `text`, from f on, lead to g before `rest`
@@ -121,17 +122,17 @@ and_false : (a b : Bool) → b ≡ false → (a && b) ≡ false
 and_false false b e = refl
 and_false true b e = e
 
-open_first : (a b d e : Bool) → a ≡ false → (a && b && d && e) ≡ false
-open_first a b d e h = ap (λ (x : Bool). x && b && d && e) h
+short_first : (a b d e : Bool) → a ≡ false → (a && b && d && e) ≡ false
+short_first a b d e h = ap (λ (x : Bool). x && b && d && e) h
 
-open_second : (a b d e : Bool) → b ≡ false → (a && b && d && e) ≡ false
-open_second a b d e h = ap (λ (x : Bool). x && d && e) (and_false a b h)
+short_second : (a b d e : Bool) → b ≡ false → (a && b && d && e) ≡ false
+short_second a b d e h = ap (λ (x : Bool). x && d && e) (and_false a b h)
 
-open_third : (a b d e : Bool) → d ≡ false → (a && b && d && e) ≡ false
-open_third a b d e h = ap (λ (x : Bool). x && e) (and_false (a && b) d h)
+short_third : (a b d e : Bool) → d ≡ false → (a && b && d && e) ≡ false
+short_third a b d e h = ap (λ (x : Bool). x && e) (and_false (a && b) d h)
 
-open_last : (a b d e : Bool) → e ≡ false → (a && b && d && e) ≡ false
-open_last a b d e h = and_false (a && b && d) e h
+short_last : (a b d e : Bool) → e ≡ false → (a && b && d && e) ≡ false
+short_last a b d e h = and_false (a && b && d) e h
 
 -- ---- sections
 
@@ -147,7 +148,7 @@ unfolding is_full stated input_of
 input_taken c v line xs y ls narrow is low =
     let f = made v xs [] [] [] [] in
     step_on line c f (made v (xs ++ y ∷ []) [] [] [] []) (numbers_text (y ∷ [])) ls
-    (no_comment c f (numbers_text (y ∷ [])) (open_first (nat_le c.inputs (length xs)) _ _ _ (lt-leb c.inputs (length xs) low)))
+    (no_comment c f (numbers_text (y ∷ [])) (short_first (nat_le c.inputs (length xs)) _ _ _ (lt-leb c.inputs (length xs) low)))
     (cond-true (nat_lt (length xs) c.inputs) _ _ (lt-ltb (length xs) c.inputs low)
     ∙ ap (λ (r : Result (List ℕ) NetError). r >>= λ ns. input_of line ns >>= λ lit. Ok (with_input f lit)) (numbers_read line (most_literal c) y [] narrow (is.within, tt))
     ∙ ap (λ (r : Result ℕ NetError). r >>= λ lit. Ok (with_input f lit)) (cond-true (is_variable y) _ _ is.variable))
@@ -159,7 +160,7 @@ unfolding is_full stated output_of
 output_taken c v line is qs xs y ls narrow all_is all_qs fits low =
     let f = made v is qs xs [] [] in
     step_on line c f (made v is qs (xs ++ y ∷ []) [] []) (numbers_text (y ∷ [])) ls
-    (no_comment c f (numbers_text (y ∷ [])) (open_third _ _ (nat_le c.outputs (length xs)) _ (lt-leb c.outputs (length xs) low)))
+    (no_comment c f (numbers_text (y ∷ [])) (short_third _ _ (nat_le c.outputs (length xs)) _ (lt-leb c.outputs (length xs) low)))
     (cond-false (nat_lt (length is) c.inputs) _ _ (le-ltb (length is) c.inputs all_is)
     ∙ cond-false (nat_lt (length qs) c.latches) _ _ (le-ltb (length qs) c.latches all_qs)
     ∙ cond-true (nat_lt (length xs) c.outputs) _ _ (lt-ltb (length xs) c.outputs low)
@@ -173,7 +174,7 @@ gate_taken c v line is qs os xs y ls narrow all_is all_qs all_os gate low =
     let f = made v is qs os xs [] in
     let text = numbers_text (y.literal ∷ y.first ∷ y.second ∷ []) in
     step_on line c f (made v is qs os (xs ++ y ∷ []) []) text ls
-    (no_comment c f text (open_last _ _ _ (nat_le c.gates (length xs)) (lt-leb c.gates (length xs) low)))
+    (no_comment c f text (short_last _ _ _ (nat_le c.gates (length xs)) (lt-leb c.gates (length xs) low)))
     (cond-false (nat_lt (length is) c.inputs) _ _ (le-ltb (length is) c.inputs all_is)
     ∙ cond-false (nat_lt (length qs) c.latches) _ _ (le-ltb (length qs) c.latches all_qs)
     ∙ cond-false (nat_lt (length os) c.outputs) _ _ (le-ltb (length os) c.outputs all_os)
@@ -226,7 +227,7 @@ latch_taken c v line is xs y ls narrow all_is latch low =
     let f = made v is xs [] [] [] in
     let text = numbers_text (latch_numbers y.literal y.next y.reset) in
     step_on line c f (made v is (xs ++ y ∷ []) [] [] []) text ls
-    (no_comment c f text (open_second _ (nat_le c.latches (length xs)) _ _ (lt-leb c.latches (length xs) low)))
+    (no_comment c f text (short_second _ (nat_le c.latches (length xs)) _ _ (lt-leb c.latches (length xs) low)))
     (cond-false (nat_lt (length is) c.inputs) _ _ (le-ltb (length is) c.inputs all_is)
     ∙ cond-true (nat_lt (length xs) c.latches) _ _ (lt-ltb (length xs) c.latches low)
     ∙ bind_assoc (numbers_of line (most_literal c) text) (latch_of line) (λ l. Ok (with_latch f l))
@@ -348,8 +349,9 @@ header_line_read c rest all =
 counts_read : (c : Counts) → AreCounts c → counts_of 1 (header_numbers c) ≡ Ok c
 unfolding counts_of unsupported_in has_room
 counts_read c are =
-    ap (λ (b : Bool). counts_by 1 (header_numbers c) (letter_if b (codes "M") (letter_if (nat_lt most_variables c.outputs) (codes "O") None))) (le-ltb most_variables c.variables are.variables)
-    ∙ ap (λ (b : Bool). counts_by 1 (header_numbers c) (letter_if b (codes "O") None)) (le-ltb most_variables c.outputs are.outputs)
+    ap (λ (b : Bool). counts_by 1 (header_numbers c) (letter_if b (codes "M") (letter_if (nat_lt most_sources (c.inputs + c.latches)) (codes "I") (letter_if (nat_lt most_outputs c.outputs) (codes "O") None)))) (le-ltb most_variables c.variables are.variables)
+    ∙ ap (λ (b : Bool). counts_by 1 (header_numbers c) (letter_if b (codes "I") (letter_if (nat_lt most_outputs c.outputs) (codes "O") None))) (le-ltb most_sources (c.inputs + c.latches) are.sources)
+    ∙ ap (λ (b : Bool). counts_by 1 (header_numbers c) (letter_if b (codes "O") None)) (le-ltb most_outputs c.outputs are.outputs)
     ∙ cond-true (nat_le (c.inputs + c.latches + c.gates) c.variables) _ _ (le-leb (c.inputs + c.latches + c.gates) c.variables are.room)
 
 begun_read : (c : Counts) → AreCounts c → AllLow most_number (header_numbers c) → begun (whole (codes "aag " ++ numbers_text (header_numbers c))) ≡ Ok c
@@ -371,13 +373,10 @@ closed_read k v c is qs os gs ss all =
     (le-leb c.outputs (length os) (omega (arith, all.outputs))))
     (le-leb c.gates (length gs) (omega (arith, all.gates))))
 
-abbrev Low : Counts → ℕ → Type 0
-Low c lit = lit ≤ most_literal c
-
 abbrev IsSmallSymbol : Counts → Symbol → Type 0
 IsSmallSymbol c s = IsSymbolAt c s × (s.position ≤ most_number)
 
-lines_reach : (f : AigFile) → CanSpell f → All (IsSmallSymbol (counts_of_file f)) f.symbols → Narrow (counts_of_file f) →
+lines_reach : (f : AigFile) → IsAig f → All (IsSmallSymbol (counts_of_file f)) f.symbols → Narrow (counts_of_file f) →
     Reaches (counts_of_file f) (nothing (counts_of_file f))
     (flat_map literal_line f.inputs ++ (flat_map latch_text f.latches ++ (flat_map literal_line f.outputs ++
     (flat_map gate_text f.gates ++ (flat_map symbol_text f.symbols ++ []))))) f []
@@ -395,7 +394,7 @@ lines_reach f is small narrow =
     let two = section_back c latch_text (λ y. numbers_text (latch_numbers y.literal y.next y.reset)) (λ xs. made v f.inputs xs [] [] []) (IsLatchAt c) c.latches
         (λ y rest p. latch_line_read c y.literal y.next y.reset rest narrow p.literal p.next)
         (λ line xs y ls p low. latch_taken c v line f.inputs xs y ls narrow (omega arith) p low) [] f.latches b is.latches (omega arith) in
-    let three = section_back c literal_line (λ y. numbers_text (y ∷ [])) (λ xs. made v f.inputs f.latches xs [] []) (Low c) c.outputs
+    let three = section_back c literal_line (λ y. numbers_text (y ∷ [])) (λ xs. made v f.inputs f.latches xs [] []) (IsLiteral c) c.outputs
         (λ y rest p. numbers_line_read most y [] rest narrow (p, tt))
         (λ line xs y ls p low. output_taken c v line f.inputs f.latches xs y ls narrow (omega arith) (omega arith) p low) [] f.outputs d is.outputs (omega arith) in
     let four = section_back c gate_text (λ y. numbers_text (y.literal ∷ y.first ∷ y.second ∷ [])) (λ xs. made v f.inputs f.latches f.outputs xs []) (IsGateAt c) c.gates
@@ -417,24 +416,23 @@ symbols_small c (s ∷ ss) all few =
     All-cons (IsSmallSymbol c) s ss (first, omega (arith, first.low, few s.kind)) (symbols_small c ss (All-tail (IsSymbolAt c) s ss all) few)
 
 counts_few : (f : AigFile) → IsAig f → (kind : PortKind) → count_of (counts_of_file f) kind ≤ most_number
-counts_few f is Input = omega (arith, is.room, is.variables)
-counts_few f is Latch = omega (arith, is.room, is.variables)
-counts_few f is Output = omega (arith, is.outputs)
+counts_few f is Input = omega (arith, is.counts.sources)
+counts_few f is Latch = omega (arith, is.counts.sources)
+counts_few f is Output = omega (arith, is.counts.outputs)
 
 -- a file that can be written is read back
-pub files_read : (f : AigFile) → CanSpell f → file_of (spelled f) ≡ Ok f
+pub files_read : (f : AigFile) → IsAig f → file_of (spelled f) ≡ Ok f
 unfolding file_of spelled
 files_read f is =
     let c = counts_of_file f in
-    let narrow : Narrow c = omega (arith, is.aig.variables) in
-    let are : AreCounts c = record { variables = is.aig.variables; outputs = is.aig.outputs; room = is.aig.room } in
+    let narrow : Narrow c = omega (arith, is.counts.variables) in
     let low : AllLow most_number (header_numbers c) =
-    (omega (arith, is.aig.variables), (omega (arith, is.aig.room, is.aig.variables), (omega (arith, is.aig.room, is.aig.variables), (omega (arith, is.aig.outputs), (omega (arith, is.aig.room, is.aig.variables), tt))))) in
+    (omega (arith, is.counts.variables), (omega (arith, is.counts.sources), (omega (arith, is.counts.sources), (omega (arith, is.counts.outputs), (omega (arith, is.counts.room, is.counts.variables), tt))))) in
     let h = codes "aag " ++ numbers_line (header_numbers c) in
     let rest = flat_map literal_line f.inputs ++ (flat_map latch_text f.latches ++ (flat_map literal_line f.outputs ++ (flat_map gate_text f.gates ++ (flat_map symbol_text f.symbols ++ [])))) in
-    let reach = lines_reach f is (symbols_small c f.symbols is.symbols (counts_few f is.aig)) narrow 2 in
+    let reach = lines_reach f is (symbols_small c f.symbols is.symbols (counts_few f is)) narrow 2 in
     ap (λ (t : List ℕ). file_by (lines_of t)) (assoc_five h (flat_map literal_line f.inputs) (flat_map latch_text f.latches) (flat_map literal_line f.outputs) (flat_map gate_text f.gates) (flat_map symbol_text f.symbols))
     ∙ ap file_by (header_line_read c rest low)
-    ∙ ap (λ (r : Result Counts NetError). r >>= λ k. steps 2 k (nothing k) (lines_of rest)) (begun_read c are low)
+    ∙ ap (λ (r : Result Counts NetError). r >>= λ k. steps 2 k (nothing k) (lines_of rest)) (begun_read c is.counts low)
     ∙ reach.1
     ∙ closed_read reach.0 f.variables c f.inputs f.latches f.outputs f.gates f.symbols (record { inputs = refl; latches = refl; outputs = refl; gates = refl })

@@ -1,11 +1,9 @@
 -- The content of an AIGER file (the AIGER 1.9 report), in either form, apart from comments. A literal is a number: that
 -- of a variable twice, and one more for its complement; 0 and 1 are the constants.
-use Rattle.std.specs.Prelude.{ℕ, ◌+◌, ◌≤◌, List, length, All}
-use Rattle.net_theory.specs.Document.{IsName}
+use Rattle.std.specs.Prelude.{ℕ, List}
 use Rattle.aiger_text.specs.declared.file.AigLatch.{AigLatch}
 use Rattle.aiger_text.specs.declared.file.AigGate.{AigGate}
 use Rattle.aiger_text.specs.declared.file.Symbol.{Symbol}
-use Rattle.aiger_text.specs.Limits.{most_variables}
 
 -- Each list is in the order of the file. Inputs, latches and gates have the literals of variables up to `variables`,
 -- and outputs and fanins have any literals up to there.
@@ -16,14 +14,3 @@ pub record AigFile : Type 0 where
   pub outputs : List ℕ
   pub gates : List AigGate
   pub symbols : List Symbol
-
-abbrev pub IsNamed : Symbol → Type 0
-IsNamed s = IsName s.name
-
--- There is room for the variables of all inputs, latches and gates, variables and outputs are within their limits, and
--- the symbols are names.
-pub record IsAig (f : AigFile) : Type 0 where
-  pub symbols : All IsNamed f.symbols
-  pub room : length f.inputs + length f.latches + length f.gates ≤ f.variables
-  pub variables : f.variables ≤ most_variables
-  pub outputs : length f.outputs ≤ most_variables

@@ -10,7 +10,7 @@ use Rattle.net_core.specs.declared.error.NetError.{NetError}
 use Rattle.net_core.specs.declared.error.NetError.TheVariants.{Syntax, NotSupported}
 use Rattle.aiger_text.specs.Reading.{◌>>=◌}
 use Rattle.aiger_text.specs.declared.file.Counts.{Counts}
-use Rattle.aiger_text.specs.Limits.{most_variables, most_number}
+use Rattle.aiger_text.specs.Limits.{most_variables, most_sources, most_outputs, most_number}
 
 abbrev pub or_syntax : {A : Type 0} → ℕ → Option A → Result A NetError
 or_syntax line None = Err (Syntax line)
@@ -51,14 +51,19 @@ has_room c = nat_le (c.inputs + c.latches + c.gates) c.variables
 abbrev pub letter_if : Bool → List ℕ → Option (List ℕ) → Option (List ℕ)
 letter_if wanted letter next = if wanted then Some letter else next
 
--- the letter of the first count that isn't supported: too many variables or outputs, or a property
+-- the number of inputs and latches
+abbrev pub source_count : List ℕ → ℕ
+source_count numbers = count_at numbers 1 + count_at numbers 2
+
+-- the letter of the first count that isn't supported: too many variables, sources or outputs, or a property
 unfoldable pub unsupported_in : List ℕ → Option (List ℕ)
 unsupported_in numbers = letter_if (nat_lt most_variables (count_at numbers 0)) (codes "M")
-    (letter_if (nat_lt most_variables (count_at numbers 3)) (codes "O")
+    (letter_if (nat_lt most_sources (source_count numbers)) (codes "I")
+    (letter_if (nat_lt most_outputs (count_at numbers 3)) (codes "O")
     (letter_if (nat_lt 0 (count_at numbers 5)) (codes "B")
     (letter_if (nat_lt 0 (count_at numbers 6)) (codes "C")
     (letter_if (nat_lt 0 (count_at numbers 7)) (codes "J")
-    (letter_if (nat_lt 0 (count_at numbers 8)) (codes "F") None)))))
+    (letter_if (nat_lt 0 (count_at numbers 8)) (codes "F") None))))))
 
 abbrev pub counts_by : ℕ → List ℕ → Option (List ℕ) → Result Counts NetError
 counts_by line numbers (Some letter) = Err (NotSupported line letter)

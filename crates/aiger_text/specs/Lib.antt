@@ -6,6 +6,7 @@ pub mod Limits
 pub mod File
 pub mod Header
 pub mod Statements
+pub mod Valid
 pub mod FileLaws
 pub mod Naming
 pub mod NamingLaws

@@ -1,9 +1,17 @@
--- The limits of AIGER files.
+-- The limits of AIGER files. A circuit of the most sources and gates can be written.
 use Rattle.std.specs.Prelude.{ℕ}
 
--- the most variables, and the most outputs, of a file, so that literals can be counted
+-- the most variables of a file
 abbrev pub most_variables : ℕ
-most_variables = 1048576
+most_variables = 2097152
+
+-- the most inputs and latches
+abbrev pub most_sources : ℕ
+most_sources = 1048576
+
+-- the most outputs
+abbrev pub most_outputs : ℕ
+most_outputs = 1048576
 
 -- the greatest number of a header and of a symbol's position: nine digits
 abbrev pub most_number : ℕ

@@ -1,29 +1,31 @@
 -- A file lists a document within its limits, whose tables have at most two inputs.
-use Rattle.std.proofs.Common.{◌≡◌, ℕ, zero, suc, ◌+◌, ◌-◌, ◌*◌, ◌%◌, ◌^◌, ◌≤◌, ◌<◌, Bool, true, false, List, [], ◌∷◌, ◌++◌, length, map, refl, ap, ◌∙◌, sym, subst, arith, append_assoc, length-append, inl, inr, ⊎_elim, ◌⊎◌}
-use Rattle.std.specs.Prelude.{◌&&◌, ◌==◌, if◌then◌else◌, All, codes, None, sum_by}
+use Rattle.std.proofs.Common.{◌≡◌, ℕ, zero, suc, ◌+◌, ◌*◌, ◌^◌, ◌≤◌, ◌<◌, Bool, true, false, List, [], ◌∷◌, ◌++◌, length, map, refl, ap, ◌∙◌, sym, subst, arith, length-append}
+use Rattle.std.specs.Prelude.{◌&&◌, ◌==◌, All, codes, sum_by}
 use Rattle.std.specs.List.{flat_map}
 use Rattle.std.proofs.lemmas.Grind.{common_steps}
-use Rattle.std.proofs.lemmas.Bool.{cond_both, cases_lt}
+use Rattle.std.proofs.lemmas.Bool.{cond_both}
 use Rattle.std.proofs.lemmas.List.{length-map}
 use Rattle.std.proofs.lemmas.List.Elements.{All-nil, All-cons, All-head, All-tail, All-append}
 use Rattle.std.proofs.lemmas.List.Sums.{sum_by-cons}
-use Rattle.net_theory.specs.Cover.{IsCover, is_cube, is_cube_byte, cover_value}
+use Rattle.net_theory.specs.Cover.{is_cube, is_cube_byte, cover_value}
 use Rattle.net_theory.specs.Cost.{unary_cost, binary_cost, unary_cover, merged, merged_table, cover_cost, table_cost, cost}
 use Rattle.net_theory.specs.Expansion.{unary_word, binary_word}
-use Rattle.net_theory.specs.Document.{Name, IsName, is_name, is_same, Table, LatchLine, Document, table_output, table_inputs, latch_of, latch_input, latch_output, driven_names, used_names}
+use Rattle.net_theory.specs.Document.{Name, IsName, is_name, is_same, Table, LatchLine, Document, table_output, table_inputs, latch_of, latch_input, latch_output}
 use Rattle.net_theory.specs.WellFormed.{IsTable, IsLatchLine, IsFreeOf}
 use Rattle.net_theory.specs.NetOf.{source_count}
-use Rattle.net_document.specs.Listed.{Listed, IsWellListed, AreControlsFree, times}
+use Rattle.net_document.specs.Listed.{Listed, IsWellListed, AreControlsFree}
 use Rattle.net_document.specs.TimesLaws.{times-append}
 use Rattle.aiger_text.specs.declared.file.AigLatch.{AigLatch}
 use Rattle.aiger_text.specs.declared.file.AigGate.{AigGate}
 use Rattle.aiger_text.specs.declared.file.Reset.{Reset}
 use Rattle.aiger_text.specs.declared.file.Reset.TheVariants.{Zero, One, Undefined}
-use Rattle.aiger_text.specs.File.{AigFile, IsAig}
-use Rattle.aiger_text.specs.Limits.{most_variables}
-use Rattle.aiger_text.specs.Naming.{numbered, variable_names, output_names, name_at}
+use Rattle.aiger_text.specs.declared.file.Counts.{Counts}
+use Rattle.aiger_text.specs.File.{AigFile}
+use Rattle.aiger_text.specs.Statements.{most_literal}
+use Rattle.aiger_text.specs.Valid.{counts_of, IsLiteral, IsLatchAt, IsAig}
+use Rattle.aiger_text.specs.Naming.{numbered, name_at, variable_names, output_names}
 use Rattle.aiger_text.specs.NamingLaws.{numbered_name, outputs_are_names, variables_are_names, name_at_is}
-use Rattle.aiger_text.specs.Meaning.{table_with, zero_table, byte_of, literal_table, gate_table, next_name, init_of, latch_line, latch_lines, next_tables, is_driver, output_tables, tables_of, document_of, listed_with, listed}
+use Rattle.aiger_text.specs.Meaning.{Signals, signals_of, is_complement, zero_table, one_table, byte_of, gate_table, sink_name, needs_not, unary_table, not_table, not_tables, init_of, latch_line, is_driver, output_tables, tables_of, document_of, listed_with, listed}
 
 -- ---- tables
 
@@ -32,13 +34,8 @@ pub record IsSmall (t : Table) : Type 0 where
   pub table : IsTable t
   pub narrow : length t.inputs ≤ 2
 
-byte_is : (lit : ℕ) → is_cube_byte (byte_of lit) ≡ true
-byte_is lit = ⊎_elim (λ low. ap is_cube_byte (first low)) (λ high. ap is_cube_byte (second high)) (cases_lt (lit % 2) 1) where
-  first : lit % 2 < 1 → byte_of lit ≡ 49
-  first low = omega (arith, low)
-
-  second : 1 ≤ lit % 2 → byte_of lit ≡ 48
-  second high = omega (arith, high)
+byte_is : (s : Signals) (lit : ℕ) → is_cube_byte (byte_of s lit) ≡ true
+byte_is s lit = cond_both (is_complement s lit) 48 49 (λ (b : ℕ). is_cube_byte b ≡ true) (λ e. refl) (λ e. refl)
 
 one_cube : (a : ℕ) → is_cube_byte a ≡ true → is_cube 1 (a ∷ []) ≡ true
 one_cube a e = ap (λ (x : Bool). x && true) e
@@ -63,104 +60,142 @@ zero_small = record {
   narrow = omega arith;
 }
 
-literal_small : (names : List Name) (output : Name) (lit : ℕ) → All IsName names → IsName output → IsSmall (literal_table names output lit)
-literal_small names output lit all is = record {
-  table = record {
-    inputs = All-cons IsName (name_at names lit) [] (name_at_is names lit all) (All-nil IsName);
-    output = is;
-    width = refl;
-    cover = record {
-      cubes = All-cons (HasWidth 1) (byte_of lit ∷ []) [] (one_cube (byte_of lit) (byte_is lit)) (All-nil (HasWidth 1));
-      parity = λ e. absurd cc;
-    };
-    narrow = omega arith;
-    few = omega arith;
-  };
-  narrow = omega arith;
-}
-
-gate_small : (names : List Name) (g : AigGate) → All IsName names → IsSmall (gate_table names g)
-gate_small names g all = record {
-  table = record {
-    inputs = All-cons IsName (name_at names g.first) (name_at names g.second ∷ []) (name_at_is names g.first all)
-        (All-cons IsName (name_at names g.second) [] (name_at_is names g.second all) (All-nil IsName));
-    output = name_at_is names g.literal all;
-    width = refl;
-    cover = record {
-      cubes = All-cons (HasWidth 2) (byte_of g.first ∷ byte_of g.second ∷ []) []
-          (two_cube (byte_of g.first) (byte_of g.second) (byte_is g.first) (byte_is g.second)) (All-nil (HasWidth 2));
-      parity = λ e. absurd cc;
-    };
-    narrow = omega arith;
-    few = omega arith;
-  };
-  narrow = omega arith;
-}
-
-gates_small : (names : List Name) (gs : List AigGate) → All IsName names → All IsSmall (map (gate_table names) gs)
-gates_small names [] all = All-nil IsSmall
-gates_small names (g ∷ gs) all = All-cons IsSmall (gate_table names g) (map (gate_table names) gs) (gate_small names g all) (gates_small names gs all)
-
-next_is : (k : ℕ) → k < 2 ^ 32 → IsName (next_name k)
+one_small : IsSmall one_table
 unfolding is_name
-next_is k low = numbered_name (codes "&d") k refl (omega arith) (omega (arith, low))
+one_small = record {
+  table = record {
+    inputs = All-nil IsName;
+    output = numbered_name (codes "&") 1 refl (omega arith) (omega arith);
+    width = refl;
+    cover = record { cubes = All-cons (HasWidth 0) [] [] refl (All-nil (HasWidth 0)); parity = λ e. absurd cc };
+    narrow = omega arith;
+    few = omega arith;
+  };
+  narrow = omega arith;
+}
 
-nexts_small : (names : List Name) (k : ℕ) (ls : List AigLatch) → All IsName names → k + length ls < 2 ^ 32 → All IsSmall (next_tables names k ls)
-unfolding next_tables
-nexts_small names k [] all low = All-nil IsSmall
-nexts_small names k (l ∷ ls) all low =
-    All-cons IsSmall (literal_table names (next_name k) l.next) (next_tables names (k + 1) ls)
-    (literal_small names (next_name k) l.next all (next_is k (omega (arith, low))))
-    (nexts_small names (k + 1) ls all (omega (arith, low)))
+unary_small : (input : Name) (byte : ℕ) (output : Name) → is_cube_byte byte ≡ true → IsName input → IsName output → IsSmall (unary_table input byte output)
+unary_small input byte output good is out = record {
+  table = record {
+    inputs = All-cons IsName input [] is (All-nil IsName);
+    output = out;
+    width = refl;
+    cover = record {
+      cubes = All-cons (HasWidth 1) (byte ∷ []) [] (one_cube byte good) (All-nil (HasWidth 1));
+      parity = λ e. absurd cc;
+    };
+    narrow = omega arith;
+    few = omega arith;
+  };
+  narrow = omega arith;
+}
 
-outputs_small : (names : List Name) (lits : List ℕ) (os : List Name) → All IsName names → All IsName os → All IsSmall (output_tables names lits os)
-unfolding output_tables
-outputs_small names [] os all are = All-nil IsSmall
-outputs_small names (lit ∷ lits) [] all are = All-nil IsSmall
-outputs_small names (lit ∷ lits) (o ∷ os) all are =
-    let rest = outputs_small names lits os all (All-tail IsName o os are) in
-    cond_both (is_driver names lit o) (output_tables names lits os) (literal_table names o lit ∷ output_tables names lits os) (All IsSmall)
+gate_small : (s : Signals) (g : AigGate) → All IsName s.names → IsSmall (gate_table s g)
+gate_small s g all = record {
+  table = record {
+    inputs = All-cons IsName (name_at s.names g.first) (name_at s.names g.second ∷ []) (name_at_is s.names g.first all)
+        (All-cons IsName (name_at s.names g.second) [] (name_at_is s.names g.second all) (All-nil IsName));
+    output = name_at_is s.names g.literal all;
+    width = refl;
+    cover = record {
+      cubes = All-cons (HasWidth 2) (byte_of s g.first ∷ byte_of s g.second ∷ []) []
+          (two_cube (byte_of s g.first) (byte_of s g.second) (byte_is s g.first) (byte_is s g.second)) (All-nil (HasWidth 2));
+      parity = λ e. absurd cc;
+    };
+    narrow = omega arith;
+    few = omega arith;
+  };
+  narrow = omega arith;
+}
+
+gates_small : (s : Signals) (gs : List AigGate) → All IsName s.names → All IsSmall (map (gate_table s) gs)
+gates_small s [] all = All-nil IsSmall
+gates_small s (g ∷ gs) all = All-cons IsSmall (gate_table s g) (map (gate_table s) gs) (gate_small s g all) (gates_small s gs all)
+
+literal_name : (lit : ℕ) → lit < 2 ^ 32 → IsName (numbered (codes "&") lit)
+unfolding is_name
+literal_name lit low = numbered_name (codes "&") lit refl (omega arith) (omega (arith, low))
+
+sink_is : (s : Signals) (lit : ℕ) → All IsName s.names → lit < 2 ^ 32 → IsName (sink_name s lit)
+sink_is s lit all low =
+    cond_both (is_complement s lit) (numbered (codes "&") lit) (name_at s.names lit) IsName
+    (λ e. literal_name lit low)
+    (λ e. name_at_is s.names lit all)
+
+not_small : (s : Signals) (v : ℕ) → All IsName s.names → v < 2 ^ 30 → IsSmall (not_table s v)
+not_small s v all low =
+    unary_small (name_at s.names (v * 2)) 48 (numbered (codes "&") (v * 2 + 1)) refl (name_at_is s.names (v * 2) all) (literal_name (v * 2 + 1) (omega (arith, low)))
+
+nots_small : (s : Signals) (v n : ℕ) → All IsName s.names → v + n < 2 ^ 30 → All IsSmall (not_tables s v n)
+unfolding not_tables
+nots_small s v zero all low = All-nil IsSmall
+nots_small s v (suc n) all low =
+    let rest = nots_small s (v + 1) n all (omega (arith, low)) in
+    cond_both (needs_not s v) (not_table s v ∷ not_tables s (v + 1) n) (not_tables s (v + 1) n) (All IsSmall)
+    (λ e. All-cons IsSmall (not_table s v) (not_tables s (v + 1) n) (not_small s v all (omega (arith, low))) rest)
     (λ e. rest)
-    (λ e. All-cons IsSmall (literal_table names o lit) (output_tables names lits os) (literal_small names o lit all (All-head IsName o os are)) rest)
 
-tables_small : (names os : List Name) (f : AigFile) → All IsName names → All IsName os → length f.latches < 2 ^ 32 → All IsSmall (tables_of names os f)
-unfolding tables_of
-tables_small names os f all are low =
-    All-append IsSmall (zero_table ∷ [] ++ map (gate_table names) f.gates ++ next_tables names 0 f.latches) (output_tables names f.outputs os)
-    (All-append IsSmall (zero_table ∷ [] ++ map (gate_table names) f.gates) (next_tables names 0 f.latches)
-    (All-append IsSmall (zero_table ∷ []) (map (gate_table names) f.gates)
-    (All-cons IsSmall zero_table [] zero_small (All-nil IsSmall))
-    (gates_small names f.gates all))
-    (nexts_small names 0 f.latches all (omega (arith, low))))
-    (outputs_small names f.outputs os all are)
+abbrev IsNarrow : ℕ → Type 0
+IsNarrow lit = lit < 2 ^ 32
+
+outputs_small : (s : Signals) (lits : List ℕ) (os : List Name) → All IsName s.names → All IsNarrow lits → All IsName os → All IsSmall (output_tables s lits os)
+unfolding output_tables
+outputs_small s [] os all low are = All-nil IsSmall
+outputs_small s (lit ∷ lits) [] all low are = All-nil IsSmall
+outputs_small s (lit ∷ lits) (o ∷ os) all low are =
+    let rest = outputs_small s lits os all (All-tail IsNarrow lit lits low) (All-tail IsName o os are) in
+    cond_both (is_driver s.names lit o) (output_tables s lits os) (unary_table (sink_name s lit) 49 o ∷ output_tables s lits os) (All IsSmall)
+    (λ e. rest)
+    (λ e. All-cons IsSmall (unary_table (sink_name s lit) 49 o) (output_tables s lits os)
+    (unary_small (sink_name s lit) 49 o refl (sink_is s lit all (All-head IsNarrow lit lits low)) (All-head IsName o os are)) rest)
 
 -- ---- numbers of tables
 
-nexts_count : (names : List Name) (k : ℕ) (ls : List AigLatch) → length (next_tables names k ls) ≡ length ls
-unfolding next_tables
-nexts_count names k [] = refl
-nexts_count names k (l ∷ ls) = ap suc (nexts_count names (k + 1) ls)
+nots_count : (s : Signals) (v n : ℕ) → length (not_tables s v n) ≤ n
+unfolding not_tables
+nots_count s v zero = omega arith
+nots_count s v (suc n) =
+    cond_both (needs_not s v) (not_table s v ∷ not_tables s (v + 1) n) (not_tables s (v + 1) n) (λ (ts : List Table). length ts ≤ suc n)
+    (λ e. omega (arith, nots_count s (v + 1) n))
+    (λ e. omega (arith, nots_count s (v + 1) n))
 
-outputs_count : (names : List Name) (lits : List ℕ) (os : List Name) → length (output_tables names lits os) ≤ length lits
+outputs_count : (s : Signals) (lits : List ℕ) (os : List Name) → length (output_tables s lits os) ≤ length lits
 unfolding output_tables
-outputs_count names [] os = omega arith
-outputs_count names (lit ∷ lits) [] = omega arith
-outputs_count names (lit ∷ lits) (o ∷ os) =
-    cond_both (is_driver names lit o) (output_tables names lits os) (literal_table names o lit ∷ output_tables names lits os) (λ (ts : List Table). length ts ≤ suc (length lits))
-    (λ e. omega (arith, outputs_count names lits os))
-    (λ e. omega (arith, outputs_count names lits os))
+outputs_count s [] os = omega arith
+outputs_count s (lit ∷ lits) [] = omega arith
+outputs_count s (lit ∷ lits) (o ∷ os) =
+    cond_both (is_driver s.names lit o) (output_tables s lits os) (unary_table (sink_name s lit) 49 o ∷ output_tables s lits os) (λ (ts : List Table). length ts ≤ suc (length lits))
+    (λ e. omega (arith, outputs_count s lits os))
+    (λ e. omega (arith, outputs_count s lits os))
 
-tables_count : (names os : List Name) (f : AigFile) → length (tables_of names os f) ≤ 1 + length f.gates + length f.latches + length f.outputs
+abbrev gate_tables : Signals → AigFile → List Table
+gate_tables s f = map (gate_table s) f.gates
+
+abbrev constants : List Table
+constants = zero_table ∷ one_table ∷ []
+
+tables_count : (s : Signals) (os : List Name) (f : AigFile) → length (tables_of s os f) ≤ 2 + length f.gates + f.variables + length f.outputs
 unfolding tables_of
-tables_count names os f = omega (
+tables_count s os f = omega (
   arith,
-  length-append (zero_table ∷ [] ++ map (gate_table names) f.gates ++ next_tables names 0 f.latches) (output_tables names f.outputs os),
-  length-append (zero_table ∷ [] ++ map (gate_table names) f.gates) (next_tables names 0 f.latches),
-  length-append (zero_table ∷ []) (map (gate_table names) f.gates),
-  length-map f.gates (gate_table names),
-  nexts_count names 0 f.latches,
-  outputs_count names f.outputs os,
+  length-append (constants ++ gate_tables s f ++ not_tables s 1 f.variables) (output_tables s f.outputs os),
+  length-append (constants ++ gate_tables s f) (not_tables s 1 f.variables),
+  length-append constants (gate_tables s f),
+  length-map f.gates (gate_table s),
+  nots_count s 1 f.variables,
+  outputs_count s f.outputs os,
 )
+
+tables_small : (s : Signals) (os : List Name) (f : AigFile) → All IsName s.names → All IsNarrow f.outputs → All IsName os → f.variables < 2 ^ 29 → All IsSmall (tables_of s os f)
+unfolding tables_of
+tables_small s os f all low are few =
+    All-append IsSmall (constants ++ gate_tables s f ++ not_tables s 1 f.variables) (output_tables s f.outputs os)
+    (All-append IsSmall (constants ++ gate_tables s f) (not_tables s 1 f.variables)
+    (All-append IsSmall constants (gate_tables s f)
+    (All-cons IsSmall zero_table (one_table ∷ []) zero_small (All-cons IsSmall one_table [] one_small (All-nil IsSmall)))
+    (gates_small s f.gates all))
+    (nots_small s 1 f.variables all (omega (arith, few))))
+    (outputs_small s f.outputs os all low are)
 
 -- ---- costs
 
@@ -194,37 +229,35 @@ init_few Zero = omega arith
 init_few One = omega arith
 init_few Undefined = omega arith
 
-latch_is : (names : List Name) (k : ℕ) (l : AigLatch) → All IsName names → k < 2 ^ 32 → IsLatchLine (latch_line names k l)
-latch_is names k l all low = record {
-  input = next_is k low;
-  latch = record { output = name_at_is names l.literal all; control = tt; init = init_few l.reset };
+latch_is : (s : Signals) (l : AigLatch) → All IsName s.names → l.next < 2 ^ 32 → IsLatchLine (latch_line s l)
+latch_is s l all low = record {
+  input = sink_is s l.next all low;
+  latch = record { output = name_at_is s.names l.literal all; control = tt; init = init_few l.reset };
 }
 
-latches_are : (names : List Name) (k : ℕ) (ls : List AigLatch) → All IsName names → k + length ls < 2 ^ 32 → All IsLatchLine (latch_lines names k ls)
-unfolding latch_lines
-latches_are names k [] all low = All-nil IsLatchLine
-latches_are names k (l ∷ ls) all low =
-    All-cons IsLatchLine (latch_line names k l) (latch_lines names (k + 1) ls) (latch_is names k l all (omega (arith, low)))
-    (latches_are names (k + 1) ls all (omega (arith, low)))
+latches_are : (s : Signals) (c : Counts) (ls : List AigLatch) → All IsName s.names → most_literal c < 2 ^ 32 → All (IsLatchAt c) ls → All IsLatchLine (map (latch_line s) ls)
+latches_are s c [] all small are = All-nil IsLatchLine
+latches_are s c (l ∷ ls) all small are =
+    All-cons IsLatchLine (latch_line s l) (map (latch_line s) ls) (latch_is s l all (omega (arith, small, (All-head (IsLatchAt c) l ls are).next)))
+    (latches_are s c ls all small (All-tail (IsLatchAt c) l ls are))
 
 abbrev IsFree : List Name → LatchLine → Type 0
 IsFree ns l = IsFreeOf ns l.latch.control
 
-latches_free : (ns names : List Name) (k : ℕ) (ls : List AigLatch) → All (IsFree ns) (latch_lines names k ls)
-unfolding latch_lines
-latches_free ns names k [] = All-nil (IsFree ns)
-latches_free ns names k (l ∷ ls) = All-cons (IsFree ns) (latch_line names k l) (latch_lines names (k + 1) ls) tt (latches_free ns names (k + 1) ls)
-
-latches_count : (names : List Name) (k : ℕ) (ls : List AigLatch) → length (latch_lines names k ls) ≡ length ls
-unfolding latch_lines
-latches_count names k [] = refl
-latches_count names k (l ∷ ls) = ap suc (latches_count names (k + 1) ls)
+latches_free : (ns : List Name) (s : Signals) (ls : List AigLatch) → All (IsFree ns) (map (latch_line s) ls)
+latches_free ns s [] = All-nil (IsFree ns)
+latches_free ns s (l ∷ ls) = All-cons (IsFree ns) (latch_line s l) (map (latch_line s) ls) tt (latches_free ns s ls)
 
 -- ---- documents
 
 inputs_are : (names : List Name) (lits : List ℕ) → All IsName names → All IsName (map (name_at names) lits)
 inputs_are names [] all = All-nil IsName
 inputs_are names (lit ∷ lits) all = All-cons IsName (name_at names lit) (map (name_at names) lits) (name_at_is names lit all) (inputs_are names lits all)
+
+literals_narrow : (c : Counts) (lits : List ℕ) → most_literal c < 2 ^ 32 → All (IsLiteral c) lits → All IsNarrow lits
+literals_narrow c [] small all = All-nil IsNarrow
+literals_narrow c (lit ∷ lits) small all =
+    All-cons IsNarrow lit lits (omega (arith, small, All-head (IsLiteral c) lit lits all)) (literals_narrow c lits small (All-tail (IsLiteral c) lit lits all))
 
 all_tables : (ts : List Table) → All IsSmall ts → All IsTable ts
 all_tables [] all = All-nil IsTable
@@ -243,14 +276,14 @@ document_within : (f : AigFile) → IsAig f → IsWithin (document_of f)
 unfolding document_of is_name
 document_within f is =
     let names = variables_are_names f is in
-    let low : length f.latches < 2 ^ 32 = omega (arith, is.room, is.variables) in
+    let small : most_literal (counts_of f) < 2 ^ 32 = omega (arith, is.counts.variables) in
     record {
       model = record { spelled = refl; short = omega arith };
       inputs = inputs_are (variable_names f) f.inputs names;
       outputs = outputs_are_names f is;
       clocks = All-nil IsName;
-      latches = latches_are (variable_names f) 0 f.latches names (omega (arith, low));
-      tables = tables_small (variable_names f) (output_names f) f names (outputs_are_names f is) low;
+      latches = latches_are (signals_of f) (counts_of f) f.latches names small is.latches;
+      tables = tables_small (signals_of f) (output_names f) f names (literals_narrow (counts_of f) f.outputs small is.outputs) (outputs_are_names f is) (omega (arith, is.counts.variables));
     }
 
 within_listed : (d : Document) → IsWithin d → IsWellListed (listed_with d)
@@ -277,11 +310,11 @@ listed_is f is = within_listed (document_of f) (document_within f is)
 
 pub listed_free : (f : AigFile) → AreControlsFree (listed f).document
 unfolding document_of listed_with
-listed_free f = latches_free (map table_output (tables_of (variable_names f) (output_names f) f)) (variable_names f) 0 f.latches
+listed_free f = latches_free (map table_output (tables_of (signals_of f) (output_names f) f)) (signals_of f) f.latches
 
-tables_at_most : (f : AigFile) → IsAig f → length (document_of f).tables ≤ 2097153
+tables_at_most : (f : AigFile) → IsAig f → length (document_of f).tables ≤ 5242882
 unfolding document_of
-tables_at_most f is = omega (arith, tables_count (variable_names f) (output_names f) f, is.room, is.variables, is.outputs)
+tables_at_most f is = omega (arith, tables_count (signals_of f) (output_names f) f, is.counts.room, is.counts.variables, is.counts.outputs)
 
 pub listed_few : (f : AigFile) → IsAig f → length (listed f).document.tables < 2 ^ 31
 unfolding listed_with
@@ -291,16 +324,15 @@ sources_few : (f : AigFile) → IsAig f → source_count (document_of f) ≤ 104
 unfolding document_of
 sources_few f is =
     let names = variable_names f in
-    let ls = latch_lines names 0 f.latches in
+    let ls = map (latch_line (signals_of f)) f.latches in
     omega (
       arith,
       length-append (map (name_at names) f.inputs) (map latch_output (map latch_of ls)),
       length-map f.inputs (name_at names),
       length-map (map latch_of ls) latch_output,
       length-map ls latch_of,
-      latches_count names 0 f.latches,
-      is.room,
-      is.variables,
+      length-map f.latches (latch_line (signals_of f)),
+      is.counts.sources,
     )
 
 pub listed_small : (f : AigFile) → IsAig f → 2 * source_count (listed f).document + cost (listed f).document < 2 ^ 31

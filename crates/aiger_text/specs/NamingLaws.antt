@@ -1,5 +1,5 @@
 -- The names of a file whose symbols are names are names.
-use Rattle.std.proofs.Common.{◌≡◌, ℕ, zero, suc, ◌+◌, ◌*◌, ◌%◌, ◌^◌, ◌≤◌, ◌<◌, Bool, true, false, List, [], ◌∷◌, ◌++◌, length, map, refl, ap, ◌∙◌, sym, subst, arith, append_assoc, length-append}
+use Rattle.std.proofs.Common.{◌≡◌, ℕ, zero, suc, ◌+◌, ◌*◌, ◌%◌, ◌^◌, ◌≤◌, ◌<◌, true, false, List, [], ◌∷◌, ◌++◌, length, map, refl, subst, arith, append_assoc, length-append}
 use Rattle.std.specs.Prelude.{not, ◌&&◌, ◌==◌, nat_le, if◌then◌else◌, All, decimal, codes, slice_index_or, slice_set, ◌/◌}
 use Rattle.std.proofs.lemmas.Bool.{cond_both, and_parts, and_from, not_from_false, le-leb, ne_eqb}
 use Rattle.std.proofs.lemmas.List.Elements.{All-nil, All-cons, All-head, All-tail}
@@ -8,8 +8,9 @@ use Rattle.net_theory.specs.Document.{Name, IsName, is_name, is_name_byte}
 use Rattle.aiger_text.specs.declared.file.PortKind.{PortKind}
 use Rattle.aiger_text.specs.declared.file.PortKind.TheVariants.{Input, Latch, Output}
 use Rattle.aiger_text.specs.declared.file.Symbol.{Symbol}
-use Rattle.aiger_text.specs.File.{AigFile, IsNamed, IsAig}
-use Rattle.aiger_text.specs.Limits.{most_variables}
+use Rattle.aiger_text.specs.File.{AigFile}
+use Rattle.aiger_text.specs.declared.file.Counts.{Counts}
+use Rattle.aiger_text.specs.Valid.{counts_of, IsSymbolAt, IsAig}
 use Rattle.aiger_text.specs.Naming.{numbered, numbered_from, gate_name, gate_names_from, is_kind, with_symbols, input_names, latch_names, output_names, with_names, literal_of, gate_names, variable_names, name_at}
 
 -- ---- numbered names
@@ -71,6 +72,13 @@ set_names [] k n all is = All-nil IsName
 set_names (m ∷ ms) zero n all is = All-cons IsName n ms is (All-tail IsName m ms all)
 set_names (m ∷ ms) (suc k) n all is = All-cons IsName m (slice_set ms k n) (All-head IsName m ms all) (set_names ms k n (All-tail IsName m ms all) is)
 
+abbrev pub IsNamed : Symbol → Type 0
+IsNamed s = IsName s.name
+
+symbols_named : (c : Counts) (ss : List Symbol) → All (IsSymbolAt c) ss → All IsNamed ss
+symbols_named c [] all = All-nil IsNamed
+symbols_named c (s ∷ ss) all = All-cons IsNamed s ss (All-head (IsSymbolAt c) s ss all).name (symbols_named c ss (All-tail (IsSymbolAt c) s ss all))
+
 symbols_names : (kind : PortKind) (names : List Name) (ss : List Symbol) → All IsName names → All IsNamed ss → All IsName (with_symbols kind names ss)
 unfolding with_symbols
 symbols_names kind names [] all named = all
@@ -94,16 +102,17 @@ ports_names prefix kind n ss name short low named =
 
 pub outputs_are_names : (f : AigFile) → IsAig f → All IsName (output_names f)
 unfolding is_name
-outputs_are_names f is = ports_names (codes "o") Output (length f.outputs) f.symbols refl (omega arith) (omega (arith, is.outputs)) is.symbols
+outputs_are_names f is = ports_names (codes "o") Output (length f.outputs) f.symbols refl (omega arith) (omega (arith, is.counts.outputs)) (symbols_named (counts_of f) f.symbols is.symbols)
 
 pub variables_are_names : (f : AigFile) → IsAig f → All IsName (variable_names f)
 unfolding is_name variable_names
 variables_are_names f is =
+    let named = symbols_named (counts_of f) f.symbols is.symbols in
     with_names_names (with_names (gate_names f) f.inputs (input_names f)) (map literal_of f.latches) (latch_names f)
     (with_names_names (gate_names f) f.inputs (input_names f)
-    (gates_named 0 (f.variables + 1) (omega (arith, is.variables)))
-    (ports_names (codes "i") Input (length f.inputs) f.symbols refl (omega arith) (omega (arith, is.room, is.variables)) is.symbols))
-    (ports_names (codes "l") Latch (length f.latches) f.symbols refl (omega arith) (omega (arith, is.room, is.variables)) is.symbols)
+    (gates_named 0 (f.variables + 1) (omega (arith, is.counts.variables)))
+    (ports_names (codes "i") Input (length f.inputs) f.symbols refl (omega arith) (omega (arith, is.counts.sources)) named))
+    (ports_names (codes "l") Latch (length f.latches) f.symbols refl (omega arith) (omega (arith, is.counts.sources)) named)
 
 index_name : (names : List Name) (k : ℕ) → All IsName names → IsName (slice_index_or names k (codes "&"))
 unfolding is_name

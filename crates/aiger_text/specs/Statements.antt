@@ -1,6 +1,6 @@
 -- The grammar of the ASCII form of AIGER (the AIGER 1.9 report): the file that a text spells, or the first fault of its
 -- lines. Each line is checked in the order of the tests below; an LF ends each line. A number has no leading 0.
-use Rattle.std.specs.Prelude.{ℕ, ◌+◌, ◌*◌, ◌%◌, Bool, true, false, ◌&&◌, ◌==◌, nat_lt, nat_le, if◌then◌else◌, List, []}
+use Rattle.std.specs.Prelude.{ℕ, ◌+◌, ◌*◌, ◌%◌, Bool, false, ◌&&◌, ◌==◌, nat_lt, nat_le, if◌then◌else◌, List, []}
 use Rattle.std.specs.Prelude.{◌∷◌, ◌++◌, length, Option, Some, None, Result, Ok, Err, codes}
 use Rattle.text_core.specs.Lines.{Line, lines_of}
 use Rattle.text_core.specs.Items.{items_of}

@@ -1,16 +1,16 @@
 //! Lines of numbers, and the header.
 
-ghost use Rattle.std.specs.Prelude.{◌≡◌, OnOk, ◌++◌};
+ghost use Rattle.std.specs.Prelude.{◌≡◌};
 ghost use Rattle.std.specs.Option.{option_copied};
-ghost use Rattle.text_core.specs.Items.{items_of};
 ghost use Rattle.aiger_text.specs.Reading.{Gives};
 ghost use Rattle.aiger_text.specs.Header.{number_in as number_in_item, numbers_of as numbers_of_text};
 ghost use Rattle.aiger_text.specs.Header.{count_at as count_at_place, counts_in as counts_in_numbers};
 ghost use Rattle.aiger_text.specs.Header.{has_room as has_room_of, unsupported_in as unsupported_in_numbers};
+ghost use Rattle.aiger_text.specs.Header.{source_count as source_count_in};
 ghost use Rattle.aiger_text.specs.Header.{counts_of as counts_of_numbers, header_of as header_of_text};
 
 use crate::file::Counts;
-use crate::limits::MOST_VARIABLES;
+use crate::limits::{MOST_OUTPUTS, MOST_SOURCES, MOST_VARIABLES};
 use net_core::{Name, NetError};
 use std::alloc::Global;
 use text_core::{MOST_NUMBER, after, next_item, number_up_to};
@@ -72,6 +72,13 @@ fn has_room(counts: Counts) -> bool
     sum <= u64::from(counts.variables)
 }
 
+/// The number of inputs and latches.
+fn source_count(numbers: &[u32]) -> u64
+    ensures { result ≡ source_count_in numbers.now }
+{
+    u64::from(count_at(numbers, 1)) + u64::from(count_at(numbers, 2))
+}
+
 /// The letter of the first count that isn't supported.
 #[tactic(auto, unfolding(crate::specs::Header::unsupported_in))]
 fn unsupported_in(numbers: &[u32]) -> Option<&'static [u8]>
@@ -79,7 +86,9 @@ fn unsupported_in(numbers: &[u32]) -> Option<&'static [u8]>
 {
     if count_at(numbers, 0) > MOST_VARIABLES {
         Some(b"M")
-    } else if count_at(numbers, 3) > MOST_VARIABLES {
+    } else if source_count(numbers) > u64::from(MOST_SOURCES) {
+        Some(b"I")
+    } else if count_at(numbers, 3) > MOST_OUTPUTS {
         Some(b"O")
     } else if count_at(numbers, 5) > 0 {
         Some(b"B")

@@ -12,7 +12,9 @@ mod header;
 mod laws;
 mod limits;
 mod listing;
+mod marks;
 mod names;
+mod signals;
 mod statements;
 mod symbols;
 mod tables;
@@ -21,7 +23,7 @@ mod writing;
 
 pub use file::{AigFile, AigGate, AigLatch, Counts, PortKind, Reset, Symbol};
 pub use laws::files_are_read_back;
-pub use limits::MOST_VARIABLES;
+pub use limits::{MOST_OUTPUTS, MOST_SOURCES, MOST_VARIABLES};
 pub use listing::listed_of;
 pub use net_core::{Name, NetError};
 pub use walking::read_ascii;

@@ -1,17 +1,19 @@
 //! The document of a file, with the names that it drives and reads.
 
-ghost use Rattle.std.specs.Prelude.{◌≡◌, ◌+◌, ◌*◌, ◌<◌, ◌^◌, ◌++◌, map, length, OnOk, IfOk};
+ghost use Rattle.std.specs.Prelude.{◌≡◌, ◌+◌, ◌*◌, ◌<◌, ◌≤◌, ◌^◌, ◌++◌, map, length, OnOk, IfOk};
 ghost use Rattle.std.specs.List.{flat_map};
 ghost use Rattle.net_theory.specs.Document.{latch_of, latch_input, latch_output, table_inputs, table_output};
 ghost use Rattle.net_theory.specs.Cost.{cost};
 ghost use Rattle.net_theory.specs.NetOf.{source_count};
 ghost use Rattle.net_document.specs.Listed.{IsWellListed, AreControlsFree};
-ghost use Rattle.aiger_text.specs.File.{IsAig};
-ghost use Rattle.aiger_text.specs.Naming.{name_at as name_at_literal, variable_names as variable_names_of};
+ghost use Rattle.aiger_text.specs.Valid.{IsAig};
+ghost use Rattle.aiger_text.specs.Limits.{most_variables};
+ghost use Rattle.aiger_text.specs.Naming.{name_at as name_at_literal};
 ghost use Rattle.aiger_text.specs.Meaning as spec;
 
 use crate::file::{AigFile, AigLatch, Reset};
-use crate::names::{name_at, numbered, output_names, variable_names};
+use crate::names::{name_at, output_names};
+use crate::signals::{Signals, signals_of, sink_name};
 use crate::tables::tables_of;
 use net_core::{Latch, Name};
 use net_document::{Document, LatchLine, Listed, Table, add_copies};
@@ -41,19 +43,14 @@ fn init_of(reset: Reset) -> u8
     }
 }
 
-/// The latch at a position.
-fn latch_line(
-    alloc: Global,
-    names: &[Name],
-    position: u32,
-    latch: AigLatch,
-) -> Result<LatchLine, AllocError>
-    ensures { IfOk result (λ l. l ≡ spec.latch_line names.now position latch) }
+/// A latch.
+fn latch_line(alloc: Global, signals: &Signals, latch: AigLatch) -> Result<LatchLine, AllocError>
+    ensures { IfOk result (λ l. l ≡ spec.latch_line signals.now latch) }
 {
     Ok(LatchLine {
-        input: numbered(alloc, b"&d", position)?,
+        input: sink_name(alloc, signals, latch.next)?,
         latch: Latch {
-            output: Name::of(alloc, name_at(names, latch.literal))?,
+            output: Name::of(alloc, name_at(&signals.names, latch.literal))?,
             control: None,
             init: Some(init_of(latch.reset)),
         },
@@ -61,21 +58,17 @@ fn latch_line(
 }
 
 /// The latches of a file.
-#[tactic(auto, unfolding(crate::specs::Meaning::latch_lines))]
 fn latch_lines(
     alloc: Global,
-    names: &[Name],
+    signals: &Signals,
     latches: &[AigLatch],
 ) -> Result<Vec<LatchLine>, AllocError>
-    requires { length latches.now < 2 ^ 31 }
-    ensures { IfOk result (λ ls. ls.items ≡ spec.latch_lines names.now 0 latches.now) }
+    ensures { IfOk result (λ ls. ls.items ≡ map (spec.latch_line signals.now) latches.now) }
 {
     let mut lines = Vec::new(alloc);
-    let mut at = 0;
     let mut left = latches;
     while let Some((latch, rest)) = left.split_first() {
-        lines.push(latch_line(alloc, names, at, *latch)?)?;
-        at += 1;
+        lines.push(latch_line(alloc, signals, *latch)?)?;
         left = rest;
     }
     Ok(lines)
@@ -84,21 +77,21 @@ fn latch_lines(
 /// The document of a file.
 #[tactic(auto, unfolding(crate::specs::Meaning::document_of))]
 fn document_of(alloc: Global, file: &AigFile) -> Result<Document, AllocError>
-    requires variables { file.now.variables < 2 ^ 30 }
+    requires variables { file.now.variables ≤ most_variables }
     requires inputs { length file.now.inputs < 2 ^ 31 }
     requires latches { length file.now.latches < 2 ^ 31 }
     requires outputs { length file.now.outputs < 2 ^ 31 }
     ensures { IfOk result (λ d. d ≡ spec.document_of file.now) }
 {
-    let names = variable_names(alloc, file)?;
+    let signals = signals_of(alloc, file)?;
     let outputs = output_names(alloc, file)?;
-    let tables = tables_of(alloc, &names, &outputs, file)?;
+    let tables = tables_of(alloc, &signals, &outputs, file)?;
     Ok(Document {
         model: Name::of(alloc, b"top")?,
-        inputs: names_at(alloc, &names, &file.inputs)?,
+        inputs: names_at(alloc, &signals.names, &file.inputs)?,
         outputs,
         clocks: Vec::new(alloc),
-        latches: latch_lines(alloc, &names, &file.latches)?,
+        latches: latch_lines(alloc, &signals, &file.latches)?,
         tables,
     })
 }
@@ -182,7 +175,7 @@ fn listed_in(alloc: Global, file: &AigFile) -> Result<Listed, AllocError>
 
 /// The document of a file, with the names that it drives and reads in its order: an input, a latch or an output has
 /// the name of its symbol, or else `i0`, `l0` or `o0` by its position, and a gate its literal after `&`. Each gate is
-/// a table, and so is each output and next state that isn't a variable of the same name.
+/// a table: AND, or NAND where its complement alone is an output or a next state.
 #[tactic(auto, using(crate::specs::ListingLaws::listings))]
 pub fn listed_of(alloc: Global, file: &AigFile) -> Result<Listed, AllocError>
     requires { IsAig file.now }

@@ -1,6 +1,7 @@
 //! The names of a file's inputs, latches, outputs and gates.
 
-ghost use Rattle.std.specs.Prelude.{◌≡◌, ◌<◌, ◌^◌, length, map, slice_set, OnOk, IfOk};
+ghost use Rattle.std.specs.Prelude.{◌≡◌, ◌<◌, ◌≤◌, ◌^◌, length, map, slice_set, OnOk, IfOk};
+ghost use Rattle.aiger_text.specs.Limits.{most_variables};
 ghost use Rattle.aiger_text.specs.Naming as spec;
 
 use crate::file::{AigFile, AigLatch, PortKind, Symbol};
@@ -172,7 +173,7 @@ fn set_latches(
 /// The names of the variables from 0 on.
 #[tactic(auto, unfolding(crate::specs::Naming::variable_names))]
 pub fn variable_names(alloc: Global, file: &AigFile) -> Result<Vec<Name>, AllocError>
-    requires variables { file.now.variables < 2 ^ 30 }
+    requires variables { file.now.variables ≤ most_variables }
     requires inputs { length file.now.inputs < 2 ^ 31 }
     requires latches { length file.now.latches < 2 ^ 31 }
     ensures { IfOk result (λ ns. ns.items ≡ spec.variable_names file.now) }

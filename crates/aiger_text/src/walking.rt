@@ -3,7 +3,7 @@
 ghost use Rattle.std.specs.Prelude.{◌≡◌, ◌<◌, ◌≤◌, ◌^◌, ◌+◌, length, IfOk};
 ghost use Rattle.text_core.specs.Lines.{lines_of};
 ghost use Rattle.aiger_text.specs.Reading.{Gives};
-ghost use Rattle.aiger_text.specs.File.{IsAig};
+ghost use Rattle.aiger_text.specs.Valid.{IsAig};
 ghost use Rattle.aiger_text.specs.Limits.{most_variables};
 ghost use Rattle.aiger_text.specs.Statements as spec;
 

@@ -2,7 +2,7 @@
 
 ghost use Rattle.std.specs.Prelude.{◌≡◌, ◌<◌, ◌^◌, ◌++◌, length, OnOk, OnErr};
 ghost use Rattle.std.specs.List.{flat_map};
-ghost use Rattle.aiger_text.specs.File.{IsAig};
+ghost use Rattle.aiger_text.specs.Valid.{IsAig, counts_of as counts_of_file};
 ghost use Rattle.aiger_text.specs.Spelling as spec;
 
 use crate::file::{AigFile, AigGate, AigLatch, PortKind, Reset, Symbol};
@@ -42,7 +42,7 @@ fn push_counts(text: &mut Vec<u8>, file: &AigFile) -> Result<(), AllocError>
     requires outputs { length file.now.outputs < 2 ^ 31 }
     requires gates { length file.now.gates < 2 ^ 31 }
     ensures { OnOk result (text.new.items ≡
-        text.old.items ++ spec.numbers_line (spec.header_numbers (spec.counts_of file.now))) }
+        text.old.items ++ spec.numbers_line (spec.header_numbers (counts_of_file file.now))) }
 {
     let inputs = file.inputs.len() as u32;
     let latches = file.latches.len() as u32;

@@ -1,4 +1,4 @@
-use Rattle.aiger_text.specs.ListingLaws.{listed_by, free_by, few_by, small_by}
+use Rattle.aiger_text.specs.ListingLaws.{listed_by}
 use Rattle.aiger_text.proofs.listing.listed_of.Goals as goal
 
 pub returns-clause-listed : goal.returns-clause-listed
