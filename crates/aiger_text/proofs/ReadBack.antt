@@ -106,14 +106,13 @@ section_back : {A : Type 0} (c : Counts) (line_of text : A → List ℕ) (file :
 section_back {A} c line_of text file P n reads takes xs [] rest all low line =
     (line, ap (λ (zs : List A). steps line c (file zs) (lines_of rest)) (sym (append-nil xs)))
 section_back {A} c line_of text file P n reads takes xs (y ∷ ys) rest all low line =
-    let more = section_back c line_of text file P n reads takes (xs ++ y ∷ []) ys rest (All-tail P y ys all) (omega (arith, low, length-append xs (y ∷ []))) (line + 1) in
-    (
+    let more = section_back c line_of text file P n reads takes (xs ++ y ∷ []) ys rest (All-tail P y ys all) (omega (arith, low, length-append xs (y ∷ []))) (line + 1) in (
       more.0,
       ap (λ (t : List ℕ). steps line c (file xs) (lines_of t)) (append_assoc (line_of y) (flat_map line_of ys) rest)
-      ∙ ap (steps line c (file xs)) (reads y (flat_map line_of ys ++ rest) (All-head P y ys all))
-      ∙ takes line xs y (lines_of (flat_map line_of ys ++ rest)) (All-head P y ys all) (omega (arith, low))
-      ∙ more.1
-      ∙ ap (λ (zs : List A). steps more.0 c (file zs) (lines_of rest)) (append_assoc xs (y ∷ []) ys),
+          ∙ ap (steps line c (file xs)) (reads y (flat_map line_of ys ++ rest) (All-head P y ys all))
+          ∙ takes line xs y (lines_of (flat_map line_of ys ++ rest)) (All-head P y ys all) (omega (arith, low))
+          ∙ more.1
+          ∙ ap (λ (zs : List A). steps more.0 c (file zs) (lines_of rest)) (append_assoc xs (y ∷ []) ys),
     )
 
 -- ---- when a file isn't full
@@ -148,7 +147,7 @@ unfolding is_full stated input_of
 input_taken c v line xs y ls narrow is low =
     let f = made v xs [] [] [] [] in
     step_on line c f (made v (xs ++ y ∷ []) [] [] [] []) (numbers_text (y ∷ [])) ls
-    (no_comment c f (numbers_text (y ∷ [])) (short_first (nat_le c.inputs (length xs)) _ _ _ (lt-leb c.inputs (length xs) low)))
+    (no_comment c f (numbers_text (y ∷ [])) (short_first (nat_le c.inputs (length xs)) (nat_le c.latches 0) (nat_le c.outputs 0) (nat_le c.gates 0) (lt-leb c.inputs (length xs) low)))
     (cond-true (nat_lt (length xs) c.inputs) _ _ (lt-ltb (length xs) c.inputs low)
     ∙ ap (λ (r : Result (List ℕ) NetError). r >>= λ ns. input_of line ns >>= λ lit. Ok (with_input f lit)) (numbers_read line (most_literal c) y [] narrow (is.within, tt))
     ∙ ap (λ (r : Result ℕ NetError). r >>= λ lit. Ok (with_input f lit)) (cond-true (is_variable y) _ _ is.variable))
@@ -160,7 +159,7 @@ unfolding is_full stated output_of
 output_taken c v line is qs xs y ls narrow all_is all_qs fits low =
     let f = made v is qs xs [] [] in
     step_on line c f (made v is qs (xs ++ y ∷ []) [] []) (numbers_text (y ∷ [])) ls
-    (no_comment c f (numbers_text (y ∷ [])) (short_third _ _ (nat_le c.outputs (length xs)) _ (lt-leb c.outputs (length xs) low)))
+    (no_comment c f (numbers_text (y ∷ [])) (short_third (nat_le c.inputs (length is)) (nat_le c.latches (length qs)) (nat_le c.outputs (length xs)) (nat_le c.gates 0) (lt-leb c.outputs (length xs) low)))
     (cond-false (nat_lt (length is) c.inputs) _ _ (le-ltb (length is) c.inputs all_is)
     ∙ cond-false (nat_lt (length qs) c.latches) _ _ (le-ltb (length qs) c.latches all_qs)
     ∙ cond-true (nat_lt (length xs) c.outputs) _ _ (lt-ltb (length xs) c.outputs low)
@@ -174,7 +173,7 @@ gate_taken c v line is qs os xs y ls narrow all_is all_qs all_os gate low =
     let f = made v is qs os xs [] in
     let text = numbers_text (y.literal ∷ y.first ∷ y.second ∷ []) in
     step_on line c f (made v is qs os (xs ++ y ∷ []) []) text ls
-    (no_comment c f text (short_last _ _ _ (nat_le c.gates (length xs)) (lt-leb c.gates (length xs) low)))
+    (no_comment c f text (short_last (nat_le c.inputs (length is)) (nat_le c.latches (length qs)) (nat_le c.outputs (length os)) (nat_le c.gates (length xs)) (lt-leb c.gates (length xs) low)))
     (cond-false (nat_lt (length is) c.inputs) _ _ (le-ltb (length is) c.inputs all_is)
     ∙ cond-false (nat_lt (length qs) c.latches) _ _ (le-ltb (length qs) c.latches all_qs)
     ∙ cond-false (nat_lt (length os) c.outputs) _ _ (le-ltb (length os) c.outputs all_os)
@@ -227,7 +226,7 @@ latch_taken c v line is xs y ls narrow all_is latch low =
     let f = made v is xs [] [] [] in
     let text = numbers_text (latch_numbers y.literal y.next y.reset) in
     step_on line c f (made v is (xs ++ y ∷ []) [] [] []) text ls
-    (no_comment c f text (short_second _ (nat_le c.latches (length xs)) _ _ (lt-leb c.latches (length xs) low)))
+    (no_comment c f text (short_second (nat_le c.inputs (length is)) (nat_le c.latches (length xs)) (nat_le c.outputs 0) (nat_le c.gates 0) (lt-leb c.latches (length xs) low)))
     (cond-false (nat_lt (length is) c.inputs) _ _ (le-ltb (length is) c.inputs all_is)
     ∙ cond-true (nat_lt (length xs) c.latches) _ _ (lt-ltb (length xs) c.latches low)
     ∙ bind_assoc (numbers_of line (most_literal c) text) (latch_of line) (λ l. Ok (with_latch f l))
@@ -389,21 +388,21 @@ lines_reach f is small narrow =
     let b = flat_map literal_line f.outputs ++ d in
     let a = flat_map latch_text f.latches ++ b in
     let one = section_back c literal_line (λ y. numbers_text (y ∷ [])) (λ xs. made v xs [] [] [] []) (IsVariable c) c.inputs
-        (λ y rest p. numbers_line_read most y [] rest narrow (p.within, tt))
-        (λ line xs y ls p low. input_taken c v line xs y ls narrow p low) [] f.inputs a is.inputs (omega arith) in
+    (λ y rest p. numbers_line_read most y [] rest narrow (p.within, tt))
+    (λ line xs y ls p low. input_taken c v line xs y ls narrow p low) [] f.inputs a is.inputs (omega arith) in
     let two = section_back c latch_text (λ y. numbers_text (latch_numbers y.literal y.next y.reset)) (λ xs. made v f.inputs xs [] [] []) (IsLatchAt c) c.latches
-        (λ y rest p. latch_line_read c y.literal y.next y.reset rest narrow p.literal p.next)
-        (λ line xs y ls p low. latch_taken c v line f.inputs xs y ls narrow (omega arith) p low) [] f.latches b is.latches (omega arith) in
+    (λ y rest p. latch_line_read c y.literal y.next y.reset rest narrow p.literal p.next)
+    (λ line xs y ls p low. latch_taken c v line f.inputs xs y ls narrow (omega arith) p low) [] f.latches b is.latches (omega arith) in
     let three = section_back c literal_line (λ y. numbers_text (y ∷ [])) (λ xs. made v f.inputs f.latches xs [] []) (IsLiteral c) c.outputs
-        (λ y rest p. numbers_line_read most y [] rest narrow (p, tt))
-        (λ line xs y ls p low. output_taken c v line f.inputs f.latches xs y ls narrow (omega arith) (omega arith) p low) [] f.outputs d is.outputs (omega arith) in
+    (λ y rest p. numbers_line_read most y [] rest narrow (p, tt))
+    (λ line xs y ls p low. output_taken c v line f.inputs f.latches xs y ls narrow (omega arith) (omega arith) p low) [] f.outputs d is.outputs (omega arith) in
     let four = section_back c gate_text (λ y. numbers_text (y.literal ∷ y.first ∷ y.second ∷ [])) (λ xs. made v f.inputs f.latches f.outputs xs []) (IsGateAt c) c.gates
-        (λ y rest p. numbers_line_read most y.literal (y.first ∷ y.second ∷ []) rest narrow (p.literal.within, (p.first, (p.second, tt))))
-        (λ line xs y ls p low. gate_taken c v line f.inputs f.latches f.outputs xs y ls narrow (omega arith) (omega arith) (omega arith) p low) [] f.gates e is.gates (omega arith) in
+    (λ y rest p. numbers_line_read most y.literal (y.first ∷ y.second ∷ []) rest narrow (p.literal.within, (p.first, (p.second, tt))))
+    (λ line xs y ls p low. gate_taken c v line f.inputs f.latches f.outputs xs y ls narrow (omega arith) (omega arith) (omega arith) p low) [] f.gates e is.gates (omega arith) in
     let all : AreAll c f.inputs f.latches f.outputs f.gates = record { inputs = refl; latches = refl; outputs = refl; gates = refl } in
     let five = section_back c symbol_text symbol_line_text (λ xs. made v f.inputs f.latches f.outputs f.gates xs) (IsSmallSymbol c) (length f.symbols)
-        (λ y rest p. symbol_line_read y rest p.0.name.spelled (omega (arith, p.1)))
-        (λ line xs y ls p low. symbol_taken c v line f.inputs f.latches f.outputs f.gates xs y ls all p.0 p.1) [] f.symbols [] small (omega arith) in
+    (λ y rest p. symbol_line_read y rest p.0.name.spelled (omega (arith, p.1)))
+    (λ line xs y ls p low. symbol_taken c v line f.inputs f.latches f.outputs f.gates xs y ls all p.0 p.1) [] f.symbols [] small (omega arith) in
     reach_on c (made v [] [] [] [] []) (made v f.inputs [] [] [] []) f (flat_map literal_line f.inputs ++ a) a [] one
     (reach_on c (made v f.inputs [] [] [] []) (made v f.inputs f.latches [] [] []) f a b [] two
     (reach_on c (made v f.inputs f.latches [] [] []) (made v f.inputs f.latches f.outputs [] []) f b d [] three
