@@ -55,6 +55,12 @@ const TEXTS: &[(&str, &[u8], &[u8], &[u8])] = &[
         b"e q[0] &8 &9 &8 ",
     ),
     (
+        "a toggle, as yosys 0.23 wrote it",
+        b"aag 6 2 1 2 3\n2\n4\n6 12\n6\n7\n8 7 5\n10 6 4\n12 11 9\ni0 clk\ni1 e\nl0 q s\no0 q\no1 n\nc\nby yosys\n",
+        b"clk e q &0 &1 &8 &10 &12 &7 n ",
+        b"q e q e &10 &8 q &7 &12 ",
+    ),
+    (
         "complements of an input, twice",
         b"aag 1 1 0 2 0\n2\n3\n3\n",
         b"i0 &0 &1 &3 o0 o1 ",
