@@ -1,0 +1,7 @@
+//! Tests of the AIGER crates: faults with their lines, texts that are cut off, and the names and tables of documents.
+#![tactic(auto)]
+
+#[cfg(test)]
+mod faults;
+#[cfg(test)]
+mod listings;

@@ -1,0 +1,15 @@
+pub use Rattle.net_theory.specs.Document
+pub use Rattle.text_core.specs.Lines
+pub use Rattle.net_document.specs.Listed
+pub mod Reading
+pub mod Limits
+pub mod File
+pub mod Header
+pub mod Statements
+pub mod Valid
+pub mod FileLaws
+pub mod Naming
+pub mod NamingLaws
+pub mod Meaning
+pub mod ListingLaws
+pub mod Spelling
