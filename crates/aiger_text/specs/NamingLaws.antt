@@ -96,7 +96,8 @@ with_names_names names (lit ∷ lits) [] all named = all
 with_names_names names (lit ∷ lits) (n ∷ ns) all named =
     with_names_names (slice_set names (lit / 2) n) lits ns (set_names names (lit / 2) n all (All-head IsName n ns named)) (All-tail IsName n ns named)
 
-ports_names : (prefix : Name) (kind : PortKind) (n : ℕ) (ss : List Symbol) → is_name prefix ≡ true → length prefix ≤ 2 → n < 2 ^ 32 → All IsNamed ss → All IsName (with_symbols kind (numbered_from prefix 0 n) ss)
+ports_names : (prefix : Name) (kind : PortKind) (n : ℕ) (ss : List Symbol) → is_name prefix ≡ true →
+    length prefix ≤ 2 → n < 2 ^ 32 → All IsNamed ss → All IsName (with_symbols kind (numbered_from prefix 0 n) ss)
 ports_names prefix kind n ss name short low named =
     symbols_names kind (numbered_from prefix 0 n) ss (numbered_names prefix 0 n name short (omega (arith, low))) named
 

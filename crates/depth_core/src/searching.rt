@@ -173,8 +173,8 @@ fn deepened<S: Solver>(
 
 /// Searches the sizes from 0 to `max` by fences with the solver `S` for a chain of the fewest steps over the basis
 /// that implements the tables, and among the chains of that size for one of the fewest levels. A subproblem is
-/// left open once the solver has learnt at least `budget` clauses. `effort` is a factor for the work of the walks, 0 for
-/// no walk. The basis isn't empty, and `max` and `budget` are in the ranges of `settings`.
+/// left open once the solver has learnt at least `budget` clauses. `effort` is a factor for the work of the walks, 0
+/// for no walk. The basis isn't empty, and `max` and `budget` are in the ranges of `settings`.
 #[tactic(auto, using(crate::proofs::LevelLogs::searching))]
 pub fn least_depth<S: Solver>(
     alloc: Global,

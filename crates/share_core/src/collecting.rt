@@ -6,8 +6,8 @@ use std::alloc::{AllocError, Global};
 use thresholds::{MOST_ROW_LITERALS, MOST_VISITED_OF_TREE};
 use xag_core::{Xag, XagGate};
 
-/// The most literals of a row where trees go through gates that several gates read: then a literal may be in the rows of
-/// all gates above it.
+/// The most literals of a row where trees go through gates that several gates read: then a literal may be in the
+/// rows of all gates above it.
 const MOST_SHARED_LITERALS: usize = 32;
 
 /// A root and the literals of its tree, ascending.
