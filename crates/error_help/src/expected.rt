@@ -511,6 +511,11 @@ pub fn has_entry(subject: Subject, name: &[u8]) -> bool {
         || name == b"TooLong".as_slice()
 }
 
+/// Whether the table has a fault of a log's line.
+pub fn has_step_entry(name: &[u8]) -> bool {
+    step_entry(name).is_some()
+}
+
 /// The most bytes of what a command reads.
 pub(crate) fn most_bytes(subject: Subject) -> usize {
     match subject {

@@ -19,5 +19,5 @@ mod interfaces;
 mod netlists;
 mod tokens;
 
-pub use expected::{Subject, has_entry};
+pub use expected::{Subject, has_entry, has_step_entry};
 pub use explaining::{Input, Inputs, push_explained};

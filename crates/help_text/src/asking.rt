@@ -2,6 +2,7 @@
 
 use crate::commands::{CommandName, command_named};
 use crate::completing::{Shell, push_completion};
+use crate::listing::push_table;
 use crate::manual::push_manual;
 use crate::pages::{push_command, push_program, push_version};
 use crate::topics::{push_topic, topic_named};
@@ -37,6 +38,8 @@ fn named_page(alloc: Global, word: &[u8]) -> Result<Option<Vec<u8>>, AllocError>
         push_topic(&mut page, topic)?;
     } else if word == b"--manual".as_slice() {
         push_manual(&mut page)?;
+    } else if word == b"--options".as_slice() {
+        push_table(&mut page)?;
     } else {
         return Ok(None);
     }
@@ -95,8 +98,8 @@ fn command_page(alloc: Global, command: CommandName) -> Result<Option<Vec<u8>>, 
     Ok(Some(page))
 }
 
-/// The page that words ask for: `help [COMMAND|FORMAT]`, `help --completion SHELL`, `help --manual`, `--help`,
-/// `--version`, or a command with `--help`. None if they ask for none.
+/// The page that words ask for: `help [COMMAND|FORMAT]`, `help --completion SHELL`, `help --manual`,
+/// `help --options`, `--help`, `--version`, or a command with `--help`. None if they ask for none.
 pub fn asked_page(alloc: Global, words: &[String]) -> Result<Option<Vec<u8>>, AllocError> {
     let Some((first, rest)) = words.split_first() else {
         return Ok(None);

@@ -54,35 +54,58 @@ fn push_inside_quotes(text: &mut Vec<u8>, words: &[u8]) -> Result<(), AllocError
     Ok(())
 }
 
-// ---- bash and zsh, which takes the completions of bash
+// ---- bash and zsh
 
-const BASH_HEAD: &[u8] = b"_batsokemi() {
-    local word=${COMP_WORDS[COMP_CWORD]} before=${COMP_WORDS[COMP_CWORD-1]}
+/// The parts of a completion script: its head, what leads to the words of a reply and what ends it, what comes before
+/// the cases of values and before those of options, and its end.
+#[derive(Clone, Copy)]
+struct Script {
+    head: &'static [u8],
+    reply: &'static [u8],
+    end: &'static [u8],
+    values: &'static [u8],
+    names: &'static [u8],
+    tail: &'static [u8],
+}
+
+const BASH: Script = Script {
+    head: b"_batsokemi() {
+    local word=${COMP_WORDS[COMP_CWORD]} before=${COMP_WORDS[COMP_CWORD-1]} command=${COMP_WORDS[1]}
     COMPREPLY=()
-    if [ \"$COMP_CWORD\" = 1 ]; then
-        COMPREPLY=($(compgen -W \"";
-
-const BASH_HELP: &[u8] = b"help --help --version\" -- \"$word\"))
-        return
-    fi
-    case \"${COMP_WORDS[1]} $before\" in
-        'help --completion') COMPREPLY=($(compgen -W 'bash zsh fish' -- \"$word\")); return ;;
-        'help help') COMPREPLY=($(compgen -W \"";
-
-const BASH_CASES: &[u8] = b"--completion --manual\" -- \"$word\")); return ;;\n";
-
-const BASH_NAMES: &[u8] = b"    esac
-    case \"$word ${COMP_WORDS[1]}\" in
-";
-
-const BASH_TAIL: &[u8] = b"    esac
+    [ \"$COMP_CWORD\" != 1 ] || before=first command=''
+    case \"$command $before\" in
+",
+    reply: b"COMPREPLY=($(compgen -W '",
+    end: b"' -- \"$word\")); return ;;\n",
+    values: b"        'help --completion') COMPREPLY=($(compgen -W 'bash zsh fish' -- \"$word\")); return ;;\n",
+    names: b"    esac\n    case \"$word $command\" in\n",
+    tail: b"    esac
     COMPREPLY=($(compgen -f -- \"$word\"))
 }
 complete -o filenames -F _batsokemi batsokemi
-";
+",
+};
+
+const ZSH: Script = Script {
+    head: b"#compdef batsokemi
+local word=$words[CURRENT] before=$words[CURRENT-1] command=$words[2]
+if (( CURRENT == 2 )); then before=first command=''; fi
+case \"$command $before\" in
+",
+    reply: b"compadd -- ",
+    end: b"; return ;;\n",
+    values: b"        'help --completion') compadd -- bash zsh fish; return ;;\n",
+    names: b"esac\ncase \"$word $command\" in\n",
+    tail: b"esac\n_files\n",
+};
 
 /// Appends the case of an option's values.
-fn push_bash_values(text: &mut Vec<u8>, command: CommandName, row: &Row) -> Result<(), AllocError> {
+fn push_values(
+    text: &mut Vec<u8>,
+    script: &Script,
+    command: CommandName,
+    row: &Row,
+) -> Result<(), AllocError> {
     if matches!(row.allowed, Allowed::File) {
         return Ok(());
     }
@@ -93,65 +116,87 @@ fn push_bash_values(text: &mut Vec<u8>, command: CommandName, row: &Row) -> Resu
             Part::Text(name_of(command)),
             Part::Text(b" "),
             Part::Text(row.name),
-            Part::Text(b"') COMPREPLY=($(compgen -W '"),
+            Part::Text(b"') "),
+            Part::Text(script.reply),
         ],
     )?;
     push_spaced(text, values_of(row))?;
-    text.extend_from_slice(b"' -- \"$word\")); return ;;\n")
+    text.extend_from_slice(script.end)
 }
 
 /// Appends the cases of the values of a command's options.
-fn push_bash_options(text: &mut Vec<u8>, command: CommandName) -> Result<(), AllocError> {
+fn push_all_values(
+    text: &mut Vec<u8>,
+    script: &Script,
+    command: CommandName,
+) -> Result<(), AllocError> {
     for row in options_of(command) {
-        push_bash_values(text, command, row)?;
+        push_values(text, script, command, row)?;
     }
     Ok(())
 }
 
 /// Appends the case of a command's options.
-fn push_bash_names(text: &mut Vec<u8>, command: CommandName) -> Result<(), AllocError> {
+fn push_names(text: &mut Vec<u8>, script: &Script, command: CommandName) -> Result<(), AllocError> {
     push_parts(
         text,
         &[
             Part::Text(b"        -*' "),
             Part::Text(name_of(command)),
-            Part::Text(b"') COMPREPLY=($(compgen -W '"),
+            Part::Text(b"') "),
+            Part::Text(script.reply),
         ],
     )?;
     for row in options_of(command) {
         push_parts(text, &[Part::Text(row.name), Part::Text(b" ")])?;
     }
-    text.extend_from_slice(b"--help' -- \"$word\")); return ;;\n")
+    push_parts(text, &[Part::Text(b"--help"), Part::Text(script.end)])
 }
 
-/// Appends the completions of bash.
-fn push_bash(text: &mut Vec<u8>) -> Result<(), AllocError> {
-    text.extend_from_slice(BASH_HEAD)?;
+/// Appends the names of the commands and of the subjects, with a blank after each.
+fn push_pages(text: &mut Vec<u8>) -> Result<(), AllocError> {
     push_command_names(text)?;
-    text.extend_from_slice(BASH_HELP)?;
-    push_command_names(text)?;
-    let mut names = Vec::new(*text.allocator());
-    push_topic_names(&mut names)?;
-    push_line(text, &names)?;
-    text.extend_from_slice(BASH_CASES)?;
-    for command in COMMANDS {
-        push_bash_options(text, *command)?;
-    }
-    text.extend_from_slice(BASH_NAMES)?;
-    for command in COMMANDS {
-        push_bash_names(text, *command)?;
-    }
-    text.extend_from_slice(BASH_TAIL)
+    push_topic_names(text)
 }
 
-/// Appends a line without its end, and a blank.
-fn push_line(text: &mut Vec<u8>, line: &[u8]) -> Result<(), AllocError> {
-    for byte in line {
-        if *byte != b'\n' {
-            text.push(*byte)?;
-        }
+/// Appends the cases of the first word, and of the word after `help`.
+fn push_first_words(text: &mut Vec<u8>, script: &Script) -> Result<(), AllocError> {
+    push_parts(
+        text,
+        &[Part::Text(b"        ' first') "), Part::Text(script.reply)],
+    )?;
+    push_command_names(text)?;
+    push_parts(
+        text,
+        &[Part::Text(b"help --help --version"), Part::Text(script.end)],
+    )?;
+    push_parts(
+        text,
+        &[
+            Part::Text(b"        'help help') "),
+            Part::Text(script.reply),
+        ],
+    )?;
+    push_pages(text)?;
+    push_parts(
+        text,
+        &[Part::Text(b"--completion --manual"), Part::Text(script.end)],
+    )
+}
+
+/// Appends a script.
+fn push_script(text: &mut Vec<u8>, script: &Script) -> Result<(), AllocError> {
+    text.extend_from_slice(script.head)?;
+    push_first_words(text, script)?;
+    text.extend_from_slice(script.values)?;
+    for command in COMMANDS {
+        push_all_values(text, script, *command)?;
     }
-    Ok(text.push(b' ')?)
+    text.extend_from_slice(script.names)?;
+    for command in COMMANDS {
+        push_names(text, script, *command)?;
+    }
+    text.extend_from_slice(script.tail)
 }
 
 // ---- fish
@@ -206,10 +251,7 @@ fn push_fish_command(text: &mut Vec<u8>, command: CommandName) -> Result<(), All
 /// Appends the completions of fish.
 fn push_fish(text: &mut Vec<u8>) -> Result<(), AllocError> {
     text.extend_from_slice(FISH_HEAD)?;
-    push_command_names(text)?;
-    let mut names = Vec::new(*text.allocator());
-    push_topic_names(&mut names)?;
-    push_line(text, &names)?;
+    push_pages(text)?;
     text.extend_from_slice(b"--completion --manual'\n")?;
     for command in COMMANDS {
         push_fish_command(text, *command)?;
@@ -220,11 +262,8 @@ fn push_fish(text: &mut Vec<u8>) -> Result<(), AllocError> {
 /// Appends the completions of a shell.
 pub(crate) fn push_completion(text: &mut Vec<u8>, shell: Shell) -> Result<(), AllocError> {
     match shell {
-        Shell::Bash => push_bash(text),
-        Shell::Zsh => {
-            text.extend_from_slice(b"autoload -U +X bashcompinit && bashcompinit\n")?;
-            push_bash(text)
-        }
+        Shell::Bash => push_script(text, &BASH),
+        Shell::Zsh => push_script(text, &ZSH),
         Shell::Fish => push_fish(text),
     }
 }

@@ -14,6 +14,7 @@
 mod asking;
 mod commands;
 mod completing;
+mod listing;
 mod manual;
 mod options;
 mod pages;

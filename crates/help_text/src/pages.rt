@@ -15,6 +15,9 @@ const MEANING: usize = 29;
 /// The column in which the purpose of a command begins.
 const PURPOSE: usize = 12;
 
+/// The column in which the names of subjects begin.
+const TOPICS: usize = 22;
+
 const HEAD: &[u8] = b"batsokemi COMMAND [OPTION VALUE].. [FILE..]
 
 Exact synthesis of Boolean chains with certificates, resynthesis of netlists, and combinational
@@ -24,7 +27,7 @@ equivalence checking. Every function of the program is formally verified.
 
 const AFTER_COMMANDS: &[u8] = b"
   help COMMAND        options of a command with ranges and defaults, and an example
-  help TOPIC          a format or a subject: ";
+  help TOPIC          one of";
 
 const TAIL: &[u8] = b"  help --completion S completions for a shell: bash, zsh or fish
   help --manual       the manual page
@@ -67,7 +70,9 @@ pub(crate) fn push_program(page: &mut Vec<u8>) -> Result<(), AllocError> {
         push_purpose(page, *command)?;
     }
     page.extend_from_slice(AFTER_COMMANDS)?;
-    push_topic_names(page)?;
+    let mut names = Vec::new(*page.allocator());
+    push_topic_names(&mut names)?;
+    push_wrapped(page, &names, TOPICS.saturating_add(6), TOPICS)?;
     page.extend_from_slice(TAIL)
 }
 

@@ -253,15 +253,11 @@ pub(crate) fn topic_name(topic: Topic) -> &'static [u8] {
     topic.name
 }
 
-/// Appends the names of all subjects, a blank between them, and ends the line.
+/// Appends the names of all subjects with a blank after each.
 pub(crate) fn push_topic_names(page: &mut Vec<u8>) -> Result<(), AllocError> {
-    let mut is_first = true;
     for topic in TOPICS {
-        if !is_first {
-            page.push(b' ')?;
-        }
-        is_first = false;
         page.extend_from_slice(topic.name)?;
+        page.push(b' ')?;
     }
-    Ok(page.push(b'\n')?)
+    Ok(())
 }

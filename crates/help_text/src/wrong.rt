@@ -295,16 +295,20 @@ fn push_fault(text: &mut Vec<u8>, command: CommandName, fault: Fault) -> Result<
     }
 }
 
+/// How many files a command reads, in words.
+fn files_of(command: CommandName) -> &'static [u8] {
+    match most_files(command) {
+        0 => b" reads no file, and ",
+        1 => b" reads one file, and ",
+        _ => b" reads two files, and ",
+    }
+}
+
 /// Appends that a file is one too many.
 fn push_too_many(text: &mut Vec<u8>, command: CommandName, word: &[u8]) -> Result<(), AllocError> {
     push_parts(
         text,
-        &[
-            Part::Text(name_of(command)),
-            Part::Text(b" reads at most "),
-            Part::Count(most_files(command)),
-            Part::Text(b" files, and "),
-        ],
+        &[Part::Text(name_of(command)), Part::Text(files_of(command))],
     )?;
     push_word(text, b"", word, b" is one more")
 }
@@ -346,10 +350,16 @@ fn push_help_fault(text: &mut Vec<u8>, words: &[String]) -> Result<(), AllocErro
     let Some((word, _)) = words.split_first() else {
         return Ok(());
     };
-    push_word(text, b"help has no page ", word.as_bytes(), b"; it has")?;
+    push_word(
+        text,
+        b"help has no page ",
+        word.as_bytes(),
+        b", or not with more words; it has",
+    )?;
     push_commands(text)?;
     text.push(b' ')?;
-    push_topic_names(text)
+    push_topic_names(text)?;
+    text.extend_from_slice(b"--completion --manual --options\n")
 }
 
 /// Appends what is wrong with words that are no command line, as a line for people.
