@@ -1,6 +1,6 @@
 //! Plain files that are read again, for the line after an error line.
 
-use front_guide::Rereads;
+use front_app::Rereads;
 use port_io::{InputPort, read_all};
 use std::alloc::Global;
 use std::fs::File;
