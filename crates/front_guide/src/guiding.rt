@@ -52,16 +52,24 @@ fn has_help_word(words: &[String]) -> bool
     false
 }
 
+/// The page that words ask for; None if they ask for none, or memory runs out.
+fn page_of(alloc: Global, words: &Vec<String>) -> Option<Vec<u8>> {
+    asked_page(alloc, words).unwrap_or(None)
+}
+
 /// The page that words ask for which are no command line; None if they ask for none, or memory runs out.
 #[tactic(auto, using(crate::proofs::Pages::asking))]
 fn page_for(alloc: Global, words: &Vec<String>) -> Option<Vec<u8>>
     ensures other { IfSome result (λ _. IsNotPlain (spelled words.now)) }
     ensures asks { IfSome result (λ _. spec.has_help_word (spelled words.now) ≡ true) }
 {
-    if !has_help_word(words) || read_words(words).is_ok() {
+    if !has_help_word(words) {
         return None;
     }
-    asked_page(alloc, words).unwrap_or(None)
+    match read_words(words) {
+        Ok(_) => None,
+        Err(_) => page_of(alloc, words),
+    }
 }
 
 /// Writes a page.

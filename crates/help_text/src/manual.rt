@@ -5,7 +5,7 @@ use crate::pages::{push_command, push_program};
 use crate::topics::{Topic, push_topic, topic_name, topics};
 use std::alloc::AllocError;
 
-const HEAD: &[u8] = b".TH BATSOKEMI 1
+const HEAD: &[u8] = b".TH BATSOKEMI 1 2026-11-30
 .SH NAME
 batsokemi \\- exact synthesis with certificates, resynthesis of netlists, equivalence checking
 .SH DESCRIPTION

@@ -31,6 +31,7 @@ const AFTER_COMMANDS: &[u8] = b"
 
 const TAIL: &[u8] = b"  help --completion S completions for a shell: bash, zsh or fish
   help --manual       the manual page
+  help --options      the table of options, for programs
   --version           the version
 
 Files and options come after the command, in any order; without a file, or for `-`, standard input is
