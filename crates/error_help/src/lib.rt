@@ -12,10 +12,12 @@
 //! ```
 #![tactic(auto)]
 
+mod chain_faults;
 mod expected;
 mod explaining;
 mod finding;
 mod interfaces;
+mod net_faults;
 mod netlists;
 mod tokens;
 

@@ -1,6 +1,6 @@
-//! The program `front`: `batsokemi` with files that are named, and help for people. It collects the arguments, wraps the
-//! standard streams in ports that remember what went through them, hands over the files of the system, and calls
-//! `front_app::serve`.
+//! The program `front`: `batsokemi` with files that are named, and help for people. It collects the arguments, wraps
+//! the standard streams in ports that remember what went through them, hands over the files of the system, and
+//! calls `front_app::serve`.
 #![tactic(auto)]
 
 mod rereading;

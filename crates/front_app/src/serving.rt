@@ -57,8 +57,8 @@ impl Program for Strict {
 }
 
 /// Runs the command that the words ask for: over the files that they name, or else over `source` and `out`. A report,
-/// and one error line if there is no answer, go to `note`; after the error line comes one for people. Words that ask for
-/// help get a page.
+/// and one error line if there is no answer, go to `note`; after the error line comes one for people. Words that ask
+/// for help get a page.
 pub fn serve<W: Outside, S: Recalls, O: Sink, N: Retells, R: Rereads>(
     alloc: Global,
     words: &Vec<String>,

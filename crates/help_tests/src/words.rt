@@ -34,7 +34,8 @@ fn is_wrong(alloc: Global, line: &str, wanted: &str) -> bool {
 const WRONG: &[(&str, &str)] = &[
     (
         "sinth",
-        "batsokemi: there is no command 'sinth'; there is synth recheck agree improve equiv gen help (batsokemi help)\n",
+        "batsokemi: there is no command 'sinth'; \
+         there is synth recheck agree improve equiv gen help (batsokemi help)\n",
     ),
     (
         "synth --max",
@@ -58,7 +59,8 @@ const WRONG: &[(&str, &str)] = &[
     ),
     (
         "improve --format bench --basis all",
-        "batsokemi: with --format bench the basis has operators of bench alone, and not 'all' (batsokemi help improve)\n",
+        "batsokemi: with --format bench the basis has operators of bench alone, \
+         and not 'all' (batsokemi help improve)\n",
     ),
     (
         "gen x",
