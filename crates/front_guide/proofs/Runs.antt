@@ -3,7 +3,6 @@ use Rattle.std.specs.Prelude.{◌≡◌, ◌⊎◌, inl, inr, ℕ, List, Bool, t
 use Rattle.std.proofs.lemmas.Grind.{common_steps}
 use Rattle.frame_core.specs.declared.status.Status.{Status}
 use Rattle.frame_core.specs.Outside.{PortState, Writes}
-use Rattle.file_io.specs.Names.{Names}
 use Rattle.file_io.specs.Served.{Pass, Files}
 use Rattle.front_core.specs.Asked.{IsNotPlain}
 use Rattle.front_core.specs.Front.{Promises, front_run, Ending, IsEnding}
@@ -11,17 +10,17 @@ use Rattle.front_guide.specs.Words.{has_help_word}
 use Rattle.front_guide.specs.Guided.{IsPageStatus, IsPaged, IsHinted, IsHelped, IsGuided, is_found}
 
 -- a page was written
-pub paged : (promises : Promises) (words : List (List ℕ)) (names : Names) (source out out' note : PortState)
-    (page : List ℕ) (status : Status) → IsNotPlain words → has_help_word words ≡ true → Writes out out' page →
-    IsPageStatus (out, out') status →
-    IsGuided promises (front_run words (names, names) (source, source) (out, out') (note, note) status)
-paged promises words names source out out' note page status other asks writes is = inl (record {
+pub paged : (promises : Promises) (words : List (List ℕ)) (files : Files) (source out out' note : PortState)
+    (page : List ℕ) (status : Status) → files.1 ≡ files.0 → IsNotPlain words → has_help_word words ≡ true →
+    Writes out out' page → IsPageStatus (out, out') status →
+    IsGuided promises (front_run words files (source, source) (out, out') (note, note) status)
+paged promises words files source out out' note page status same other asks writes is = inl (record {
   other = other;
   asks = asks;
   page = page;
   on_out = writes;
   status_is = is;
-  same = λ name. refl;
+  on_files = same;
   on_source = refl;
   on_note = refl;
 })

@@ -5,7 +5,6 @@ use Rattle.port_io.specs.Faults.{Rose}
 use Rattle.frame_core.specs.declared.status.Status.{Status}
 use Rattle.frame_core.specs.declared.status.Status.TheVariants.{Done, Undecided, WriteFault}
 use Rattle.frame_core.specs.Outside.{PortState, Writes}
-use Rattle.file_io.specs.Names.{SameNames}
 use Rattle.file_io.specs.Served.{Pass, Files}
 use Rattle.front_core.specs.Asked.{IsNotPlain}
 use Rattle.front_core.specs.Front.{Promises, FrontRun, front_run, Ending, IsEnding}
@@ -22,7 +21,7 @@ pub record IsPaged (r : FrontRun) : Type 0 where
   pub page : List ℕ
   pub on_out : Writes r.out.0 r.out.1 page
   pub status_is : IsPageStatus r.out r.status
-  pub same : SameNames r.files.0 r.files.1
+  pub on_files : r.files.1 ≡ r.files.0
   pub on_source : r.source.1 ≡ r.source.0
   pub on_note : r.note.1 ≡ r.note.0
 
