@@ -82,12 +82,12 @@ fn second_of<'a>(
 }
 
 /// Appends the line of a command over the files of its line.
-fn push_of_files<R: Rereads>(
+fn push_of_files<'x, R: Rereads>(
     alloc: Global,
     text: &mut Vec<u8>,
     command: &Command,
-    files: &[String],
-    seen: Option<&[u8]>,
+    files: &'x [String],
+    seen: Option<&'x [u8]>,
     error_line: &[u8],
     reader: &R,
 ) -> Result<(), AllocError> {
@@ -107,11 +107,11 @@ fn push_of_files<R: Rereads>(
 }
 
 /// Appends the line of words that may name files.
-fn push_of_line<R: Rereads>(
+fn push_of_line<'x, R: Rereads>(
     alloc: Global,
     text: &mut Vec<u8>,
-    line: &FileLine,
-    seen: Option<&[u8]>,
+    line: &'x FileLine,
+    seen: Option<&'x [u8]>,
     error_line: &[u8],
     reader: &R,
 ) -> Result<(), AllocError> {
