@@ -42,61 +42,92 @@ fn file_bytes<R: Rereads>(alloc: Global, reader: &R, file: Option<&String>) -> O
     }
 }
 
-/// An input: a file with its bytes, or standard input with what was seen of it.
-fn input_of<'a>(
-    file: Option<&'a String>,
-    bytes: &'a Option<Vec<u8>>,
-    seen: Option<&'a [u8]>,
-) -> Input<'a> {
-    match file {
-        Some(name) if !is_standard(name.as_str()) => Input {
-            name: name.as_bytes(),
-            bytes: match bytes {
-                Some(found) => Some(found.as_slice()),
-                None => None,
-            },
-        },
-        _ => Input {
+/// What was seen of standard input, from the start, and whether that is all that was read.
+#[derive(Clone, Copy)]
+struct Seen<'a> {
+    bytes: &'a [u8],
+    is_whole: bool,
+}
+
+/// Standard input with what was seen of it.
+fn standard_input(seen: Seen<'_>) -> Input<'_> {
+    if seen.is_whole {
+        Input {
             name: b"-",
-            bytes: seen,
+            bytes: Some(seen.bytes),
+        }
+    } else {
+        Input {
+            name: b"-",
+            bytes: None,
+        }
+    }
+}
+
+/// A file with its bytes, if they were read again.
+fn file_input<'a>(name: &'a str, bytes: &'a Option<Vec<u8>>) -> Input<'a> {
+    match bytes {
+        Some(found) => Input {
+            name: name.as_bytes(),
+            bytes: Some(found.as_slice()),
         },
+        None => Input {
+            name: name.as_bytes(),
+            bytes: None,
+        },
+    }
+}
+
+/// An input: a file with its bytes, or standard input with what was seen of it.
+fn input_of<'a>(file: &'a String, bytes: &'a Option<Vec<u8>>, seen: Seen<'a>) -> Input<'a> {
+    if is_standard(file.as_str()) {
+        standard_input(seen)
+    } else {
+        file_input(file.as_str(), bytes)
+    }
+}
+
+/// The first input of a command.
+fn first_of<'a>(files: &'a [String], bytes: &'a Option<Vec<u8>>, seen: Seen<'a>) -> Input<'a> {
+    match files.split_first() {
+        Some((file, _)) => input_of(file, bytes, seen),
+        None => standard_input(seen),
     }
 }
 
 /// The second input of a command: where one text has both netlists, the bytes of the second aren't known apart.
 fn second_of<'a>(
-    command: &Command,
+    files: &'a [String],
     first: Input<'a>,
-    file: Option<&'a String>,
     bytes: &'a Option<Vec<u8>>,
-    seen: Option<&'a [u8]>,
+    seen: Seen<'a>,
 ) -> Input<'a> {
-    match (command, file) {
-        (_, Some(_)) => input_of(file, bytes, seen),
-        (Command::Equiv(_), None) => Input {
+    match files.get(1) {
+        Some(file) => input_of(file, bytes, seen),
+        None => Input {
             name: first.name,
             bytes: None,
         },
-        (_, None) => first,
     }
 }
 
-/// Appends the line of a command over the files of its line.
-fn push_of_files<'x, R: Rereads>(
-    alloc: Global,
+/// Appends the line of a command over the files of its line, of which these bytes were read again.
+fn push_of_inputs<'a>(
     text: &mut Vec<u8>,
     command: &Command,
-    files: &'x [String],
-    seen: Option<&'x [u8]>,
+    files: &'a [String],
+    bytes: &'a Option<Vec<u8>>,
+    other_bytes: &'a Option<Vec<u8>>,
+    seen: &'a [u8],
+    is_whole: bool,
     error_line: &[u8],
-    reader: &R,
 ) -> Result<(), AllocError> {
-    let file = files.first();
-    let other = files.get(1);
-    let bytes = file_bytes(alloc, reader, file);
-    let other_bytes = file_bytes(alloc, reader, other);
-    let first = input_of(file, &bytes, seen);
-    let second = second_of(command, first, other, &other_bytes, seen);
+    let seen = Seen {
+        bytes: seen,
+        is_whole,
+    };
+    let first = first_of(files, bytes, seen);
+    let second = second_of(files, first, other_bytes, seen);
     push_explained(
         text,
         subject_of(command),
@@ -107,26 +138,30 @@ fn push_of_files<'x, R: Rereads>(
 }
 
 /// Appends the line of words that may name files.
-fn push_of_line<'x, R: Rereads>(
+fn push_of_line<R: Rereads>(
     alloc: Global,
     text: &mut Vec<u8>,
-    line: &'x FileLine,
-    seen: Option<&'x [u8]>,
+    line: &FileLine,
+    seen: &[u8],
+    is_whole: bool,
     error_line: &[u8],
     reader: &R,
 ) -> Result<(), AllocError> {
-    match read_words(&line.words) {
-        Ok(command) => push_of_files(
-            alloc,
-            text,
-            &command,
-            &line.operands,
-            seen,
-            error_line,
-            reader,
-        ),
-        Err(_) => Ok(()),
-    }
+    let Ok(command) = read_words(&line.words) else {
+        return Ok(());
+    };
+    let bytes = file_bytes(alloc, reader, line.operands.first());
+    let other_bytes = file_bytes(alloc, reader, line.operands.get(1));
+    push_of_inputs(
+        text,
+        &command,
+        &line.operands,
+        &bytes,
+        &other_bytes,
+        seen,
+        is_whole,
+        error_line,
+    )
 }
 
 /// The line for people of a run without an answer; empty if there is nothing to say.
@@ -148,6 +183,7 @@ fn line_for<S: Recalls, N: Retells, R: Rereads>(
                     &mut text,
                     &line,
                     source.seen(),
+                    source.is_whole(),
                     note.last_line(),
                     reader,
                 )?;

@@ -9,8 +9,11 @@ const MOST_REMEMBERED: usize = 33_554_432;
 
 /// A source that remembers what was read.
 pub trait Recalls: Source {
-    /// What was read, from the start; None if it was more than is remembered.
-    fn seen(&self) -> Option<&[u8]>;
+    /// What was read, from the start, as far as it is remembered.
+    fn seen(&self) -> &[u8];
+
+    /// Whether all that was read is remembered.
+    fn is_whole(&self) -> bool;
 }
 
 /// A sink that remembers the last line that was written.
@@ -62,12 +65,12 @@ impl<S: Source> Source for Remembering<S> {
 }
 
 impl<S: Source> Recalls for Remembering<S> {
-    fn seen(&self) -> Option<&[u8]> {
-        if self.is_whole {
-            Some(&self.seen)
-        } else {
-            None
-        }
+    fn seen(&self) -> &[u8] {
+        &self.seen
+    }
+
+    fn is_whole(&self) -> bool {
+        self.is_whole
     }
 }
 
