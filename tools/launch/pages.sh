@@ -6,7 +6,8 @@ page() {
 batsokemi COMMAND [OPTION VALUE].. [FILE..]
 
 Exact synthesis of Boolean chains with certificates, resynthesis of netlists, and combinational
-equivalence checking. Every function of the program is formally verified.
+equivalence checking. Every function is proved to be safe and to end, and what the program
+answers is proved: docs/GUARANTEES.md.
 
   synth     truth tables -> a chain with the fewest two-input steps, and a certificate that no fewer do
   recheck   a certificate (up to 256 MiB) -> its verdict, if and only if it is valid

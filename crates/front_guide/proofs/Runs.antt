@@ -1,5 +1,6 @@
 -- How a run ends that helps people.
-use Rattle.std.specs.Prelude.{◌≡◌, ◌⊎◌, inl, inr, ℕ, List, Bool, true, false, refl}
+use Rattle.std.specs.Prelude.{◌≡◌, ◌≤◌, ◌⊎◌, ℕ, List, Bool, true, false, refl}
+use Rattle.std.proofs.Common.{inl, inr}
 use Rattle.std.proofs.lemmas.Grind.{common_steps}
 use Rattle.frame_core.specs.declared.status.Status.{Status}
 use Rattle.frame_core.specs.Outside.{PortState, Writes}
@@ -42,13 +43,13 @@ answered promises words files source out note note' status ended = inr (record {
 pub hinted : (promises : Promises) (words : List (List ℕ)) (files : Files) (source out : Pass)
     (note between note' : PortState) (hint : List ℕ) (status : Status) →
     ((ending : Ending) × IsEnding promises (front_run words files source out (note, between) status) ending) →
-    is_found status ≡ false → Writes between note' hint →
+    is_found status ≡ false → Writes between note' hint → between.faults ≤ note'.faults →
     IsGuided promises (front_run words files source out (note, note') status)
-hinted promises words files source out note between note' hint status ended unanswered writes = inr (record {
+hinted promises words files source out note between note' hint status ended unanswered writes rises = inr (record {
   between = between;
   ending = ended.0;
   ended = ended.1;
-  hinted = inr (record { hint = hint; on_note = writes; unanswered = unanswered });
+  hinted = inr (record { hint = hint; on_note = writes; rises = rises; unanswered = unanswered });
 })
 
 pub ruleset guided = (common_steps, paged, answered, hinted)

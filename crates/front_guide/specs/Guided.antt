@@ -1,5 +1,5 @@
 -- How a run ends that helps people.
-use Rattle.std.specs.Prelude.{◌≡◌, ◌⊎◌, List, ℕ, Bool, true, false}
+use Rattle.std.specs.Prelude.{◌≡◌, ◌≤◌, ◌⊎◌, List, ℕ, Bool, true, false}
 use Rattle.port_io.specs.Bytes.{Appends}
 use Rattle.port_io.specs.Faults.{Rose}
 use Rattle.frame_core.specs.declared.status.Status.{Status}
@@ -36,10 +36,11 @@ is_found Done = true
 is_found Undecided = true
 is_found status = false
 
--- A text for people went to the notes, and there is no answer.
+-- A text for people went to the notes, whose count of failed calls never falls, and there is no answer.
 pub record IsHinted (between after : PortState) (status : Status) : Type 0 where
   pub hint : List ℕ
   pub on_note : Writes between after hint
+  pub rises : between.faults ≤ after.faults
   pub unanswered : is_found status ≡ false
 
 -- The run ended, up to a state of its notes; after it came nothing, or a text for people.

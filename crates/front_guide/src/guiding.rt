@@ -1,5 +1,5 @@
 //! A run that helps people.
-ghost use Rattle.std.specs.Prelude.{◌≡◌, map, IfSome, true};
+ghost use Rattle.std.specs.Prelude.{◌≡◌, ◌≤◌, map, IfSome, true};
 ghost use Rattle.std.specs.String.{string_bytes};
 ghost use Rattle.command_line.specs.CommandLine.{spelled};
 ghost use Rattle.file_io.specs.Files.{files_before_after};
@@ -86,7 +86,8 @@ fn write_page<O: Sink>(out: &mut O, page: &[u8]) -> Status
 
 /// Writes a text for people. If that fails, it is ignored: the status of the run is already decided.
 fn write_hint<N: Sink>(note: &mut N, hint: &[u8])
-    ensures { Writes (port_state N.written N.faults note.old) (port_state N.written N.faults note.new) hint.now }
+    ensures text { Writes (port_state N.written N.faults note.old) (port_state N.written N.faults note.new) hint.now }
+    ensures rises { N.faults note.old ≤ N.faults note.new }
 {
     let _ = write_all(note, hint);
 }

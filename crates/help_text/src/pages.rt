@@ -21,7 +21,8 @@ const TOPICS: usize = 22;
 const HEAD: &[u8] = b"batsokemi COMMAND [OPTION VALUE].. [FILE..]
 
 Exact synthesis of Boolean chains with certificates, resynthesis of netlists, and combinational
-equivalence checking. Every function of the program is formally verified.
+equivalence checking. Every function is proved to be safe and to end, and what the program
+answers is proved: docs/GUARANTEES.md says what.
 
 ";
 
