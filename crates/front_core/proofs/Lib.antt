@@ -1,3 +1,4 @@
+pub mod Certifying
 pub mod Endings
 pub mod Pairs
 pub mod Words

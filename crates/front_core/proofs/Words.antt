@@ -87,4 +87,8 @@ pub as_many : (f : String Global → List ℕ) (files : List (String Global)) (m
     nat_le (length files) most ≡ nat_le (length (map f files)) most
 as_many f files most = ap (λ (n : ℕ). nat_le n most) (sym (counted f files))
 
-pub ruleset counting = (common_steps, as_many)
+-- a test by the number of operands
+pub too_many : (n most : ℕ) → most < n → nat_le n most ≡ false
+too_many n most more = omega arith
+
+pub ruleset counting = (common_steps, as_many, too_many)
