@@ -1,11 +1,26 @@
 //! The shown lines of a text so far, as a reader of lines.
-ghost use Rattle.std.specs.Prelude.{◌≡◌, IfOk};
+ghost use Rattle.std.specs.Prelude.{◌≡◌, ◌++◌, IfOk, OnOk};
+ghost use Rattle.text_core.specs.Lines.{line_bytes};
+ghost use Rattle.line_reader.specs.TextLines.{line_of};
 ghost use Rattle.shown_lines.specs.Shown.{shown_text};
 ghost use Rattle.shown_lines.specs.ShownStages.{has_shown, is_stage, held_of};
 
 use crate::lines::is_shown;
 use line_reader::{LineStage, TextLine};
 use std::alloc::{AllocError, Global};
+
+/// Adds a line to a text, as it is written.
+#[tactic(auto, using(crate::proofs::ShownSoFar::writing))]
+fn push_line(text: &mut Vec<u8>, line: &TextLine) -> Result<(), AllocError>
+    ensures { OnOk result (text.new.items ≡ text.old.items ++ line_bytes (line_of line.now)) }
+{
+    text.extend_from_slice(line.text)?;
+    if !line.ended {
+        return Ok(());
+    }
+    text.push(b'\n')?;
+    Ok(())
+}
 
 /// The shown lines so far.
 #[derive(Drop)]
@@ -44,10 +59,7 @@ impl LineStage for ShownStage {
             return Ok(self);
         }
         let mut shown = self.shown;
-        shown.extend_from_slice(line.text)?;
-        if line.ended {
-            shown.push(b'\n')?;
-        }
+        push_line(&mut shown, line)?;
         Ok(ShownStage { shown })
     }
 
