@@ -12,7 +12,8 @@ over bases of every kind (closed under exchange or not, with constants, projecti
 - `recheck` accepts it with its own verdict;
 - each log that refutes is a refutation of the formula of its size and fence, as dimacs.py writes it, and begins at the
   number after the last clause;
-- a solver finds no model of a formula that is refuted, and a model of that of the chain's size.
+- a solver finds no model of a formula that is refuted, and a model of that of the chain's size;
+- `formula`, where the program has it, writes each formula and log byte for byte as dimacs.py does.
 
 The others are pairs of netlists with repeated, constant and unused inputs and latches: one with its tables in another
 order, what `improve` makes of it, or with a cover line changed. `equal` is judged as above over the miter of miter.py;
@@ -38,6 +39,7 @@ HERE = os.path.dirname(os.path.realpath(__file__))
 METHODS = ('plain', 'ssv', 'select', 'fence')
 BASES = ('all', 'u2', 'bench', 'nand')
 SECONDS = 100
+USAGE = 1
 
 
 class Fault(Exception):
@@ -117,6 +119,23 @@ class Judge:
 
     def __init__(self, program, checker, solver):
         self.program, self.checker, self.solver = program, checker, solver
+        self.writes = run([program, 'formula'])[0] != USAGE
+
+    def same(self, path, size, part, formula, lines, folder):
+        """Asks that the program writes a part of a certificate as dimacs.py does."""
+        if not self.writes:
+            return
+        log = os.path.join(folder, 'written')
+        words = ['formula', '--size', f'{size}', '--part', f'{part}', '--log', log, path]
+        status, text, notes = run([self.program, *words])
+        if status != 0:
+            raise Fault(f'formula: status {status}, {notes.strip()}')
+        with open(log, encoding='ascii') as file:
+            written = file.read()
+        if text != formula:
+            raise Fault('the formula of `formula` differs from that of dimacs.py')
+        if written != ''.join(f'{line}\n' for line in lines):
+            raise Fault('the log of `formula` differs from that of dimacs.py')
 
     def refutes(self, formula, lines, folder):
         """Asks that a log refutes a formula, and begins behind its last clause."""
@@ -161,15 +180,21 @@ def synthesis(judge, source, folder):
     if said[:2] != (status, f'{lines[-2]}\n') and said[:2] != (0, f'{lines[-2]}\n'):
         raise Fault(f'{words}: recheck says {said}')
     certificate = dimacs.Certificate(lines)
+    path = os.path.join(folder, 'certificate')
+    with open(path, 'w', encoding='ascii') as file:
+        file.write(text)
     sizes = set()
     for part in certificate.parts:
         sizes.add(part.size)
-        if part.ended == 'refuted':
-            formula = dimacs.formula_of(certificate.tables, certificate.basis, method, part.size, part.fence)
-            try:
-                judge.refutes(dimacs.dimacs(formula), part.log or dimacs.empty(formula), folder)
-            except Fault as fault:
-                raise Fault(f'{words}, {rows}, size {part.size}, fence {part.fence}: {fault}') from fault
+        formula = dimacs.formula_of(certificate.tables, certificate.basis, method, part.size, part.fence)
+        plain, log = dimacs.dimacs(formula), part.log or dimacs.empty(formula)
+        number = certificate.parts_of(part.size).index(part) + 1
+        try:
+            judge.same(path, part.size, number, plain, log, folder)
+            if part.ended == 'refuted':
+                judge.refutes(plain, log, folder)
+        except Fault as fault:
+            raise Fault(f'{words}, {rows}, size {part.size}, fence {part.fence}: {fault}') from fault
     if lines[-2].startswith('minimum') and method != 'fence':
         formula = dimacs.formula_of(certificate.tables, certificate.basis, method, len(sizes), None)
         judge.has_model(dimacs.dimacs(formula), folder)

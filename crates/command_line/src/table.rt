@@ -93,6 +93,7 @@ pub(crate) fn takes(kind: OptionKind, name: &[u8]) -> bool
                 || is_word(name, MAX)
                 || is_word(name, CONFLICTS)
                 || is_word(name, LEAST_DEPTH)
+                || is_word(name, EFFORT)
         }
         OptionKind::Improve => {
             is_word(name, BASIS)
@@ -103,6 +104,7 @@ pub(crate) fn takes(kind: OptionKind, name: &[u8]) -> bool
                 || is_word(name, FORMAT)
                 || is_word(name, OBSERVE)
                 || is_word(name, EFFORT)
+                || is_word(name, SEED)
         }
         OptionKind::Equiv => is_word(name, CONFLICTS),
         OptionKind::Gen => is_word(name, BLOCKS) || is_word(name, RUN),

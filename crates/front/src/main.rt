@@ -1,8 +1,12 @@
-//! The program `front`: `batsokemi` with files that are named. It collects the arguments, wraps the standard streams
-//! in ports, hands over the files of the system, and calls `front_app::serve`.
+//! The program `front`: `batsokemi` with files that are named, and help for people. It collects the arguments, wraps
+//! the standard streams in ports that remember what went through them, hands over the files of the system, and
+//! calls `front_app::serve`.
 #![tactic(auto)]
 
-use front_app::{Status, serve};
+mod rereading;
+
+use crate::rereading::Rereading;
+use front_app::{Remembering, Retelling, Status, serve};
 use port_io::{InputPort, OutputPort};
 use std::process::ExitCode;
 use std::{env, io};
@@ -23,10 +27,11 @@ fn main(rt: HostRuntime) -> ExitCode {
         Ok(words) => words,
         Err(status) => return ExitCode::from(status.number()),
     };
-    let mut source = InputPort::new(rt.stdin());
+    let mut source = Remembering::new(rt.alloc(), InputPort::new(rt.stdin()));
     let mut out = OutputPort::new(rt.stdout());
-    let mut note = OutputPort::new(rt.stderr());
+    let mut note = Retelling::new(rt.alloc(), OutputPort::new(rt.stderr()));
     let mut files = SystemFiles::new(&rt);
+    let reader = Rereading::new(&rt);
     let status = serve(
         rt.alloc(),
         &words,
@@ -34,6 +39,7 @@ fn main(rt: HostRuntime) -> ExitCode {
         &mut source,
         &mut out,
         &mut note,
+        &reader,
     );
     ExitCode::from(status.number())
 }

@@ -4,7 +4,8 @@ ghost use Rattle.command_line.specs.CommandLine.{spelled};
 ghost use Rattle.frame_core.specs.Run.{before_after};
 ghost use Rattle.chain_app.specs.KeepsPromises.{KeepsPromises};
 ghost use Rattle.file_io.specs.Files.{files_before_after};
-ghost use Rattle.front_core.specs.Front.{Ending, IsEnding, front_run, promised_by};
+ghost use Rattle.front_core.specs.Front.{front_run, promised_by};
+ghost use Rattle.front_guide.specs.Guided.{IsGuided};
 ghost use Rattle.front_app.specs.Comparison.{KeepsComparison};
 
 use cdcl_core::Cdcl;
@@ -12,6 +13,7 @@ use cmd_equiv::EquivWith;
 use file_io::Outside;
 use frame_core::{AtOnce, Status, perform};
 use front_core::Program;
+use front_guide::{Recalls, Rereads, Retells, guide};
 use port_io::{Sink, Source};
 use std::alloc::Global;
 use std::marker::PhantomData;
@@ -56,21 +58,23 @@ impl Program for Strict {
 }
 
 /// Runs the command that the words ask for: over the files that they name, or else over `source` and `out`. A report,
-/// and one error line if there is no answer, go to `note`.
-pub fn serve<W: Outside, S: Source, O: Sink, N: Sink>(
+/// and one error line if there is no answer, go to `note`; after the error line comes one for people. Words that ask
+/// for help get a page.
+pub fn serve<W: Outside, S: Recalls, O: Sink, N: Retells, R: Rereads>(
     alloc: Global,
     words: &Vec<String>,
     outside: &mut W,
     source: &mut S,
     out: &mut O,
     note: &mut N,
+    reader: &R,
 ) -> Status
-    ensures { (ending : Ending) × IsEnding (promised_by KeepsPromises KeepsComparison) (front_run (spelled words.now)
+    ensures { IsGuided (promised_by KeepsPromises KeepsComparison) (front_run (spelled words.now)
         (files_before_after W.holds W.faults outside.old outside.new)
         (before_after S.left S.faults source.old source.new)
         (before_after O.written O.faults out.old out.new)
         (before_after N.written N.faults note.old note.new)
-        result) ending }
+        result) }
 {
-    front_core::serve::<Strict, W, S, O, N>(alloc, words, outside, source, out, note)
+    guide::<Strict, W, S, O, N, R>(alloc, words, outside, source, out, note, reader)
 }

@@ -1,0 +1,4 @@
+pub mod Choosing
+pub mod Finding
+pub mod Wording
+pub mod Written

@@ -1,0 +1,11 @@
+pub mod Claimed
+pub mod Dimacs
+pub mod FormulaLaws
+pub mod FormulaReport
+pub mod LineLaws
+pub mod LogLines
+pub mod PartLaws
+pub mod Parts
+pub mod PlainLogs
+pub mod WordValues
+pub mod Words

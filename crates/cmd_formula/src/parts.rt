@@ -1,0 +1,11 @@
+//! Which part of a certificate is asked for.
+
+/// A part of a certificate. Without a size it is one of the last size that has a section. Parts are numbered from 1 on;
+/// with all methods but `fence` a size has one.
+#[derive(Clone, Copy)]
+pub struct PartAsked {
+    /// The size.
+    pub size: Option<u32>,
+    /// The part of the size.
+    pub part: u32,
+}

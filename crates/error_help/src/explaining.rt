@@ -1,0 +1,254 @@
+//! The line for people after an error line.
+
+use crate::expected::{Entry, Place, Subject, entry_of, most_bytes, step_entry, word_entry};
+use crate::finding::line_of;
+use crate::interfaces::push_difference;
+use crate::netlists::{Role, line_of_name};
+use crate::tokens::{Separators, next_token};
+use help_text::{Part, push_parts, push_quoted};
+use std::alloc::AllocError;
+use text_core::{after, number_up_to};
+
+/// An input of a command.
+#[derive(Clone, Copy)]
+pub struct Input<'a> {
+    /// Its name; `-` for standard input.
+    pub name: &'a [u8],
+    /// Its bytes, if they are known.
+    pub bytes: Option<&'a [u8]>,
+}
+
+/// The inputs of a command. Of a command with one input both are the same.
+#[derive(Clone, Copy)]
+pub struct Inputs<'a> {
+    /// The first, or the only one.
+    pub first: Input<'a>,
+    /// The second.
+    pub second: Input<'a>,
+}
+
+/// A fault as an error line names it: its name and what comes after that.
+#[derive(Clone, Copy)]
+struct Fault<'a> {
+    name: &'a [u8],
+    fields: &'a [u8],
+}
+
+/// The first word of an error line, and the rest.
+fn fault_of(line: &[u8]) -> Fault<'_> {
+    let (name, fields) = next_token(Separators::Blanks, line);
+    Fault { name, fields }
+}
+
+/// The number that comes next, and what comes after it; 0 if there is none.
+fn number_of(fields: &[u8]) -> (u32, &[u8]) {
+    let (word, rest) = next_token(Separators::Blanks, fields);
+    (number_up_to(u32::MAX, word).unwrap_or(0), rest)
+}
+
+/// Appends the name of an input and a line of it; 0 stands for no line.
+fn push_place(text: &mut Vec<u8>, input: Input, line: u32) -> Result<(), AllocError> {
+    push_quoted(text, input.name)?;
+    if line > 0 {
+        push_parts(text, &[Part::Text(b":"), Part::Number(line)])?;
+    }
+    text.extend_from_slice(b": ")
+}
+
+/// Appends the bytes of a line, and what is wrong with its end.
+fn push_line(text: &mut Vec<u8>, bytes: &[u8], line: u32) -> Result<(), AllocError> {
+    let Some(found) = line_of(bytes, line) else {
+        return text.extend_from_slice(b"the text ends before this line: ");
+    };
+    push_quoted(text, found.bytes)?;
+    if found.bytes.is_empty() {
+        text.extend_from_slice(b"an empty line")?;
+    }
+    if !found.is_ended {
+        text.extend_from_slice(b" (without LF at its end)")?;
+    }
+    text.extend_from_slice(b": ")
+}
+
+/// Appends what stands on a line of an input, if that is known.
+fn push_standing(text: &mut Vec<u8>, input: Input, line: u32) -> Result<(), AllocError> {
+    match input.bytes {
+        Some(bytes) if line > 0 => push_line(text, bytes, line),
+        _ => Ok(()),
+    }
+}
+
+/// Appends an entry about a line.
+fn push_at(text: &mut Vec<u8>, input: Input, line: u32, says: &[Part]) -> Result<(), AllocError> {
+    push_place(text, input, line)?;
+    push_standing(text, input, line)?;
+    push_parts(text, says)
+}
+
+/// Appends an entry about a word on a line, or about the line if there is no word.
+fn push_at_word(
+    text: &mut Vec<u8>,
+    input: Input,
+    line: u32,
+    word: &[u8],
+    says: &[Part],
+) -> Result<(), AllocError> {
+    if word.is_empty() {
+        return push_at(text, input, line, says);
+    }
+    push_place(text, input, line)?;
+    push_quoted(text, word)?;
+    text.extend_from_slice(b": ")?;
+    push_parts(text, says)
+}
+
+/// Appends an entry about a name of a netlist.
+fn push_at_name(
+    text: &mut Vec<u8>,
+    subject: Subject,
+    input: Input,
+    fields: &[u8],
+    role: Role,
+    says: &[Part],
+) -> Result<(), AllocError> {
+    let (name, _) = next_token(Separators::Blanks, fields);
+    let separators = match subject {
+        Subject::Bench => Separators::Bench,
+        _ => Separators::Blanks,
+    };
+    let line = match input.bytes {
+        Some(bytes) => line_of_name(separators, bytes, name, role).unwrap_or(0),
+        None => 0,
+    };
+    push_at_word(text, input, line, name, says)
+}
+
+/// Appends what an entry says of a fault.
+fn push_entry(
+    text: &mut Vec<u8>,
+    subject: Subject,
+    input: Input,
+    entry: Entry,
+    fields: &[u8],
+) -> Result<(), AllocError> {
+    match entry.place {
+        Place::Line => {
+            let (line, rest) = number_of(fields);
+            let (word, _) = next_token(Separators::Blanks, rest);
+            let says = match word_entry(word) {
+                Some(about) => about.says,
+                None => entry.says,
+            };
+            push_at_word(text, input, line, word, says)
+        }
+        Place::At(line) => push_at(text, input, line, entry.says),
+        Place::Read => push_at_name(text, subject, input, fields, Role::Read, entry.says),
+        Place::Driven => push_at_name(text, subject, input, fields, Role::Driven, entry.says),
+        Place::DrivenAgain => {
+            push_at_name(text, subject, input, fields, Role::DrivenAgain, entry.says)
+        }
+        Place::Counted => {
+            let (count, _) = number_of(fields);
+            push_place(text, input, 0)?;
+            push_parts(text, &[Part::Number(count)])?;
+            push_parts(text, entry.says)
+        }
+        Place::Nowhere => {
+            push_place(text, input, 0)?;
+            push_parts(text, entry.says)
+        }
+    }
+}
+
+/// Appends what was expected of a line of a log.
+fn push_step(text: &mut Vec<u8>, input: Input, fields: &[u8]) -> Result<(), AllocError> {
+    let (line, rest) = number_of(fields);
+    let (name, _) = next_token(Separators::Blanks, rest);
+    match step_entry(name) {
+        Some(entry) => push_at(text, input, line, entry.says),
+        None => push_at(text, input, line, &[]),
+    }
+}
+
+/// Appends that an input is too long.
+fn push_too_long(text: &mut Vec<u8>, subject: Subject, input: Input) -> Result<(), AllocError> {
+    push_place(text, input, 0)?;
+    push_parts(
+        text,
+        &[
+            Part::Text(b"at most "),
+            Part::Count(most_bytes(subject)),
+            Part::Text(b" bytes are read"),
+        ],
+    )
+}
+
+/// Appends what was expected, and returns whether there is anything to say.
+fn push_fault(
+    text: &mut Vec<u8>,
+    subject: Subject,
+    input: Input,
+    fault: Fault,
+) -> Result<bool, AllocError> {
+    if fault.name == b"TooLong".as_slice() {
+        push_too_long(text, subject, input)?;
+        return Ok(true);
+    }
+    if fault.name == b"StepRefused".as_slice() {
+        push_step(text, input, fault.fields)?;
+        return Ok(true);
+    }
+    match entry_of(subject, fault.name) {
+        Some(entry) => {
+            push_entry(text, subject, input, entry, fault.fields)?;
+            Ok(true)
+        }
+        None => Ok(false),
+    }
+}
+
+/// Appends what was expected of an input of two, or of the certificate within another, or of the only one.
+fn push_led(
+    text: &mut Vec<u8>,
+    subject: Subject,
+    line: &[u8],
+    inputs: &Inputs,
+) -> Result<bool, AllocError> {
+    let fault = fault_of(line);
+    if fault.name == b"First".as_slice() {
+        return push_fault(text, Subject::Blif, inputs.first, fault_of(fault.fields));
+    }
+    if fault.name == b"Second".as_slice() {
+        return push_fault(text, Subject::Blif, inputs.second, fault_of(fault.fields));
+    }
+    if fault.name == b"Certificate".as_slice() || fault.name == b"Bundle".as_slice() {
+        return push_fault(
+            text,
+            Subject::Certificate,
+            inputs.first,
+            fault_of(fault.fields),
+        );
+    }
+    if fault.name == b"DifferentInterface".as_slice() && push_difference(text, inputs)? {
+        return Ok(true);
+    }
+    push_fault(text, subject, inputs.first, fault)
+}
+
+/// Appends the line for people to an error line: the file, the line, what stands there, and what was expected.
+/// Returns whether there is one; if there is none, nothing is appended.
+pub fn push_explained(
+    text: &mut Vec<u8>,
+    subject: Subject,
+    error_line: &[u8],
+    inputs: &Inputs,
+) -> Result<bool, AllocError> {
+    let Some(line) = after(b"error: ", error_line) else {
+        return Ok(false);
+    };
+    let is_explained = push_led(text, subject, line, inputs)?;
+    if is_explained {
+        text.push(b'\n')?;
+    }
+    Ok(is_explained)
+}

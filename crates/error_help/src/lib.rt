@@ -1,0 +1,25 @@
+//! What people read after an error line: the file and the line, what stands there, and what was expected.
+//!
+//! `expected` is the table: for each fault that a command names, what it expected, with the limit where there is one,
+//! and how the place of the fault is found. `explain` makes a line of it, in the form that editors jump to. It reads
+//! the error line as programs do, and the text of the input where that is known. Nothing is proved of what it says;
+//! it changes nothing, and ends.
+//!
+//! ```text
+//! let inputs = Inputs { first: Input { name: b"adder.blif", bytes: Some(&text) }, second: .. };
+//! push_explained(&mut line, Subject::Blif, b"error: NotSupported 10 .subckt\n", &inputs)?;
+//! // adder.blif:10: .subckt: a netlist of one model without hierarchy is read; yosys: flatten; techmap
+//! ```
+#![tactic(auto)]
+
+mod chain_faults;
+mod expected;
+mod explaining;
+mod finding;
+mod interfaces;
+mod net_faults;
+mod netlists;
+mod tokens;
+
+pub use expected::{Subject, has_entry, has_step_entry};
+pub use explaining::{Input, Inputs, push_explained};

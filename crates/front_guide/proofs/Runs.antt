@@ -1,0 +1,54 @@
+-- How a run ends that helps people.
+use Rattle.std.specs.Prelude.{◌≡◌, ◌⊎◌, inl, inr, ℕ, List, Bool, true, false, refl}
+use Rattle.std.proofs.lemmas.Grind.{common_steps}
+use Rattle.frame_core.specs.declared.status.Status.{Status}
+use Rattle.frame_core.specs.Outside.{PortState, Writes}
+use Rattle.file_io.specs.Files.{Files}
+use Rattle.file_io.specs.Served.{Pass}
+use Rattle.front_core.specs.Asked.{IsNotPlain}
+use Rattle.front_core.specs.Front.{Promises, front_run, Ending, IsEnding}
+use Rattle.front_guide.specs.Words.{has_help_word}
+use Rattle.front_guide.specs.Guided.{IsPageStatus, IsPaged, IsHinted, IsHelped, IsGuided, is_found}
+
+-- a page was written
+pub paged : (promises : Promises) (words : List (List ℕ)) (files : Files) (source out out' note : PortState)
+    (page : List ℕ) (status : Status) → files.1 ≡ files.0 → IsNotPlain words → has_help_word words ≡ true →
+    Writes out out' page → IsPageStatus (out, out') status →
+    IsGuided promises (front_run words files (source, source) (out, out') (note, note) status)
+paged promises words files source out out' note page status same other asks writes is = inl (record {
+  other = other;
+  asks = asks;
+  page = page;
+  on_out = writes;
+  status_is = is;
+  on_files = same;
+  on_source = refl;
+  on_note = refl;
+})
+
+-- the command had an answer, and nothing came after it
+pub answered : (promises : Promises) (words : List (List ℕ)) (files : Files) (source out : Pass) (note note' : PortState)
+    (status : Status) →
+    ((ending : Ending) × IsEnding promises (front_run words files source out (note, note') status) ending) →
+    IsGuided promises (front_run words files source out (note, note') status)
+answered promises words files source out note note' status ended = inr (record {
+  between = note';
+  ending = ended.0;
+  ended = ended.1;
+  hinted = inl refl;
+})
+
+-- a text for people came after it
+pub hinted : (promises : Promises) (words : List (List ℕ)) (files : Files) (source out : Pass)
+    (note between note' : PortState) (hint : List ℕ) (status : Status) →
+    ((ending : Ending) × IsEnding promises (front_run words files source out (note, between) status) ending) →
+    is_found status ≡ false → Writes between note' hint →
+    IsGuided promises (front_run words files source out (note, note') status)
+hinted promises words files source out note between note' hint status ended unanswered writes = inr (record {
+  between = between;
+  ending = ended.0;
+  ended = ended.1;
+  hinted = inr (record { hint = hint; on_note = writes; unanswered = unanswered });
+})
+
+pub ruleset guided = (common_steps, paged, answered, hinted)

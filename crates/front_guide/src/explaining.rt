@@ -1,0 +1,211 @@
+//! The line for people after an error line.
+
+use crate::remembering::{Recalls, Retells};
+use command_line::{Command, Format, read_words};
+use error_help::{Input, Inputs, Subject, push_explained};
+use file_words::{FileLine, is_standard, read_line};
+use frame_core::Status;
+use help_text::push_wrong_words;
+use std::alloc::{AllocError, Global};
+
+/// Reads files again that were named.
+pub trait Rereads {
+    /// The bytes of a plain file; None if it is none, too long, or can't be read.
+    fn reread(&self, alloc: Global, name: &str) -> Option<Vec<u8>>;
+}
+
+/// What a command reads.
+fn subject_of(command: &Command) -> Subject {
+    match command {
+        Command::Synth(_) | Command::LeastDepth(_) => Subject::Tables,
+        Command::Agree => Subject::Question,
+        Command::Recheck => Subject::Certificate,
+        Command::RecheckDepth => Subject::Depth,
+        Command::Improve {
+            format: Format::Bench,
+            settings: _,
+        } => Subject::Bench,
+        Command::Improve {
+            format: Format::Blif,
+            settings: _,
+        } => Subject::Blif,
+        Command::Gen { .. } => Subject::Blif,
+        Command::Equiv(_) => Subject::Pair,
+    }
+}
+
+/// The bytes of a file that was named; None for standard input.
+fn file_bytes<R: Rereads>(alloc: Global, reader: &R, file: Option<&String>) -> Option<Vec<u8>> {
+    match file {
+        Some(name) if !is_standard(name.as_str()) => reader.reread(alloc, name.as_str()),
+        _ => None,
+    }
+}
+
+/// What was seen of standard input, from the start, and whether that is all that was read.
+#[derive(Clone, Copy)]
+struct Seen<'a> {
+    bytes: &'a [u8],
+    is_whole: bool,
+}
+
+/// Standard input with what was seen of it.
+fn standard_input(seen: Seen<'_>) -> Input<'_> {
+    if seen.is_whole {
+        Input {
+            name: b"-",
+            bytes: Some(seen.bytes),
+        }
+    } else {
+        Input {
+            name: b"-",
+            bytes: None,
+        }
+    }
+}
+
+/// A file with its bytes, if they were read again.
+fn file_input<'a>(name: &'a str, bytes: &'a Option<Vec<u8>>) -> Input<'a> {
+    match bytes {
+        Some(found) => Input {
+            name: name.as_bytes(),
+            bytes: Some(found.as_slice()),
+        },
+        None => Input {
+            name: name.as_bytes(),
+            bytes: None,
+        },
+    }
+}
+
+/// An input: a file with its bytes, or standard input with what was seen of it.
+fn input_of<'a>(file: &'a String, bytes: &'a Option<Vec<u8>>, seen: Seen<'a>) -> Input<'a> {
+    if is_standard(file.as_str()) {
+        standard_input(seen)
+    } else {
+        file_input(file.as_str(), bytes)
+    }
+}
+
+/// The first input of a command.
+fn first_of<'a>(files: &'a [String], bytes: &'a Option<Vec<u8>>, seen: Seen<'a>) -> Input<'a> {
+    match files.split_first() {
+        Some((file, _)) => input_of(file, bytes, seen),
+        None => standard_input(seen),
+    }
+}
+
+/// The second input of a command: where one text has both netlists, the bytes of the second aren't known apart.
+fn second_of<'a>(
+    files: &'a [String],
+    first: Input<'a>,
+    bytes: &'a Option<Vec<u8>>,
+    seen: Seen<'a>,
+) -> Input<'a> {
+    match files.get(1) {
+        Some(file) => input_of(file, bytes, seen),
+        None => Input {
+            name: first.name,
+            bytes: None,
+        },
+    }
+}
+
+/// Appends the line of a command over the files of its line, of which these bytes were read again.
+fn push_of_inputs<'a>(
+    text: &mut Vec<u8>,
+    command: &Command,
+    files: &'a [String],
+    bytes: &'a Option<Vec<u8>>,
+    other_bytes: &'a Option<Vec<u8>>,
+    seen: &'a [u8],
+    is_whole: bool,
+    error_line: &[u8],
+) -> Result<(), AllocError> {
+    let seen = Seen {
+        bytes: seen,
+        is_whole,
+    };
+    let first = first_of(files, bytes, seen);
+    let second = second_of(files, first, other_bytes, seen);
+    push_explained(
+        text,
+        subject_of(command),
+        error_line,
+        &Inputs { first, second },
+    )?;
+    Ok(())
+}
+
+/// Appends the line of words that may name files.
+fn push_of_line<R: Rereads>(
+    alloc: Global,
+    text: &mut Vec<u8>,
+    line: &FileLine,
+    seen: &[u8],
+    is_whole: bool,
+    error_line: &[u8],
+    reader: &R,
+) -> Result<(), AllocError> {
+    let Ok(command) = read_words(&line.words) else {
+        return Ok(());
+    };
+    let bytes = file_bytes(alloc, reader, line.operands.first());
+    let other_bytes = file_bytes(alloc, reader, line.operands.get(1));
+    push_of_inputs(
+        text,
+        &command,
+        &line.operands,
+        &bytes,
+        &other_bytes,
+        seen,
+        is_whole,
+        error_line,
+    )
+}
+
+/// The line for people of a run without an answer; empty if there is nothing to say.
+fn line_for<S: Recalls, N: Retells, R: Rereads>(
+    alloc: Global,
+    words: &Vec<String>,
+    status: Status,
+    source: &S,
+    note: &N,
+    reader: &R,
+) -> Result<Vec<u8>, AllocError> {
+    let mut text = Vec::new(alloc);
+    match status {
+        Status::Usage => push_wrong_words(&mut text, words)?,
+        Status::Malformed | Status::Limit | Status::Refused => {
+            if let Some(line) = read_line(alloc, words)? {
+                push_of_line(
+                    alloc,
+                    &mut text,
+                    &line,
+                    source.seen(),
+                    source.is_whole(),
+                    note.last_line(),
+                    reader,
+                )?;
+            }
+        }
+        Status::Done | Status::Undecided => {}
+        Status::ReadFault | Status::WriteFault | Status::Memory => {}
+    }
+    Ok(text)
+}
+
+/// The same; empty if memory runs out.
+pub(crate) fn people_line<S: Recalls, N: Retells, R: Rereads>(
+    alloc: Global,
+    words: &Vec<String>,
+    status: Status,
+    source: &S,
+    note: &N,
+    reader: &R,
+) -> Vec<u8> {
+    match line_for(alloc, words, status, source, note, reader) {
+        Ok(text) => text,
+        Err(_) => Vec::new(alloc),
+    }
+}

@@ -1,0 +1,134 @@
+//! A run that helps people.
+ghost use Rattle.std.specs.Prelude.{◌≡◌, map, IfSome, true};
+ghost use Rattle.std.specs.String.{string_bytes};
+ghost use Rattle.command_line.specs.CommandLine.{spelled};
+ghost use Rattle.file_io.specs.Files.{files_before_after};
+ghost use Rattle.command_line.specs.Options.{is_word as is_word_of};
+ghost use Rattle.frame_core.specs.Outside.{port_state, Writes};
+ghost use Rattle.frame_core.specs.Run.{before_after};
+ghost use Rattle.front_core.specs.Asked.{IsNotPlain};
+ghost use Rattle.front_core.specs.Front.{front_run, promised_by};
+ghost use Rattle.front_guide.specs.Guided.{IsPageStatus, IsGuided, is_found as is_found_of};
+ghost use Rattle.front_guide.specs.Words as spec;
+
+use crate::explaining::{Rereads, people_line};
+use crate::remembering::{Recalls, Retells};
+use command_line::read_words;
+use file_io::Outside;
+use frame_core::Status;
+use front_core::{Program, serve};
+use help_text::asked_page;
+use port_io::{Sink, WriteFault, write_all};
+use std::alloc::Global;
+
+/// Whether two words are the same.
+fn is_word(word: &[u8], name: &[u8]) -> bool
+    ensures { result ≡ is_word_of word.now name.now }
+{
+    word == name
+}
+
+/// Whether a word asks for help.
+fn is_help_word(word: &[u8]) -> bool
+    ensures { result ≡ spec.is_help_word word.now }
+{
+    is_word(word, b"help")
+        || is_word(word, b"--help")
+        || is_word(word, b"-h")
+        || is_word(word, b"--version")
+}
+
+/// Whether one of some words asks for help.
+#[tactic(auto, unfolding(crate::specs::Words::has_help_word))]
+fn has_help_word(words: &[String]) -> bool
+    ensures { result ≡ spec.has_help_word (map string_bytes words.now) }
+{
+    let mut left = words;
+    while let Some((word, rest)) = left.split_first() {
+        if is_help_word(word.as_bytes()) {
+            return true;
+        }
+        left = rest;
+    }
+    false
+}
+
+/// The page that words ask for; None if they ask for none, or memory runs out.
+fn page_of(alloc: Global, words: &Vec<String>) -> Option<Vec<u8>> {
+    asked_page(alloc, words).unwrap_or(None)
+}
+
+/// The page that words ask for which are no command line; None if they ask for none, or memory runs out.
+#[tactic(auto, using(crate::proofs::Pages::asking))]
+fn page_for(alloc: Global, words: &Vec<String>) -> Option<Vec<u8>>
+    ensures other { IfSome result (λ _. IsNotPlain (spelled words.now)) }
+    ensures asks { IfSome result (λ _. spec.has_help_word (spelled words.now) ≡ true) }
+{
+    if !has_help_word(words) {
+        return None;
+    }
+    match read_words(words) {
+        Ok(_) => None,
+        Err(_) => page_of(alloc, words),
+    }
+}
+
+/// Writes a page.
+fn write_page<O: Sink>(out: &mut O, page: &[u8]) -> Status
+    ensures text { Writes (port_state O.written O.faults out.old) (port_state O.written O.faults out.new) page.now }
+    ensures status { IsPageStatus (before_after O.written O.faults out.old out.new) result }
+{
+    match write_all(out, page) {
+        Ok(()) => Status::Done,
+        Err(WriteFault::WriteFault) => Status::WriteFault,
+    }
+}
+
+/// Writes a text for people. If that fails, it is ignored: the status of the run is already decided.
+fn write_hint<N: Sink>(note: &mut N, hint: &[u8])
+    ensures { Writes (port_state N.written N.faults note.old) (port_state N.written N.faults note.new) hint.now }
+{
+    let _ = write_all(note, hint);
+}
+
+/// Whether a command found an answer of its own.
+fn is_found(status: Status) -> bool
+    ensures { result ≡ is_found_of status }
+{
+    match status {
+        Status::Done | Status::Undecided => true,
+        Status::Usage | Status::Malformed | Status::Limit | Status::Refused => false,
+        Status::ReadFault | Status::WriteFault | Status::Memory => false,
+    }
+}
+
+/// Writes the page that words ask for; or runs the command that they ask for, and where it has no answer, writes a line
+/// for people after the error line.
+#[tactic(auto, using(crate::proofs::Runs::guided))]
+pub fn guide<P: Program, W: Outside, S: Recalls, O: Sink, N: Retells, R: Rereads>(
+    alloc: Global,
+    words: &Vec<String>,
+    outside: &mut W,
+    source: &mut S,
+    out: &mut O,
+    note: &mut N,
+    reader: &R,
+) -> Status
+    ensures { IsGuided (promised_by P.keeps P.compares) (front_run (spelled words.now)
+        (files_before_after W.holds W.faults outside.old outside.new)
+        (before_after S.left S.faults source.old source.new)
+        (before_after O.written O.faults out.old out.new)
+        (before_after N.written N.faults note.old note.new)
+        result) }
+{
+    if let Some(page) = page_for(alloc, words) {
+        return write_page(out, &page);
+    }
+    let status = serve::<P, W, S, O, N>(alloc, words, outside, source, out, note);
+    if is_found(status) {
+        return status;
+    }
+    let hint = people_line(alloc, words, status, source, note, reader);
+    write_hint(note, &hint);
+    status
+}

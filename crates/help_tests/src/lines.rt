@@ -1,0 +1,107 @@
+//! Lines after error lines, as a table.
+
+use error_help::{Input, Inputs, Subject, push_explained};
+use std::alloc::Global;
+
+/// Whether this is the line after an error line, where both inputs are of this text; none if it is empty.
+fn is_explained(
+    alloc: Global,
+    subject: Subject,
+    error_line: &str,
+    text: &str,
+    wanted: &str,
+) -> bool {
+    let first = Input {
+        name: b"a",
+        bytes: Some(text.as_bytes()),
+    };
+    let second = Input {
+        name: b"b",
+        bytes: Some(text.as_bytes()),
+    };
+    let mut line = Vec::new(alloc);
+    match push_explained(
+        &mut line,
+        subject,
+        error_line.as_bytes(),
+        &Inputs { first, second },
+    ) {
+        Ok(is_there) => { is_there != wanted.is_empty() && line.as_slice() == wanted.as_bytes() }
+        Err(_) => false,
+    }
+}
+
+const NETLIST: &str =
+    ".inputs a b\n.outputs y \\\nz\n.subckt x\n.names a b y\n11 1\n.names q y\n1 1\n.names a \\\nb z\n";
+
+const GATES: &str = "INPUT(a)\nOUTPUT(y)\ny = AND(a, b)\ny = OR(a, a)";
+
+/// What is read, the error line, the text, and the line after it.
+const LINES: &[(Subject, &str, &str, &str)] = &[
+    (
+        Subject::Blif,
+        "error: NotSupported 4 .subckt",
+        NETLIST,
+        "a:4: .subckt: a netlist of one model without hierarchy is read; yosys: flatten; techmap\n",
+    ),
+    (
+        Subject::Blif,
+        "error: Undriven q",
+        NETLIST,
+        "a:7: q: an input, a table or gate, or a latch drives each name that is read\n",
+    ),
+    (
+        Subject::Blif,
+        "error: DrivenTwice y",
+        NETLIST,
+        "a:7: y: a name is driven once: by an input, a table or gate, or a latch\n",
+    ),
+    (
+        Subject::Blif,
+        "error: Cycle z",
+        NETLIST,
+        "a:9: z: tables and gates form no loop; a latch breaks one\n",
+    ),
+    (
+        Subject::Blif,
+        "error: TooManyGates 101873",
+        NETLIST,
+        "a: 101873 gates; at most 100000\n",
+    ),
+    (
+        Subject::Bench,
+        "error: DrivenTwice y",
+        GATES,
+        "a:4: y: a name is driven once: by an input, a table or gate, or a latch\n",
+    ),
+    (
+        Subject::Pair,
+        "error: Second Undriven q",
+        NETLIST,
+        "b:7: q: an input, a table or gate, or a latch drives each name that is read\n",
+    ),
+    (
+        Subject::Tables,
+        "error: TooManyInputs",
+        "inputs 7\n",
+        "a:1: inputs 7: at most 6 inputs\n",
+    ),
+    (
+        Subject::Tables,
+        "error: NoOutput",
+        "inputs 2\n",
+        "a:2: the text ends before this line: a row for each output comes after the line `inputs N`\n",
+    ),
+    (Subject::Tables, "error: Other 2", "inputs 2\n", ""),
+    (Subject::Tables, "minimum 2", "inputs 2\n", ""),
+];
+
+#[test]
+fn a_line_says_where_and_what(rt: HostRuntime) {
+    for &(subject, error_line, text, wanted) in LINES {
+        assert!(rt;
+            is_explained(rt.alloc(), subject, error_line, text, wanted),
+            "{error_line}"
+        );
+    }
+}

@@ -1,0 +1,116 @@
+//! What is wrong with words, and the pages that words ask for, as tables.
+
+use help_text::{asked_page, push_wrong_words};
+use std::alloc::{AllocError, Global};
+use text_core::next_item;
+
+/// The words of a line.
+fn words_of(alloc: Global, line: &str) -> Result<Vec<String>, AllocError> {
+    let mut words = Vec::new(alloc);
+    let mut left = Some(line.as_bytes());
+    for _ in 0..line.len() {
+        let Some(bytes) = left else {
+            break;
+        };
+        let (item, rest) = next_item(bytes);
+        if let Ok(word) = std::str::from_utf8(item) {
+            words.push(String::from_str(alloc, word)?)?;
+        }
+        left = rest;
+    }
+    Ok(words)
+}
+
+/// Whether this is what is wrong with words.
+fn is_wrong(alloc: Global, line: &str, wanted: &str) -> bool {
+    let Ok(words) = words_of(alloc, line) else {
+        return false;
+    };
+    let mut text = Vec::new(alloc);
+    push_wrong_words(&mut text, &words).is_ok() && text.as_slice() == wanted.as_bytes()
+}
+
+/// Lines, and what is wrong with them.
+const WRONG: &[(&str, &str)] = &[
+    (
+        "sinth",
+        "batsokemi: there is no command 'sinth'; \
+         there is synth recheck agree improve equiv gen help (batsokemi help)\n",
+    ),
+    (
+        "synth --max",
+        "batsokemi: --max needs a value: 0 to 16 (batsokemi help synth)\n",
+    ),
+    (
+        "synth --max 17",
+        "batsokemi: --max takes 0 to 16, and not '17' (batsokemi help synth)\n",
+    ),
+    (
+        "synth --max 3 --max 3",
+        "batsokemi: --max is named twice (batsokemi help synth)\n",
+    ),
+    (
+        "synth --max=3",
+        "batsokemi: an option and its value are two words, and not '--max=3' (batsokemi help synth)\n",
+    ),
+    (
+        "recheck --conflicts 3",
+        "batsokemi: recheck has no option '--conflicts'; it has --depth -o (batsokemi help recheck)\n",
+    ),
+    (
+        "improve --format bench --basis all",
+        "batsokemi: with --format bench the basis has operators of bench alone, \
+         and not 'all' (batsokemi help improve)\n",
+    ),
+    (
+        "gen x",
+        "batsokemi: gen reads no file, and 'x' is one more (batsokemi help gen)\n",
+    ),
+    (
+        "synth -- --max b",
+        "batsokemi: synth reads one file, and 'b' is one more (batsokemi help synth)\n",
+    ),
+];
+
+#[test]
+fn the_first_wrong_word_is_named(rt: HostRuntime) {
+    for &(line, wanted) in WRONG {
+        assert!(rt; is_wrong(rt.alloc(), line, wanted), "{line}");
+    }
+}
+
+/// Whether a line asks for a page.
+fn has_page(alloc: Global, line: &str) -> bool {
+    let Ok(words) = words_of(alloc, line) else {
+        return false;
+    };
+    match asked_page(alloc, &words) {
+        Ok(page) => page.is_some(),
+        Err(_) => false,
+    }
+}
+
+/// Lines, and whether they ask for a page.
+const ASKED: &[(&str, bool)] = &[
+    ("help", true),
+    ("help synth", true),
+    ("help windows", true),
+    ("help --completion fish", true),
+    ("help --manual", true),
+    ("help --options", true),
+    ("--help", true),
+    ("--version", true),
+    ("gen --blocks 3 -h", true),
+    ("synth -- --help", false),
+    ("synth -o --help", false),
+    ("help sinth", false),
+    ("help synth gen", false),
+    ("synth help", false),
+];
+
+#[test]
+fn these_lines_ask_for_pages(rt: HostRuntime) {
+    for &(line, wanted) in ASKED {
+        assert!(rt; has_page(rt.alloc(), line) == wanted, "{line}");
+    }
+}

@@ -1,0 +1,265 @@
+//! The table of options: for each command what it takes, with ranges and defaults.
+
+use crate::commands::CommandName;
+use crate::pen::Part;
+use settings::{
+    DEFAULT_CONFLICTS, DEFAULT_EFFORT, ImproveSettings, MOST_BLOCKS, MOST_CONFLICTS, MOST_EFFORT,
+    MOST_GATES_OF_WINDOW, MOST_ROUNDS, MOST_SEED, MOST_STEPS,
+};
+
+/// The values that an option takes.
+#[derive(Clone, Copy)]
+pub(crate) enum Allowed {
+    /// A number from the first to the second.
+    Number(u32, u32),
+    /// One of these words.
+    Words(&'static [&'static [u8]]),
+    /// A set of operators.
+    Basis,
+    /// The name of a file.
+    File,
+}
+
+/// The value of an option that isn't named.
+#[derive(Clone, Copy)]
+pub(crate) enum Default {
+    /// There is none: the option has to be named.
+    Needed,
+    /// Nothing happens without the option.
+    Nothing,
+    /// A word.
+    Word(&'static [u8]),
+    /// A number.
+    Number(u32),
+    /// The setting of `improve` of that name.
+    Cap,
+    /// The same.
+    Rounds,
+    /// The same.
+    Effort,
+    /// The same.
+    Seed,
+}
+
+/// An option.
+#[derive(Clone, Copy)]
+pub(crate) struct Row {
+    /// Its name.
+    pub(crate) name: &'static [u8],
+    /// What its value is called.
+    pub(crate) value: &'static [u8],
+    /// The values that it takes.
+    pub(crate) allowed: Allowed,
+    /// The value without it.
+    pub(crate) default: Default,
+    /// What it means.
+    pub(crate) says: &'static [u8],
+}
+
+const YES_OR_NO: Allowed = Allowed::Words(&[b"yes", b"no"]);
+
+const METHODS: Allowed = Allowed::Words(&[b"ssv", b"select", b"fence", b"plain"]);
+
+const OUTPUT: Row = Row {
+    name: b"-o",
+    value: b"FILE",
+    allowed: Allowed::File,
+    default: Default::Nothing,
+    says: b"the answer goes to FILE, which is written completely or not at all",
+};
+
+const CERTIFICATE: Row = Row {
+    name: b"--certificate",
+    value: b"FILE",
+    allowed: Allowed::File,
+    default: Default::Nothing,
+    says: b"the whole answer goes to FILE, and only the chain and the verdict are written",
+};
+
+const BASIS: Row = Row {
+    name: b"--basis",
+    value: b"BASIS",
+    allowed: Allowed::Basis,
+    default: Default::Word(b"all"),
+    says: b"operators that a step may have",
+};
+
+const METHOD: Row = Row {
+    name: b"--method",
+    value: b"METHOD",
+    allowed: METHODS,
+    default: Default::Word(b"ssv"),
+    says: b"how a size becomes a formula; what a verdict means is the same",
+};
+
+const MAX: Row = Row {
+    name: b"--max",
+    value: b"R",
+    allowed: Allowed::Number(0, MOST_STEPS),
+    default: Default::Number(MOST_STEPS),
+    says: b"the greatest size to try",
+};
+
+const CONFLICTS: Row = Row {
+    name: b"--conflicts",
+    value: b"N",
+    allowed: Allowed::Number(1, MOST_CONFLICTS),
+    default: Default::Number(DEFAULT_CONFLICTS),
+    says: b"learnt clauses before a formula is left open",
+};
+
+const SYNTH_EFFORT: Row = Row {
+    name: b"--effort",
+    value: b"N",
+    allowed: Allowed::Number(0, MOST_EFFORT),
+    default: Default::Number(DEFAULT_EFFORT),
+    says: b"a factor for the work of walks that look for a chain before formulas do",
+};
+
+const LEAST_DEPTH: Row = Row {
+    name: b"--least-depth",
+    value: b"yes or no",
+    allowed: YES_OR_NO,
+    default: Default::Word(b"no"),
+    says: b"also the fewest levels among the chains of the fewest steps; only with --method fence",
+};
+
+const SYNTH: &[Row] = &[
+    BASIS,
+    METHOD,
+    MAX,
+    CONFLICTS,
+    SYNTH_EFFORT,
+    LEAST_DEPTH,
+    OUTPUT,
+    CERTIFICATE,
+];
+
+const RECHECK: &[Row] = &[
+    Row {
+        name: b"--depth",
+        value: b"yes or no",
+        allowed: YES_OR_NO,
+        default: Default::Word(b"no"),
+        says: b"the certificate is one of `--least-depth yes`",
+    },
+    OUTPUT,
+];
+
+const AGREE: &[Row] = &[OUTPUT];
+
+const IMPROVE: &[Row] = &[
+    Row {
+        name: b"--cap",
+        value: b"N",
+        allowed: Allowed::Number(0, MOST_GATES_OF_WINDOW),
+        default: Default::Cap,
+        says: b"the most gates of a window; 0 only removes dangling gates",
+    },
+    Row {
+        name: b"--observe",
+        value: b"yes or no",
+        allowed: YES_OR_NO,
+        default: Default::Word(b"no"),
+        says: b"use observability don't-cares (ODC) besides satisfiability don't-cares (SDC)",
+    },
+    Row {
+        name: b"--effort",
+        value: b"N",
+        allowed: Allowed::Number(0, MOST_EFFORT),
+        default: Default::Effort,
+        says: b"rounds of moves and walks that may keep the size: more may save gates, and take longer",
+    },
+    Row {
+        name: b"--seed",
+        value: b"N",
+        allowed: Allowed::Number(0, MOST_SEED),
+        default: Default::Seed,
+        says: b"the seed of random choices",
+    },
+    Row {
+        name: b"--basis",
+        value: b"BASIS",
+        allowed: Allowed::Basis,
+        default: Default::Word(b"all"),
+        says: b"operators that new gates may have; for BENCH `bench` or a subset of it",
+    },
+    METHOD,
+    Row {
+        name: b"--conflicts",
+        value: b"N",
+        allowed: Allowed::Number(1, MOST_CONFLICTS),
+        default: Default::Number(DEFAULT_CONFLICTS),
+        says: b"as of synth, for each window of six gates or more",
+    },
+    Row {
+        name: b"--rounds",
+        value: b"N",
+        allowed: Allowed::Number(1, MOST_ROUNDS),
+        default: Default::Rounds,
+        says: b"rounds over all windows that may change something",
+    },
+    Row {
+        name: b"--format",
+        value: b"FORMAT",
+        allowed: Allowed::Words(&[b"blif", b"bench"]),
+        default: Default::Word(b"blif"),
+        says: b"of both netlists",
+    },
+    OUTPUT,
+];
+
+const EQUIV: &[Row] = &[
+    Row {
+        name: b"--conflicts",
+        value: b"N",
+        allowed: Allowed::Number(1, MOST_CONFLICTS),
+        default: Default::Number(DEFAULT_CONFLICTS),
+        says: b"conflicts without a result before the answer is `undecided`",
+    },
+    OUTPUT,
+    CERTIFICATE,
+];
+
+const GEN: &[Row] = &[
+    Row {
+        name: b"--blocks",
+        value: b"N",
+        allowed: Allowed::Number(1, MOST_BLOCKS),
+        default: Default::Needed,
+        says: b"the number of blocks",
+    },
+    Row {
+        name: b"--run",
+        value: b"WHAT",
+        allowed: Allowed::Words(&[b"write", b"improve"]),
+        default: Default::Word(b"write"),
+        says: b"the netlist, or what `improve` makes of it",
+    },
+    OUTPUT,
+];
+
+/// The options of a command.
+pub(crate) fn options_of(command: CommandName) -> &'static [Row] {
+    match command {
+        CommandName::Synth => SYNTH,
+        CommandName::Recheck => RECHECK,
+        CommandName::Agree => AGREE,
+        CommandName::Improve => IMPROVE,
+        CommandName::Equiv => EQUIV,
+        CommandName::Gen => GEN,
+    }
+}
+
+/// The default of an option, as text; None if there is none.
+pub(crate) fn default_of(row: &Row) -> Option<Part> {
+    match row.default {
+        Default::Needed | Default::Nothing => None,
+        Default::Word(word) => Some(Part::Text(word)),
+        Default::Number(number) => Some(Part::Number(number)),
+        Default::Cap => Some(Part::Number(ImproveSettings::defaults().cap)),
+        Default::Rounds => Some(Part::Number(ImproveSettings::defaults().rounds)),
+        Default::Effort => Some(Part::Number(ImproveSettings::defaults().effort)),
+        Default::Seed => Some(Part::Number(ImproveSettings::defaults().seed)),
+    }
+}

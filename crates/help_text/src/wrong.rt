@@ -1,0 +1,389 @@
+//! What is wrong with words that are no command line: the first wrong word, and what is allowed in its place.
+
+use crate::commands::{COMMANDS, CommandName, command_named, most_files, name_of};
+use crate::options::{Allowed, Row, options_of};
+use crate::pages::push_allowed;
+use crate::pen::{Part, push_parts, push_quoted};
+use crate::topics::push_topic_names;
+use op_basis::{BENCH, read_basis};
+use std::alloc::AllocError;
+use text_core::number_up_to;
+
+/// The first fault of the words after a command.
+#[derive(Clone, Copy)]
+enum Fault<'a> {
+    /// The command has no such option.
+    NoOption(&'a [u8]),
+    /// An option and its value are one word.
+    OneWord(&'a [u8]),
+    /// The value is missing.
+    NoValue(Row),
+    /// The option is named twice.
+    Twice(Row),
+    /// The option doesn't take this value.
+    BadValue(Row, &'a [u8]),
+    /// This file is one too many.
+    TooMany(&'a [u8]),
+    /// This option is needed.
+    Needed(Row),
+    /// `--least-depth yes` without `--method fence`.
+    NotByFence,
+    /// `--format bench` with an operator that BENCH doesn't have.
+    NotOfBench(&'a [u8]),
+    /// Two options name one file.
+    OneFile,
+}
+
+/// The option with a name.
+fn row_named(command: CommandName, name: &[u8]) -> Option<Row> {
+    for row in options_of(command) {
+        if row.name == name {
+            return Some(*row);
+        }
+    }
+    None
+}
+
+/// Whether a word is one of some words.
+fn is_among(word: &[u8], words: &[&'static [u8]]) -> bool {
+    for other in words {
+        if *other == word {
+            return true;
+        }
+    }
+    false
+}
+
+/// Whether an option takes a value.
+fn takes(row: &Row, word: &[u8]) -> bool {
+    match row.allowed {
+        Allowed::Number(low, high) => match number_up_to(high, word) {
+            Some(number) => number >= low,
+            None => false,
+        },
+        Allowed::Words(words) => is_among(word, words),
+        Allowed::Basis => read_basis(word).is_ok(),
+        Allowed::File => true,
+    }
+}
+
+/// Whether a word is the name of an option.
+fn is_option(word: &[u8]) -> bool {
+    match word.split_first() {
+        Some((first, rest)) => *first == b'-' && !rest.is_empty(),
+        None => false,
+    }
+}
+
+/// The value of an option among words; None if it isn't named.
+fn value_of<'a>(name: &[u8], words: &'a [String]) -> Option<&'a [u8]> {
+    let mut is_value = false;
+    let mut is_wanted = false;
+    for word in words {
+        let bytes = word.as_bytes();
+        if is_value && is_wanted {
+            return Some(bytes);
+        }
+        if is_value {
+            is_value = false;
+        } else if bytes == b"--".as_slice() {
+            return None;
+        } else {
+            is_value = is_option(bytes);
+            is_wanted = bytes == name;
+        }
+    }
+    None
+}
+
+/// Whether a word has a character `=`.
+fn has_equals(word: &[u8]) -> bool {
+    for byte in word {
+        if *byte == b'=' {
+            return true;
+        }
+    }
+    false
+}
+
+/// The fault of an option, with the words behind its name.
+fn option_fault<'a>(command: CommandName, name: &'a [u8], rest: &'a [String]) -> Option<Fault<'a>> {
+    let Some(row) = row_named(command, name) else {
+        if has_equals(name) {
+            return Some(Fault::OneWord(name));
+        }
+        return Some(Fault::NoOption(name));
+    };
+    let Some((value, after)) = rest.split_first() else {
+        return Some(Fault::NoValue(row));
+    };
+    if !takes(&row, value.as_bytes()) {
+        return Some(Fault::BadValue(row, value.as_bytes()));
+    }
+    if value_of(name, after).is_some() {
+        return Some(Fault::Twice(row));
+    }
+    None
+}
+
+/// The first fault of options and files, one after the other.
+fn word_fault(command: CommandName, words: &[String]) -> Option<Fault<'_>> {
+    let mut files: usize = 0;
+    let mut are_files = false;
+    let mut is_value = false;
+    let mut left = words;
+    for _ in 0..words.len() {
+        let Some((word, rest)) = left.split_first() else {
+            break;
+        };
+        let bytes = word.as_bytes();
+        if is_value {
+            is_value = false;
+        } else if !are_files && bytes == b"--".as_slice() {
+            are_files = true;
+        } else if !are_files && is_option(bytes) {
+            let fault = option_fault(command, bytes, rest);
+            if fault.is_some() {
+                return fault;
+            }
+            is_value = true;
+        } else if files >= most_files(command) {
+            return Some(Fault::TooMany(bytes));
+        } else {
+            files = files.saturating_add(1);
+        }
+        left = rest;
+    }
+    None
+}
+
+/// Whether an option has a value.
+fn has_value(name: &[u8], value: &[u8], words: &[String]) -> bool {
+    match value_of(name, words) {
+        Some(found) => found == value,
+        None => false,
+    }
+}
+
+/// Whether a basis has an operator that BENCH doesn't have.
+fn is_beyond_bench(word: &[u8]) -> bool {
+    match read_basis(word) {
+        Ok(basis) => basis.get() & BENCH != basis.get(),
+        Err(_) => false,
+    }
+}
+
+/// What options of `improve` ask of each other.
+fn improve_fault(words: &[String]) -> Option<Fault<'_>> {
+    match value_of(b"--basis", words) {
+        Some(basis) if has_value(b"--format", b"bench", words) && is_beyond_bench(basis) => {
+            Some(Fault::NotOfBench(basis))
+        }
+        _ => None,
+    }
+}
+
+/// Whether `-o` and `--certificate` name one file.
+fn is_one_file(words: &[String]) -> bool {
+    match (value_of(b"-o", words), value_of(b"--certificate", words)) {
+        (Some(output), Some(certificate)) => output == certificate,
+        _ => false,
+    }
+}
+
+/// What options of `synth` ask of each other.
+fn synth_fault(words: &[String]) -> Option<Fault<'_>> {
+    if has_value(b"--least-depth", b"yes", words) && !has_value(b"--method", b"fence", words) {
+        return Some(Fault::NotByFence);
+    }
+    None
+}
+
+/// What `gen` needs.
+fn gen_fault(words: &[String]) -> Option<Fault<'_>> {
+    if value_of(b"--blocks", words).is_some() {
+        return None;
+    }
+    match row_named(CommandName::Gen, b"--blocks") {
+        Some(row) => Some(Fault::Needed(row)),
+        None => None,
+    }
+}
+
+/// What options ask of each other.
+fn fault_together(command: CommandName, words: &[String]) -> Option<Fault<'_>> {
+    if is_one_file(words) {
+        return Some(Fault::OneFile);
+    }
+    match command {
+        CommandName::Synth => synth_fault(words),
+        CommandName::Improve => improve_fault(words),
+        CommandName::Gen => gen_fault(words),
+        CommandName::Recheck | CommandName::Agree | CommandName::Equiv => None,
+    }
+}
+
+/// Appends the names of a command's options.
+fn push_names(text: &mut Vec<u8>, command: CommandName) -> Result<(), AllocError> {
+    for row in options_of(command) {
+        push_parts(text, &[Part::Text(b" "), Part::Text(row.name)])?;
+    }
+    Ok(())
+}
+
+/// Appends the values that an option takes, after the word that leads to them.
+fn push_takes(text: &mut Vec<u8>, row: &Row, lead: &'static [u8]) -> Result<(), AllocError> {
+    push_parts(text, &[Part::Text(row.name), Part::Text(lead)])?;
+    push_allowed(text, row.allowed)
+}
+
+/// Appends a word in quotes.
+fn push_word(
+    text: &mut Vec<u8>,
+    before: &'static [u8],
+    word: &[u8],
+    after: &'static [u8],
+) -> Result<(), AllocError> {
+    push_parts(text, &[Part::Text(before), Part::Text(b"'")])?;
+    push_quoted(text, word)?;
+    push_parts(text, &[Part::Text(b"'"), Part::Text(after)])
+}
+
+/// Appends what is wrong.
+fn push_fault(text: &mut Vec<u8>, command: CommandName, fault: Fault) -> Result<(), AllocError> {
+    let name = name_of(command);
+    match fault {
+        Fault::NoOption(word) => {
+            push_parts(text, &[Part::Text(name), Part::Text(b" has no option ")])?;
+            push_word(text, b"", word, b"; it has")?;
+            push_names(text, command)
+        }
+        Fault::OneWord(word) => {
+            push_word(
+                text,
+                b"an option and its value are two words, and not ",
+                word,
+                b"",
+            )
+        }
+        Fault::NoValue(row) => push_takes(text, &row, b" needs a value: "),
+        Fault::Twice(row) => {
+            push_parts(
+                text,
+                &[Part::Text(row.name), Part::Text(b" is named twice")],
+            )
+        }
+        Fault::BadValue(row, word) => {
+            push_takes(text, &row, b" takes ")?;
+            push_word(text, b", and not ", word, b"")
+        }
+        Fault::TooMany(word) => push_too_many(text, command, word),
+        Fault::Needed(row) => {
+            push_parts(text, &[Part::Text(name), Part::Text(b" needs ")])?;
+            push_takes(text, &row, b" with a value: ")
+        }
+        Fault::NotByFence => text.extend_from_slice(
+            b"--least-depth yes goes with --method fence alone",
+        ),
+        Fault::NotOfBench(word) => push_word(
+            text,
+            b"with --format bench the basis has operators of bench alone, and not ",
+            word,
+            b"",
+        ),
+        Fault::OneFile => text.extend_from_slice(b"-o and --certificate name one file"),
+    }
+}
+
+/// How many files a command reads, in words.
+fn files_of(command: CommandName) -> &'static [u8] {
+    match most_files(command) {
+        0 => b" reads no file, and ",
+        1 => b" reads one file, and ",
+        _ => b" reads two files, and ",
+    }
+}
+
+/// Appends that a file is one too many.
+fn push_too_many(text: &mut Vec<u8>, command: CommandName, word: &[u8]) -> Result<(), AllocError> {
+    push_parts(
+        text,
+        &[Part::Text(name_of(command)), Part::Text(files_of(command))],
+    )?;
+    push_word(text, b"", word, b" is one more")
+}
+
+/// Appends the names of the commands.
+fn push_commands(text: &mut Vec<u8>) -> Result<(), AllocError> {
+    for command in COMMANDS {
+        push_parts(text, &[Part::Text(b" "), Part::Text(name_of(*command))])?;
+    }
+    Ok(())
+}
+
+/// Appends what is wrong with the words of a command.
+fn push_command_fault(
+    text: &mut Vec<u8>,
+    command: CommandName,
+    words: &[String],
+) -> Result<(), AllocError> {
+    let fault = match word_fault(command, words) {
+        None => fault_together(command, words),
+        found => found,
+    };
+    match fault {
+        Some(found) => push_fault(text, command, found)?,
+        None => text.extend_from_slice(b"these words are no command line")?,
+    }
+    push_parts(
+        text,
+        &[
+            Part::Text(b" (batsokemi help "),
+            Part::Text(name_of(command)),
+            Part::Text(b")\n"),
+        ],
+    )
+}
+
+/// Appends what is wrong with the words after `help`.
+fn push_help_fault(text: &mut Vec<u8>, words: &[String]) -> Result<(), AllocError> {
+    let Some((word, _)) = words.split_first() else {
+        return Ok(());
+    };
+    push_word(
+        text,
+        b"help has no page ",
+        word.as_bytes(),
+        b", or not with more words; it has",
+    )?;
+    push_commands(text)?;
+    text.push(b' ')?;
+    push_topic_names(text)?;
+    text.extend_from_slice(b"--completion --manual --options\n")
+}
+
+/// Appends what is wrong with words that are no command line, as a line for people.
+pub fn push_wrong_words(text: &mut Vec<u8>, words: &[String]) -> Result<(), AllocError> {
+    text.extend_from_slice(b"batsokemi: ")?;
+    let Some((first, rest)) = words.split_first() else {
+        text.extend_from_slice(b"a command is needed, one of")?;
+        push_commands(text)?;
+        return text.extend_from_slice(b" (batsokemi help)\n");
+    };
+    if first.as_bytes() == b"help".as_slice() {
+        return push_help_fault(text, rest);
+    }
+    match command_named(first.as_bytes()) {
+        Some(command) => push_command_fault(text, command, rest),
+        None => {
+            push_word(
+                text,
+                b"there is no command ",
+                first.as_bytes(),
+                b"; there is",
+            )?;
+            push_commands(text)?;
+            text.extend_from_slice(b" help (batsokemi help)\n")
+        }
+    }
+}

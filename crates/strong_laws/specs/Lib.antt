@@ -1,0 +1,10 @@
+pub mod Extended
+pub mod EdgeLaws
+pub mod Differing
+pub mod Bits
+pub mod Said
+pub mod OneEdge
+pub mod Strengthened
+pub mod StrongClauses
+pub mod Whole
+pub mod Fences
