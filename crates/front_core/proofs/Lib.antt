@@ -1,4 +1,4 @@
-pub mod Certifying
+pub mod Certificates
 pub mod Endings
 pub mod Pairs
 pub mod Words

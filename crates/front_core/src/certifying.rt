@@ -21,7 +21,7 @@ fn status_after(shown: Status, ended: Status) -> Status
 }
 
 /// Shows the lines of an answer.
-#[tactic(auto, using(crate::proofs::Certifying::showing))]
+#[tactic(auto, using(crate::proofs::Certificates::showing))]
 fn show_lines<I: Source, O: Sink, N: Sink>(
     alloc: Global,
     answer: &mut I,
@@ -39,7 +39,7 @@ fn show_lines<I: Source, O: Sink, N: Sink>(
 
 /// Shows the lines of an answer that was written to a draft, if there is one. Returns the status for the draft: that
 /// of the work, or that of a failure.
-#[tactic(auto, using(crate::proofs::Certifying::showing))]
+#[tactic(auto, using(crate::proofs::Certificates::showing))]
 fn show<W: Outside, O: Sink, N: Sink>(
     alloc: Global,
     name: &str,
@@ -71,7 +71,7 @@ fn show<W: Outside, O: Sink, N: Sink>(
 }
 
 /// Does work whose answer is written to a file, and whose own lines go to `out`.
-#[tactic(auto, using(crate::proofs::Certifying::certifying))]
+#[tactic(auto, using(crate::proofs::Certificates::certifying))]
 fn certify<K: Work, W: Outside, S: Source, O: Sink, N: Sink>(
     alloc: Global,
     work: &K,
