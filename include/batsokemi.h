@@ -30,8 +30,8 @@ extern "C" {
 #endif
 
 /* The version of this header and of the library that it was made for. */
-#define BATSOKEMI_VERSION_MAJOR 1
-#define BATSOKEMI_VERSION_MINOR 1
+#define BATSOKEMI_VERSION_MAJOR 2
+#define BATSOKEMI_VERSION_MINOR 0
 
 /* How a call ended: the statuses with which the program ends. */
 enum batsokemi_status {
@@ -98,6 +98,46 @@ struct batsokemi_answer {
  */
 struct batsokemi_answer batsokemi_run(const void *command, size_t command_length, const void *input, size_t input_length,
                                       void *output, size_t output_room, void *notes, size_t notes_room);
+
+/*
+ * The same for a command that reads two inputs, which is `equiv`, as "equiv --conflicts 1000": whether two netlists in
+ * BLIF are equivalent, each in a text of its own. The texts are never joined: `equal` and `differ` speak of these two.
+ * A text without one directive isn't a netlist here (BATSOKEMI_MALFORMED, `error: First Empty`). Any other command is
+ * answered with BATSOKEMI_USAGE.
+ */
+struct batsokemi_answer batsokemi_run_pair(const void *command, size_t command_length, const void *first,
+                                           size_t first_length, const void *second, size_t second_length,
+                                           void *output, size_t output_room, void *notes, size_t notes_room);
+
+/* The major version of the library: that of the header that it fits, BATSOKEMI_VERSION_MAJOR. */
+uint32_t batsokemi_version(void);
+
+/* An input of a command. */
+struct batsokemi_input {
+    const void *bytes;
+    size_t length;
+};
+
+/*
+ * The same for as many inputs as the command reads: none, one or two (`equiv` of two texts). With more the answer is
+ * BATSOKEMI_USAGE.
+ */
+static inline struct batsokemi_answer batsokemi_run_inputs(const void *command, size_t command_length,
+                                                           const struct batsokemi_input *inputs, size_t count,
+                                                           void *output, size_t output_room, void *notes,
+                                                           size_t notes_room)
+{
+    const char none = 0;
+
+    if (count == 2)
+        return batsokemi_run_pair(command, command_length, inputs[0].bytes, inputs[0].length, inputs[1].bytes,
+                                  inputs[1].length, output, output_room, notes, notes_room);
+    if (count == 1)
+        return batsokemi_run(command, command_length, inputs[0].bytes, inputs[0].length, output, output_room, notes,
+                             notes_room);
+    return batsokemi_run(count ? &none : command, count ? 0 : command_length, &none, 0, output, output_room, notes,
+                         notes_room);
+}
 
 /*
  * What stack a call needs at most, in bytes, with room to spare: for threads with a small stack. The program, with what

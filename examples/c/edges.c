@@ -74,6 +74,36 @@ static void note_rooms(void)
     expect(all(notes, sizeof notes, '#'), "they aren't written at all");
 }
 
+/* Two netlists, each in a text of its own. */
+static void pairs(void)
+{
+    static const char copy[] = ".inputs a\n.outputs y\n.names a y\n1 1\n.end\n";
+    static const char other[] = ".inputs a\n.outputs y\n.names a y\n0 1\n.end\n";
+    /* what stands behind `.end` is no part of a netlist */
+    static const char undriven[] = ".inputs a\n.outputs y\n.end\n.names a y\n1 1\n";
+    struct batsokemi_input inputs[3] = {{copy, sizeof copy - 1}, {copy, sizeof copy - 1}, {copy, 0}};
+    char output[4096], notes[128];
+    struct batsokemi_answer answer;
+
+    expect(batsokemi_version() == BATSOKEMI_VERSION_MAJOR, "the version");
+    answer = batsokemi_run_inputs("equiv", 5, inputs, 2, output, sizeof output, notes, sizeof notes);
+    expect(answer.status == BATSOKEMI_DONE && !memcmp(output, "equal\n", 6), "a netlist equals itself");
+    inputs[1].bytes = other;
+    answer = batsokemi_run_inputs("equiv", 5, inputs, 2, output, sizeof output, notes, sizeof notes);
+    expect(answer.status == BATSOKEMI_REFUSED && !memcmp(output, "differ", 6), "a buffer and a NOT differ");
+    inputs[0].bytes = undriven;
+    inputs[0].length = sizeof undriven - 1;
+    answer = batsokemi_run_inputs("equiv", 5, inputs, 2, output, sizeof output, notes, sizeof notes);
+    expect(answer.status == BATSOKEMI_MALFORMED && !memcmp(notes, "error: First ", 13), "a first netlist without a driver");
+    inputs[0].length = 0;
+    answer = batsokemi_run_inputs("equiv", 5, inputs, 2, output, sizeof output, notes, sizeof notes);
+    expect(answer.status == BATSOKEMI_MALFORMED && !memcmp(notes, "error: First Empty\n", 19), "an empty first netlist");
+    answer = batsokemi_run_inputs("agree", 5, inputs, 2, output, sizeof output, notes, sizeof notes);
+    expect(answer.status == BATSOKEMI_USAGE, "two inputs of a command that reads one");
+    answer = batsokemi_run_inputs("equiv", 5, inputs, 3, output, sizeof output, notes, sizeof notes);
+    expect(answer.status == BATSOKEMI_USAGE, "three inputs");
+}
+
 /* A command that is none. */
 static void is_usage(const char *command, size_t length, const char *what)
 {
@@ -148,6 +178,7 @@ int main(void)
 {
     rooms();
     note_rooms();
+    pairs();
     commands();
     threads();
     return failed;

@@ -2,7 +2,7 @@
 
 from __future__ import annotations
 
-from collections.abc import Mapping, Sequence
+from collections.abc import Callable, Mapping, Sequence
 
 from .engine import Engine, Run
 from .errors import UsageError, error_of
@@ -11,9 +11,19 @@ from .options import Value, fault_of, words_of
 
 def answered(engine: Engine, command: str, data: bytes, **given: Value) -> Run:
     """A run that has an answer; otherwise an error is raised. A difference is an answer with status 8 and an output."""
+    return judged(lambda words: engine.run(words, data), command, given)
+
+
+def answered_pair(engine: Engine, first: bytes, second: bytes, **given: Value) -> Run:
+    """The same for `equiv` of two texts, which are never joined."""
+    return judged(lambda words: engine.run_pair(words, first, second), 'equiv', given)
+
+
+def judged(run_of: Callable[[Sequence[str]], Run], command: str, given: Mapping[str, Value]) -> Run:
+    """The run of a command, if it has an answer; otherwise an error is raised."""
     words = [command, *words_of(given)]
     try:
-        run = engine.run(words, data)
+        run = run_of(words)
     except ValueError:
         raise refused(words, given) from None
     if run.status in (0, 4) or (run.status == 8 and run.output):

@@ -3,12 +3,11 @@
 from __future__ import annotations
 
 import os
-import re
 from collections.abc import Sequence
 from functools import lru_cache
 from typing import Literal, Union
 
-from .calls import answered
+from .calls import answered, answered_pair
 from .chain import Chain
 from .engine import Engine, usual_engine
 from .results import Agreement, Equivalence, Report, Result, Verdict, recheck_with
@@ -35,6 +34,7 @@ def synth(
     conflicts: int | None = None,
     max_steps: int | None = None,
     least_depth: bool = False,
+    effort: int | None = None,
     engine: Engine | None = None,
 ) -> Result:
     """Finds a chain of the fewest steps for truth tables, and a certificate that no smaller chain exists.
@@ -56,6 +56,8 @@ def synth(
         The greatest size to try, 0 to 16 (16).
     least_depth : bool
         Whether to look also for the fewest levels among the chains of the fewest steps; by `fence`.
+    effort : int, optional
+        A factor for the work of the walks that look for a chain before formulas do, 0 to 1,000 (1).
     engine : Engine, optional
         What runs the command (`default_engine()`).
 
@@ -91,6 +93,7 @@ def synth(
         conflicts=conflicts,
         max_steps=max_steps,
         least_depth=least_depth or None,
+        effort=effort,
     )
     return Result.read(asked, run.output, engine)
 
@@ -171,6 +174,7 @@ def improve(
     conflicts: int | None = None,
     observe: bool | None = None,
     effort: int | None = None,
+    seed: int | None = None,
     engine: Engine | None = None,
 ) -> tuple[str, Report]:
     """Makes a netlist smaller by exact resynthesis of small windows.
@@ -194,6 +198,8 @@ def improve(
         Whether to use observability don't-cares too.
     effort : int, optional
         How long the search for smaller netlists goes on, 0 to 1,000; a greater one never leaves more gates.
+    seed : int, optional
+        The seed of the random choices, 0 to 1,000,000 (1).
     engine : Engine, optional
 
     Returns
@@ -229,6 +235,7 @@ def improve(
         netlist_format=netlist_format,
         observe=observe,
         effort=effort,
+        seed=seed,
     )
     return run.output.decode(), Report.read(run.notes.decode())
 
@@ -254,7 +261,7 @@ def equiv(first: Text, second: Text, *, conflicts: int | None = None, engine: En
     UsageError
         If the option has no such value.
     MalformedError, LimitError, RefusedError, MemoryFault
-        If a netlist isn't of its form or beyond a limit, the interfaces differ, or there is no memory.
+        If a netlist isn't of its form, is empty or beyond a limit, the interfaces differ, or there is no memory.
 
     Examples
     --------
@@ -262,8 +269,5 @@ def equiv(first: Text, second: Text, *, conflicts: int | None = None, engine: En
     >>> bool(equiv(copy, copy)), bool(equiv(copy, copy.replace('1 1', '0 1')))
     (True, False)
     """
-    front = bytes_of(first) + b'\n'
-    if not re.search(rb'^[ \t]*\.end\b', front, re.M):
-        front += b'.end\n'
-    run = answered(engine or default_engine(), 'equiv', front + bytes_of(second), conflicts=conflicts)
+    run = answered_pair(engine or default_engine(), bytes_of(first), bytes_of(second), conflicts=conflicts)
     return Equivalence.read(run.output)

@@ -11,8 +11,9 @@ import mmap
 import os
 import shutil
 import subprocess
+import tempfile
 import threading
-from collections.abc import Sequence
+from collections.abc import Callable, Sequence
 from functools import lru_cache
 from pathlib import Path
 from typing import NamedTuple, Protocol
@@ -38,6 +39,9 @@ class Engine(Protocol):
 
     def run(self, words: Sequence[str], data: bytes = b'') -> Run:
         """Runs the command of these words on an input."""
+
+    def run_pair(self, words: Sequence[str], first: bytes, second: bytes) -> Run:
+        """Runs `equiv` with these words on two inputs, which are never joined."""
 
 
 class _Answer(ctypes.Structure):
@@ -81,20 +85,28 @@ class Library:
         if found is None:
             raise FileNotFoundError('no libbatsokemi.so is here; `tools/release` makes it')
         self.path = os.fspath(found)
-        self._call = ctypes.CDLL(self.path).batsokemi_run
-        self._call.restype = _Answer
+        library = ctypes.CDLL(self.path)
         block = (ctypes.c_char_p, ctypes.c_size_t)
-        self._call.argtypes = (*block, *block, *(ctypes.c_void_p, ctypes.c_size_t) * 2)
+        rooms = (ctypes.c_void_p, ctypes.c_size_t) * 2
+        self._run, self._run_pair = library.batsokemi_run, library.batsokemi_run_pair
+        self._run.restype = self._run_pair.restype = _Answer
+        self._run.argtypes = (*block * 2, *rooms)
+        self._run_pair.argtypes = (*block * 3, *rooms)
         self._buffers = _Buffers()
 
     def run(self, words: Sequence[str], data: bytes = b'') -> Run:
         """Runs the command of these words on an input."""
-        command = line_of(words)
+        return self._answer(self._run, words, data)
+
+    def run_pair(self, words: Sequence[str], first: bytes, second: bytes) -> Run:
+        """Runs `equiv` with these words on two inputs, which are never joined."""
+        return self._answer(self._run_pair, words, first, second)
+
+    def _answer(self, call: Callable[..., _Answer], words: Sequence[str], *inputs: bytes) -> Run:
+        blocks = [part for text in (line_of(words), *inputs) for part in (text, len(text))]
         output, notes = self._buffers.take()
         while True:
-            answer = self._call(
-                command, len(command), data, len(data), output.at, output.room, notes.at, notes.room
-            )
+            answer = call(*blocks, output.at, output.room, notes.at, notes.room)
             if answer.output_length <= output.room and answer.notes_length <= notes.room:
                 break
             output, notes = (_Buffer(max(answer.output_length, ROOM)), _Buffer(max(answer.notes_length, ROOM)))
@@ -129,6 +141,16 @@ class Process:
         """Runs the command of these words on an input."""
         line_of(words)
         ended = subprocess.run([self.path, *words], input=data, capture_output=True, check=False)
+        return Run(ended.returncode, ended.stdout, ended.stderr)
+
+    def run_pair(self, words: Sequence[str], first: bytes, second: bytes) -> Run:
+        """Runs `equiv` with these words on two inputs, each in a file of its own."""
+        line_of(words)
+        with tempfile.TemporaryDirectory(prefix='batsokemi-') as folder:
+            names = [os.path.join(folder, name) for name in ('first', 'second')]
+            for name, text in zip(names, (first, second)):
+                Path(name).write_bytes(text)
+            ended = subprocess.run([self.path, *words, *names], capture_output=True, check=False)
         return Run(ended.returncode, ended.stdout, ended.stderr)
 
     def __repr__(self) -> str:

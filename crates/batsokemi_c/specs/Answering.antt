@@ -11,11 +11,12 @@ use Rattle.frame_core.specs.Task.{Task}
 use Rattle.frame_core.specs.Run.{HasInput}
 use Rattle.frame_core.specs.Promise.{AllSteady}
 use Rattle.chain_app.specs.Tasks.{task_of}
+use Rattle.chain_app.specs.KeepsPromises.{KeepsPromises}
 use Rattle.batsokemi_c.specs.Called.{memory_run, HasRun}
 
 -- The program's run kept its promises, and no call failed at all: each clause of the promises applies to it.
 pub record HasSteadyRun (command input output notes : List ℕ) (status : Status) : Type 0 where
-  pub run : HasRun command input output notes status
+  pub run : HasRun KeepsPromises command input output notes status
   pub steady : AllSteady (memory_run run.words input run.left output 0 notes 0 status)
 
 -- The words are those of a command, and the bytes are its input: none for a command that reads nothing.

@@ -18,6 +18,7 @@ use Rattle.frame_core.specs.Promise.{IsSteady, AllSteady, ReportsError, Replies,
 use Rattle.chain_app.specs.Tasks.{task_of}
 use Rattle.chain_app.specs.Ending.{Ending, Idle, Ran, IsEnding}
 use Rattle.chain_app.specs.RunPromise.{RunPromise}
+use Rattle.chain_app.specs.KeepsPromises.{KeepsPromises}
 use Rattle.batsokemi_c.specs.Called.{AreWords, holding, memory_run, HasRun, HasLackedRoom, IsCalled, IsAnswered}
 use Rattle.batsokemi_c.specs.Answering.{HasSteadyRun, Asks, report_of, AnswersWith, AreRefusal, AreErrorLine}
 
@@ -76,13 +77,13 @@ write_ended : (r : Run) (e : Ending) → IsEnding r e → RunPromise r → IsSte
 write_ended r Idle idle every out note is = (let apart : Usage ≡ WriteFault = sym idle.status_is ∙ is in absurd cc)
 write_ended r (Ran command outcome) ran every out note is = ⊎_elim (λ rose. out rose) (λ rose. note rose) ((every.keeps command ran.0).write_rose is)
 
-run_read : (c i o n : List ℕ) (s : Status) → HasRun c i o n s → s ≡ ReadFault → ⊥
+run_read : (c i o n : List ℕ) (s : Status) → HasRun KeepsPromises c i o n s → s ≡ ReadFault → ⊥
 run_read c i o n s has is = read_ended (memory_run has.words i has.left o 0 n 0 s) has.keeps.ending.0 has.keeps.ending.1 has.keeps.every not_rose is
 
-run_write : (c i o n : List ℕ) (s : Status) → HasRun c i o n s → s ≡ WriteFault → ⊥
+run_write : (c i o n : List ℕ) (s : Status) → HasRun KeepsPromises c i o n s → s ≡ WriteFault → ⊥
 run_write c i o n s has is = write_ended (memory_run has.words i has.left o 0 n 0 s) has.keeps.ending.0 has.keeps.ending.1 has.keeps.every not_rose not_rose is
 
-called_read : (c i o n : List ℕ) (s : Status) → IsCalled c i o n s → s ≡ ReadFault → ⊥
+called_read : (c i o n : List ℕ) (s : Status) → IsCalled KeepsPromises c i o n s → s ≡ ReadFault → ⊥
 called_read c i o n s (inl has) is = run_read c i o n s has is
 called_read c i o n s (inr (inl lacked)) is = (let apart : WriteFault ≡ ReadFault = sym lacked.status_is ∙ is in absurd cc)
 called_read c i o n s (inr (inr none)) is = (let apart : Memory ≡ ReadFault = sym none.status_is ∙ is in absurd cc)
@@ -91,13 +92,13 @@ called_read c i o n s (inr (inr none)) is = (let apart : Memory ≡ ReadFault = 
 pub no_read_fault : (c i o o' n n' : List ℕ) (s ol nl : ℕ) → IsAnswered c i o o' n n' s ol nl → s ≡ 5 → ⊥
 no_read_fault c i o o' n n' s ol nl a is = called_read c i a.out a.note a.ended a.called (is_five a.ended (sym a.status_is ∙ is))
 
-called_write : (c i o n : List ℕ) (s : Status) → IsCalled c i o n s → s ≡ WriteFault → HasLackedRoom c i o n s
+called_write : (c i o n : List ℕ) (s : Status) → IsCalled KeepsPromises c i o n s → s ≡ WriteFault → HasLackedRoom KeepsPromises c i o n s
 called_write c i o n s (inl has) is = absurd (run_write c i o n s has is)
 called_write c i o n s (inr (inl lacked)) is = lacked
 called_write c i o n s (inr (inr none)) is = (let apart : Memory ≡ WriteFault = sym none.status_is ∙ is in absurd cc)
 
 -- The status 6 means that a sink had no room.
-pub write_fault_lacks : (c i o o' n n' : List ℕ) (s ol nl : ℕ) (a : IsAnswered c i o o' n n' s ol nl) → s ≡ 6 → HasLackedRoom c i a.out a.note a.ended
+pub write_fault_lacks : (c i o o' n n' : List ℕ) (s ol nl : ℕ) (a : IsAnswered c i o o' n n' s ol nl) → s ≡ 6 → HasLackedRoom KeepsPromises c i a.out a.note a.ended
 write_fault_lacks c i o o' n n' s ol nl a is = called_write c i a.out a.note a.ended a.called (is_six a.ended (sym a.status_is ∙ is))
 
 -- ---- with enough memory
@@ -111,7 +112,7 @@ all_steady words i left o n s apart = record {
   note = not_rose;
 }
 
-called_steady : (c i o n : List ℕ) (s : Status) → IsCalled c i o n s → (s ≡ WriteFault → ⊥) → (s ≡ Memory → ⊥) → HasSteadyRun c i o n s
+called_steady : (c i o n : List ℕ) (s : Status) → IsCalled KeepsPromises c i o n s → (s ≡ WriteFault → ⊥) → (s ≡ Memory → ⊥) → HasSteadyRun c i o n s
 called_steady c i o n s (inl has) room more = record { run = has; steady = all_steady has.words i has.left o n s more }
 called_steady c i o n s (inr (inl lacked)) room more = absurd (room lacked.status_is)
 called_steady c i o n s (inr (inr none)) room more = absurd (more none.status_is)
@@ -145,7 +146,7 @@ asked_words : (c : List ℕ) (words : List (List ℕ)) → AreWords c words → 
 asked_words c words (inl same) text = sym same
 asked_words c words (inr none) text = absurd (none.not_all text)
 
-keeps_asked : (c i o n bytes : List ℕ) (s : Status) (asked : Command) (has : HasRun c i o n s) → Asks c i asked bytes → CommandPromise (task_of asked) (memory_run has.words i has.left o 0 n 0 s)
+keeps_asked : (c i o n bytes : List ℕ) (s : Status) (asked : Command) (has : HasRun KeepsPromises c i o n s) → Asks c i asked bytes → CommandPromise (task_of asked) (memory_run has.words i has.left o 0 n 0 s)
 keeps_asked c i o n bytes s asked has asks = has.keeps.every.keeps asked (subst (λ (ws : List (List ℕ)). AsksFor ws asked) (asked_words c has.words has.are_words asks.text) asks.words)
 
 replied : (task : Task) (words : List (List ℕ)) (i left o n bytes : List ℕ) (s : Status) (number : ℕ) → number ≡ number_of s → Replies task (memory_run words i left o 0 n 0 s) bytes → AnswersWith task bytes o n number
@@ -216,7 +217,7 @@ line_ended words i left o n s Idle idle every error = line_of_idle words i left 
 line_ended words i left o n s (Ran command outcome) ran every error =
     line_of_promise (task_of command) words i left o n s (every.keeps command ran.0) (λ is. every.usage_only is command ran.0) error
 
-called_line : (c i o n : List ℕ) (s : Status) → IsCalled c i o n s → IsErrorStatus s → AreErrorLine o n
+called_line : (c i o n : List ℕ) (s : Status) → IsCalled KeepsPromises c i o n s → IsErrorStatus s → AreErrorLine o n
 called_line c i o n s (inl has) error = line_ended has.words i has.left o n s has.keeps.ending.0 has.keeps.ending.1 has.keeps.every error
 called_line c i o n s (inr (inl lacked)) error = absurd (apart error)
   where

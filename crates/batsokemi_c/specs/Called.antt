@@ -9,6 +9,7 @@ use Rattle.frame_core.specs.Statuses.{number_of}
 use Rattle.frame_core.specs.Outside.{PortState}
 use Rattle.frame_core.specs.Run.{Run, run_of}
 use Rattle.chain_app.specs.KeepsPromises.{KeepsPromises}
+use Rattle.chain_app.specs.Pair.{KeepsPair}
 
 -- Some word of the command line isn't UTF-8, and there are no words.
 pub record IsNoText (command : List ℕ) (words : List (List ℕ)) : Type 0 where
@@ -30,17 +31,17 @@ memory_run words input left output output_faults notes notes_faults status = run
     (holding [] 0, holding output output_faults)
     (holding [] 0, holding notes notes_faults) status
 
--- The program ran with the words of `command`, its source held the input, no call of the source or of a sink failed, and
--- the run kept the program's promises.
-pub record HasRun (command input output notes : List ℕ) (status : Status) : Type 0 where
+-- A run with the words of `command`, whose source held the input: no call of the source or of a sink failed, and it kept
+-- what is promised.
+pub record HasRun (Promised : Run → Type 0) (command input output notes : List ℕ) (status : Status) : Type 0 where
   pub words : List (List ℕ)
   pub are_words : AreWords command words
   pub left : List ℕ
-  pub keeps : KeepsPromises (memory_run words input left output 0 notes 0 status)
+  pub keeps : Promised (memory_run words input left output 0 notes 0 status)
 
 -- The same where calls of a sink failed, which they do where memory for the output or for the notes couldn't be had;
 -- this is the status, whatever the run's own status was.
-pub record HasLackedRoom (command input output notes : List ℕ) (status : Status) : Type 0 where
+pub record HasLackedRoom (Promised : Run → Type 0) (command input output notes : List ℕ) (status : Status) : Type 0 where
   pub words : List (List ℕ)
   pub are_words : AreWords command words
   pub left : List ℕ
@@ -48,7 +49,7 @@ pub record HasLackedRoom (command input output notes : List ℕ) (status : Statu
   pub notes_faults : ℕ
   pub failed : 0 < output_faults + notes_faults
   pub ended : Status
-  pub keeps : KeepsPromises (memory_run words input left output output_faults notes notes_faults ended)
+  pub keeps : Promised (memory_run words input left output output_faults notes notes_faults ended)
   pub status_is : status ≡ WriteFault
 
 -- Memory ran out before the run, and nothing was written.
@@ -57,9 +58,9 @@ pub record HasNotRun (output notes : List ℕ) (status : Status) : Type 0 where
   pub no_output : output ≡ []
   pub no_notes : notes ≡ []
 
-abbrev pub IsCalled : List ℕ → List ℕ → List ℕ → List ℕ → Status → Type 0
-IsCalled command input output notes status =
-    HasRun command input output notes status ⊎ (HasLackedRoom command input output notes status ⊎ HasNotRun output notes status)
+abbrev pub IsCalled : (Run → Type 0) → List ℕ → List ℕ → List ℕ → List ℕ → Status → Type 0
+IsCalled Promised command input output notes status = HasRun Promised command input output notes status ⊎
+    (HasLackedRoom Promised command input output notes status ⊎ HasNotRun output notes status)
 
 -- If the text fits, it is at the start of the buffer, and otherwise the buffer is unchanged.
 pub record IsPut (text old new : List ℕ) : Type 0 where
@@ -72,13 +73,23 @@ empty_sink = record { written = []; schedule = first_schedule [] }
 
 -- A call made an output and notes, as `IsCalled` says; its result has the status and the lengths of both, and the
 -- buffers have them if they fit.
-pub record IsAnswered (command input output output' notes notes' : List ℕ) (status output_length notes_length : ℕ) : Type 0 where
+pub record IsAnsweredBy (Promised : Run → Type 0) (command input output output' notes notes' : List ℕ)
+    (status output_length notes_length : ℕ) : Type 0 where
   pub out : List ℕ
   pub note : List ℕ
   pub ended : Status
-  pub called : IsCalled command input out note ended
+  pub called : IsCalled Promised command input out note ended
   pub status_is : status ≡ number_of ended
   pub output_is : output_length ≡ length out
   pub notes_is : notes_length ≡ length note
   pub on_output : IsPut out output output'
   pub on_notes : IsPut note notes notes'
+
+-- the promises of the program
+abbrev pub IsAnswered : List ℕ → List ℕ → List ℕ → List ℕ → List ℕ → List ℕ → ℕ → ℕ → ℕ → Type 0
+IsAnswered = IsAnsweredBy KeepsPromises
+
+-- those of a comparison with a first text
+abbrev pub IsPairAnswered : List ℕ → List ℕ → List ℕ → List ℕ → List ℕ → List ℕ → List ℕ → ℕ → ℕ → ℕ → Type 0
+IsPairAnswered command first second output output' notes notes' status output_length notes_length =
+    IsAnsweredBy (KeepsPair first) command second output output' notes notes' status output_length notes_length

@@ -1,10 +1,12 @@
 //! A run of the program in memory.
 ghost use Rattle.std.specs.Prelude.{◌≡◌};
+ghost use Rattle.chain_app.specs.KeepsPromises.{KeepsPromises};
+ghost use Rattle.chain_app.specs.Pair.{KeepsPair};
 ghost use Rattle.batsokemi_c.specs.Called.{empty_sink, IsCalled};
 
 use crate::input::Input;
 use crate::words::words_of;
-use chain_app::{Status, run};
+use chain_app::{Status, run, run_pair};
 use port_io::MemorySink;
 use std::alloc::Global;
 
@@ -20,7 +22,7 @@ pub fn call(
 ) -> Status
     requires out { out.old ≡ empty_sink }
     requires note { note.old ≡ empty_sink }
-    ensures { IsCalled command.now input.now out.new.written note.new.written result }
+    ensures { IsCalled KeepsPromises command.now input.now out.new.written note.new.written result }
 {
     let Ok(words) = words_of(alloc, command) else {
         return Status::Memory;
@@ -31,6 +33,34 @@ pub fn call(
         return Status::WriteFault;
     }
     if note.faults() > 0 {
+        return Status::WriteFault;
+    }
+    ended
+}
+
+/// Compares two texts over two empty sinks, in the same way.
+#[tactic(auto, using(crate::specs::CallLaws::calling))]
+pub fn call_pair(
+    alloc: Global,
+    command: &[u8],
+    first: &[u8],
+    second: &[u8],
+    out: &mut MemorySink,
+    notes: &mut MemorySink,
+) -> Status
+    requires out { out.old ≡ empty_sink }
+    requires notes { notes.old ≡ empty_sink }
+    ensures { IsCalled (KeepsPair first.now) command.now second.now out.new.written notes.new.written result }
+{
+    let Ok(words) = words_of(alloc, command) else {
+        return Status::Memory;
+    };
+    let mut source = Input::new(second);
+    let ended = run_pair(alloc, &words, first, &mut source, out, notes);
+    if out.faults() > 0 {
+        return Status::WriteFault;
+    }
+    if notes.faults() > 0 {
         return Status::WriteFault;
     }
     ended

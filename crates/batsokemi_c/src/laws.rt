@@ -3,6 +3,7 @@ ghost use Rattle.std.specs.Prelude.{◌≡◌, ℕ, ◌<◌, List};
 ghost use Rattle.command_line.specs.declared.command.Command.{Command};
 ghost use Rattle.frame_core.specs.Task.{IsAnswerable};
 ghost use Rattle.chain_app.specs.Tasks.{task_of};
+ghost use Rattle.chain_app.specs.KeepsPromises.{KeepsPromises};
 ghost use Rattle.batsokemi_c.specs.Called.{HasLackedRoom, IsAnswered};
 ghost use Rattle.batsokemi_c.specs.Answering.{HasSteadyRun, Asks, AnswersWith, AreRefusal, AreErrorLine};
 
@@ -15,7 +16,7 @@ pub fn calls_never_fail_to_read()
 /// couldn't be had.
 pub fn write_faults_lack_room()
     ensures { (c i o o' n n' : List ℕ) (s ol nl : ℕ) (a : IsAnswered c i o o' n n' s ol nl) →
-        s ≡ 6 → HasLackedRoom c i a.out a.note a.ended }
+        s ≡ 6 → HasLackedRoom KeepsPromises c i a.out a.note a.ended }
 {}
 
 /// With enough memory, so with any status but 6 and 7, no call failed at all, and each clause of the program's promises

@@ -19,5 +19,5 @@ returns c =
     c.new-source.ensures c.run-ended.ensures in
     let out_held : c.run-ended.new.out.schedule.faults ≡ 0 = omega (arith, c.faults.ensures, c.if-faults-gt0.false) in
     let note_held : c.run-ended.new.note.schedule.faults ≡ 0 = omega (arith, c.faults-2.ensures, c.if-faults-gt0-2.false) in
-    has_run c.args.command.now c.args.input.now words left c.args.out.now c.run-ended.new.out c.args.note.now
+    has_run KeepsPromises c.args.command.now c.args.input.now words left c.args.out.now c.run-ended.new.out c.args.note.now
     c.run-ended.new.note c.run-ended.result c.in-Ok.ensures c.requires.out c.requires.note out_held note_held keeps
