@@ -1,9 +1,9 @@
 -- What words ask for, or don't.
-use Rattle.std.specs.Prelude.{◌≡◌, ℕ, ◌<◌, ◌≤◌, if◌then◌else◌, nat_le, List, length, map, Bool, true, false, Option, Some, None, Ok, Err, String}
+use Rattle.std.specs.Prelude.{◌≡◌, ℕ, if◌then◌else◌, nat_le, List, length, map, Bool, true, false, Option, Some, None, Ok, Err, String}
 use Rattle.std.specs.Global.{Global}
 use Rattle.std.proofs.lemmas.Grind.{common_steps}
 use Rattle.std.proofs.lemmas.List.{length-map}
-use Rattle.std.proofs.Common.{sym, ◌∙◌, ap, subst, arith}
+use Rattle.std.proofs.Common.{sym, ◌∙◌, ap, subst}
 use Rattle.std.specs.Option.{option_map}
 use Rattle.command_line.specs.declared.command.Command.{Command}
 use Rattle.command_line.specs.declared.command.WordsError.{WordsError}
@@ -87,25 +87,11 @@ pub as_many : (f : String Global → List ℕ) (files : List (String Global)) (m
     nat_le (length files) most ≡ nat_le (length (map f files)) most
 as_many f files most = ap (λ (n : ℕ). nat_le n most) (sym (counted f files))
 
--- a test by the number of operands
-pub too_many : (n most : ℕ) → most < n → nat_le n most ≡ false
-too_many n most more = omega arith
+-- a test by the number of operands, and then another
+pub unfit : (few rest : Bool) → few ≡ false → false ≡ (if few then rest else false)
+unfit few rest not = ap (λ (b : Bool). if b then rest else false) (sym not)
 
-few_enough : (n most : ℕ) → n ≤ most → nat_le n most ≡ true
-few_enough n most few = omega arith
+pub fit : (few rest result : Bool) → few ≡ true → result ≡ rest → result ≡ (if few then rest else false)
+fit few rest result is fits_too = fits_too ∙ ap (λ (b : Bool). if b then rest else false) (sym is)
 
-pub unfit : (f : String Global → List ℕ) (files : List (String Global)) (most allowed : ℕ) (rest : Bool) →
-    most ≡ allowed → most < length files → false ≡ (if nat_le (length (map f files)) allowed then rest else false)
-unfit f files most allowed rest is more =
-    ap (λ (b : Bool). if b then rest else false) (sym (too_many (length files) most more) ∙ as_many f files most) ∙
-    ap (λ (n : ℕ). if nat_le (length (map f files)) n then rest else false) is
-
-pub fit : (f : String Global → List ℕ) (files : List (String Global)) (most allowed : ℕ) (rest result : Bool) →
-    most ≡ allowed → length files ≤ most → result ≡ rest →
-    result ≡ (if nat_le (length (map f files)) allowed then rest else false)
-fit f files most allowed rest result is few fits_too =
-    fits_too ∙
-    ap (λ (b : Bool). if b then rest else false) (sym (few_enough (length files) most few) ∙ as_many f files most) ∙
-    ap (λ (n : ℕ). if nat_le (length (map f files)) n then rest else false) is
-
-pub ruleset counting = (common_steps, unfit, fit)
+pub ruleset counting = (common_steps, as_many)

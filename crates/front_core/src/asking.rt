@@ -1,5 +1,5 @@
 //! What words ask for that may name files.
-ghost use Rattle.std.specs.Prelude.{◌≡◌, map, IfSome};
+ghost use Rattle.std.specs.Prelude.{◌≡◌, nat_le, length, map, IfSome};
 ghost use Rattle.std.specs.Option.{option_map};
 ghost use Rattle.std.specs.String.{string_bytes};
 ghost use Rattle.command_line.specs.CommandLine.{IsAskable, IsBudget};
@@ -65,13 +65,20 @@ fn certificate_fits(
     is_apart(file, output)
 }
 
-/// Whether a line names no more files than the command reads and writes.
+/// Whether a line names no more files than the command reads.
 #[tactic(auto, using(crate::proofs::Words::counting))]
+fn is_few(command: &Command, line: &FileLine) -> bool
+    ensures { result ≡ nat_le (length (line_value line.now).operands) (spec.most_operands command.now) }
+{
+    let most = most_operands(command);
+    line.operands.len() <= most
+}
+
+/// Whether a line names no more files than the command reads and writes.
 pub(crate) fn fits(command: &Command, line: &FileLine) -> bool
     ensures { result ≡ spec.fits command.now (line_value line.now) }
 {
-    let most = most_operands(command);
-    if line.operands.len() > most {
+    if !is_few(command, line) {
         return false;
     }
     certificate_fits(command, &line.certificate, &line.output)

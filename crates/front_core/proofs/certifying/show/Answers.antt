@@ -1,4 +1,3 @@
-use Rattle.std.specs.Prelude.{◌≡◌}
 use Rattle.std.proofs.Common.{sym, ◌∙◌}
 use Rattle.front_core.proofs.Certificates.{reopened}
 use Rattle.front_core.proofs.certifying.show.Goals as goal
