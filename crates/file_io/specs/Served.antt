@@ -72,9 +72,3 @@ abbrev pub IsRead : Option (List ℕ) → Does → Files → Pass → Pass → P
 IsRead None does files source out note status = does files source out note status
 IsRead (Some name) does files source out note status =
     (source.1 ≡ source.0) × (IsUnread name files out note status ⊎ IsOpened name does files out note status)
-
--- ---- both: the output is created before the input is opened
-
-abbrev pub IsServed : Option (List ℕ) → Option (List ℕ) → Does → Files → Pass → Pass → Pass → Status → Type 0
-IsServed input output does files source out note status =
-    IsDelivered output (IsRead input does) files source out note status

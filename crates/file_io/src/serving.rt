@@ -2,7 +2,7 @@
 ghost use Rattle.std.specs.Prelude.{◌≡◌, ◌⊎◌};
 ghost use Rattle.frame_core.specs.Run.{before_after};
 ghost use Rattle.file_io.specs.Files.{files_before_after};
-ghost use Rattle.file_io.specs.Served.{Does, IsWritten, IsDelivered, IsUnread, IsOpened, IsRead, IsServed};
+ghost use Rattle.file_io.specs.Served.{Does, IsWritten, IsDelivered, IsUnread, IsOpened, IsRead};
 ghost use Rattle.file_io.specs.Texts.{text_in};
 
 use crate::calls::Call;
@@ -145,13 +145,13 @@ pub fn read_input<K: Work, W: Outside, S: Source, O: Sink, N: Sink>(
     }
 }
 
-// ---- both
-
 /// Work over an input that may be named, as work.
 #[derive(Drop)]
-struct Reading<'a, K> {
-    input: Option<&'a str>,
-    work: &'a K,
+pub struct Reading<'a, K> {
+    /// The name of its input; None for the source.
+    pub input: Option<&'a str>,
+    /// The work.
+    pub work: &'a K,
 }
 
 impl<'a, K: Work> Work for Reading<'a, K> {
@@ -172,28 +172,4 @@ impl<'a, K: Work> Work for Reading<'a, K> {
     ) -> Status {
         read_input(alloc, self.work, self.input, outside, source, out, note)
     }
-}
-
-/// Does work whose input and output are files or, without names, `source` and `out`. The output is created before the
-/// input is opened.
-pub fn serve_files<K: Work, W: Outside, S: Source, O: Sink, N: Sink>(
-    alloc: Global,
-    work: &K,
-    input: Option<&str>,
-    output: Option<&str>,
-    outside: &mut W,
-    source: &mut S,
-    out: &mut O,
-    note: &mut N,
-) -> Status
-    requires { K.ready work.now }
-    ensures { IsServed (text_in input.entry) (text_in output.entry) (K.does work.now)
-        (files_before_after W.holds W.faults outside.old outside.new)
-        (before_after S.left S.faults source.old source.new)
-        (before_after O.written O.faults out.old out.new)
-        (before_after N.written N.faults note.old note.new)
-        result }
-{
-    let reading = Reading { input, work };
-    write_output(alloc, &reading, output, outside, source, out, note)
 }

@@ -10,5 +10,6 @@ line_value line = record {
   words = map string_bytes line.words.items;
   operands = map string_bytes line.operands.items;
   output = option_map string_bytes line.output;
+  certificate = option_map string_bytes line.certificate;
   next = line.next;
 }

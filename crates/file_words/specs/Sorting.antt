@@ -3,13 +3,15 @@ use Rattle.std.specs.Prelude.{◌==◌, ℕ, List, [], ◌∷◌, ◌++◌, Bool
 use Rattle.std.specs.Prelude.{if◌then◌else◌}
 use Rattle.command_line.specs.Options.{is_word}
 use Rattle.file_words.specs.declared.line.Next.{Next}
-use Rattle.file_words.specs.declared.line.Next.TheVariants.{Word, Value, Output, Operand, Nothing}
+use Rattle.file_words.specs.declared.line.Next.TheVariants.{Word, Value, Output, Certificate, Operand, Nothing}
 
--- a line up to some word: the command's own words, the files that are read, that of `-o`, and what comes next
+-- a line up to some word: the command's own words, the files that are read, those of `-o` and `--certificate`, and what
+-- comes next
 pub record Line : Type 0 where
   pub words : List (List ℕ)
   pub operands : List (List ℕ)
   pub output : Option (List ℕ)
+  pub certificate : Option (List ℕ)
   pub next : Next
 
 abbrev pub is_same : List ℕ → List ℕ → Bool
@@ -31,6 +33,7 @@ abbrev pub word_taken : Line → List ℕ → Line
 word_taken line word =
     if is_same word (codes "--") then record line { next = Operand }
     else if is_same word (codes "-o") then record line { next = Output }
+    else if is_same word (codes "--certificate") then record line { next = Certificate }
     else if is_option word then record line { words = line.words ++ word ∷ []; next = Value }
     else record line { operands = line.operands ++ word ∷ [] }
 
@@ -39,10 +42,16 @@ abbrev pub output_taken : Option (List ℕ) → Line → List ℕ → Line
 output_taken None line word = record line { output = Some word; next = Word }
 output_taken (Some output) line word = record line { next = Nothing }
 
+-- So has `--certificate`.
+abbrev pub certificate_taken : Option (List ℕ) → Line → List ℕ → Line
+certificate_taken None line word = record line { certificate = Some word; next = Word }
+certificate_taken (Some certificate) line word = record line { next = Nothing }
+
 abbrev pub stepped_at : Next → Line → List ℕ → Line
 stepped_at Word line word = word_taken line word
 stepped_at Value line word = record line { words = line.words ++ word ∷ []; next = Word }
 stepped_at Output line word = output_taken line.output line word
+stepped_at Certificate line word = certificate_taken line.certificate line word
 stepped_at Operand line word = record line { operands = line.operands ++ word ∷ [] }
 stepped_at Nothing line word = line
 
@@ -56,7 +65,7 @@ sorted line [] = line
 sorted line (word ∷ words) = sorted (stepped line word) words
 
 abbrev pub first_line : List ℕ → Line
-first_line name = record { words = name ∷ []; operands = []; output = None; next = Word }
+first_line name = record { words = name ∷ []; operands = []; output = None; certificate = None; next = Word }
 
 -- A line ends where no value is missing.
 abbrev pub is_whole : Next → Bool
@@ -67,7 +76,8 @@ is_whole next = false
 abbrev pub ended : Line → Option Line
 ended line = if is_whole line.next then Some line else None
 
--- The first word is the command's name. None: there is no word, a value is missing, or `-o` is named twice.
+-- The first word is the command's name. None: there is no word, a value is missing, or `-o` or `--certificate` is named
+-- twice.
 -- Example: `improve in.blif --cap 4 -o out.blif` has the words `improve --cap 4`.
 unfoldable pub file_line : List (List ℕ) → Option Line
 file_line [] = None

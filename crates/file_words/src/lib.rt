@@ -1,5 +1,5 @@
-//! Command lines that name files. Beside the words of a command they have operands, which are files to read, and
-//! `-o FILE`: `synth --max 3 tables -o answer`.
+//! Command lines that name files. Beside the words of a command they have operands, which are files to read, `-o FILE`
+//! and `--certificate FILE`: `synth --max 3 tables -o answer`.
 //!
 //! `read_line` sorts the words: what is left without files is a command line as `command_line` reads it, which it
 //! doesn't check. Options are pairs of a name that begins with `-` and a value; `--` ends them; any other word is an
@@ -9,7 +9,7 @@
 //! let line = read_line(alloc, &words)?;   // of improve in.blif --cap 4 -o out.blif
 //! line.words      // improve --cap 4
 //! line.operands   // in.blif
-//! line.output     // out.blif
+//! line.output     // out.blif; as line.certificate, of --certificate
 //! ```
 #![tactic(auto)]
 
@@ -17,4 +17,4 @@ mod line;
 mod sorting;
 
 pub use line::{FileLine, Next};
-pub use sorting::{is_standard, read_line};
+pub use sorting::{is_same, is_standard, read_line};

@@ -9,6 +9,8 @@ pub enum Next {
     Value,
     /// The value of `-o`.
     Output,
+    /// The value of `--certificate`.
+    Certificate,
     /// An operand: `--` came before.
     Operand,
     /// None: an option is named twice.
@@ -24,6 +26,8 @@ pub struct FileLine {
     pub operands: Vec<String>,
     /// The file of `-o`.
     pub output: Option<String>,
+    /// The file of `--certificate`.
+    pub certificate: Option<String>,
     /// What the next word is.
     pub next: Next,
 }

@@ -27,6 +27,13 @@ fn is_option(word: &[u8]) -> bool
     *first == b'-' && !rest.is_empty()
 }
 
+/// Whether two files have the same name.
+pub fn is_same(file: &str, other: &str) -> bool
+    ensures { result ≡ spec.is_same file.now other.now }
+{
+    is_word(file.as_bytes(), other.as_bytes())
+}
+
 /// Whether a file is standard input or output.
 pub fn is_standard(file: &str) -> bool
     ensures { result ≡ spec.is_standard file.now }
@@ -56,6 +63,20 @@ fn take_output(alloc: Global, line: &mut FileLine, word: &str) -> Result<(), All
     Ok(())
 }
 
+/// Takes the value of `--certificate`.
+fn take_certificate(alloc: Global, line: &mut FileLine, word: &str) -> Result<(), AllocError>
+    ensures { OnOk result (line_value line.new ≡
+        spec.certificate_taken (line_value line.old).certificate (line_value line.old) word.now) }
+{
+    if line.certificate.is_some() {
+        line.next = Next::Nothing;
+        return Ok(());
+    }
+    line.certificate = Some(String::from_str(alloc, word)?);
+    line.next = Next::Word;
+    Ok(())
+}
+
 /// Takes an option's name, an operand, or `--`.
 fn take_word(alloc: Global, line: &mut FileLine, word: &str) -> Result<(), AllocError>
     ensures { OnOk result (line_value line.new ≡ spec.word_taken (line_value line.old) word.now) }
@@ -66,6 +87,10 @@ fn take_word(alloc: Global, line: &mut FileLine, word: &str) -> Result<(), Alloc
     }
     if is_word(word.as_bytes(), b"-o") {
         line.next = Next::Output;
+        return Ok(());
+    }
+    if is_word(word.as_bytes(), b"--certificate") {
+        line.next = Next::Certificate;
         return Ok(());
     }
     if is_option(word.as_bytes()) {
@@ -88,6 +113,7 @@ fn take(alloc: Global, line: &mut FileLine, word: &str) -> Result<(), AllocError
             push_word(alloc, &mut line.words, word)?;
         }
         Next::Output => take_output(alloc, line, word)?,
+        Next::Certificate => take_certificate(alloc, line, word)?,
         Next::Operand => push_word(alloc, &mut line.operands, word)?,
         Next::Nothing => {}
     }
@@ -104,6 +130,7 @@ fn first_line(alloc: Global, name: &str) -> Result<FileLine, AllocError>
         words,
         operands: Vec::new(alloc),
         output: None,
+        certificate: None,
         next: Next::Word,
     })
 }
@@ -127,11 +154,12 @@ fn is_whole(next: Next) -> bool
 {
     match next {
         Next::Word | Next::Operand => true,
-        Next::Value | Next::Output | Next::Nothing => false,
+        Next::Value | Next::Output | Next::Certificate | Next::Nothing => false,
     }
 }
 
-/// The words of a command line, sorted; None if there is no word, a value is missing, or `-o` is named twice.
+/// The words of a command line, sorted; None if there is no word, a value is missing, or `-o` or
+/// `--certificate` is named twice.
 #[tactic(auto, unfolding(crate::specs::Sorting::file_line))]
 pub fn read_line(alloc: Global, words: &Vec<String>) -> Result<Option<FileLine>, AllocError>
     ensures { IfOk result (λ found. option_map line_value found ≡ spec.file_line (spelled words.now)) }

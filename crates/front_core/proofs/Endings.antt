@@ -12,13 +12,14 @@ use Rattle.frame_core.specs.Outside.{PortState, Writes}
 use Rattle.frame_core.specs.Reported.{error_line, usage, memory}
 use Rattle.frame_core.specs.Run.{run_of}
 use Rattle.file_io.specs.Files.{FilesState, Files}
-use Rattle.file_io.specs.Served.{Pass, IsApart, IsDelivered, IsServed}
+use Rattle.file_io.specs.Served.{Pass, Does, IsApart, IsDelivered, IsRead}
 use Rattle.file_io.specs.ServedLaws.{still}
 use Rattle.file_words.specs.declared.line.FileLine.{FileLine}
 use Rattle.file_words.specs.Sorting.{Line, file_line}
 use Rattle.file_words.specs.Lines.{line_value}
 use Rattle.front_core.specs.Asked.{fits, IsNotPlain, AsksWithFiles, name_in, first_in, second_in, pair_budget}
-use Rattle.front_core.specs.Front.{Promises, front_run, IsServedLine, Ending, Plain, WithFiles, Idle, OutOfMemory, IsEnding, runs}
+use Rattle.front_core.specs.Front.{Promises, front_run, IsDone, IsServedLine, Ending, Plain, WithFiles, Idle, OutOfMemory, IsEnding, runs}
+use Rattle.front_core.specs.Certified.{IsCertified}
 use Rattle.front_core.specs.Paired.{IsPaired}
 use Rattle.front_core.proofs.Words.{asked, not_asked, line_of, no_line_of, none_with_files, too_many_files, none_without_line}
 
@@ -52,45 +53,55 @@ pub many_files : (p : Promises) (line : Line) (own : Command) (state : FilesStat
 many_files p line own state source out note note' status ok not writes is words other known =
     idle p words state source out note note' status other (too_many_files words line own known ok not) writes is
 
-pub with_one : (p : Promises) (line : Line) (own : Command) (budget : Option ℕ) (input output : Option (List ℕ)) (files : Files)
+pub with_one : (p : Promises) (line : Line) (own : Command) (budget : Option ℕ) (input : Option (List ℕ)) (files : Files)
     (source out note : Pass) (status : Status) → Ok own ≡ read line.words → fits own line ≡ true →
-    budget ≡ pair_budget own line.operands → budget ≡ None →
-    input ≡ name_in (first_in line.operands) → output ≡ name_in line.output →
-    IsServed input output (IsApart (runs p.keeps line.words)) files source out note status →
+    budget ≡ pair_budget own line.operands → budget ≡ None → input ≡ name_in (first_in line.operands) →
+    ((all : List (List ℕ)) → IsDone line (IsRead input (IsApart (runs p.keeps line.words))) (front_run all files source out note status)) →
     (words : List (List ℕ)) → IsNotPlain words → file_line words ≡ Some line →
     (ending : Ending) × IsEnding p (front_run words files source out note status) ending
-with_one p line own budget input output files source out note status ok fitting asked_for none i o served words other known = (
+with_one p line own budget input files source out note status ok fitting asked_for none i done words other known = (
   WithFiles,
   record {
     command = own;
     line = line;
     asks = record { other = other; line_is = known; asks = asked line.words own ok; fits_in = fitting };
     served = subst (λ (b : Option ℕ). IsServedLine p b line (front_run words files source out note status)) (sym none ∙ asked_for)
-        (subst (λ (y : Option (List ℕ)). IsServed (name_in (first_in line.operands)) y (IsApart (runs p.keeps line.words)) files source out note status) o
-        (subst (λ (x : Option (List ℕ)). IsServed x output (IsApart (runs p.keeps line.words)) files source out note status) i served));
+        (subst (λ (x : Option (List ℕ)). IsDone line (IsRead x (IsApart (runs p.keeps line.words))) (front_run words files source out note status)) i
+        (done words));
   },
 )
 
 pub with_pair : (p : Promises) (line : Line) (own : Command) (asked_budget : Option ℕ) (budget : ℕ)
-    (first second output : Option (List ℕ)) (files : Files)
+    (first second : Option (List ℕ)) (files : Files)
     (source out note : Pass) (status : Status) → Ok own ≡ read line.words → fits own line ≡ true →
     asked_budget ≡ pair_budget own line.operands → asked_budget ≡ Some budget →
-    first ≡ name_in (first_in line.operands) → second ≡ name_in (second_in line.operands) → output ≡ name_in line.output →
-    IsDelivered output (IsPaired first second (p.compares budget)) files source out note status →
+    first ≡ name_in (first_in line.operands) → second ≡ name_in (second_in line.operands) →
+    ((all : List (List ℕ)) → IsDone line (IsPaired first second (p.compares budget)) (front_run all files source out note status)) →
     (words : List (List ℕ)) → IsNotPlain words → file_line words ≡ Some line →
     (ending : Ending) × IsEnding p (front_run words files source out note status) ending
-with_pair p line own asked_budget budget first second output files source out note status ok fitting asked_for some f s o served words other known = (
+with_pair p line own asked_budget budget first second files source out note status ok fitting asked_for some f s done words other known = (
   WithFiles,
   record {
     command = own;
     line = line;
     asks = record { other = other; line_is = known; asks = asked line.words own ok; fits_in = fitting };
     served = subst (λ (b : Option ℕ). IsServedLine p b line (front_run words files source out note status)) (sym some ∙ asked_for)
-        (subst (λ (y : Option (List ℕ)). IsDelivered y (IsPaired (name_in (first_in line.operands)) (name_in (second_in line.operands)) (p.compares budget)) files source out note status) o
-        (subst (λ (x : Option (List ℕ)). IsDelivered output (IsPaired (name_in (first_in line.operands)) x (p.compares budget)) files source out note status) s
-        (subst (λ (x : Option (List ℕ)). IsDelivered output (IsPaired x second (p.compares budget)) files source out note status) f served)));
+        (subst (λ (x : Option (List ℕ)). IsDone line (IsPaired (name_in (first_in line.operands)) x (p.compares budget)) (front_run words files source out note status)) s
+        (subst (λ (x : Option (List ℕ)). IsDone line (IsPaired x second (p.compares budget)) (front_run words files source out note status)) f
+        (done words)));
   },
 )
+
+-- the outputs of a line, by their names
+pub done_as : (line : Line) (does : Does) (output certificate : Option (List ℕ)) (files : Files) (source out note : Pass)
+    (status : Status) → output ≡ name_in line.output → certificate ≡ name_in line.certificate →
+    IsDelivered output (IsCertified certificate does) files source out note status →
+    (words : List (List ℕ)) → IsDone line does (front_run words files source out note status)
+done_as line does output certificate files source out note status o c delivered words =
+    subst (λ (x : Option (List ℕ)). IsDelivered x (IsCertified (name_in line.certificate) does) files source out note status) o
+    (subst (λ (x : Option (List ℕ)). IsDelivered output (IsCertified x does) files source out note status) c delivered)
+
+pub ruleset outputs = (common_steps, done_as)
 
 pub ruleset line_endings = (common_steps, no_command, many_files, with_one, with_pair)
 

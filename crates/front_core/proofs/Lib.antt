@@ -1,3 +1,4 @@
+pub mod Certificates
 pub mod Endings
 pub mod Pairs
 pub mod Words

@@ -1,5 +1,5 @@
 -- What words ask for, or don't.
-use Rattle.std.specs.Prelude.{◌≡◌, ℕ, nat_le, List, length, map, Bool, true, false, Option, Some, None, Ok, Err, String}
+use Rattle.std.specs.Prelude.{◌≡◌, ℕ, if◌then◌else◌, nat_le, List, length, map, Bool, true, false, Option, Some, None, Ok, Err, String}
 use Rattle.std.specs.Global.{Global}
 use Rattle.std.proofs.lemmas.Grind.{common_steps}
 use Rattle.std.proofs.lemmas.List.{length-map}
@@ -86,5 +86,12 @@ counted f files = length-map files f
 pub as_many : (f : String Global → List ℕ) (files : List (String Global)) (most : ℕ) →
     nat_le (length files) most ≡ nat_le (length (map f files)) most
 as_many f files most = ap (λ (n : ℕ). nat_le n most) (sym (counted f files))
+
+-- a test by the number of operands, and then another
+pub unfit : (few rest : Bool) → few ≡ false → false ≡ (if few then rest else false)
+unfit few rest not = ap (λ (b : Bool). if b then rest else false) (sym not)
+
+pub fit : (few rest result : Bool) → few ≡ true → result ≡ rest → result ≡ (if few then rest else false)
+fit few rest result is fits_too = fits_too ∙ ap (λ (b : Bool). if b then rest else false) (sym is)
 
 pub ruleset counting = (common_steps, as_many)

@@ -8,9 +8,10 @@ use Rattle.frame_core.specs.Outside.{Writes}
 use Rattle.frame_core.specs.Reported.{Field, error_line, usage, memory}
 use Rattle.frame_core.specs.Run.{Run, run_of}
 use Rattle.file_io.specs.Files.{Files, IsUnchanged}
-use Rattle.file_io.specs.Served.{Pass, IsApart, IsDelivered, IsServed}
+use Rattle.file_io.specs.Served.{Pass, Does, IsApart, IsDelivered, IsRead}
 use Rattle.file_words.specs.Sorting.{Line}
 use Rattle.front_core.specs.Asked.{AsksWithFiles, IsNotPlain, name_in, first_in, second_in, pair_budget}
+use Rattle.front_core.specs.Certified.{IsCertified}
 use Rattle.front_core.specs.Paired.{Compares, IsPaired}
 
 -- what a caller sees of a run: the words, what names hold, source and sinks before and after, the status
@@ -67,16 +68,18 @@ pub record Promises : Type 1 where
   pub keeps : Run → Type 0
   pub compares : ℕ → Compares
 
+-- The outputs of a line: they are created before the work begins.
+abbrev pub IsDone : Line → Does → FrontRun → Type 0
+IsDone line does r =
+    IsDelivered (name_in line.output) (IsCertified (name_in line.certificate) does) r.files r.source r.out r.note r.status
+
 -- Two files are compared, and never joined; any other command ran, without the files, over the bytes of the one that
 -- is named.
 abbrev pub IsServedLine : Promises → Option ℕ → Line → FrontRun → Type 0
 IsServedLine p (Some budget) line r =
-    IsDelivered (name_in line.output)
-    (IsPaired (name_in (first_in line.operands)) (name_in (second_in line.operands)) (p.compares budget))
-    r.files r.source r.out r.note r.status
+    IsDone line (IsPaired (name_in (first_in line.operands)) (name_in (second_in line.operands)) (p.compares budget)) r
 IsServedLine p None line r =
-    IsServed (name_in (first_in line.operands)) (name_in line.output) (IsApart (runs p.keeps line.words))
-    r.files r.source r.out r.note r.status
+    IsDone line (IsRead (name_in (first_in line.operands)) (IsApart (runs p.keeps line.words))) r
 
 -- The words name files.
 pub record IsWithFiles (p : Promises) (r : FrontRun) : Type 0 where

@@ -7,8 +7,10 @@
 //!
 //! What is proved, for each program, each source and sink and all files: `IsEnding` of `specs/Front.antt`. Words that
 //! are a command line as they are mean to the byte what they mean to the program. Words that name files are that
-//! program's run over the bytes of the file, and a named output holds the whole answer, or what it held before. Two
-//! files of `equiv` are compared as two texts, which are never joined. Any other words are a usage error.
+//! program's run over the bytes of the file, and a named output holds the whole answer, or what it held before. With
+//! `--certificate FILE` the whole answer goes to FILE, and its own lines (`shown_lines`) to the output. Outputs are
+//! created before anything is read. Two files of `equiv` are compared as two texts, which are never joined. Any other
+//! words are a usage error.
 //!
 //! ```text
 //! let status = serve::<Strict, ..>(alloc, &words, &mut outside, &mut source, &mut out, &mut note);
@@ -16,6 +18,7 @@
 #![tactic(auto)]
 
 mod asking;
+mod certifying;
 mod pairing;
 mod program;
 mod serving;

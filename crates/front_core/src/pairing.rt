@@ -7,13 +7,12 @@ ghost use Rattle.frame_core.specs.Reported.{error_line};
 ghost use Rattle.frame_core.specs.Run.{before_after};
 ghost use Rattle.frame_core.specs.Views.{line_value};
 ghost use Rattle.file_io.specs.Files.{files_before_after};
-ghost use Rattle.file_io.specs.Served.{IsDelivered};
 ghost use Rattle.file_io.specs.Texts.{text_in};
 ghost use Rattle.front_core.specs.Paired.{first_line, first_status};
-ghost use Rattle.front_core.specs.Paired.{IsFirstDone, IsFirstStandard, IsNamedPair, IsPaired};
+ghost use Rattle.front_core.specs.Paired.{IsFirstDone, IsFirstStandard, IsNamedPair};
 
 use crate::program::Program;
-use file_io::{Call, Outside, Work, read_input, report_fault, write_output};
+use file_io::{Call, Outside, Work, read_input, report_fault};
 use frame_core::{ErrorLine, Field, Status, report_error};
 use net_theory::MOST_OF_NETLIST;
 use port_io::{ReadError, Sink, Source, read_all};
@@ -182,13 +181,14 @@ fn pair_named<P: Program, W: Outside, S: Source, O: Sink, N: Sink>(
     )
 }
 
-/// The comparison of the texts of two inputs, as work.
+/// The comparison of the texts of two inputs, which are never joined, as work: those of the files that are named, or
+/// that of the source.
 #[derive(Drop)]
-struct Pairing<'a, P> {
-    first: Option<&'a str>,
-    second: Option<&'a str>,
-    budget: u32,
-    program: PhantomData<P>,
+pub(crate) struct Pairing<'a, P> {
+    pub(crate) first: Option<&'a str>,
+    pub(crate) second: Option<&'a str>,
+    pub(crate) budget: u32,
+    pub(crate) program: PhantomData<P>,
 }
 
 impl<'a, P: Program> Work for Pairing<'a, P> {
@@ -233,35 +233,4 @@ impl<'a, P: Program> Work for Pairing<'a, P> {
             }
         }
     }
-}
-
-/// Compares the texts of two inputs, which are never joined: those of the files that are named, or that of `source`.
-/// A named output is created before the first is opened.
-pub(crate) fn serve_pair<P: Program, W: Outside, S: Source, O: Sink, N: Sink>(
-    alloc: Global,
-    budget: u32,
-    first: Option<&str>,
-    second: Option<&str>,
-    output: Option<&str>,
-    outside: &mut W,
-    source: &mut S,
-    out: &mut O,
-    note: &mut N,
-) -> Status
-    requires { IsBudget budget }
-    ensures { IsDelivered (text_in output.entry)
-        (IsPaired (text_in first.entry) (text_in second.entry) (P.compares budget))
-        (files_before_after W.holds W.faults outside.old outside.new)
-        (before_after S.left S.faults source.old source.new)
-        (before_after O.written O.faults out.old out.new)
-        (before_after N.written N.faults note.old note.new)
-        result }
-{
-    let pairing = Pairing {
-        first,
-        second,
-        budget,
-        program: PhantomData::<P>,
-    };
-    write_output(alloc, &pairing, output, outside, source, out, note)
 }

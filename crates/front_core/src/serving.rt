@@ -8,13 +8,14 @@ ghost use Rattle.file_io.specs.Files.{files_before_after};
 ghost use Rattle.file_words.specs.Sorting.{file_line};
 ghost use Rattle.file_words.specs.Lines.{line_value};
 ghost use Rattle.front_core.specs.Asked.{IsNotPlain};
-ghost use Rattle.front_core.specs.Front.{Ending, IsEnding, front_run, promised_by};
+ghost use Rattle.front_core.specs.Front.{Ending, IsDone, IsEnding, front_run, promised_by};
 
-use crate::asking::{fits, input_of, output_of, pair_budget, second_of};
-use crate::pairing::serve_pair;
+use crate::asking::{certificate_of, fits, input_of, output_of, pair_budget, second_of};
+use crate::certifying::Certifying;
+use crate::pairing::Pairing;
 use crate::program::{Program, Running};
 use command_line::read_words;
-use file_io::{Outside, serve_files};
+use file_io::{Outside, Reading, Work, write_output};
 use file_words::{FileLine, read_line};
 use frame_core::{ErrorLine, Status, report_error};
 use port_io::{Sink, Source};
@@ -39,6 +40,31 @@ fn report_memory<N: Sink>(note: &mut N) -> Status
 {
     report_error(note, &ErrorLine::plain(b"Memory"));
     Status::Memory
+}
+
+/// Does work with the outputs that a line names.
+#[tactic(auto, using(crate::proofs::Endings::outputs))]
+fn serve_outputs<K: Work, W: Outside, S: Source, O: Sink, N: Sink>(
+    alloc: Global,
+    work: &K,
+    line: &FileLine,
+    outside: &mut W,
+    source: &mut S,
+    out: &mut O,
+    note: &mut N,
+) -> Status
+    requires { K.ready work.now }
+    ensures { (words : List (List ℕ)) → IsDone (line_value line.now) (K.does work.now) (front_run words
+        (files_before_after W.holds W.faults outside.old outside.new)
+        (before_after S.left S.faults source.old source.new)
+        (before_after O.written O.faults out.old out.new)
+        (before_after N.written N.faults note.old note.new)
+        result) }
+{
+    let certificate = certificate_of(line);
+    let output = output_of(line);
+    let certifying = Certifying { certificate, work };
+    write_output(alloc, &certifying, output, outside, source, out, note)
 }
 
 /// Runs the program over the files that a line names.
@@ -66,18 +92,25 @@ fn serve_line<P: Program, W: Outside, S: Source, O: Sink, N: Sink>(
         return report_usage(note);
     }
     let input = input_of(line);
-    let output = output_of(line);
     if let Some(budget) = pair_budget(&command, line) {
         let second = second_of(line);
-        return serve_pair::<P, W, S, O, N>(
-            alloc, budget, input, second, output, outside, source, out, note,
-        );
+        let pairing = Pairing {
+            first: input,
+            second,
+            budget,
+            program: PhantomData::<P>,
+        };
+        return serve_outputs(alloc, &pairing, line, outside, source, out, note);
     }
     let running = Running {
         words: &line.words,
         program: PhantomData::<P>,
     };
-    serve_files(alloc, &running, input, output, outside, source, out, note)
+    let reading = Reading {
+        input,
+        work: &running,
+    };
+    serve_outputs(alloc, &reading, line, outside, source, out, note)
 }
 
 /// Reads words that are no command line as they are, and runs the program over the files that they name.

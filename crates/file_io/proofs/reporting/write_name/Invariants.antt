@@ -1,4 +1,4 @@
-use Rattle.std.proofs.Common.{◌≡◌, ◌≤◌, length, map}
+use Rattle.std.proofs.Common.{◌≤◌, length, map}
 use Rattle.frame_core.specs.PiecesLaws.{IsWriting}
 use Rattle.file_io.specs.FaultLine.{escaped_byte}
 use Rattle.file_io.proofs.reporting.write_name.Given as goal

@@ -1,0 +1,4 @@
+pub mod Shown
+pub mod ShownLaws
+pub mod ShownReport
+pub mod ShownStages
