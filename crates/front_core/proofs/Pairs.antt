@@ -1,13 +1,12 @@
 -- The comparison of two texts.
-use Rattle.std.specs.Prelude.{◌≡◌, ℕ, ◌<◌, ◌≤◌, List, length, Option, Some, Err, IsErrOf, codes, refl}
-use Rattle.std.proofs.Common.{inl, inr, ⊎_elim}
+use Rattle.std.specs.Prelude.{◌≡◌, ℕ, ◌<◌, ◌≤◌, List, length, Option, Some, Err, IsErrOf, refl}
+use Rattle.std.proofs.Common.{inl, inr}
 use Rattle.std.proofs.lemmas.Grind.{common_steps}
 use Rattle.port_io.specs.Faults.{Rose}
 use Rattle.port_io.specs.declared.reading.ReadError.{ReadError}
 use Rattle.port_io.specs.declared.reading.ReadError.TheVariants.{ReadFault, TooLong, Memory}
 use Rattle.net_theory.specs.Limits.{most_of_netlist}
 use Rattle.frame_core.specs.declared.status.Status.{Status}
-use Rattle.frame_core.specs.declared.status.Status.TheVariants as statuses
 use Rattle.frame_core.specs.Outside.{PortState, Writes}
 use Rattle.frame_core.specs.Reported.{error_line}
 use Rattle.file_io.specs.declared.calls.Call.TheVariants.{Open}
