@@ -3,6 +3,7 @@
 from __future__ import annotations
 
 import pickle
+import subprocess
 import threading
 import unittest
 from pathlib import Path
@@ -195,12 +196,13 @@ class Errors(unittest.TestCase):
                 made.run(words)
 
     def test_options(self) -> None:
-        """The table of options is the launcher's."""
+        """The table of options is the program's."""
         said: dict[str, dict[str, object]] = {}
-        for line in (TOP / 'tools' / 'launch' / 'options').read_text().splitlines():
-            if line and not line.startswith('#'):
-                command, option, _, kind, *_ = line.split('|')
-                name, *rest = kind.split()
+        table = subprocess.run([TOP / 'batsokemi', 'help', '--options'], check=True, capture_output=True, text=True)
+        for line in table.stdout.splitlines():
+            command, option, kind, _ = line.split('|')
+            name, *rest = kind.split()
+            if name != 'file':
                 taken = 'basis' if name == 'basis' else tuple(map(int, rest)) if name == 'number' else tuple(rest)
                 said.setdefault(command, {})[option.removeprefix('--')] = taken
         self.assertEqual(options.KINDS, said)
