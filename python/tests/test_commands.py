@@ -2,6 +2,7 @@
 
 from __future__ import annotations
 
+import os
 import pickle
 import subprocess
 import threading
@@ -198,7 +199,9 @@ class Errors(unittest.TestCase):
     def test_options(self) -> None:
         """The table of options is the program's."""
         said: dict[str, dict[str, object]] = {}
-        table = subprocess.run([TOP / 'batsokemi', 'help', '--options'], check=True, capture_output=True, text=True)
+        others = {name: value for name, value in os.environ.items() if name != 'BATSOKEMI_PROGRAM'}
+        words = [TOP / 'batsokemi', 'help', '--options']
+        table = subprocess.run(words, check=True, capture_output=True, text=True, env=others)
         for line in table.stdout.splitlines():
             command, option, kind, _ = line.split('|')
             name, *rest = kind.split()
