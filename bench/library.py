@@ -83,7 +83,7 @@ def classes(library, program):
 def main():
     files = [word for word in sys.argv[1:] if not word.startswith('--')]
     library = os.path.abspath(files[0] if files else f'{TOP}/prebuilt/x86_64-linux/libbatsokemi.so')
-    program = os.path.abspath(files[1] if files[1:] else f'{TOP}/prebuilt/x86_64-linux/batsokemi')
+    program = os.path.abspath(files[1] if files[1:] else f'{TOP}/prebuilt/x86_64-linux/batsokemi-strict')
     calls(library, program)
     if '--classes' in sys.argv:
         print()

@@ -178,9 +178,10 @@ def find_library() -> str | None:
 
 
 def find_program() -> str | None:
-    """The program: the one that BATSOKEMI_PROGRAM names, that of the checkout, or the one on the path."""
-    in_checkout = HERE.parents[1] / 'prebuilt' / 'x86_64-linux' / 'batsokemi'
-    return first_file('BATSOKEMI_PROGRAM', in_checkout) or shutil.which('batsokemi')
+    """The strict program: the one that BATSOKEMI_PROGRAM names, that of the checkout, or the one on the path."""
+    in_checkout = HERE.parents[1] / 'prebuilt' / 'x86_64-linux' / 'batsokemi-strict'
+    found = first_file('BATSOKEMI_PROGRAM', in_checkout)
+    return found or shutil.which('batsokemi-strict') or shutil.which('batsokemi')
 
 
 def usual_engine() -> Engine:

@@ -109,7 +109,8 @@ KINDS: dict[int, tuple[type[Error], str]] = {
 
 
 def error_of(status: int, notes: bytes) -> Error:
-    """The error of a call with this status and these notes, whose last line is the error line."""
+    """The error of a call with this status and these notes: the last line is the error line, or where a line for people
+    comes after it the one before."""
     kind, name = KINDS.get(status, (Error, f'Status{status}'))
-    lines = notes.decode('utf-8', 'replace').splitlines()
-    return kind(status, lines[-1] if lines and lines[-1].startswith('error:') else name)
+    lines = [line for line in notes.decode('utf-8', 'replace').splitlines()[-2:] if line.startswith('error:')]
+    return kind(status, lines[-1] if lines else name)

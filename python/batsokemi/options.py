@@ -1,7 +1,7 @@
 """The options of the commands: how an argument of a function becomes words, and why the program refused one.
 
-The program judges the words; this table only says which of them is wrong. It is that of `tools/launch/options`, and the
-tests compare the two.
+The program judges the words; this table only says which of them is wrong. It is that of
+`batsokemi help --options`, and the tests compare the two.
 """
 
 from __future__ import annotations

@@ -2,7 +2,9 @@
 
 from __future__ import annotations
 
+import os
 import pickle
+import subprocess
 import threading
 import unittest
 from pathlib import Path
@@ -195,12 +197,15 @@ class Errors(unittest.TestCase):
                 made.run(words)
 
     def test_options(self) -> None:
-        """The table of options is the launcher's."""
+        """The table of options is the program's."""
         said: dict[str, dict[str, object]] = {}
-        for line in (TOP / 'tools' / 'launch' / 'options').read_text().splitlines():
-            if line and not line.startswith('#'):
-                command, option, _, kind, *_ = line.split('|')
-                name, *rest = kind.split()
+        others = {name: value for name, value in os.environ.items() if name != 'BATSOKEMI_PROGRAM'}
+        words = [TOP / 'batsokemi', 'help', '--options']
+        table = subprocess.run(words, check=True, capture_output=True, text=True, env=others)
+        for line in table.stdout.splitlines():
+            command, option, kind, _ = line.split('|')
+            name, *rest = kind.split()
+            if name != 'file':
                 taken = 'basis' if name == 'basis' else tuple(map(int, rest)) if name == 'number' else tuple(rest)
                 said.setdefault(command, {})[option.removeprefix('--')] = taken
         self.assertEqual(options.KINDS, said)

@@ -1,6 +1,6 @@
 # shellcheck shell=bash
-# Builds the program of a checkout, which proves every function that goes into it. A part of the launcher
-# and of the tools that build; `sources.sh` goes before it.
+# Builds the programs of a checkout, which proves every function that goes into them: the program, `crates/front`, and the
+# strict one, `crates/batsokemi`. A part of the tools that build; `sources.sh` goes before it.
 #
 # It is built in a copy that has the crates that the program stands on and no other, so that nothing else is
 # proved. The copy stays, with all that was proved, and a build that was interrupted goes on where it was.
@@ -68,7 +68,7 @@ how_far() {
             for (k = 1; k in word; k++)
                 if (!(word[k] in proved) && !(word[k] in busy)) at = at (at ? ", " : "") word[k] " (another checkout builds it)"
             line = sprintf("%d of %d crates proved", count, crates)
-            if (!count && (at == "" || at == "batsokemi")) { at = ""; line = line "; first a quick pass over all sources, some minutes" }
+            if (!count && (at == "" || at == "front" || at == "batsokemi")) { at = ""; line = line "; first a quick pass over all sources, some minutes" }
             else if (count >= crates) line = line ", and now the program is built"
             else if (done * 20 > all && seconds > 60) line = line ", about " int(seconds * (all - done) / done / 60 + 1) " min to go"
             print line (at ? "; at work on " at : "")
@@ -110,15 +110,26 @@ watch() {
     wait "$child"
 }
 
-# prove_and_build TOP COPY: the program is COPY/crates/batsokemi/out/batsokemi then, and COPY/sum the sum of
-# what it was built from
+# take_programs COPY FOLDER: puts the programs that were built there into the folder
+take_programs() {
+    local from
+    for from in front/out/front:batsokemi batsokemi/out/batsokemi:batsokemi-strict; do
+        cp "$1/crates/${from%:*}" "$2/${from#*:}.new" && chmod 755 "$2/${from#*:}.new" && mv "$2/${from#*:}.new" "$2/${from#*:}" || return 1
+    done
+}
+
+# prove_and_build TOP COPY: the programs are in COPY/crates/*/out then, and COPY/sum is the sum of what they were built
+# from
 prove_and_build() {
+    local program
     rm -f "$2/sum"
     copy_sources "$1" "$2" || { tell "the sources can't be copied to $2"; return 1; }
     sum_of_sources "$2" >"$2/sum.new"
     : >"$2/log"
     watch "$2" env -C "$2" rt all check --jobs "$(jobs_here)" || return 1
-    watch "$2" env -C "$2/crates/batsokemi" rt run -- agree <"$1/examples/agree/xor.agree" || return 1
+    for program in batsokemi front; do
+        watch "$2" env -C "$2/crates/$program" rt run -- agree <"$1/examples/agree/xor.agree" || return 1
+    done
     mv "$2/sum.new" "$2/sum"
 }
 
@@ -127,10 +138,11 @@ version_of() {
     sed -n 's/^## \([0-9][0-9.]*\).*/\1/p' "$1/CHANGELOG.md" | head -n 1
 }
 
-# manifest TOP PROGRAM SUM: what is said of a program that was built from the sources with that sum
+# manifest TOP FOLDER SUM: what is said of the programs there that were built from the sources with that sum
 manifest() {
     echo "version $(version_of "$1")"
-    echo "program $(sum_of "$2")"
+    echo "program $(sum_of "$2/batsokemi")"
+    echo "strict $(sum_of "$2/batsokemi-strict")"
     echo "sources $3"
     echo "toolchain $(rt version)"
     echo "commit $(git -C "$1" rev-parse HEAD 2>/dev/null || echo unknown)"

@@ -1,7 +1,7 @@
 # shellcheck shell=bash
-# Which files the program is built from, and their sum. A part of the launcher and of the tools that build.
+# Which files the programs are built from, and their sum. A part of the tools that build.
 
-# needed TOP: the lines of crates.txt for the crates that the program and the library stand on, in the file's order
+# needed TOP: the lines of crates.txt for the crates that the programs and the library stand on, in the file's order
 needed() {
     awk '
         { sub(/#.*/, "") }
@@ -13,6 +13,7 @@ needed() {
             uses[word[1]] = half[2]
         }
         END {
+            wanted["front"] = 1
             wanted["batsokemi"] = 1
             wanted["batsokemi_c"] = 1
             do {
