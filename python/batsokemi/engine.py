@@ -144,13 +144,15 @@ class Process:
         return Run(ended.returncode, ended.stdout, ended.stderr)
 
     def run_pair(self, words: Sequence[str], first: bytes, second: bytes) -> Run:
-        """Runs `equiv` with these words on two inputs, each in a file of its own."""
+        """Runs `equiv` with these words on two inputs, each in a file of its own, by the program that reads files: it is
+        beside the strict one, whose name ends with `-strict`."""
         line_of(words)
         with tempfile.TemporaryDirectory(prefix='batsokemi-') as folder:
             names = [os.path.join(folder, name) for name in ('first', 'second')]
             for name, text in zip(names, (first, second)):
                 Path(name).write_bytes(text)
-            ended = subprocess.run([self.path, *words, *names], capture_output=True, check=False)
+            front = self.path.removesuffix('-strict')
+            ended = subprocess.run([front, *words, *names], capture_output=True, check=False)
         return Run(ended.returncode, ended.stdout, ended.stderr)
 
     def __repr__(self) -> str:
