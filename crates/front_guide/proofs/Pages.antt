@@ -4,7 +4,7 @@ use Rattle.std.proofs.Common.{sym, ◌∙◌, ap}
 use Rattle.std.proofs.lemmas.Grind.{common_steps}
 use Rattle.command_line.specs.declared.command.Command.{Command}
 use Rattle.command_line.specs.declared.command.WordsError.{WordsError}
-use Rattle.command_line.specs.CommandLine.{command_of, or_usage, read, AsksFor}
+use Rattle.command_line.specs.CommandLine.{command_of, or_usage, read}
 use Rattle.front_core.specs.Asked.{IsNotPlain}
 use Rattle.front_guide.specs.Words.{has_help_word}
 

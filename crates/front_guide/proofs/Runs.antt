@@ -1,5 +1,5 @@
 -- How a run ends that helps people.
-use Rattle.std.specs.Prelude.{◌≡◌, ◌≤◌, ◌⊎◌, ℕ, List, Bool, true, false, refl}
+use Rattle.std.specs.Prelude.{◌≡◌, ◌≤◌, ℕ, List, true, false, refl}
 use Rattle.std.proofs.Common.{inl, inr}
 use Rattle.std.proofs.lemmas.Grind.{common_steps}
 use Rattle.frame_core.specs.declared.status.Status.{Status}
@@ -9,7 +9,7 @@ use Rattle.file_io.specs.Served.{Pass}
 use Rattle.front_core.specs.Asked.{IsNotPlain}
 use Rattle.front_core.specs.Front.{Promises, front_run, Ending, IsEnding}
 use Rattle.front_guide.specs.Words.{has_help_word}
-use Rattle.front_guide.specs.Guided.{IsPageStatus, IsPaged, IsHinted, IsHelped, IsGuided, is_found}
+use Rattle.front_guide.specs.Guided.{IsPageStatus, IsGuided, is_found}
 
 -- a page was written
 pub paged : (promises : Promises) (words : List (List ℕ)) (files : Files) (source out out' note : PortState)

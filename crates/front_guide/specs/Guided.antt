@@ -1,11 +1,9 @@
 -- How a run ends that helps people.
 use Rattle.std.specs.Prelude.{◌≡◌, ◌≤◌, ◌⊎◌, List, ℕ, Bool, true, false}
-use Rattle.port_io.specs.Bytes.{Appends}
 use Rattle.port_io.specs.Faults.{Rose}
 use Rattle.frame_core.specs.declared.status.Status.{Status}
 use Rattle.frame_core.specs.declared.status.Status.TheVariants.{Done, Undecided, WriteFault}
 use Rattle.frame_core.specs.Outside.{PortState, Writes}
-use Rattle.file_io.specs.Files.{Files}
 use Rattle.file_io.specs.Served.{Pass}
 use Rattle.front_core.specs.Asked.{IsNotPlain}
 use Rattle.front_core.specs.Front.{Promises, FrontRun, front_run, Ending, IsEnding}

@@ -1,5 +1,5 @@
 -- Words that may ask for help.
-use Rattle.std.specs.Prelude.{ℕ, List, [], ◌∷◌, Bool, true, false, ◌||◌, codes}
+use Rattle.std.specs.Prelude.{ℕ, List, [], ◌∷◌, Bool, false, ◌||◌, codes}
 use Rattle.command_line.specs.Options.{is_word}
 
 -- a word that asks for help: `help`, `--help`, `-h` or `--version`
