@@ -280,7 +280,7 @@ class Rooms(unittest.TestCase):
     def test_call_within_a_call(self) -> None:
         """A call before another one has read its answer, as the handler of a signal may make it, leaves that alone."""
         made = batsokemi.Library()
-        call, within = made._call, []
+        call, within = made._run, []
 
         def interrupted(*words: object) -> object:
             answer = call(*words)
@@ -289,7 +289,7 @@ class Rooms(unittest.TestCase):
                 within.append(made.run(['agree'], b'inputs 0\n1\nchain 0\nout 0\nend\n'))
             return answer
 
-        with mock.patch.object(made, '_call', interrupted):
+        with mock.patch.object(made, '_run', interrupted):
             self.assertEqual(made.run(['agree'], b'inputs 0\n1\nchain 0\nout 1\nend\n'), (0, b'agrees\n', b''))
         self.assertEqual(within[1:], [(8, b'differs 1 0\n', b'')])
 
