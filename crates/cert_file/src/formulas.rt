@@ -9,6 +9,7 @@ use enc_base::Encoding;
 use enc_fence::FenceEnc;
 use enc_select::Select;
 use enc_ssv::{Plain, Ssv};
+use enc_strong::{Strong, StrongFence};
 use enc_theory::Subproblem;
 use settings::Method;
 use std::alloc::{AllocError, Global};
@@ -28,6 +29,8 @@ pub(crate) fn subproblems_of(
         Method::Ssv => Ssv.subproblems(alloc, &header.spec, size),
         Method::Select => Select.subproblems(alloc, &header.spec, size),
         Method::Fence => FenceEnc.subproblems(alloc, &header.spec, size),
+        Method::Strong => Strong.subproblems(alloc, &header.spec, size),
+        Method::StrongFence => StrongFence.subproblems(alloc, &header.spec, size),
     }
 }
 
@@ -49,5 +52,9 @@ pub(crate) fn formula_of(
         Method::Ssv => Ssv.formula(alloc, &header.spec, header.basis, size, subproblem),
         Method::Select => Select.formula(alloc, &header.spec, header.basis, size, subproblem),
         Method::Fence => FenceEnc.formula(alloc, &header.spec, header.basis, size, subproblem),
+        Method::Strong => Strong.formula(alloc, &header.spec, header.basis, size, subproblem),
+        Method::StrongFence => {
+            StrongFence.formula(alloc, &header.spec, header.basis, size, subproblem)
+        }
     }
 }

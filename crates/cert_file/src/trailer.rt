@@ -4,7 +4,7 @@ ghost use Rattle.text_core.specs.Lines.{Line};
 ghost use Rattle.chain_theory.specs.Chain as chain;
 ghost use Rattle.chain_core.specs.Block as block;
 ghost use Rattle.cert_theory.specs.Gives.{Gives};
-ghost use Rattle.cert_theory.specs.Coding.{has_fence_names};
+ghost use Rattle.cert_theory.specs.Coding as coding;
 ghost use Rattle.cert_theory.specs.Judging as judging;
 ghost use Rattle.cert_file.specs.HeaderLines.{header_in};
 ghost use Rattle.cert_file.specs.Refusals.{IsRefusal};
@@ -243,13 +243,23 @@ pub(crate) fn at_found(
     })
 }
 
+/// Whether a method names its subproblems.
+fn has_fence_names(method: Method) -> bool
+    ensures { result ≡ coding.has_fence_names method }
+{
+    match method {
+        Method::Fence | Method::StrongFence => true,
+        Method::Plain | Method::Ssv | Method::Select | Method::Strong => false,
+    }
+}
+
 /// The verdict on a line, where there is no chain. With fences, a fence's name after the last subproblem of a
 /// section is reported as `NotRefuted`.
 fn verdict_at(method: Method, size: u32, line: &TextLine) -> Result<Verdict, CertificateError>
-    ensures { Gives (λ v. v) result (judging.verdict_at (has_fence_names method &&
+    ensures { Gives (λ v. v) result (judging.verdict_at (coding.has_fence_names method &&
         nat_lt 0 size) line.now.number (line_of line.now)) }
 {
-    if matches!(method, Method::Fence) && size > 0 && is_fence_name(line) {
+    if has_fence_names(method) && size > 0 && is_fence_name(line) {
         return Err(CertificateError::NotRefuted(line.number));
     }
     let Some(verdict) = not_found_in(line) else {

@@ -7,11 +7,13 @@ use Rattle.tt_core.specs.Words.{Words, specification}
 use Rattle.op_basis.specs.Basis.{members}
 use Rattle.clause_core.specs.Clauses.{IsSatisfiable}
 use Rattle.settings.specs.declared.methods.Method.{Method}
-use Rattle.settings.specs.declared.methods.Method.TheVariants.{Plain, Ssv, Select, Fence}
+use Rattle.settings.specs.declared.methods.Method.TheVariants.{Plain, Ssv, Select, Fence, Strong, StrongFence}
 use Rattle.enc_laws.specs.Laws.{plain_complete, plain_is_formula}
 use Rattle.enc_laws.specs.Ssv.{ssv_complete, ssv_is_formula}
 use Rattle.enc_laws.specs.Select.{select_complete, select_is_formula}
 use Rattle.enc_laws.specs.Fence.{fence_is_formula}
+use Rattle.strong_laws.specs.Whole.{strong_complete, strong_is_formula}
+use Rattle.strong_laws.specs.Fences.{strong_fence_is_formula, strong_is_complete}
 use Rattle.fence_core.specs.Fence.{IsFenceOf, listed_fences}
 use Rattle.fence_core.specs.Listing.{sum-cons, fences_are_listed}
 use Rattle.tt_core.specs.Live.{live_words}
@@ -22,7 +24,8 @@ use Rattle.std.specs.List.{AllByRecursion}
 use Rattle.std.proofs.lemmas.List.Elements.{All-from_recursion, recursion_from_All}
 use Rattle.enc_theory.specs.declared.subproblem.Subproblem.{Subproblem}
 use Rattle.enc_theory.specs.declared.subproblem.Subproblem.TheVariants.{Whole, Levels}
-use Rattle.cert_theory.specs.Coding.{Coding, plain_coding, ssv_coding, select_coding, fence_coding, coding_of}
+use Rattle.cert_theory.specs.Coding.{Coding, plain_coding, ssv_coding, select_coding, fence_coding}
+use Rattle.cert_theory.specs.Coding.{strong_coding, strong_fence_coding, coding_of}
 use Rattle.chain_theory.specs.Limits.{most_steps}
 
 -- the numbers of a subproblem's name have at most nine digits
@@ -63,6 +66,13 @@ select_is_coding = record {
   complete = λ w basis r minimum. (Whole, the_whole, select_complete w basis r minimum);
 }
 
+pub strong_is_coding : IsCoding strong_coding
+strong_is_coding = record {
+  fence_names = λ w r subproblem few there. whole_name subproblem there;
+  formulas = λ w basis r subproblem there. strong_is_formula w basis r;
+  complete = λ w basis r minimum. (Whole, the_whole, strong_complete w basis r minimum);
+}
+
 -- the levels of a fence have no more steps than the fence
 short_levels : (fence : List ℕ) (r : ℕ) → r ≤ most_steps → sum fence ≤ r → AllByRecursion (λ size. size < 2 ^ 64) fence
 short_levels [] r few within = tt
@@ -98,6 +108,13 @@ fence_is_coding = record {
   complete = λ w basis r minimum. is_complete w basis r minimum;
 }
 
+pub strong_fence_is_coding : IsCoding strong_fence_coding
+strong_fence_is_coding = record {
+  fence_names = λ w r subproblem few there. fence_name w r subproblem few there;
+  formulas = λ w basis r subproblem there. strong_fence_is_formula w basis r (fence_in subproblem);
+  complete = λ w basis r minimum. strong_is_complete w basis r minimum;
+}
+
 -- so the verdicts of each method are true
 pub method_is_coding : (method : Method) → IsCoding (coding_of method)
 unfolding coding_of
@@ -105,3 +122,5 @@ method_is_coding Plain = plain_is_coding
 method_is_coding Ssv = ssv_is_coding
 method_is_coding Select = select_is_coding
 method_is_coding Fence = fence_is_coding
+method_is_coding Strong = strong_is_coding
+method_is_coding StrongFence = strong_fence_is_coding

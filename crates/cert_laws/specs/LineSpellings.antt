@@ -27,7 +27,7 @@ use Rattle.chain_core.specs.Block.{number_in}
 use Rattle.chain_core.specs.Spelling.{line}
 use Rattle.chain_core.specs.WrittenListLaws.{line_is}
 use Rattle.settings.specs.declared.methods.Method.{Method}
-use Rattle.settings.specs.declared.methods.Method.TheVariants.{Plain, Ssv, Select, Fence}
+use Rattle.settings.specs.declared.methods.Method.TheVariants.{Plain, Ssv, Select, Fence, Strong, StrongFence}
 use Rattle.cert_theory.specs.declared.data.LogEnd.{LogEnd}
 use Rattle.cert_theory.specs.declared.data.LogEnd.TheVariants as ends
 use Rattle.cert_theory.specs.declared.data.SubproblemError.TheVariants as subproblem_errors
@@ -123,7 +123,8 @@ none_named : (word : List ℕ) (m : Method) → None ≡ Some m → word ≡ met
 none_named word m e = absurd cc
 
 named_method_is : (word : List ℕ) (m : Method) → method_named word ≡ Some m → word ≡ method_text m
-named_method_is word m e = named_or word m Plain _ (named_or word m Ssv _ (named_or word m Select _ (named_or word m Fence None (none_named word m)))) e
+named_method_is word m e = named_or word m Plain _ (named_or word m Ssv _ (named_or word m Select _ (named_or word m Fence _
+    (named_or word m Strong _ (named_or word m StrongFence None (none_named word m)))))) e
 
 pub method_spells : (l : Line) (m : Method) → method_in l ≡ Some m → l ≡ line (method_line m)
 unfolding method_in method_line

@@ -21,7 +21,7 @@ use Rattle.op_basis.specs.ReadBack.{basis_back}
 use Rattle.chain_core.specs.Block.{number_in}
 use Rattle.chain_core.specs.Spelling.{line}
 use Rattle.settings.specs.declared.methods.Method.{Method}
-use Rattle.settings.specs.declared.methods.Method.TheVariants.{Plain, Ssv, Select, Fence}
+use Rattle.settings.specs.declared.methods.Method.TheVariants.{Plain, Ssv, Select, Fence, Strong, StrongFence}
 use Rattle.cert_theory.specs.declared.data.Header.{Header}
 use Rattle.cert_theory.specs.declared.data.LogEnd.{LogEnd}
 use Rattle.cert_theory.specs.declared.data.LogEnd.TheVariants as ends
@@ -55,6 +55,8 @@ method_again Plain = ap (option_and_then method_named) (value_back (codes "metho
 method_again Ssv = ap (option_and_then method_named) (value_back (codes "method ") (method_text Ssv)) ∙ refl
 method_again Select = ap (option_and_then method_named) (value_back (codes "method ") (method_text Select)) ∙ refl
 method_again Fence = ap (option_and_then method_named) (value_back (codes "method ") (method_text Fence)) ∙ refl
+method_again Strong = ap (option_and_then method_named) (value_back (codes "method ") (method_text Strong)) ∙ refl
+method_again StrongFence = ap (option_and_then method_named) (value_back (codes "method ") (method_text StrongFence)) ∙ refl
 
 one_again : (k : ℕ) → 1 ≤ k → from_one k ≡ Some k
 one_again k some = grind (arith, common_steps)

@@ -29,7 +29,7 @@ use Rattle.chain_core.specs.Steps.{IsSmallChain}
 use Rattle.chain_core.specs.Spelling.{line, chain_lines}
 use Rattle.chain_core.specs.WrittenBlockLaws.{lines_back, block_written}
 use Rattle.settings.specs.declared.methods.Method.{Method}
-use Rattle.settings.specs.declared.methods.Method.TheVariants.{Plain, Ssv, Select, Fence}
+use Rattle.settings.specs.declared.methods.Method.TheVariants.{Plain, Ssv, Select, Fence, Strong, StrongFence}
 use Rattle.cert_theory.specs.declared.data.Header.{Header}
 use Rattle.cert_theory.specs.declared.data.LogEnd.{LogEnd}
 use Rattle.cert_theory.specs.declared.data.LogEnd.TheVariants as ends
@@ -136,6 +136,8 @@ free_method Plain = refl
 free_method Ssv = refl
 free_method Select = refl
 free_method Fence = refl
+free_method Strong = refl
+free_method StrongFence = refl
 
 -- ---- the header
 

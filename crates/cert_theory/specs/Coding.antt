@@ -7,10 +7,11 @@ use Rattle.enc_theory.specs.Ssv.{ssv_formula}
 use Rattle.enc_theory.specs.Select.{select_formula}
 use Rattle.enc_theory.specs.Fence.{fence_formula}
 use Rattle.enc_theory.specs.Subproblems.{subproblems_for, fence_in}
+use Rattle.strong_theory.specs.Strong.{strong_formula, strong_fence_formula}
 use Rattle.enc_theory.specs.declared.subproblem.Subproblem.{Subproblem}
 use Rattle.enc_theory.specs.declared.subproblem.Subproblem.TheVariants.{Whole}
 use Rattle.settings.specs.declared.methods.Method.{Method}
-use Rattle.settings.specs.declared.methods.Method.TheVariants.{Plain, Ssv, Select, Fence}
+use Rattle.settings.specs.declared.methods.Method.TheVariants.{Plain, Ssv, Select, Fence, Strong, StrongFence}
 
 -- The subproblems in which the size `r` is searched, in order, and the formula of a subproblem: for tables, the
 -- set of operators `basis`, and `r` steps.
@@ -34,12 +35,23 @@ fence_coding = record {
   formula = λ w basis r subproblem. fence_formula w basis r (fence_in subproblem);
 }
 
--- only the fence method names its subproblems
+abbrev pub strong_coding : Coding
+strong_coding = record { subproblems = λ w r. Whole ∷ []; formula = λ w basis r subproblem. strong_formula w basis r }
+
+abbrev pub strong_fence_coding : Coding
+strong_fence_coding = record {
+  subproblems = λ w r. subproblems_for w r;
+  formula = λ w basis r subproblem. strong_fence_formula w basis r (fence_in subproblem);
+}
+
+-- only the methods by fences name their subproblems
 abbrev pub has_fence_names : Method → Bool
 has_fence_names Plain = false
 has_fence_names Ssv = false
 has_fence_names Select = false
 has_fence_names Fence = true
+has_fence_names Strong = false
+has_fence_names StrongFence = true
 
 -- the encoding of a method
 unfoldable pub coding_of : Method → Coding
@@ -47,3 +59,5 @@ coding_of Plain = plain_coding
 coding_of Ssv = ssv_coding
 coding_of Select = select_coding
 coding_of Fence = fence_coding
+coding_of Strong = strong_coding
+coding_of StrongFence = strong_fence_coding

@@ -11,6 +11,7 @@ use enc_base::Encoding;
 use enc_fence::FenceEnc;
 use enc_select::Select;
 use enc_ssv::{Plain, Ssv};
+use enc_strong::{Strong, StrongFence};
 use settings::Method;
 use std::alloc::{AllocError, Global};
 
@@ -57,6 +58,8 @@ pub(crate) fn formula_at(
         Method::Ssv => formula_by(alloc, &Ssv, header, size, part),
         Method::Select => formula_by(alloc, &Select, header, size, part),
         Method::Fence => formula_by(alloc, &FenceEnc, header, size, part),
+        Method::Strong => formula_by(alloc, &Strong, header, size, part),
+        Method::StrongFence => formula_by(alloc, &StrongFence, header, size, part),
     }
 }
 

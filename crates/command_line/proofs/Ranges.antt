@@ -9,7 +9,7 @@ use Rattle.op_basis.specs.Text.{bench_set, basis_of}
 use Rattle.op_basis.specs.ListLaws.{basis_some}
 use Rattle.op_basis.specs.declared.error.BasisError.{BasisError}
 use Rattle.settings.specs.declared.methods.Method.{Method}
-use Rattle.settings.specs.declared.methods.Method.TheVariants.{Plain, Ssv, Select, Fence}
+use Rattle.settings.specs.declared.methods.Method.TheVariants.{Plain, Ssv, Select, Fence, Strong, StrongFence}
 use Rattle.settings.specs.declared.synth.SynthSettings.{SynthSettings}
 use Rattle.settings.specs.declared.improve.ImproveSettings.{ImproveSettings}
 use Rattle.settings.specs.Synth.{IsInRange}
@@ -121,6 +121,8 @@ depth_by Fence s c is e = (some_is _ c e, is)
 depth_by Plain s c is e = absurd cc
 depth_by Ssv s c is e = absurd cc
 depth_by Select s c is e = absurd cc
+depth_by Strong s c is e = absurd cc
+depth_by StrongFence s c is e = absurd cc
 
 flag_by : (s : SynthSettings) (flag : Bool) (c : Command) → synth_from (Some s) (Some flag) ≡ Some c → IsSynth s flag c
 flag_by s false c e = some_is _ c e

@@ -36,7 +36,11 @@ fn least_depth_by(asked: SynthSettings) -> Option<Command>
 {
     match asked.method {
         Method::Fence => Some(Command::LeastDepth(asked)),
-        Method::Plain | Method::Ssv | Method::Select => None,
+        Method::Plain
+        | Method::Ssv
+        | Method::Select
+        | Method::Strong
+        | Method::StrongFence => None,
     }
 }
 

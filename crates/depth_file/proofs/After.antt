@@ -6,7 +6,7 @@ use Rattle.text_core.specs.Lines.{Line, lines_of, line_bytes}
 use Rattle.chain_theory.specs.Chain.{Chain}
 use Rattle.chain_theory.specs.Levels.{depth}
 use Rattle.settings.specs.declared.methods.Method.{Method}
-use Rattle.settings.specs.declared.methods.Method.TheVariants.{Plain, Ssv, Select, Fence}
+use Rattle.settings.specs.declared.methods.Method.TheVariants.{Plain, Ssv, Select, Fence, Strong, StrongFence}
 use Rattle.cert_theory.specs.declared.data.CertificateError.{CertificateError}
 use Rattle.cert_theory.specs.declared.data.CertificateError.TheVariants as certificate_errors
 use Rattle.cert_theory.specs.declared.data.Verdict.{Verdict}
@@ -198,12 +198,16 @@ least_none_by Fence (verdicts.Open low) chain other = refl
 least_none_by Plain v chain other = refl
 least_none_by Ssv v chain other = refl
 least_none_by Select v chain other = refl
+least_none_by Strong v chain other = refl
+least_none_by StrongFence v chain other = refl
 
 pub least_other : (m : Method) (v : Verdict) (chain : Option Chain) → (m ≡ Fence → ⊥) → least_of m v chain ≡ None
 least_other Fence v chain other = absurd (other refl)
 least_other Plain v chain other = refl
 least_other Ssv v chain other = refl
 least_other Select v chain other = refl
+least_other Strong v chain other = refl
+least_other StrongFence v chain other = refl
 
 pub least_nothing : (m : Method) (v : Verdict) (chain : Option Chain) → chain ≡ None → least_of m v chain ≡ None
 least_nothing Fence (verdicts.Minimum r) chain none = none
@@ -213,6 +217,8 @@ least_nothing Fence (verdicts.Open low) chain none = refl
 least_nothing Plain v chain none = refl
 least_nothing Ssv v chain none = refl
 least_nothing Select v chain none = refl
+least_nothing Strong v chain none = refl
+least_nothing StrongFence v chain none = refl
 
 pub least_some : (m : Method) (v : Verdict) (chain : Option Chain) (size : ℕ) (c : Chain) → m ≡ Fence → v ≡ verdicts.Minimum size → chain ≡ Some c → least_of m v chain ≡ Some c
 least_some m v chain size c by_fences minimum is = ap (λ (x : Method). least_of x v chain) by_fences ∙ ap (λ (x : Verdict). least_of Fence x chain) minimum ∙ is

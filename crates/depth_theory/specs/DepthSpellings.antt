@@ -13,7 +13,7 @@ use Rattle.chain_core.specs.Spelling.{line}
 use Rattle.enc_theory.specs.declared.subproblem.Subproblem.{Subproblem}
 use Rattle.enc_theory.specs.declared.subproblem.Subproblem.TheVariants.{Levels}
 use Rattle.settings.specs.declared.methods.Method.{Method}
-use Rattle.settings.specs.declared.methods.Method.TheVariants.{Plain, Ssv, Select, Fence}
+use Rattle.settings.specs.declared.methods.Method.TheVariants.{Plain, Ssv, Select, Fence, Strong, StrongFence}
 use Rattle.cert_theory.specs.declared.data.Header.{Header}
 use Rattle.cert_theory.specs.declared.data.LogEnd.{LogEnd}
 use Rattle.cert_theory.specs.declared.data.LogEnd.TheVariants as ends
@@ -292,6 +292,8 @@ least_is Fence (certificate_verdicts.Open low) chain c e = absurd cc
 least_is Plain v chain c e = absurd cc
 least_is Ssv v chain c e = absurd cc
 least_is Select v chain c e = absurd cc
+least_is Strong v chain c e = absurd cc
+least_is StrongFence v chain c e = absurd cc
 
 counted_by : (h : Header) (count : ℕ) (low : Option ℕ) (c : Chain) (v : Verdict) (r : ℕ) →
     IsTrailer h count low (Some c) v → v ≡ certificate_verdicts.Minimum r →

@@ -2,13 +2,15 @@
 use Rattle.std.specs.Prelude.{ℕ, List, codes, nat_eq, Bool, Option, Some, None, if◌then◌else◌}
 use Rattle.std.specs.Cmp.Lexicographic.{pointwise}
 use Rattle.settings.specs.declared.methods.Method.{Method}
-use Rattle.settings.specs.declared.methods.Method.TheVariants.{Plain, Ssv, Select, Fence}
+use Rattle.settings.specs.declared.methods.Method.TheVariants.{Plain, Ssv, Select, Fence, Strong, StrongFence}
 
 abbrev pub method_text : Method → List ℕ
 method_text Plain = codes "plain"
 method_text Ssv = codes "ssv"
 method_text Select = codes "select"
 method_text Fence = codes "fence"
+method_text Strong = codes "strong"
+method_text StrongFence = codes "strong-fence"
 
 abbrev pub is_name : List ℕ → Method → Bool
 is_name word method = pointwise nat_eq word (method_text method)
@@ -20,4 +22,6 @@ method_named word =
     else (if is_name word Ssv then Some Ssv
     else (if is_name word Select then Some Select
     else (if is_name word Fence then Some Fence
-    else None)))
+    else (if is_name word Strong then Some Strong
+    else (if is_name word StrongFence then Some StrongFence
+    else None)))))

@@ -15,6 +15,10 @@ pub enum Method {
     /// Like `Ssv`, but with one formula for each fence, that is, for each distribution of the steps over
     /// levels.
     Fence,
+    /// Like `Ssv`, with further clauses that every chain satisfies.
+    Strong,
+    /// Like `Fence`, with the same further clauses.
+    StrongFence,
 }
 
 /// The name of a method.
@@ -26,6 +30,8 @@ pub fn method_name(method: Method) -> &'static [u8]
         Method::Ssv => b"ssv",
         Method::Select => b"select",
         Method::Fence => b"fence",
+        Method::Strong => b"strong",
+        Method::StrongFence => b"strong-fence",
     }
 }
 
@@ -44,6 +50,12 @@ pub fn method_named(word: &[u8]) -> Option<Method>
     }
     if word == b"fence".as_slice() {
         return Some(Method::Fence);
+    }
+    if word == b"strong".as_slice() {
+        return Some(Method::Strong);
+    }
+    if word == b"strong-fence".as_slice() {
+        return Some(Method::StrongFence);
     }
     None
 }

@@ -14,6 +14,7 @@ use enc_base::Encoding;
 use enc_fence::FenceEnc;
 use enc_select::Select;
 use enc_ssv::{Plain, Ssv};
+use enc_strong::{Strong, StrongFence};
 use sat_solve::Solver;
 use settings::Method;
 use std::alloc::{AllocError, Global};
@@ -104,6 +105,8 @@ pub(crate) fn search_formulas<S: Solver>(
         Method::Ssv => search_subproblems::<S, _>(alloc, &Ssv, header, size),
         Method::Select => search_subproblems::<S, _>(alloc, &Select, header, size),
         Method::Fence => search_subproblems::<S, _>(alloc, &FenceEnc, header, size),
+        Method::Strong => search_subproblems::<S, _>(alloc, &Strong, header, size),
+        Method::StrongFence => search_subproblems::<S, _>(alloc, &StrongFence, header, size),
     }
 }
 
