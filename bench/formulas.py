@@ -14,7 +14,7 @@ import tempfile
 
 from usage import usage
 
-METHODS = ("plain", "ssv", "select", "fence")
+METHODS = ("plain", "ssv", "select", "fence", "strong", "strong-fence")
 
 
 def table():

@@ -36,7 +36,7 @@ import miter
 from usage import usage
 
 HERE = os.path.dirname(os.path.realpath(__file__))
-METHODS = ('plain', 'ssv', 'select', 'fence')
+METHODS = ('plain', 'ssv', 'select', 'fence', 'strong', 'strong-fence')
 BASES = ('all', 'u2', 'bench', 'nand')
 SECONDS = 100
 USAGE = 1
@@ -195,7 +195,7 @@ def synthesis(judge, source, folder):
                 judge.refutes(plain, log, folder)
         except Fault as fault:
             raise Fault(f'{words}, {rows}, size {part.size}, fence {part.fence}: {fault}') from fault
-    if lines[-2].startswith('minimum') and method != 'fence':
+    if lines[-2].startswith('minimum') and 'fence' not in method:
         formula = dimacs.formula_of(certificate.tables, certificate.basis, method, len(sizes), None)
         judge.has_model(dimacs.dimacs(formula), folder)
 

@@ -19,7 +19,7 @@ from functions import LARGE, SMALL
 from usage import usage
 
 HERE = os.path.dirname(os.path.abspath(__file__))
-METHODS = ['ssv', 'select', 'fence', 'plain']
+METHODS = ['ssv', 'select', 'fence', 'strong', 'strong-fence', 'plain']
 PEERS = [['minisat'], ['cadical', '-n']]
 REPEATS = 5
 
@@ -85,7 +85,7 @@ def by_method(program, method, rows, seconds, repeats):
 def compared(program, least, tables, seconds):
     """The columns of a larger function."""
     ways = [by_method(program, method, tables.split(), seconds, REPEATS if method == 'ssv' else 1)
-            for method in METHODS[:3]]
+            for method in METHODS[:5]]
     peers = [sum(peer_seconds(words, size, tables, seconds) for size in (least - 1, least)) for words in PEERS]
     times = [f'more than {seconds} s' if time is None else f'{time:.2f} s' for time, _ in ways]
     additions = '; '.join('-' if number is None else f'{number:,}' for _, number in ways)
@@ -94,7 +94,8 @@ def compared(program, least, tables, seconds):
 
 
 def main_beside(program, seconds):
-    print('| Function | Steps | `ssv` | `select` | `fence` | Additions by these | minisat | cadical | `ssv` to the better |')
+    print('| Function | Steps | `ssv` | `select` | `fence` | `strong` | `strong-fence` | Additions by these | minisat | cadical '
+              '| `ssv` to the better |')
     print('|---|---|---|---|---|---|---|---|---|')
     for name, least, tables in [SMALL[-1], *LARGE]:
         print(f'| {name} | {least} {compared(program, least, tables, seconds)}', flush=True)

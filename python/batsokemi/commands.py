@@ -16,7 +16,7 @@ from .texts import Text, bytes_of
 
 # The name of a basis (`all`, `u2`, `bench`, `nand`), its operators with commas between them, or a list of them.
 Basis = Union[str, Sequence[str]]
-Method = Literal['ssv', 'select', 'fence', 'plain']
+Method = Literal['ssv', 'select', 'fence', 'strong', 'strong-fence', 'plain']
 
 
 @lru_cache(maxsize=None)
@@ -48,7 +48,7 @@ def synth(
         The number of inputs, 0 to 6, where the length of the tables doesn't determine it.
     basis : str or sequence of str, optional
         The operators that a step may have: `all` (default), `u2`, `bench`, `nand`, or some of 0000 .. 1111.
-    method : {'ssv', 'select', 'fence', 'plain'}, optional
+    method : {'ssv', 'select', 'fence', 'strong', 'strong-fence', 'plain'}, optional
         How a size becomes a formula.
     conflicts : int, optional
         The number of learnt clauses after which a formula is left open (100,000).
@@ -186,7 +186,7 @@ def improve(
         `blif`, or `bench` for the path of a file NAME.bench.
     basis : str or sequence of str, optional
         The operators that new gates may have.
-    method : {'ssv', 'select', 'fence', 'plain'}, optional
+    method : {'ssv', 'select', 'fence', 'strong', 'strong-fence', 'plain'}, optional
         How the question of a window becomes a formula.
     cap : int, optional
         The most gates of a window, 0 to 8 (5).

@@ -14,7 +14,7 @@ from typing import Union
 Value = Union[str, int, bool, Sequence[str], None]
 
 BASES = ('all', 'u2', 'bench', 'nand')
-METHODS = ('ssv', 'select', 'fence', 'plain')
+METHODS = ('ssv', 'select', 'fence', 'strong', 'strong-fence', 'plain')
 CONFLICTS = (1, 10_000_000)
 
 # By command and option: the least and the greatest number, the words, or `basis`.

@@ -6,6 +6,7 @@ use enc_base::Encoding;
 use enc_fence::FenceEnc;
 use enc_select::Select;
 use enc_ssv::{Plain, Ssv};
+use enc_strong::{Strong, StrongFence};
 use op_basis::Basis;
 use std::alloc::Global;
 use tt_core::{Spec, read_tables};
@@ -60,6 +61,8 @@ fn size_of(alloc: Global, method: &[u8], spec: &Spec, r: u32) -> Option<Size>
         b"ssv" => size_by(alloc, &Ssv, spec, r),
         b"select" => size_by(alloc, &Select, spec, r),
         b"fence" => size_by(alloc, &FenceEnc, spec, r),
+        b"strong" => size_by(alloc, &Strong, spec, r),
+        b"strong-fence" => size_by(alloc, &StrongFence, spec, r),
         _ => None,
     }
 }

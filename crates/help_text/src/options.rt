@@ -58,7 +58,14 @@ pub(crate) struct Row {
 
 const YES_OR_NO: Allowed = Allowed::Words(&[b"yes", b"no"]);
 
-const METHODS: Allowed = Allowed::Words(&[b"ssv", b"select", b"fence", b"plain"]);
+const METHODS: Allowed = Allowed::Words(&[
+    b"ssv",
+    b"select",
+    b"fence",
+    b"strong",
+    b"strong-fence",
+    b"plain",
+]);
 
 const OUTPUT: Row = Row {
     name: b"-o",
