@@ -102,6 +102,14 @@ const SYNTHS: &[(&str, Synth)] = &[
         (65_535, Method::Fence, 16, 100_000, false, 1),
     ),
     (
+        "synth --method strong",
+        (65_535, Method::Strong, 16, 100_000, false, 1),
+    ),
+    (
+        "synth --method strong-fence",
+        (65_535, Method::StrongFence, 16, 100_000, false, 1),
+    ),
+    (
         "synth --conflicts 10000000 --max 0 --method ssv",
         (65_535, Method::Ssv, 0, 10_000_000, false, 1),
     ),
@@ -362,6 +370,7 @@ const NOTHING: &[&str] = &[
     "agree --depth no",
     "synth --least-depth yes",
     "synth --least-depth yes --method ssv",
+    "synth --least-depth yes --method strong-fence",
     "synth --method plain --least-depth yes",
     "synth --method fence --least-depth Yes",
     "synth --method fence --least-depth 1",

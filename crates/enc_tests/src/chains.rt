@@ -7,6 +7,7 @@ use enc_base::Encoding;
 use enc_fence::FenceEnc;
 use enc_select::Select;
 use enc_ssv::{Plain, Ssv};
+use enc_strong::{Strong, StrongFence};
 use op_basis::{Basis, read_basis};
 use settings::Method;
 use std::alloc::{AllocError, Global};
@@ -66,6 +67,8 @@ fn decoded(
         Method::Ssv => decoded_by(alloc, &Ssv, &read.spec, basis, &assign),
         Method::Select => decoded_by(alloc, &Select, &read.spec, basis, &assign),
         Method::Fence => decoded_by(alloc, &FenceEnc, &read.spec, basis, &assign),
+        Method::Strong => decoded_by(alloc, &Strong, &read.spec, basis, &assign),
+        Method::StrongFence => decoded_by(alloc, &StrongFence, &read.spec, basis, &assign),
     }
 }
 
@@ -158,6 +161,18 @@ const CHAINS: &[(&str, Method, &Case, &[u8])] = &[
         b"011010110100100110101",
     ),
     ("fence: one step", Method::Fence, &XOR, b"011010110001"),
+    (
+        "strong: one step, which differs on all four edges",
+        Method::Strong,
+        &XOR,
+        b"0110101100011111",
+    ),
+    (
+        "strong-fence: the same",
+        Method::StrongFence,
+        &XOR,
+        b"0110101100011111",
+    ),
 ];
 
 #[test]

@@ -6,6 +6,7 @@ use enc_base::Encoding;
 use enc_fence::FenceEnc;
 use enc_select::Select;
 use enc_ssv::{Plain, Ssv};
+use enc_strong::{Strong, StrongFence};
 use op_basis::{Basis, read_basis};
 use settings::Method;
 use std::alloc::{AllocError, Global};
@@ -48,6 +49,8 @@ pub(crate) fn formula(
         Method::Ssv => formula_by(alloc, &Ssv, &read.spec, basis, r, which),
         Method::Select => formula_by(alloc, &Select, &read.spec, basis, r, which),
         Method::Fence => formula_by(alloc, &FenceEnc, &read.spec, basis, r, which),
+        Method::Strong => formula_by(alloc, &Strong, &read.spec, basis, r, which),
+        Method::StrongFence => formula_by(alloc, &StrongFence, &read.spec, basis, r, which),
     }
 }
 
@@ -207,6 +210,50 @@ const SUMS: &[(&str, Method, &[u8], &[u8], u32, usize, u32, usize, u32)] = &[
         97,
         1664,
         768145087,
+    ),
+    (
+        "strong, one output",
+        Method::Strong,
+        LIGHTS,
+        b"all",
+        3,
+        0,
+        157,
+        3721,
+        4048646189,
+    ),
+    (
+        "strong, three outputs",
+        Method::Strong,
+        THREE,
+        b"0001,0110,1000",
+        3,
+        0,
+        208,
+        4659,
+        1974526838,
+    ),
+    (
+        "strong-fence, second fence of one output",
+        Method::StrongFence,
+        LIGHTS,
+        b"all",
+        3,
+        1,
+        142,
+        2462,
+        22478931,
+    ),
+    (
+        "strong-fence, sixth fence of three outputs",
+        Method::StrongFence,
+        THREE,
+        b"0001,0110,1000",
+        4,
+        5,
+        264,
+        5022,
+        1118553617,
     ),
 ];
 
