@@ -36,11 +36,7 @@ fn least_depth_by(asked: SynthSettings) -> Option<Command>
 {
     match asked.method {
         Method::Fence => Some(Command::LeastDepth(asked)),
-        Method::Plain
-        | Method::Ssv
-        | Method::Select
-        | Method::Strong
-        | Method::StrongFence => None,
+        Method::Plain | Method::Ssv | Method::Select | Method::Strong | Method::StrongFence => None,
     }
 }
 
