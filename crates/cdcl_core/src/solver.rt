@@ -103,6 +103,10 @@ impl Solver for Cdcl {
         Some(self.search.trail.falsified_at(lit) == 0)
     }
 
+    fn additions(&self) -> u32 {
+        self.search.clauses.last().saturating_sub(self.search.given)
+    }
+
     fn finish(self, alloc: Global, budget: u32) -> Result<Solved, AllocError> {
         let Cdcl { mut search, status } = self;
         conclude(&mut search, status, alloc, budget)

@@ -40,6 +40,10 @@ impl Solver for Silent {
         None
     }
 
+    fn additions(&self) -> u32 {
+        0
+    }
+
     fn finish(self, _alloc: Global, _budget: u32) -> Result<Solved, AllocError> {
         Err(AllocError)
     }

@@ -86,6 +86,10 @@ impl Solver for Tables {
         Some((word_at(&self.words, variable) >> (self.row % 64)) & 1 == 1)
     }
 
+    fn additions(&self) -> u32 {
+        0
+    }
+
     fn finish(self, _alloc: Global, _budget: u32) -> Result<Solved, AllocError> {
         Err(AllocError)
     }

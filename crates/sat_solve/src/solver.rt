@@ -89,6 +89,10 @@ pub trait Solver: Drop {
     /// doesn't have the variable.
     fn bit(&self, variable: u32) -> Option<bool>;
 
+    /// The number of additions of its log so far.
+    fn additions(&self) -> u32
+        ensures { result ≡ additions_of self.now };
+
     /// Decides the formula, or returns Open at the first decision after `budget` further learnt clauses, from
     /// 1 to 10,000,000; its log then has at least `least` additions.
     fn finish(self, alloc: Global, budget: u32) -> Result<Solved, AllocError>
