@@ -6,7 +6,7 @@ and any LRAT checker.
 
   CERTIFICATE   a file that `batsokemi synth` wrote, or - for the standard input
   --size R      the size, one that has a section in the certificate
-  --part P      with the method `fence` the number of the subproblem, from 1 (1)
+  --part P      with the methods by fences the number of the subproblem, from 1 (1)
   --cnf FILE    file for the formula (standard output where neither file is given)
   --lrat FILE   file for the log; an `open` log refutes nothing, and is written with a warning
   --list        only lists the subproblems of the certificate, one per line
@@ -200,7 +200,7 @@ class Formula:
 class Pairs(Formula):
     """The methods that choose both operands of a step at once."""
 
-    def __init__(self, tables, basis, size, cuts, fence=None):
+    def __init__(self, tables, basis, size, cuts, fence=None, strong=False):
         super().__init__(tables, basis, size)
         self.levels = {place: 0 for place in range(1, self.inputs + 1)}
         if fence is not None:
@@ -211,6 +211,8 @@ class Pairs(Formula):
         self.chain()
         if cuts:
             self.cut()
+        if strong:
+            self.strengthen()
 
     def pairs_of(self, i, cuts, fence):
         found = itertools.product(range(1, i), repeat=2)
@@ -283,6 +285,37 @@ class Pairs(Formula):
                             earlier = range(self.steps.start, i)
                             with_p = [l for k in earlier for l in self.has(k, lambda v: p in v and q not in v)]
                             self.add(self.lit(0, 's', i, u), *with_p)
+
+    def edges(self):
+        """The pairs of rows that differ in one input, where an output has to differ: that input and both rows."""
+        for j, low in itertools.product(range(1, self.inputs + 1), self.rows):
+            high = low + (1 << (self.inputs - j))
+            if not bit_of(self.inputs, j, low):
+                if any({table[low], table[high]} == {'0', '1'} for table in self.tables):
+                    yield j, low, high
+
+    def strengthen(self):
+        for i in self.steps:
+            for u, v in itertools.product(self.pairs[i], repeat=2):
+                if u < v:
+                    self.not_both(i, u, i, v)
+        edges = list(self.edges())
+        self.name('d', itertools.product(edges, self.steps))
+        for edge, i in itertools.product(edges, self.steps):
+            self.on_edge(edge, i)
+
+    def on_edge(self, edge, i):
+        """Which steps differ on an edge; one has an operand that does; the only reader of the input does."""
+        j, low, high = edge
+        differs = lambda place: place == j if place <= self.inputs else self.lit(1, 'd', edge, place)
+        for a, b in itertools.product(BITS, BITS):
+            self.add(self.at(i, low, 1 - a), self.at(i, high, 1 - b), self.lit(a != b, 'd', edge, i))
+        for p in self.pairs[i]:
+            self.add(self.lit(0, 'd', edge, i), self.lit(0, 's', i, p), differs(p[0]), differs(p[1]))
+        others = [l for k in self.steps if k != i for l in self.has(k, lambda q: j in q)]
+        for p in self.pairs[i]:
+            if j in p:
+                self.add(self.lit(0, 's', i, p), self.lit(1, 'd', edge, i), *others)
 
 
 class Select(Formula):
@@ -359,7 +392,7 @@ class Select(Formula):
 def formula_of(tables, basis, method, size, fence):
     if method == 'select':
         return Select(tables, basis, size)
-    return Pairs(tables, basis, size, method != 'plain', fence)
+    return Pairs(tables, basis, size, method != 'plain', fence, method.startswith('strong'))
 
 
 # ---- certificates
