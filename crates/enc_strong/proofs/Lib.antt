@@ -1,0 +1,5 @@
+pub mod Tests
+pub mod Walks
+pub mod Within
+pub mod Pieces
+pub mod Formulas

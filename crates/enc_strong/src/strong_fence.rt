@@ -1,0 +1,94 @@
+//! The encoding by fences strengthened: one formula for each listed fence. What satisfies it satisfies the fence's
+//! formula, so it spells that encoding's chain.
+ghost use Rattle.std.specs.Prelude.{◌≡◌};
+ghost use Rattle.op_basis.specs.Basis.{members};
+ghost use Rattle.op_basis.specs.Closed.{swap_closed};
+ghost use Rattle.enc_theory.specs.Subproblems.{fence_in};
+
+use crate::formula::formula_over;
+use chain_core::Chain;
+use cnf_core::{Assign, Cnf};
+use enc_base::Encoding;
+use enc_fence::{FenceEnc, FencePairs};
+use enc_theory::Subproblem;
+use op_basis::Basis;
+use std::alloc::{AllocError, Global};
+use tt_core::Spec;
+
+/// The formulas of fences with at most one pair a step, and the steps that differ on each edge of the tables. A size
+/// has one subproblem for each listed fence of the live outputs, in lexicographic order.
+#[derive(Clone, Copy)]
+pub struct StrongFence;
+
+/// The numbers of steps on the levels of a subproblem's fence.
+#[tactic(auto, unfolding(enc_theory::specs::Subproblems::fence_in))]
+fn levels_in(subproblem: &Subproblem) -> &[u32]
+    ensures { result.now ≡ fence_in subproblem.now }
+{
+    match subproblem {
+        Subproblem::Levels(fence) => fence.levels(),
+        Subproblem::Whole => &[],
+    }
+}
+
+/// The pairs that the steps of chains over `n` inputs may have in a subproblem's fence.
+fn pairs_in(n: u32, basis: Basis, subproblem: &Subproblem) -> FencePairs<'_>
+    ensures n { result.n ≡ n }
+    ensures ordered { result.ordered ≡ swap_closed (members basis) }
+    ensures levels { result.levels.now ≡ fence_in subproblem.now }
+{
+    FencePairs {
+        n,
+        ordered: basis.swap_closed(),
+        levels: levels_in(subproblem),
+    }
+}
+
+impl Encoding for StrongFence {
+    ghost use Rattle.enc_theory.specs.Subproblems.{subproblems_for, fence_in};
+    ghost use Rattle.strong_theory.specs.Strong.{strong_fence_formula};
+    ghost use Rattle.strong_laws.specs.Fences.{strong_is_sound, strong_is_complete};
+
+    ghost subproblems_of = { λ encoding w r. subproblems_for w r };
+
+    ghost formula_of = { λ encoding w basis r subproblem. strong_fence_formula w basis r (fence_in subproblem) };
+
+    ghost sound = { λ encoding w basis r subproblem. strong_is_sound w basis r subproblem };
+
+    ghost complete = { λ encoding w basis r. strong_is_complete w basis r };
+
+    fn subproblems(
+        &self,
+        alloc: Global,
+        spec: &Spec,
+        r: u32,
+    ) -> Result<Vec<Subproblem>, AllocError> {
+        FenceEnc.subproblems(alloc, spec, r)
+    }
+
+    #[tactic(auto, using(crate::proofs::Formulas::fences))]
+    fn formula(
+        &self,
+        alloc: Global,
+        spec: &Spec,
+        basis: Basis,
+        r: u32,
+        subproblem: &Subproblem,
+    ) -> Result<Cnf, AllocError> {
+        let pairs = pairs_in(spec.n(), basis, subproblem);
+        formula_over(alloc, spec, basis, r, &pairs)
+    }
+
+    #[tactic(auto, using(crate::proofs::Formulas::weaker))]
+    fn decode(
+        &self,
+        alloc: Global,
+        spec: &Spec,
+        basis: Basis,
+        r: u32,
+        subproblem: &Subproblem,
+        assign: &Assign,
+    ) -> Result<Chain, AllocError> {
+        FenceEnc.decode(alloc, spec, basis, r, subproblem, assign)
+    }
+}
