@@ -1,5 +1,5 @@
 //! Two texts compared, of which the second one is the source: the words are those of `equiv`.
-ghost use Rattle.std.specs.Prelude.{◌≡◌, ◌≤◌, IfSome};
+ghost use Rattle.std.specs.Prelude.{◌≡◌};
 ghost use Rattle.command_line.specs.CommandLine.{spelled};
 ghost use Rattle.frame_core.specs.Run.{run_of, before_after};
 ghost use Rattle.frame_core.specs.Views.{line_value};

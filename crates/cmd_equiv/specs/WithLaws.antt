@@ -12,7 +12,7 @@ use Rattle.frame_core.specs.Task.{IsAnswerStatus, IsRefusalStatus, IsTask}
 use Rattle.frame_core.specs.TaskLaws.{at_once_task}
 use Rattle.cmd_lines.specs.NetLineLaws.{status_kind}
 use Rattle.cmd_equiv.specs.EquivReport.{standing_status, pair_status, Comparison, equiv_reply, equiv_refusal}
-use Rattle.cmd_equiv.specs.WithReport.{WithFault, FirstEmpty, SecondEmpty, Faulty, AreSaid, IsTwoComparison, HasWithFault, MeetsWithFault, empty_refusal, with_refusal, with_task}
+use Rattle.cmd_equiv.specs.WithReport.{WithFault, FirstEmpty, SecondEmpty, Faulty, IsTwoComparison, HasWithFault, MeetsWithFault, empty_refusal, with_refusal, with_task}
 
 answer_statuses : (s : EquivOutcome) → IsAnswerStatus (standing_status s)
 answer_statuses standings.Equal = inl refl

@@ -1,5 +1,5 @@
 //! The comparison of two netlists that each stand in a text of its own, which are never joined.
-ghost use Rattle.std.specs.Prelude.{◌≡◌, ◌≤◌, ◌∷◌, [], length, codes};
+ghost use Rattle.std.specs.Prelude.{◌≡◌, ◌≤◌, length};
 ghost use Rattle.command_line.specs.CommandLine.{IsBudget};
 ghost use Rattle.net_theory.specs.Limits.{most_of_netlist};
 ghost use Rattle.frame_core.specs.Views.{refusal_value};

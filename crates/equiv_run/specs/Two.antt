@@ -1,5 +1,5 @@
 -- Two netlists, each in a text of its own: the answers and the refusals.
-use Rattle.std.specs.Prelude.{◌≡◌, ℕ, ◌&&◌, Bool, true, List, [], ◌∷◌}
+use Rattle.std.specs.Prelude.{ℕ, ◌&&◌, Bool, true, List, [], ◌∷◌}
 use Rattle.text_core.specs.Lines.{Line, lines_of}
 use Rattle.net_theory.specs.Document.{Document}
 use Rattle.net_document.specs.Contents.{is_nothing, content_of}

@@ -1,11 +1,9 @@
 -- Two texts that are compared have an answer or at most one fault.
 use Rattle.std.specs.Prelude.{◌≡◌, ℕ, List, Result, Ok, Err, IsErrAnd, IfErr, refl}
-use Rattle.std.proofs.Common.{ap, sym, ◌∙◌, subst}
+use Rattle.std.proofs.Common.{ap, sym, subst}
 use Rattle.net_theory.specs.Document.{Document}
 use Rattle.net_theory.specs.Circuit.{Circuit}
-use Rattle.net_theory.specs.WellFormed.{IsWellFormed}
 use Rattle.net_core.specs.declared.error.NetError.{NetError}
-use Rattle.net_document.specs.Listed.{Listed}
 use Rattle.net_document.specs.Format.{IsNetlist, IsCircuitOfText, HasNetFault}
 use Rattle.net_document.specs.FormatLaws as faults
 use Rattle.blif_text.specs.ListingLaws.{texts_list}

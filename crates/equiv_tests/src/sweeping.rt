@@ -171,7 +171,7 @@ fn merged(alloc: Global, first: &Net, second: &Net) -> Result<Option<u32>, Alloc
         half: false,
         merged: 0,
     };
-    match sweep(alloc, first, second, &mut tables, 1000)? {
+    match sweep(alloc, first, second, &mut tables, 1000, 1000)? {
         Swept::Swept { spent: 0 } => Ok(Some(tables.merged)),
         _ => Ok(None),
     }

@@ -5,7 +5,7 @@ ghost use Rattle.sat_sweep.specs.KeepsFormula.{KeepsFormula};
 
 use crate::nodes::{Edge, NodeGate};
 use crate::pairs::compare;
-use crate::queries::ask_two;
+use crate::queries::{Bounds, ask_two};
 use crate::state::SweepState;
 use sat_solve::{AssumptionResult, Solver};
 use std::alloc::AllocError;
@@ -44,16 +44,16 @@ fn forced(node: NodeGate, second: bool, bit: bool) -> Option<bool> {
 /// gate.
 fn derive_one<S: Solver>(
     solver: &mut S,
-    vars: u32,
+    bounds: Bounds,
     sweeping: &SweepState,
     variable: u32,
     node: NodeGate,
     second: bool,
     bit: bool,
 ) -> Result<SweepEvent, AllocError>
-    requires vars { S.vars_of solver.old ≡ vars }
-    requires small { vars < 2 ^ 31 }
-    ensures { OnOk result (KeepsFormula S.IsSolverOf S.vars_of solver.old solver.new) }
+    requires vars { S.vars_of solver.old ≡ bounds.vars }
+    requires small { bounds.vars < 2 ^ 31 }
+    ensures { OnOk result (KeepsFormula S.IsSolverOf S.vars_of S.additions_of bounds.most solver.old solver.new) }
 {
     let Some(value) = forced(node, second, bit) else {
         return Ok(SweepEvent::Nothing);
@@ -68,7 +68,7 @@ fn derive_one<S: Solver>(
     };
     match ask_two(
         solver,
-        vars,
+        bounds,
         sweeping.cones.rows(),
         gate,
         operand,
@@ -88,13 +88,13 @@ fn is_on_two(node: &NodeGate) -> bool {
 /// different nodes, neither of them constant.
 fn derive_binary<S: Solver>(
     solver: &mut S,
-    vars: u32,
+    bounds: Bounds,
     sweeping: &SweepState,
     variable: u32,
 ) -> Result<SweepEvent, AllocError>
-    requires vars { S.vars_of solver.old ≡ vars }
-    requires small { vars < 2 ^ 31 }
-    ensures { OnOk result (KeepsFormula S.IsSolverOf S.vars_of solver.old solver.new) }
+    requires vars { S.vars_of solver.old ≡ bounds.vars }
+    requires small { bounds.vars < 2 ^ 31 }
+    ensures { OnOk result (KeepsFormula S.IsSolverOf S.vars_of S.additions_of bounds.most solver.old solver.new) }
 {
     if !sweeping.is_needed(variable) {
         return Ok(SweepEvent::Nothing);
@@ -106,7 +106,7 @@ fn derive_binary<S: Solver>(
         return Ok(SweepEvent::Nothing);
     }
     for (second, bit) in [(false, false), (false, true), (true, false), (true, true)] {
-        let event = derive_one(solver, vars, sweeping, variable, node, second, bit)?;
+        let event = derive_one(solver, bounds, sweeping, variable, node, second, bit)?;
         if event != SweepEvent::Nothing {
             return Ok(event);
         }
@@ -117,15 +117,15 @@ fn derive_binary<S: Solver>(
 /// Has the solver derive the binary clauses of all gates in the cones of open sinks.
 pub(crate) fn derive_binary_clauses<S: Solver>(
     solver: &mut S,
-    vars: u32,
+    bounds: Bounds,
     sweeping: &SweepState,
 ) -> Result<SweepEvent, AllocError>
-    requires vars { S.vars_of solver.old ≡ vars }
-    requires small { vars < 2 ^ 31 }
-    ensures { OnOk result (KeepsFormula S.IsSolverOf S.vars_of solver.old solver.new) }
+    requires vars { S.vars_of solver.old ≡ bounds.vars }
+    requires small { bounds.vars < 2 ^ 31 }
+    ensures { OnOk result (KeepsFormula S.IsSolverOf S.vars_of S.additions_of bounds.most solver.old solver.new) }
 {
     for variable in sweeping.nodes.first_gate()..sweeping.nodes.end() {
-        let event = derive_binary(solver, vars, sweeping, variable)?;
+        let event = derive_binary(solver, bounds, sweeping, variable)?;
         if event != SweepEvent::Nothing {
             return Ok(event);
         }
@@ -137,15 +137,15 @@ pub(crate) fn derive_binary_clauses<S: Solver>(
 /// one, then with those of its class.
 fn compare_candidates<S: Solver>(
     solver: &mut S,
-    vars: u32,
+    bounds: Bounds,
     sweeping: &mut SweepState,
     x: u32,
     strash_equal: Option<u32>,
     limit: u32,
 ) -> Result<SweepEvent, AllocError>
-    requires vars { S.vars_of solver.old ≡ vars }
-    requires small { vars < 2 ^ 31 }
-    ensures { OnOk result (KeepsFormula S.IsSolverOf S.vars_of solver.old solver.new) }
+    requires vars { S.vars_of solver.old ≡ bounds.vars }
+    requires small { bounds.vars < 2 ^ 31 }
+    ensures { OnOk result (KeepsFormula S.IsSolverOf S.vars_of S.additions_of bounds.most solver.old solver.new) }
 {
     let mut candidate = strash_equal;
     for turn in 0..MOST_CANDIDATES {
@@ -156,7 +156,7 @@ fn compare_candidates<S: Solver>(
         let Some(y) = candidate else {
             return Ok(SweepEvent::Nothing);
         };
-        let (event, again) = compare(solver, vars, sweeping, x, y, is_strash_equal, limit)?;
+        let (event, again) = compare(solver, bounds, sweeping, x, y, is_strash_equal, limit)?;
         if !again {
             return Ok(event);
         }
@@ -167,14 +167,14 @@ fn compare_candidates<S: Solver>(
 /// Visits a gate: it is merged, or listed as a candidate for later gates.
 fn visit<S: Solver>(
     solver: &mut S,
-    vars: u32,
+    bounds: Bounds,
     sweeping: &mut SweepState,
     x: u32,
     limit: u32,
 ) -> Result<SweepEvent, AllocError>
-    requires vars { S.vars_of solver.old ≡ vars }
-    requires small { vars < 2 ^ 31 }
-    ensures { OnOk result (KeepsFormula S.IsSolverOf S.vars_of solver.old solver.new) }
+    requires vars { S.vars_of solver.old ≡ bounds.vars }
+    requires small { bounds.vars < 2 ^ 31 }
+    ensures { OnOk result (KeepsFormula S.IsSolverOf S.vars_of S.additions_of bounds.most solver.old solver.new) }
 {
     if sweeping.is_merged(x) {
         sweeping.follow(x);
@@ -185,7 +185,7 @@ fn visit<S: Solver>(
         return Ok(SweepEvent::Nothing);
     }
     let strash_equal = sweeping.strash_equal(x)?;
-    let event = compare_candidates(solver, vars, sweeping, x, strash_equal, limit)?;
+    let event = compare_candidates(solver, bounds, sweeping, x, strash_equal, limit)?;
     sweeping.list(x);
     Ok(event)
 }
@@ -193,19 +193,19 @@ fn visit<S: Solver>(
 /// Visits all gates in topological order.
 pub(crate) fn visit_gates<S: Solver>(
     solver: &mut S,
-    vars: u32,
+    bounds: Bounds,
     sweeping: &mut SweepState,
     limit: u32,
 ) -> Result<SweepEvent, AllocError>
-    requires vars { S.vars_of solver.old ≡ vars }
-    requires small { vars < 2 ^ 31 }
-    ensures { OnOk result (KeepsFormula S.IsSolverOf S.vars_of solver.old solver.new) }
+    requires vars { S.vars_of solver.old ≡ bounds.vars }
+    requires small { bounds.vars < 2 ^ 31 }
+    ensures { OnOk result (KeepsFormula S.IsSolverOf S.vars_of S.additions_of bounds.most solver.old solver.new) }
 {
     for x in sweeping.nodes.first_gate()..sweeping.nodes.end() {
         if sweeping.is_spent() {
             return Ok(SweepEvent::Spent);
         }
-        let event = visit(solver, vars, sweeping, x, limit)?;
+        let event = visit(solver, bounds, sweeping, x, limit)?;
         if event != SweepEvent::Nothing {
             return Ok(event);
         }

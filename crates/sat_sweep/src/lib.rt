@@ -4,12 +4,13 @@
 //! Chatterjee, Brayton, Eén, "Improvements to combinational equivalence checking", 2006). The derived clauses stay
 //! in the solver, so its log refutes the miter in short steps.
 //!
-//! No answer rests on what a sweep finds. Its one promise is that the solver is still a solver of the same
-//! formula. So candidates may be guesses, limits may be chosen freely and assignments may be random.
+//! No answer rests on what a sweep finds. It promises that the solver is still a solver of the same formula, and
+//! bounds how many clauses it derives. So candidates may be guesses, limits may be chosen freely and assignments may
+//! be random.
 //!
 //! ```text
 //! let mut solver = S::new(alloc, &cnf, budget)?;       // of the miter of the two nets
-//! match sweep(alloc, &first, &second, &mut solver, budget / 2)? {
+//! match sweep(alloc, &first, &second, &mut solver, budget / 2, most)? {
 //!     Swept::Differ(sources) => ..,                    // a sink may differ here: simulate it
 //!     Swept::Swept { spent } => ..,                    // solver.finish(alloc, the rest of the budget)
 //! }

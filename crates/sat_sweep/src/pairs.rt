@@ -5,7 +5,7 @@ ghost use Rattle.std.specs.Prelude.{◌≡◌, ◌<◌, ◌^◌, OnOk};
 ghost use Rattle.sat_sweep.specs.KeepsFormula.{KeepsFormula};
 
 use crate::gates::SweepEvent;
-use crate::queries::ask_equal;
+use crate::queries::{Bounds, ask_equal};
 use crate::state::SweepState;
 use sat_solve::{AssumptionResult, Solver};
 use std::alloc::AllocError;
@@ -14,18 +14,18 @@ use std::alloc::AllocError;
 /// another candidate.
 pub(crate) fn ask<S: Solver>(
     solver: &mut S,
-    vars: u32,
+    bounds: Bounds,
     sweeping: &mut SweepState,
     x: u32,
     y: u32,
     limit: u32,
 ) -> Result<(SweepEvent, bool), AllocError>
-    requires vars { S.vars_of solver.old ≡ vars }
-    requires small { vars < 2 ^ 31 }
-    ensures { OnOk result (KeepsFormula S.IsSolverOf S.vars_of solver.old solver.new) }
+    requires vars { S.vars_of solver.old ≡ bounds.vars }
+    requires small { bounds.vars < 2 ^ 31 }
+    ensures { OnOk result (KeepsFormula S.IsSolverOf S.vars_of S.additions_of bounds.most solver.old solver.new) }
 {
     let other = sweeping.as_other(x, y);
-    match ask_equal(solver, vars, sweeping.cones.rows(), x, other, limit)? {
+    match ask_equal(solver, bounds, sweeping.cones.rows(), x, other, limit)? {
         AssumptionResult::Refuted => Ok((SweepEvent::Refuted, false)),
         AssumptionResult::Unsat => {
             sweeping.merge(x, other);
@@ -48,16 +48,16 @@ pub(crate) fn ask<S: Solver>(
 /// conflicts, and is asked only while such pairs pay. The second result says whether to try another candidate.
 pub(crate) fn compare<S: Solver>(
     solver: &mut S,
-    vars: u32,
+    bounds: Bounds,
     sweeping: &mut SweepState,
     x: u32,
     y: u32,
     is_strash_equal: bool,
     limit: u32,
 ) -> Result<(SweepEvent, bool), AllocError>
-    requires vars { S.vars_of solver.old ≡ vars }
-    requires small { vars < 2 ^ 31 }
-    ensures { OnOk result (KeepsFormula S.IsSolverOf S.vars_of solver.old solver.new) }
+    requires vars { S.vars_of solver.old ≡ bounds.vars }
+    requires small { bounds.vars < 2 ^ 31 }
+    ensures { OnOk result (KeepsFormula S.IsSolverOf S.vars_of S.additions_of bounds.most solver.old solver.new) }
 {
     let is_within_net = sweeping.is_within_net(x, y);
     if is_within_net && !is_strash_equal && !sweeping.patience.asks_within_net() {
@@ -69,7 +69,7 @@ pub(crate) fn compare<S: Solver>(
         (false, _) => sweeping.patience.limit(limit),
     };
     let most = sweeping.most_of(most);
-    let asked = ask(solver, vars, sweeping, x, y, most)?;
+    let asked = ask(solver, bounds, sweeping, x, y, most)?;
     if !asked.1 {
         let is_merged = sweeping.is_merged(x);
         sweeping.patience.count_result(is_within_net, is_merged);

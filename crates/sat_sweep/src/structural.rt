@@ -5,6 +5,7 @@ ghost use Rattle.sat_sweep.specs.KeepsFormula.{KeepsFormula};
 
 use crate::gates::SweepEvent;
 use crate::pairs::ask;
+use crate::queries::Bounds;
 use crate::sinks::visit_sinks;
 use crate::state::SweepState;
 use sat_solve::Solver;
@@ -16,13 +17,13 @@ const LIMIT: u32 = 20;
 /// Compares a gate in the cone of an open sink with the gate that it is structurally equal to, if there is one.
 fn merge_structural<S: Solver>(
     solver: &mut S,
-    vars: u32,
+    bounds: Bounds,
     sweeping: &mut SweepState,
     x: u32,
 ) -> Result<SweepEvent, AllocError>
-    requires vars { S.vars_of solver.old ≡ vars }
-    requires small { vars < 2 ^ 31 }
-    ensures { OnOk result (KeepsFormula S.IsSolverOf S.vars_of solver.old solver.new) }
+    requires vars { S.vars_of solver.old ≡ bounds.vars }
+    requires small { bounds.vars < 2 ^ 31 }
+    ensures { OnOk result (KeepsFormula S.IsSolverOf S.vars_of S.additions_of bounds.most solver.old solver.new) }
 {
     if !sweeping.is_needed(x) {
         return Ok(SweepEvent::Nothing);
@@ -30,25 +31,25 @@ fn merge_structural<S: Solver>(
     let Some(y) = sweeping.strash_equal(x)? else {
         return Ok(SweepEvent::Nothing);
     };
-    let (event, _) = ask(solver, vars, sweeping, x, y, LIMIT)?;
+    let (event, _) = ask(solver, bounds, sweeping, x, y, LIMIT)?;
     Ok(event)
 }
 
 /// Visits all gates in topological order.
 fn merge_structural_gates<S: Solver>(
     solver: &mut S,
-    vars: u32,
+    bounds: Bounds,
     sweeping: &mut SweepState,
 ) -> Result<SweepEvent, AllocError>
-    requires vars { S.vars_of solver.old ≡ vars }
-    requires small { vars < 2 ^ 31 }
-    ensures { OnOk result (KeepsFormula S.IsSolverOf S.vars_of solver.old solver.new) }
+    requires vars { S.vars_of solver.old ≡ bounds.vars }
+    requires small { bounds.vars < 2 ^ 31 }
+    ensures { OnOk result (KeepsFormula S.IsSolverOf S.vars_of S.additions_of bounds.most solver.old solver.new) }
 {
     for x in sweeping.nodes.first_gate()..sweeping.nodes.end() {
         if sweeping.is_spent() {
             return Ok(SweepEvent::Spent);
         }
-        let event = merge_structural(solver, vars, sweeping, x)?;
+        let event = merge_structural(solver, bounds, sweeping, x)?;
         if event != SweepEvent::Nothing {
             return Ok(event);
         }
@@ -59,16 +60,16 @@ fn merge_structural_gates<S: Solver>(
 /// The first round: over all gates, and then over the sinks whose two signals were merged.
 pub(crate) fn structural_round<S: Solver>(
     solver: &mut S,
-    vars: u32,
+    bounds: Bounds,
     sweeping: &mut SweepState,
 ) -> Result<SweepEvent, AllocError>
-    requires vars { S.vars_of solver.old ≡ vars }
-    requires small { vars < 2 ^ 31 }
-    ensures { OnOk result (KeepsFormula S.IsSolverOf S.vars_of solver.old solver.new) }
+    requires vars { S.vars_of solver.old ≡ bounds.vars }
+    requires small { bounds.vars < 2 ^ 31 }
+    ensures { OnOk result (KeepsFormula S.IsSolverOf S.vars_of S.additions_of bounds.most solver.old solver.new) }
 {
-    let event = merge_structural_gates(solver, vars, sweeping)?;
+    let event = merge_structural_gates(solver, bounds, sweeping)?;
     if event != SweepEvent::Nothing {
         return Ok(event);
     }
-    visit_sinks(solver, vars, sweeping, true, LIMIT)
+    visit_sinks(solver, bounds, sweeping, true, LIMIT)
 }

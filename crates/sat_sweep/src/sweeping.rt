@@ -1,10 +1,11 @@
 //! A sweep: a round over structurally equal gates, the binary clauses of the gates, and then rounds over the gates
 //! and sinks that are still needed, each with ten times the conflict limit of the round before.
-ghost use Rattle.std.specs.Prelude.{◌≡◌, ℕ, ◌+◌, ◌<◌, ◌^◌, length, OnOk};
+ghost use Rattle.std.specs.Prelude.{◌≡◌, ℕ, ◌+◌, ◌<◌, ◌≤◌, ◌^◌, length, max, OnOk};
 ghost use Rattle.sat_theory.specs.Formula.{Formula};
-ghost use Rattle.sat_sweep.specs.KeepsFormula.{KeepsFormula};
+ghost use Rattle.sat_sweep.specs.KeepsFormula.{KeepsFormula, most_after};
 
 use crate::gates::{SweepEvent, derive_binary_clauses, visit_gates};
+use crate::queries::Bounds;
 use crate::sinks::visit_sinks;
 use crate::state::SweepState;
 use crate::structural::structural_round;
@@ -28,33 +29,33 @@ pub enum Swept {
 /// One round over the gates and the sinks.
 fn round<S: Solver>(
     solver: &mut S,
-    vars: u32,
+    bounds: Bounds,
     sweeping: &mut SweepState,
     limit: u32,
 ) -> Result<SweepEvent, AllocError>
-    requires vars { S.vars_of solver.old ≡ vars }
-    requires small { vars < 2 ^ 31 }
-    ensures { OnOk result (KeepsFormula S.IsSolverOf S.vars_of solver.old solver.new) }
+    requires vars { S.vars_of solver.old ≡ bounds.vars }
+    requires small { bounds.vars < 2 ^ 31 }
+    ensures { OnOk result (KeepsFormula S.IsSolverOf S.vars_of S.additions_of bounds.most solver.old solver.new) }
 {
-    let event = visit_gates(solver, vars, sweeping, limit)?;
+    let event = visit_gates(solver, bounds, sweeping, limit)?;
     if event != SweepEvent::Nothing {
         return Ok(event);
     }
-    visit_sinks(solver, vars, sweeping, false, limit)
+    visit_sinks(solver, bounds, sweeping, false, limit)
 }
 
 /// Rounds, as long as a sink is open.
 fn rounds<S: Solver>(
     solver: &mut S,
-    vars: u32,
+    bounds: Bounds,
     sweeping: &mut SweepState,
 ) -> Result<SweepEvent, AllocError>
-    requires vars { S.vars_of solver.old ≡ vars }
-    requires small { vars < 2 ^ 31 }
-    ensures { OnOk result (KeepsFormula S.IsSolverOf S.vars_of solver.old solver.new) }
+    requires vars { S.vars_of solver.old ≡ bounds.vars }
+    requires small { bounds.vars < 2 ^ 31 }
+    ensures { OnOk result (KeepsFormula S.IsSolverOf S.vars_of S.additions_of bounds.most solver.old solver.new) }
 {
     for limit in LIMITS {
-        let event = round(solver, vars, sweeping, limit)?;
+        let event = round(solver, bounds, sweeping, limit)?;
         if event != SweepEvent::Nothing {
             return Ok(event);
         }
@@ -69,48 +70,50 @@ fn rounds<S: Solver>(
 /// Derives the binary clauses of the gates that are still needed, and then goes through the rounds.
 fn sweep_remaining<S: Solver>(
     solver: &mut S,
-    vars: u32,
+    bounds: Bounds,
     sweeping: &mut SweepState,
 ) -> Result<SweepEvent, AllocError>
-    requires vars { S.vars_of solver.old ≡ vars }
-    requires small { vars < 2 ^ 31 }
-    ensures { OnOk result (KeepsFormula S.IsSolverOf S.vars_of solver.old solver.new) }
+    requires vars { S.vars_of solver.old ≡ bounds.vars }
+    requires small { bounds.vars < 2 ^ 31 }
+    ensures { OnOk result (KeepsFormula S.IsSolverOf S.vars_of S.additions_of bounds.most solver.old solver.new) }
 {
     sweeping.begin_round();
-    let event = derive_binary_clauses(solver, vars, sweeping)?;
+    let event = derive_binary_clauses(solver, bounds, sweeping)?;
     if event != SweepEvent::Nothing {
         return Ok(event);
     }
-    rounds(solver, vars, sweeping)
+    rounds(solver, bounds, sweeping)
 }
 
 /// Merges structurally equal gates, and goes on if a sink is still open.
 fn sweep_all<S: Solver>(
     solver: &mut S,
-    vars: u32,
+    bounds: Bounds,
     sweeping: &mut SweepState,
 ) -> Result<SweepEvent, AllocError>
-    requires vars { S.vars_of solver.old ≡ vars }
-    requires small { vars < 2 ^ 31 }
-    ensures { OnOk result (KeepsFormula S.IsSolverOf S.vars_of solver.old solver.new) }
+    requires vars { S.vars_of solver.old ≡ bounds.vars }
+    requires small { bounds.vars < 2 ^ 31 }
+    ensures { OnOk result (KeepsFormula S.IsSolverOf S.vars_of S.additions_of bounds.most solver.old solver.new) }
 {
     sweeping.begin_round();
-    let event = structural_round(solver, vars, sweeping)?;
+    let event = structural_round(solver, bounds, sweeping)?;
     if event != SweepEvent::Nothing || !sweeping.has_open() {
         return Ok(event);
     }
-    sweep_remaining(solver, vars, sweeping)
+    sweep_remaining(solver, bounds, sweeping)
 }
 
 /// Sweeps two nets with equally many sources and equally many sinks: finds signals that are equal or
 /// complementary, and has `solver`, a solver of the nets' miter, derive that. It stops when the conflict limits of
-/// the queries that were given up add up to `budget`. Whatever it finds, the solver stays a solver of its formula.
+/// the queries that were given up add up to `budget`, and asks nothing more once the solver's log has `most`
+/// additions. Whatever it finds, the solver stays a solver of its formula.
 pub fn sweep<S: Solver>(
     alloc: Global,
     first: &Net,
     second: &Net,
     solver: &mut S,
     budget: u32,
+    most: u32,
 ) -> Result<Swept, AllocError>
     requires vars { S.vars_of solver.old ≡ first.now.sources + length first.now.gates + length second.now.gates +
         length first.now.sinks }
@@ -118,14 +121,17 @@ pub fn sweep<S: Solver>(
     ensures kept { (f : Formula) (least : ℕ) → S.IsSolverOf f least solver.old →
         OnOk result (S.IsSolverOf f least solver.new) }
     ensures vars { OnOk result (S.vars_of solver.new ≡ S.vars_of solver.old) }
+    ensures few { OnOk result (S.additions_of solver.new ≤
+        max (S.additions_of solver.old) (most_after most (S.vars_of solver.old))) }
 {
     let gates = first.gates().len() as u32 + second.gates().len() as u32;
     let vars = first.sources() + gates + first.sinks().len() as u32;
+    let bounds = Bounds { vars, most };
     let mut sweeping = SweepState::new(alloc, first, second, budget)?;
     let event = if sweeping.patterns.is_different(&sweeping.nodes) {
         SweepEvent::Counterexample
     } else {
-        sweep_all(solver, vars, &mut sweeping)?
+        sweep_all(solver, bounds, &mut sweeping)?
     };
     let spent = sweeping.spent();
     if event != SweepEvent::Counterexample {

@@ -1,4 +1,3 @@
-use Rattle.std.proofs.Common.{arith}
 use Rattle.equiv_run.specs.SmallLaws.{small_circuit}
 use Rattle.equiv_run.specs.TwoLaws.{two_answer, first_passed, second_passed, other_passed}
 use Rattle.equiv_run.proofs.two.compare_two.Goals as goal
