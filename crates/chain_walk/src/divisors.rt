@@ -1,7 +1,8 @@
 //! The divisors: signals outside a target's fanout, which its replacement may read.
 
 use crate::cone::Cone;
-use crate::small_net::SmallNet;
+use crate::row_sets::{RowSets, first_members, without_lowest};
+use crate::small_net::{SmallNet, small};
 use rows::{Random, at, bit_at, entry, put, raise};
 use std::alloc::{AllocError, Global};
 
@@ -11,10 +12,18 @@ const ALL_SIGNALS: u32 = 64;
 /// About so many divisors of a larger net are taken, near the target.
 const SAMPLED: u32 = 48;
 
-/// The divisors, and the readers of each signal, one list after another.
+/// A random walk from the target or a divisor has so many steps.
+const WALK_STEPS: u32 = 4;
+
+/// The divisors as a set of some signals: all, or those near the target. These stay, with their row sets, while the net
+/// is the same and all. And the readers of each signal, one list after another.
 #[derive(Drop)]
 pub struct Divisors {
     signals: Vec<u32>,
+    all: u64,
+    sets: RowSets,
+    is_whole: bool,
+    listed: Vec<u32>,
     marked: Vec<bool>,
     starts: Vec<u32>,
     readers: Vec<u32>,
@@ -25,22 +34,76 @@ impl Divisors {
     pub fn new(alloc: Global) -> Divisors {
         Divisors {
             signals: Vec::new(alloc),
+            all: 0,
+            sets: RowSets::new(alloc),
+            is_whole: false,
+            listed: Vec::new(alloc),
             marked: Vec::new(alloc),
             starts: Vec::new(alloc),
             readers: Vec::new(alloc),
         }
     }
 
-    /// The divisors.
+    /// The signals that sets are of: member k is the k-th one.
     pub fn signals(&self) -> &[u32] {
         &self.signals
     }
 
-    /// Takes all signals outside the cone.
+    /// The set of the divisors.
+    pub fn all(&self) -> u64 {
+        self.all
+    }
+
+    /// The divisors one by one, as they were listed.
+    pub fn listed(&self) -> &[u32] {
+        &self.listed
+    }
+
+    /// Makes the row sets of a word.
+    pub fn prepare(&mut self, net: &SmallNet, word: u32) {
+        self.sets.prepare(net, &self.signals, word);
+    }
+
+    /// The row sets of a word, which were made.
+    pub fn sets(&self, word: u32) -> &[u64] {
+        self.sets.of_word(word)
+    }
+
+    /// The net is another one from now on.
+    pub fn forget(&mut self) {
+        self.is_whole = false;
+    }
+
+    /// Lists the divisors one by one.
+    pub fn list_all(&mut self) -> Result<(), AllocError> {
+        self.listed.clear();
+        let mut left = self.all;
+        for _member in 0..self.all.count_ones() {
+            self.listed.push(at(&self.signals, left.trailing_zeros()))?;
+            left = without_lowest(left);
+        }
+        Ok(())
+    }
+
+    /// Takes all signals of a net.
+    fn take_net(&mut self, net: &SmallNet) -> Result<(), AllocError> {
+        self.signals.clear();
+        for signal in 0..net.signals() {
+            self.signals.push(signal)?;
+        }
+        self.is_whole = true;
+        self.sets.clear(net.words())
+    }
+
+    /// Makes all signals outside the cone divisors.
     fn take_all(&mut self, net: &SmallNet, cone: &Cone) -> Result<(), AllocError> {
+        if !self.is_whole {
+            self.take_net(net)?;
+        }
+        self.all = 0;
         for signal in 1..net.signals() {
             if !cone.has(signal) {
-                self.signals.push(signal)?;
+                self.all |= 1u64.wrapping_shl(signal);
             }
         }
         Ok(())
@@ -118,26 +181,16 @@ impl Divisors {
         }
     }
 
-    /// The end of a short random walk.
-    fn random_walk(&self, net: &SmallNet, from: u32, random: &mut Random) -> u32 {
-        let mut signal = from;
-        for _step in 0..random.below(4).saturating_add(1) {
-            signal = self.neighbour(net, signal, random);
+    /// Where a short walk begins: at the target for the first ones, then at a divisor.
+    fn origin(&self, target: u32, step: u32, random: &mut Random) -> u32 {
+        if step < SAMPLED {
+            return target;
         }
-        signal
+        let index = random.below(small(self.signals.len()));
+        entry(&self.signals, index, target)
     }
 
-    /// Where a walk begins: at the target for the first ones, then at a divisor.
-    fn origin(&self, target: u32, walk: u32, random: &mut Random) -> u32 {
-        let index = random.below(crate::small_net::small(self.signals.len()));
-        if walk < SAMPLED {
-            target
-        } else {
-            entry(&self.signals, index, target)
-        }
-    }
-
-    /// Takes signals near the target.
+    /// Takes signals near the target, those on short random walks.
     fn sample(
         &mut self,
         net: &SmallNet,
@@ -151,12 +204,15 @@ impl Divisors {
         let gate = net.gate(target);
         self.take(cone, gate.first)?;
         self.take(cone, gate.second)?;
-        for walk in 0..SAMPLED.saturating_mul(4) {
+        let mut signal = target;
+        for step in 0..SAMPLED.saturating_mul(5) {
             if self.signals.len() >= SAMPLED as usize {
                 break;
             }
-            let origin = self.origin(target, walk, random);
-            let signal = self.random_walk(net, origin, random);
+            if step % WALK_STEPS == 0 {
+                signal = self.origin(target, step, random);
+            }
+            signal = self.neighbour(net, signal, random);
             self.take(cone, signal)?;
         }
         Ok(())
@@ -170,10 +226,13 @@ impl Divisors {
         target: u32,
         random: &mut Random,
     ) -> Result<(), AllocError> {
-        self.signals.clear();
         if net.signals() <= ALL_SIGNALS {
             return self.take_all(net, cone);
         }
-        self.sample(net, cone, target, random)
+        self.is_whole = false;
+        self.signals.clear();
+        self.sample(net, cone, target, random)?;
+        self.all = first_members(small(self.signals.len()));
+        self.sets.clear(net.words())
     }
 }

@@ -27,6 +27,7 @@ mod pairs;
 mod parameters;
 mod rebuilding;
 mod required;
+mod row_sets;
 mod small_net;
 mod starting;
 mod strash;

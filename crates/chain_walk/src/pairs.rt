@@ -2,10 +2,14 @@
 //!
 //! One word, in which both values are required often, rules out nearly all pairs. And a pair has to distinguish each
 //! row of the on-set from each of the off-set: of a few random pairs of rows that which the fewest signals distinguish
-//! is taken, and one operand is one of these signals.
+//! is taken, and one operand is one of these signals. The second operands of a first one are found all at once, as a
+//! set of signals.
 
 use crate::choices::{Choices, random_operator};
+use crate::divisors::Divisors;
+use crate::operator::Operator;
 use crate::required::Required;
+use crate::row_sets::{separating, without_first, without_lowest};
 use crate::small_net::{Gate, SmallNet, small, word_at};
 use rows::{Random, at};
 use std::alloc::{AllocError, Global};
@@ -16,21 +20,20 @@ const GOOD_ROWS: u32 = 24;
 /// So many pairs of rows are compared by how many signals distinguish them.
 const PROBES: u32 = 4;
 
-/// The pairs that were found, and the signals in the order in which they are tried, with one word of each.
+/// The pairs that were found, and how many were tried in all.
 #[derive(Drop)]
 pub struct Pairs {
-    signals: Vec<u32>,
-    values: Vec<u64>,
     found: Vec<Gate>,
     checks: u64,
 }
 
-/// Two rows of a word.
+/// What a search is about: the function, one word of it, and the first operands, as a set of divisors.
 #[derive(Clone, Copy)]
-struct Probe {
-    on: u32,
-    off: u32,
-    distinguishing: u32,
+struct Task {
+    on: u64,
+    off: u64,
+    word: u32,
+    firsts: u64,
 }
 
 /// What a second operand is tried against: on-set and off-set, by the value of the first operand.
@@ -56,14 +59,6 @@ impl Halves {
             off_0: off & !first,
             off_1: off & first,
         }
-    }
-
-    /// Whether some two rows with the same operands require different values.
-    fn clashes(self, second: u64) -> bool {
-        (self.on_0 & second != 0 && self.off_0 & second != 0)
-            || (self.on_1 & second != 0 && self.off_1 & second != 0)
-            || (self.on_0 & !second != 0 && self.off_0 & !second != 0)
-            || (self.on_1 & !second != 0 && self.off_1 & !second != 0)
     }
 
     /// The places at which an operator has to be 1.
@@ -124,41 +119,70 @@ fn random_row(word: u64, random: &mut Random) -> u32 {
         & 63
 }
 
-/// 1 where a word has different bits at the two rows.
-fn distinguishes(value: u64, on: u32, off: u32) -> u32 {
-    u32::from((value.wrapping_shr(on) ^ value.wrapping_shr(off)) & 1 == 1)
-}
-
-/// How many of the words distinguish two rows.
-fn count_distinguishing(values: &[u64], on: u32, off: u32) -> u32 {
-    let mut count = 0u32;
-    for value in values {
-        count = count.saturating_add(distinguishes(*value, on, off));
+/// Of a few random pairs of rows the divisors that distinguish them, where these are fewest; all where there are no
+/// such rows in the word.
+fn first_operands(divisors: &Divisors, word: u32, on: u64, off: u64, random: &mut Random) -> u64 {
+    let mut best = divisors.all();
+    if on == 0 || off == 0 {
+        return best;
     }
-    count
-}
-
-/// Whether an operator of the basis fits two signals in all words: the set of these operators.
-fn fitting(net: &SmallNet, choices: &Choices, required: &Required, first: u32, second: u32) -> u32 {
-    let (mut ones, mut zeros) = (0, 0);
-    for word in 0..required.words() {
-        let halves = Halves::of(required.on(word), required.off(word), net.word(first, word));
-        let value = net.word(second, word);
-        ones |= halves.ones(value);
-        zeros |= halves.zeros(value);
-        if ones & zeros != 0 {
-            return 0;
+    let sets = divisors.sets(word);
+    for _tried in 0..PROBES {
+        let one = word_at(sets, random_row(on, random));
+        let zero = word_at(sets, random_row(off, random));
+        let distinguishing = (one ^ zero) & divisors.all();
+        if distinguishing.count_ones() <= best.count_ones() {
+            best = distinguishing;
         }
     }
-    choices.fitting(ones, zeros)
+    best
+}
+
+impl Task {
+    /// Of some divisors those that with a first operand, which has this word, separate on-set and off-set.
+    fn seconds(self, divisors: &Divisors, first: u64, members: u64) -> u64 {
+        let sets = divisors.sets(self.word);
+        let left = separating(sets, self.on & first, self.off & first, members);
+        separating(sets, self.on & !first, self.off & !first, left)
+    }
+}
+
+/// Whether an operator of two signals is the required function.
+fn serves(net: &SmallNet, required: &Required, gate: Gate) -> bool {
+    let masks = gate.operator.masks();
+    let (first, second) = (net.row(gate.first), net.row(gate.second));
+    for word in 0..required.words() {
+        let value = masks.at(word_at(first, word), word_at(second, word));
+        if (required.on(word) & !value) | (required.off(word) & value) != 0 {
+            return false;
+        }
+    }
+    true
+}
+
+/// Of a set of operators those by which two signals make the required function.
+fn serving(net: &SmallNet, required: &Required, operators: u32, first: u32, second: u32) -> u32 {
+    let mut left = operators;
+    let mut kept = operators;
+    for _operator in 0..operators.count_ones() {
+        let operator = Operator::new(left.trailing_zeros());
+        let gate = Gate {
+            first,
+            second,
+            operator,
+        };
+        if !serves(net, required, gate) {
+            kept &= !1u32.wrapping_shl(operator.code());
+        }
+        left &= left.wrapping_sub(1);
+    }
+    kept
 }
 
 impl Pairs {
     /// Nothing is found yet.
     pub fn new(alloc: Global) -> Pairs {
         Pairs {
-            signals: Vec::new(alloc),
-            values: Vec::new(alloc),
             found: Vec::new(alloc),
             checks: 0,
         }
@@ -180,107 +204,37 @@ impl Pairs {
         self.checks
     }
 
-    /// Takes one word of each signal.
-    fn take_words(&mut self, net: &SmallNet, signals: &[u32], word: u32) -> Result<(), AllocError> {
-        self.values.clear();
-        for signal in signals {
-            self.values.push(net.word(*signal, word))?;
-        }
-        Ok(())
-    }
-
-    /// Of a few random pairs of rows that which the fewest signals distinguish.
-    fn probe(&self, on: u64, off: u64, random: &mut Random) -> Probe {
-        let mut best = Probe {
-            on: 0,
-            off: 0,
-            distinguishing: small(self.values.len()),
-        };
-        for _tried in 0..PROBES {
-            let one = random_row(on, random);
-            let zero = random_row(off, random);
-            let distinguishing = count_distinguishing(&self.values, one, zero);
-            if distinguishing <= best.distinguishing {
-                best = Probe {
-                    on: one,
-                    off: zero,
-                    distinguishing,
-                };
-            }
-        }
-        best
-    }
-
-    /// Adds the signals that distinguish the rows of a probe where `side` is 1, the others where it is 0.
-    fn add_signals(&mut self, signals: &[u32], probe: Probe, side: u32) -> Result<(), AllocError> {
-        for (signal, value) in signals.iter().zip(self.values.iter()) {
-            if distinguishes(*value, probe.on, probe.off) == side {
-                self.signals.push(*signal)?;
-            }
-        }
-        Ok(())
-    }
-
-    /// The signals in the order in which they are tried, those that distinguish two rows first. Says how many these
-    /// are; all where there are no such rows in the word.
-    fn arrange(
-        &mut self,
-        net: &SmallNet,
-        signals: &[u32],
-        required: &Required,
-        word: u32,
-        random: &mut Random,
-    ) -> Result<u32, AllocError> {
-        self.signals.clear();
-        self.take_words(net, signals, word)?;
-        let (on, off) = (required.on(word), required.off(word));
-        if on == 0 || off == 0 {
-            self.signals.extend_from_slice(signals)?;
-            return Ok(small(self.signals.len()));
-        }
-        let probe = self.probe(on, off, random);
-        self.add_signals(signals, probe, 1)?;
-        self.add_signals(signals, probe, 0)?;
-        let order = std::mem::replace(&mut self.signals, Vec::new(*self.values.allocator()));
-        self.take_words(net, &order, word)?;
-        self.signals = order;
-        Ok(probe.distinguishing)
-    }
-
-    /// Adds the pairs of the signal at `index` with those behind it, and with itself where complements cost.
-    fn scan(
+    /// Adds a first operand's pairs with the members of a set, up to `most` pairs in all.
+    fn add(
         &mut self,
         net: &SmallNet,
         choices: &Choices,
+        signals: &[u32],
         required: &Required,
-        word: u32,
-        index: u32,
+        task: Task,
+        first: u32,
+        seconds: u64,
         most: usize,
         random: &mut Random,
     ) -> Result<(), AllocError> {
-        let first = at(&self.signals, index);
-        let halves = Halves::of(
-            required.on(word),
-            required.off(word),
-            word_at(&self.values, index),
-        );
-        let begin = (index as usize).saturating_add(usize::from(choices.absorbs()));
-        self.checks = self
-            .checks
-            .saturating_add((self.values.len() as u64).saturating_sub(begin as u64));
-        for (second, value) in self.signals.iter().zip(self.values.iter()).skip(begin) {
-            if halves.clashes(*value) || self.found.len() >= most {
-                continue;
+        let halves = Halves::of(task.on, task.off, net.word(first, task.word));
+        let mut left = seconds;
+        for _second in 0..64 {
+            if left == 0 || self.found.len() >= most {
+                break;
             }
-            let mut operators = choices.fitting(halves.ones(*value), halves.zeros(*value));
-            if operators != 0 && required.words() > 1 {
-                operators = fitting(net, choices, required, first, *second);
+            let second = at(signals, left.trailing_zeros());
+            left = without_lowest(left);
+            let value = net.word(second, task.word);
+            let mut operators = choices.fitting(halves.ones(value), halves.zeros(value));
+            if required.words() > 1 {
+                operators = serving(net, required, operators, first, second);
             }
             if operators != 0 {
                 let operator = random_operator(operators, random);
                 self.found.push(Gate {
                     first,
-                    second: *second,
+                    second,
                     operator,
                 })?;
             }
@@ -288,31 +242,88 @@ impl Pairs {
         Ok(())
     }
 
-    /// Finds pairs of the signals, at most about `most`.
+    /// Adds the pairs of the divisor `index`: with first operands above it, with itself where complements cost, and
+    /// with all others.
+    fn scan(
+        &mut self,
+        net: &SmallNet,
+        choices: &Choices,
+        divisors: &Divisors,
+        required: &Required,
+        task: Task,
+        index: u32,
+        most: usize,
+        random: &mut Random,
+    ) -> Result<(), AllocError> {
+        let first = at(divisors.signals(), index);
+        let skipped = u32::from(choices.absorbs());
+        let behind = task.firsts & u64::MAX.wrapping_shl(index).wrapping_shl(skipped);
+        let others = divisors.all() & !task.firsts;
+        self.checks = self
+            .checks
+            .saturating_add(u64::from((behind | others).count_ones()));
+        let seconds = task.seconds(divisors, net.word(first, task.word), behind | others);
+        if seconds == 0 {
+            return Ok(());
+        }
+        let signals = divisors.signals();
+        let (above, below) = (seconds & behind, seconds & others);
+        self.add(
+            net, choices, signals, required, task, first, above, most, random,
+        )?;
+        self.add(
+            net, choices, signals, required, task, first, below, most, random,
+        )
+    }
+
+    /// Adds the pairs of all first operands, from a random one on.
+    fn scan_all(
+        &mut self,
+        net: &SmallNet,
+        choices: &Choices,
+        divisors: &Divisors,
+        required: &Required,
+        task: Task,
+        most: usize,
+        random: &mut Random,
+    ) -> Result<(), AllocError> {
+        let count = task.firsts.count_ones();
+        let mut left = without_first(task.firsts, random.below(count));
+        for _tried in 0..count {
+            if left == 0 {
+                left = task.firsts;
+            }
+            let index = left.trailing_zeros();
+            left = without_lowest(left);
+            self.scan(net, choices, divisors, required, task, index, most, random)?;
+            if self.found.len() >= most {
+                break;
+            }
+        }
+        Ok(())
+    }
+
+    /// Finds pairs of the divisors, at most about `most`.
     pub fn search(
         &mut self,
         net: &SmallNet,
         choices: &Choices,
-        signals: &[u32],
+        divisors: &mut Divisors,
         required: &Required,
         most: usize,
         random: &mut Random,
     ) -> Result<(), AllocError> {
         self.found.clear();
         let word = balanced_word(required, random);
-        let distinguishing = self.arrange(net, signals, required, word, random)?;
-        let mut index = random.below(distinguishing);
-        for _tried in 0..distinguishing {
-            self.scan(net, choices, required, word, index, most, random)?;
-            if self.found.len() >= most {
-                break;
-            }
-            index = if index.saturating_add(1) >= distinguishing {
-                0
-            } else {
-                index.saturating_add(1)
-            };
-        }
-        Ok(())
+        divisors.prepare(net, word);
+        let (on, off) = (required.on(word), required.off(word));
+        let firsts = first_operands(divisors, word, on, off, random);
+        let task = Task {
+            on,
+            off,
+            word,
+            firsts,
+        };
+        self.scan_all(net, choices, divisors, required, task, most, random)
     }
 }

@@ -177,9 +177,13 @@ impl SmallNet {
     /// else NONE.
     pub fn find(&self, gate: Gate, complemented: bool) -> u32 {
         let sought = gate.in_order();
+        let ends = sought.first ^ sought.second;
         for (index, other) in self.gates.iter().enumerate() {
+            if other.first ^ other.second != ends {
+                continue;
+            }
             let known = other.in_order();
-            if known.first == sought.first && known.second == sought.second {
+            if known.first == sought.first {
                 let signal = self.first_gate().wrapping_add(small(index));
                 if known.operator == sought.operator {
                     return literal_of(signal, 0);

@@ -14,9 +14,10 @@ use crate::parameters::{
 };
 use crate::rebuilding::Rebuild;
 use crate::required::Required;
+use crate::row_sets::{agreeing, without_first, without_lowest};
 use crate::small_net::{SmallNet, literal_of, small};
 use crate::sweeping::{OutputComplements, Sweep, cost_of, remove_output_complements};
-use rows::{Random, entry};
+use rows::{Random, at, entry};
 use std::alloc::{AllocError, Global};
 
 /// Where a run ends: after so many moves, after so many without a gain, at a net of so few gates, or when the walk's
@@ -96,6 +97,7 @@ impl Walk {
     pub fn start(&mut self, net: &SmallNet) -> Result<(), AllocError> {
         self.net.copy_from(net)?;
         self.sweep.sweep(&mut self.net)?;
+        self.divisors.forget();
         self.cost = cost_of(&self.net, self.complements);
         Ok(())
     }
@@ -145,6 +147,7 @@ impl Walk {
             return Ok(false);
         }
         self.net.copy_from(&self.next)?;
+        self.divisors.forget();
         self.cost = cost;
         Ok(true)
     }
@@ -159,24 +162,51 @@ impl Walk {
         Ok(())
     }
 
+    /// The literal of a divisor, if it is the required function.
+    fn matching_literal(&self, signal: u32) -> Option<u32> {
+        let row = self.net.row(signal);
+        if self.required.is_matched_by(row, 0) {
+            return Some(literal_of(signal, 0));
+        }
+        if self.choices.absorbs() && self.required.is_matched_by(row, 1) {
+            return Some(literal_of(signal, 1));
+        }
+        None
+    }
+
+    /// The divisors that may be the required function, by one word of it.
+    fn candidates(&mut self, word: u32) -> u64 {
+        self.divisors.prepare(&self.net, word);
+        let sets = self.divisors.sets(word);
+        let (on, off) = (self.required.on(word), self.required.off(word));
+        let all = self.divisors.all();
+        let plain = agreeing(sets, off, 0, agreeing(sets, on, u64::MAX, all));
+        if self.choices.absorbs() {
+            return plain | agreeing(sets, off, u64::MAX, agreeing(sets, on, 0, all));
+        }
+        plain
+    }
+
     /// The literal of a divisor that is the required function, from a random one on; None where there is none.
     fn matching_divisor(&mut self) -> Option<u32> {
-        let signals = self.divisors.signals();
-        let count = small(signals.len());
-        let first = self.random.below(count);
-        for step in 0..count {
-            let index = if first.saturating_add(step) >= count {
-                first.saturating_add(step).saturating_sub(count)
-            } else {
-                first.saturating_add(step)
-            };
-            let signal = entry(signals, index, 0);
-            let row = self.net.row(signal);
-            if self.required.is_matched_by(row, 0) {
-                return Some(literal_of(signal, 0));
+        let all = self.divisors.all();
+        let rank = self.random.below(all.count_ones());
+        let candidates = self.candidates(0);
+        if candidates == 0 {
+            return None;
+        }
+        let mut left = candidates & without_first(all, rank);
+        let mut behind = candidates & !left;
+        for _tried in 0..candidates.count_ones() {
+            if left == 0 {
+                left = behind;
+                behind = 0;
             }
-            if self.choices.absorbs() && self.required.is_matched_by(row, 1) {
-                return Some(literal_of(signal, 1));
+            let signal = at(self.divisors.signals(), left.trailing_zeros());
+            left = without_lowest(left);
+            let literal = self.matching_literal(signal);
+            if literal.is_some() {
+                return literal;
             }
         }
         None
@@ -208,7 +238,7 @@ impl Walk {
         self.pairs.search(
             &self.net,
             &self.choices,
-            self.divisors.signals(),
+            &mut self.divisors,
             &self.required,
             MOST_PAIRS,
             &mut self.random,
@@ -274,7 +304,7 @@ impl Walk {
         self.pairs.search(
             &self.net,
             &self.choices,
-            self.divisors.signals(),
+            &mut self.divisors,
             &self.inner,
             MOST_INNER,
             &mut self.random,
@@ -292,12 +322,13 @@ impl Walk {
     /// The other operand of a place.
     fn beside_at(&self, place: u32) -> u32 {
         let count = small(self.choices.outers().len()).max(1);
-        entry(self.divisors.signals(), place / count, 0)
+        at(self.divisors.listed(), place / count)
     }
 
     /// Tries two new gates, from a random place on.
     fn try_two(&mut self, target: u32, growth: u32) -> Result<bool, AllocError> {
-        let places = small(self.divisors.signals().len()).saturating_mul(small(
+        self.divisors.list_all()?;
+        let places = small(self.divisors.listed().len()).saturating_mul(small(
             self.choices.outers().len(),
         ));
         let mut place = self.random.below(places);
@@ -371,6 +402,7 @@ impl Walk {
     fn go_back(&mut self, progress: &mut Progress) -> Result<(), AllocError> {
         if progress.is_kept {
             self.net.copy_from(&self.kept)?;
+            self.divisors.forget();
             self.cost = cost_of(&self.net, self.complements);
             progress.is_kept = false;
         }
