@@ -12,7 +12,7 @@ use crate::reading::tables;
 use cert_text::{write_header, write_section, write_trailer};
 use cert_theory::Verdict;
 use sat_solve::Solver;
-use settings::SynthSettings;
+use settings::{SynthSettings, method_for};
 use size_loop::{Advance, SizeSearch};
 use std::alloc::{AllocError, Global};
 use tt_core::SpecError;
@@ -49,11 +49,12 @@ pub fn begin(
     ensures refusal { IfErr result (λ e. Fails e (tables_alone (lines_of bytes.now))) }
 {
     let spec = tables(alloc, bytes)?;
+    let method = method_for(settings.method, spec.n(), spec.outputs());
     let mut text = Vec::new(alloc);
     write_header(
         &spec,
         settings.basis,
-        settings.method,
+        method,
         settings.conflicts,
         settings.max,
         &mut text,
@@ -61,7 +62,7 @@ pub fn begin(
     let search = SizeSearch::new(
         spec,
         settings.basis,
-        settings.method,
+        method,
         settings.max,
         settings.conflicts,
         settings.effort,
