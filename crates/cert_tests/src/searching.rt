@@ -71,7 +71,13 @@ const FOUND: &[(&str, &[u8], u16, Method, u32)] = &[
     ("AND of three, select", AND, ALL, Method::Select, 2),
     ("AND of three, fence", AND, ALL, Method::Fence, 2),
     ("XOR by NAND, strong", XOR, NAND, Method::Strong, 4),
-    ("XOR by NAND, strong-fence", XOR, NAND, Method::StrongFence, 4),
+    (
+        "XOR by NAND, strong-fence",
+        XOR,
+        NAND,
+        Method::StrongFence,
+        4,
+    ),
     ("cells that are all free", FREE, ALL, Method::Plain, 0),
 ];
 

@@ -36,11 +36,7 @@ fn least_depth_by(method: Method, asked: SynthSettings) -> Option<Command>
 {
     match method {
         Method::Fence => Some(Command::LeastDepth(asked)),
-        Method::Plain
-        | Method::Ssv
-        | Method::Select
-        | Method::Strong
-        | Method::StrongFence => None,
+        Method::Plain | Method::Ssv | Method::Select | Method::Strong | Method::StrongFence => None,
     }
 }
 
