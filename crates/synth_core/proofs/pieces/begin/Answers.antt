@@ -1,5 +1,5 @@
 -- Before the first size the header was written.
-use Rattle.std.proofs.Common.{◌≡◌, ◌<◌, length, refl, ap, subst, rules}
+use Rattle.std.proofs.Common.{◌≡◌, ◌<◌, length, ap, subst, rules}
 use Rattle.std.proofs.lemmas.Grind.{common_steps}
 use Rattle.settings.specs.declared.methods.Method.{Method}
 use Rattle.cert_theory.specs.declared.data.Header.{Header}
