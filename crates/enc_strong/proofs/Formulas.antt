@@ -3,7 +3,6 @@ use Rattle.std.proofs.Common.{◌≡◌, ℕ, Bool, List, ◌++◌, refl, ap, �
 use Rattle.std.proofs.lemmas.Grind.{common_steps}
 use Rattle.op_basis.specs.Basis.{members}
 use Rattle.op_basis.specs.Closed.{swap_closed}
-use Rattle.sat_theory.specs.Formula.{Formula}
 use Rattle.tt_core.specs.Live.{live_words}
 use Rattle.tt_core.specs.Words.{Words}
 use Rattle.enc_theory.specs.declared.data.Dimensions.{Dimensions}

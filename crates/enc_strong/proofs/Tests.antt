@@ -1,12 +1,13 @@
 -- Tests of all numbers of a range, and of some, one at a time.
-use Rattle.std.proofs.Common.{◌≡◌, ℕ, suc, ◌+◌, ◌-◌, ◌^◌, ◌<◌, ◌≤◌, Bool, true, false, ◌&&◌, ◌||◌, List, [], ◌∷◌, ◌++◌, refl, ap, ◌∙◌, arith}
+use Rattle.std.proofs.Common.{◌≡◌, ℕ, suc, ◌+◌, ◌-◌, ◌^◌, ◌<◌, ◌≤◌, Bool, true, false, ◌&&◌, ◌||◌, List, [], ◌∷◌, ◌++◌, length, refl, sym, subst, ap, ◌∙◌, arith}
 use Rattle.std.specs.List.{range_with_len, list_all, list_any}
 use Rattle.std.proofs.lemmas.Bool.{lt-ltb, le-ltb}
 use Rattle.std.proofs.lemmas.Grind.{common_steps}
 use Rattle.std.proofs.lemmas.List.Folds.{list_all-append, list_any-append}
-use Rattle.clause_core.specs.RangeLaws.{range_push, loops}
-use Rattle.tt_core.specs.Words.{Words}
-use Rattle.strong_theory.specs.Edges.{agree_but, some_output_differs, is_edge}
+use Rattle.clause_core.specs.RangeLaws.{range_push}
+use Rattle.tt_core.specs.Words.{Words, IsSpec}
+use Rattle.strong_theory.specs.declared.data.Edge.{Edge}
+use Rattle.strong_theory.specs.Edges.{agree_but, some_output_differs, is_edge, edges}
 use Rattle.enc_strong.specs.Bounds.{edges-few}
 
 last_all : (x y : Bool) → (x && (y && true)) ≡ (x && y)
@@ -45,4 +46,8 @@ edge_of_none w j a b past = rw (le-ltb b (2 ^ w.n) past) refl
 
 pub ruleset edge_tests = (common_steps, edge_of_row, edge_of_none)
 
-pub ruleset listing = (loops, edges-few)
+-- the listed edges are few
+pub few_edges : (w : Words) (es : List Edge) → IsSpec w → es ≡ edges w → length es ≤ 384
+few_edges w es is all = subst (λ (xs : List Edge). length xs ≤ 384) (sym all) (edges-few w is.inputs)
+
+pub ruleset listing = (common_steps, few_edges)

@@ -1,5 +1,5 @@
 -- Edges are of rows, and they, their variables and the further clauses are few enough for a formula.
-use Rattle.std.specs.Prelude.{◌≡◌, ℕ, ◌+◌, ◌*◌, ◌^◌, ◌≤◌, ◌<◌, Bool, true, false, ℤ, List, [], ◌∷◌, ◌++◌, All, length, if◌then◌else◌}
+use Rattle.std.specs.Prelude.{◌≡◌, ℕ, ◌+◌, ◌*◌, ◌^◌, ◌≤◌, ◌<◌, Bool, true, false, List, [], ◌∷◌, ◌++◌, All, length, if◌then◌else◌}
 use Rattle.std.specs.List.{range_with_len, flat_map}
 use Rattle.std.proofs.Common.{arith, length-append, subst, sym, get_or}
 use Rattle.std.proofs.lemmas.List.Elements.{Contains-get_or}
@@ -17,7 +17,8 @@ use Rattle.enc_base.specs.BoundLaws.{rows_few}
 use Rattle.enc_cuts.specs.Counts.{if-few, both-few}
 use Rattle.strong_theory.specs.declared.data.Edge.{Edge}
 use Rattle.strong_theory.specs.Edges.{edge, is_edge, raised, edge_at, edges_along, edges}
-use Rattle.strong_theory.specs.Strong.{precedes, one_of, one_pair_slot, one_pair_step, one_pair, value_differs, values_differ, operand_differs, sole_reader, or_others, edge_step, edge_steps, differences}
+use Rattle.strong_theory.specs.Strong.{precedes, one_of, one_pair_slot, one_pair_step, one_pair, value_differs, values_differ}
+use Rattle.strong_theory.specs.Strong.{operand_differs, sole_reader, or_others, edge_step, edge_steps, differences}
 use Rattle.strong_laws.specs.EdgeLaws.{edges_are}
 use Rattle.enc_strong.specs.Room.{HasRows}
 
@@ -81,9 +82,19 @@ unfolding one_pair slot_count
 one_pair-few [] few = omega arith
 one_pair-few (s ∷ later) few = rw length-append (omega (arith, one_pair_step-few s (omega arith), one_pair-few later (omega arith)))
 
+value-few : (z : Dimensions) (e : Edge) (before i : ℕ) (a b : Bool) → length (value_differs z e before i a b) ≤ 1
+unfolding value_differs
+value-few z e before i a b = written-few _
+
 values-few : (z : Dimensions) (e : Edge) (before i : ℕ) → length (values_differ z e before i) ≤ 4
-unfolding values_differ value_differs
-values-few z e before i = rw (length-append, length-append, length-append) (omega (arith, written-few _, written-few _, written-few _, written-few _))
+unfolding values_differ
+values-few z e before i = rw (length-append, length-append, length-append) (omega (
+  arith,
+  value-few z e before i false false,
+  value-few z e before i false true,
+  value-few z e before i true false,
+  value-few z e before i true true,
+))
 
 edge_step-few : (z : Dimensions) (steps : List StepSlots) (e : Edge) (before : ℕ) (s : StepSlots) → length (edge_step z steps e before s) ≤ 4 + length s.slots * 2
 unfolding edge_step operand_differs sole_reader
@@ -108,4 +119,5 @@ differences-few z steps before (e ∷ es) few slots = rw length-append (omega (a
 pub strong-few : (w : Words) (basis : ℕ) (z : Dimensions) (steps : List StepSlots) (before : ℕ) → IsSmall z → w.n ≤ most_inputs → length steps ≤ most_steps →
     slot_count steps ≤ 16000 → length (common w basis z steps ++ cuts w basis z steps ++ (one_pair steps ++ differences z steps before (edges w))) ≤ 1000000000
 strong-few w basis z steps before small inputs few slots =
-    rw (length-append, length-append) (omega (arith, both-few w basis z steps small inputs few slots, one_pair-few steps slots, differences-few z steps before (edges w) few slots, edges-few w inputs))
+    let both : length (common w basis z steps) + length (cuts w basis z steps) ≤ 610000000 = rw length-append at (both-few w basis z steps small inputs few slots) in
+    rw (length-append, length-append, length-append) (omega (arith, both, one_pair-few steps slots, differences-few z steps before (edges w) few slots, edges-few w inputs))

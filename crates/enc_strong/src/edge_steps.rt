@@ -1,6 +1,6 @@
 //! The clauses of a step on an edge: the edge's variables say which steps differ, a step that differs has an operand
 //! that does, and the only reader of the edge's input differs.
-ghost use Rattle.std.specs.Prelude.{◌≡◌, ℕ, ◌+◌, ◌<◌, ◌≤◌, ◌++◌, not, Bool, All, OnOk, IfOk, if◌then◌else◌};
+ghost use Rattle.std.specs.Prelude.{◌≡◌, ℕ, ◌+◌, ◌<◌, ◌≤◌, ◌++◌, not, All, OnOk, IfOk, if◌then◌else◌};
 ghost use Rattle.std.specs.List.{flat_map};
 ghost use Rattle.clause_core.specs.Clauses.{Appends, IsWithin};
 ghost use Rattle.enc_theory.specs.Cuts.{reads as reads_of, reader, readers};

@@ -85,7 +85,16 @@ fn live_formula<P: Pairs>(
     let edges = edges(alloc, live)?;
     let vars = with_edges(z, layout.vars, edges.len());
     let mut list = ClauseList::new(alloc, vars)?;
-    push_all(alloc, &mut list, live, basis, z, &layout.steps, layout.vars, &edges)?;
+    push_all(
+        alloc,
+        &mut list,
+        live,
+        basis,
+        z,
+        &layout.steps,
+        layout.vars,
+        &edges,
+    )?;
     list.into_cnf(alloc)
 }
 

@@ -21,12 +21,7 @@ fn precedes(u: Slot, v: Slot) -> bool
 
 /// The clause "not both pairs".
 #[tactic(auto, unfolding(enc_theory::specs::Cuts::not_both))]
-fn push_not_both(
-    alloc: Global,
-    list: &mut ClauseList,
-    u: Slot,
-    v: Slot,
-) -> Result<(), AllocError>
+fn push_not_both(alloc: Global, list: &mut ClauseList, u: Slot, v: Slot) -> Result<(), AllocError>
     requires first { HasVar list.old.vars u }
     requires second { HasVar list.old.vars v }
     ensures { OnOk result (Appends list.old list.new (not_both u v)) }

@@ -10,5 +10,6 @@
 #![tactic(auto)]
 
 mod data;
+pub mod laws;
 
 pub use data::Edge;

@@ -14,6 +14,7 @@ push_sole_readers-requires-clause-rest c =
     let at = c.args.at in
     let place = c.args.step.now.place in
     let kept = ap (λ (f : Formula). f.vars) c.in_ok-push_operands_differ.ensures ∙ ap (λ (f : Formula). f.vars) c.in_ok-push_values_differ.ensures in
+    let listed = c.deref.ensures.value ∙ c.in_ok-rest.ensures ∙ ap (or_others z steps at.edge at.before) c.place.ensures in
     subst (λ (v : ℕ). All (IsWithin v) c.deref.result.now) (sym kept)
-    (All-same (IsWithin c.args.list.now.vars) c.deref.result.now (or_others z steps at.edge at.before place) (c.deref.ensures.value ∙ c.in_ok-rest.ensures ∙ ap (or_others z steps at.edge at.before) c.place.ensures)
+    (All-same (IsWithin c.args.list.now.vars) c.deref.result.now (or_others z steps at.edge at.before place) listed
     (or_others_within z c.args.list.now.vars steps at.edge at.before place c.requires.steps c.requires.step.place c.requires.edge.within))
