@@ -17,6 +17,7 @@ from .texts import Text, bytes_of
 # The name of a basis (`all`, `u2`, `bench`, `nand`), its operators with commas between them, or a list of them.
 Basis = Union[str, Sequence[str]]
 Method = Literal['ssv', 'select', 'fence', 'strong', 'strong-fence', 'plain']
+MethodChoice = Literal[Method, 'auto']
 
 
 @lru_cache(maxsize=None)
@@ -30,7 +31,7 @@ def synth(
     *,
     inputs: int | None = None,
     basis: Basis | None = None,
-    method: Method | None = None,
+    method: MethodChoice | None = None,
     conflicts: int | None = None,
     max_steps: int | None = None,
     least_depth: bool = False,
@@ -48,8 +49,8 @@ def synth(
         The number of inputs, 0 to 6, where the length of the tables doesn't determine it.
     basis : str or sequence of str, optional
         The operators that a step may have: `all` (default), `u2`, `bench`, `nand`, or some of 0000 .. 1111.
-    method : {'ssv', 'select', 'fence', 'strong', 'strong-fence', 'plain'}, optional
-        How a size becomes a formula.
+    method : {'ssv', 'select', 'fence', 'strong', 'strong-fence', 'plain', 'auto'}, optional
+        How a size becomes a formula; with 'auto' as the tables suggest.
     conflicts : int, optional
         The number of learnt clauses after which a formula is left open (100,000).
     max_steps : int, optional

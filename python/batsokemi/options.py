@@ -15,6 +15,7 @@ Value = Union[str, int, bool, Sequence[str], None]
 
 BASES = ('all', 'u2', 'bench', 'nand')
 METHODS = ('ssv', 'select', 'fence', 'strong', 'strong-fence', 'plain')
+CHOICES = (*METHODS, 'auto')
 CONFLICTS = (1, 10_000_000)
 
 # By command and option: the least and the greatest number, the words, or `basis`.
@@ -22,7 +23,7 @@ Kind = Union[tuple[int, int], tuple[str, ...], str]
 KINDS: dict[str, dict[str, Kind]] = {
     'synth': {
         'basis': 'basis',
-        'method': METHODS,
+        'method': CHOICES,
         'max': (0, 16),
         'conflicts': CONFLICTS,
         'least-depth': ('yes', 'no'),

@@ -233,7 +233,7 @@ class Runs(unittest.TestCase):
     def test_the_same_answers(self) -> None:
         """The library and the program write the same bytes."""
         tables = b'inputs 3\n01101001\n00010111\n'
-        asked = [(['synth', '--method', method], tables) for method in options.METHODS]
+        asked = [(['synth', '--method', method], tables) for method in options.CHOICES]
         asked += [(['synth'], b''), (['nothing'], b'')]
         asked += [(['improve'], ADDER.read_bytes()), (['gen', '--blocks', '9'], b'')]
         for words, data in asked:

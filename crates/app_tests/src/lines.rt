@@ -5,7 +5,7 @@ use command_line::{
     Command, Format, GenAction, ImproveSettings, SynthSettings, WordsError, read_words,
 };
 use op_basis::Basis;
-use settings::Method;
+use settings::{Method, MethodChoice};
 use std::alloc::Global;
 
 /// Whether a line asks for this command, or is refused with this error.
@@ -71,7 +71,7 @@ fn synth_of(settings: Synth) -> Command {
     let (basis, method, max, conflicts, fewest_levels, effort) = settings;
     let settings = SynthSettings {
         basis: Basis::new(basis),
-        method,
+        method: MethodChoice::Named(method),
         max,
         conflicts,
         effort,
@@ -80,6 +80,15 @@ fn synth_of(settings: Synth) -> Command {
         return Command::LeastDepth(settings);
     }
     Command::Synth(settings)
+}
+
+#[test]
+fn synth_may_choose_its_method_by_the_tables(rt: HostRuntime) {
+    let settings = SynthSettings {
+        method: MethodChoice::Auto,
+        ..SynthSettings::defaults()
+    };
+    assert!(rt; asks(rt.alloc(), "synth --method auto", Ok(Command::Synth(settings))));
 }
 
 /// Command lines of `synth`, and their settings. Options that aren't named have their defaults.
@@ -371,6 +380,8 @@ const NOTHING: &[&str] = &[
     "synth --least-depth yes",
     "synth --least-depth yes --method ssv",
     "synth --least-depth yes --method strong-fence",
+    "synth --least-depth yes --method auto",
+    "improve --method auto",
     "synth --method plain --least-depth yes",
     "synth --method fence --least-depth Yes",
     "synth --method fence --least-depth 1",

@@ -2,7 +2,7 @@
 use cdcl_core::Cdcl;
 use cert_theory::Verdict;
 use op_basis::Basis;
-use settings::Method;
+use settings::{Method, MethodChoice};
 use size_loop::SizeSearch;
 use std::alloc::{AllocError, Global};
 use synth_core::{Piece, SynthSettings, begin, next_piece};
@@ -71,7 +71,7 @@ fn certified(
     }
     let settings = SynthSettings {
         basis: Basis::new(basis),
-        method,
+        method: MethodChoice::Named(method),
         max,
         conflicts,
         effort: 1,
@@ -209,6 +209,49 @@ fn is_certified(alloc: Global, text: &[u8], basis: u16, method: Method, wanted: 
     match certified(alloc, text, basis, method, 16, 100_000) {
         Ok(certificate) => is_wanted(&certificate, wanted),
         Err(error) => is_refusal(error, wanted),
+    }
+}
+
+/// Tables, and the end of the header of their certificate by `auto`.
+const TAKEN: &[(&str, &[u8], &[u8])] = &[
+    (
+        "three inputs, two outputs",
+        b"inputs 3\n01101001\n00010111\n",
+        b"\nmethod ssv\nconflicts 7\nmax 3\n",
+    ),
+    (
+        "four inputs, one output",
+        b"inputs 4\n0110100110010110\n",
+        b"\nmethod strong-fence\nconflicts 7\nmax 3\n",
+    ),
+    (
+        "four inputs, two outputs",
+        b"inputs 4\n0110100110010110\n0000000000000001\n",
+        b"\nmethod strong\nconflicts 7\nmax 3\n",
+    ),
+];
+
+/// Whether the header of the certificate for tables of at most 1,000 bytes ends so, where the method is `auto`.
+fn is_headed(alloc: Global, text: &[u8], end: &[u8]) -> bool {
+    if text.len() > 1_000 {
+        return false;
+    }
+    let settings = SynthSettings {
+        method: MethodChoice::Auto,
+        max: 3,
+        conflicts: 7,
+        ..SynthSettings::defaults()
+    };
+    match begin(alloc, text, &settings) {
+        Ok(begun) => begun.text.ends_with(end),
+        Err(_) => false,
+    }
+}
+
+#[test]
+fn certificates_name_the_method_that_auto_takes(rt: HostRuntime) {
+    for &(name, text, end) in TAKEN {
+        assert!(rt; is_headed(rt.alloc(), text, end), "{name}");
     }
 }
 

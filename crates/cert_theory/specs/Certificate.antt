@@ -11,6 +11,7 @@ use Rattle.sat_theory.specs.Log.{Refutes, ReachesBudget}
 use Rattle.tt_core.specs.Words.{IsSpec, specification}
 use Rattle.op_basis.specs.Basis.{members}
 use Rattle.enc_theory.specs.declared.subproblem.Subproblem.{Subproblem}
+use Rattle.settings.specs.declared.methods.MethodChoice.TheVariants.{Named}
 use Rattle.settings.specs.declared.synth.SynthSettings.{SynthSettings}
 use Rattle.settings.specs.Synth.{IsInRange}
 use Rattle.cert_theory.specs.declared.data.Header.{Header}
@@ -43,7 +44,8 @@ pub record Certificate : Type 0 where
 
 -- the settings, apart from the tables; a certificate doesn't name the effort of walks
 abbrev pub settings_of : Header → SynthSettings
-settings_of h = record { basis = h.basis; method = h.method; max = h.max; conflicts = h.conflicts; effort = 0 }
+settings_of h =
+    record { basis = h.basis; method = Named h.method; max = h.max; conflicts = h.conflicts; effort = 0 }
 
 -- The tables are a specification, the basis is a set of the sixteen operators, and the settings are in their
 -- ranges.

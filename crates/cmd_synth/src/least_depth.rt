@@ -1,6 +1,7 @@
 //! The command `synth --least-depth yes`.
 ghost use Rattle.std.specs.Prelude.{◌≡◌};
 ghost use Rattle.settings.specs.declared.methods.Method.TheVariants.{Fence};
+ghost use Rattle.settings.specs.declared.methods.MethodChoice.TheVariants.{Named};
 ghost use Rattle.settings.specs.Synth.{IsInRange};
 ghost use Rattle.frame_core.specs.Views.{reply_value};
 ghost use Rattle.cmd_synth.specs.LeastDepthReport.{found_status as found_status_of, least_depth_reply};
@@ -53,7 +54,7 @@ pub struct LeastDepth<S> {
 impl<S: Solver> Replier for LeastDepth<S> {
     ghost task = { λ job. least_depth_task job.settings };
 
-    ghost ready = { λ job. IsInRange job.settings × (job.settings.method ≡ Fence) };
+    ghost ready = { λ job. IsInRange job.settings × (job.settings.method ≡ Named Fence) };
 
     fn reads(&self) -> Option<usize> {
         Some(MOST_BYTES_OF_TABLES)

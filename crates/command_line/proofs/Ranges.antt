@@ -10,6 +10,8 @@ use Rattle.op_basis.specs.ListLaws.{basis_some}
 use Rattle.op_basis.specs.declared.error.BasisError.{BasisError}
 use Rattle.settings.specs.declared.methods.Method.{Method}
 use Rattle.settings.specs.declared.methods.Method.TheVariants.{Plain, Ssv, Select, Fence, Strong, StrongFence}
+use Rattle.settings.specs.declared.methods.MethodChoice.{MethodChoice}
+use Rattle.settings.specs.declared.methods.MethodChoice.TheVariants.{Named, Auto}
 use Rattle.settings.specs.declared.synth.SynthSettings.{SynthSettings}
 use Rattle.settings.specs.declared.improve.ImproveSettings.{ImproveSettings}
 use Rattle.settings.specs.Synth.{IsInRange}
@@ -24,11 +26,11 @@ use Rattle.command_line.specs.declared.command.GenAction.{GenAction}
 use Rattle.command_line.specs.declared.command.Format.{Format}
 use Rattle.command_line.specs.declared.command.Format.TheVariants.{Blif, Bench}
 use Rattle.command_line.specs.Options.{OptionRow, from_on, number_within, basis_or_none, basis_in, is_within}
-use Rattle.command_line.specs.Options.{if_of_gates, basis_row, gates_row, format_basis_row, method_row, max_row}
+use Rattle.command_line.specs.Options.{if_of_gates, basis_row, gates_row, format_basis_row, method_row, choice_row, max_row}
 use Rattle.command_line.specs.Options.{conflicts_row, cap_row, rounds_row, format_row, observe_row, effort_row}
 use Rattle.command_line.specs.Options.{seed_row, synth_effort_row, blocks_row, run_row, least_depth_row, depth_row, kind_named, options_of}
 use Rattle.command_line.specs.CommandLine.{word_after, are_options, value_in, value, asked_from, asked_in}
-use Rattle.command_line.specs.CommandLine.{least_depth_by, synth_from, recheck_from, settings_from, settings_for}
+use Rattle.command_line.specs.CommandLine.{least_depth_by, least_depth_for, synth_from, recheck_from, settings_from, settings_for}
 use Rattle.command_line.specs.CommandLine.{improve_with, improve_for, equiv_from, gen_from, command_with, command_in}
 use Rattle.command_line.specs.CommandLine.{command_of, HasGatesOf, IsAsked, IsAskable}
 use Rattle.settings.specs.Limits.{most_gates_of_window, most_rounds, most_effort, most_seed, most_blocks, default_conflicts}
@@ -73,14 +75,14 @@ in_row row P reads default (Some word) x e = reads word x e
 -- ---- commands
 
 -- the settings of `synth` are the values of its options
-pub record AreAsked (basis : Option ℕ) (method : Option Method) (max conflicts effort : Option ℕ) (s : SynthSettings) : Type 0 where
+pub record AreAsked (basis : Option ℕ) (method : Option MethodChoice) (max conflicts effort : Option ℕ) (s : SynthSettings) : Type 0 where
   pub basis_is : basis ≡ Some s.basis
   pub method_is : method ≡ Some s.method
   pub max_is : max ≡ Some s.max
   pub conflicts_is : conflicts ≡ Some s.conflicts
   pub effort_is : effort ≡ Some s.effort
 
-asked_made : (basis : Option ℕ) (method : Option Method) (max conflicts effort : Option ℕ) (s : SynthSettings) → asked_from basis method max conflicts effort ≡ Some s → AreAsked basis method max conflicts effort s
+asked_made : (basis : Option ℕ) (method : Option MethodChoice) (max conflicts effort : Option ℕ) (s : SynthSettings) → asked_from basis method max conflicts effort ≡ Some s → AreAsked basis method max conflicts effort s
 asked_made (Some b) (Some m) (Some x) (Some n) (Some f) s e =
     let same = some_is _ s e in
     record {
@@ -96,17 +98,17 @@ asked_made (Some b) (Some m) None conflicts effort s e = absurd cc
 asked_made (Some b) None max conflicts effort s e = absurd cc
 asked_made None method max conflicts effort s e = absurd cc
 
-pub asked_back : (basis : Option ℕ) (method : Option Method) (max conflicts effort : Option ℕ) (s : SynthSettings) → AreAsked basis method max conflicts effort s → asked_from basis method max conflicts effort ≡ Some s
+pub asked_back : (basis : Option ℕ) (method : Option MethodChoice) (max conflicts effort : Option ℕ) (s : SynthSettings) → AreAsked basis method max conflicts effort s → asked_from basis method max conflicts effort ≡ Some s
 asked_back basis method max conflicts effort s are = rw (are.basis_is, are.method_is, are.max_is, are.conflicts_is, are.effort_is) refl
 
 -- those of words
 abbrev pub AreAskedIn : List (List ℕ) → SynthSettings → Type 0
-AreAskedIn words s = AreAsked (value basis_row words) (value method_row words) (value max_row words) (value conflicts_row words) (value synth_effort_row words) s
+AreAskedIn words s = AreAsked (value basis_row words) (value choice_row words) (value max_row words) (value conflicts_row words) (value synth_effort_row words) s
 
 -- the command of `synth` with settings and the flag; the method for the fewest levels is always `fence`
 abbrev pub IsSynth : SynthSettings → Bool → Command → Type 0
 IsSynth s false c = commands.Synth s ≡ c
-IsSynth s true c = (commands.LeastDepth s ≡ c) × (s.method ≡ Fence)
+IsSynth s true c = (commands.LeastDepth s ≡ c) × (s.method ≡ Named Fence)
 
 -- words ask for `synth` with settings and the flag
 pub record IsSynthIn (words : List (List ℕ)) (c : Command) : Type 0 where
@@ -116,7 +118,7 @@ pub record IsSynthIn (words : List (List ℕ)) (c : Command) : Type 0 where
   pub are : AreAskedIn words s
   pub flag_is : value least_depth_row words ≡ Some flag
 
-depth_by : (m : Method) (s : SynthSettings) (c : Command) → s.method ≡ m → least_depth_by m s ≡ Some c → IsSynth s true c
+depth_by : (m : Method) (s : SynthSettings) (c : Command) → s.method ≡ Named m → least_depth_by m s ≡ Some c → IsSynth s true c
 depth_by Fence s c is e = (some_is _ c e, is)
 depth_by Plain s c is e = absurd cc
 depth_by Ssv s c is e = absurd cc
@@ -124,9 +126,13 @@ depth_by Select s c is e = absurd cc
 depth_by Strong s c is e = absurd cc
 depth_by StrongFence s c is e = absurd cc
 
+depth_for : (m : MethodChoice) (s : SynthSettings) (c : Command) → s.method ≡ m → least_depth_for m s ≡ Some c → IsSynth s true c
+depth_for (Named m) s c is e = depth_by m s c is e
+depth_for Auto s c is e = absurd cc
+
 flag_by : (s : SynthSettings) (flag : Bool) (c : Command) → synth_from (Some s) (Some flag) ≡ Some c → IsSynth s flag c
 flag_by s false c e = some_is _ c e
-flag_by s true c e = depth_by s.method s c refl e
+flag_by s true c e = depth_for s.method s c refl e
 
 synth_made : (words : List (List ℕ)) (o : Option SynthSettings) (flag : Option Bool) (c : Command) →
     asked_in words ≡ o → value least_depth_row words ≡ flag → synth_from o flag ≡ Some c → IsSynthIn words c

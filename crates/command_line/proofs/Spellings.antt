@@ -12,7 +12,7 @@ use Rattle.std.proofs.lemmas.List.Sorted.{All-permutation, Contains-permutation,
 use Rattle.std.proofs.lemmas.Map.Keys.{IsDistinct-cons, IsDistinct-head, IsDistinct-tail, IsDistinct-IsPermutation}
 use Rattle.std.proofs.lemmas.Map.Made.{is_some-lookup}
 use Rattle.std.proofs.lemmas.Map.Views.{lookup-from_Contains, Contains-from_lookup}
-use Rattle.settings.specs.declared.methods.Method.{Method}
+use Rattle.settings.specs.declared.methods.MethodChoice.{MethodChoice}
 use Rattle.settings.specs.declared.synth.SynthSettings.{SynthSettings}
 use Rattle.settings.specs.declared.improve.ImproveSettings.{ImproveSettings}
 use Rattle.command_line.specs.declared.command.Command.{Command}
@@ -20,11 +20,11 @@ use Rattle.command_line.specs.declared.command.Command.TheVariants as commands
 use Rattle.command_line.specs.declared.table.OptionKind.{OptionKind}
 use Rattle.command_line.specs.declared.table.OptionKind.TheVariants.{Agree, Recheck, Synth, Improve, Equiv, Gen}
 use Rattle.command_line.specs.declared.command.Format.{Format}
-use Rattle.command_line.specs.Options.{OptionRow, is_word, is_among, basis_row, format_basis_row, method_row, max_row}
+use Rattle.command_line.specs.Options.{OptionRow, is_word, is_among, basis_row, format_basis_row, method_row, choice_row, max_row}
 use Rattle.command_line.specs.Options.{conflicts_row, cap_row, rounds_row, format_row, observe_row, effort_row}
 use Rattle.command_line.specs.Options.{seed_row, synth_effort_row, blocks_row, run_row, least_depth_row, depth_row, kind_text, kind_named}
 use Rattle.command_line.specs.Options.{options_of}
-use Rattle.command_line.specs.CommandLine.{word_after, is_named, are_options, value_in, value, least_depth_by, synth_from, improve_with, improve_for, command_with, command_in, command_of, AsksFor}
+use Rattle.command_line.specs.CommandLine.{word_after, is_named, are_options, value_in, value, least_depth_for, synth_from, improve_with, improve_for, command_with, command_in, command_of, AsksFor}
 use Rattle.command_line.specs.Spelling.{OptionPair, both, flat, Gives, GivesSynth, GivesImprove, GivesGen, GivesAll, kind_of, SpellsOptions}
 use Rattle.command_line.proofs.Ranges.{some_is, passed, AreAskedIn, asked_back, IsSynth, synth_in_made, rechecks, recheck_made, AreSettingsIn, settings_back, improve_in_made, equiv_made, gen_made}
 
@@ -178,7 +178,7 @@ synth_is pairs c once e =
     let m = synth_in_made (flat pairs) c e in
     let all : GivesSynth pairs m.s m.flag = record {
       basis = gives basis_row pairs m.s.basis once m.are.basis_is;
-      method = gives method_row pairs m.s.method once m.are.method_is;
+      method = gives choice_row pairs m.s.method once m.are.method_is;
       max = gives max_row pairs m.s.max once m.are.max_is;
       conflicts = gives conflicts_row pairs m.s.conflicts once m.are.conflicts_is;
       effort = gives synth_effort_row pairs m.s.effort once m.are.effort_is;
@@ -236,7 +236,7 @@ improve_back f pairs s once all =
 asked_are : (pairs : List OptionPair) (s : SynthSettings) (flag : Bool) → IsDistinct is_word (keys_of pairs) → GivesSynth pairs s flag → AreAskedIn (flat pairs) s
 asked_are pairs s flag once all = record {
   basis_is = value_is basis_row pairs s.basis once all.basis;
-  method_is = value_is method_row pairs s.method once all.method;
+  method_is = value_is choice_row pairs s.method once all.method;
   max_is = value_is max_row pairs s.max once all.max;
   conflicts_is = value_is conflicts_row pairs s.conflicts once all.conflicts;
   effort_is = value_is synth_effort_row pairs s.effort once all.effort;
@@ -254,7 +254,7 @@ made_back commands.Recheck pairs once all = rw (value_is depth_row pairs false o
 made_back commands.RecheckDepth pairs once all = rw (value_is depth_row pairs true once all) refl
 made_back (commands.Synth s) pairs once all = synth_back pairs s false once all
 made_back (commands.LeastDepth s) pairs once all =
-    synth_back pairs s true once all.0 ∙ ap (λ (m : Method). least_depth_by m s) all.1
+    synth_back pairs s true once all.0 ∙ ap (λ (m : MethodChoice). least_depth_for m s) all.1
 made_back (commands.Improve f s) pairs once all = improve_back f pairs s once all
 made_back (commands.Equiv budget) pairs once all = rw (value_is conflicts_row pairs budget once all) refl
 made_back (commands.Gen blocks action) pairs once all =
@@ -263,7 +263,7 @@ made_back (commands.Gen blocks action) pairs once all =
 synth_again : (pairs other : List OptionPair) (s : SynthSettings) (flag : Bool) → IsPermutation pairs other → GivesSynth pairs s flag → GivesSynth other s flag
 synth_again pairs other s flag moved all = record {
   basis = gives_again basis_row pairs other s.basis moved all.basis;
-  method = gives_again method_row pairs other s.method moved all.method;
+  method = gives_again choice_row pairs other s.method moved all.method;
   max = gives_again max_row pairs other s.max moved all.max;
   conflicts = gives_again conflicts_row pairs other s.conflicts moved all.conflicts;
   effort = gives_again synth_effort_row pairs other s.effort moved all.effort;

@@ -5,6 +5,8 @@ use Rattle.std.specs.Global.{Global}
 use Rattle.std.specs.String.{string_bytes}
 use Rattle.settings.specs.declared.methods.Method.{Method}
 use Rattle.settings.specs.declared.methods.Method.TheVariants.{Fence}
+use Rattle.settings.specs.declared.methods.MethodChoice.{MethodChoice}
+use Rattle.settings.specs.declared.methods.MethodChoice.TheVariants.{Named, Auto}
 use Rattle.settings.specs.declared.synth.SynthSettings.{SynthSettings}
 use Rattle.settings.specs.Synth.{IsInRange}
 use Rattle.sat_theory.specs.Limits.{most_conflicts}
@@ -21,6 +23,7 @@ use Rattle.command_line.specs.declared.command.GenAction.{GenAction}
 use Rattle.command_line.specs.declared.command.Format.{Format}
 use Rattle.command_line.specs.declared.command.Format.TheVariants.{Blif, Bench}
 use Rattle.command_line.specs.Options.{OptionRow, is_word, is_among, is_within, basis_row, format_basis_row, method_row}
+use Rattle.command_line.specs.Options.{choice_row}
 use Rattle.command_line.specs.Options.{max_row, conflicts_row, cap_row, rounds_row, format_row, observe_row, effort_row}
 use Rattle.command_line.specs.Options.{seed_row, synth_effort_row, blocks_row, run_row, least_depth_row, depth_row}
 use Rattle.command_line.specs.Options.{kind_named}
@@ -58,14 +61,14 @@ value row words = value_in row (word_after row.name words)
 
 -- ---- commands
 
-abbrev pub asked_from : Option ℕ → Option Method → Option ℕ → Option ℕ → Option ℕ → Option SynthSettings
+abbrev pub asked_from : Option ℕ → Option MethodChoice → Option ℕ → Option ℕ → Option ℕ → Option SynthSettings
 asked_from (Some basis) (Some method) (Some max) (Some conflicts) (Some effort) =
     Some (record { basis = basis; method = method; max = max; conflicts = conflicts; effort = effort })
 asked_from basis method max conflicts effort = None
 
 -- the settings of `synth`
 abbrev pub asked_in : List (List ℕ) → Option SynthSettings
-asked_in words = asked_from (value basis_row words) (value method_row words) (value max_row words)
+asked_in words = asked_from (value basis_row words) (value choice_row words) (value max_row words)
     (value conflicts_row words) (value synth_effort_row words)
 
 -- the method of the search for the fewest levels is always `fence`
@@ -73,9 +76,13 @@ abbrev pub least_depth_by : Method → SynthSettings → Option Command
 least_depth_by Fence asked = Some (commands.LeastDepth asked)
 least_depth_by method asked = None
 
+abbrev pub least_depth_for : MethodChoice → SynthSettings → Option Command
+least_depth_for (Named method) asked = least_depth_by method asked
+least_depth_for Auto asked = None
+
 abbrev pub synth_from : Option SynthSettings → Option Bool → Option Command
 synth_from (Some asked) (Some false) = Some (commands.Synth asked)
-synth_from (Some asked) (Some true) = least_depth_by asked.method asked
+synth_from (Some asked) (Some true) = least_depth_for asked.method asked
 synth_from asked least_depth = None
 
 abbrev pub synth_in : List (List ℕ) → Option Command
@@ -191,7 +198,7 @@ IsAskable commands.Agree = Unit {0}
 IsAskable commands.Recheck = Unit {0}
 IsAskable commands.RecheckDepth = Unit {0}
 IsAskable (commands.Synth settings) = IsInRange settings
-IsAskable (commands.LeastDepth settings) = IsInRange settings × (settings.method ≡ Fence)
+IsAskable (commands.LeastDepth settings) = IsInRange settings × (settings.method ≡ Named Fence)
 IsAskable (commands.Improve format settings) = IsAsked format settings
 IsAskable (commands.Equiv conflicts) = IsBudget conflicts
 IsAskable (commands.Gen blocks action) = (1 ≤ blocks) × (blocks ≤ most_blocks)

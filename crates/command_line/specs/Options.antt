@@ -7,7 +7,8 @@ use Rattle.text_core.specs.Numbers.{number_up_to}
 use Rattle.op_basis.specs.Text.{bench_set, basis_of}
 use Rattle.op_basis.specs.declared.error.BasisError.{BasisError}
 use Rattle.settings.specs.declared.methods.Method.{Method}
-use Rattle.settings.specs.Methods.{method_named}
+use Rattle.settings.specs.declared.methods.MethodChoice.{MethodChoice}
+use Rattle.settings.specs.Methods.{method_named, choice_named}
 use Rattle.settings.specs.Synth.{defaults}
 use Rattle.sat_theory.specs.Limits.{most_conflicts}
 use Rattle.chain_theory.specs.Limits.{most_steps}
@@ -92,7 +93,11 @@ format_basis_row Blif = basis_row
 format_basis_row Bench = gates_row
 
 abbrev pub method_row : OptionRow Method
-method_row = record { name = codes "--method"; read = method_named; default = Some defaults.method }
+method_row = record { name = codes "--method"; read = method_named; default = Some improver.defaults.method }
+
+-- the method of `synth`, which may be chosen by the tables
+abbrev pub choice_row : OptionRow MethodChoice
+choice_row = record { name = codes "--method"; read = choice_named; default = Some defaults.method }
 
 -- the greatest number of steps that is tried
 abbrev pub max_row : OptionRow ℕ
@@ -170,7 +175,7 @@ kind_named name =
 abbrev pub options_of : OptionKind → List (List ℕ)
 options_of Agree = []
 options_of Recheck = depth_row.name ∷ []
-options_of Synth = basis_row.name ∷ method_row.name ∷ max_row.name ∷ conflicts_row.name ∷ least_depth_row.name ∷
+options_of Synth = basis_row.name ∷ choice_row.name ∷ max_row.name ∷ conflicts_row.name ∷ least_depth_row.name ∷
     synth_effort_row.name ∷ []
 options_of Improve = basis_row.name ∷ method_row.name ∷ cap_row.name ∷ rounds_row.name ∷ conflicts_row.name ∷
     format_row.name ∷ observe_row.name ∷ effort_row.name ∷ seed_row.name ∷ []

@@ -3,6 +3,7 @@ use Rattle.std.specs.Prelude.{◌≡◌, ℕ, List, [], ◌∷◌, Bool, true, f
 use Rattle.std.specs.List.{IsDistinct, flat_map}
 use Rattle.std.specs.Map.{keys_of}
 use Rattle.settings.specs.declared.methods.Method.TheVariants.{Fence}
+use Rattle.settings.specs.declared.methods.MethodChoice.TheVariants.{Named}
 use Rattle.settings.specs.declared.synth.SynthSettings.{SynthSettings}
 use Rattle.settings.specs.declared.improve.ImproveSettings.{ImproveSettings}
 use Rattle.command_line.specs.declared.command.Command.{Command}
@@ -12,6 +13,7 @@ use Rattle.command_line.specs.declared.table.OptionKind.TheVariants as kinds
 use Rattle.command_line.specs.declared.command.GenAction.{GenAction}
 use Rattle.command_line.specs.declared.command.Format.{Format}
 use Rattle.command_line.specs.Options.{OptionRow, is_word, is_among, basis_row, format_basis_row, method_row, max_row}
+use Rattle.command_line.specs.Options.{choice_row}
 use Rattle.command_line.specs.Options.{conflicts_row, cap_row, rounds_row, format_row, observe_row, effort_row}
 use Rattle.command_line.specs.Options.{seed_row, synth_effort_row, blocks_row, run_row, least_depth_row, depth_row}
 use Rattle.command_line.specs.Options.{kind_text, options_of}
@@ -34,7 +36,7 @@ pub record Gives {A : Type 0} (row : OptionRow A) (pairs : List OptionPair) (x :
 
 pub record GivesSynth (pairs : List OptionPair) (s : SynthSettings) (least_depth : Bool) : Type 0 where
   pub basis : Gives basis_row pairs s.basis
-  pub method : Gives method_row pairs s.method
+  pub method : Gives choice_row pairs s.method
   pub max : Gives max_row pairs s.max
   pub conflicts : Gives conflicts_row pairs s.conflicts
   pub effort : Gives synth_effort_row pairs s.effort
@@ -62,7 +64,7 @@ GivesAll pairs commands.Agree = Unit {0}
 GivesAll pairs commands.Recheck = Gives depth_row pairs false
 GivesAll pairs commands.RecheckDepth = Gives depth_row pairs true
 GivesAll pairs (commands.Synth settings) = GivesSynth pairs settings false
-GivesAll pairs (commands.LeastDepth settings) = GivesSynth pairs settings true × (settings.method ≡ Fence)
+GivesAll pairs (commands.LeastDepth settings) = GivesSynth pairs settings true × (settings.method ≡ Named Fence)
 GivesAll pairs (commands.Improve format settings) = GivesImprove pairs format settings
 GivesAll pairs (commands.Equiv budget) = Gives conflicts_row pairs budget
 GivesAll pairs (commands.Gen blocks action) = GivesGen pairs blocks action

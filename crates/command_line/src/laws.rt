@@ -2,6 +2,7 @@
 ghost use Rattle.std.specs.Prelude.{◌≡◌, ◌↔◌, ◌≤◌, true, ℕ, List, [], ◌∷◌, codes};
 ghost use Rattle.std.specs.List.Sorted.{IsPermutation};
 ghost use Rattle.settings.specs.declared.methods.Method.TheVariants.{Fence};
+ghost use Rattle.settings.specs.declared.methods.MethodChoice.TheVariants.{Named};
 ghost use Rattle.settings.specs.declared.synth.SynthSettings.{SynthSettings};
 ghost use Rattle.settings.specs.declared.improve.ImproveSettings.{ImproveSettings};
 ghost use Rattle.settings.specs.Synth.{defaults, IsInRange};
@@ -37,7 +38,7 @@ pub fn settings_are_in_range()
     ensures synth { (words : List (List ℕ)) (settings : SynthSettings) → AsksFor words (Synth settings) →
         IsInRange settings }
     ensures least_depth { (words : List (List ℕ)) (settings : SynthSettings) → AsksFor words (LeastDepth settings) →
-        IsInRange settings × (settings.method ≡ Fence) }
+        IsInRange settings × (settings.method ≡ Named Fence) }
     ensures improve { (words : List (List ℕ)) (format : Format) (settings : ImproveSettings) →
         AsksFor words (Improve format settings) → IsAsked format settings }
     ensures equiv { (words : List (List ℕ)) (budget : ℕ) → AsksFor words (Equiv budget) → IsBudget budget }

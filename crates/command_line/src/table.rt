@@ -11,7 +11,7 @@ use crate::pairs::{is_word, word_after};
 use op_basis::{BENCH, Basis, read_basis};
 use settings::{
     ImproveSettings, MOST_BLOCKS, MOST_CONFLICTS, MOST_EFFORT, MOST_GATES_OF_WINDOW, MOST_ROUNDS,
-    MOST_SEED, MOST_STEPS, Method, SynthSettings, method_named,
+    MOST_SEED, MOST_STEPS, Method, MethodChoice, SynthSettings, choice_named, method_named,
 };
 use text_core::number_up_to;
 
@@ -186,12 +186,22 @@ pub(crate) fn given_basis_for(format: Format, words: &[String]) -> Option<Basis>
     }
 }
 
-/// The value of `--method`.
+/// The value of `--method` of `synth`.
+pub(crate) fn given_choice(words: &[String]) -> Option<MethodChoice>
+    ensures { result ≡ value spec.choice_row (map string_bytes words.now) }
+{
+    match word_after(METHOD, words) {
+        None => Some(SynthSettings::defaults().method),
+        Some(word) => choice_named(word),
+    }
+}
+
+/// The value of `--method` of `improve`.
 pub(crate) fn given_method(words: &[String]) -> Option<Method>
     ensures { result ≡ value spec.method_row (map string_bytes words.now) }
 {
     match word_after(METHOD, words) {
-        None => Some(SynthSettings::defaults().method),
+        None => Some(ImproveSettings::defaults().method),
         Some(word) => method_named(word),
     }
 }

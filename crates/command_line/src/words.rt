@@ -6,18 +6,18 @@ ghost use Rattle.command_line.specs.CommandLine as spec;
 use crate::command::{Command, Format, WordsError};
 use crate::pairs::are_options;
 use crate::table::{
-    OptionKind, given_basis, given_basis_for, given_blocks, given_cap, given_conflicts, given_deed,
+    OptionKind, given_basis, given_basis_for, given_blocks, given_cap, given_choice, given_conflicts, given_deed,
     given_depth, given_effort, given_format, given_least_depth, given_max, given_method,
     given_observe, given_rounds, given_seed, given_synth_effort, kind_named,
 };
-use settings::{ImproveSettings, Method, SynthSettings};
+use settings::{ImproveSettings, Method, MethodChoice, SynthSettings};
 
 /// The settings of `synth`.
 fn asked_in(words: &[String]) -> Option<SynthSettings>
     ensures { result ≡ spec.asked_in (map string_bytes words.now) }
 {
     let basis = given_basis(words)?;
-    let method = given_method(words)?;
+    let method = given_choice(words)?;
     let max = given_max(words)?;
     let conflicts = given_conflicts(words)?;
     let effort = given_synth_effort(words)?;
@@ -31,12 +31,22 @@ fn asked_in(words: &[String]) -> Option<SynthSettings>
 }
 
 /// The search for the fewest levels, whose method is always `fence`.
-fn least_depth_by(asked: SynthSettings) -> Option<Command>
-    ensures { result ≡ spec.least_depth_by asked.method asked }
+fn least_depth_by(method: Method, asked: SynthSettings) -> Option<Command>
+    ensures { result ≡ spec.least_depth_by method asked }
 {
-    match asked.method {
+    match method {
         Method::Fence => Some(Command::LeastDepth(asked)),
         Method::Plain | Method::Ssv | Method::Select | Method::Strong | Method::StrongFence => None,
+    }
+}
+
+/// The same for a choice of the method.
+fn least_depth_for(asked: SynthSettings) -> Option<Command>
+    ensures { result ≡ spec.least_depth_for asked.method asked }
+{
+    match asked.method {
+        MethodChoice::Named(method) => least_depth_by(method, asked),
+        MethodChoice::Auto => None,
     }
 }
 
@@ -46,7 +56,7 @@ fn synth_in(words: &[String]) -> Option<Command>
 {
     match (asked_in(words), given_least_depth(words)) {
         (Some(asked), Some(false)) => Some(Command::Synth(asked)),
-        (Some(asked), Some(true)) => least_depth_by(asked),
+        (Some(asked), Some(true)) => least_depth_for(asked),
         _ => None,
     }
 }

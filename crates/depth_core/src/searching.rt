@@ -1,5 +1,6 @@
 //! The search: first a chain with the fewest steps, then the fences with fewer levels than it has, level by level.
 ghost use Rattle.std.specs.Prelude.{◌≡◌, ℕ, ◌≤◌, ◌<◌, ◌+◌, ◌++◌, Some, IfOk, OnOk};
+ghost use Rattle.settings.specs.declared.methods.MethodChoice.TheVariants.{Named};
 ghost use Rattle.settings.specs.Synth.{IsInRange};
 ghost use Rattle.chain_theory.specs.Levels.{depth};
 ghost use Rattle.settings.specs.declared.methods.Method.TheVariants.{Fence};
@@ -186,7 +187,7 @@ pub fn least_depth<S: Solver>(
 ) -> Result<DepthResult, AllocError>
     requires settings { IsInRange (record {
       basis = basis;
-      method = Fence;
+      method = Named Fence;
       max = max;
       conflicts = budget;
       effort = 0;

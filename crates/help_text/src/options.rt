@@ -67,6 +67,16 @@ const METHODS: Allowed = Allowed::Words(&[
     b"plain",
 ]);
 
+const CHOICES: Allowed = Allowed::Words(&[
+    b"ssv",
+    b"select",
+    b"fence",
+    b"strong",
+    b"strong-fence",
+    b"plain",
+    b"auto",
+]);
+
 const OUTPUT: Row = Row {
     name: b"-o",
     value: b"FILE",
@@ -97,6 +107,14 @@ const METHOD: Row = Row {
     allowed: METHODS,
     default: Default::Word(b"ssv"),
     says: b"how a size becomes a formula; what a verdict means is the same",
+};
+
+const CHOICE: Row = Row {
+    name: b"--method",
+    value: b"METHOD",
+    allowed: CHOICES,
+    default: Default::Word(b"ssv"),
+    says: b"how a size becomes a formula; what a verdict means is the same; auto: by the tables",
 };
 
 const MAX: Row = Row {
@@ -133,7 +151,7 @@ const LEAST_DEPTH: Row = Row {
 
 const SYNTH: &[Row] = &[
     BASIS,
-    METHOD,
+    CHOICE,
     MAX,
     CONFLICTS,
     SYNTH_EFFORT,

@@ -1,7 +1,9 @@
 -- The names of the methods.
-use Rattle.std.specs.Prelude.{ℕ, List, codes, nat_eq, Bool, Option, Some, None, if◌then◌else◌}
+use Rattle.std.specs.Prelude.{ℕ, List, codes, nat_eq, nat_le, ◌==◌, Bool, Option, Some, None, if◌then◌else◌}
 use Rattle.std.specs.Cmp.Lexicographic.{pointwise}
 use Rattle.settings.specs.declared.methods.Method.{Method}
+use Rattle.settings.specs.declared.methods.MethodChoice.{MethodChoice}
+use Rattle.settings.specs.declared.methods.MethodChoice.TheVariants.{Named, Auto}
 use Rattle.settings.specs.declared.methods.Method.TheVariants.{Plain, Ssv, Select, Fence, Strong, StrongFence}
 
 abbrev pub method_text : Method → List ℕ
@@ -25,3 +27,19 @@ method_named word =
     else (if is_name word Strong then Some Strong
     else (if is_name word StrongFence then Some StrongFence
     else None)))))
+
+-- ---- choices
+
+abbrev pub named : Option Method → Option MethodChoice
+named None = None
+named (Some method) = Some (Named method)
+
+-- the choice with a given name
+abbrev pub choice_named : List ℕ → Option MethodChoice
+choice_named word = if pointwise nat_eq word (codes "auto") then Some Auto else named (method_named word)
+
+-- The method for tables of `inputs` inputs and `outputs` outputs.
+-- Example: for five inputs and one output `auto` takes `strong-fence`.
+abbrev pub method_for : MethodChoice → ℕ → ℕ → Method
+method_for (Named method) inputs outputs = method
+method_for Auto inputs outputs = if nat_le inputs 3 then Ssv else (if outputs == 1 then StrongFence else Strong)

@@ -4,6 +4,7 @@ use Rattle.sat_theory.specs.Limits.{most_conflicts}
 use Rattle.chain_theory.specs.Limits.{most_steps}
 use Rattle.op_basis.specs.Text.{all_set}
 use Rattle.settings.specs.declared.methods.Method.TheVariants.{Ssv}
+use Rattle.settings.specs.declared.methods.MethodChoice.TheVariants.{Named}
 use Rattle.settings.specs.Limits.{default_conflicts, default_effort, most_effort}
 use Rattle.settings.specs.declared.synth.SynthSettings.{SynthSettings}
 
@@ -19,7 +20,7 @@ pub record IsInRange (s : SynthSettings) : Type 0 where
 abbrev pub defaults : SynthSettings
 defaults = record {
   basis = all_set;
-  method = Ssv;
+  method = Named Ssv;
   max = most_steps;
   conflicts = default_conflicts;
   effort = default_effort;

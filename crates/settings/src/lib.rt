@@ -4,7 +4,7 @@
 //! nothing that encodes, searches or parses. `limits` has the greatest numbers and the defaults of numbers.
 //!
 //! `specs/Synth.antt` and `specs/Improve.antt` define the valid ranges (`IsInRange`) and the defaults
-//! (`defaults`); `specs/Methods.antt` names each method. Names and methods correspond one to one
+//! (`defaults`); `specs/Methods.antt` names each method, and says which one `auto` takes. Names and methods correspond one to one
 //! (`laws::names_are_of_one_method`).
 //!
 //! ```text
@@ -25,6 +25,6 @@ pub use limits::{
     DEFAULT_CONFLICTS, DEFAULT_EFFORT, MOST_BLOCKS, MOST_EFFORT, MOST_GATES_OF_WINDOW, MOST_ROUNDS,
     MOST_SEED,
 };
-pub use methods::{Method, method_name, method_named};
+pub use methods::{Method, MethodChoice, choice_named, method_for, method_name, method_named};
 pub use sat_theory::MOST_CONFLICTS;
 pub use synth::SynthSettings;

@@ -21,6 +21,15 @@ pub enum Method {
     StrongFence,
 }
 
+/// How the method of a search is chosen.
+#[derive(Clone, Copy, PartialEq, Eq)]
+pub enum MethodChoice {
+    /// This method, whatever the tables.
+    Named(Method),
+    /// By the tables: `Ssv` up to three inputs, otherwise `StrongFence` for one output and `Strong` for several.
+    Auto,
+}
+
 /// The name of a method.
 pub fn method_name(method: Method) -> &'static [u8]
     ensures { result.now ≡ spec.method_text method }
@@ -58,4 +67,29 @@ pub fn method_named(word: &[u8]) -> Option<Method>
         return Some(Method::StrongFence);
     }
     None
+}
+
+/// The choice named `word`: `auto`, or the name of a method; None for any other word.
+pub fn choice_named(word: &[u8]) -> Option<MethodChoice>
+    ensures { result ≡ spec.choice_named word.now }
+{
+    if word == b"auto".as_slice() {
+        return Some(MethodChoice::Auto);
+    }
+    match method_named(word) {
+        Some(method) => Some(MethodChoice::Named(method)),
+        None => None,
+    }
+}
+
+/// The method for tables of so many inputs and outputs.
+pub fn method_for(choice: MethodChoice, inputs: u32, outputs: u32) -> Method
+    ensures { result ≡ spec.method_for choice inputs outputs }
+{
+    match choice {
+        MethodChoice::Named(method) => method,
+        MethodChoice::Auto if inputs <= 3 => Method::Ssv,
+        MethodChoice::Auto if outputs == 1 => Method::StrongFence,
+        MethodChoice::Auto => Method::Strong,
+    }
 }

@@ -3,7 +3,7 @@ ghost use Rattle.std.specs.Prelude.{◌≡◌};
 ghost use Rattle.settings.specs.Synth.{defaults, IsInRange};
 
 use crate::limits::{DEFAULT_CONFLICTS, DEFAULT_EFFORT};
-use crate::methods::Method;
+use crate::methods::{Method, MethodChoice};
 use chain_theory::MOST_STEPS;
 use op_basis::Basis;
 
@@ -13,7 +13,7 @@ pub struct SynthSettings {
     /// The allowed operators (gate types); at least one.
     pub basis: Basis,
     /// The encoding.
-    pub method: Method,
+    pub method: MethodChoice,
     /// The greatest size to try, from 1 to 16.
     pub max: u32,
     /// The conflict limit of each formula: the search may give up and leave a formula open once it has learnt
@@ -32,7 +32,7 @@ impl SynthSettings {
     {
         SynthSettings {
             basis: Basis::new(u16::MAX),
-            method: Method::Ssv,
+            method: MethodChoice::Named(Method::Ssv),
             max: MOST_STEPS,
             conflicts: DEFAULT_CONFLICTS,
             effort: DEFAULT_EFFORT,

@@ -2,6 +2,7 @@
 //! from all steps (`specs/SearchedLaws.antt`), whether the caller keeps the sections or writes and drops them.
 //! It looks for a chain before the formulas of a size (`known`), and keeps the shortest one until its size comes.
 ghost use Rattle.std.specs.Prelude.{◌≡◌, ◌≤◌, None, IsTrue, IfOk};
+ghost use Rattle.settings.specs.declared.methods.MethodChoice.TheVariants.{Named};
 ghost use Rattle.settings.specs.Synth.{IsInRange};
 ghost use Rattle.cert_theory.specs.Certificate.{IsSection, IsTrailer};
 ghost use Rattle.size_loop.specs.Advancing.{IfSection, IfEnded, after_section, open_with};
@@ -74,7 +75,7 @@ impl SizeSearch {
     ) -> SizeSearch
         requires settings { IsInRange (record {
           basis = basis;
-          method = method;
+          method = Named method;
           max = max;
           conflicts = budget;
           effort = 0;

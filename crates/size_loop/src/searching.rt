@@ -1,6 +1,7 @@
 //! The whole search: it advances until it ends, and keeps the sections. Its invariant `HasSearched` says that the
 //! sections so far are those of all sizes below the next one; with the trailer they are a valid certificate.
 ghost use Rattle.std.specs.Prelude.{◌≡◌, IfOk};
+ghost use Rattle.settings.specs.declared.methods.MethodChoice.TheVariants.{Named};
 ghost use Rattle.settings.specs.Synth.{IsInRange};
 ghost use Rattle.cert_theory.specs.Certificate.{IsValid};
 ghost use Rattle.cert_theory.specs.LiveBounds.{HaveLiveBounds};
@@ -29,7 +30,7 @@ pub fn search<S: Solver>(
 ) -> Result<Certificate, AllocError>
     requires settings { IsInRange (record {
       basis = basis;
-      method = method;
+      method = Named method;
       max = max;
       conflicts = budget;
       effort = 0;

@@ -4,7 +4,9 @@ use Rattle.std.proofs.lemmas.Grind.{common_steps}
 use Rattle.text_core.specs.Lines.{lines_of}
 use Rattle.tt_core.specs.Words.{Words, specification}
 use Rattle.tt_core.specs.Spelling.{SpellsTables}
-use Rattle.settings.specs.declared.methods.Method.{Method}
+use Rattle.settings.specs.declared.methods.MethodChoice.{MethodChoice}
+use Rattle.settings.specs.declared.methods.MethodChoice.TheVariants.{Named}
+use Rattle.settings.specs.Methods.{method_for}
 use Rattle.settings.specs.declared.methods.Method.TheVariants.{Fence}
 use Rattle.settings.specs.declared.synth.SynthSettings.{SynthSettings}
 use Rattle.settings.specs.Synth.{IsInRange}
@@ -22,13 +24,14 @@ use Rattle.synth_core.specs.DepthCertifying.{IsLeast, IsOther}
 abbrev pub by_fences : Words → SynthSettings → Header
 by_fences w settings = record { spec = w; basis = settings.basis; method = Fence; conflicts = settings.conflicts; max = settings.max }
 
-pub settings_range : (settings : SynthSettings) → IsInRange settings → IsInRange (record { basis = settings.basis; method = Fence; max = settings.max; conflicts = settings.conflicts; effort = 0 })
+pub settings_range : (settings : SynthSettings) → IsInRange settings → IsInRange (record { basis = settings.basis; method = Named Fence; max = settings.max; conflicts = settings.conflicts; effort = 0 })
 settings_range settings range = record { basis_from = range.basis_from; max_to = range.max_to; conflicts_from = range.conflicts_from; conflicts_to = range.conflicts_to; effort_to = omega arith }
 
-header_same : (w : Words) (settings : SynthSettings) → settings.method ≡ Fence → by_fences w settings ≡ header_of w settings
-header_same w settings is = ap (λ (m : Method). record { spec = w; basis = settings.basis; method = m; conflicts = settings.conflicts; max = settings.max }) (sym is)
+header_same : (w : Words) (settings : SynthSettings) → settings.method ≡ Named Fence → by_fences w settings ≡ header_of w settings
+header_same w settings is =
+    ap (λ (m : MethodChoice). record { spec = w; basis = settings.basis; method = method_for m w.n (length w.on); conflicts = settings.conflicts; max = settings.max }) (sym is)
 
-own_header : (h : Header) (w : Words) (settings : SynthSettings) → settings.method ≡ Fence → h ≡ by_fences w settings → h ≡ header_of h.spec settings
+own_header : (h : Header) (w : Words) (settings : SynthSettings) → settings.method ≡ Named Fence → h ≡ by_fences w settings → h ≡ header_of h.spec settings
 own_header h w settings fences is =
     is ∙ header_same w settings fences ∙ ap (λ (x : Words). header_of x settings) (sym (ap (λ (k : Header). k.spec) is))
 
@@ -41,7 +44,7 @@ own_tables : (h : Header) (w : Words) (settings : SynthSettings) (bytes : List �
 own_tables h w settings bytes is tables = subst (λ (k : Header). SpellsTables (specification k.spec) (lines_of bytes) []) (sym is) tables
 
 pub least_certified : (bytes text : List ℕ) (settings : SynthSettings) (w : Words) (b : DepthCertificate) →
-    settings.method ≡ Fence → SpellsTables (specification w) (lines_of bytes) [] → 0 < length w.on →
+    settings.method ≡ Named Fence → SpellsTables (specification w) (lines_of bytes) [] → 0 < length w.on →
     found.IsLeast (by_fences w settings) b → text ≡ depth_text b → IsLeast bytes settings text b.verdict
 least_certified bytes text settings w b fences tables output is spelled = record {
   certificate = b;
@@ -54,7 +57,7 @@ least_certified bytes text settings w b fences tables output is spelled = record
 }
 
 pub other_certified : (bytes text : List ℕ) (settings : SynthSettings) (w : Words) (b : Certificate) →
-    settings.method ≡ Fence → SpellsTables (specification w) (lines_of bytes) [] → 0 < length w.on →
+    settings.method ≡ Named Fence → SpellsTables (specification w) (lines_of bytes) [] → 0 < length w.on →
     found.IsOther (by_fences w settings) b → text ≡ cert_text b → IsOther bytes settings text b.verdict
 other_certified bytes text settings w b fences tables output is spelled = record {
   certificate = record {

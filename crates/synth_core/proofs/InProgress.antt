@@ -16,15 +16,16 @@ use Rattle.size_loop.specs.State.{State}
 use Rattle.cert_theory.specs.LiveBounds.{HasLiveBoundsIn}
 use Rattle.size_loop.specs.SearchedLaws.{searched_none, searched_more, searched_valid}
 use Rattle.size_loop.specs.Advancing.{after_section}
+use Rattle.settings.specs.declared.methods.MethodChoice.{MethodChoice}
 use Rattle.settings.specs.declared.synth.SynthSettings.{SynthSettings}
 use Rattle.settings.specs.Synth.{IsInRange}
 use Rattle.synth_core.specs.SettingsHeader.{header_of}
 use Rattle.synth_core.specs.Certifying.{IsCertificate}
 use Rattle.synth_core.specs.Pieces.{IsInProgress}
 
--- the settings of a certificate are in their ranges, whatever the effort
-pub header_range : (s : SynthSettings) → IsInRange s → IsInRange (record { basis = s.basis; method = s.method; max = s.max; conflicts = s.conflicts; effort = 0 })
-header_range s range = record { basis_from = range.basis_from; max_to = range.max_to; conflicts_from = range.conflicts_from; conflicts_to = range.conflicts_to; effort_to = omega arith }
+-- the settings of a certificate are in their ranges, whatever the method and the effort
+pub header_range : (s : SynthSettings) (choice : MethodChoice) → IsInRange s → IsInRange (record { basis = s.basis; method = choice; max = s.max; conflicts = s.conflicts; effort = 0 })
+header_range s choice range = record { basis_from = range.basis_from; max_to = range.max_to; conflicts_from = range.conflicts_from; conflicts_to = range.conflicts_to; effort_to = omega arith }
 
 -- before the first size
 begun_by : (bytes : List ℕ) (settings : SynthSettings) (h : Header) (s : State) (text : List ℕ) →

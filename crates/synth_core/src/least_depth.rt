@@ -2,6 +2,7 @@
 ghost use Rattle.std.specs.Prelude.{◌≡◌, ◌^◌, ◌<◌, length, IfOk, IfErr};
 ghost use Rattle.text_core.specs.Lines.{lines_of};
 ghost use Rattle.settings.specs.declared.methods.Method.TheVariants.{Fence};
+ghost use Rattle.settings.specs.declared.methods.MethodChoice.TheVariants.{Named};
 ghost use Rattle.settings.specs.Synth.{IsInRange};
 ghost use Rattle.tt_core.specs.Gives.{Fails};
 ghost use Rattle.cert_theory.specs.Certificate.{HasOutput, IsValid};
@@ -70,7 +71,7 @@ pub fn certify_depth<S: Solver>(
 ) -> Result<CertifiedDepth, SpecError>
     requires length { length bytes.now < 2 ^ 31 }
     requires range { IsInRange settings.now }
-    requires by_fences { settings.now.method ≡ Fence }
+    requires by_fences { settings.now.method ≡ Named Fence }
     ensures certificate { IfOk result (λ c. IsCertificate bytes.now settings.now c.text.items c.found) }
     ensures refusal { IfErr result (λ e. Fails e (tables_alone (lines_of bytes.now))) }
 {

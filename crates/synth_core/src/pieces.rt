@@ -6,16 +6,17 @@ ghost use Rattle.settings.specs.Synth.{IsInRange};
 ghost use Rattle.settings.specs.declared.synth.SynthSettings.{SynthSettings};
 ghost use Rattle.tt_core.specs.Gives.{Fails};
 ghost use Rattle.synth_core.specs.Pieces.{IsInProgress, IsNextPiece, Rises};
+ghost use Rattle.synth_core.specs.SettingsHeader.{header_of};
 ghost use Rattle.synth_core.specs.Tables.{tables_alone};
 
 use crate::reading::tables;
 use cert_text::{write_header, write_section, write_trailer};
 use cert_theory::Verdict;
 use sat_solve::Solver;
-use settings::SynthSettings;
+use settings::{Method, SynthSettings, method_for};
 use size_loop::{Advance, SizeSearch};
 use std::alloc::{AllocError, Global};
-use tt_core::SpecError;
+use tt_core::{Spec, SpecError};
 
 /// A search before its first size.
 #[derive(Drop)]
@@ -34,6 +35,13 @@ pub enum Piece {
     Trailer { text: Vec<u8>, verdict: Verdict },
 }
 
+/// The method that the settings take for the tables.
+fn method_of(settings: &SynthSettings, spec: &Spec) -> Method
+    ensures { result ≡ (header_of spec.now settings.now).method }
+{
+    method_for(settings.method, spec.n(), spec.outputs())
+}
+
 /// Begins a search for a chain of the fewest steps that implements the tables in the input. A line after the
 /// tables is refused as `BadRow`.
 #[tactic(auto, using(crate::proofs::InProgress::in_progress))]
@@ -49,11 +57,12 @@ pub fn begin(
     ensures refusal { IfErr result (λ e. Fails e (tables_alone (lines_of bytes.now))) }
 {
     let spec = tables(alloc, bytes)?;
+    let method = method_of(settings, &spec);
     let mut text = Vec::new(alloc);
     write_header(
         &spec,
         settings.basis,
-        settings.method,
+        method,
         settings.conflicts,
         settings.max,
         &mut text,
@@ -61,7 +70,7 @@ pub fn begin(
     let search = SizeSearch::new(
         spec,
         settings.basis,
-        settings.method,
+        method,
         settings.max,
         settings.conflicts,
         settings.effort,
