@@ -14,6 +14,7 @@ from .commands import synth
 from .errors import Error, TablesError, UsageError
 from .options import Value
 from .tables import TablesLike
+from .waiting import leave_nothing
 
 if TYPE_CHECKING:
     from concurrent.futures import ProcessPoolExecutor
@@ -103,6 +104,7 @@ def tabulate(
 def bound() -> None:
     """Binds a process of the pool to the one that asked: interruptions are for that one, and this one ends with it."""
     signal.signal(signal.SIGINT, signal.SIG_IGN)
+    leave_nothing()
     threading.Thread(target=follow, daemon=True).start()
 
 

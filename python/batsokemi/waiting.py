@@ -8,6 +8,15 @@ from typing import TypeVar
 
 T = TypeVar('T')
 
+# Whether work may be left in this process.
+leaving = True
+
+
+def leave_nothing() -> None:
+    """Work isn't left in this process from now on, which saves the threads: the processes of a pool are ended."""
+    global leaving
+    leaving = False
+
 
 def waited(work: Callable[[], T]) -> T:
     """What the work gives, or the error that it raises.
@@ -19,7 +28,7 @@ def waited(work: Callable[[], T]) -> T:
     >>> waited(lambda: 2 + 2)
     4
     """
-    if threading.current_thread() is not threading.main_thread():
+    if not leaving or threading.current_thread() is not threading.main_thread():
         return work()
     ended = threading.Event()
     answers: list[T] = []

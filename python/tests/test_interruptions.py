@@ -19,11 +19,11 @@ from .engines import TOP, everywhere
 # Parity and other functions of six inputs, for which no budget here is enough.
 HARD = '0x7d3a91c6e25b08f4'
 BEGIN = 'import os, threading, batsokemi\nprint("begun", flush=True)\n'
-# Python's own process, whose calls are interrupted; at the end it says how many processes it has left.
+# A Python whose calls are interrupted; it waits for the end of each process that it has then.
 CALL = BEGIN + 'try:\n    batsokemi.synth({hard!r}, conflicts=10_000_000, engine=batsokemi.{engine}())\n'
 POOL = BEGIN + 'try:\n    list(batsokemi.tabulate([{hard!r}] * 3, processes=2, conflicts=10_000_000))\n'
 END = 'except KeyboardInterrupt:\n    print("left", flush=True)\n'
-CHILDREN = 'try:\n    os.waitpid(-1, os.WNOHANG)\n    print("a process stays")\nexcept ChildProcessError:\n    pass\n'
+CHILDREN = 'try:\n    while True:\n        os.wait()\nexcept ChildProcessError:\n    pass\n'
 
 
 def remains(reader: int, seconds: float) -> bool:
