@@ -13,7 +13,8 @@
  *     if (answer.status == BATSOKEMI_DONE && answer.output_length <= sizeof output)
  *         fwrite(output, 1, answer.output_length, stdout);
  *
- * Link with libbatsokemi.so, or with libbatsokemi.a; both need the C library alone.
+ * Link with libbatsokemi.so, or with libbatsokemi.a; both need the C library alone. Where tools/install has put them,
+ * `pkg-config --cflags --libs batsokemi` has the flags.
  *
  * Copyright (c) 2026 The Batsokemi developers; licensed under MIT or Apache-2.0, at your choice (LICENSE-MIT,
  * LICENSE-APACHE).

@@ -9,7 +9,7 @@ from typing import Literal, Union
 
 from .calls import answered, answered_pair
 from .chain import Chain
-from .engine import Engine, usual_engine
+from .engine import Engine, Progress, Telling, usual_engine
 from .results import Agreement, Equivalence, Report, Result, Verdict, recheck_with
 from .tables import TablesLike, tables_of
 from .texts import Text, bytes_of
@@ -36,6 +36,7 @@ def synth(
     max_steps: int | None = None,
     least_depth: bool = False,
     effort: int | None = None,
+    progress: Progress | None = None,
     engine: Engine | None = None,
 ) -> Result:
     """Finds a chain of the fewest steps for truth tables, and a certificate that no smaller chain exists.
@@ -59,6 +60,9 @@ def synth(
         Whether to look also for the fewest levels among the chains of the fewest steps; by `fence`.
     effort : int, optional
         A factor for the work of the walks that look for a chain before formulas do, 0 to 1,000 (1).
+    progress : callable, optional
+        Called with each size, an `int`, when its part of the certificate comes: smaller ones are done then. With it the
+        program does the work, in a process of its own, since the library tells nothing before its end.
     engine : Engine, optional
         What runs the command (`default_engine()`).
 
@@ -74,6 +78,8 @@ def synth(
         If an option has no such value, or two exclude each other.
     LimitError, MemoryFault
         If there are more than 6 inputs or 8 outputs, or no memory.
+    FileNotFoundError
+        If `progress` is given, and the program isn't there.
 
     Examples
     --------
@@ -86,7 +92,7 @@ def synth(
         method = 'fence'
     engine = engine or default_engine()
     run = answered(
-        engine,
+        engine if progress is None else Telling(engine, progress),
         'synth',
         str(asked).encode(),
         basis=basis,

@@ -1,7 +1,8 @@
 """Engines, which run a command: the library in this process, or without one the program in a process of its own.
 
 Both take the same words and bytes and give the same answers; the library is faster for short questions. Calls share no
-state, and the library releases Python's lock while it runs, so threads run in parallel.
+state, and the library releases Python's lock while it runs, so threads run in parallel. An interruption ends a call
+at once: the program is killed then, and what the library does is left to itself (`waiting`).
 """
 
 from __future__ import annotations
@@ -13,10 +14,12 @@ import shutil
 import subprocess
 import tempfile
 import threading
-from collections.abc import Callable, Sequence
-from functools import lru_cache
+from collections.abc import Callable, Iterator, Sequence
+from functools import lru_cache, partial
 from pathlib import Path
-from typing import NamedTuple, Protocol
+from typing import IO, NamedTuple, Protocol
+
+from .waiting import waited
 
 HERE = Path(__file__).resolve().parent
 
@@ -24,6 +27,10 @@ HERE = Path(__file__).resolve().parent
 ROOM = 1 << 28
 # A buffer is kept for the next call where no more of it was used.
 KEPT = 1 << 20
+
+
+# Called with a size when `synth` begins to write of it: all smaller ones are decided or left open.
+Progress = Callable[[int], object]
 
 
 class Run(NamedTuple):
@@ -73,6 +80,11 @@ class _Buffers(threading.local):
             self.kept = buffers
 
 
+def called(call: Callable[..., _Answer], blocks: Sequence[object], output: _Buffer, notes: _Buffer) -> _Answer:
+    """The answer of a call. The buffers are held as long as it runs, also where nothing waits for it any more."""
+    return call(*blocks, output.at, output.room, notes.at, notes.room)
+
+
 class Library:
     """The library `libbatsokemi.so`, loaded into this process.
 
@@ -106,7 +118,7 @@ class Library:
         blocks = [part for text in (line_of(words), *inputs) for part in (text, len(text))]
         output, notes = self._buffers.take()
         while True:
-            answer = call(*blocks, output.at, output.room, notes.at, notes.room)
+            answer = waited(partial(called, call, blocks, output, notes))
             if answer.output_length <= output.room and answer.notes_length <= notes.room:
                 break
             output, notes = (_Buffer(max(answer.output_length, ROOM)), _Buffer(max(answer.notes_length, ROOM)))
@@ -134,7 +146,7 @@ class Process:
     def __init__(self, path: str | os.PathLike[str] | None = None) -> None:
         found = path or find_program()
         if found is None:
-            raise FileNotFoundError('neither libbatsokemi.so nor the program is here; `tools/release` makes both')
+            raise FileNotFoundError('the program batsokemi is not here: BATSOKEMI_PROGRAM or the path may name it')
         self.path = os.fspath(found)
 
     def run(self, words: Sequence[str], data: bytes = b'') -> Run:
@@ -142,6 +154,22 @@ class Process:
         line_of(words)
         ended = subprocess.run([self.path, *words], input=data, capture_output=True, check=False)
         return Run(ended.returncode, ended.stdout, ended.stderr)
+
+    def run_told(self, words: Sequence[str], data: bytes, progress: Progress) -> Run:
+        """Runs the command of these words on an input, and tells each size as its part of the certificate comes. An
+        error that the function raises ends the program."""
+        line_of(words)
+        with tempfile.TemporaryFile() as given, tempfile.TemporaryFile() as notes:
+            given.write(data)
+            given.seek(0)
+            with subprocess.Popen([self.path, *words], stdin=given, stdout=subprocess.PIPE, stderr=notes) as program:
+                try:
+                    output = b''.join(told_sizes(program.stdout, progress)) if program.stdout else b''
+                except BaseException:
+                    program.kill()
+                    raise
+            notes.seek(0)
+            return Run(program.returncode, output, notes.read())
 
     def run_pair(self, words: Sequence[str], first: bytes, second: bytes) -> Run:
         """Runs `equiv` with these words on two inputs, each in a file of its own, by the program that reads files: it is
@@ -157,6 +185,30 @@ class Process:
 
     def __repr__(self) -> str:
         return f'Process({self.path!r})'
+
+
+def told_sizes(lines: IO[bytes], progress: Progress) -> Iterator[bytes]:
+    """The lines, each told on the way if it is `size R`."""
+    for line in lines:
+        if line.startswith(b'size '):
+            progress(int(line.removeprefix(b'size ')))
+        yield line
+
+
+class Telling:
+    """An engine that tells the sizes of `synth`: the program, also where another engine does the other work."""
+
+    def __init__(self, engine: Engine, progress: Progress) -> None:
+        self.process = engine if isinstance(engine, Process) else Process()
+        self.progress = progress
+
+    def run(self, words: Sequence[str], data: bytes = b'') -> Run:
+        """Runs the command of these words on an input."""
+        return self.process.run_told(words, data, self.progress)
+
+    def run_pair(self, words: Sequence[str], first: bytes, second: bytes) -> Run:
+        """Runs `equiv` with these words on two inputs, which are never joined; there is nothing to tell."""
+        return self.process.run_pair(words, first, second)
 
 
 def line_of(words: Sequence[str]) -> bytes:

@@ -3,15 +3,21 @@
 from __future__ import annotations
 
 import os
+import signal
+import threading
 from collections.abc import Iterable, Iterator, Sized
 from functools import partial
 from importlib import import_module
-from typing import NamedTuple
+from typing import TYPE_CHECKING, NamedTuple
 
 from .commands import synth
 from .errors import Error, TablesError, UsageError
 from .options import Value
 from .tables import TablesLike
+from .waiting import leave_nothing
+
+if TYPE_CHECKING:
+    from concurrent.futures import ProcessPoolExecutor
 
 # How many questions a process takes at once: enough that handing them out costs little, few enough that no process is
 # left alone with many hard ones.
@@ -49,6 +55,9 @@ def tabulate(
 ) -> Iterator[Told]:
     """The verdict of each function, in order, each certificate rechecked.
 
+    An interruption, or an iteration that is left, ends the processes in the middle of their work; so does the end of
+    the process that asked.
+
     Parameters
     ----------
     functions : iterable
@@ -84,8 +93,35 @@ def tabulate(
         return
     from concurrent.futures import ProcessPoolExecutor
 
-    with ProcessPoolExecutor(count) as pool:
-        yield from shown(pool.map(ask, functions, chunksize=CHUNK), total, progress)
+    with ProcessPoolExecutor(count, initializer=bound) as pool:
+        try:
+            yield from shown(pool.map(ask, functions, chunksize=CHUNK), total, progress)
+        except BaseException:
+            end(pool)
+            raise
+
+
+def bound() -> None:
+    """Binds a process of the pool to the one that asked: interruptions are for that one, and this one ends with it."""
+    signal.signal(signal.SIGINT, signal.SIG_IGN)
+    leave_nothing()
+    threading.Thread(target=follow, daemon=True).start()
+
+
+def follow() -> None:
+    """Ends this process when its parent has ended."""
+    from multiprocessing import parent_process
+
+    parent = parent_process()
+    if parent is not None:
+        parent.join()
+        os._exit(1)
+
+
+def end(pool: ProcessPoolExecutor) -> None:
+    """Ends the processes of a pool, whatever they do."""
+    for process in list((pool._processes or {}).values()):
+        process.terminate()
 
 
 def shown(each: Iterator[Told], total: int | None, progress: bool) -> Iterable[Told]:

@@ -7,7 +7,7 @@ from collections.abc import Iterable
 from typing import Literal
 
 from .errors import TablesError
-from .tables import Tables, hex_of, inputs_of, number_of, row_of
+from .tables import Tables, hex_of, inputs_of, number_of, row_of, tables_in
 from .texts import Text, lines_of
 
 TableFormat = Literal['tables', 'hex', 'lines', 'pla']
@@ -46,7 +46,7 @@ def read_tables(text: Text, form: TableFormat | None = None, inputs: int | None 
     if form is None:
         form = shown(lines)
     if form == 'tables':
-        return [within(of_tables(lines))]
+        return [within(tables_in(front(lines)))]
     if form == 'pla':
         return [within(of_pla(lines))]
     return [within(question(words, form, inputs)) for words in words_of(lines)]
@@ -125,12 +125,9 @@ def hex_inputs(word: str, inputs: int | None) -> int:
     return found
 
 
-def of_tables(lines: list[str]) -> Tables:
-    head = re.fullmatch(r'inputs (\d+)', lines[0]) if lines else None
-    if not head or len(head[1]) > 2:
-        raise TablesError('the first line of tables is `inputs N`')
-    end = next((k for k, line in enumerate(lines[1:], 1) if re.match('[a-z]', line)), len(lines))
-    return Tables(int(head[1]), tuple(lines[1:end]))
+def front(lines: list[str]) -> list[str]:
+    """The lines of the tables of a text that goes on behind them, as a certificate and the input of `agree` do."""
+    return lines[: next((k for k, line in enumerate(lines[1:], 1) if re.match('[a-z]', line)), len(lines))]
 
 
 # ---- PLA

@@ -172,7 +172,7 @@ def tables_of(given: TablesLike, inputs: int | None = None) -> Tables:
     if isinstance(given, (bytes, os.PathLike)):
         given = text_of(given)
     if isinstance(given, str) and given.startswith('inputs '):
-        return text_tables(given)
+        return tables_in(lines_of(given))
     each = [given] if isinstance(given, (str, int)) else list(given)
     if not each:
         raise TablesError('there is no table')
@@ -180,10 +180,9 @@ def tables_of(given: TablesLike, inputs: int | None = None) -> Tables:
     return Tables(known, tuple(row_from(table, known) for table in each))
 
 
-def text_tables(text: str) -> Tables:
-    """The tables of a text that has nothing else, as `synth` reads it."""
-    head, *rows = lines_of(text)
-    found = re.fullmatch(r'inputs (\d)', head)
+def tables_in(lines: Sequence[str]) -> Tables:
+    """The tables of lines that say nothing else, as `synth` reads them."""
+    found = re.fullmatch(r'inputs (\d{1,2})', lines[0]) if lines else None
     if not found:
-        raise TablesError(f'the first line of tables is `inputs N`, and not {head!r}')
-    return Tables(int(found[1]), tuple(rows))
+        raise TablesError(f'the first line of tables is `inputs N`, and not {lines[0] if lines else ""!r}')
+    return Tables(int(found[1]), tuple(lines[1:]))

@@ -16,7 +16,7 @@ from batsokemi.errors import ChainError, ExportError, NetlistError, TablesError
 from .engines import EXAMPLES, TOP
 
 Chain, Step = chain.Chain, chain.Step
-DOCTESTS = 'chain commands drawing netlist npn options pool table_formats tables texts writers'.split()
+DOCTESTS = 'chain commands drawing netlist npn options pool table_formats tables texts waiting writers'.split()
 
 
 class Tables(unittest.TestCase):

@@ -43,6 +43,8 @@ def run(tool: str, words: list[str]) -> int:
     except UsageError as error:
         print(f'{tool}: {error}', file=sys.stderr)
         return 1
+    except KeyboardInterrupt:
+        return 128 + signal.SIGINT
 
 
 def main(words: list[str] | None = None) -> int:
