@@ -1,6 +1,9 @@
-//! The stronger formulas by their numbers of variables and clauses and their checksums, which another program made.
+//! The stronger formulas by their numbers of variables and clauses and their checksums, which another program made, and
+//! the chains that their solutions spell.
+use crate::chains::{self, Case, bits_of, decoded_by, is_chain_of};
 use crate::formulas::{LIGHTS, THREE, XOR, formula_by, is_like};
-use cnf_core::Cnf;
+use chain_core::Chain;
+use cnf_core::{Assign, Cnf};
 use enc_strong::{Strong, StrongFence};
 use op_basis::read_basis;
 use std::alloc::Global;
@@ -108,5 +111,35 @@ fn stronger_formulas_have_the_checksums_of_another_program(rt: HostRuntime) {
         let formula = strong_formula(rt.alloc(), tables, basis, r, fence);
         let alike = is_like(rt.alloc(), formula, vars, clauses, sum);
         assert!(rt; alike, "{name}");
+    }
+}
+
+/// The chain that bits spell in the first subproblem of one step.
+fn decoded(alloc: Global, case: &Case, in_fence: bool, bits: &[u8]) -> Option<Chain> {
+    if case.tables.len() > 1000 {
+        return None;
+    }
+    let (Ok(read), Ok(basis), Ok(bits)) = (
+        read_tables(alloc, case.tables),
+        read_basis(case.basis),
+        bits_of(alloc, bits),
+    ) else {
+        return None;
+    };
+    let assign = Assign::new(bits);
+    if in_fence {
+        return decoded_by(alloc, &StrongFence, &read.spec, basis, &assign);
+    }
+    decoded_by(alloc, &Strong, &read.spec, basis, &assign)
+}
+
+/// XOR differs on all four edges: the last four bits say that its step does.
+const BITS: &[u8] = b"0110101100011111";
+
+#[test]
+fn solutions_of_stronger_formulas_spell_their_chains(rt: HostRuntime) {
+    for in_fence in [false, true] {
+        let chain = decoded(rt.alloc(), &chains::XOR, in_fence, BITS);
+        assert!(rt; is_chain_of(&chains::XOR, chain), "in a fence: {in_fence}");
     }
 }
