@@ -14,7 +14,7 @@ use std::alloc::{AllocError, Global};
 use tt_core::{Spec, read_tables};
 
 /// The chain that an assignment spells in the first subproblem of size 1, if it satisfies the formula.
-fn decoded_by<E: Encoding>(
+pub(crate) fn decoded_by<E: Encoding>(
     alloc: Global,
     encoding: &E,
     spec: &Spec,
@@ -35,7 +35,7 @@ fn decoded_by<E: Encoding>(
 }
 
 /// The bits of a text, where `1` is true.
-fn bits_of(alloc: Global, text: &[u8]) -> Result<Vec<bool>, AllocError> {
+pub(crate) fn bits_of(alloc: Global, text: &[u8]) -> Result<Vec<bool>, AllocError> {
     let mut bits = Vec::new(alloc);
     for &byte in text {
         bits.push(byte == b'1')?;
@@ -73,9 +73,9 @@ fn decoded(
 }
 
 /// Tables, a basis, and the one-step chain that solutions of their formulas spell.
-struct Case {
-    tables: &'static [u8],
-    basis: &'static [u8],
+pub(crate) struct Case {
+    pub tables: &'static [u8],
+    pub basis: &'static [u8],
     j: u32,
     k: u32,
     op: u8,
@@ -83,7 +83,7 @@ struct Case {
 }
 
 /// Whether the chain is that of the case.
-fn is_chain_of(case: &Case, chain: Option<Chain>) -> bool {
+pub(crate) fn is_chain_of(case: &Case, chain: Option<Chain>) -> bool {
     let Some(chain) = chain else {
         return false;
     };
@@ -93,7 +93,7 @@ fn is_chain_of(case: &Case, chain: Option<Chain>) -> bool {
     step.j == case.j && step.k == case.k && step.op.get() == case.op && *chain.outs() == *case.outs
 }
 
-const XOR: Case = Case {
+pub(crate) const XOR: Case = Case {
     tables: b"inputs 2\n0110\n",
     basis: b"all",
     j: 1,

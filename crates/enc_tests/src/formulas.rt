@@ -13,7 +13,7 @@ use std::alloc::{AllocError, Global};
 use tt_core::{Spec, read_tables};
 
 /// The formula of a subproblem of a size.
-fn formula_by<E: Encoding>(
+pub(crate) fn formula_by<E: Encoding>(
     alloc: Global,
     encoding: &E,
     spec: &Spec,
@@ -83,7 +83,13 @@ fn sum_of(numbers: &[i32]) -> u32 {
 
 /// Whether there is a formula of `vars` variables and `clauses` clauses, with the checksum `sum` of its
 /// clauses.
-fn is_like(alloc: Global, formula: Option<Cnf>, vars: u32, clauses: usize, sum: u32) -> bool {
+pub(crate) fn is_like(
+    alloc: Global,
+    formula: Option<Cnf>,
+    vars: u32,
+    clauses: usize,
+    sum: u32,
+) -> bool {
     let Some(cnf) = formula else {
         return false;
     };
@@ -93,11 +99,11 @@ fn is_like(alloc: Global, formula: Option<Cnf>, vars: u32, clauses: usize, sum: 
     cnf.vars() == vars && cnf.clauses().len() == clauses && sum_of(&numbers) == sum
 }
 
-const LIGHTS: &[u8] = b"inputs 4\n0001011101111110\n";
+pub(crate) const LIGHTS: &[u8] = b"inputs 4\n0001011101111110\n";
 
-const THREE: &[u8] = b"inputs 4\n0110100110010110\n0000000000000001\n0---------------\n";
+pub(crate) const THREE: &[u8] = b"inputs 4\n0110100110010110\n0000000000000001\n0---------------\n";
 
-const XOR: &[u8] = b"inputs 2\n0110\n";
+pub(crate) const XOR: &[u8] = b"inputs 2\n0110\n";
 
 /// Formulas of subproblems, with the numbers of variables and clauses and the checksums of another program.
 const SUMS: &[(&str, Method, &[u8], &[u8], u32, usize, u32, usize, u32)] = &[

@@ -13,3 +13,5 @@ mod fences;
 mod formulas;
 #[cfg(test)]
 mod literals;
+#[cfg(test)]
+mod strong;
