@@ -1,7 +1,10 @@
 //! Combinational equivalence of two circuits. A SAT sweep has the solver of their miter derive internal
 //! equivalences, and then the solver decides. Its log refutes the miter or has spent the budget; its assignment is
-//! an input at which the circuits differ. A counterexample from the sweep is believed only after simulation.
-ghost use Rattle.std.specs.Prelude.{◌≡◌, ◌≤◌, ◌<◌, ◌*◌, ◌^◌, ℕ, length, Err, IfOk, IfErr, IfSome, OnOk};
+//! an input at which the circuits differ. A counterexample from the sweep is believed only after simulation. The
+//! budget bounds the log: the sweep may add some clauses for each variable, and more of them than that cost the
+//! search after it as many.
+ghost use Rattle.std.specs.Prelude.{◌≡◌, ◌≤◌, ◌<◌, ◌+◌, ◌-◌, ◌*◌, ◌^◌, ℕ, length, max, Err};
+ghost use Rattle.std.specs.Prelude.{IfOk, IfErr, IfSome, OnOk};
 ghost use Rattle.sat_theory.specs.Formula.{Formula, bits_of, Satisfies};
 ghost use Rattle.sat_theory.specs.Log.{Refutes, ReachesBudget, KeepsHalf, BoundsLiveAdditions};
 ghost use Rattle.sat_theory.specs.Limits.{most_conflicts};
@@ -10,7 +13,8 @@ ghost use Rattle.net_document.specs.Equivalence.{AreEquivalentCircuits};
 ghost use Rattle.equiv_theory.specs.Miter.{miter as miter_of, variables};
 ghost use Rattle.equiv_theory.specs.Counterexample.{AreComparable, HaveSameInterface, IsCounterexample};
 ghost use Rattle.equiv_core.specs.declared.answer.EquivError.TheVariants.{DifferentInterface};
-ghost use Rattle.equiv_core.specs.Limits.{IsSmall};
+ghost use Rattle.sat_sweep.specs.KeepsFormula.{most_after};
+ghost use Rattle.equiv_core.specs.Limits.{IsSmall, IsWithinBudget};
 ghost use Rattle.equiv_core.specs.Comparing.{IfEqual, IfDiffer, IfUndecided, IfLogged, IsDecided};
 
 use crate::answer::{EquivError, EquivResult};
@@ -22,6 +26,10 @@ use net_core::{Circuit, Net};
 use sat_solve::{Solved, Solver};
 use sat_sweep::{Swept, sweep};
 use std::alloc::{AllocError, Global};
+
+/// A sweep may add so many clauses for each variable of the miter before they count against the budget. Mostly it
+/// adds two or three.
+const FOR_EACH_VARIABLE: u32 = 100;
 
 /// A counterexample: under the values `at` of the sources the values of the sink `sink`, counted from 1, differ.
 #[derive(Drop)]
@@ -78,14 +86,16 @@ fn simulated(
     }))
 }
 
-/// Sweeps two nets with `solver`, a solver of their miter. Returns a counterexample, or else the number of
-/// conflicts of the budget that were spent. The solver stays a solver of its formula.
+/// Sweeps two nets with `solver`, a solver of their miter, until its log has `most` additions. Returns a
+/// counterexample, or else the number of conflicts of the budget that were spent. The solver stays a solver of its
+/// formula.
 fn swept<S: Solver>(
     alloc: Global,
     first: &Net,
     second: &Net,
     solver: &mut S,
     budget: u32,
+    most: u32,
 ) -> Result<(Option<Counterexample>, u32), AllocError>
     requires comparable { AreComparable first.now second.now }
     requires small { IsSmall first.now }
@@ -93,9 +103,11 @@ fn swept<S: Solver>(
     requires room { S.vars_of solver.old < 2 ^ 31 }
     ensures stays { (f : Formula) (least : ℕ) → S.IsSolverOf f least solver.old →
         OnOk result (S.IsSolverOf f least solver.new) }
+    ensures few { OnOk result (S.additions_of solver.new ≤
+        max (S.additions_of solver.old) (most_after most (S.vars_of solver.old))) }
     ensures differ { IfOk result (λ r. IfSome r.0 (λ d. IsCounterexample first.now second.now d.sink d.at)) }
 {
-    match sweep(alloc, first, second, solver, budget)? {
+    match sweep(alloc, first, second, solver, budget, most)? {
         Swept::Differ(at) => {
             let difference = simulated(alloc, first, second, at)?;
             Ok((difference, 0))
@@ -111,17 +123,28 @@ fn share_of(budget: u32) -> u32
     budget / 2
 }
 
-/// What a sweep leaves of a budget.
-fn left_of(budget: u32, spent: u32) -> u32
-    requires { 1 ≤ budget }
+/// How many additions of a sweep don't count against the budget.
+fn free_additions(vars: u32) -> u32
+    ensures { result ≤ 100 * vars }
+{
+    vars.saturating_mul(FOR_EACH_VARIABLE)
+}
+
+/// What a sweep leaves of a budget, of which its share was `share`. It takes the conflicts that it spent, or the log's
+/// `added` additions without `free` ones, whichever are more, and at most its share.
+fn left_of(budget: u32, share: u32, spent: u32, added: u32, free: u32) -> u32
+    requires some { 1 ≤ budget }
+    requires half { 2 * share ≤ budget }
     ensures some { 1 ≤ result }
     ensures half { budget ≤ 2 * result }
     ensures most { result ≤ budget }
+    ensures few { added + result ≤ max (budget + free) (added + budget - share) }
 {
-    budget - spent.min(share_of(budget))
+    let counted = added.saturating_sub(free);
+    budget - spent.max(counted).min(share)
 }
 
-/// The answer of `solver`, a solver of the miter of two nets, after a sweep that has spent `spent` conflicts.
+/// The answer of `solver`, a solver of the miter of two nets, in whose search `left` conflicts are left.
 #[tactic(auto, using(crate::specs::SinkLaws::miter_variables))]
 fn finished<S: Solver>(
     alloc: Global,
@@ -129,21 +152,23 @@ fn finished<S: Solver>(
     second: &Net,
     solver: S,
     budget: u32,
-    spent: u32,
+    left: u32,
 ) -> Result<EquivResult, AllocError>
     requires comparable { AreComparable first.now second.now }
     requires small { IsSmall first.now }
     requires solver { S.IsSolverOf (miter_of first.now second.now) budget solver }
     requires budget { (1 ≤ budget) × (budget ≤ most_conflicts) }
+    requires left { (1 ≤ left) × (left ≤ budget) }
+    requires few { S.additions_of solver + left ≤ budget + 101 * variables first.now second.now + 2 }
     ensures equal { IfOk result (λ e. IfEqual e (Refutes (miter_of first.now second.now))) }
     ensures differ { IfOk result (λ e. IfDiffer e (IsCounterexample first.now second.now)) }
     ensures undecided { IfOk result (λ e. IfUndecided e (λ lines.
         ReachesBudget (miter_of first.now second.now) lines budget)) }
     ensures kept { IfOk result (λ e. IfUndecided e (KeepsHalf (miter_of first.now second.now))) }
     ensures live_bounded { IfOk result (λ e. IfLogged e (BoundsLiveAdditions (miter_of first.now second.now))) }
+    ensures within_budget { IfOk result (λ e. IfLogged e (IsWithinBudget budget (miter_of first.now second.now))) }
     ensures decides { 2 * 3 ^ variables first.now second.now ≤ budget → IfOk result IsDecided }
 {
-    let left = left_of(budget, spent);
     match solver.finish(alloc, left)? {
         Solved::Unsat(log) => Ok(EquivResult::Equal(log)),
         Solved::Open(log) => Ok(EquivResult::Undecided(log)),
@@ -173,22 +198,27 @@ pub(crate) fn compare<S: Solver>(
         ReachesBudget (miter_of first.now second.now) lines budget)) }
     ensures kept { IfOk result (λ e. IfUndecided e (KeepsHalf (miter_of first.now second.now))) }
     ensures live_bounded { IfOk result (λ e. IfLogged e (BoundsLiveAdditions (miter_of first.now second.now))) }
+    ensures within_budget { IfOk result (λ e. IfLogged e (IsWithinBudget budget (miter_of first.now second.now))) }
     ensures decides { 2 * 3 ^ variables first.now second.now ≤ budget → IfOk result IsDecided }
 {
-    let _vars = cnf.vars(); // for the prover: brings in the bounds of the formula
+    let vars = cnf.vars();
+    let free = free_additions(vars);
     let mut solver = S::new(alloc, cnf, budget)?;
     let share = share_of(budget);
-    let (difference, spent) = swept(alloc, first, second, &mut solver, share)?;
+    let most = share.saturating_add(free);
+    let (difference, spent) = swept(alloc, first, second, &mut solver, share, most)?;
     if let Some(Counterexample { sink, at }) = difference {
         return Ok(EquivResult::Differ { sink, at });
     }
-    finished(alloc, first, second, solver, budget, spent)
+    let left = left_of(budget, share, spent, solver.additions(), free);
+    finished(alloc, first, second, solver, budget, left)
 }
 
 /// Decides with the solver `S` whether two proper circuits of one interface, each with fewer than 300,000,000
 /// sources and sinks (combinational inputs and outputs), are equivalent, unless that takes more than a `budget` of
 /// 1 to 10,000,000 conflicts. In the sweep each pair of signals or sink that is given up counts with its conflict
-/// limit, up to half of the budget; in the search after it each learnt clause counts.
+/// limit, or the learnt clauses count past 100 for each variable of the miter, whichever are more, up to half of the
+/// budget; in the search after it each learnt clause counts.
 ///
 /// They are equal only with a log that refutes their miter, which anybody can check. They differ only with an
 /// input that shows it, at the first sink that differs. They are undecided only with a log that has spent the
@@ -214,6 +244,9 @@ pub fn equiv<S: Solver>(
     // At the end of either log at most three quarters of its additions, plus 2,000, plus the number of the miter's
     // variables, are live; and it deletes no clause of the miter.
     ensures live_bounded { IfOk result (λ e. IfLogged e (BoundsLiveAdditions (miter_of first.now.net second.now.net))) }
+    // The budget bounds either log.
+    ensures within_budget { IfOk result (λ e.
+        IfLogged e (IsWithinBudget budget (miter_of first.now.net second.now.net))) }
     ensures decides { 2 * 3 ^ variables first.now.net second.now.net ≤ budget → IfOk result IsDecided }
     ensures interface { IfOk result (λ _. HaveSameInterface first.now second.now) }
     ensures refused { IfErr result (λ e. e ≡ DifferentInterface → HaveSameInterface first.now second.now → ⊥) }

@@ -5,7 +5,8 @@
 //! The theorem is that of `equiv`: two circuits of one interface are equal only with a log that refutes their
 //! miter, which anybody can check, and then they have the same values under every assignment; they differ only at
 //! values of the sources under which a sink differs, and it is the first that does; and they are undecided only
-//! with a log that has spent the budget. `miter` is exactly the formula of the definition.
+//! with a log that has spent the budget, which bounds each log from above too. `miter` is exactly the formula of the
+//! definition.
 //!
 //! ```text
 //! match equiv::<Cdcl>(alloc, &first, &second, 100000)? {

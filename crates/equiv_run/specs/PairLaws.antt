@@ -104,6 +104,7 @@ answered_of budget d e c k text Equal of_d of_e reported = record {
   lines = reported.lines;
   refutes = reported.refutes;
   live_bounded = reported.live_bounded;
+  within_budget = reported.within_budget;
   text_is = reported.text_is;
 }
 answered_of budget d e c k text Differ of_d of_e reported = record {
@@ -122,6 +123,7 @@ answered_of budget d e c k text Undecided of_d of_e reported = record {
   spent = reported.spent;
   kept = reported.kept;
   live_bounded = reported.live_bounded;
+  within_budget = reported.within_budget;
   small = reported.small;
   text_is = reported.text_is;
 }

@@ -13,6 +13,7 @@ use Rattle.net_document.specs.Listed.{Listed}
 use Rattle.net_document.specs.Format.{IsNetlist, HasNetFault}
 use Rattle.blif_core.specs.Blif.{blif_format}
 use Rattle.equiv_theory.specs.Miter.{variables, miter}
+use Rattle.equiv_core.specs.Limits.{IsWithinBudget}
 use Rattle.equiv_run.specs.declared.answer.EquivOutcome.{EquivOutcome}
 use Rattle.equiv_run.specs.declared.answer.EquivOutcome.TheVariants.{Equal, Differ, Undecided}
 use Rattle.equiv_run.specs.declared.answer.CompareError.{CompareError}
@@ -71,8 +72,9 @@ pub record HasMiter (d e : Document) (first second : Net) : Type 0 where
 
 -- ---- the answers
 
--- They are equivalent: the lines refute the miter of their nets, and bound their live additions.
-pub record IsEqualAnswer (d e : Document) (text : List ℕ) : Type 0 where
+-- They are equivalent: the lines refute the miter of their nets, and bound their live additions. The budget bounds
+-- their additions.
+pub record IsEqualAnswer (budget : ℕ) (d e : Document) (text : List ℕ) : Type 0 where
   pub same : IsEquivalent d e
   pub first : Net
   pub second : Net
@@ -80,6 +82,7 @@ pub record IsEqualAnswer (d e : Document) (text : List ℕ) : Type 0 where
   pub lines : List Line
   pub refutes : Refutes (miter first second) lines
   pub live_bounded : BoundsLiveAdditions (miter first second) lines
+  pub within_budget : IsWithinBudget budget (miter first second) lines
   pub text_is : text ≡ equal_text lines
 
 -- They differ under the values in the text, at the sink in the text and at none before it.
@@ -90,7 +93,8 @@ pub record IsDifferAnswer (d e : Document) (text : List ℕ) : Type 0 where
   pub text_is : text ≡ differ_text d.outputs (latches_of d) sink bits
 
 -- The lines have spent the budget on the miter of their nets, at least half of their additions are live at the
--- end, and they bound their live additions. A budget of twice three to the number of the miter's variables is never spent.
+-- end, they bound their live additions, and the budget bounds their additions. A budget of twice three to the number
+-- of the miter's variables is never spent.
 pub record IsUndecidedAnswer (budget : ℕ) (d e : Document) (text : List ℕ) : Type 0 where
   pub first : Net
   pub second : Net
@@ -99,11 +103,12 @@ pub record IsUndecidedAnswer (budget : ℕ) (d e : Document) (text : List ℕ) :
   pub spent : ReachesBudget (miter first second) lines budget
   pub kept : KeepsHalf (miter first second) lines
   pub live_bounded : BoundsLiveAdditions (miter first second) lines
+  pub within_budget : IsWithinBudget budget (miter first second) lines
   pub small : budget < 2 * 3 ^ variables first second
   pub text_is : text ≡ undecided_text lines
 
 abbrev pub IsDocumentAnswer : ℕ → Document → Document → List ℕ → EquivOutcome → Type 0
-IsDocumentAnswer budget d e text Equal = IsEqualAnswer d e text
+IsDocumentAnswer budget d e text Equal = IsEqualAnswer budget d e text
 IsDocumentAnswer budget d e text Differ = IsDifferAnswer d e text
 IsDocumentAnswer budget d e text Undecided = IsUndecidedAnswer budget d e text
 
