@@ -6,9 +6,10 @@ ghost use Rattle.command_line.specs.CommandLine as spec;
 use crate::command::{Command, Format, WordsError};
 use crate::pairs::are_options;
 use crate::table::{
-    OptionKind, given_basis, given_basis_for, given_blocks, given_cap, given_choice, given_conflicts, given_deed,
-    given_depth, given_effort, given_format, given_least_depth, given_max, given_method,
-    given_observe, given_rounds, given_seed, given_synth_effort, kind_named,
+    OptionKind, given_basis, given_basis_for, given_blocks, given_cap, given_choice,
+    given_conflicts, given_deed, given_depth, given_effort, given_format, given_least_depth,
+    given_max, given_method, given_observe, given_rounds, given_seed, given_synth_effort,
+    kind_named,
 };
 use settings::{ImproveSettings, Method, MethodChoice, SynthSettings};
 
