@@ -88,7 +88,13 @@ fn synth_may_choose_its_method_by_the_tables(rt: HostRuntime) {
         method: MethodChoice::Auto,
         ..SynthSettings::defaults()
     };
-    assert!(rt; asks(rt.alloc(), "synth --method auto", Ok(Command::Synth(settings))));
+    assert!(rt;
+        asks(
+            rt.alloc(),
+            "synth --method auto",
+            Ok(Command::Synth(settings))
+        )
+    );
 }
 
 /// Command lines of `synth`, and their settings. Options that aren't named have their defaults.
