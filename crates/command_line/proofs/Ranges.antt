@@ -82,7 +82,8 @@ pub record AreAsked (basis : Option ℕ) (method : Option MethodChoice) (max con
   pub conflicts_is : conflicts ≡ Some s.conflicts
   pub effort_is : effort ≡ Some s.effort
 
-asked_made : (basis : Option ℕ) (method : Option MethodChoice) (max conflicts effort : Option ℕ) (s : SynthSettings) → asked_from basis method max conflicts effort ≡ Some s → AreAsked basis method max conflicts effort s
+asked_made : (basis : Option ℕ) (method : Option MethodChoice) (max conflicts effort : Option ℕ) (s : SynthSettings) →
+    asked_from basis method max conflicts effort ≡ Some s → AreAsked basis method max conflicts effort s
 asked_made (Some b) (Some m) (Some x) (Some n) (Some f) s e =
     let same = some_is _ s e in
     record {
@@ -98,7 +99,8 @@ asked_made (Some b) (Some m) None conflicts effort s e = absurd cc
 asked_made (Some b) None max conflicts effort s e = absurd cc
 asked_made None method max conflicts effort s e = absurd cc
 
-pub asked_back : (basis : Option ℕ) (method : Option MethodChoice) (max conflicts effort : Option ℕ) (s : SynthSettings) → AreAsked basis method max conflicts effort s → asked_from basis method max conflicts effort ≡ Some s
+pub asked_back : (basis : Option ℕ) (method : Option MethodChoice) (max conflicts effort : Option ℕ) (s : SynthSettings) →
+    AreAsked basis method max conflicts effort s → asked_from basis method max conflicts effort ≡ Some s
 asked_back basis method max conflicts effort s are = rw (are.basis_is, are.method_is, are.max_is, are.conflicts_is, are.effort_is) refl
 
 -- those of words

@@ -24,7 +24,8 @@ use Rattle.synth_core.specs.DepthCertifying.{IsLeast, IsOther}
 abbrev pub by_fences : Words → SynthSettings → Header
 by_fences w settings = record { spec = w; basis = settings.basis; method = Fence; conflicts = settings.conflicts; max = settings.max }
 
-pub settings_range : (settings : SynthSettings) → IsInRange settings → IsInRange (record { basis = settings.basis; method = Named Fence; max = settings.max; conflicts = settings.conflicts; effort = 0 })
+pub settings_range : (settings : SynthSettings) → IsInRange settings →
+    IsInRange (record { basis = settings.basis; method = Named Fence; max = settings.max; conflicts = settings.conflicts; effort = 0 })
 settings_range settings range = record { basis_from = range.basis_from; max_to = range.max_to; conflicts_from = range.conflicts_from; conflicts_to = range.conflicts_to; effort_to = omega arith }
 
 header_same : (w : Words) (settings : SynthSettings) → settings.method ≡ Named Fence → by_fences w settings ≡ header_of w settings
