@@ -7,7 +7,9 @@ ghost use Rattle.file_io.specs.Files.{files_before_after};
 ghost use Rattle.front_core.specs.Front.{front_run, promised_by};
 ghost use Rattle.front_guide.specs.Guided.{IsGuided};
 ghost use Rattle.front_app.specs.Comparison.{KeepsComparison};
+ghost use Rattle.front_app.specs.Named.{KeepsNamed};
 
+use crate::named::run_named;
 use cdcl_core::Cdcl;
 use cmd_equiv::EquivWith;
 use file_io::Outside;
@@ -24,12 +26,16 @@ struct Strict;
 impl Program for Strict {
     ghost use Rattle.chain_app.specs.KeepsPromises.{KeepsPromises};
     ghost use Rattle.front_app.specs.Comparison.{KeepsComparison};
+    ghost use Rattle.front_app.specs.Named.{KeepsNamed};
 
     ghost keeps = { λ r. KeepsPromises r };
+
+    ghost keeps_named = { λ r. KeepsNamed r };
 
     ghost compares = { λ budget text source out note status. KeepsComparison budget text source out note status };
 
     fn run<S: Source, O: Sink, N: Sink>(
+        &self,
         alloc: Global,
         words: &Vec<String>,
         source: &mut S,
@@ -39,8 +45,20 @@ impl Program for Strict {
         chain_app::run(alloc, words, source, out, note)
     }
 
+    fn run_named<S: Source, O: Sink, N: Sink>(
+        &self,
+        alloc: Global,
+        words: &Vec<String>,
+        source: &mut S,
+        out: &mut O,
+        note: &mut N,
+    ) -> Status {
+        run_named(alloc, words, source, out, note)
+    }
+
     #[tactic(auto, using(crate::proofs::Comparing::comparing))]
     fn compare<S: Source, O: Sink, N: Sink>(
+        &self,
         alloc: Global,
         budget: u32,
         text: &[u8],
@@ -69,12 +87,12 @@ pub fn serve<W: Outside, S: Recalls, O: Sink, N: Retells, R: Rereads>(
     note: &mut N,
     reader: &R,
 ) -> Status
-    ensures { IsGuided (promised_by KeepsPromises KeepsComparison) (front_run (spelled words.now)
+    ensures { IsGuided (promised_by KeepsPromises KeepsNamed KeepsComparison) (front_run (spelled words.now)
         (files_before_after W.holds W.faults outside.old outside.new)
         (before_after S.left S.faults source.old source.new)
         (before_after O.written O.faults out.old out.new)
         (before_after N.written N.faults note.old note.new)
         result) }
 {
-    guide::<Strict, W, S, O, N, R>(alloc, words, outside, source, out, note, reader)
+    guide::<Strict, W, S, O, N, R>(alloc, &Strict, words, outside, source, out, note, reader)
 }
