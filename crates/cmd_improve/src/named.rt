@@ -8,6 +8,7 @@ ghost use Rattle.cmd_improve.specs.NamedReport.{named_task, empty_refusal};
 use crate::improve::Improve;
 use equiv_run::is_bare;
 use frame_core::{ErrorLine, Refusal, Replier, Reply, Status, Stop};
+use progress::Tell;
 use sat_solve::Solver;
 use std::alloc::Global;
 
@@ -24,12 +25,12 @@ fn empty() -> Refusal
 
 /// The command over a file that is named, whose text has a directive.
 #[derive(Drop)]
-pub struct ImproveNamed<S> {
+pub struct ImproveNamed<'a, S, T> {
     /// The command.
-    pub improve: Improve<S>,
+    pub improve: Improve<'a, S, T>,
 }
 
-impl<S: Solver> Replier for ImproveNamed<S> {
+impl<'a, S: Solver, T: Tell> Replier for ImproveNamed<'a, S, T> {
     ghost task = { λ job. named_task job.improve.format job.improve.settings };
 
     ghost ready = { λ job. IsAsked job.improve.format job.improve.settings };

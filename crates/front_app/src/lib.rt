@@ -7,7 +7,7 @@
 //! netlist that is named, `improve` refuses an empty text (`specs/Named`).
 //!
 //! ```text
-//! let status = serve(alloc, &words, &mut outside, &mut source, &mut out, &mut note, &reader);
+//! let status = serve(alloc, &words, &mut outside, &mut source, &mut out, &mut note, &reader, &Silent);
 //! ```
 #![tactic(auto)]
 

@@ -9,6 +9,7 @@ use cmd_improve::{Improve, ImproveNamed};
 use command_line::{Command, Format, read_words};
 use frame_core::{AtOnce, Status, perform};
 use port_io::{Sink, Source};
+use progress::Tell;
 use settings::ImproveSettings;
 use std::alloc::Global;
 use std::marker::PhantomData;
@@ -49,12 +50,13 @@ fn asked_improve(words: &Vec<String>) -> Option<Asked>
 }
 
 /// Runs the command that the words ask for over the source of a file that is named.
-pub(crate) fn run_named<S: Source, O: Sink, N: Sink>(
+pub(crate) fn run_named<S: Source, O: Sink, N: Sink, T: Tell>(
     alloc: Global,
     words: &Vec<String>,
     source: &mut S,
     out: &mut O,
     note: &mut N,
+    tell: &T,
 ) -> Status
     ensures { spec.KeepsNamed (run_of (spelled words.now)
         (before_after S.left S.faults source.old source.new)
@@ -63,12 +65,13 @@ pub(crate) fn run_named<S: Source, O: Sink, N: Sink>(
         result) }
 {
     let Some(Asked { format, settings }) = asked_improve(words) else {
-        return chain_app::run(alloc, words, source, out, note);
+        return chain_app::run_telling(alloc, words, source, out, note, tell);
     };
     let improve = Improve {
         format,
         settings,
         solver: PhantomData::<Cdcl>,
+        tell,
     };
     let job = AtOnce(ImproveNamed { improve });
     perform(alloc, &job, source, out, note)

@@ -17,13 +17,16 @@ use frame_core::{AtOnce, Status, perform};
 use front_core::Program;
 use front_guide::{Recalls, Rereads, Retells, guide};
 use port_io::{Sink, Source};
+use progress::Tell;
 use std::alloc::Global;
 use std::marker::PhantomData;
 
-/// The program without files.
-struct Strict;
+/// The program without files, and who is told of its progress.
+struct Strict<'a, T> {
+    tell: &'a T,
+}
 
-impl Program for Strict {
+impl<'a, T: Tell> Program for Strict<'a, T> {
     ghost use Rattle.chain_app.specs.KeepsPromises.{KeepsPromises};
     ghost use Rattle.front_app.specs.Comparison.{KeepsComparison};
     ghost use Rattle.front_app.specs.Named.{KeepsNamed};
@@ -42,7 +45,7 @@ impl Program for Strict {
         out: &mut O,
         note: &mut N,
     ) -> Status {
-        chain_app::run(alloc, words, source, out, note)
+        chain_app::run_telling(alloc, words, source, out, note, self.tell)
     }
 
     fn run_named<S: Source, O: Sink, N: Sink>(
@@ -53,7 +56,7 @@ impl Program for Strict {
         out: &mut O,
         note: &mut N,
     ) -> Status {
-        run_named(alloc, words, source, out, note)
+        run_named(alloc, words, source, out, note, self.tell)
     }
 
     #[tactic(auto, using(crate::proofs::Comparing::comparing))]
@@ -77,8 +80,8 @@ impl Program for Strict {
 
 /// Runs the command that the words ask for: over the files that they name, or else over `source` and `out`. A report,
 /// and one error line if there is no answer, go to `note`; after the error line comes one for people. Words that ask
-/// for help get a page.
-pub fn serve<W: Outside, S: Recalls, O: Sink, N: Retells, R: Rereads>(
+/// for help get a page. Who is told of the progress of `improve` has no say in any of this.
+pub fn serve<W: Outside, S: Recalls, O: Sink, N: Retells, R: Rereads, T: Tell>(
     alloc: Global,
     words: &Vec<String>,
     outside: &mut W,
@@ -86,6 +89,7 @@ pub fn serve<W: Outside, S: Recalls, O: Sink, N: Retells, R: Rereads>(
     out: &mut O,
     note: &mut N,
     reader: &R,
+    tell: &T,
 ) -> Status
     ensures { IsGuided (promised_by KeepsPromises KeepsNamed KeepsComparison) (front_run (spelled words.now)
         (files_before_after W.holds W.faults outside.old outside.new)
@@ -94,5 +98,6 @@ pub fn serve<W: Outside, S: Recalls, O: Sink, N: Retells, R: Rereads>(
         (before_after N.written N.faults note.old note.new)
         result) }
 {
-    guide::<Strict, W, S, O, N, R>(alloc, &Strict, words, outside, source, out, note, reader)
+    let strict = Strict { tell };
+    guide(alloc, &strict, words, outside, source, out, note, reader)
 }

@@ -4,7 +4,7 @@ use Rattle.front_app.proofs.Naming.{passed, improved}
 use Rattle.front_app.proofs.named.run_named.Goals as goal
 
 pub returns-in_default : goal.returns-in_default
-returns-in_default g c = passed _ c.in_default.ensures c.run.ensures
+returns-in_default g c = passed _ c.in_default.ensures c.run_telling.ensures
 
 pub returns : goal.returns
 returns g c = improved _ (record { format = c.in-Some.format; settings = c.in-Some.settings }) c.in-Some.ensures
