@@ -67,7 +67,8 @@ fn is_seen(alloc: Global, row: &Row) -> Result<bool, AllocError> {
         &mut source,
         &mut out,
         &mut note,
-    ).number();
+    )
+    .number();
     let held = files.held(b"out") == Some(row.6.as_bytes());
     let written = out.written() == row.4.as_bytes() && note.written() == row.5.as_bytes();
     Ok(status == row.3 && written && held)

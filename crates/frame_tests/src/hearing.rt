@@ -56,10 +56,20 @@ fn sources_tell_of_their_bytes(rt: HostRuntime) -> Result<(), AllocError> {
 #[test]
 fn sinks_tell_of_their_bytes_or_of_text(rt: HostRuntime) -> Result<(), AllocError> {
     let heard = nothing();
-    let mut out = WatchedSink::new(MemorySink::new(rt.alloc(), Vec::new(rt.alloc())), &heard, false);
+    let mut out = WatchedSink::new(
+        MemorySink::new(rt.alloc(), Vec::new(rt.alloc())),
+        &heard,
+        false,
+    );
     let is_written = write_section(&mut out);
-    assert!(rt; is_written && heard.written.get() == 20 && heard.size.get() == 7 && heard.texts.get() == 0);
-    let mut screen = WatchedSink::new(MemorySink::new(rt.alloc(), Vec::new(rt.alloc())), &heard, true);
+    assert!(rt;
+        is_written && heard.written.get() == 20 && heard.size.get() == 7 && heard.texts.get() == 0
+    );
+    let mut screen = WatchedSink::new(
+        MemorySink::new(rt.alloc(), Vec::new(rt.alloc())),
+        &heard,
+        true,
+    );
     let is_shown = write_section(&mut screen);
     assert!(rt; is_shown && heard.written.get() == 20 && heard.texts.get() == 2);
     Ok(())

@@ -42,7 +42,8 @@ impl<'a, P: Program> Work for Comparing<'a, P> {
         out: &mut O,
         note: &mut N,
     ) -> Status {
-        self.program.compare(alloc, self.budget, self.text, source, out, note)
+        self.program
+            .compare(alloc, self.budget, self.text, source, out, note)
     }
 }
 

@@ -249,7 +249,12 @@ impl<'a, T: Tell> Outside for SystemFiles<'a, T> {
     }
 
     #[tactic(auto, using(crate::proofs::Failures::failures))]
-    fn keep(&mut self, alloc: Global, _name: &str, draft: SystemDraft<'a, T>) -> Result<(), Reason> {
+    fn keep(
+        &mut self,
+        alloc: Global,
+        _name: &str,
+        draft: SystemDraft<'a, T>,
+    ) -> Result<(), Reason> {
         match self.rename_part(&draft) {
             Ok(()) => Ok(()),
             Err(error) => {
