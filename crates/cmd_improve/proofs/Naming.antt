@@ -1,41 +1,45 @@
 -- The result of `improve` for the text of a file that is named.
-use Rattle.std.specs.Prelude.{◌≡◌, ℕ, ◌≤◌, List, length, true, false, Result, Ok, Err}
+use Rattle.std.specs.Prelude.{◌≡◌, ℕ, ◌≤◌, List, length, true, false}
 use Rattle.std.proofs.lemmas.Grind.{common_steps}
 use Rattle.net_theory.specs.Limits.{most_of_netlist}
+use Rattle.net_core.specs.declared.error.NetError.{NetError}
+use Rattle.net_core.specs.declared.error.NetError.TheVariants as nets
+use Rattle.net_document.specs.Format.{IsRefusedText}
 use Rattle.equiv_run.specs.Two.{is_bare}
 use Rattle.settings.specs.declared.improve.ImproveSettings.{ImproveSettings}
-use Rattle.frame_core.specs.declared.replies.Reply.{Reply}
-use Rattle.frame_core.specs.declared.replies.Stop.{Stop}
-use Rattle.frame_core.specs.declared.replies.Stop.TheVariants.{NoMemory, NoAnswer}
-use Rattle.frame_core.specs.Reported as reported
-use Rattle.frame_core.specs.Task.{Refuses}
-use Rattle.frame_core.specs.Views.{Judges}
-use Rattle.cmd_improve.specs.ImproveReport.{FormatAsked, improve_task}
+use Rattle.improve_windows.specs.Improving.{IsReported}
+use Rattle.frame_core.specs.Reported.{Reply, Refusal}
+use Rattle.frame_core.specs.Task.{HasReply, Refuses}
+use Rattle.cmd_improve.specs.ImproveReport.{FormatAsked, format_of, improve_reply, improve_refusal}
 use Rattle.cmd_improve.specs.NamedReport.{Empty, Faulty, empty_refusal, named_task}
 
--- A text with a directive has the reply of `improve`.
-pub said : (format : FormatAsked) (settings : ImproveSettings) (bytes : List ℕ) (result : Result Reply Stop) →
-    is_bare bytes ≡ false → Judges (improve_task format settings) bytes result →
-    Judges (named_task format settings) bytes result
-said format settings bytes (Ok reply) says judged = record {
-  answer = judged.answer;
-  has = record { said = says; improvement = judged.has };
-  is = judged.is;
-}
-said format settings bytes (Err NoMemory) says judged = judged
-said format settings bytes (Err (NoAnswer refusal)) says judged = record {
-  fault = Faulty judged.fault;
-  meets = record { said = says; fault = judged.meets };
-  is = judged.is;
-}
-
-pub bare : (format : FormatAsked) (settings : ImproveSettings) (bytes : List ℕ) (refusal : reported.Refusal) →
-    length bytes ≤ most_of_netlist → is_bare bytes ≡ true → refusal ≡ empty_refusal →
-    Refuses (named_task format settings) bytes refusal
-bare format settings bytes refusal within empty is = record {
-  fault = Empty;
-  meets = record { within = within; bare = empty };
+pub reports_said : (format : FormatAsked) (settings : ImproveSettings) (bytes text report : List ℕ) (reply : Reply) →
+    length bytes ≤ most_of_netlist → is_bare bytes ≡ false → IsReported (format_of format) settings bytes text report →
+    reply ≡ improve_reply (record { text = text; report = report }) →
+    HasReply (named_task format settings) bytes reply
+reports_said format settings bytes text report reply within said reported is = record {
+  answer = record { text = text; report = report };
+  has = record { said = said; improvement = record { within = within; reported = reported } };
   is = is;
 }
 
-pub ruleset naming = (common_steps, said, bare)
+pub refuses_bare : (format : FormatAsked) (settings : ImproveSettings) (bytes : List ℕ) (refusal : Refusal) →
+    length bytes ≤ most_of_netlist → is_bare bytes ≡ true → refusal ≡ empty_refusal →
+    Refuses (named_task format settings) bytes refusal
+refuses_bare format settings bytes refusal within bare is = record {
+  fault = Empty;
+  meets = record { within = within; bare = bare };
+  is = is;
+}
+
+pub refuses_said : (format : FormatAsked) (settings : ImproveSettings) (bytes : List ℕ) (e : NetError) (refusal : Refusal) →
+    length bytes ≤ most_of_netlist → is_bare bytes ≡ false → (e ≡ nets.Memory → ⊥) →
+    IsRefusedText (format_of format) bytes e → refusal ≡ improve_refusal e →
+    Refuses (named_task format settings) bytes refusal
+refuses_said format settings bytes e refusal within said other fault is = record {
+  fault = Faulty e;
+  meets = record { said = said; fault = record { within = within; fault = (fault, other) } };
+  is = is;
+}
+
+pub ruleset naming = (common_steps, reports_said, refuses_bare, refuses_said)

@@ -22,7 +22,7 @@ use std::marker::PhantomData;
 
 /// A fault of a netlist as a refusal.
 #[tactic(auto, unfolding(frame_core::specs::Views::shown))]
-fn refusal_of(error: NetError) -> Refusal
+pub(crate) fn refusal_of(error: NetError) -> Refusal
     ensures { refusal_value result ≡ improve_refusal error }
 {
     let status = net_status(&error);
@@ -48,7 +48,7 @@ pub fn reply_of(improved: ImprovedText) -> Reply
 
 /// Improves a netlist of a format.
 #[tactic(auto, using(crate::proofs::Improving::reporting))]
-fn improve_text<S: Solver, T: Tell>(
+pub(crate) fn improve_text<S: Solver, T: Tell>(
     alloc: Global,
     format: Format,
     bytes: &[u8],

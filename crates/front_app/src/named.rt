@@ -5,7 +5,7 @@ ghost use Rattle.frame_core.specs.Run.{run_of, before_after};
 ghost use Rattle.front_app.specs.Named as spec;
 
 use cdcl_core::Cdcl;
-use cmd_improve::{Improve, ImproveNamed};
+use cmd_improve::ImproveNamed;
 use command_line::{Command, Format, read_words};
 use frame_core::{AtOnce, Status, perform};
 use port_io::{Sink, Source};
@@ -64,15 +64,14 @@ pub(crate) fn run_named<S: Source, O: Sink, N: Sink, T: Tell>(
         (before_after N.written N.faults note.old note.new)
         result) }
 {
-    let Some(Asked { format, settings }) = asked_improve(words) else {
+    let Some(asked) = asked_improve(words) else {
         return chain_app::run_telling(alloc, words, source, out, note, tell);
     };
-    let improve = Improve {
-        format,
-        settings,
+    let job = AtOnce(ImproveNamed {
+        format: asked.format,
+        settings: asked.settings,
         solver: PhantomData::<Cdcl>,
         tell,
-    };
-    let job = AtOnce(ImproveNamed { improve });
+    });
     perform(alloc, &job, source, out, note)
 }

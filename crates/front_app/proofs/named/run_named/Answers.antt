@@ -7,5 +7,5 @@ pub returns-in_default : goal.returns-in_default
 returns-in_default g c = passed _ c.in_default.ensures c.run_telling.ensures
 
 pub returns : goal.returns
-returns g c = improved _ (record { format = c.in-Some.format; settings = c.in-Some.settings }) c.in-Some.ensures
-    (c.perform.ensures.promise (spelled c.args.words.now) (named_is_task c.in-Some.format c.in-Some.settings))
+returns g c = improved _ c.in-Some.asked c.in-Some.ensures
+    (c.perform.ensures.promise (spelled c.args.words.now) (named_is_task c.in-Some.asked.format c.in-Some.asked.settings))
