@@ -1,5 +1,5 @@
 -- The result of `improve` for the text of a file that is named.
-use Rattle.std.specs.Prelude.{◌≡◌, ℕ, ◌≤◌, List, length, true, false}
+use Rattle.std.specs.Prelude.{◌≡◌, ℕ, ◌≤◌, List, length, true, false, codes}
 use Rattle.std.proofs.lemmas.Grind.{common_steps}
 use Rattle.net_theory.specs.Limits.{most_of_netlist}
 use Rattle.net_core.specs.declared.error.NetError.{NetError}
@@ -24,7 +24,7 @@ reports_said format settings bytes text report reply within said reported is = r
 }
 
 pub refuses_bare : (format : FormatAsked) (settings : ImproveSettings) (bytes : List ℕ) (refusal : Refusal) →
-    length bytes ≤ most_of_netlist → is_bare bytes ≡ true → refusal ≡ empty_refusal →
+    length bytes ≤ most_of_netlist → is_bare bytes ≡ true → refusal ≡ empty_refusal (codes "Empty") →
     Refuses (named_task format settings) bytes refusal
 refuses_bare format settings bytes refusal within bare is = record {
   fault = Empty;

@@ -33,10 +33,10 @@ one format settings bytes Empty (Faulty e) x y = both (is_bare bytes) x.bare y.s
 one format settings bytes (Faulty e) Empty x y = both (is_bare bytes) y.bare x.said
 one format settings bytes (Faulty e) (Faulty f) x y = (improve_is_task format settings).one bytes e f x.fault y.fault
 
-within : (format : FormatAsked) (bytes : List ℕ) (fault : NamedFault) → HasNamedFault format bytes fault →
+few : (format : FormatAsked) (bytes : List ℕ) (fault : NamedFault) → HasNamedFault format bytes fault →
     length bytes ≤ most_of_netlist
-within format bytes Empty meets = meets.within
-within format bytes (Faulty e) meets = meets.fault.within
+few format bytes Empty meets = meets.within
+few format bytes (Faulty e) meets = meets.fault.within
 
 pub named_is_task : (format : FormatAsked) (settings : ImproveSettings) → IsTask (named_task format settings)
 named_is_task format settings =
@@ -46,4 +46,4 @@ named_is_task format settings =
     (λ bytes i fault has meets. apart format settings bytes i fault has meets)
     (λ bytes a b x y. one format settings bytes a b x y)
     (λ bytes i has. has.improvement.within)
-    (λ bytes fault meets. within format bytes fault meets)
+    (λ bytes fault meets. few format bytes fault meets)

@@ -33,12 +33,13 @@ abbrev pub HasNamedFault : FormatAsked → List ℕ → NamedFault → Type 0
 HasNamedFault format bytes Empty = IsEmpty bytes
 HasNamedFault format bytes (Faulty error) = IsFaulty format bytes error
 
--- The line is `Empty`.
-unfoldable pub empty_refusal : Refusal
-empty_refusal = record { status = Malformed; named = plain (codes "Empty") }
+-- the refusal of an empty text, by a name
+unfoldable pub empty_refusal : List ℕ → Refusal
+empty_refusal name = record { status = Malformed; named = plain name }
 
+-- Examples: `Empty`, `NotSupported 6 .model`
 abbrev pub named_refusal : NamedFault → Refusal
-named_refusal Empty = empty_refusal
+named_refusal Empty = empty_refusal (codes "Empty")
 named_refusal (Faulty error) = improve_refusal error
 
 abbrev pub named_task : FormatAsked → ImproveSettings → Task

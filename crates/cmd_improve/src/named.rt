@@ -17,14 +17,14 @@ use settings::ImproveSettings;
 use std::alloc::Global;
 use std::marker::PhantomData;
 
-/// The refusal of a text without a directive.
+/// The refusal of a text without a directive, by this name.
 #[tactic(auto, unfolding(crate::specs::NamedReport::empty_refusal))]
-fn empty() -> Refusal
-    ensures { refusal_value result ≡ empty_refusal }
+fn empty(name: &'static [u8]) -> Refusal
+    ensures { refusal_value result ≡ empty_refusal name.now }
 {
     Refusal {
         status: Status::Malformed,
-        line: ErrorLine::plain(b"Empty"),
+        line: ErrorLine::plain(name),
     }
 }
 
@@ -54,7 +54,7 @@ impl<'a, S: Solver, T: Tell> Replier for ImproveNamed<'a, S, T> {
     fn reply(&self, alloc: Global, bytes: &[u8]) -> Result<Reply, Stop> {
         let says_nothing = is_bare(bytes);
         if says_nothing {
-            return Err(Stop::NoAnswer(empty()));
+            return Err(Stop::NoAnswer(empty(b"Empty")));
         }
         match improve_text::<S, T>(alloc, self.format, bytes, &self.settings, self.tell) {
             Ok(improved) => Ok(reply_of(improved)),
