@@ -22,6 +22,7 @@ use std::alloc::Global;
 use std::marker::PhantomData;
 
 /// The program without files, and who is told of its progress.
+#[derive(Drop)]
 struct Strict<'a, T> {
     tell: &'a T,
 }
