@@ -7,7 +7,8 @@
 //! (`specs/RunPromise`, with the promise of `frame_core`). And each command keeps a promise of its own, the
 //! record with its name in the command's crate (`cmd_agree`, `cmd_recheck`, `cmd_synth`, `cmd_improve`,
 //! `cmd_equiv`, `cmd_gen`). The frame of commands is in `frame_core`, and the parser of arguments in
-//! `command_line`. `run_pair` compares two texts, of which the second one is the source (`specs/Pair`).
+//! `command_line`. `run_telling` is `run` with somebody who is told of the progress of `improve`. `run_pair` compares
+//! two texts, of which the second one is the source (`specs/Pair`).
 //!
 //! ```text
 //! let status = run(alloc, &words, &mut source, &mut out, &mut note);
@@ -20,4 +21,4 @@ mod running;
 
 pub use frame_core::Status;
 pub use pairing::run_pair;
-pub use running::run;
+pub use running::{run, run_telling};

@@ -15,16 +15,18 @@ use cmd_synth::{LeastDepth, Synth};
 use command_line::{Command, read_words};
 use frame_core::{AtOnce, ErrorLine, Status, perform, perform_stream, report_error};
 use port_io::{Sink, Source};
+use progress::{Silent, Tell};
 use std::alloc::Global;
 use std::marker::PhantomData;
 
 /// Dispatches a command to its crate.
-fn dispatch<S: Source, O: Sink, N: Sink>(
+fn dispatch<S: Source, O: Sink, N: Sink, T: Tell>(
     alloc: Global,
     command: Command,
     source: &mut S,
     out: &mut O,
     note: &mut N,
+    tell: &T,
 ) -> Status
     requires { IsAskable command }
     ensures { (words : List (List ℕ)) → (outcome : Outcome) × IsRun (task_of command)
@@ -49,6 +51,7 @@ fn dispatch<S: Source, O: Sink, N: Sink>(
                 format,
                 settings,
                 solver,
+                tell,
             });
             perform(alloc, &job, source, out, note)
         }
@@ -68,7 +71,30 @@ fn dispatch<S: Source, O: Sink, N: Sink>(
 }
 
 /// Runs the command that the arguments ask for: reads `source`, writes the answer to `out`, and to `note` a
-/// report if the command makes one, and one error line if there is no answer.
+/// report if the command makes one, and one error line if there is no answer. `improve` tells of its progress.
+pub fn run_telling<S: Source, O: Sink, N: Sink, T: Tell>(
+    alloc: Global,
+    words: &Vec<String>,
+    source: &mut S,
+    out: &mut O,
+    note: &mut N,
+    tell: &T,
+) -> Status
+    ensures { KeepsPromises
+        (run_of (spelled words.now)
+        (before_after S.left S.faults source.old source.new)
+        (before_after O.written O.faults out.old out.new)
+        (before_after N.written N.faults note.old note.new)
+        result) }
+{
+    let Ok(command) = read_words(words) else {
+        report_error(note, &ErrorLine::plain(b"Usage"));
+        return Status::Usage;
+    };
+    dispatch(alloc, command, source, out, note, tell)
+}
+
+/// The same, and nobody is told of the progress.
 pub fn run<S: Source, O: Sink, N: Sink>(
     alloc: Global,
     words: &Vec<String>,
@@ -83,9 +109,5 @@ pub fn run<S: Source, O: Sink, N: Sink>(
         (before_after N.written N.faults note.old note.new)
         result) }
 {
-    let Ok(command) = read_words(words) else {
-        report_error(note, &ErrorLine::plain(b"Usage"));
-        return Status::Usage;
-    };
-    dispatch(alloc, command, source, out, note)
+    run_telling(alloc, words, source, out, note, &Silent)
 }

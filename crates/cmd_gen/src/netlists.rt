@@ -12,6 +12,7 @@ use gen_core::generate;
 use gen_core::laws::{generated_netlists_are_netlists, generated_netlists_are_small};
 use improve_windows::improve_blif;
 use net_core::NetError;
+use progress::Silent;
 use sat_solve::Solver;
 use settings::ImproveSettings;
 use std::alloc::{AllocError, Global};
@@ -60,7 +61,7 @@ fn improved<S: Solver>(alloc: Global, blocks: u32) -> Result<Reply, Stop>
     let Ok(text) = text_of(alloc, blocks) else {
         return Err(Stop::NoMemory);
     };
-    match improve_blif::<S>(alloc, &text, ImproveSettings::defaults()) {
+    match improve_blif::<S, Silent>(alloc, &text, ImproveSettings::defaults(), &Silent) {
         Ok(improved) => Ok(cmd_improve::reply_of(improved)),
         Err(NetError::Memory) => Err(Stop::NoMemory),
         Err(_) => unreachable!(),

@@ -1,1 +1,2 @@
 pub mod Improving
+pub mod Naming

@@ -14,6 +14,7 @@ use frame_core::{Field, Refusal, Replier, Reply, Report, Status, Stop};
 use improve_windows::{ImprovedText, improve_bench, improve_blif};
 use net_core::NetError;
 use net_theory::MOST_OF_NETLIST;
+use progress::Tell;
 use sat_solve::Solver;
 use settings::ImproveSettings;
 use std::alloc::Global;
@@ -21,7 +22,7 @@ use std::marker::PhantomData;
 
 /// A fault of a netlist as a refusal.
 #[tactic(auto, unfolding(frame_core::specs::Views::shown))]
-fn refusal_of(error: NetError) -> Refusal
+pub(crate) fn refusal_of(error: NetError) -> Refusal
     ensures { refusal_value result ≡ improve_refusal error }
 {
     let status = net_status(&error);
@@ -47,11 +48,12 @@ pub fn reply_of(improved: ImprovedText) -> Reply
 
 /// Improves a netlist of a format.
 #[tactic(auto, using(crate::proofs::Improving::reporting))]
-fn improve_text<S: Solver>(
+pub(crate) fn improve_text<S: Solver, T: Tell>(
     alloc: Global,
     format: Format,
     bytes: &[u8],
     settings: &ImproveSettings,
+    tell: &T,
 ) -> Result<ImprovedText, NetError>
     requires length { length bytes.now ≤ most_of_netlist }
     requires settings { IsAsked format settings.now }
@@ -60,23 +62,25 @@ fn improve_text<S: Solver>(
     ensures refused { IfErr result (IsRefusedText (format_of format) bytes.now) }
 {
     match format {
-        Format::Blif => improve_blif::<S>(alloc, bytes, *settings),
-        Format::Bench => improve_bench::<S>(alloc, bytes, *settings),
+        Format::Blif => improve_blif::<S, T>(alloc, bytes, *settings, tell),
+        Format::Bench => improve_bench::<S, T>(alloc, bytes, *settings, tell),
     }
 }
 
 /// The command: an equivalent netlist with no more gates, and a report. Windows are searched with the solver `S`.
 #[derive(Drop)]
-pub struct Improve<S> {
+pub struct Improve<'a, S, T> {
     /// The format of the netlist.
     pub format: Format,
     /// The settings of the passes over the netlist.
     pub settings: ImproveSettings,
     /// The solver.
     pub solver: PhantomData<S>,
+    /// Who is told of the progress.
+    pub tell: &'a T,
 }
 
-impl<S: Solver> Replier for Improve<S> {
+impl<'a, S: Solver, T: Tell> Replier for Improve<'a, S, T> {
     ghost task = { λ job. improve_task job.format job.settings };
 
     ghost ready = { λ job. IsAsked job.format job.settings };
@@ -87,7 +91,7 @@ impl<S: Solver> Replier for Improve<S> {
 
     #[tactic(auto, using(crate::proofs::Improving::reporting))]
     fn reply(&self, alloc: Global, bytes: &[u8]) -> Result<Reply, Stop> {
-        match improve_text::<S>(alloc, self.format, bytes, &self.settings) {
+        match improve_text::<S, T>(alloc, self.format, bytes, &self.settings, self.tell) {
             Ok(improved) => Ok(reply_of(improved)),
             Err(NetError::Memory) => Err(Stop::NoMemory),
             Err(error) => Err(Stop::NoAnswer(refusal_of(error))),

@@ -8,6 +8,7 @@ use std::alloc::Global;
 const MOST: usize = 8;
 
 /// Writes its input, of at most eight bytes; `no` has no answer, and of `bit` a part is written before memory runs out.
+/// Over a file that is named, an empty text has no answer either.
 #[derive(Drop)]
 pub struct Echo;
 
@@ -37,9 +38,12 @@ fn write_back<O: Sink>(out: &mut O, text: &[u8]) -> Status {
 impl Program for Echo {
     ghost keeps = { λ r. Unit {0} };
 
+    ghost keeps_named = { λ r. Unit {0} };
+
     ghost compares = { λ budget text source out note status. Unit {0} };
 
     fn run<S: Source, O: Sink, N: Sink>(
+        &self,
         alloc: Global,
         _words: &Vec<String>,
         source: &mut S,
@@ -52,7 +56,23 @@ impl Program for Echo {
         }
     }
 
+    fn run_named<S: Source, O: Sink, N: Sink>(
+        &self,
+        alloc: Global,
+        _words: &Vec<String>,
+        source: &mut S,
+        out: &mut O,
+        _note: &mut N,
+    ) -> Status {
+        match read_all(alloc, source, MOST) {
+            Ok(text) if text.is_empty() => Status::Malformed,
+            Ok(text) => write_back(out, &text),
+            Err(error) => read_status(error),
+        }
+    }
+
     fn compare<S: Source, O: Sink, N: Sink>(
+        &self,
         alloc: Global,
         _budget: u32,
         text: &[u8],

@@ -19,4 +19,6 @@ pub use lines::Lines;
 #[cfg(test)]
 mod front;
 #[cfg(test)]
+mod hearing;
+#[cfg(test)]
 mod tests;

@@ -1,6 +1,6 @@
 //! The program `front`: `batsokemi` with files that are named, and help for people. It collects the arguments, wraps
-//! the standard streams in ports that remember what went through them, hands over the files of the system, and
-//! calls `front_app::serve`.
+//! the standard streams in ports that remember what went through them and tell of the progress, hands over the files
+//! of the system, and calls `front_app::serve`.
 #![tactic(auto)]
 
 mod rereading;
@@ -8,9 +8,11 @@ mod rereading;
 use crate::rereading::Rereading;
 use front_app::{Remembering, Retelling, Status, serve};
 use port_io::{InputPort, OutputPort};
+use progress::{WatchedSink, WatchedSource};
+use std::io::IsTerminal;
 use std::process::ExitCode;
 use std::{env, io};
-use system_files::SystemFiles;
+use system_files::{SystemFiles, Terminal};
 
 /// The arguments after the program's name. An argument that isn't UTF-8 is a usage error.
 fn words_of(rt: &HostRuntime) -> Result<Vec<String>, Status> {
@@ -22,15 +24,33 @@ fn words_of(rt: &HostRuntime) -> Result<Vec<String>, Status> {
     collected.map_err(|_| Status::Memory)
 }
 
+/// Reports that there are no words, by the error line of the status.
+fn report_no_words(rt: &HostRuntime, status: Status) {
+    let _ = match status {
+        Status::Memory => eprintln!(rt; "error: Memory"),
+        _ => eprintln!(rt; "error: Usage"),
+    };
+}
+
 fn main(rt: HostRuntime) -> ExitCode {
     let words = match words_of(&rt) {
         Ok(words) => words,
-        Err(status) => return ExitCode::from(status.number()),
+        Err(status) => {
+            report_no_words(&rt, status);
+            return ExitCode::from(status.number());
+        }
     };
-    let mut source = Remembering::new(rt.alloc(), InputPort::new(rt.stdin()));
-    let mut out = OutputPort::new(rt.stdout());
-    let mut note = Retelling::new(rt.alloc(), OutputPort::new(rt.stderr()));
-    let mut files = SystemFiles::new(&rt);
+    let terminal = Terminal::new(&rt);
+    let input = WatchedSource::new(InputPort::new(rt.stdin()), &terminal);
+    let mut source = Remembering::new(rt.alloc(), input);
+    let mut out = WatchedSink::new(
+        OutputPort::new(rt.stdout()),
+        &terminal,
+        rt.stdout().is_terminal(),
+    );
+    let errors = WatchedSink::new(OutputPort::new(rt.stderr()), &terminal, true);
+    let mut note = Retelling::new(rt.alloc(), errors);
+    let mut files = SystemFiles::new(&rt, &terminal);
     let reader = Rereading::new(&rt);
     let status = serve(
         rt.alloc(),
@@ -40,6 +60,8 @@ fn main(rt: HostRuntime) -> ExitCode {
         &mut out,
         &mut note,
         &reader,
+        &terminal,
     );
+    terminal.wipe();
     ExitCode::from(status.number())
 }

@@ -18,7 +18,7 @@ use Rattle.file_words.specs.declared.line.FileLine.{FileLine}
 use Rattle.file_words.specs.Sorting.{Line, file_line}
 use Rattle.file_words.specs.Lines.{line_value}
 use Rattle.front_core.specs.Asked.{fits, IsNotPlain, AsksWithFiles, name_in, first_in, second_in, pair_budget}
-use Rattle.front_core.specs.Front.{Promises, front_run, IsDone, IsServedLine, Ending, Plain, WithFiles, Idle, OutOfMemory, IsEnding, runs}
+use Rattle.front_core.specs.Front.{Promises, front_run, IsDone, IsServedLine, Ending, Plain, WithFiles, Idle, OutOfMemory, IsEnding, over, runs}
 use Rattle.front_core.specs.Certified.{IsCertified}
 use Rattle.front_core.specs.Paired.{IsPaired}
 use Rattle.front_core.proofs.Words.{asked, not_asked, line_of, no_line_of, none_with_files, too_many_files, none_without_line}
@@ -56,7 +56,7 @@ many_files p line own state source out note note' status ok not writes is words 
 pub with_one : (p : Promises) (line : Line) (own : Command) (budget : Option ℕ) (input : Option (List ℕ)) (files : Files)
     (source out note : Pass) (status : Status) → Ok own ≡ read line.words → fits own line ≡ true →
     budget ≡ pair_budget own line.operands → budget ≡ None → input ≡ name_in (first_in line.operands) →
-    ((all : List (List ℕ)) → IsDone line (IsRead input (IsApart (runs p.keeps line.words))) (front_run all files source out note status)) →
+    ((all : List (List ℕ)) → IsDone line (IsRead input (IsApart (runs (over p.keeps p.keeps_named input) line.words))) (front_run all files source out note status)) →
     (words : List (List ℕ)) → IsNotPlain words → file_line words ≡ Some line →
     (ending : Ending) × IsEnding p (front_run words files source out note status) ending
 with_one p line own budget input files source out note status ok fitting asked_for none i done words other known = (
@@ -66,7 +66,7 @@ with_one p line own budget input files source out note status ok fitting asked_f
     line = line;
     asks = record { other = other; line_is = known; asks = asked line.words own ok; fits_in = fitting };
     served = subst (λ (b : Option ℕ). IsServedLine p b line (front_run words files source out note status)) (sym none ∙ asked_for)
-        (subst (λ (x : Option (List ℕ)). IsDone line (IsRead x (IsApart (runs p.keeps line.words))) (front_run words files source out note status)) i
+        (subst (λ (x : Option (List ℕ)). IsDone line (IsRead x (IsApart (runs (over p.keeps p.keeps_named x) line.words))) (front_run words files source out note status)) i
         (done words));
   },
 )

@@ -63,10 +63,16 @@ pub record IsOutOfMemory (r : FrontRun) : Type 0 where
 abbrev pub runs : (Run → Type 0) → List (List ℕ) → Pass → Pass → Pass → Status → Type 0
 runs keeps words source out note status = keeps (run_of words source out note status)
 
--- what a program promises: of a run over words, and of a comparison with a budget
+-- what a program promises: of a run over words, of one over a file that is named, and of a comparison with a budget
 pub record Promises : Type 1 where
   pub keeps : Run → Type 0
+  pub keeps_named : Run → Type 0
   pub compares : ℕ → Compares
+
+-- what is promised of a run over the file that is named, or over the source where none is
+abbrev pub over : (Run → Type 0) → (Run → Type 0) → Option (List ℕ) → Run → Type 0
+over keeps keeps_named None = keeps
+over keeps keeps_named (Some name) = keeps_named
 
 -- The outputs of a line: they are created before the work begins.
 abbrev pub IsDone : Line → Does → FrontRun → Type 0
@@ -79,7 +85,7 @@ abbrev pub IsServedLine : Promises → Option ℕ → Line → FrontRun → Type
 IsServedLine p (Some budget) line r =
     IsDone line (IsPaired (name_in (first_in line.operands)) (name_in (second_in line.operands)) (p.compares budget)) r
 IsServedLine p None line r =
-    IsDone line (IsRead (name_in (first_in line.operands)) (IsApart (runs p.keeps line.words))) r
+    IsDone line (IsRead (name_in (first_in line.operands)) (IsApart (runs (over p.keeps p.keeps_named (name_in (first_in line.operands))) line.words))) r
 
 -- The words name files.
 pub record IsWithFiles (p : Promises) (r : FrontRun) : Type 0 where
@@ -101,5 +107,5 @@ IsEnding p r WithFiles = IsWithFiles p r
 IsEnding p r Idle = IsIdle r
 IsEnding p r OutOfMemory = IsOutOfMemory r
 
-abbrev pub promised_by : (Run → Type 0) → (ℕ → Compares) → Promises
-promised_by keeps compares = record { keeps = keeps; compares = compares }
+abbrev pub promised_by : (Run → Type 0) → (Run → Type 0) → (ℕ → Compares) → Promises
+promised_by keeps keeps_named compares = record { keeps = keeps; keeps_named = keeps_named; compares = compares }

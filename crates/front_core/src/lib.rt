@@ -1,8 +1,8 @@
 //! The front of a program: command lines that may name files, over a program that reads one source and writes one
 //! sink.
 //!
-//! The program is a type with the trait `Program`: what it does with words, a source and two sinks, and what it
-//! promises of that. `serve` reads words that may name files (`file_words`), opens and creates these (`file_io`), and
+//! The program is a value with the trait `Program`: what it does with words, a source and two sinks, and what it
+//! promises of that, over a file that is named maybe something else than over any other source. `serve` reads words that may name files (`file_words`), opens and creates these (`file_io`), and
 //! runs the program over them, with the words without files. Words that the program reads as they are it passes on.
 //!
 //! What is proved, for each program, each source and sink and all files: `IsEnding` of `specs/Front.antt`. Words that
@@ -13,7 +13,7 @@
 //! words are a usage error.
 //!
 //! ```text
-//! let status = serve::<Strict, ..>(alloc, &words, &mut outside, &mut source, &mut out, &mut note);
+//! let status = serve(alloc, &program, &words, &mut outside, &mut source, &mut out, &mut note);
 //! ```
 #![tactic(auto)]
 

@@ -17,14 +17,13 @@ use frame_core::{ErrorLine, Field, Status, report_error};
 use net_theory::MOST_OF_NETLIST;
 use port_io::{ReadError, Sink, Source, read_all};
 use std::alloc::Global;
-use std::marker::PhantomData;
 
 /// The comparison of a text with that of the source, as work.
 #[derive(Drop)]
 struct Comparing<'a, P> {
     text: &'a Vec<u8>,
     budget: u32,
-    program: PhantomData<P>,
+    program: &'a P,
 }
 
 impl<'a, P: Program> Work for Comparing<'a, P> {
@@ -43,7 +42,8 @@ impl<'a, P: Program> Work for Comparing<'a, P> {
         out: &mut O,
         note: &mut N,
     ) -> Status {
-        P::compare(alloc, self.budget, self.text, source, out, note)
+        self.program
+            .compare(alloc, self.budget, self.text, source, out, note)
     }
 }
 
@@ -92,6 +92,7 @@ fn report_first<N: Sink>(note: &mut N, error: ReadError) -> Status
 #[tactic(auto, using(crate::proofs::Pairs::standard))]
 fn pair_standard<P: Program, W: Outside, S: Source, O: Sink, N: Sink>(
     alloc: Global,
+    program: &P,
     budget: u32,
     second: Option<&str>,
     outside: &mut W,
@@ -114,7 +115,7 @@ fn pair_standard<P: Program, W: Outside, S: Source, O: Sink, N: Sink>(
     let comparing = Comparing {
         text: &text,
         budget,
-        program: PhantomData::<P>,
+        program,
     };
     read_input(alloc, &comparing, second, outside, source, out, note)
 }
@@ -123,6 +124,7 @@ fn pair_standard<P: Program, W: Outside, S: Source, O: Sink, N: Sink>(
 #[tactic(auto, using(crate::proofs::Pairs::reading))]
 fn pair_input<P: Program, W: Outside, I: Source, S: Source, O: Sink, N: Sink>(
     alloc: Global,
+    program: &P,
     budget: u32,
     second: Option<&str>,
     outside: &mut W,
@@ -147,7 +149,7 @@ fn pair_input<P: Program, W: Outside, I: Source, S: Source, O: Sink, N: Sink>(
     let comparing = Comparing {
         text: &text,
         budget,
-        program: PhantomData::<P>,
+        program,
     };
     read_input(alloc, &comparing, second, outside, source, out, note)
 }
@@ -156,6 +158,7 @@ fn pair_input<P: Program, W: Outside, I: Source, S: Source, O: Sink, N: Sink>(
 #[tactic(auto, using(crate::proofs::Pairs::named))]
 fn pair_named<P: Program, W: Outside, S: Source, O: Sink, N: Sink>(
     alloc: Global,
+    program: &P,
     budget: u32,
     name: &str,
     second: Option<&str>,
@@ -177,7 +180,7 @@ fn pair_named<P: Program, W: Outside, S: Source, O: Sink, N: Sink>(
         Err(reason) => return report_fault(note, Call::Open, name, &reason),
     };
     pair_input::<P, W, W::Input, S, O, N>(
-        alloc, budget, second, outside, &mut input, source, out, note,
+        alloc, program, budget, second, outside, &mut input, source, out, note,
     )
 }
 
@@ -188,7 +191,7 @@ pub(crate) struct Pairing<'a, P> {
     pub(crate) first: Option<&'a str>,
     pub(crate) second: Option<&'a str>,
     pub(crate) budget: u32,
-    pub(crate) program: PhantomData<P>,
+    pub(crate) program: &'a P,
 }
 
 impl<'a, P: Program> Work for Pairing<'a, P> {
@@ -211,6 +214,7 @@ impl<'a, P: Program> Work for Pairing<'a, P> {
             None => {
                 pair_standard::<P, W, S, O, N>(
                     alloc,
+                    self.program,
                     self.budget,
                     self.second,
                     outside,
@@ -222,6 +226,7 @@ impl<'a, P: Program> Work for Pairing<'a, P> {
             Some(name) => {
                 pair_named::<P, W, S, O, N>(
                     alloc,
+                    self.program,
                     self.budget,
                     name,
                     self.second,

@@ -20,7 +20,6 @@ use file_words::{FileLine, read_line};
 use frame_core::{ErrorLine, Status, report_error};
 use port_io::{Sink, Source};
 use std::alloc::Global;
-use std::marker::PhantomData;
 
 /// Reports words that ask for nothing.
 fn report_usage<N: Sink>(note: &mut N) -> Status
@@ -71,6 +70,7 @@ fn serve_outputs<K: Work, W: Outside, S: Source, O: Sink, N: Sink>(
 #[tactic(auto, using(crate::proofs::Endings::line_endings))]
 fn serve_line<P: Program, W: Outside, S: Source, O: Sink, N: Sink>(
     alloc: Global,
+    program: &P,
     line: &FileLine,
     outside: &mut W,
     source: &mut S,
@@ -78,7 +78,7 @@ fn serve_line<P: Program, W: Outside, S: Source, O: Sink, N: Sink>(
     note: &mut N,
 ) -> Status
     ensures { (words : List (List ℕ)) → IsNotPlain words → file_line words ≡ Some (line_value line.now) →
-        (ending : Ending) × IsEnding (promised_by P.keeps P.compares) (front_run words
+        (ending : Ending) × IsEnding (promised_by P.keeps P.keeps_named P.compares) (front_run words
         (files_before_after W.holds W.faults outside.old outside.new)
         (before_after S.left S.faults source.old source.new)
         (before_after O.written O.faults out.old out.new)
@@ -98,13 +98,14 @@ fn serve_line<P: Program, W: Outside, S: Source, O: Sink, N: Sink>(
             first: input,
             second,
             budget,
-            program: PhantomData::<P>,
+            program,
         };
         return serve_outputs(alloc, &pairing, line, outside, source, out, note);
     }
     let running = Running {
         words: &line.words,
-        program: PhantomData::<P>,
+        input,
+        program,
     };
     let reading = Reading {
         input,
@@ -117,6 +118,7 @@ fn serve_line<P: Program, W: Outside, S: Source, O: Sink, N: Sink>(
 #[tactic(auto, using(crate::proofs::Endings::word_endings))]
 fn serve_other<P: Program, W: Outside, S: Source, O: Sink, N: Sink>(
     alloc: Global,
+    program: &P,
     words: &Vec<String>,
     outside: &mut W,
     source: &mut S,
@@ -124,7 +126,7 @@ fn serve_other<P: Program, W: Outside, S: Source, O: Sink, N: Sink>(
     note: &mut N,
 ) -> Status
     ensures { IsNotPlain (spelled words.now) →
-        (ending : Ending) × IsEnding (promised_by P.keeps P.compares) (front_run (spelled words.now)
+        (ending : Ending) × IsEnding (promised_by P.keeps P.keeps_named P.compares) (front_run (spelled words.now)
         (files_before_after W.holds W.faults outside.old outside.new)
         (before_after S.left S.faults source.old source.new)
         (before_after O.written O.faults out.old out.new)
@@ -138,7 +140,7 @@ fn serve_other<P: Program, W: Outside, S: Source, O: Sink, N: Sink>(
     let Some(line) = &found else {
         return report_usage(note);
     };
-    serve_line::<P, W, S, O, N>(alloc, line, outside, source, out, note)
+    serve_line::<P, W, S, O, N>(alloc, program, line, outside, source, out, note)
 }
 
 /// Reads words that may name files, and runs the program over these: over the words without files, and over `source`
@@ -146,13 +148,14 @@ fn serve_other<P: Program, W: Outside, S: Source, O: Sink, N: Sink>(
 #[tactic(auto, using(crate::proofs::Endings::endings))]
 pub fn serve<P: Program, W: Outside, S: Source, O: Sink, N: Sink>(
     alloc: Global,
+    program: &P,
     words: &Vec<String>,
     outside: &mut W,
     source: &mut S,
     out: &mut O,
     note: &mut N,
 ) -> Status
-    ensures { (ending : Ending) × IsEnding (promised_by P.keeps P.compares) (front_run (spelled words.now)
+    ensures { (ending : Ending) × IsEnding (promised_by P.keeps P.keeps_named P.compares) (front_run (spelled words.now)
         (files_before_after W.holds W.faults outside.old outside.new)
         (before_after S.left S.faults source.old source.new)
         (before_after O.written O.faults out.old out.new)
@@ -160,7 +163,7 @@ pub fn serve<P: Program, W: Outside, S: Source, O: Sink, N: Sink>(
         result) ending }
 {
     match read_words(words) {
-        Ok(_) => P::run(alloc, words, source, out, note),
-        Err(_) => serve_other::<P, W, S, O, N>(alloc, words, outside, source, out, note),
+        Ok(_) => program.run(alloc, words, source, out, note),
+        Err(_) => serve_other::<P, W, S, O, N>(alloc, program, words, outside, source, out, note),
     }
 }

@@ -108,6 +108,7 @@ fn is_found(status: Status) -> bool
 #[tactic(auto, using(crate::proofs::Runs::guided))]
 pub fn guide<P: Program, W: Outside, S: Recalls, O: Sink, N: Retells, R: Rereads>(
     alloc: Global,
+    program: &P,
     words: &Vec<String>,
     outside: &mut W,
     source: &mut S,
@@ -115,7 +116,7 @@ pub fn guide<P: Program, W: Outside, S: Recalls, O: Sink, N: Retells, R: Rereads
     note: &mut N,
     reader: &R,
 ) -> Status
-    ensures { IsGuided (promised_by P.keeps P.compares) (front_run (spelled words.now)
+    ensures { IsGuided (promised_by P.keeps P.keeps_named P.compares) (front_run (spelled words.now)
         (files_before_after W.holds W.faults outside.old outside.new)
         (before_after S.left S.faults source.old source.new)
         (before_after O.written O.faults out.old out.new)
@@ -125,7 +126,7 @@ pub fn guide<P: Program, W: Outside, S: Recalls, O: Sink, N: Retells, R: Rereads
     if let Some(page) = page_for(alloc, words) {
         return write_page(out, &page);
     }
-    let status = serve::<P, W, S, O, N>(alloc, words, outside, source, out, note);
+    let status = serve::<P, W, S, O, N>(alloc, program, words, outside, source, out, note);
     if is_found(status) {
         return status;
     }

@@ -6,6 +6,7 @@ ghost use Rattle.improve_windows.specs.Improving.{FitsFormat};
 use cdcl_core::Cdcl;
 use improve_windows::{ImproveSettings, ImprovedText, NetError, improve_bench, improve_blif};
 use op_basis::Basis;
+use progress::Silent;
 use std::alloc::Global;
 
 /// The default settings with this cap, these rounds and this conflict limit, with ODCs where `observe`.
@@ -60,9 +61,9 @@ fn answered(alloc: Global, bytes: &[u8], asked: Asked) -> Option<Result<Improved
     match asked {
         Asked::Blif(cap, rounds, conflicts, observe) => {
             let settings = settings(cap, rounds, conflicts, observe);
-            Some(improve_blif::<Cdcl>(alloc, bytes, settings))
+            Some(improve_blif::<Cdcl, Silent>(alloc, bytes, settings, &Silent))
         }
-        Asked::Bench => Some(improve_bench::<Cdcl>(alloc, bytes, gates_alone())),
+        Asked::Bench => Some(improve_bench::<Cdcl, Silent>(alloc, bytes, gates_alone(), &Silent)),
     }
 }
 

@@ -15,6 +15,7 @@ use crate::passes::{ImprovedNet, improve_net};
 use blif_core::Circuit;
 use improve_theory::Undecided;
 use net_document::Document;
+use progress::Tell;
 use sat_solve::Solver;
 use settings::ImproveSettings;
 use std::alloc::{AllocError, Global};
@@ -49,10 +50,11 @@ struct ImprovedWithCircuit {
 }
 
 /// Improves the net of a circuit.
-fn left_of<S: Solver>(
+fn left_of<S: Solver, T: Tell>(
     alloc: Global,
     circuit: Circuit,
     settings: ImproveSettings,
+    tell: &T,
 ) -> Result<ImprovedWithCircuit, AllocError>
     requires { IsInRange settings }
     ensures circuit { IfOk result (λ left. left.circuit ≡ record circuit { net = left.circuit.net }) }
@@ -71,7 +73,7 @@ fn left_of<S: Solver>(
         net,
         settled,
         undecided,
-    } = improve_net::<S>(alloc, &net, settings)?;
+    } = improve_net::<S, T>(alloc, &net, settings, tell)?;
     let circuit = Circuit {
         model,
         inputs,
@@ -91,10 +93,11 @@ fn left_of<S: Solver>(
 /// `passes.rt`, and resynthesis until no window up to the cap has a shorter chain, or
 /// `settings.rounds` rounds have changed something.
 #[tactic(auto, using(crate::specs::ImprovingLaws::improving))]
-pub(crate) fn improve_written<S: Solver>(
+pub(crate) fn improve_written<S: Solver, T: Tell>(
     alloc: Global,
     circuit: Circuit,
     settings: ImproveSettings,
+    tell: &T,
 ) -> Result<Written, AllocError>
     requires proper { IsProper circuit }
     requires range { IsInRange settings }
@@ -110,7 +113,7 @@ pub(crate) fn improve_written<S: Solver>(
         circuit,
         settled,
         undecided,
-    } = left_of::<S>(alloc, circuit, settings)?;
+    } = left_of::<S, T>(alloc, circuit, settings, tell)?;
     let CostedDocument { document, cost } = costed(alloc, &circuit)?;
     let improved = Improved {
         circuit,

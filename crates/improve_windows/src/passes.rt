@@ -14,6 +14,7 @@ ghost use Rattle.improve_theory.specs.Improvement.{IsResynthesisOf, IsImprovemen
 use crate::stages::{first_work, stage_work};
 use improve_theory::Undecided;
 use net_core::{Net, remove_dangling};
+use progress::{Progress, Tell};
 use restructure::Moves;
 use resyn_core::{Resynthesized, resynthesize};
 use sat_solve::Solver;
@@ -92,10 +93,11 @@ fn after_moves<S: Solver>(
 /// Moves over the whole net, and then resynthesis. The stages of `settings.effort` follow: in each the moves go on, and
 /// where they find a smaller net, it is resynthesized.
 #[tactic(auto, using(crate::specs::ImprovementLaws::improving))]
-fn improved<S: Solver>(
+fn improved<S: Solver, T: Tell>(
     alloc: Global,
     net: Net,
     settings: &ImproveSettings,
+    tell: &T,
 ) -> Result<ImprovedNet, AllocError>
     requires range { IsInRange settings.now }
     requires cap { 1 ≤ settings.now.cap }
@@ -105,8 +107,10 @@ fn improved<S: Solver>(
     let net = many_merged(alloc, net, settings.cap)?;
     let mut moves = Moves::new(alloc, &net, settings.basis, settings.seed)?;
     let best = after_moves::<S>(&mut moves, net, settings)?;
+    tell.tell(Progress::Gates(best.gates().len()));
     let mut left = resynthesized::<S>(alloc, best, settings)?;
     for effort in 0..settings.effort {
+        tell.tell(Progress::Gates(left.net.gates().len()));
         let work = stage_work(effort.saturating_add(1), left.net.gates().len());
         match moved::<S>(&mut moves, &left.net, settings, work)? {
             None => continue,
@@ -119,10 +123,11 @@ fn improved<S: Solver>(
 /// Improves a net by the passes of the file's head, until no listed window up to the cap has a shorter chain, or
 /// `settings.rounds` rounds have changed something. With a cap of 0 there is only the cleanup.
 #[tactic(auto, using(crate::specs::ImprovementLaws::improving))]
-pub fn improve_net<S: Solver>(
+pub fn improve_net<S: Solver, T: Tell>(
     alloc: Global,
     net: &Net,
     settings: ImproveSettings,
+    tell: &T,
 ) -> Result<ImprovedNet, AllocError>
     requires { IsInRange settings }
     ensures { IfOk result (λ left. IsImprovementBy settings net.now left.net left.settled left.undecided.items) }
@@ -137,6 +142,6 @@ pub fn improve_net<S: Solver>(
             undecided: Vec::new(alloc),
         });
     }
-    let left = improved::<S>(alloc, tidy, &settings)?;
+    let left = improved::<S, T>(alloc, tidy, &settings, tell)?;
     Ok(left)
 }

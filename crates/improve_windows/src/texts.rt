@@ -23,6 +23,7 @@ use blif_core::{Circuit, NetError, read_blif, write_document};
 use blif_laws::blif_is_a_format;
 use net_core::gate_names;
 use net_document::Document;
+use progress::Tell;
 use sat_solve::Solver;
 use settings::ImproveSettings;
 use std::alloc::{AllocError, Global};
@@ -82,16 +83,17 @@ fn bench_text_of(
 
 /// Improves a BLIF netlist by the settings. Returns the text of the improved netlist, and a report of its
 /// cost before and after, of the windows that stayed undecided with their certificates, and of whether all
-/// others are settled.
+/// others are settled. `tell` hears of the gates that are left after each stage.
 ///
 /// Lines are judged in order, and the first fault is reported; then a control that a table drives, more than
 /// 100,000 gates, a name that is driven twice, one that is used and not driven, and a combinational
 /// loop. A well-formed netlist is refused only where memory runs out.
 #[tactic(auto, using(crate::specs::ImprovingLaws::improving))]
-pub fn improve_blif<S: Solver>(
+pub fn improve_blif<S: Solver, T: Tell>(
     alloc: Global,
     bytes: &[u8],
     settings: ImproveSettings,
+    tell: &T,
 ) -> Result<ImprovedText, NetError>
     requires size { length bytes.now < 2 ^ 31 }
     requires range { IsInRange settings }
@@ -102,7 +104,7 @@ pub fn improve_blif<S: Solver>(
     // for the prover: the laws of BLIF
     blif_is_a_format();
     let circuit = read_blif(alloc, bytes)?;
-    let Written { improved, document } = improve_written::<S>(alloc, circuit, settings)?;
+    let Written { improved, document } = improve_written::<S, T>(alloc, circuit, settings, tell)?;
     let text = blif_text_of(alloc, &document)?;
     let report = all_reported(alloc, &improved)?;
     Ok(ImprovedText { text, report })
@@ -115,10 +117,11 @@ pub fn improve_blif<S: Solver>(
 /// driven twice, one that is used and not driven, and a combinational loop. A well-formed netlist is refused
 /// only where memory runs out.
 #[tactic(auto, using(crate::specs::ImprovingLaws::improving))]
-pub fn improve_bench<S: Solver>(
+pub fn improve_bench<S: Solver, T: Tell>(
     alloc: Global,
     bytes: &[u8],
     settings: ImproveSettings,
+    tell: &T,
 ) -> Result<ImprovedText, NetError>
     requires size { length bytes.now < 2 ^ 31 }
     requires range { IsInRange settings }
@@ -131,7 +134,7 @@ pub fn improve_bench<S: Solver>(
     bench_is_a_format();
     circuits_cost_the_same();
     let circuit = read_bench(alloc, bytes)?;
-    let Written { improved, document } = improve_written::<S>(alloc, circuit, settings)?;
+    let Written { improved, document } = improve_written::<S, T>(alloc, circuit, settings, tell)?;
     let text = bench_text_of(alloc, &improved.circuit, &document)?;
     let report = all_reported(alloc, &improved)?;
     Ok(ImprovedText { text, report })

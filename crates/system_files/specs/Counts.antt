@@ -10,5 +10,5 @@ faults_of unopened uncreated unkept Open = unopened
 faults_of unopened uncreated unkept Create = uncreated
 faults_of unopened uncreated unkept Keep = unkept
 
-abbrev pub files_faults : SystemFiles → Faults
+abbrev pub files_faults : {T : Type 0} → SystemFiles T → Faults
 files_faults files = faults_of files.unopened files.uncreated files.unkept

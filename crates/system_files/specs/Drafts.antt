@@ -4,5 +4,5 @@ use Rattle.port_io.specs.Ports.{output_faults}
 use Rattle.system_files.specs.declared.files.SystemDraft.{SystemDraft}
 
 -- how many writes to it have failed
-abbrev pub draft_faults : SystemDraft → ℕ
+abbrev pub draft_faults : {T : Type 0} → SystemDraft T → ℕ
 draft_faults draft = output_faults draft.port

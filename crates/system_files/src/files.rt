@@ -6,15 +6,17 @@ ghost use Rattle.system_files.specs.Counts.{files_faults};
 
 use file_io::{Outside, Reason};
 use port_io::{Failed, InputPort, OutputPort, Sink};
+use progress::{Progress, Tell, WatchedSource, Written};
 use std::alloc::{AllocError, Global};
 use std::fs::{File, OpenOptions, Permissions};
 use std::io::{Error, ErrorKind};
 use std::{fs, io, process};
 
-/// The files of the system, and how many calls of each kind have failed.
+/// The files of the system, and how many calls of each kind have failed. It tells how much is read and written.
 #[derive(Drop)]
-pub struct SystemFiles<'a> {
+pub struct SystemFiles<'a, T> {
     rt: &'a HostRuntime,
+    tell: &'a T,
     unopened: u64,
     uncreated: u64,
     unkept: u64,
@@ -22,8 +24,10 @@ pub struct SystemFiles<'a> {
 
 /// A file that is written: beside its name, or in place where the name leads to what isn't a plain file.
 #[derive(Drop)]
-pub struct SystemDraft {
+pub struct SystemDraft<'a, T> {
     port: OutputPort<File>,
+    tell: &'a T,
+    written: Written,
     is_begun: bool,
     paths: Option<Paths>,
 }
@@ -35,7 +39,7 @@ struct Paths {
     whole: String,
 }
 
-impl Sink for SystemDraft {
+impl<'a, T: Tell> Sink for SystemDraft<'a, T> {
     ghost written = { λ _. None };
 
     ghost faults = { draft_faults };
@@ -47,6 +51,9 @@ impl Sink for SystemDraft {
                 if count > 0 {
                     self.is_begun = true;
                 }
+                let (part, _) = piece.split_at(count);
+                self.written = self.written.and(part);
+                self.tell.tell(Progress::Written(self.written));
                 Ok(count)
             }
             Err(Failed) => Err(Failed),
@@ -73,11 +80,12 @@ fn no_memory() -> Error {
     Error::from(ErrorKind::OutOfMemory)
 }
 
-impl<'a> SystemFiles<'a> {
-    /// The files that the system of a run has.
-    pub fn new(rt: &'a HostRuntime) -> Self {
+impl<'a, T: Tell> SystemFiles<'a, T> {
+    /// The files that the system of a run has, and who is told of it.
+    pub fn new(rt: &'a HostRuntime, tell: &'a T) -> Self {
         SystemFiles {
             rt,
+            tell,
             unopened: 0,
             uncreated: 0,
             unkept: 0,
@@ -99,10 +107,12 @@ impl<'a> SystemFiles<'a> {
     }
 
     /// Opens what isn't a plain file, to be written in place.
-    fn open_in_place(&self, name: &str) -> io::Result<SystemDraft> {
+    fn open_in_place(&self, name: &str) -> io::Result<SystemDraft<'a, T>> {
         let file = OpenOptions::new().write(true).open(self.rt, name)?;
         Ok(SystemDraft {
             port: OutputPort::new(file),
+            tell: self.tell,
+            written: Written::nothing(),
             is_begun: false,
             paths: None,
         })
@@ -123,7 +133,7 @@ impl<'a> SystemFiles<'a> {
         alloc: Global,
         name: &str,
         mode: Option<Permissions>,
-    ) -> io::Result<SystemDraft> {
+    ) -> io::Result<SystemDraft<'a, T>> {
         let whole = self.whole_of(alloc, name)?;
         let Ok(part) = part_of(alloc, whole.as_str(), process::id(self.rt.process())) else {
             return Err(no_memory());
@@ -131,13 +141,15 @@ impl<'a> SystemFiles<'a> {
         let file = self.create_part(part.as_str(), mode)?;
         Ok(SystemDraft {
             port: OutputPort::new(file),
+            tell: self.tell,
+            written: Written::nothing(),
             is_begun: false,
             paths: Some(Paths { part, whole }),
         })
     }
 
     /// Creates a draft.
-    fn create_draft(&self, alloc: Global, name: &str) -> io::Result<SystemDraft> {
+    fn create_draft(&self, alloc: Global, name: &str) -> io::Result<SystemDraft<'a, T>> {
         match fs::metadata(self.rt, name) {
             Ok(found) if found.is_file() => self.create_beside(
                 alloc,
@@ -153,7 +165,7 @@ impl<'a> SystemFiles<'a> {
     }
 
     /// Opens what was written to a draft. What is written in place can't be read again.
-    fn open_part(&self, draft: &SystemDraft) -> io::Result<File> {
+    fn open_part(&self, draft: &SystemDraft<'a, T>) -> io::Result<File> {
         match &draft.paths {
             None => Err(Error::from(ErrorKind::Unsupported)),
             Some(paths) => File::open(self.rt, paths.part.as_str()),
@@ -161,7 +173,7 @@ impl<'a> SystemFiles<'a> {
     }
 
     /// Gives a draft the name of the file whose place it takes.
-    fn rename_part(&self, draft: &SystemDraft) -> io::Result<()> {
+    fn rename_part(&self, draft: &SystemDraft<'a, T>) -> io::Result<()> {
         match &draft.paths {
             None => Ok(()),
             Some(paths) => fs::rename(self.rt, paths.part.as_str(), paths.whole.as_str()),
@@ -169,7 +181,7 @@ impl<'a> SystemFiles<'a> {
     }
 
     /// Removes a draft. What remains if that fails has a name that says so.
-    fn remove_part(&self, draft: &SystemDraft) {
+    fn remove_part(&self, draft: &SystemDraft<'a, T>) {
         if let Some(paths) = &draft.paths {
             let _ = fs::remove_file(self.rt, paths.part.as_str());
         }
@@ -185,7 +197,7 @@ impl<'a> SystemFiles<'a> {
     }
 }
 
-impl<'a> Outside for SystemFiles<'a> {
+impl<'a, T: Tell> Outside for SystemFiles<'a, T> {
     ghost use Rattle.file_io.specs.Names.{Unknown};
     ghost use Rattle.system_files.specs.Counts.{files_faults};
 
@@ -193,14 +205,14 @@ impl<'a> Outside for SystemFiles<'a> {
 
     ghost faults = { λ files. files_faults files };
 
-    type Input = InputPort<File>;
+    type Input = WatchedSource<'a, InputPort<File>, T>;
 
-    type Draft = SystemDraft;
+    type Draft = SystemDraft<'a, T>;
 
     #[tactic(auto, using(crate::proofs::Failures::failures))]
-    fn open(&mut self, alloc: Global, name: &str) -> Result<InputPort<File>, Reason> {
+    fn open(&mut self, alloc: Global, name: &str) -> Result<Self::Input, Reason> {
         match self.open_input(name) {
-            Ok(file) => Ok(InputPort::new(file)),
+            Ok(file) => Ok(WatchedSource::new(InputPort::new(file), self.tell)),
             Err(error) => {
                 self.unopened = self.unopened.saturating_add(1);
                 Err(reason_of(alloc, &error))
@@ -209,7 +221,7 @@ impl<'a> Outside for SystemFiles<'a> {
     }
 
     #[tactic(auto, using(crate::proofs::Failures::failures))]
-    fn create(&mut self, alloc: Global, name: &str) -> Result<SystemDraft, Reason> {
+    fn create(&mut self, alloc: Global, name: &str) -> Result<SystemDraft<'a, T>, Reason> {
         match self.create_draft(alloc, name) {
             Ok(draft) => Ok(draft),
             Err(error) => {
@@ -219,16 +231,16 @@ impl<'a> Outside for SystemFiles<'a> {
         }
     }
 
-    fn is_begun(draft: &SystemDraft) -> bool
+    fn is_begun(draft: &SystemDraft<'a, T>) -> bool
         ensures { Begins None result }
     {
         draft.is_begun
     }
 
     #[tactic(auto, using(crate::proofs::Failures::failures))]
-    fn reopen(&mut self, alloc: Global, draft: &SystemDraft) -> Result<InputPort<File>, Reason> {
+    fn reopen(&mut self, alloc: Global, draft: &SystemDraft<'a, T>) -> Result<Self::Input, Reason> {
         match self.open_part(draft) {
-            Ok(file) => Ok(InputPort::new(file)),
+            Ok(file) => Ok(WatchedSource::new(InputPort::new(file), self.tell)),
             Err(error) => {
                 self.unopened = self.unopened.saturating_add(1);
                 Err(reason_of(alloc, &error))
@@ -237,7 +249,12 @@ impl<'a> Outside for SystemFiles<'a> {
     }
 
     #[tactic(auto, using(crate::proofs::Failures::failures))]
-    fn keep(&mut self, alloc: Global, _name: &str, draft: SystemDraft) -> Result<(), Reason> {
+    fn keep(
+        &mut self,
+        alloc: Global,
+        _name: &str,
+        draft: SystemDraft<'a, T>,
+    ) -> Result<(), Reason> {
         match self.rename_part(&draft) {
             Ok(()) => Ok(()),
             Err(error) => {
@@ -249,7 +266,7 @@ impl<'a> Outside for SystemFiles<'a> {
     }
 
     #[tactic(auto, using(crate::proofs::Failures::failures))]
-    fn discard(&mut self, draft: SystemDraft) {
+    fn discard(&mut self, draft: SystemDraft<'a, T>) {
         self.remove_part(&draft);
     }
 }

@@ -1,12 +1,16 @@
 //! The files of the system as `file_io::Outside`. It passes on what the system's calls do, and contracts don't know
 //! what it holds: a name is opened, a draft stands beside its name as `NAME.part.PID` and is renamed to it, and a kill
-//! leaves a file of that name. What isn't a plain file, as a device or a pipe, is written in place.
+//! leaves a file of that name. What isn't a plain file, as a device or a pipe, is written in place. `Terminal` shows
+//! people the progress of a run.
 //!
 //! ```text
-//! let mut files = SystemFiles::new(&rt);
+//! let terminal = Terminal::new(&rt);
+//! let mut files = SystemFiles::new(&rt, &terminal);
 //! ```
 #![tactic(auto)]
 
 mod files;
+mod terminal;
 
 pub use files::{SystemDraft, SystemFiles};
+pub use terminal::Terminal;

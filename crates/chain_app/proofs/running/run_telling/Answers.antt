@@ -5,7 +5,7 @@ use Rattle.frame_core.specs.Views.{line_value}
 use Rattle.frame_core.specs.PerformingLaws.{named_as}
 use Rattle.chain_app.specs.Ending.{Idle, Ran}
 use Rattle.chain_app.proofs.Ends.{asked, not_asked, kept}
-use Rattle.chain_app.proofs.running.run.Goals as goal
+use Rattle.chain_app.proofs.running.run_telling.Goals as goal
 
 -- words that ask for no command
 pub returns-in_default : goal.returns-in_default
