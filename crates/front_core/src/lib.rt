@@ -2,8 +2,9 @@
 //! sink.
 //!
 //! The program is a value with the trait `Program`: what it does with words, a source and two sinks, and what it
-//! promises of that, over a file that is named maybe something else than over any other source. `serve` reads words that may name files (`file_words`), opens and creates these (`file_io`), and
-//! runs the program over them, with the words without files. Words that the program reads as they are it passes on.
+//! promises of that. Over a file that is named it may promise something else than over any other source. `serve`
+//! reads words that may name files (`file_words`), opens and creates these (`file_io`), and runs the program over
+//! them, with the words without files. Words that the program reads as they are it passes on.
 //!
 //! What is proved, for each program, each source and sink and all files: `IsEnding` of `specs/Front.antt`. Words that
 //! are a command line as they are mean to the byte what they mean to the program. Words that name files are that
