@@ -23,7 +23,7 @@ use std::alloc::Global;
 use std::marker::PhantomData;
 
 /// Reports words that ask for nothing.
-fn report_usage<N: Sink>(note: &mut N) -> Status
+pub fn report_usage<N: Sink>(note: &mut N) -> Status
     ensures line { Writes (port_state N.written N.faults note.old) (port_state N.written N.faults note.new)
         (error_line usage) }
     ensures status { result ≡ Status.Usage }
@@ -33,7 +33,7 @@ fn report_usage<N: Sink>(note: &mut N) -> Status
 }
 
 /// Reports that memory ran out.
-fn report_memory<N: Sink>(note: &mut N) -> Status
+pub fn report_memory<N: Sink>(note: &mut N) -> Status
     ensures line { Writes (port_state N.written N.faults note.old) (port_state N.written N.faults note.new)
         (error_line memory) }
     ensures status { result ≡ Status.Memory }
